@@ -1,0 +1,15 @@
+use Rattle.std.proofs.Common.{◌≡◌, ◌*◌, ◌-◌, ◌≤◌, length}
+use Rattle.multi_layout.proofs.VerdictLemmas.{ReadSoFar}
+use Rattle.multi_layout.proofs.judge.judge.Given as goal
+
+-- none of the items so far offends, and each octet of them took one or two steps
+abbrev pub invariant-loop-token : goal.invariant-loop-token
+invariant-loop-token l = record {
+  so_far : ReadSoFar l.sign l.initial.source.octets l.at l.pages;
+  octets : l.source.octets ≡ l.initial.source.octets;
+  least : l.at ≤ l.source.steps;
+  most : l.source.steps ≤ 2 * l.at;
+}
+
+abbrev pub decreases-loop-token : goal.decreases-loop-token
+decreases-loop-token l = length l.initial.source.octets - l.at

@@ -1,0 +1,43 @@
+//! An accepted string.
+
+ghost use Rattle.std.specs.Prelude.{◌≡◌};
+ghost use Rattle.multi_layout.specs.Verdict.{Accepted, IsVerdict};
+
+use crate::sign::Sign;
+use multi_token::Source;
+use std::marker::Model;
+
+/// A string that a sign accepts. Only `check` makes one.
+#[derive(Drop)]
+pub struct Checked<'a> {
+    pub(crate) sign: &'a Sign,
+    pub(crate) source: Source<'a>,
+    pub(crate) pages: u8,
+}
+
+impl<'a> Model for Checked<'a> {
+    ghost use Rattle.multi_layout.specs.Judged.{Judged};
+    ghost use Rattle.multi_layout.specs.Verdict.{Accepted, IsVerdict};
+
+    ghost Value = { Judged };
+
+    ghost view = { λ c. record { sign = c.sign.now; source = c.source } };
+
+    ghost invariant = { λ c. IsVerdict c.sign.now c.source.octets (Accepted c.pages) };
+}
+
+impl<'a> Checked<'a> {
+    /// The number of pages, from 1 to the sign's limit.
+    pub fn pages(&self) -> u8
+        ensures { IsVerdict self.now.sign self.now.source.octets (Accepted result) }
+    {
+        self.pages
+    }
+
+    /// The number of steps that were taken over the string so far.
+    pub fn steps(&self) -> u64
+        ensures { result ≡ self.now.source.steps }
+    {
+        self.source.steps()
+    }
+}

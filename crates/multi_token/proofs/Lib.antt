@@ -1,0 +1,4 @@
+pub mod PlaceLemmas
+pub mod ReadingLemmas
+pub mod SpellingLemmas
+pub mod StepLemmas

@@ -1,0 +1,32 @@
+-- Tokens as the items that they stand for.
+use Rattle.std.specs.Prelude.{◌^◌, ◌<◌, ◌≡◌, ℕ, ◌+◌, ◌-◌, ◌≤◌, List, length, drop, slice_range}
+use Rattle.multi_token.specs.declared.token.Token.{Token}
+use Rattle.multi_token.specs.declared.token.Kind.{Kind}
+use Rattle.multi_token.specs.declared.token.Kind.TheVariants as kinds
+use Rattle.multi_token.specs.Spelling.{Item, Char, Tag, spelling, BeginsWith}
+
+-- the item of this kind; only a tag has a body
+abbrev pub item_of_kind : Kind → List ℕ → Item
+item_of_kind (kinds.Char number) body = Char number
+item_of_kind kinds.Tag body = Tag body
+
+-- the octets between a token's first and its last
+abbrev pub body_of : List ℕ → Token → List ℕ
+body_of octets token = slice_range octets (token.at + 1) (token.at + token.len - 1)
+
+-- the item that a token of these octets stands for
+abbrev pub item_of : List ℕ → Token → Item
+item_of octets token = item_of_kind token.kind (body_of octets token)
+
+-- the token is the item whose spelling stands at the token's place in the octets, with the spelling's length
+pub record IsTokenOf (octets : List ℕ) (token : Token) : Type 0 where
+  pub begins : BeginsWith (drop token.at octets) (item_of octets token) (drop (token.at + token.len) octets)
+  pub len : token.len ≡ length (spelling (item_of octets token))
+  pub within : token.at + token.len ≤ length octets
+  -- a slice is no longer than this
+  pub room : length octets < 2 ^ 63
+
+-- the token is a tag of these octets
+pub record IsTagOf (octets : List ℕ) (token : Token) : Type 0 where
+  pub is : IsTokenOf octets token
+  pub kind : token.kind ≡ kinds.Tag

@@ -1,0 +1,19 @@
+//! What holds of every spelling.
+
+ghost use Rattle.multi_token.specs.Spelling.{NoSpellingBeginsAnother, OneReading};
+ghost use Rattle.multi_token.specs.Reading.{EachStringHasAReading};
+
+/// A law of the definitions: no item's spelling begins another's.
+pub fn no_spelling_begins_another()
+    ensures { NoSpellingBeginsAnother }
+{}
+
+/// A law of the definitions: every string has a reading.
+pub fn each_string_has_a_reading()
+    ensures { EachStringHasAReading }
+{}
+
+/// A law of the definitions: a string has no two readings.
+pub fn one_reading()
+    ensures { OneReading }
+{}

@@ -1,0 +1,20 @@
+//! The octets of a MULTI string behind a step counter, and the tokens that they spell.
+//!
+//! A MULTI string is a list of octets. It spells items, which are characters and tags: an octet that is
+//! no bracket spells the character of its number, `[[` and `]]` spell the characters 91 and 93, and a tag
+//! is one or more octets without brackets between `[` and `]`.
+//!
+//! [`Source`] gives out octets one counted read at a time, and there is no other way to them.
+//! [`next_token`] gives the one item that is spelled at a place.
+#![tactic(auto)]
+
+mod laws;
+mod source;
+mod token;
+
+pub use laws::{each_string_has_a_reading, no_spelling_begins_another, one_reading};
+pub use source::Source;
+pub use token::{Kind, Token, TokenFault, next_token};
+
+#[cfg(test)]
+mod tests;

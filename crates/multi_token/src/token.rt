@@ -1,0 +1,135 @@
+//! Tokens of a counted source.
+
+ghost use Rattle.std.specs.Prelude.{◌≡◌, ◌+◌, ◌-◌, ◌^◌, ◌<◌, ◌≤◌, ◌⊎◌, length, drop, slice_get, slice_range, IfOk, IfErr, IfSome, IfNone, OnErr, IsErr, IsSomeAnd, Ok, None};
+ghost use Rattle.std.specs.List.{All};
+ghost use Rattle.multi_token.specs.Counted.{charged, RisesBetween};
+ghost use Rattle.multi_token.specs.Spelling.{IsPlain, HasNoItem};
+ghost use Rattle.multi_token.specs.Tokens.{IsTokenOf};
+
+use crate::source::Source;
+use thiserror::Error;
+
+/// What a token is (NTCIP 1203 v03, MULTI).
+#[derive(Clone, Copy, Debug, PartialEq, Eq)]
+pub enum Kind {
+    /// A character, by its number: 0 to 255.
+    Char(u8),
+    /// A tag. Its body stands between the token's first octet and its last.
+    Tag,
+}
+
+/// One item of a string: the offset of its first octet, the number of octets that spell it, and its kind.
+#[derive(Clone, Copy, Debug, PartialEq, Eq)]
+pub struct Token {
+    pub at: usize,
+    pub len: usize,
+    pub kind: Kind,
+}
+
+/// A broken bracket: no item is spelled at this offset, which isn't the end.
+#[derive(Clone, Copy, Debug, PartialEq, Eq, Error)]
+#[error("a broken bracket at octet {at}")]
+pub struct TokenFault {
+    pub at: usize,
+}
+
+/// The token whose spelling stands at an offset, or `None` at the end.
+///
+/// It takes as many steps as the token has octets, one at the end, and at a broken bracket at least one
+/// and at most one more than there are octets from there on.
+pub fn next_token(source: &mut Source<'_>, at: usize) -> Result<Option<Token>, TokenFault>
+    requires { at ≤ length source.old.octets }
+    ensures token { IfOk result (λ o. IfSome o (λ t. (t.at ≡ at) × IsTokenOf source.old.octets t)) }
+    ensures end { IfOk result (λ o. IfNone o (at ≡ length source.old.octets)) }
+    ensures fault { IfErr result (λ f. (f.at ≡ at) × (at < length source.old.octets)) }
+    ensures none_stands { OnErr result (HasNoItem (drop at source.old.octets)) }
+
+    // `None` at the end, and a fault wherever no item stands before it
+    ensures at_end { at ≡ length source.old.octets → result ≡ Ok None }
+    ensures at_none { at < length source.old.octets → HasNoItem (drop at source.old.octets) → IsErr result }
+
+    // the steps of a token, of the end and of a fault
+    ensures token_steps { IfOk result (λ o. IfSome o (λ t. source.new ≡ charged source.old t.len)) }
+    ensures end_steps { IfOk result (λ o. IfNone o (source.new ≡ charged source.old 1)) }
+    ensures fault_steps { OnErr result (RisesBetween source.old source.new 1 (length source.old.octets - at + 1)) }
+{
+    let Some(first) = source.read(at) else {
+        return Ok(None);
+    };
+    match first {
+        b'[' => open_bracket(source, at),
+        b']' => close_bracket(source, at),
+        number => Ok(Some(Token {
+            at,
+            len: 1,
+            kind: Kind::Char(number),
+        })),
+    }
+}
+
+/// What begins with an opening bracket, which is read already.
+fn open_bracket(source: &mut Source<'_>, at: usize) -> Result<Option<Token>, TokenFault>
+    requires first { slice_get source.old.octets at ≡ Some 91 }
+    requires room { length source.old.octets < 2 ^ 63 }
+    ensures token { IfOk result (λ o. IsSomeAnd o (λ t.
+        (t.at ≡ at) × IsTokenOf source.old.octets t × (source.new ≡ charged source.old (t.len - 1)))) }
+    ensures fault { IfErr result (λ f.
+        (f.at ≡ at) × HasNoItem (drop at source.old.octets) × RisesBetween source.old source.new 0 (length source.old.octets - at)) }
+{
+    let (end, bracket) = skip_plain(source, at + 1);
+    match bracket {
+        Some(b'[') if end == at + 1 => Ok(Some(doubled_bracket(at, b'['))),
+        Some(b']') if end > at + 1 => Ok(Some(Token {
+            at,
+            len: end + 1 - at,
+            kind: Kind::Tag,
+        })),
+        _ => Err(TokenFault { at }),
+    }
+}
+
+/// What begins with a closing bracket, which is read already.
+fn close_bracket(source: &mut Source<'_>, at: usize) -> Result<Option<Token>, TokenFault>
+    requires first { slice_get source.old.octets at ≡ Some 93 }
+    requires room { length source.old.octets < 2 ^ 63 }
+    ensures token { IfOk result (λ o. IsSomeAnd o (λ t.
+        (t.at ≡ at) × IsTokenOf source.old.octets t × (source.new ≡ charged source.old (t.len - 1)))) }
+    ensures fault { IfErr result (λ f.
+        (f.at ≡ at) × HasNoItem (drop at source.old.octets) × RisesBetween source.old source.new 0 (length source.old.octets - at)) }
+{
+    if source.read(at + 1) == Some(b']') {
+        Ok(Some(doubled_bracket(at, b']')))
+    } else {
+        Err(TokenFault { at })
+    }
+}
+
+/// The character that two brackets spell.
+fn doubled_bracket(at: usize, bracket: u8) -> Token
+    ensures { result ≡ record { at = at; len = 2; kind = Kind.Char bracket } }
+{
+    Token {
+        at,
+        len: 2,
+        kind: Kind::Char(bracket),
+    }
+}
+
+/// Where the first bracket from an offset on stands, with that octet, or the end.
+fn skip_plain(source: &mut Source<'_>, from: usize) -> (usize, Option<u8>)
+    requires start { from ≤ length source.old.octets }
+    requires room { length source.old.octets < 2 ^ 63 }
+    ensures range { (from ≤ result.0) × (result.0 ≤ length source.old.octets) }
+    ensures plain { All IsPlain (slice_range source.old.octets from result.0) }
+    ensures stop { result.1 ≡ slice_get source.old.octets result.0 }
+    ensures bracket { IfSome result.1 (λ octet. (octet ≡ 91) ⊎ (octet ≡ 93)) }
+    ensures steps { source.new ≡ charged source.old (result.0 - from + 1) }
+{
+    let mut end = from;
+    loop {
+        match source.read(end) {
+            Some(octet) if octet != b'[' && octet != b']' => end += 1,
+            stop => return (end, stop),
+        }
+    }
+}
