@@ -1,0 +1,5 @@
+pub mod CutLemmas
+pub mod ReplyLemmas
+pub mod RunLemmas
+pub mod SeenLemmas
+pub mod ToolLemmas

@@ -1,0 +1,102 @@
+//! The lines of an input, read an octet at a time.
+ghost use Rattle.std.specs.Prelude.{◌≡◌, ◌++◌, ◌∷◌, [], OnOk, IfErr};
+ghost use Rattle.signctl.specs.Lines.{text_of};
+ghost use Rattle.signctl.specs.Streams.{TakesOctet, TakesLine};
+
+use crate::fault::ToolFault;
+use std::io::Read;
+
+/// The most octets of an input that are taken as lines (own).
+pub(crate) const MAX_INPUT: u32 = 16_777_216;
+
+/// The most octets of a line before its end (own).
+const MAX_LINE: usize = 8_300;
+
+/// The most octets that are kept of a line: those of the longest, and a carriage return.
+const MAX_KEPT: usize = MAX_LINE + 1;
+
+/// What comes next in an input (own).
+#[derive(Clone, Copy, PartialEq, Eq)]
+pub(crate) enum Next {
+    /// A line.
+    Line,
+    /// A line with too many octets.
+    TooLong,
+    /// Octets behind which the input ends without a line feed.
+    Unfinished,
+    /// The end.
+    End,
+    /// More octets than an input may have.
+    InputTooLong,
+}
+
+/// The next octet, or `None` at the end.
+fn next_octet<R: Read>(reader: &mut R) -> Result<Option<u8>, ToolFault>
+    ensures taken { TakesOctet (R.remaining reader.old) (R.remaining reader.new) result }
+{
+    let mut octet = [0u8; 1];
+    match reader.read(&mut octet) {
+        Ok(0) => Ok(None),
+        Ok(_) => Ok(Some(octet[0])),
+        Err(_) => Err(ToolFault::Read),
+    }
+}
+
+/// A line without the carriage return at its end.
+pub(crate) fn text_of(line: &[u8]) -> &[u8]
+    ensures text { result.now ≡ text_of line.now }
+{
+    match line {
+        [text @ .., b'\r'] => text,
+        _ => line,
+    }
+}
+
+/// Adds an octet to the line.
+fn keep(line: &mut Vec<u8>, octet: u8) -> Result<(), ToolFault>
+    ensures ok { OnOk result (line.new.items ≡ line.old.items ++ octet ∷ []) }
+    ensures err { IfErr result (λ e. e ≡ ToolFault.Memory) }
+{
+    match line.push(octet) {
+        Ok(()) => Ok(()),
+        Err(_) => Err(ToolFault::Memory),
+    }
+}
+
+/// Reads up to the end of a line, whose octets are then in `line`, with the carriage return.
+///
+/// At most `left` octets are taken as lines, and one more is read where as many are there. At `Next::Line`
+/// `left` falls by the octets of the line and its line feed. The errors are `Read` and `Memory`.
+pub(crate) fn next_line<R: Read>(
+    reader: &mut R,
+    line: &mut Vec<u8>,
+    left: &mut u32,
+) -> Result<Next, ToolFault>
+    ensures taken { TakesLine (R.remaining reader.old) (R.remaining reader.new) left.old left.new line.new.items result }
+{
+    line.clear();
+    let mut is_cut = false;
+    let most = *left;
+    for taken in 0..most {
+        match next_octet(reader)? {
+            None if taken == 0 => return Ok(Next::End),
+            None => return Ok(Next::Unfinished),
+            Some(b'\n') => {
+                if is_cut || text_of(line).len() > MAX_LINE {
+                    return Ok(Next::TooLong);
+                }
+                *left = most - taken - 1;
+                return Ok(Next::Line);
+            }
+            Some(octet) if line.len() < MAX_KEPT => {
+                keep(line, octet)?;
+            }
+            Some(_) => is_cut = true,
+        }
+    }
+    match next_octet(reader)? {
+        None if most == 0 => Ok(Next::End),
+        None => Ok(Next::Unfinished),
+        Some(_) => Ok(Next::InputTooLong),
+    }
+}

@@ -1,0 +1,53 @@
+//! The tool over streams that are handed in.
+
+use crate::tool::run_tool;
+use crate::words::request_of;
+use clap::Error;
+use std::alloc::Global;
+use std::io::{Read, Write};
+
+/// The exit status of a run with no fault, and of help (own).
+const DONE: u8 = 0;
+
+/// The exit status of a run that ended with a fault (own).
+const FAULTED: u8 = 1;
+
+/// The exit status where the command line is refused (own).
+pub(crate) const REFUSED: u8 = 2;
+
+/// Answers a command line that asks for no run: help goes to the output, and what is refused to the errors.
+fn answer_words<W: Write, E: Write>(answer: Error, writer: &mut W, errors: &mut E) -> u8 {
+    // The status says the same where this text can't be written.
+    if answer.use_stderr() {
+        let _ = write!(errors, "{answer}");
+        REFUSED
+    } else {
+        let _ = write!(writer, "{answer}");
+        DONE
+    }
+}
+
+/// Runs the tool as the words ask, of which the first is the program's name, and gives its exit status (own).
+///
+/// It is 0 after a run with no fault and after help, which is written to `writer`; 1 after a fault, which is
+/// said on `errors` behind `signctl: `; and 2 where the words are refused, which is said on `errors`, also
+/// where there is no memory to read them. What can't be written to `errors` is lost.
+pub fn main_with<R: Read, W: Write, E: Write>(
+    alloc: Global,
+    words: &[&str],
+    reader: &mut R,
+    writer: &mut W,
+    errors: &mut E,
+) -> u8 {
+    let request = match request_of(alloc, words) {
+        Ok(request) => request,
+        Err(answer) => return answer_words(answer, writer, errors),
+    };
+    match run_tool(alloc, request.mode, request.sample, reader, writer) {
+        Ok(()) => DONE,
+        Err(fault) => {
+            let _ = writeln!(errors, "signctl: {fault}");
+            FAULTED
+        }
+    }
+}

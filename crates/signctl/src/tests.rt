@@ -1,0 +1,365 @@
+use crate::fault::ToolFault;
+use crate::main_with::main_with;
+use crate::tool::{Mode, run_tool};
+use std::alloc::Global;
+use std::io;
+use std::io::{ErrorKind, Read, Write};
+use std::test::Fail;
+
+/// A reader that gives one octet at a time, and fails where it has no more.
+#[derive(Drop)]
+struct FailingReader<'a>(&'a [u8]);
+
+impl Read for FailingReader<'_> {
+    fn read(&mut self, buf: &mut [u8]) -> io::Result<usize> {
+        let Some((first, rest)) = self.0.split_first() else {
+            return Err(ErrorKind::Interrupted.into());
+        };
+        if buf.is_empty() {
+            return Ok(0);
+        }
+        buf[0] = *first;
+        self.0 = rest;
+        Ok(1)
+    }
+}
+
+/// A reader that makes lines of so many letters until it has given so many octets, and counts its reads.
+#[derive(Drop)]
+struct LineMaker {
+    letters: u64,
+    column: u64,
+    octets: u64,
+    reads: u64,
+}
+
+impl LineMaker {
+    fn new(letters: u64, octets: u64) -> LineMaker {
+        LineMaker {
+            letters,
+            column: 0,
+            octets,
+            reads: 0,
+        }
+    }
+}
+
+impl Read for LineMaker {
+    fn read(&mut self, buf: &mut [u8]) -> io::Result<usize> {
+        self.reads = self.reads.saturating_add(1);
+        if self.octets == 0 || buf.is_empty() {
+            return Ok(0);
+        }
+        self.octets -= 1;
+        if self.column == self.letters {
+            self.column = 0;
+            buf[0] = b'\n';
+        } else {
+            self.column = self.column.saturating_add(1);
+            buf[0] = b'A';
+        }
+        Ok(1)
+    }
+}
+
+/// A writer that takes one octet at a time, and fails or takes none where it has no more room.
+#[derive(Drop)]
+struct NarrowWriter {
+    taken: Vec<u8>,
+    room: usize,
+    fails: bool,
+}
+
+impl Write for NarrowWriter {
+    fn write(&mut self, buf: &[u8]) -> io::Result<usize> {
+        if self.room == 0 {
+            if self.fails {
+                return Err(ErrorKind::BrokenPipe.into());
+            }
+            return Ok(0);
+        }
+        if buf.is_empty() {
+            return Ok(0);
+        }
+        self.taken.push(buf[0])?;
+        self.room -= 1;
+        Ok(1)
+    }
+
+    fn flush(&mut self) -> io::Result<()> {
+        Ok(())
+    }
+}
+
+/// What a run on the sample sign writes for this input, and how it ends.
+fn check(alloc: Global, input: &[u8]) -> (Vec<u8>, Result<(), ToolFault>) {
+    let mut reader = input;
+    let mut output = Vec::new(alloc);
+    let result = run_tool(alloc, Mode::Check, true, &mut reader, &mut output);
+    (output, result)
+}
+
+#[test]
+fn a_line_ends_with_a_line_feed(rt: HostRuntime) {
+    let bad = |line| Err(ToolFault::BadLine { line });
+    let rows: [(&[u8], &[u8], Result<(), ToolFault>); 7] = [
+        (b"", b"", Ok(())),
+        (b"\n", b"ok 1\n", Ok(())),
+        (b"\r\n\n", b"ok 1\nok 1\n", Ok(())),
+        (b"A\r\nA\n", b"ok 1\nok 1\n", Ok(())),
+        (b"A", b"", bad(1)),
+        (b"A\nA\n\nA", b"ok 1\nok 1\nok 1\n", bad(4)),
+        (b"\r", b"", bad(1)),
+    ];
+    for (input, want, end) in rows {
+        let (output, result) = check(rt.alloc(), input);
+        assert!(rt; output.as_slice() == want, "what is written at {input:?}");
+        assert!(rt; result == end, "the end at {input:?}");
+    }
+}
+
+#[test]
+fn a_line_gets_the_verdict_of_the_sample_sign(rt: HostRuntime) {
+    let rows: [(&[u8], &[u8]); 12] = [
+        (b"A[np]A\n", b"ok 2\n"),
+        (b"A[np]A\r\n", b"ok 2\n"),
+        (b"\n", b"ok 1\n"),
+        (b"A[NP]\n", b"ok 2\n"),
+        (b"A[np]A[np]A\n", b"error 12 6\n"),
+        (b"[np][np]\n", b"error 12 4\n"),
+        (b"A[nl]A\n", b"error 3 1\n"),
+        (b"A]\n", b"error 3 1\n"),
+        (b"[nl\n", b"error 3 0\n"),
+        (b"[]\n", b"error 3 0\n"),
+        (b"[[I]]\n", b"ok 1\n"),
+        (b"A]\n[np]\nA\n", b"error 3 1\nok 2\nok 1\n"),
+    ];
+    for (input, want) in rows {
+        let (output, result) = check(rt.alloc(), input);
+        assert!(rt; output.as_slice() == want, "what is written at {input:?}");
+        assert!(rt; result == Ok(()), "the end at {input:?}");
+    }
+}
+
+#[test]
+fn a_line_has_a_greatest_length(rt: HostRuntime) -> Result<(), Fail> {
+    let alloc = rt.alloc();
+    let too_long = Err(ToolFault::LineTooLong { line: 1 });
+    let rows: [(usize, &[u8], &[u8], Result<(), ToolFault>); 10] = [
+        (4_096, b"\n", b"ok 1\n", Ok(())),
+        (4_096, b"\r\n", b"ok 1\n", Ok(())),
+        (4_097, b"\n", b"too long\n", Ok(())),
+        (8_300, b"\n", b"too long\n", Ok(())),
+        (8_300, b"\r\n", b"too long\n", Ok(())),
+        (8_300, b"\r\r\n", b"", too_long),
+        (8_301, b"\n", b"", too_long),
+        (8_301, b"\r\n", b"", too_long),
+        (9_000, b"\n", b"", too_long),
+        (9_000, b"", b"", Err(ToolFault::BadLine { line: 1 })),
+    ];
+    for (letters, line_end, want, end) in rows {
+        let mut input = vec![in alloc; b'A'; letters]?;
+        input.extend_from_slice(line_end)?;
+        let (output, result) = check(alloc, &input);
+        assert!(rt;
+            output.as_slice() == want,
+            "what is written at {letters} and {line_end:?}"
+        );
+        assert!(rt; result == end, "the end at {letters} and {line_end:?}");
+    }
+    Ok(())
+}
+
+#[test]
+fn an_input_has_a_greatest_length(rt: HostRuntime) {
+    let alloc = rt.alloc();
+    // Letters in a line, octets, lines that are answered, and the end.
+    let rows: [(u64, u64, usize, Result<(), ToolFault>); 5] = [
+        (8_191, 16_777_216, 2_048, Ok(())),
+        (8_191, 16_777_217, 2_048, Err(ToolFault::InputTooLong)),
+        (
+            7_999,
+            16_777_216,
+            2_097,
+            Err(ToolFault::BadLine { line: 2_098 }),
+        ),
+        (7_999, 16_777_217, 2_097, Err(ToolFault::InputTooLong)),
+        (u64::MAX, u64::MAX, 0, Err(ToolFault::InputTooLong)),
+    ];
+    for (letters, octets, lines, end) in rows {
+        let mut reader = LineMaker::new(letters, octets);
+        let mut output = Vec::new(alloc);
+        let result = run_tool(alloc, Mode::Check, true, &mut reader, &mut output);
+        assert!(rt;
+            result == end,
+            "the end at {octets} octets in lines of {letters}"
+        );
+        assert!(rt;
+            output.len() / 9 == lines,
+            "the answers at {octets} octets in lines of {letters}"
+        );
+        assert!(rt;
+            reader.reads == 16_777_217,
+            "the reads at {octets} octets in lines of {letters}"
+        );
+    }
+}
+
+#[test]
+fn a_failed_read_ends_the_run_behind_the_whole_lines(rt: HostRuntime) {
+    let alloc = rt.alloc();
+    let input = b"A\nB\nC\n";
+    for k in 0..input.len() + 1 {
+        let mut output = Vec::new(alloc);
+        let mut reader = FailingReader(&input[..k]);
+        let result = run_tool(alloc, Mode::Check, true, &mut reader, &mut output);
+        assert!(rt; result == Err(ToolFault::Read), "the end after {k}");
+        let want = b"ok 1\nok 1\nok 1\n";
+        assert!(rt;
+            output.as_slice() == &want[..k / 2 * 5],
+            "what is written after {k}"
+        );
+    }
+}
+
+#[test]
+fn a_failed_write_ends_the_run(rt: HostRuntime) {
+    let alloc = rt.alloc();
+    let want = b"ok 1\nok 1\n";
+    for fails in [false, true] {
+        for room in 0..want.len() + 1 {
+            let mut reader = b"A\nB\n".as_slice();
+            let mut writer = NarrowWriter {
+                taken: Vec::new(alloc),
+                room,
+                fails,
+            };
+            let result = run_tool(alloc, Mode::Check, true, &mut reader, &mut writer);
+            let end = if room < want.len() {
+                Err(ToolFault::Write)
+            } else {
+                Ok(())
+            };
+            assert!(rt; result == end, "the end after {room}");
+            assert!(rt;
+                writer.taken.as_slice() == &want[..room],
+                "what is written after {room}"
+            );
+        }
+    }
+}
+
+#[test]
+fn without_a_sign_nothing_is_read_or_written(rt: HostRuntime) {
+    let mut reader = b"A\n".as_slice();
+    let mut output = Vec::new(rt.alloc());
+    let result = run_tool(rt.alloc(), Mode::Check, false, &mut reader, &mut output);
+    assert!(rt; result == Err(ToolFault::BadSign));
+    assert!(rt; reader.len() == 2 && output.is_empty());
+}
+
+#[test]
+fn each_fault_has_its_text(rt: HostRuntime) -> Result<(), Fail> {
+    let rows = [
+        (ToolFault::Read, "read failed"),
+        (ToolFault::Write, "write failed"),
+        (ToolFault::LineTooLong { line: 7 }, "line 7: too long"),
+        (ToolFault::BadLine { line: 12 }, "line 12: bad line"),
+        (ToolFault::InputTooLong, "input too long"),
+        (ToolFault::BadSign, "sign not read"),
+        (ToolFault::Memory, "out of memory"),
+    ];
+    for (fault, want) in rows {
+        let text = fault.to_string(rt.alloc())?;
+        assert_eq!(rt; text.as_str(), want);
+    }
+    Ok(())
+}
+
+#[test]
+fn a_run_ends_with_its_status_and_text(rt: HostRuntime) {
+    let alloc = rt.alloc();
+    let sample: &[&str] = &["signctl", "check", "--sample"];
+    let rows: [(&[&str], &[u8], u8, &[u8], &[u8]); 4] = [
+        (sample, b"A\n", 0, b"ok 1\n", b""),
+        (
+            sample,
+            b"A\nB",
+            1,
+            b"ok 1\n",
+            b"signctl: line 2: bad line\n",
+        ),
+        (
+            &["signctl", "check"],
+            b"A\n",
+            1,
+            b"",
+            b"signctl: sign not read\n",
+        ),
+        (&["", "check", "--sample"], b"\n", 0, b"ok 1\n", b""),
+    ];
+    for (words, input, want, wrote, said) in rows {
+        let mut output = Vec::new(alloc);
+        let mut errors = Vec::new(alloc);
+        let mut reader = input;
+        let status = main_with(alloc, words, &mut reader, &mut output, &mut errors);
+        assert_eq!(rt; status, want, "at {words:?}");
+        assert!(rt; output.as_slice() == wrote, "what is written at {words:?}");
+        assert!(rt; errors.as_slice() == said, "what is said at {words:?}");
+    }
+}
+
+#[test]
+fn a_command_line_is_helped_or_refused(rt: HostRuntime) {
+    let alloc = rt.alloc();
+    let rows: [(&[&str], u8); 12] = [
+        (&["signctl", "--help"], 0),
+        (&["signctl", "check", "--help"], 0),
+        (&["signctl", "help"], 0),
+        (&[], 2),
+        (&["signctl"], 2),
+        (&["signctl", "show"], 2),
+        (&["signctl", "run", "--sample"], 2),
+        (&["signctl", "check", "--other"], 2),
+        (&["signctl", "--sample"], 2),
+        (&["signctl", "check", "--sample", "word"], 2),
+        (&["signctl", "check", "--sample", "--sample"], 2),
+        (&["signctl", "check", "--sample=1"], 2),
+    ];
+    for (words, want) in rows {
+        let mut output = Vec::new(alloc);
+        let mut errors = Vec::new(alloc);
+        let mut reader = b"A\n".as_slice();
+        let status = main_with(alloc, words, &mut reader, &mut output, &mut errors);
+        assert_eq!(rt; status, want, "at {words:?}");
+        assert!(rt;
+            output.is_empty() == (want == 2),
+            "what is written at {words:?}"
+        );
+        assert!(rt;
+            errors.is_empty() == (want == 0),
+            "what is said at {words:?}"
+        );
+        assert!(rt; reader.len() == 2, "what is read at {words:?}");
+    }
+}
+
+#[test]
+fn a_text_that_cannot_be_written_is_lost(rt: HostRuntime) {
+    let alloc = rt.alloc();
+    let full = || NarrowWriter {
+        taken: Vec::new(alloc),
+        room: 0,
+        fails: true,
+    };
+    let rows: [(&[&str], u8); 3] = [
+        (&["signctl", "--help"], 0),
+        (&["signctl", "check"], 1),
+        (&["signctl"], 2),
+    ];
+    for (words, want) in rows {
+        let mut reader = b"A\n".as_slice();
+        let status = main_with(alloc, words, &mut reader, &mut full(), &mut full());
+        assert_eq!(rt; status, want, "at {words:?}");
+    }
+}
