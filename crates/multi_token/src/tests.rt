@@ -6,6 +6,9 @@ fn tokens(octets: &[u8]) -> ([Option<Token>; 4], Result<usize, TokenFault>, u64)
     let mut found = [None; 4];
     let mut at = 0;
     for place in found.iter_mut() {
+        if at > source.len() {
+            break;
+        }
         match next_token(&mut source, at) {
             Ok(Some(token)) => {
                 at += token.len;
