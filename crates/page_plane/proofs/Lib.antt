@@ -1,0 +1,6 @@
+mod BitLemmas
+mod Examples
+mod OctetLemmas
+pub mod PlaneLemmas
+pub mod PutLemmas
+mod StoredLemmas

@@ -1,0 +1,4 @@
+pub mod Octets
+pub mod Plane
+pub mod Put
+pub mod Steps

@@ -1,0 +1,8 @@
+//! What holds of every plane.
+
+ghost use Rattle.page_plane.specs.Plane.{APlaneIsItsPixels};
+
+/// A law of the definitions: two planes of one size and one count of steps with the same pixels are equal.
+pub fn a_plane_is_its_pixels()
+    ensures { APlaneIsItsPixels }
+{}

@@ -1,0 +1,109 @@
+//! Bits in octets: eight places an octet, from its highest bit on.
+
+ghost use Rattle.std.specs.Prelude.{◌≡◌, ℕ, ◌+◌, ◌-◌, ◌*◌, ◌/◌, ◌%◌, ◌<◌, ◌≤◌, ◌==◌, ◌&&◌, nat_lt, if◌then◌else◌, length};
+ghost use Rattle.std.specs.Int.{bit_at};
+ghost use Rattle.page_plane.specs.Octets.{row_octets, is_bit_set, place_of};
+ghost use Rattle.page_plane.specs.Put.{is_row_set, is_put};
+
+/// The octets of a row of this width in pixels.
+pub(crate) fn row_len(width: u16) -> usize
+    ensures { result ≡ row_octets width }
+{
+    (usize::from(width) + 7) / 8
+}
+
+/// The place of a pixel in the octets of a plane of this width.
+pub(crate) fn place_at(width: u16, x: u16, y: u16) -> usize
+    ensures { result ≡ place_of width x y }
+{
+    8 * (usize::from(y) * row_len(width)) + usize::from(x)
+}
+
+/// The bit at a place.
+pub(crate) fn bit(octets: &[u8], place: usize) -> bool
+    requires { place < 8 * length octets.now }
+    ensures { result ≡ is_bit_set octets.now place }
+{
+    octets[place / 8] >> (7 - place % 8) & 1 == 1
+}
+
+/// Fills rows of this width: every pixel, and no spare bit.
+pub(crate) fn fill_rows(octets: &mut [u8], width: u16, on: bool)
+    requires { 1 ≤ width }
+    ensures { (place : ℕ) → place < 8 * length octets.old
+        → is_bit_set octets.new place ≡ (on && nat_lt (place % (8 * row_octets width)) width) }
+{
+    let len = row_len(width);
+    for (k, octet) in octets.iter_mut().enumerate() {
+        *octet = filled_octet(width, k % len, on);
+    }
+}
+
+/// Octet `k` of a filled row.
+fn filled_octet(width: u16, k: usize, on: bool) -> u8
+    requires { k < row_octets width }
+    ensures { (j : ℕ) → j < 8 → (bit_at result (7 - j) == 1) ≡ (on && nat_lt (8 * k + j) width) }
+{
+    if !on {
+        return 0;
+    }
+    let end = 8 * k + 8;
+    let width = usize::from(width);
+    if end <= width {
+        u8::MAX
+    } else {
+        u8::MAX << (end - width)
+    }
+}
+
+/// Sets the bits from a place on that stand under the set bits among the first `width` of a row, whose first
+/// bit is bit 63.
+pub(crate) fn put_bits(octets: &mut [u8], place: usize, width: u8, bits: u64, on: bool)
+    requires width { width ≤ 64 }
+    requires room { place + width ≤ 8 * length octets.old }
+    ensures { (i : ℕ) → is_bit_set octets.new i ≡ (if is_put place 0 width bits i 0 then on else is_bit_set octets.old i) }
+{
+    let first = place / 8;
+    let shift = (place % 8) as u8;
+    let row = moved_row(bits, width, shift);
+    let count = usize::from((shift + width + 7) / 8);
+    for k in 0..count {
+        octets[first + k] = painted(octets[first + k], octet_of(row, k), on);
+    }
+}
+
+/// The first `width` bits of a row behind `shift` clear bits, from bit 127 on.
+fn moved_row(bits: u64, width: u8, shift: u8) -> u128
+    requires width { width ≤ 64 }
+    requires shift { shift < 8 }
+    ensures { (i : ℕ) → i < 128 → (bit_at result (127 - i) == 1) ≡ is_put shift 0 width bits i 0 }
+{
+    u128::from(first_bits(bits, width)) << (64 - shift)
+}
+
+/// The first `width` bits of a row, and clear bits behind them.
+fn first_bits(bits: u64, width: u8) -> u64
+    requires { width ≤ 64 }
+    ensures { (j : ℕ) → j < 64 → is_row_set result j ≡ (nat_lt j width && is_row_set bits j) }
+{
+    if width == 0 {
+        return 0;
+    }
+    let past = 64 - width;
+    bits >> past << past
+}
+
+/// Octet `k` of 128 bits, from bit 127 on.
+fn octet_of(bits: u128, k: usize) -> u8
+    requires { k < 16 }
+    ensures { (j : ℕ) → j < 8 → bit_at result (7 - j) ≡ bit_at bits (127 - (8 * k + j)) }
+{
+    (bits >> (120 - 8 * k) & 0xff) as u8
+}
+
+/// An octet with the set bits of `part` made `on`, and the others kept.
+fn painted(octet: u8, part: u8, on: bool) -> u8
+    ensures { (i : ℕ) → i < 8 → (bit_at result i == 1) ≡ (if bit_at part i == 1 then on else bit_at octet i == 1) }
+{
+    if on { octet | part } else { octet & !part }
+}

@@ -1,0 +1,134 @@
+//! A bit plane over its octets.
+
+ghost use Rattle.std.specs.Prelude.{◌≡◌, ℕ, ◌+◌, ◌<◌, ◌≤◌, false, if◌then◌else◌, length, IfOk};
+ghost use Rattle.page_plane.specs.Steps.{charged};
+ghost use Rattle.page_plane.specs.Plane.{is_lit};
+ghost use Rattle.page_plane.specs.Octets.{row_octets, octet_count, is_bit_set};
+ghost use Rattle.page_plane.specs.Put.{is_put};
+
+use crate::memory::Memory;
+use crate::octets::{bit, fill_rows, place_at, put_bits, row_len};
+use crate::steps::raised;
+use std::alloc::Global;
+use std::marker::Model;
+
+/// One bit plane of a page: pixels that are on or off, and how many steps were taken over them (own).
+///
+/// A step is one octet filled or one row put. The count stays at `u64::MAX`.
+#[derive(Drop)]
+pub struct Plane {
+    width: u16,
+    height: u16,
+    octets: Vec<u8>,
+    steps: u64,
+}
+
+impl Model for Plane {
+    ghost use Rattle.page_plane.specs.Plane.{BitPlane};
+    ghost use Rattle.page_plane.specs.Octets.{stored_plane, IsStored};
+
+    ghost Value = { BitPlane };
+
+    ghost view = { λ p. stored_plane p.width p.height p.steps p.octets.items };
+
+    ghost invariant = { λ p. IsStored p.width p.height p.octets.items };
+}
+
+impl Plane {
+    /// A plane of `w` by `h` pixels, `w` from 1 to 1,024 and `h` from 1 to 128, with every pixel off and no
+    /// step taken. `Memory` where its octets can't be had.
+    pub fn new(alloc: Global, w: u16, h: u16) -> Result<Plane, Memory>
+        requires width { (1 ≤ w) × (w ≤ 1024) }
+        requires height { (1 ≤ h) × (h ≤ 128) }
+        ensures width { IfOk result (λ plane. plane.width ≡ w) }
+        ensures height { IfOk result (λ plane. plane.height ≡ h) }
+        ensures steps { IfOk result (λ plane. plane.steps ≡ 0) }
+        ensures pixels { IfOk result (λ plane. (x y : ℕ) → is_lit plane x y ≡ false) }
+    {
+        let len = row_len(w) * usize::from(h);
+        let Ok(octets) = Vec::from_elem(alloc, 0u8, len) else {
+            return Err(Memory);
+        };
+        Ok(Plane {
+            width: w,
+            height: h,
+            octets,
+            steps: 0,
+        })
+    }
+
+    /// Makes every pixel `on`. It takes as many steps as the plane has octets, `(w + 7) / 8 * h`.
+    pub fn fill(&mut self, on: bool)
+        ensures pixels { (x y : ℕ) → x < self.old.width → y < self.old.height → is_lit self.new x y ≡ on }
+        ensures width { self.new.width ≡ self.old.width }
+        ensures height { self.new.height ≡ self.old.height }
+        ensures steps { self.new.steps ≡ charged self.old.steps (octet_count self.old) }
+    {
+        self.steps = raised(self.steps, self.octets.len() as u64);
+        fill_rows(&mut self.octets, self.width, on);
+    }
+
+    /// Puts the first `width` pixels of a row at column `x` of row `y`, in one step: where a bit is set, from
+    /// bit 63 on for column `x`, the pixel becomes `on`, and every other pixel stays. The row lies inside the
+    /// plane, and a width of 0 changes no pixel.
+    pub fn put_row(&mut self, x: u16, y: u16, width: u8, bits: u64, on: bool)
+        requires width { width ≤ 64 }
+        requires column { x + width ≤ self.old.width }
+        requires row { y < self.old.height }
+        ensures pixels { (column row : ℕ)
+            → is_lit self.new column row ≡ (if is_put x y width bits column row then on else is_lit self.old column row) }
+        ensures width { self.new.width ≡ self.old.width }
+        ensures height { self.new.height ≡ self.old.height }
+        ensures steps { self.new.steps ≡ charged self.old.steps 1 }
+    {
+        self.steps = raised(self.steps, 1);
+        let place = place_at(self.width, x, y);
+        put_bits(&mut self.octets, place, width, bits, on);
+    }
+
+    /// Whether a pixel is on, which lies inside the plane.
+    pub fn pixel(&self, x: u16, y: u16) -> bool
+        requires column { x < self.now.width }
+        requires row { y < self.now.height }
+        ensures { result ≡ is_lit self.now x y }
+    {
+        let place = place_at(self.width, x, y);
+        bit(&self.octets, place)
+    }
+
+    /// The octets of row `y`, which lies inside the plane: its leftmost pixel in the highest bit of the first,
+    /// and 0 in the spare bits of the last.
+    pub fn row(&self, y: u16) -> &[u8]
+        requires { y < self.now.height }
+        ensures count { length result.now ≡ row_octets self.now.width }
+        ensures pixels { (x : ℕ) → x < self.now.width → is_bit_set result.now x ≡ is_lit self.now x y }
+        ensures spare { (x : ℕ) → self.now.width ≤ x → is_bit_set result.now x ≡ false }
+    {
+        let len = row_len(self.width);
+        let start = usize::from(y) * len;
+        &self.octets[start..start + len]
+    }
+
+    /// The width in pixels, 1 to 1,024, which never changes.
+    pub fn width(&self) -> u16
+        ensures value { result ≡ self.now.width }
+        ensures range { (1 ≤ result) × (result ≤ 1024) }
+    {
+        self.width
+    }
+
+    /// The height in pixels, 1 to 128, which never changes.
+    pub fn height(&self) -> u16
+        ensures value { result ≡ self.now.height }
+        ensures range { (1 ≤ result) × (result ≤ 128) }
+    {
+        self.height
+    }
+
+    /// The number of steps so far, which never falls; `u64::MAX` may stand for more.
+    pub fn steps(&self) -> u64
+        ensures { result ≡ self.now.steps }
+    {
+        self.steps
+    }
+}

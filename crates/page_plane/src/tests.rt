@@ -1,0 +1,147 @@
+ghost use Rattle.std.specs.Prelude.{◌≡◌, ◌+◌, ◌≤◌, length};
+
+use crate::{Memory, Plane};
+use std::alloc::Global;
+use std::process::Abort;
+
+/// The one plane of a test, which `.ci/refused-plane` refuses.
+fn made(rt: &impl Abort, plane: Result<Plane, Memory>) -> Plane
+    ensures { plane ≡ Ok result }
+{
+    plane.expect(rt, "a plane")
+}
+
+#[test]
+fn a_plane_of_12_by_7_has_7_rows_of_2_octets(rt: HostRuntime) {
+    let mut plane = made(&rt, Plane::new(rt.alloc(), 12, 7));
+    assert!(rt; plane.width() == 12 && plane.height() == 7);
+    assert_eq!(rt; plane.steps(), 0);
+    for y in 0..7 {
+        assert_eq!(rt; plane.row(y), [0, 0].as_slice(), "row {y} of a new plane");
+    }
+    plane.fill(true);
+    assert_eq!(rt; plane.steps(), 14, "one step an octet");
+    for y in 0..7 {
+        assert_eq!(rt;
+            plane.row(y),
+            [0xff, 0xf0].as_slice(),
+            "row {y}: the spare bits are 0"
+        );
+    }
+}
+
+#[test]
+fn a_row_changes_the_pixels_under_its_set_bits_alone(rt: HostRuntime) {
+    let mut plane = made(&rt, Plane::new(rt.alloc(), 12, 7));
+    // the A of three by three: 010, 111, 101, its last row over the octets' edge
+    plane.put_row(6, 2, 3, 0b010 << 61, true);
+    plane.put_row(6, 3, 3, 0b111 << 61, true);
+    plane.put_row(6, 4, 3, 0b101 << 61, true);
+    assert_eq!(rt; plane.row(2), [0b0000_0001, 0].as_slice());
+    assert_eq!(rt; plane.row(3), [0b0000_0011, 0b1000_0000].as_slice());
+    assert_eq!(rt; plane.row(4), [0b0000_0010, 0b1000_0000].as_slice());
+    plane.put_row(7, 3, 1, u64::MAX, false);
+    assert_eq!(rt;
+        plane.row(3),
+        [0b0000_0010, 0b1000_0000].as_slice(),
+        "one pixel off"
+    );
+    plane.put_row(12, 3, 0, u64::MAX, true);
+    assert_eq!(rt;
+        plane.row(3),
+        [0b0000_0010, 0b1000_0000].as_slice(),
+        "no pixel at the right edge"
+    );
+    assert_eq!(rt; plane.steps(), 5, "one step a row");
+}
+
+/// Puts a row pixel by pixel.
+fn put_plainly(pixels: &mut [bool], at: usize, width: u8, bits: u64, on: bool)
+    requires width { width ≤ 64 }
+    requires room { at + width ≤ length pixels.old }
+{
+    for j in 0..usize::from(width) {
+        if bits >> (63 - j) & 1 == 1 {
+            pixels[at + j] = on;
+        }
+    }
+}
+
+/// Asserts that a plane of 20 by 3 has these pixels, told one by one and by octets.
+fn assert_pixels(rt: &impl Abort, plane: &Plane, pixels: &[bool; 60], put: (u16, u8)) {
+    assert!(rt; plane.width() == 20 && plane.height() == 3);
+    for y in 0..3 {
+        let row = plane.row(y);
+        for x in 0..24 {
+            let lit = x < 20 && pixels[usize::from(y) * 20 + x];
+            assert_eq!(rt;
+                row[x / 8] >> (7 - x % 8) & 1 == 1,
+                lit,
+                "bit {x} of row {y} at {put:?}"
+            );
+            if x < 20 {
+                assert_eq!(rt;
+                    plane.pixel(x as u16, y),
+                    lit,
+                    "pixel {x} of row {y} at {put:?}"
+                );
+            }
+        }
+    }
+}
+
+#[test]
+fn rows_cross_the_edges_of_octets(rt: HostRuntime) {
+    let mut plane = made(&rt, Plane::new(rt.alloc(), 20, 3));
+    let mut pixels = [false; 60];
+    let mut bits = 0x9e37_79b9_7f4a_7c15u64;
+    for x in 0..20u16 {
+        for width in 1..21 - x as u8 {
+            assert!(rt; plane.width() == 20 && plane.height() == 3);
+            let y = u16::from(width) % 3;
+            let on = bits >> 20 & 1 == 1;
+            plane.put_row(x, y, width, bits, on);
+            put_plainly(
+                &mut pixels,
+                usize::from(y) * 20 + usize::from(x),
+                width,
+                bits,
+                on,
+            );
+            assert_pixels(&rt, &plane, &pixels, (x, width));
+            bits = bits.wrapping_mul(0x5851_f42d_4c95_7f2d).wrapping_add(1);
+        }
+    }
+    assert_eq!(rt; plane.steps(), 210, "one step a row");
+}
+
+#[test]
+fn the_largest_plane_is_filled_and_put_at_its_corners(rt: HostRuntime) {
+    let mut plane = made(&rt, Plane::new(rt.alloc(), 1024, 128));
+    plane.fill(true);
+    assert_eq!(rt; plane.steps(), 16384);
+    let ends = 1 << 63 | 1;
+    for (x, y) in [(0, 0), (960, 0), (0, 127), (960, 127)] {
+        assert!(rt; plane.width() == 1024 && plane.height() == 128);
+        plane.put_row(x, y, 64, ends, false);
+    }
+    assert!(rt; plane.width() == 1024 && plane.height() == 128);
+    for y in [0, 127] {
+        let row = plane.row(y);
+        for (at, octet) in [
+            (0, 0x7f),
+            (1, 0xff),
+            (7, 0xfe),
+            (8, 0xff),
+            (119, 0xff),
+            (120, 0x7f),
+            (127, 0xfe),
+        ] {
+            assert_eq!(rt; row[at], octet, "octet {at} of row {y}");
+        }
+    }
+    assert_eq!(rt; plane.row(1).len(), 128);
+    assert_eq!(rt; plane.steps(), 16388);
+    plane.fill(false);
+    assert!(rt; !plane.pixel(1023, 127));
+}
