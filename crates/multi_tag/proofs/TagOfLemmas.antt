@@ -1,0 +1,129 @@
+-- The table as a function gives what the table spells.
+use Rattle.std.proofs.Common.{◌≡◌, ℕ, ◌≤◌, List, Option, Some, None, Result, Ok, Err, length, drop, refl, sym, ap, subst, ◌∙◌, inl, inr}
+use Rattle.std.specs.Prelude.{ok_or}
+use Rattle.std.specs.Str.{str_to_ascii_lowercase}
+use Rattle.std.proofs.lemmas.Option.{none-some}
+use Rattle.multi_tag.specs.declared.name.Name.{Name}
+use Rattle.multi_tag.specs.declared.name.Name.TheVariants as names
+use Rattle.multi_tag.specs.declared.tag.Tag.{Tag}
+use Rattle.multi_tag.specs.declared.tag.Tag.TheVariants.{NewPage, NewLine, LineJust, PageJust, Font, CharSpacing, CharSpacingEnd, PageTime, Flash, FlashEnd, Fore, Back, Rect}
+use Rattle.multi_tag.specs.declared.tag.TagFault.{TagFault}
+use Rattle.multi_tag.specs.declared.tag.TagFault.TheVariants.{Unsupported, Value}
+use Rattle.multi_tag.specs.Form.{d?}
+use Rattle.multi_tag.specs.Body.{table, Spells, SpellsSmall, HasName, HasNameAtFront}
+use Rattle.multi_tag.specs.TagOf.{read_rest, listed, name_at_front, tag_behind, tag_of, TagOfIsTheTable}
+use Rattle.multi_tag.proofs.FormLemmas.{d?_d}
+use Rattle.multi_tag.proofs.TagRowLemmas.{rest_read, named, behind, begun, found}
+
+-- a tag is given where a name and a rest spell it
+module _ (octets : List ℕ) where
+  tag_small : (tag : Tag) → SpellsSmall octets tag → tag_behind (name_at_front octets) octets ≡ Ok tag
+  unfolding SpellsSmall
+  tag_small tag (name, rest, is, f) =
+      rw (is, named name rest, behind name rest, (rest_read name).whole rest tag f) refl
+
+  small_tag : (tag : Tag) (r : Option Name) → name_at_front octets ≡ r → tag_behind r octets ≡ Ok tag → SpellsSmall octets tag
+  unfolding SpellsSmall
+  small_tag tag None e m = absurd cc
+  small_tag tag (Some name) e m =
+      (name, drop (length (table name).name) octets, begun octets (table name).name (found octets listed name e), (rest_read name).sound (drop (length (table name).name) octets) tag (some (read_rest name (drop (length (table name).name) octets)) m))
+    where
+      some : (r : Option Tag) → ok_or r Value ≡ Ok tag → r ≡ Some tag
+      some None k = absurd cc
+      some (Some other) k = cc
+
+  no_name_small : (r : Option Name) → name_at_front octets ≡ r → tag_behind r octets ≡ Err Unsupported → ¬ (HasNameAtFront octets)
+  unfolding HasNameAtFront
+  no_name_small None e m (name, rest, is) = none-some name (sym e ∙ (ap name_at_front is ∙ named name rest))
+  no_name_small (Some name) e m has = absurd (other (read_rest name (drop (length (table name).name) octets)) m)
+    where
+      other : (r : Option Tag) → ok_or r Value ≡ Err Unsupported → ⊥
+      other None k = cc
+      other (Some tag) k = cc
+
+  small_no_name : (r : Option Name) → name_at_front octets ≡ r → ¬ (HasNameAtFront octets) → tag_behind r octets ≡ Err Unsupported
+  unfolding HasNameAtFront
+  small_no_name None e none = refl
+  small_no_name (Some name) e none = absurd (none (name, drop (length (table name).name) octets, begun octets (table name).name (found octets listed name e)))
+
+-- the law
+pub tag_of_is_the_table : TagOfIsTheTable
+unfolding Spells HasName tag_of
+tag_of_is_the_table body =
+    let octets = str_to_ascii_lowercase body in (
+      (λ tag. (tag_small octets tag, small_tag octets tag (name_at_front octets) refl)),
+      (no_name_small octets (name_at_front octets) refl, small_no_name octets (name_at_front octets) refl),
+    )
+
+-- what follows for a body that spells a tag, for one of no listed name, and for the others
+pub tag_of-spelled : (body : List ℕ) (tag : Tag) → Spells body tag → tag_of body ≡ Ok tag
+tag_of-spelled body tag = ((tag_of_is_the_table body).0 tag).0
+
+pub tag_of-unsupported : (body : List ℕ) → ¬ (HasName body) → tag_of body ≡ Err Unsupported
+tag_of-unsupported body = (tag_of_is_the_table body).1.1
+
+pub tag_of-value : (body : List ℕ) → HasName body → ((tag : Tag) → ¬ (Spells body tag)) → tag_of body ≡ Err Value
+tag_of-value body has none = by_cases (tag_of body) refl
+  where
+    by_cases : (r : Result Tag TagFault) → tag_of body ≡ r → r ≡ Err Value
+    by_cases (Ok tag) e = absurd (none tag (((tag_of_is_the_table body).0 tag).1 e))
+    by_cases (Err Unsupported) e = absurd ((tag_of_is_the_table body).1.0 e has)
+    by_cases (Err Value) e = refl
+
+-- the name of the row that spells a tag
+abbrev row_of : Tag → Name
+row_of NewPage = names.NewPage
+row_of (NewLine gap) = names.NewLine
+row_of (LineJust just) = names.LineJust
+row_of (PageJust just) = names.PageJust
+row_of (Font pick) = names.Font
+row_of (CharSpacing gap) = names.CharSpacing
+row_of CharSpacingEnd = names.CharSpacingEnd
+row_of (PageTime on off) = names.PageTime
+row_of (Flash off_first on off) = names.Flash
+row_of FlashEnd = names.FlashEnd
+row_of (Fore colour) = names.Fore
+row_of (Back colour) = names.Back
+row_of (Rect x y w h) = names.Rect
+
+own_row : (name : Name) (rest : List ℕ) (tag : Tag) → (table name).rest rest tag → row_of tag ≡ name
+own_row names.NewPage rest tag (empty, is) = ap row_of is
+own_row names.NewLine rest tag (gap, f, is) = ap row_of is
+own_row names.LineJust rest tag (just, f, is) = ap row_of is
+own_row names.PageJust rest tag (just, f, is) = ap row_of is
+own_row names.Font rest tag (inl (empty, is)) = ap row_of is
+own_row names.Font rest tag (inr (inl (n, f, is))) = ap row_of is
+own_row names.Font rest tag (inr (inr (v, f, is))) = ap row_of is
+own_row names.CharSpacing rest tag (gap, f, is) = ap row_of is
+own_row names.CharSpacingEnd rest tag (empty, is) = ap row_of is
+own_row names.PageTime rest tag (inl (on, f, is)) = ap row_of is
+own_row names.PageTime rest tag (inr (v, f, is)) = ap row_of is
+own_row names.Flash rest tag (inl (empty, is)) = ap row_of is
+own_row names.Flash rest tag (inr (inl (on, f, is))) = ap row_of is
+own_row names.Flash rest tag (inr (inr (inl (v, f, is)))) = ap row_of is
+own_row names.Flash rest tag (inr (inr (inr (inl (off, f, is))))) = ap row_of is
+own_row names.Flash rest tag (inr (inr (inr (inr (v, f, is))))) = ap row_of is
+own_row names.FlashEnd rest tag (empty, is) = ap row_of is
+own_row names.Fore rest tag (colour, f, is) = ap row_of is
+own_row names.Back rest tag (colour, f, is) = ap row_of is
+own_row names.Rect rest tag (v, f, is) = ap row_of is
+
+-- the numbers of justifications
+just_in_range : (low high just : ℕ) (rest : List ℕ) (o : Option ℕ) → d? low high rest o → o ≡ Some just → (low ≤ just) × (just ≤ high)
+just_in_range low high just rest o f is =
+    let g = d?_d low high rest just (rw is at f) in
+    (g.above, g.below)
+
+pub line_just_known : (body : List ℕ) (just : ℕ) → Spells body (LineJust (Some just)) → (2 ≤ just) × (just ≤ 5)
+unfolding Spells SpellsSmall
+line_just_known body just (name, rest, is, f) =
+    let row : name ≡ names.LineJust = sym (own_row name rest (LineJust (Some just)) f) in
+    let (o, g, same) = subst (λ n. (table n).rest rest (LineJust (Some just))) row f in
+    just_in_range 2 5 just rest o g cc
+
+pub page_just_known : (body : List ℕ) (just : ℕ) → Spells body (PageJust (Some just)) → (2 ≤ just) × (just ≤ 4)
+unfolding Spells SpellsSmall
+page_just_known body just (name, rest, is, f) =
+    let row : name ≡ names.PageJust = sym (own_row name rest (PageJust (Some just)) f) in
+    let (o, g, same) = subst (λ n. (table n).rest rest (PageJust (Some just))) row f in
+    just_in_range 2 4 just rest o g cc

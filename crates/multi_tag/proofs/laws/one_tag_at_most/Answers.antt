@@ -1,0 +1,5 @@
+use Rattle.multi_tag.proofs.OneTagLemmas.{one_tag}
+use Rattle.multi_tag.proofs.laws.one_tag_at_most.Goals as goal
+
+pub returns : goal.returns
+returns c = one_tag

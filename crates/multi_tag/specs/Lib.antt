@@ -1,0 +1,8 @@
+pub mod Body
+pub mod Fault
+pub mod Form
+pub mod Number
+pub mod Octet
+pub mod Part
+pub mod Walk
+pub mod TagOf

@@ -1,0 +1,55 @@
+-- Parts of a body, as they are read.
+use Rattle.std.specs.Prelude.{◌≡◌, ℕ, ◌≤◌, ◌&&◌, nat_le, nat_lt, if◌then◌else◌, List, [], ◌∷◌, ◌++◌, length, Option, Some, None}
+use Rattle.std.specs.List.{All}
+use Rattle.std.specs.Char.{digit_value}
+use Rattle.multi_tag.specs.declared.number.Numeral.{Numeral}
+use Rattle.multi_tag.specs.Number.{IsDigit, number}
+use Rattle.multi_tag.specs.Form.{Form, d?, ◌means◌, ◌or◌, between}
+
+-- the value that octets spell in a form, or none where they spell none (own)
+abbrev pub IsValueIn : {V : Type 0} → Form V → List ℕ → Option V → Type 0
+IsValueIn form octets (Some value) = form octets value
+IsValueIn {V} form octets None = (value : V) → ¬ (form octets value)
+
+-- the number that digits write, if there are digits (own)
+abbrev pub written : ℕ → List ℕ → Option ℕ
+written base [] = None
+written base (octet ∷ octets) = Some (number base (octet ∷ octets))
+
+-- a number from low to high, or none, if a number isn't out of that range (own)
+abbrev pub in_range : ℕ → ℕ → Option ℕ → Option (Option ℕ)
+in_range low high None = Some None
+in_range low high (Some number) = if nat_le low number && nat_le number high then Some (Some number) else None
+
+-- the value of a digit of a base, if there is one (own)
+abbrev pub digit_of : ℕ → Option ℕ → Option ℕ
+digit_of base None = None
+digit_of base (Some octet) = if nat_lt (digit_value octet) base then Some (digit_value octet) else None
+
+-- what stands behind digits: the end, or an octet that is no digit unless there are as many digits as there may be (own)
+abbrev pub IsStop : ℕ → Option ℕ → List ℕ → Type 0 → Type 0
+IsStop base None rest full = rest ≡ []
+IsStop base (Some octet) rest full = IsDigit base octet → full
+
+-- the octets from the one that stopped the digits on (own)
+abbrev pub stopped : Option ℕ → List ℕ → List ℕ
+stopped None rest = []
+stopped (Some octet) rest = octet ∷ rest
+
+-- the octets begin with as many digits as there are, but so many at most; behind them stand the octet that stopped them and the rest (own)
+pub record IsCut (base most : ℕ) (octets : List ℕ) (numeral : Numeral) (rest : List ℕ) : Type 0 where
+  pub digits : List ℕ
+  pub whole : octets ≡ digits ++ stopped numeral.stop rest
+  pub each : All (IsDigit base) digits
+  pub count : length digits ≤ most
+  pub stops : IsStop base numeral.stop rest (length digits ≡ most)
+  pub number_is : numeral.value ≡ written base digits
+
+-- a number, and the octet behind it: what octets begin with, and the rest (own)
+abbrev pub IsPartBefore : {V : Type 0} → ℕ → Form V → List ℕ → Option V → List ℕ → Type 0
+IsPartBefore octet form octets (Some value) rest = (front : List ℕ) × (octets ≡ front ++ octet ∷ rest) × form front value
+IsPartBefore {V} octet form octets None rest = (front behind : List ℕ) (value : V) → octets ≡ front ++ octet ∷ behind → ¬ (form front value)
+
+-- one time, or two times with a letter between them (NTCIP 1203 v03, MULTI tags 'pt' and 'fl')
+abbrev pub times : ℕ → Form (Option ℕ × Option ℕ)
+times letter = (d? 0 255 means (λ first. (first, None))) or between letter (d? 0 255) (d? 0 255)

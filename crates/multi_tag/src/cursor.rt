@@ -1,0 +1,28 @@
+//! A place in the body of a tag.
+
+ghost use Rattle.multi_tag.specs.Walk.{IsWithin, HasReadOn, IsNext, left};
+
+use multi_token::Source;
+
+/// The offset of the next octet of a body, and the offset of the body's end.
+#[derive(Clone, Copy, Debug, PartialEq, Eq)]
+pub struct Cursor {
+    pub at: usize,
+    pub end: usize,
+}
+
+impl Cursor {
+    /// The next octet of the body, a letter as a small one, or `None` at the end, where nothing is read.
+    pub fn next(&mut self, source: &mut Source<'_>) -> Option<u8>
+        requires { IsWithin source.old self.old }
+        ensures octet { IsNext (left source.old self.old) result (left source.new self.new) }
+        ensures walk { HasReadOn source.old source.new self.old self.new }
+    {
+        if self.at == self.end {
+            return None;
+        }
+        let octet = source.read(self.at)?;
+        self.at += 1;
+        Some(octet.to_ascii_lowercase())
+    }
+}

@@ -1,0 +1,47 @@
+//! The value of a tag of a counted source.
+
+ghost use Rattle.std.specs.Prelude.{◌≡◌, ◌↔◌, ◌-◌, IfOk, OnOk, OnErr, Err};
+ghost use Rattle.multi_token.specs.Counted.{charged, RisesBetween};
+ghost use Rattle.multi_token.specs.Tokens.{IsTagOf, body_of};
+ghost use Rattle.multi_tag.specs.Body.{Spells, SpellsNoTag, IsReadOf, HasName};
+
+use crate::cursor::Cursor;
+use crate::name::read_name;
+use crate::rest::read_rest;
+use crate::tag::{Tag, TagFault};
+use multi_token::{Source, Token};
+
+/// The value of a tag of this source, whose body stands between the token's first octet and its last.
+///
+/// It is [`TagFault::Unsupported`] where no listed name begins the body, and [`TagFault::Value`] where one
+/// does, but what stands behind it has none of the forms that are listed for it.
+///
+/// Each octet of the body is read at most once, and nothing else is.
+pub fn read_tag(source: &mut Source<'_>, token: &Token) -> Result<Tag, TagFault>
+    requires { IsTagOf source.old.octets token.now }
+    // what is read is in the table, and what is in the table is read
+    ensures spelled { IfOk result (Spells (body_of source.old.octets token.now)) }
+    ensures read { IsReadOf (body_of source.old.octets token.now) result }
+    ensures unsupported { (result ≡ Err TagFault.Unsupported) ↔
+        (¬ (HasName (body_of source.old.octets token.now))) }
+    ensures value { (result ≡ Err TagFault.Value) ↔
+        (HasName (body_of source.old.octets token.now)
+        × SpellsNoTag (body_of source.old.octets token.now)) }
+
+    // a step for each octet that is read: of a value all of the body's, of a fault at least one
+    ensures steps { RisesBetween source.old source.new 0 (token.now.len - 1) }
+    ensures value_steps { OnOk result (source.new ≡ charged source.old (token.now.len - 2)) }
+    ensures fault_steps { OnErr result (RisesBetween source.old source.new 1 (token.now.len - 2)) }
+{
+    let mut cursor = Cursor {
+        at: token.at + 1,
+        end: token.at + token.len - 1,
+    };
+    let Some(name) = read_name(source, &mut cursor) else {
+        return Err(TagFault::Unsupported);
+    };
+    match read_rest(source, &mut cursor, name) {
+        Some(tag) => Ok(tag),
+        None => Err(TagFault::Value),
+    }
+}

@@ -1,0 +1,83 @@
+//! What tags mean, and why a body means nothing.
+
+ghost use Rattle.std.specs.Prelude.{◌≡◌};
+ghost use Rattle.multi_tag.specs.Fault.{fault_code};
+
+use thiserror::Error;
+
+/// A font, and the version that it must have (NTCIP 1203 v03, MULTI tag 'fo').
+#[derive(Clone, Copy, Debug, PartialEq, Eq)]
+pub struct FontPick {
+    /// The font's number: 1 to 255.
+    pub number: u8,
+    /// The version that the font must have; `None` asks for no version.
+    pub version: Option<u16>,
+}
+
+/// The value of a tag (NTCIP 1203 v03, MULTI). An absent number stands for the sign's default.
+#[derive(Clone, Copy, Debug, PartialEq, Eq)]
+pub enum Tag {
+    /// A new page ('np').
+    NewPage,
+    /// A new line, with the gap above it in pixels; `None` is the usual gap ('nl').
+    NewLine(Option<u8>),
+    /// Line justification: left 2, centre 3, right 4, full 5 ('jl').
+    LineJust(Option<u8>),
+    /// Page justification: top 2, middle 3, bottom 4 ('jp').
+    PageJust(Option<u8>),
+    /// A font ('fo').
+    Font(Option<FontPick>),
+    /// Character spacing in pixels ('sc').
+    CharSpacing(u8),
+    /// The end of character spacing ('/sc').
+    CharSpacingEnd,
+    /// How long a page is shown and then dark, in tenths of a second ('pt').
+    PageTime {
+        on: Option<u8>,
+        off: Option<u8>,
+    },
+    /// Flashing, and how long it is on and off, in tenths of a second ('fl').
+    Flash {
+        off_first: bool,
+        on: Option<u8>,
+        off: Option<u8>,
+    },
+    /// The end of flashing ('/fl').
+    FlashEnd,
+    /// The foreground's colour: 0 to 9 ('cf').
+    Fore(Option<u8>),
+    /// The page background's colour: 0 to 9 ('pb').
+    Back(Option<u8>),
+    /// A text rectangle: the column and the row of its first pixel, its width and its height, each 0 to
+    /// 99999 pixels ('tr').
+    Rect {
+        x: u32,
+        y: u32,
+        w: u32,
+        h: u32,
+    },
+}
+
+/// Why a tag has no value.
+#[derive(Clone, Copy, Debug, PartialEq, Eq, Error)]
+pub enum TagFault {
+    /// No listed name begins the body.
+    #[error("unsupported tag")]
+    Unsupported,
+    /// A listed name begins the body, but the rest has no listed form or a number is out of its range.
+    #[error("unsupported tag value")]
+    Value,
+}
+
+impl TagFault {
+    /// The number of the fault: 3 unsupportedTag, 4 unsupportedTagValue
+    /// (NTCIP 1203 v03, dmsMultiSyntaxError).
+    pub fn code(self) -> u8
+        ensures { result ≡ fault_code self }
+    {
+        match self {
+            TagFault::Unsupported => 3,
+            TagFault::Value => 4,
+        }
+    }
+}

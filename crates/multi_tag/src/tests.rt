@@ -1,0 +1,216 @@
+use crate::{FontPick, Tag, TagFault, read_tag};
+use multi_token::{Kind, Source, next_token};
+
+/// What is read of a string that is one tag, and the steps of reading it; `None` where it is no tag.
+fn read(octets: &[u8]) -> Option<(Result<Tag, TagFault>, u64)> {
+    let mut source = Source::new(octets);
+    let Ok(Some(token)) = next_token(&mut source, 0) else {
+        return None;
+    };
+    if let Kind::Tag = token.kind {
+        let before = source.steps();
+        let tag = read_tag(&mut source, &token);
+        Some((tag, source.steps() - before))
+    } else {
+        None
+    }
+}
+
+fn flash(off_first: bool, on: Option<u8>, off: Option<u8>) -> Tag {
+    Tag::Flash { off_first, on, off }
+}
+
+fn font(number: u8, version: Option<u16>) -> Tag {
+    Tag::Font(Some(FontPick { number, version }))
+}
+
+fn rect(x: u32, y: u32, w: u32, h: u32) -> Tag {
+    Tag::Rect { x, y, w, h }
+}
+
+#[test]
+fn listed_bodies_are_tags(rt: HostRuntime) {
+    let rows: [(&[u8], Tag); 44] = [
+        (b"[np]", Tag::NewPage),
+        (b"[nl]", Tag::NewLine(None)),
+        (b"[nl0]", Tag::NewLine(Some(0))),
+        (b"[nl00012]", Tag::NewLine(Some(12))),
+        (b"[nl255]", Tag::NewLine(Some(255))),
+        (b"[jl]", Tag::LineJust(None)),
+        (b"[jl2]", Tag::LineJust(Some(2))),
+        (b"[jl5]", Tag::LineJust(Some(5))),
+        (b"[jp]", Tag::PageJust(None)),
+        (b"[jp2]", Tag::PageJust(Some(2))),
+        (b"[jp4]", Tag::PageJust(Some(4))),
+        (b"[fo]", Tag::Font(None)),
+        (b"[FO01]", font(1, None)),
+        (b"[fo255]", font(255, None)),
+        (b"[fo1,1a2B]", font(1, Some(6699))),
+        (b"[fo2,0]", font(2, Some(0))),
+        (b"[fo2,ffff]", font(2, Some(65535))),
+        (b"[sc0]", Tag::CharSpacing(0)),
+        (b"[sc255]", Tag::CharSpacing(255)),
+        (b"[/SC]", Tag::CharSpacingEnd),
+        (
+            b"[pt]",
+            Tag::PageTime {
+                on: None,
+                off: None,
+            },
+        ),
+        (
+            b"[pto]",
+            Tag::PageTime {
+                on: None,
+                off: None,
+            },
+        ),
+        (
+            b"[pto5]",
+            Tag::PageTime {
+                on: None,
+                off: Some(5),
+            },
+        ),
+        (
+            b"[pt7]",
+            Tag::PageTime {
+                on: Some(7),
+                off: None,
+            },
+        ),
+        (
+            b"[PT30O0]",
+            Tag::PageTime {
+                on: Some(30),
+                off: Some(0),
+            },
+        ),
+        (
+            b"[pt255o255]",
+            Tag::PageTime {
+                on: Some(255),
+                off: Some(255),
+            },
+        ),
+        (b"[fl]", flash(false, None, None)),
+        (b"[flt]", flash(false, None, None)),
+        (b"[flt9]", flash(false, Some(9), None)),
+        (b"[flT5o05]", flash(false, Some(5), Some(5))),
+        (b"[flto6]", flash(false, None, Some(6))),
+        (b"[flo]", flash(true, None, None)),
+        (b"[flo8]", flash(true, None, Some(8))),
+        (b"[flo7t3]", flash(true, Some(3), Some(7))),
+        (b"[flot4]", flash(true, Some(4), None)),
+        (b"[/fl]", Tag::FlashEnd),
+        (b"[cf]", Tag::Fore(None)),
+        (b"[cf0]", Tag::Fore(Some(0))),
+        (b"[cf9]", Tag::Fore(Some(9))),
+        (b"[pb]", Tag::Back(None)),
+        (b"[pb9]", Tag::Back(Some(9))),
+        (b"[tr1,1,0,0]", rect(1, 1, 0, 0)),
+        (b"[TR0,00001,7,2]", rect(0, 1, 7, 2)),
+        (
+            b"[tr99999,99999,99999,99999]",
+            rect(99999, 99999, 99999, 99999),
+        ),
+    ];
+    for (octets, tag) in rows {
+        // a step for each octet between the brackets
+        let steps = octets.len().saturating_sub(2) as u64;
+        assert_eq!(rt; read(octets), Some((Ok(tag), steps)), "at {octets:?}");
+    }
+}
+
+#[test]
+fn a_name_with_another_rest_is_a_wrong_value(rt: HostRuntime) {
+    let rows: [&[u8]; 41] = [
+        b"[np1]",
+        b"[nl256]",
+        b"[nl123456]",
+        b"[nl-1]",
+        b"[jl1]",
+        b"[jl6]",
+        b"[jp1]",
+        b"[jp5]",
+        b"[fo0]",
+        b"[fo256]",
+        b"[foo]",
+        b"[fo,1]",
+        b"[fo1,]",
+        b"[fo1,12345]",
+        b"[fo1,g]",
+        b"[fo1,1,1]",
+        b"[sc]",
+        b"[sc256]",
+        b"[/sc1]",
+        b"[pt256]",
+        b"[pt5o256]",
+        b"[pt5o5o5]",
+        b"[pt5t5]",
+        b"[fl5]",
+        b"[flx]",
+        b"[flt256]",
+        b"[flt5t5]",
+        b"[flo5o5]",
+        b"[flt5o5t5]",
+        b"[/fl1]",
+        b"[cf10]",
+        b"[cf255,0,0]",
+        b"[pb10]",
+        b"[tr]",
+        b"[tr1,1,0]",
+        b"[tr1,1,,0]",
+        b"[tr1,1,0,0,0]",
+        b"[tr000001,1,1,1]",
+        b"[tr1,1,1,100000]",
+        b"[npp]",
+        b"[tr1;1;0;0]",
+    ];
+    for octets in rows {
+        let fault = read(octets).map(|(tag, _)| tag);
+        assert_eq!(rt; fault, Some(Err(TagFault::Value)), "at {octets:?}");
+    }
+}
+
+#[test]
+fn another_body_is_no_listed_tag(rt: HostRuntime) {
+    let rows: [&[u8]; 14] = [
+        b"[/f]",
+        b"[/s]",
+        b"[n]",
+        b"[hc41]",
+        b"[cb1]",
+        b"[f1]",
+        b"[ms]",
+        b"[x]",
+        b"[/]",
+        b"[/np]",
+        b"[/fo]",
+        b"[ np]",
+        b"[n\xf0]",
+        b"[\xce\x90]",
+    ];
+    for octets in rows {
+        let fault = read(octets).map(|(tag, _)| tag);
+        assert_eq!(rt; fault, Some(Err(TagFault::Unsupported)), "at {octets:?}");
+    }
+}
+
+#[test]
+fn a_long_body_is_no_more_steps_than_its_octets(rt: HostRuntime) {
+    let mut octets = [b'0'; 3000];
+    octets[0] = b'[';
+    octets[1] = b'n';
+    octets[2] = b'l';
+    octets[2999] = b']';
+    let (tag, steps) = read(&octets).expect(&rt, "a tag");
+    assert_eq!(rt; tag, Err(TagFault::Value));
+    assert!(rt; steps <= 2999, "{steps} steps");
+}
+
+#[test]
+fn faults_have_their_numbers(rt: HostRuntime) {
+    assert_eq!(rt; TagFault::Unsupported.code(), 3);
+    assert_eq!(rt; TagFault::Value.code(), 4);
+}
