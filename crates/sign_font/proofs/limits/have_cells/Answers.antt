@@ -1,0 +1,15 @@
+use Rattle.std.proofs.Common.{rules, tests, ◌≡◌, ◌∙◌, sym}
+use Rattle.std.specs.List.{list_all}
+use Rattle.std.proofs.lemmas.Iterator.{YieldsList-from_slice}
+use Rattle.std.proofs.lemmas.Iterator.Search.{all_from_yields_List}
+use Rattle.std.proofs.lemmas.List.Folds.{list_all-map}
+use Rattle.sign_font.specs.Limits.{has_cells}
+use Rattle.sign_font.specs.Sign.{font_of}
+use Rattle.sign_font.specs.declared.parts.FontPart.{FontPart}
+use Rattle.sign_font.proofs.limits.have_cells.Goals as goal
+
+pub returns : goal.returns
+returns c =
+    let each : c.all.result ≡ list_all (λ (x : FontPart). has_cells (font_of x)) c.args.fonts.now =
+    all_from_yields_List (λ (x : FontPart). has_cells (font_of x)) _ _ c.all.result c.all.ensures.ran (YieldsList-from_slice c.args.fonts.now cc) (λ x b q k. search (rules, tests)) in
+    each ∙ sym (list_all-map (has_cells) font_of c.args.fonts.now)

@@ -1,0 +1,7 @@
+pub mod Cell
+pub mod Fault
+pub mod Kept
+pub mod Limits
+pub mod Sample
+pub mod Sign
+pub mod Sound

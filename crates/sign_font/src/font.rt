@@ -1,0 +1,92 @@
+//! A font, as a sign keeps it and as it is asked for.
+
+ghost use Rattle.std.specs.Prelude.{◌≡◌, ℕ, IfOk, IfSome, option_map};
+ghost use Rattle.sign_font.specs.Sign.{font_of, info_of, cell_numbered, sized};
+ghost use Rattle.sign_font.specs.Sound.{IsSoundFont, IsSoundSize};
+
+use crate::cell::{Cell, Glyph};
+use crate::parts::FontPart;
+use std::alloc::{AllocError, Global};
+use std::marker::Model;
+
+/// What a font says of itself, without its cells (NTCIP 1203 v03, object fontTable).
+#[derive(Clone, Copy, Debug, PartialEq, Eq)]
+pub struct FontInfo {
+    /// 1 to 255.
+    pub number: u8,
+    /// 0 where none is known (NTCIP 1203 v03, object fontVersionID).
+    pub version: u16,
+    /// Rows, in pixels: 1 to 64.
+    pub height: u8,
+    /// Columns between two characters, in pixels.
+    pub char_spacing: u8,
+    /// Rows between two lines, in pixels.
+    pub line_spacing: u8,
+}
+
+/// A font as a sign keeps it.
+#[derive(Drop)]
+pub(crate) struct Font {
+    info: FontInfo,
+    glyphs: Vec<Glyph>,
+}
+
+impl Model for Font {
+    ghost use Rattle.sign_font.specs.Sign.{FontData};
+    ghost use Rattle.sign_font.specs.Kept.{font_kept, IsFontKept};
+
+    ghost Value = { FontData };
+
+    ghost view = { λ f. font_kept f.info f.glyphs.items };
+
+    ghost invariant = { λ f. IsFontKept f.info f.glyphs.items };
+}
+
+impl Font {
+    /// Makes the rows of each cell.
+    pub(crate) fn new(alloc: Global, part: FontPart) -> Result<Font, AllocError>
+        requires { IsSoundFont (font_of part) }
+        ensures { IfOk result (λ font. font ≡ font_of part) }
+    {
+        let info = FontInfo {
+            number: part.number,
+            version: part.version,
+            height: part.height,
+            char_spacing: part.char_spacing,
+            line_spacing: part.line_spacing,
+        };
+        let mut glyphs = Vec::with_capacity(alloc, part.cells.len())?;
+        for cell in part.cells {
+            glyphs.push(Glyph::new(alloc, cell, info.height)?)?;
+        }
+        Ok(Font { info, glyphs })
+    }
+
+    /// The font's number.
+    pub(crate) fn number(&self) -> u8
+        ensures { result ≡ self.now.number }
+    {
+        self.info.number
+    }
+
+    /// What the font says of itself.
+    pub(crate) fn info(&self) -> FontInfo
+        ensures { result ≡ info_of self.now }
+    {
+        self.info
+    }
+
+    /// The cell of a number, found by halves.
+    pub(crate) fn cell(&self, number: u16) -> Option<Cell<'_>>
+        ensures cell { result ≡ option_map (sized self.now) (cell_numbered self.now number) }
+        ensures size { IfSome result IsSoundSize }
+    {
+        match self
+            .glyphs
+            .binary_search_by_key(&number, |glyph| glyph.number())
+        {
+            Ok(place) => Some(Cell::new(&self.glyphs[place])),
+            Err(_) => None,
+        }
+    }
+}

@@ -1,0 +1,213 @@
+//! A sign, which is made once and then only asked.
+
+ghost use Rattle.std.specs.Prelude.{◌≡◌, ℕ, ◌≤◌, All, Any, IfOk, IfErr, IfSome, OnOk, map, option_map};
+ghost use Rattle.std.specs.Option.{option_copied};
+ghost use Rattle.multi_token.specs.Counted.{charged};
+ghost use Rattle.sign_font.specs.Sign.{sign_of, font_of, font_numbered, info_of, cell_in, tallest};
+ghost use Rattle.sign_font.specs.Limits.{first_fault};
+ghost use Rattle.sign_font.specs.Sound.{IsSound, IsSoundFont, IsSoundSize, IsWithin};
+
+use crate::cell::Cell;
+use crate::fault::SignFault;
+use crate::font::{Font, FontInfo};
+use crate::limits::first_fault;
+use crate::parts::{Defaults, FontPart, SignParts};
+use multi_token::Source;
+use std::alloc::{AllocError, Global};
+use std::marker::Model;
+
+/// A sign within its limits, with its fonts (own).
+///
+/// Its fonts and their cells are reached by counted probes alone; everything else is free of steps.
+#[derive(Drop)]
+pub struct Sign {
+    width: u16,
+    height: u16,
+    classic: bool,
+    max_pages: u8,
+    beacons: bool,
+    pixel_service: bool,
+    defaults: Defaults,
+    fonts: Vec<Font>,
+}
+
+impl Model for Sign {
+    ghost use Rattle.sign_font.specs.Sign.{SignData};
+    ghost use Rattle.sign_font.specs.Sound.{IsSound};
+
+    ghost Value = { SignData };
+
+    ghost view = { λ s. record {
+      width = s.width;
+      height = s.height;
+      classic = s.classic;
+      max_pages = s.max_pages;
+      beacons = s.beacons;
+      pixel_service = s.pixel_service;
+      defaults = s.defaults;
+      fonts = s.fonts.items;
+    } };
+
+    ghost invariant = { λ s. IsSound (view s) };
+}
+
+impl Sign {
+    /// Makes a sign of its parts, or answers the fault of the first limit, in their order over the whole sign,
+    /// that they are outside. `Memory` comes only where memory was refused, and only for parts without a fault.
+    pub fn new(alloc: Global, parts: SignParts) -> Result<Sign, SignFault>
+        ensures accepted { IfOk result (λ sign. sign ≡ sign_of parts) }
+        ensures sound { IfOk result IsSound }
+        ensures faultless { OnOk result (first_fault (sign_of parts) ≡ None) }
+        ensures faulty { IfSome (first_fault (sign_of parts)) (λ fault. result ≡ Err fault) }
+        ensures memory { first_fault (sign_of parts) ≡ None → IfErr result (λ fault. fault ≡ SignFault.Memory) }
+        // what is within its limits has no fault
+        ensures within { IsSound (sign_of parts) → first_fault (sign_of parts) ≡ None }
+    {
+        if let Some(fault) = first_fault(&parts) {
+            return Err(fault);
+        }
+        let Ok(fonts) = make_fonts(alloc, parts.fonts) else {
+            return Err(SignFault::Memory);
+        };
+        Ok(Sign {
+            width: parts.width,
+            height: parts.height,
+            classic: parts.classic,
+            max_pages: parts.max_pages,
+            beacons: parts.beacons,
+            pixel_service: parts.pixel_service,
+            defaults: parts.defaults,
+            fonts,
+        })
+    }
+
+    /// Columns, in pixels: 1 to 1,024.
+    pub fn width(&self) -> u16
+        ensures width { result ≡ self.now.width }
+        ensures sound { IsSound self.now }
+    {
+        self.width
+    }
+
+    /// Rows, in pixels: 1 to 128.
+    pub fn height(&self) -> u16
+        ensures height { result ≡ self.now.height }
+        ensures sound { IsSound self.now }
+    {
+        self.height
+    }
+
+    /// Whether the colours are those of the classic scheme; else the sign is monochrome.
+    pub fn classic(&self) -> bool
+        ensures classic { result ≡ self.now.classic }
+        ensures sound { IsSound self.now }
+    {
+        self.classic
+    }
+
+    /// The most pages of a message: 1 to 255.
+    pub fn max_pages(&self) -> u8
+        ensures max_pages { result ≡ self.now.max_pages }
+        ensures sound { IsSound self.now }
+    {
+        self.max_pages
+    }
+
+    /// Whether the sign has beacons.
+    pub fn beacons(&self) -> bool
+        ensures beacons { result ≡ self.now.beacons }
+        ensures sound { IsSound self.now }
+    {
+        self.beacons
+    }
+
+    /// Whether the sign has a pixel service.
+    pub fn pixel_service(&self) -> bool
+        ensures pixel_service { result ≡ self.now.pixel_service }
+        ensures sound { IsSound self.now }
+    {
+        self.pixel_service
+    }
+
+    /// What holds where a message says nothing.
+    pub fn defaults(&self) -> Defaults
+        ensures defaults { result ≡ self.now.defaults }
+        ensures sound { IsSound self.now }
+    {
+        self.defaults
+    }
+
+    /// The default font.
+    pub fn default_font(&self) -> FontInfo
+        ensures font { option_map info_of (font_numbered self.now self.now.defaults.font) ≡ Some result }
+        ensures height { IsWithin 1 64 result.height }
+        ensures sound { IsSound self.now }
+    {
+        self.find_font(self.defaults.font).unwrap().info()
+    }
+
+    /// The height of the tallest font, in pixels: 1 to 64.
+    pub fn tallest(&self) -> u8
+        ensures tallest { result ≡ tallest self.now }
+        ensures above { All (λ font. font.height ≤ result) self.now.fonts }
+        ensures reached { Any (λ font. font.height ≡ result) self.now.fonts }
+        ensures sound { IsSound self.now }
+    {
+        self.fonts
+            .iter()
+            .map(|font| font.info().height)
+            .max()
+            .unwrap_or(0)
+    }
+
+    /// The font of a number, if it is defined. Either way it is one step.
+    pub fn font(&self, source: &mut Source<'_>, number: u8) -> Option<FontInfo>
+        ensures font { result ≡ option_map info_of (font_numbered self.now number) }
+        ensures height { IfSome result (λ info. IsWithin 1 64 info.height) }
+        ensures step { source.new ≡ charged source.old 1 }
+        ensures sound { IsSound self.now }
+    {
+        self.probe(source, number).map(|font| font.info())
+    }
+
+    /// The cell of a number in the font of a number, if both are defined. Either way it is one step.
+    pub fn cell(&self, source: &mut Source<'_>, font: u8, number: u16) -> Option<Cell<'_>>
+        ensures cell { result ≡ cell_in self.now font number }
+        ensures size { IfSome result IsSoundSize }
+        ensures step { source.new ≡ charged source.old 1 }
+        ensures sound { IsSound self.now }
+    {
+        self.probe(source, font)?.cell(number)
+    }
+
+    /// The font of a number, for one step.
+    fn probe(&self, source: &mut Source<'_>, number: u8) -> Option<&Font>
+        ensures font { option_copied result ≡ font_numbered self.now number }
+        ensures within { IfSome result (λ font. IsSoundFont font.now) }
+        ensures step { source.new ≡ charged source.old 1 }
+        ensures sound { IsSound self.now }
+    {
+        source.charge(1);
+        self.find_font(number)
+    }
+
+    fn find_font(&self, number: u8) -> Option<&Font>
+        ensures font { option_copied result ≡ font_numbered self.now number }
+        ensures within { IfSome result (λ font. IsSoundFont font.now) }
+        ensures sound { IsSound self.now }
+    {
+        self.fonts.iter().find(|font| font.number() == number)
+    }
+}
+
+/// Makes the fonts, each with the rows of its cells.
+fn make_fonts(alloc: Global, parts: Vec<FontPart>) -> Result<Vec<Font>, AllocError>
+    requires { All IsSoundFont (map font_of parts.items) }
+    ensures { IfOk result (λ fonts. fonts.items ≡ map font_of parts.items) }
+{
+    let mut fonts = Vec::with_capacity(alloc, parts.len())?;
+    for part in parts {
+        fonts.push(Font::new(alloc, part)?)?;
+    }
+    Ok(fonts)
+}

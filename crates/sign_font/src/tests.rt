@@ -1,0 +1,252 @@
+use crate::sample::sample_sign;
+use crate::{CellPart, FontInfo, FontPart, Sign, SignFault, SignParts};
+use multi_token::Source;
+use std::alloc::{AllocError, Global};
+use std::test::Fail;
+
+/// The number of the fault of these parts, or 0 where they make a sign.
+fn code(alloc: Global, parts: SignParts) -> u8 {
+    match Sign::new(alloc, parts) {
+        Ok(_) => 0,
+        Err(fault) => fault.code(),
+    }
+}
+
+/// The sample with other octets for the `A` of its first font.
+fn with_bits(alloc: Global, bits: &[u8]) -> Result<SignParts, AllocError> {
+    let mut parts = sample_sign(alloc)?;
+    if let Some(font) = parts.fonts.first_mut() {
+        if let Some(cell) = font.cells.get_mut(1) {
+            cell.bits = bits.to_vec(alloc)?;
+        }
+    }
+    Ok(parts)
+}
+
+/// The sample with another number for the one cell of its second font.
+fn with_number(alloc: Global, number: u16) -> Result<SignParts, AllocError> {
+    let mut parts = sample_sign(alloc)?;
+    if let Some(font) = parts.fonts.get_mut(1) {
+        if let Some(cell) = font.cells.first_mut() {
+            cell.number = number;
+        }
+    }
+    Ok(parts)
+}
+
+/// The sample with fonts without cells up to this number.
+fn with_fonts(alloc: Global, last: u8) -> Result<SignParts, AllocError> {
+    let mut parts = sample_sign(alloc)?;
+    for number in 3..=last {
+        parts.fonts.push(FontPart {
+            number,
+            version: 0,
+            height: 1,
+            char_spacing: 0,
+            line_spacing: 0,
+            cells: Vec::new(alloc),
+        })?;
+    }
+    Ok(parts)
+}
+
+/// The sample with cells of one lit pixel up to this number in its second font.
+fn with_cells(alloc: Global, last: u16) -> Result<SignParts, AllocError> {
+    let mut parts = sample_sign(alloc)?;
+    if let Some(font) = parts.fonts.get_mut(1) {
+        font.height = 1;
+        font.cells.clear();
+        for number in 1..=last {
+            font.cells.push(CellPart {
+                number,
+                width: 1,
+                bits: [0x80].to_vec(alloc)?,
+            })?;
+        }
+    }
+    Ok(parts)
+}
+
+#[test]
+fn the_sample_says_what_was_written(rt: HostRuntime) -> Result<(), Fail> {
+    let sign = Sign::new(rt.alloc(), sample_sign(rt.alloc())?)?;
+    assert_eq!(rt; (sign.width(), sign.height(), sign.max_pages()), (12, 7, 2));
+    assert_eq!(rt;
+        (sign.classic(), sign.beacons(), sign.pixel_service()),
+        (false, false, false)
+    );
+    let defaults = sign.defaults();
+    assert_eq!(rt; (defaults.font, defaults.line, defaults.page), (1, 3, 3));
+    assert_eq!(rt; (defaults.page_on, defaults.page_off), (30, 0));
+    assert_eq!(rt; (defaults.flash_on, defaults.flash_off), (5, 5));
+    assert_eq!(rt; (defaults.fore, defaults.back), (1, 0));
+    let font = sign.default_font();
+    assert_eq!(rt; (font.number, font.version, font.height), (1, 6699, 3));
+    assert_eq!(rt; sign.tallest(), 5);
+    Ok(())
+}
+
+#[test]
+fn a_probe_is_one_step(rt: HostRuntime) -> Result<(), Fail> {
+    let sign = Sign::new(rt.alloc(), sample_sign(rt.alloc())?)?;
+    let mut source = Source::new(b"A");
+    let large = FontInfo {
+        number: 2,
+        version: 0,
+        height: 5,
+        char_spacing: 2,
+        line_spacing: 2,
+    };
+    assert_eq!(rt; sign.font(&mut source, 1), Some(sign.default_font()));
+    assert_eq!(rt; sign.font(&mut source, 2), Some(large));
+    assert_eq!(rt; sign.font(&mut source, 9), None);
+    assert_eq!(rt; source.steps(), 3);
+    assert!(rt; sign.cell(&mut source, 1, 65).is_some());
+    assert!(rt; sign.cell(&mut source, 1, 66).is_none());
+    assert!(rt; sign.cell(&mut source, 9, 65).is_none());
+    assert_eq!(rt; source.steps(), 6);
+    Ok(())
+}
+
+#[test]
+fn the_cells_of_a_are_drawn_row_by_row(rt: HostRuntime) -> Result<(), Fail> {
+    let sign = Sign::new(rt.alloc(), sample_sign(rt.alloc())?)?;
+    let mut source = Source::new(b"A");
+    let small = sign.cell(&mut source, 1, 65).ok_or("no small A")?;
+    let large = sign.cell(&mut source, 2, 65).ok_or("no large A")?;
+    assert_eq!(rt; small.width(), 3);
+    for (row, bits) in [(0, 0b010), (1, 0b111), (2, 0b101)] {
+        assert_eq!(rt; small.row(row), bits << 61, "row {row}");
+    }
+    assert!(rt; !small.bit(0, 0) && small.bit(1, 0) && !small.bit(2, 0));
+    assert!(rt; small.bit(0, 2) && !small.bit(1, 2) && small.bit(2, 2));
+    assert_eq!(rt; large.width(), 4);
+    for (row, bits) in [
+        (0, 0b0110),
+        (1, 0b1001),
+        (2, 0b1111),
+        (3, 0b1001),
+        (4, 0b1001),
+    ] {
+        assert_eq!(rt; large.row(row), bits << 60, "row {row}");
+    }
+    assert!(rt; !large.bit(0, 0) && large.bit(1, 0) && large.bit(2, 0) && !large.bit(3, 0));
+    Ok(())
+}
+
+#[test]
+fn a_size_has_limits(rt: HostRuntime) -> Result<(), Fail> {
+    for (width, height, fault) in [
+        (1024, 128, 0),
+        (1, 1, 0),
+        (1025, 7, 1),
+        (12, 129, 1),
+        (0, 7, 1),
+        (12, 0, 1),
+    ] {
+        let mut parts = sample_sign(rt.alloc())?;
+        parts.width = width;
+        parts.height = height;
+        assert_eq!(rt;
+            code(rt.alloc(), parts),
+            fault,
+            "{width} columns, {height} rows"
+        );
+    }
+    Ok(())
+}
+
+#[test]
+fn fonts_have_limits(rt: HostRuntime) -> Result<(), Fail> {
+    let mut parts = sample_sign(rt.alloc())?;
+    parts.fonts.reverse();
+    assert_eq!(rt; code(rt.alloc(), parts), 2, "fonts in the order 2, 1");
+    let mut parts = sample_sign(rt.alloc())?;
+    parts.fonts.clear();
+    assert_eq!(rt; code(rt.alloc(), parts), 2, "no fonts");
+    for (last, fault) in [(16, 0), (17, 2)] {
+        let parts = with_fonts(rt.alloc(), last)?;
+        assert_eq!(rt; code(rt.alloc(), parts), fault, "{last} fonts");
+    }
+    for (height, fault) in [(0, 2), (65, 2)] {
+        let mut parts = with_fonts(rt.alloc(), 3)?;
+        if let Some(font) = parts.fonts.last_mut() {
+            font.height = height;
+        }
+        assert_eq!(rt; code(rt.alloc(), parts), fault, "a font of {height} rows");
+    }
+    Ok(())
+}
+
+#[test]
+fn cells_have_limits(rt: HostRuntime) -> Result<(), Fail> {
+    let rows: [(&[u8], u8); 4] = [
+        (&[0x5e, 0x80], 0),
+        (&[0x5e, 0x81], 3),
+        (&[0x5e], 3),
+        (&[0x5e, 0x80, 0x00], 3),
+    ];
+    for (bits, fault) in rows {
+        let parts = with_bits(rt.alloc(), bits)?;
+        assert_eq!(rt; code(rt.alloc(), parts), fault, "{bits:?}");
+    }
+    for (number, fault) in [(1, 0), (255, 0), (0, 3), (256, 3)] {
+        let parts = with_number(rt.alloc(), number)?;
+        assert_eq!(rt; code(rt.alloc(), parts), fault, "a cell of number {number}");
+    }
+    for (last, fault) in [(255, 0), (256, 3)] {
+        let parts = with_cells(rt.alloc(), last)?;
+        assert_eq!(rt; code(rt.alloc(), parts), fault, "{last} cells");
+    }
+    Ok(())
+}
+
+#[test]
+fn defaults_have_limits(rt: HostRuntime) -> Result<(), Fail> {
+    let rows = [
+        (1, 3, 3, 1, 0, 0),
+        (3, 3, 3, 1, 0, 4),
+        (1, 1, 3, 1, 0, 4),
+        (1, 6, 3, 1, 0, 4),
+        (1, 3, 1, 1, 0, 4),
+        (1, 3, 5, 1, 0, 4),
+        (1, 3, 3, 10, 0, 4),
+        (1, 3, 3, 1, 10, 4),
+    ];
+    for (font, line, page, fore, back, fault) in rows {
+        let mut parts = sample_sign(rt.alloc())?;
+        parts.defaults.font = font;
+        parts.defaults.line = line;
+        parts.defaults.page = page;
+        parts.defaults.fore = fore;
+        parts.defaults.back = back;
+        assert_eq!(rt;
+            code(rt.alloc(), parts),
+            fault,
+            "font {font}, line {line}, page {page}, colours {fore} on {back}"
+        );
+    }
+    Ok(())
+}
+
+#[test]
+fn the_first_fault_is_answered(rt: HostRuntime) -> Result<(), Fail> {
+    let mut parts = sample_sign(rt.alloc())?;
+    parts.max_pages = 0;
+    assert_eq!(rt; code(rt.alloc(), parts), 5, "no pages");
+    let mut parts = sample_sign(rt.alloc())?;
+    parts.width = 0;
+    parts.max_pages = 0;
+    assert_eq!(rt; code(rt.alloc(), parts), 1, "no columns and no pages");
+    let mut parts = with_bits(rt.alloc(), &[0x5e, 0x81])?;
+    if let Some(font) = parts.fonts.last_mut() {
+        font.height = 65;
+    }
+    assert_eq!(rt;
+        code(rt.alloc(), parts),
+        2,
+        "a bad second font before a bad cell of the first"
+    );
+    assert_eq!(rt; SignFault::Memory.code(), 6);
+    Ok(())
+}
