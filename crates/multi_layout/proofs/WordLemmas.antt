@@ -1,21 +1,104 @@
 -- The words on lists, at one more item and at two lists.
-use Rattle.std.proofs.Common.{◌≡◌, List, [], ◌∷◌, ◌++◌, Option, refl, ap, ◌∙◌}
-use Rattle.std.specs.List.{filter_map, cons_option}
-use Rattle.std.proofs.lemmas.List.Elements.{filter_map-append}
-use Rattle.multi_layout.specs.Words.{each_after, some_after}
+use Rattle.std.proofs.Common.{◌≡◌, ℕ, ◌+◌, ◌<◌, max, length, take, drop, get_or, List, [], ◌∷◌, ◌++◌, Option, Some, None, refl, sym, ap, subst, ◌∙◌, arith}
+use Rattle.std.specs.List.{sum_by, filter_map, last_or, cons_option, All}
+use Rattle.std.specs.Option.{option_map_or}
+use Rattle.std.proofs.lemmas.List.{append_assoc, append-nil, take_more, drop_more, take-append-drop}
+use Rattle.std.proofs.lemmas.List.Elements.{filter_map-append, All-nil, All-cons, All-head, All-tail}
+use Rattle.std.proofs.lemmas.List.Sums.{sum_by_push, sum_by-append, fold_push}
+use Rattle.multi_layout.specs.Words.{each_after, some_after, successive, largest, extent}
+
+pub each_after_push : {X Y : Type 0} (f : List X → X → Y) (xs : List X) (x : X) → each_after f (xs ++ x ∷ []) ≡ each_after f xs ++ f xs x ∷ []
+each_after_push f [] x = refl
+each_after_push f (y ∷ xs) x = ap (λ l. f [] y ∷ l) (each_after_push (λ before. f (y ∷ before)) xs x)
+
+pub last_or_push : {X : Type 0} (o : Option X) (xs : List X) (x : X) → last_or o (xs ++ x ∷ []) ≡ Some x
+last_or_push o [] x = refl
+last_or_push o (y ∷ xs) x = last_or_push (Some y) xs x
+
+-- the last of two lists
+pub last_or-append : {X : Type 0} (o : Option X) (xs ys : List X) → last_or o (xs ++ ys) ≡ last_or (last_or o xs) ys
+last_or-append o [] ys = refl
+last_or-append o (x ∷ xs) ys = last_or-append (Some x) xs ys
+
+-- the pair that one more item makes with the last before it
+abbrev pub next_pair : {X : Type 0} → Option X → X → List (X × X)
+next_pair None y = []
+next_pair (Some x) y = (x, y) ∷ []
+
+successive_from : {X : Type 0} (a : X) (xs : List X) (y : X) → successive (a ∷ (xs ++ y ∷ [])) ≡ successive (a ∷ xs) ++ next_pair (last_or (Some a) xs) y
+successive_from a [] y = refl
+successive_from a (x ∷ xs) y = ap (λ l. (a, x) ∷ l) (successive_from x xs y)
+
+pub successive_push : {X : Type 0} (xs : List X) (y : X) → successive (xs ++ y ∷ []) ≡ successive xs ++ next_pair (last_or None xs) y
+successive_push [] y = refl
+successive_push (x ∷ xs) y = successive_from x xs y
+
+-- the gap between the last item and one more
+abbrev pub gap_before : {X : Type 0} → (X → X → ℕ) → List X → X → ℕ
+gap_before gap xs y = option_map_or (λ x. gap x y) (last_or None xs) 0
+
+sum_next_pair : {X : Type 0} (gap : X → X → ℕ) (o : Option X) (y : X) → sum_by (λ (p : X × X). gap p.0 p.1) (next_pair o y) ≡ option_map_or (λ x. gap x y) o 0
+sum_next_pair gap None y = refl
+sum_next_pair gap (Some x) y = omega arith
+
+-- one more item adds its size and the gap before it
+pub extent_push : {X : Type 0} (size : X → ℕ) (gap : X → X → ℕ) (xs : List X) (y : X) → extent size gap (xs ++ y ∷ []) ≡ extent size gap xs + gap_before gap xs y + size y
+extent_push {X} size gap xs y =
+    let pairs : sum_by (λ (p : X × X). gap p.0 p.1) (successive (xs ++ y ∷ [])) ≡ sum_by (λ (p : X × X). gap p.0 p.1) (successive xs) + gap_before gap xs y =
+    ap (λ l. sum_by (λ (p : X × X). gap p.0 p.1) l) (successive_push xs y)
+    ∙ sum_by-append (λ (p : X × X). gap p.0 p.1) (successive xs) (next_pair (last_or None xs) y)
+    ∙ ap (λ n. sum_by (λ (p : X × X). gap p.0 p.1) (successive xs) + n) (sum_next_pair gap (last_or None xs) y) in
+    omega (arith, pairs, sum_by_push size xs y)
+
+pub largest_push : {X : Type 0} (f : X → ℕ) (xs : List X) (x : X) → largest f (xs ++ x ∷ []) ≡ max (largest f xs) (f x)
+largest_push f xs x = fold_push (λ a x. max a (f x)) 0 xs x
 
 -- each item of two lists
-each_after-append : {X Y : Type 0} (f : List X → X → Y) (xs ys : List X) → each_after f (xs ++ ys) ≡ each_after f xs ++ each_after (λ before. f (xs ++ before)) ys
+pub each_after-append : {X Y : Type 0} (f : List X → X → Y) (xs ys : List X) → each_after f (xs ++ ys) ≡ each_after f xs ++ each_after (λ before. f (xs ++ before)) ys
 each_after-append f [] ys = refl
 each_after-append f (x ∷ xs) ys = ap (λ l. f [] x ∷ l) (each_after-append (λ before. f (x ∷ before)) xs ys)
 
 pub some_after-append : {X Y : Type 0} (f : List X → X → Option Y) (xs ys : List X) → some_after f (xs ++ ys) ≡ some_after f xs ++ some_after (λ before. f (xs ++ before)) ys
 some_after-append f xs ys = ap (λ l. filter_map (λ o. o) l) (each_after-append f xs ys) ∙ filter_map-append (λ o. o) (each_after f xs) (each_after (λ before. f (xs ++ before)) ys)
 
-each_after_push : {X Y : Type 0} (f : List X → X → Y) (xs : List X) (x : X) → each_after f (xs ++ x ∷ []) ≡ each_after f xs ++ f xs x ∷ []
-each_after_push f [] x = refl
-each_after_push f (y ∷ xs) x = ap (λ l. f [] y ∷ l) (each_after_push (λ before. f (y ∷ before)) xs x)
-
 -- one more item
 pub some_after_push : {X Y : Type 0} (f : List X → X → Option Y) (xs : List X) (x : X) → some_after f (xs ++ x ∷ []) ≡ some_after f xs ++ cons_option (f xs x) []
 some_after_push f xs x = ap (λ l. filter_map (λ o. o) l) (each_after_push f xs x) ∙ filter_map-append (λ o. o) (each_after f xs) (f xs x ∷ [])
+
+-- a loop's step
+module _ {X : Type 0} (xs : List X) (i : ℕ) (d : X) (within : i < length xs) where
+  pub some_after_more : {Y : Type 0} (f : List X → X → Option Y) → some_after f (take (i + 1) xs) ≡ some_after f (take i xs) ++ cons_option (f (take i xs) (get_or xs i d)) []
+  some_after_more f =
+      ap (some_after f) (take_more xs i d within)
+      ∙ some_after-append f (take i xs) (get_or xs i d ∷ [])
+      ∙ ap (λ l. some_after f (take i xs) ++ cons_option (f l (get_or xs i d)) []) (append-nil (take i xs))
+
+  -- the item at i is the first of which f makes something
+  pub some_after_first : {Y : Type 0} (f : List X → X → Option Y) (v : Y) → some_after f (take i xs) ≡ [] → f (take i xs) (get_or xs i d) ≡ Some v → (more : List Y) × (some_after f xs ≡ v ∷ more)
+  some_after_first {Y} f v none some =
+      let rest = some_after (λ before. f (take i xs ++ get_or xs i d ∷ before)) (drop (i + 1) xs) in
+      let at : some_after f xs ≡ some_after f (take i xs) ++ cons_option (f (take i xs ++ []) (get_or xs i d)) rest =
+      ap (some_after f) (sym (take-append-drop i xs) ∙ ap (λ l. take i xs ++ l) (drop_more xs i d within))
+      ∙ some_after-append f (take i xs) (get_or xs i d ∷ drop (i + 1) xs) in
+      (rest, at ∙ ap (λ l. l ++ cons_option (f (take i xs ++ []) (get_or xs i d)) rest) none ∙ ap (λ l. cons_option (f l (get_or xs i d)) rest) (append-nil (take i xs)) ∙ ap (λ o. cons_option o rest) some)
+
+  pub extent_more : (size : X → ℕ) (gap : X → X → ℕ) → extent size gap (take (i + 1) xs) ≡ extent size gap (take i xs) + gap_before gap (take i xs) (get_or xs i d) + size (get_or xs i d)
+  extent_more size gap = ap (extent size gap) (take_more xs i d within) ∙ extent_push size gap (take i xs) (get_or xs i d)
+
+-- the last of the first i + 1 items
+pub last_or_more : {X : Type 0} (xs : List X) (i : ℕ) (d : X) → i < length xs → last_or None (take (i + 1) xs) ≡ Some (get_or xs i d)
+last_or_more xs i d within = ap (last_or None) (take_more xs i d within) ∙ last_or_push None (take i xs) (get_or xs i d)
+
+-- induction on a list from its end
+push_ind_from : {X : Type 0} (P : List X → Type 0) → ((xs : List X) (x : X) → P xs → P (xs ++ x ∷ [])) → (ys xs : List X) → P xs → P (xs ++ ys)
+push_ind_from P step [] xs h = subst P (sym (append-nil xs)) h
+push_ind_from P step (y ∷ ys) xs h = subst P (append_assoc xs (y ∷ []) ys) (push_ind_from P step ys (xs ++ y ∷ []) (step xs y h))
+
+pub push_ind : {X : Type 0} (P : List X → Type 0) → P [] → ((xs : List X) (x : X) → P xs → P (xs ++ x ∷ [])) → (xs : List X) → P xs
+push_ind P none step xs = push_ind_from P step xs [] none
+
+pub All-split : {X : Type 0} (P : X → Type 0) (xs : List X) (x : X) → All P (xs ++ x ∷ []) → All P xs × P x
+All-split P [] x h = (All-nil P, All-head P x [] h)
+All-split P (y ∷ xs) x h =
+    let more = All-split P xs x (All-tail P y (xs ++ x ∷ []) h) in
+    (All-cons P y xs (All-head P y (xs ++ x ∷ []) h) more.0, more.1)

@@ -1,5 +1,16 @@
+pub mod Address
+pub mod Attributes
 pub mod Codes
+pub mod Fit
 pub mod Judged
 pub mod Limits
+pub mod Line
+pub mod Meaning
+pub mod Offence
+pub mod Picture
+pub mod Place
+pub mod State
+pub mod Sums
+pub mod Times
 pub mod Verdict
 pub mod Words

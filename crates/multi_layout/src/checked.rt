@@ -1,10 +1,10 @@
 //! An accepted string.
 
 ghost use Rattle.std.specs.Prelude.{◌≡◌};
-ghost use Rattle.multi_layout.specs.Verdict.{Accepted, IsVerdict};
+ghost use Rattle.multi_layout.specs.Verdict.{Accepted, IsVerdict, IsCycle};
 
-use crate::sign::Sign;
 use multi_token::Source;
+use sign_font::Sign;
 use std::marker::Model;
 
 /// A string that a sign accepts. Only `check` makes one.
@@ -13,25 +13,33 @@ pub struct Checked<'a> {
     pub(crate) sign: &'a Sign,
     pub(crate) source: Source<'a>,
     pub(crate) pages: u8,
+    pub(crate) cycle: u32,
 }
 
 impl<'a> Model for Checked<'a> {
     ghost use Rattle.multi_layout.specs.Judged.{Judged};
-    ghost use Rattle.multi_layout.specs.Verdict.{Accepted, IsVerdict};
+    ghost use Rattle.multi_layout.specs.Verdict.{Accepted, IsVerdict, IsCycle};
 
     ghost Value = { Judged };
 
-    ghost view = { λ c. record { sign = c.sign.now; source = c.source } };
+    ghost view = { λ c. record { sign = c.sign.now; defaults = c.sign.now.defaults; source = c.source } };
 
-    ghost invariant = { λ c. IsVerdict c.sign.now c.source.octets (Accepted c.pages) };
+    ghost invariant = { λ c. IsVerdict c.sign.now c.sign.now.defaults c.source.octets (Accepted c.pages) × IsCycle c.sign.now c.sign.now.defaults c.source.octets c.cycle };
 }
 
 impl<'a> Checked<'a> {
     /// The number of pages, from 1 to the sign's limit.
     pub fn pages(&self) -> u8
-        ensures { IsVerdict self.now.sign self.now.source.octets (Accepted result) }
+        ensures { IsVerdict self.now.sign self.now.defaults self.now.source.octets (Accepted result) }
     {
         self.pages
+    }
+
+    /// The times of all pages together, in tenths of a second.
+    pub fn cycle(&self) -> u32
+        ensures { IsCycle self.now.sign self.now.defaults self.now.source.octets result }
+    {
+        self.cycle
     }
 
     /// The number of steps that were taken over the string so far.

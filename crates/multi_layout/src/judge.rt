@@ -1,17 +1,26 @@
-//! The verdict on a string, in one reading from the left.
+//! The verdict on a string, in one reading from the left with running sums.
 
-ghost use Rattle.std.specs.Prelude.{◌≡◌, ℕ, ◌+◌, ◌-◌, ◌^◌, ◌<◌, ◌≤◌, length, IfOk, IfErr, OnOk, true, false};
+ghost use Rattle.std.specs.Prelude.{◌≡◌, ℕ, ◌+◌, ◌-◌, ◌^◌, ◌<◌, ◌≤◌, ◌*◌, ◌==◌, if◌then◌else◌, length, IfOk, IfErr, IfSome, IfNone, OnOk, true};
 ghost use Rattle.std.specs.Option.{option_map_or};
-ghost use Rattle.multi_token.specs.Counted.{RisesBetween};
-ghost use Rattle.multi_token.specs.Tokens.{IsTagOf, body_of};
-ghost use Rattle.multi_layout.specs.Limits.{check_limit};
-ghost use Rattle.multi_layout.specs.Verdict.{Accepted, IsVerdict, Refused, is_letter, is_new_page, tag_offence};
+ghost use Rattle.multi_token.specs.Counted.{charged, RisesBetween};
+ghost use Rattle.multi_token.specs.Tokens.{IsTokenOf, item_of};
+ghost use Rattle.sign_font.specs.Sign.{SignData};
+ghost use Rattle.sign_font.specs.declared.parts.Defaults.{Defaults};
 ghost use Rattle.multi_layout.specs.Codes.{code_of};
+ghost use Rattle.multi_layout.specs.Limits.{check_limit};
+ghost use Rattle.multi_layout.specs.Meaning.{Does, Faulty, Shows, meaning};
+ghost use Rattle.multi_layout.specs.State.{IsKnown, IsReady, Judges};
+ghost use Rattle.multi_layout.specs.Verdict.{Accepted, IsCycle, IsVerdict, Refused};
 
+use crate::area::Area;
+use crate::attributes::Attributes;
 use crate::checked::Checked;
 use crate::fault::{Fault, SyntaxError};
-use crate::sign::Sign;
+use crate::line::Character;
+use crate::state::State;
+use multi_tag::{FontPick, Tag, TagFault, read_tag};
 use multi_token::{Kind, Source, Token, next_token};
+use sign_font::Sign;
 
 /// The first error of a string, and the offset of its item.
 #[derive(Clone, Copy)]
@@ -29,11 +38,11 @@ struct Offence {
 pub fn check<'a>(sign: &'a Sign, source: Source<'a>) -> Result<Checked<'a>, Fault<'a>>
     requires fresh { source.steps ≡ 0 }
     requires short { length source.octets < 2 ^ 32 }
-    ensures accepted { IfOk result (λ checked. (pages : ℕ) × IsVerdict sign.now source.entry.octets (Accepted pages)) }
-    ensures refused { IfErr result (λ fault. IsVerdict sign.now source.entry.octets (Refused fault.code fault.at)) }
+    ensures accepted { IfOk result (λ checked. (pages : ℕ) × IsVerdict sign.now sign.now.defaults source.entry.octets (Accepted pages)) }
+    ensures refused { IfErr result (λ fault. IsVerdict sign.now sign.now.defaults source.entry.octets (Refused fault.code fault.at)) }
 
     // what was handed in comes back
-    ensures kept { IfOk result (λ checked. (checked.sign ≡ sign.now) × (checked.source.octets ≡ source.entry.octets)) }
+    ensures kept { IfOk result (λ checked. (checked.sign ≡ sign.now) × (checked.defaults ≡ sign.now.defaults) × (checked.source.octets ≡ source.entry.octets)) }
     ensures given_back { IfErr result (λ fault. fault.source.octets ≡ source.entry.octets) }
 
     // and the steps that were taken
@@ -44,10 +53,11 @@ pub fn check<'a>(sign: &'a Sign, source: Source<'a>) -> Result<Checked<'a>, Faul
 {
     let mut source = source;
     match judge(sign, &mut source) {
-        Ok(pages) => Ok(Checked {
+        Ok(state) => Ok(Checked {
             sign,
             source,
-            pages,
+            pages: state.pages,
+            cycle: state.cycle + u32::from(state.attributes.on) + u32::from(state.attributes.off),
         }),
         Err(offence) => Err(Fault {
             code: offence.error.code(),
@@ -57,81 +67,238 @@ pub fn check<'a>(sign: &'a Sign, source: Source<'a>) -> Result<Checked<'a>, Faul
     }
 }
 
-/// The pages of an accepted string, or the first offence.
-fn judge(sign: &Sign, source: &mut Source<'_>) -> Result<u8, Offence>
+/// The state behind the items of an accepted string, or the first offence.
+fn judge(sign: &Sign, source: &mut Source<'_>) -> Result<State, Offence>
     requires fresh { source.old.steps ≡ 0 }
     requires short { length source.old.octets < 2 ^ 32 }
-    ensures accepted { IfOk result (λ pages. IsVerdict sign.now source.old.octets (Accepted pages)) }
-    ensures refused { IfErr result (λ offence. IsVerdict sign.now source.old.octets (Refused (code_of offence.error) offence.at)) }
+    ensures accepted { IfOk result (λ state. IsVerdict sign.now sign.now.defaults source.old.octets (Accepted state.pages)
+        × IsCycle sign.now sign.now.defaults source.old.octets (state.cycle + state.attributes.on + state.attributes.off)
+        × (state.cycle ≤ 510 * state.pages)) }
+    ensures refused { IfErr result (λ offence. IsVerdict sign.now sign.now.defaults source.old.octets (Refused (code_of offence.error) offence.at)) }
     ensures kept { source.new.octets ≡ source.old.octets }
     ensures steps { OnOk result (length source.old.octets + 1 ≤ source.new.steps) }
     ensures fault_steps { IfErr result (λ offence. offence.at + 1 ≤ source.new.steps) }
     ensures most { source.new.steps ≤ check_limit (length source.old.octets) }
 {
     let mut at = 0;
-    let mut pages = 1u8;
+    let mut state = State::new(sign);
     loop {
         let token = match next_token(source, at) {
             Ok(Some(token)) => token,
-            Ok(None) => return Ok(pages),
-            Err(_) => return Err(Offence {
-                error: SyntaxError::UnsupportedTag,
-                at,
-            }),
-        };
-        if let Kind::Tag = token.kind {
-            match after_tag(sign, pages, source, &token) {
-                Ok(more) => pages = more,
-                Err(error) => return Err(Offence { error, at }),
+            Ok(None) => return Ok(state),
+            Err(_) => {
+                return Err(Offence {
+                    error: SyntaxError::UnsupportedTag,
+                    at,
+                });
             }
+        };
+        match judge_token(sign, state, source, &token) {
+            Ok(next) => state = next,
+            Err(error) => return Err(Offence { error, at }),
         }
         at += token.len;
     }
 }
 
-/// The pages after a tag, or its error.
-fn after_tag(
+/// Judges the item of a token.
+fn judge_token(
     sign: &Sign,
-    pages: u8,
+    state: State,
     source: &mut Source<'_>,
     token: &Token,
-) -> Result<u8, SyntaxError>
-    requires { IsTagOf source.old.octets token.now }
-    ensures accepted { IfOk result (λ more. (tag_offence sign.now pages (body_of source.old.octets token.now) ≡ None)
-        × (is_new_page (body_of source.old.octets token.now) ≡ true) × (more ≡ pages + 1)) }
-    ensures refused { IfErr result (λ error. tag_offence sign.now pages (body_of source.old.octets token.now) ≡ Some (code_of error)) }
-    ensures steps { RisesBetween source.old source.new 0 (token.now.len - 1) }
+) -> Result<State, SyntaxError>
+    requires token { IsTokenOf source.old.octets token.now }
+    requires ready { IsReady state }
+    ensures judged { Judges sign.now sign.now.defaults state (meaning (item_of source.old.octets token.now)) result }
+    ensures steps { RisesBetween source.old source.new 0 token.now.len }
 {
-    if !is_new_page(source, token) {
-        Err(SyntaxError::UnsupportedTag)
-    } else if pages < sign.max_pages() {
-        Ok(pages + 1)
+    match token.kind {
+        Kind::Char(number) => judge_character(sign, state, source, number),
+        Kind::Tag => match read_tag(source, token) {
+            Ok(tag) => judge_tag(sign, state, source, tag),
+            Err(TagFault::Unsupported) => Err(SyntaxError::UnsupportedTag),
+            Err(TagFault::Value) => Err(SyntaxError::UnsupportedTagValue),
+        },
+    }
+}
+
+/// Judges what a tag says.
+fn judge_tag(
+    sign: &Sign,
+    state: State,
+    source: &mut Source<'_>,
+    tag: Tag,
+) -> Result<State, SyntaxError>
+    requires ready { IsReady state }
+    requires known { IsKnown tag }
+    ensures judged { Judges sign.now sign.now.defaults state (Does tag) result }
+    ensures steps { RisesBetween source.old source.new 0 1 }
+{
+    match tag {
+        Tag::NewPage => judge_page(sign, state),
+        Tag::NewLine(gap) => judge_break(state, gap),
+        Tag::Font(pick) => judge_font(sign, state, source, pick),
+        Tag::Rect { x, y, w, h } => judge_rectangle(sign, state, x, y, w, h),
+        _ => Ok(State {
+            attributes: state.attributes.behind(sign.defaults(), tag),
+            ..state
+        }),
+    }
+}
+
+/// Judges a character: whether its font has a cell for it, and whether it may stand on its line and fits.
+fn judge_character(
+    sign: &Sign,
+    state: State,
+    source: &mut Source<'_>,
+    number: u8,
+) -> Result<State, SyntaxError>
+    requires { IsReady state }
+    ensures judged { Judges sign.now sign.now.defaults state (Shows number) result }
+    ensures step { source.new ≡ charged source.old 1 }
+{
+    let attributes = state.attributes;
+    let Some(cell) = sign.cell(source, attributes.font.number, u16::from(number)) else {
+        return Err(SyntaxError::CharacterNotDefined);
+    };
+    let character = Character {
+        just: attributes.line_just,
+        spacing: attributes.spacing,
+        width: cell.width(),
+        font: attributes.font,
+    };
+    if state
+        .area
+        .conflicts_with_character(attributes.page_just, attributes.line_just)
+    {
+        return Err(SyntaxError::TagConflict);
+    }
+    let area = state.area.with_character(attributes.page_just, &character);
+    if area.fits_with_character(attributes.page_just, attributes.width, attributes.height) {
+        Ok(State { area, ..state })
     } else {
-        Err(SyntaxError::TooManyPages)
+        Err(SyntaxError::TextTooBig)
     }
 }
 
-/// Whether the body of a tag is `np`, in either case.
-fn is_new_page(source: &mut Source<'_>, token: &Token) -> bool
-    requires { IsTagOf source.old.octets token.now }
-    ensures answer { result ≡ is_new_page (body_of source.old.octets token.now) }
-    ensures steps { RisesBetween source.old source.new 0 (token.now.len - 1) }
+/// Judges the end of a line.
+fn judge_break(state: State, gap: Option<u8>) -> Result<State, SyntaxError>
+    requires { IsReady state }
+    ensures judged { (sign : SignData) (defaults : Defaults) → Judges sign defaults state (Does (Tag.NewLine gap)) result }
 {
-    if token.len != 4 {
-        return false;
+    let attributes = state.attributes;
+    if state.area.conflicts_with_break(attributes.page_just) {
+        return Err(SyntaxError::TagConflict);
     }
-    let first = source.read(token.at + 1);
-    let second = source.read(token.at + 2);
-    is_letter(first, b'n') & is_letter(second, b'p')
+    let area = state
+        .area
+        .with_break(attributes.page_just, gap, &attributes.font);
+    if area.fits_with_break(attributes.height) {
+        Ok(State { area, ..state })
+    } else {
+        Err(SyntaxError::TextTooBig)
+    }
 }
 
-/// Whether an octet that was read is a small letter or its capital.
-fn is_letter(octet: Option<u8>, small: u8) -> bool
-    requires { 32 ≤ small }
-    ensures { result ≡ option_map_or (is_letter small) octet false }
+/// Judges a new page, which has the whole sign.
+fn judge_page(sign: &Sign, state: State) -> Result<State, SyntaxError>
+    requires { IsReady state }
+    ensures judged { Judges sign.now sign.now.defaults state (Does Tag.NewPage) result }
 {
-    match octet {
-        Some(octet) => octet == small || octet == small - 32,
-        None => false,
+    if state.pages >= sign.max_pages() {
+        return Err(SyntaxError::TooManyPages);
+    }
+    let attributes = state.attributes;
+    Ok(State {
+        pages: state.pages + 1,
+        cycle: state.cycle + u32::from(attributes.on) + u32::from(attributes.off),
+        attributes: Attributes {
+            width: sign.width(),
+            height: sign.height(),
+            ..attributes
+        },
+        area: Area::new(),
+    })
+}
+
+/// Judges a font that a tag asks for, and the version that it must have; without a number it is the default.
+fn judge_font(
+    sign: &Sign,
+    state: State,
+    source: &mut Source<'_>,
+    pick: Option<FontPick>,
+) -> Result<State, SyntaxError>
+    requires { IsReady state }
+    ensures judged { Judges sign.now sign.now.defaults state (Does (Tag.Font pick)) result }
+    ensures steps { RisesBetween source.old source.new 0 1 }
+{
+    let Some(pick) = pick else {
+        return Ok(state.with_font(sign.default_font()));
+    };
+    let Some(font) = sign.font(source, pick.number) else {
+        return Err(SyntaxError::FontNotDefined);
+    };
+    if agrees(pick.version, font.version) {
+        Ok(state.with_font(font))
+    } else {
+        Err(SyntaxError::FontVersionId)
+    }
+}
+
+/// Whether a font has the version that is asked for, if one is.
+fn agrees(wanted: Option<u16>, version: u16) -> bool
+    ensures { result ≡ option_map_or (λ v. v == version) wanted true }
+{
+    match wanted {
+        Some(wanted) => wanted == version,
+        None => true,
+    }
+}
+
+/// Judges a rectangle, whose upper left pixel is counted from 1.
+fn judge_rectangle(
+    sign: &Sign,
+    state: State,
+    x: u32,
+    y: u32,
+    w: u32,
+    h: u32,
+) -> Result<State, SyntaxError>
+    requires { IsReady state }
+    ensures judged { Judges sign.now sign.now.defaults state (Does (Tag.Rect x y w h)) result }
+{
+    let Some(width) = part_of(sign.width(), x, w) else {
+        return Err(SyntaxError::UnsupportedTagValue);
+    };
+    let Some(height) = part_of(sign.height(), y, h) else {
+        return Err(SyntaxError::UnsupportedTagValue);
+    };
+    Ok(State {
+        attributes: Attributes {
+            width,
+            height,
+            ..state.attributes
+        },
+        area: Area::new(),
+        ..state
+    })
+}
+
+/// The pixels of a part of the sign's width or height, which begins at a pixel counted from 1; a length of 0
+/// reaches to the end. None where the part isn't inside.
+fn part_of(whole: u16, from: u32, length: u32) -> Option<u16>
+    ensures inside { IfSome result (λ pixels. (1 ≤ from) × (from ≤ whole) × (from - 1 + length ≤ whole) × (pixels ≡ (if length == 0 then whole - (from - 1) else length))) }
+    ensures outside { IfNone result (1 ≤ from → from ≤ whole → from - 1 + length ≤ whole → ⊥) }
+{
+    let whole = u64::from(whole);
+    let (from, length) = (u64::from(from), u64::from(length));
+    if from == 0 || from > whole || from - 1 + length > whole {
+        return None;
+    }
+    if length == 0 {
+        Some((whole - (from - 1)) as u16)
+    } else {
+        Some(length as u16)
     }
 }

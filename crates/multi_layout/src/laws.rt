@@ -1,8 +1,20 @@
-//! What holds of every verdict.
+//! What holds of the definitions.
 
-ghost use Rattle.multi_layout.specs.Verdict.{OneVerdict};
+ghost use Rattle.multi_layout.specs.Fit.{SmallerFits};
+ghost use Rattle.multi_layout.specs.Verdict.{OneVerdict, RefusalStands};
 
 /// A law of the definitions: every string has a verdict, and no two.
 pub fn one_verdict()
     ensures { OneVerdict }
+{}
+
+/// A law of the definitions: a refusal for an item stands for every string with the same octets up to the
+/// end of that item.
+pub fn refusal_stands()
+    ensures { RefusalStands }
+{}
+
+/// A law of the definitions: what fits still fits when its parts shrink.
+pub fn smaller_fits()
+    ensures { SmallerFits }
 {}

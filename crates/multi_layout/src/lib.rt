@@ -1,20 +1,22 @@
 //! The verdict of a sign on a MULTI string: its pages, or its first error and where it stands.
 //!
-//! This is the first path: a sign is no more than its limit of pages, a character is accepted wherever it
-//! stands, the tag `np` begins a page, and every other tag is unsupported.
+//! A string is read once from the left. Each item is judged after those before it by running sums of the
+//! present area, and the first that offends gives the error and its offset.
 #![tactic(auto)]
 
+mod area;
+mod attributes;
 mod checked;
 mod fault;
 mod judge;
 mod laws;
-mod sign;
+mod line;
+mod state;
 
 pub use checked::Checked;
 pub use fault::{Fault, SyntaxError};
 pub use judge::check;
-pub use laws::one_verdict;
-pub use sign::Sign;
+pub use laws::{one_verdict, refusal_stands, smaller_fits};
 
 #[cfg(test)]
 mod tests;

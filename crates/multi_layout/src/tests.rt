@@ -1,10 +1,21 @@
-use crate::{Sign, check};
+use crate::check;
 use multi_token::Source;
+use sign_font::{Sign, sample_sign};
 use std::alloc::Global;
 use std::test::Fail;
 
 /// The pages of a string, or its error and the error's offset.
-fn verdict(sign: &Sign, octets: &[u8]) -> Result<u8, (u8, usize)> {
+type Verdict = Result<u8, (u8, usize)>;
+
+/// The sample sign with this many pages at most.
+fn sign(alloc: Global, max_pages: u8) -> Result<Sign, Fail> {
+    let mut parts = sample_sign(alloc)?;
+    parts.max_pages = max_pages;
+    Ok(Sign::new(alloc, parts)?)
+}
+
+/// What the sign says to a string of at most 4,096 octets.
+fn verdict(sign: &Sign, octets: &[u8]) -> Verdict {
     if octets.len() > 4096 {
         return Err((0, 0));
     }
@@ -14,56 +25,155 @@ fn verdict(sign: &Sign, octets: &[u8]) -> Result<u8, (u8, usize)> {
     }
 }
 
-/// The tag `[np]`, this many times.
-fn new_pages(alloc: Global, times: usize) -> Result<Vec<u8>, Fail> {
+/// The times of all pages of an accepted string of at most 4,096 octets, in tenths of a second.
+fn cycle(sign: &Sign, octets: &[u8]) -> Option<u32> {
+    if octets.len() > 4096 {
+        return None;
+    }
+    match check(sign, Source::new(octets)) {
+        Ok(checked) => Some(checked.cycle()),
+        Err(_) => None,
+    }
+}
+
+/// A text this many times.
+fn repeated(alloc: Global, text: &[u8], times: usize) -> Result<Vec<u8>, Fail> {
     let mut octets = Vec::new(alloc);
     for _ in 0..times {
-        octets.extend_from_slice(b"[np]")?;
+        octets.extend_from_slice(text)?;
     }
     Ok(octets)
 }
 
 #[test]
-fn a_sign_of_two_pages_judges_each_row(rt: HostRuntime) {
-    let sign = Sign::thin(2);
-    let rows: [(&[u8], Result<u8, (u8, usize)>); 11] = [
+fn characters_and_lines_are_judged(rt: HostRuntime) -> Result<(), Fail> {
+    let sign = sign(rt.alloc(), 2)?;
+    let rows: [(&[u8], Verdict); 23] = [
         (b"", Ok(1)),
-        (b"A[np]A", Ok(2)),
-        (b"A[NP]", Ok(2)),
-        (b"A[nP]", Ok(2)),
+        (b"A", Ok(1)),
+        (b"AAA", Ok(1)),
+        (b"AAAI", Err((5, 3))),
+        (b"A[nl]A", Ok(1)),
+        (b"A[nl]A[nl]", Ok(1)),
+        (b"A[nl]A[nl]A", Err((5, 10))),
+        (b"[nl][nl]", Ok(1)),
+        (b"[nl][nl][nl]", Err((5, 8))),
+        (b"A[nl0]A", Ok(1)),
+        (b"A[nl2]A", Err((5, 6))),
+        (b"A[nl9]", Ok(1)),
         (b"[[I]]", Ok(1)),
-        (b"A[np]A[np]A", Err((12, 6))),
-        (b"[np][np]", Err((12, 4))),
-        (b"A[nl]A", Err((3, 1))),
+        (b"[[B", Err((7, 2))),
         (b"A]", Err((3, 1))),
         (b"[nl", Err((3, 0))),
         (b"[]", Err((3, 0))),
+        (b"[g1]", Err((3, 0))),
+        (b"[nlx]", Err((4, 0))),
+        (b"[sc0]AAAA", Ok(1)),
+        (b"[sc0]AAAAA", Err((5, 9))),
+        (b"A[sc4]A", Ok(1)),
+        (b"A[sc5]A[/sc]A", Err((5, 12))),
     ];
     for (octets, want) in rows {
         assert_eq!(rt; verdict(&sign, octets), want, "at {octets:?}");
     }
+    Ok(())
 }
 
 #[test]
-fn a_sign_of_one_page_takes_no_new_page(rt: HostRuntime) {
-    let sign = Sign::thin(1);
+fn pages_fonts_and_rectangles_are_judged(rt: HostRuntime) -> Result<(), Fail> {
+    let sign = sign(rt.alloc(), 2)?;
+    let rows: [(&[u8], Verdict); 22] = [
+        (b"A[np]A", Ok(2)),
+        (b"A[NP]", Ok(2)),
+        (b"A[np]A[np]A", Err((12, 6))),
+        (b"[np]", Ok(2)),
+        (b"[np][np]", Err((12, 4))),
+        (b"AAAA[np][np]", Err((5, 3))),
+        (b"A[np]A[np]AAAAA", Err((12, 6))),
+        (b"[pt10o5]A[np]A", Ok(2)),
+        (b"[fo2]A[fo1]A", Ok(1)),
+        (b"[fo9]A", Err((6, 0))),
+        (b"[fo0]", Err((4, 0))),
+        (b"[fo1,0002]A", Err((13, 0))),
+        (b"[fo1,1a2B]A", Ok(1)),
+        (b"[fo2]I", Err((7, 5))),
+        (b"[tr7,1,6,0]A", Ok(1)),
+        (b"[tr7,1,6,0]AA", Err((5, 12))),
+        (b"[tr8,1,6,7]", Err((4, 0))),
+        (b"[tr1,1,3,3]A[tr10,5,3,3]A", Ok(1)),
+        (b"[tr13,1,0,0]", Err((4, 0))),
+        (b"[tr0,1,0,0]", Err((4, 0))),
+        (b"[tr1,1,2,0]A", Err((5, 11))),
+        (b"[tr1,1,3,3][np]A", Ok(2)),
+    ];
+    for (octets, want) in rows {
+        assert_eq!(rt; verdict(&sign, octets), want, "at {octets:?}");
+    }
+    Ok(())
+}
+
+#[test]
+fn justifications_are_judged(rt: HostRuntime) -> Result<(), Fail> {
+    let sign = sign(rt.alloc(), 2)?;
+    let rows: [(&[u8], Verdict); 12] = [
+        (b"[jl4]A[jl2]A", Err((11, 11))),
+        (b"[jl4]A[nl][jl2]", Ok(1)),
+        (b"[jl4]A[jl2][nl]", Ok(1)),
+        (b"[jl2]I[jl3]AA[jl4]I", Ok(1)),
+        (b"[jl2]A[jl3]AA", Err((5, 12))),
+        (b"[jl5]AAA", Ok(1)),
+        (b"[jl2]A[jl5]A", Err((11, 11))),
+        (b"[jl5]A[jl5]A", Ok(1)),
+        (b"[jp4]A[jp2]A", Err((11, 11))),
+        (b"[jp2]A[jp4]A", Ok(1)),
+        (b"[jp2]A[jp3]A", Err((5, 11))),
+        (b"[jp4]A[np]A", Ok(2)),
+    ];
+    for (octets, want) in rows {
+        assert_eq!(rt; verdict(&sign, octets), want, "at {octets:?}");
+    }
+    Ok(())
+}
+
+#[test]
+fn a_sign_of_one_page_takes_no_new_page(rt: HostRuntime) -> Result<(), Fail> {
+    let sign = sign(rt.alloc(), 1)?;
     assert_eq!(rt; verdict(&sign, b"A"), Ok(1));
     assert_eq!(rt; verdict(&sign, b"[np]"), Err((12, 0)));
+    Ok(())
 }
 
 #[test]
 fn a_sign_of_255_pages_takes_254_new_pages(rt: HostRuntime) -> Result<(), Fail> {
-    let sign = Sign::thin(255);
-    let most = new_pages(rt.alloc(), 254)?;
+    let sign = sign(rt.alloc(), 255)?;
+    let most = repeated(rt.alloc(), b"[np]", 254)?;
     assert_eq!(rt; verdict(&sign, &most), Ok(255));
-    let more = new_pages(rt.alloc(), 255)?;
+    let more = repeated(rt.alloc(), b"[np]", 255)?;
     assert_eq!(rt; verdict(&sign, &more), Err((12, 1016)));
     Ok(())
 }
 
 #[test]
-fn a_string_comes_back_with_its_steps(rt: HostRuntime) {
-    let sign = Sign::thin(2);
+fn a_long_line_is_refused_where_it_no_longer_fits(rt: HostRuntime) -> Result<(), Fail> {
+    let sign = sign(rt.alloc(), 2)?;
+    let brackets = repeated(rt.alloc(), b"[", 4096)?;
+    assert_eq!(rt; verdict(&sign, &brackets), Err((5, 8)));
+    Ok(())
+}
+
+#[test]
+fn a_cycle_is_the_time_of_all_pages(rt: HostRuntime) -> Result<(), Fail> {
+    let sign = sign(rt.alloc(), 2)?;
+    let rows: [(&[u8], u32); 3] = [(b"[pt10o5]A[np]A", 30), (b"A", 30), (b"A[np]A[pt10]", 40)];
+    for (octets, want) in rows {
+        assert_eq!(rt; cycle(&sign, octets), Some(want), "at {octets:?}");
+    }
+    Ok(())
+}
+
+#[test]
+fn a_string_comes_back_with_its_steps(rt: HostRuntime) -> Result<(), Fail> {
+    let sign = sign(rt.alloc(), 2)?;
     match check(&sign, Source::new(b"A[np]A")) {
         Ok(checked) => {
             let steps = checked.steps();
@@ -71,12 +181,13 @@ fn a_string_comes_back_with_its_steps(rt: HostRuntime) {
         }
         Err(_) => assert!(rt; false, "the string is accepted"),
     }
-    match check(&sign, Source::new(b"A[nl]A")) {
+    match check(&sign, Source::new(b"A[nl2]A")) {
         Ok(_) => assert!(rt; false, "the string is refused"),
         Err(fault) => {
             let steps = fault.source.steps();
-            assert!(rt; steps >= 2 && steps <= 13, "{steps} steps");
-            assert_eq!(rt; fault.source.len(), 6);
+            assert!(rt; steps >= 7 && steps <= 13, "{steps} steps");
+            assert_eq!(rt; fault.source.len(), 7);
         }
     }
+    Ok(())
 }

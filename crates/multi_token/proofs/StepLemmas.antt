@@ -18,3 +18,8 @@ charged-zero s =
 pub rises_after_one : (a b d : Counted) (high : ℕ) → b ≡ charged a 1 → RisesBetween b d 0 high → RisesBetween a d 1 (high + 1)
 rises_after_one a b d high e r =
     (1 + r.0, omega arith, omega (arith, r.2), r.3 ∙ (ap (λ s. charged s r.0) e ∙ charged-charged a 1 r.0))
+
+-- the steps of one call, and then those of another
+pub rises_then : (a b d : Counted) (low high low' high' : ℕ) → RisesBetween a b low high → RisesBetween b d low' high' → RisesBetween a d (low + low') (high + high')
+rises_then a b d low high low' high' r s =
+    (r.0 + s.0, omega (arith, r.1, s.1), omega (arith, r.2, s.2), s.3 ∙ (ap (λ c. charged c s.0) r.3 ∙ charged-charged a r.0 s.0))

@@ -6,7 +6,7 @@ use Rattle.std.proofs.lemmas.List.{length-append, take_all, take_at}
 use Rattle.std.proofs.lemmas.Grind.{flat_map-append}
 use Rattle.std.specs.List.{flat_map}
 use Rattle.std.specs.Io.KnownBytes.{Consumes, Appends, IsAtEnd}
-use Rattle.std.proofs.KnownBytes.{Consumes-trans, Consumes-whole, Appends-trans}
+use Rattle.std.proofs.KnownBytes.{Consumes-nil, Consumes-trans, Consumes-whole, Appends-nil, Appends-trans}
 use Rattle.signctl.specs.declared.fault.ToolFault.{ToolFault}
 use Rattle.signctl.specs.declared.fault.ToolFault.TheVariants as faults
 use Rattle.signctl.specs.Lines.{Cut, cut, IsOneLine, text_of}
@@ -273,3 +273,19 @@ module _ (answers behind : AllAnswers) (input now new output written : Option (L
       (omega (arith, go.limit, length-append taken (line ++ 10 ∷ []), length-append line (10 ∷ [])))
       (Progress-line answers behind number taken sent lines go.progress next' line text one short answer)
       go.writes wrote.3 (wrote.4 ∙ same) wrote.0
+
+if_some_always : (input : Option (List ℕ)) (P : List ℕ → Type 0) → ((octets : List ℕ) → P octets) → IfSome input P
+if_some_always None P h = tt
+if_some_always (Some octets) P h = h octets
+
+-- a run that wants memory before it reads
+pub Runs-unread : (answers : AllAnswers) (input output : Option (List ℕ)) (e : ToolFault) → e ≡ faults.Memory → Runs answers input input output output (Some e)
+Runs-unread answers input output e is =
+    subst (λ f. Runs answers input input output output (Some f)) (sym is) record {
+      taken = [];
+      sent = [];
+      takes = Consumes-nil input;
+      writes = Appends-nil output;
+      most = omega arith;
+      written = if_some_always input (λ octets. IsFront [] (outcome answers 1 16777216 octets).output) (λ octets. ((outcome answers 1 16777216 octets).output, refl));
+    }

@@ -1,5 +1,6 @@
 -- What the tool does for an input.
 use Rattle.std.specs.Prelude.{ℕ, Bool, true, false, List, Option, Some, map}
+use Rattle.sign_font.specs.Sample.{sample}
 use Rattle.signctl.specs.declared.fault.ToolFault.{ToolFault}
 use Rattle.signctl.specs.declared.fault.ToolFault.TheVariants.{Read, Write, Memory, BadSign}
 use Rattle.signctl.specs.declared.tool.Mode.{Mode}
@@ -7,13 +8,9 @@ use Rattle.signctl.specs.declared.tool.Mode.TheVariants.{Check}
 use Rattle.signctl.specs.Output.{Outcome, outcome, ended}
 use Rattle.signctl.specs.Reply.{check_answer}
 
--- The sample sign takes strings of at most two pages (own).
-abbrev pub sample_sign : ℕ
-sample_sign = 2
-
 -- The answers to these lines for the sample sign, None at a bad line (own).
 abbrev pub answers_of : Mode → List (List ℕ) → List (Option (List ℕ))
-answers_of Check lines = map (λ line. Some (check_answer sample_sign line)) lines
+answers_of Check lines = map (λ line. Some (check_answer sample line)) lines
 
 -- The outcome of an input, which without the sample sign ends at once (own).
 abbrev pub outcome_of : Mode → Bool → List ℕ → Outcome

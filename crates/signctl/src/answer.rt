@@ -5,8 +5,9 @@ ghost use Rattle.signctl.specs.Runs.{AnswersLine};
 
 use crate::fault::ToolFault;
 use crate::reply::{push_accepted, push_refused, push_too_long};
-use multi_layout::{Sign, check};
+use multi_layout::check;
 use multi_token::Source;
+use sign_font::Sign;
 
 /// The most octets of a string that is judged (own).
 const MAX_STRING: usize = 4_096;

@@ -24,6 +24,7 @@ mod lines;
 mod main_with;
 mod output;
 mod reply;
+mod sample;
 #[cfg(test)]
 mod tests;
 mod tool;

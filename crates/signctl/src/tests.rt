@@ -119,20 +119,88 @@ fn a_line_ends_with_a_line_feed(rt: HostRuntime) {
 }
 
 #[test]
-fn a_line_gets_the_verdict_of_the_sample_sign(rt: HostRuntime) {
-    let rows: [(&[u8], &[u8]); 12] = [
+fn the_sample_sign_judges_items_pages_and_fonts(rt: HostRuntime) {
+    let rows: [(&[u8], &[u8]); 23] = [
         (b"A[np]A\n", b"ok 2\n"),
         (b"A[np]A\r\n", b"ok 2\n"),
         (b"\n", b"ok 1\n"),
         (b"A[NP]\n", b"ok 2\n"),
         (b"A[np]A[np]A\n", b"error 12 6\n"),
+        (b"[np]\n", b"ok 2\n"),
         (b"[np][np]\n", b"error 12 4\n"),
-        (b"A[nl]A\n", b"error 3 1\n"),
+        (b"AAAA[np][np]\n", b"error 5 3\n"),
+        (b"A[np]A[np]AAAAA\n", b"error 12 6\n"),
         (b"A]\n", b"error 3 1\n"),
         (b"[nl\n", b"error 3 0\n"),
         (b"[]\n", b"error 3 0\n"),
+        (b"[g1]\n", b"error 3 0\n"),
+        (b"[nlx]\n", b"error 4 0\n"),
         (b"[[I]]\n", b"ok 1\n"),
+        (b"[[B\n", b"error 7 2\n"),
+        (b"[fo9]A\n", b"error 6 0\n"),
+        (b"[fo0]\n", b"error 4 0\n"),
+        (b"[fo1,0002]A\n", b"error 13 0\n"),
+        (b"[fo1,1a2B]A\n", b"ok 1\n"),
+        (b"[fo2]I\n", b"error 7 5\n"),
+        (b"[fo2]A[fo1]A\n", b"ok 1\n"),
         (b"A]\n[np]\nA\n", b"error 3 1\nok 2\nok 1\n"),
+    ];
+    for (input, want) in rows {
+        let (output, result) = check(rt.alloc(), input);
+        assert!(rt; output.as_slice() == want, "what is written at {input:?}");
+        assert!(rt; result == Ok(()), "the end at {input:?}");
+    }
+}
+
+#[test]
+fn the_sample_sign_judges_lines_and_segments(rt: HostRuntime) {
+    let rows: [(&[u8], &[u8]); 19] = [
+        (b"A\n", b"ok 1\n"),
+        (b"AAA\n", b"ok 1\n"),
+        (b"AAAI\n", b"error 5 3\n"),
+        (b"A[nl]A\n", b"ok 1\n"),
+        (b"A[nl]A[nl]\n", b"ok 1\n"),
+        (b"A[nl]A[nl]A\n", b"error 5 10\n"),
+        (b"[nl][nl]\n", b"ok 1\n"),
+        (b"[nl][nl][nl]\n", b"error 5 8\n"),
+        (b"A[nl0]A\n", b"ok 1\n"),
+        (b"A[nl2]A\n", b"error 5 6\n"),
+        (b"[jl4]A[jl2]A\n", b"error 11 11\n"),
+        (b"[jl4]A[nl][jl2]\n", b"ok 1\n"),
+        (b"[jp4]A[jp2]A\n", b"error 11 11\n"),
+        (b"[jl2]I[jl3]AA[jl4]I\n", b"ok 1\n"),
+        (b"[jl2]A[jl3]AA\n", b"error 5 12\n"),
+        (b"[jl5]AAA\n", b"ok 1\n"),
+        (b"[tr7,1,6,0]A\n", b"ok 1\n"),
+        (b"[tr7,1,6,0]AA\n", b"error 5 12\n"),
+        (b"[tr8,1,6,7]\n", b"error 4 0\n"),
+    ];
+    for (input, want) in rows {
+        let (output, result) = check(rt.alloc(), input);
+        assert!(rt; output.as_slice() == want, "what is written at {input:?}");
+        assert!(rt; result == Ok(()), "the end at {input:?}");
+    }
+}
+
+#[test]
+fn the_sample_sign_judges_spacings_groups_and_rectangles(rt: HostRuntime) {
+    let rows: [(&[u8], &[u8]); 16] = [
+        (b"[sc0]AAAA\n", b"ok 1\n"),
+        (b"[sc0]AAAAA\n", b"error 5 9\n"),
+        (b"A[sc4]A\n", b"ok 1\n"),
+        (b"A[sc5]A[/sc]A\n", b"error 5 12\n"),
+        (b"[jp2]A[jp4]A\n", b"ok 1\n"),
+        (b"[jp2]A[jp3]A\n", b"error 5 11\n"),
+        (b"[jl2]A[jl5]A\n", b"error 11 11\n"),
+        (b"[jl5]A[jl5]A\n", b"ok 1\n"),
+        (b"[tr1,1,3,3]A[tr10,5,3,3]A\n", b"ok 1\n"),
+        (b"[tr13,1,0,0]\n", b"error 4 0\n"),
+        (b"[tr0,1,0,0]\n", b"error 4 0\n"),
+        (b"[tr1,1,2,0]A\n", b"error 5 11\n"),
+        (b"[tr1,1,3,3][np]A\n", b"ok 2\n"),
+        (b"[flt5o5]A[/fl]\n", b"ok 1\n"),
+        (b"[pt10o5]A[np]A\n", b"ok 2\n"),
+        (b"[cf3]A[pb1]\n", b"ok 1\n"),
     ];
     for (input, want) in rows {
         let (output, result) = check(rt.alloc(), input);
@@ -146,8 +214,8 @@ fn a_line_has_a_greatest_length(rt: HostRuntime) -> Result<(), Fail> {
     let alloc = rt.alloc();
     let too_long = Err(ToolFault::LineTooLong { line: 1 });
     let rows: [(usize, &[u8], &[u8], Result<(), ToolFault>); 10] = [
-        (4_096, b"\n", b"ok 1\n", Ok(())),
-        (4_096, b"\r\n", b"ok 1\n", Ok(())),
+        (4_096, b"\n", b"error 5 3\n", Ok(())),
+        (4_096, b"\r\n", b"error 5 3\n", Ok(())),
         (4_097, b"\n", b"too long\n", Ok(())),
         (8_300, b"\n", b"too long\n", Ok(())),
         (8_300, b"\r\n", b"too long\n", Ok(())),
@@ -208,7 +276,7 @@ fn an_input_has_a_greatest_length(rt: HostRuntime) {
 #[test]
 fn a_failed_read_ends_the_run_behind_the_whole_lines(rt: HostRuntime) {
     let alloc = rt.alloc();
-    let input = b"A\nB\nC\n";
+    let input = b"A\nI\nA\n";
     for k in 0..input.len() + 1 {
         let mut output = Vec::new(alloc);
         let mut reader = FailingReader(&input[..k]);
@@ -228,7 +296,7 @@ fn a_failed_write_ends_the_run(rt: HostRuntime) {
     let want = b"ok 1\nok 1\n";
     for fails in [false, true] {
         for room in 0..want.len() + 1 {
-            let mut reader = b"A\nB\n".as_slice();
+            let mut reader = b"A\nI\n".as_slice();
             let mut writer = NarrowWriter {
                 taken: Vec::new(alloc),
                 room,

@@ -9,7 +9,7 @@ use crate::answer::{Answer, Checker};
 use crate::fault::ToolFault;
 use crate::lines::{MAX_INPUT, Next, next_line, text_of};
 use crate::output::write_whole;
-use multi_layout::Sign;
+use crate::sample::sample_sign;
 use std::alloc::Global;
 use std::io::{Read, Write};
 
@@ -50,9 +50,6 @@ fn answer_lines<A: Answer, R: Read, W: Write>(
     }
 }
 
-/// The most pages that the sample sign takes (own).
-const SAMPLE_PAGES: u8 = 2;
-
 /// A run on the sample sign.
 fn run_sample<R: Read, W: Write>(
     alloc: Global,
@@ -64,7 +61,7 @@ fn run_sample<R: Read, W: Write>(
 {
     match mode {
         Mode::Check => {
-            let sign = Sign::thin(SAMPLE_PAGES);
+            let sign = sample_sign(alloc)?;
             answer_lines(alloc, &mut Checker { sign }, reader, writer)
         }
     }

@@ -1,0 +1,38 @@
+-- What a token's item means, from what its tag was read as.
+use Rattle.std.proofs.Common.{◌≡◌, ℕ, ◌≤◌, List, Option, Some, None, Result, Ok, Err, refl, sym, ap, ◌∙◌, subst}
+use Rattle.multi_token.specs.declared.token.Token.{Token}
+use Rattle.multi_token.specs.declared.token.Kind.TheVariants as kinds
+use Rattle.multi_token.specs.Spelling as items
+use Rattle.multi_token.specs.Tokens.{body_of, item_of}
+use Rattle.multi_tag.specs.Body.{HasName, Spells}
+use Rattle.multi_tag.specs.declared.tag.Tag.{Tag}
+use Rattle.multi_tag.specs.declared.tag.Tag.TheVariants.{NewPage, NewLine, LineJust, PageJust, Font, CharSpacing, CharSpacingEnd, PageTime, Flash, FlashEnd, Fore, Back, Rect}
+use Rattle.multi_tag.specs.declared.tag.TagFault.{TagFault}
+use Rattle.multi_tag.specs.TagOf.{tag_of}
+use Rattle.multi_tag.proofs.TagOfLemmas.{line_just_known, page_just_known}
+use Rattle.multi_layout.specs.Meaning.{Does, meaning, meaning_of_tag}
+use Rattle.multi_layout.specs.State.{IsKnown}
+
+-- a tag that is read gives a known justification
+pub known_of : (body : List ℕ) (tag : Tag) → Spells body tag → IsKnown tag
+known_of body (LineJust None) s = tt
+known_of body (LineJust (Some just)) s = line_just_known body just s
+known_of body (PageJust None) s = tt
+known_of body (PageJust (Some just)) s = page_just_known body just s
+known_of body NewPage s = tt
+known_of body (NewLine gap) s = tt
+known_of body (Font pick) s = tt
+known_of body (CharSpacing pixels) s = tt
+known_of body CharSpacingEnd s = tt
+known_of body (PageTime on off) s = tt
+known_of body (Flash off_first on off) s = tt
+known_of body FlashEnd s = tt
+known_of body (Fore colour) s = tt
+known_of body (Back colour) s = tt
+known_of body (Rect x y w h) s = tt
+
+-- the item of a tag means what its body is read as
+pub meaning-tag : (octets : List ℕ) (token : Token) (result : Result Tag TagFault) → token.kind ≡ kinds.Tag → tag_of (body_of octets token) ≡ result → meaning (item_of octets token) ≡ meaning_of_tag result
+meaning-tag octets token result kind is =
+    let item : item_of octets token ≡ items.Tag (body_of octets token) = rw kind refl in
+    ap meaning item ∙ ap meaning_of_tag is

@@ -1,0 +1,71 @@
+-- The error of an item, by the tests of its cases.
+use Rattle.std.proofs.Common.{◌≡◌, ℕ, ◌+◌, Bool, true, false, cond, List, [], ◌∷◌, Option, Some, None, refl, ap, ◌∙◌}
+use Rattle.std.specs.Prelude.{nat_lt, not, ◌==◌}
+use Rattle.std.specs.List.{count_by}
+use Rattle.std.specs.Option.{option_map_or}
+use Rattle.multi_tag.specs.declared.tag.Tag.TheVariants.{NewPage, NewLine, Font, Rect}
+use Rattle.multi_tag.specs.declared.tag.FontPick.{FontPick}
+use Rattle.sign_font.specs.declared.parts.Defaults.{Defaults}
+use Rattle.sign_font.specs.Sign.{SignData, CellData, FontData, cell_numbered, font_numbered}
+use Rattle.multi_layout.specs.Attributes.{is_inside}
+use Rattle.multi_layout.specs.Address.{Break, Glyph, Spot, spots, standing}
+use Rattle.multi_layout.specs.Meaning.{Meaning, Shows, Does, Faulty, is_new_page}
+use Rattle.multi_layout.specs.Offence.{character_cases, conflicts, first_code, font_cases, offence, placing_cases, too_big}
+
+one_case : (a : Bool) (n : ℕ) → first_code ((a, n) ∷ []) ≡ cond a (Some n) None
+one_case true n = refl
+one_case false n = refl
+
+two_cases : (a b : Bool) (n m : ℕ) → first_code ((a, n) ∷ (b, m) ∷ []) ≡ cond a (Some n) (cond b (Some m) None)
+two_cases true b n m = refl
+two_cases false true n m = refl
+two_cases false false n m = refl
+
+module _ (sign : SignData) (defaults : Defaults) (items : List Meaning) where
+  -- a character without a cell
+  pub offence-undefined : (number : ℕ) → cell_numbered (standing sign defaults items).font number ≡ None → offence sign defaults items (Shows number) ≡ Some 7
+  unfolding offence
+  offence-undefined number none = ap (λ o. first_code (character_cases sign defaults items o)) none
+
+  -- a character with a cell
+  pub offence-character : (number : ℕ) (cell : CellData) → cell_numbered (standing sign defaults items).font number ≡ Some cell →
+      let spot : Spot = record { at = standing sign defaults items; put = Glyph cell } in
+      offence sign defaults items (Shows number) ≡ cond (conflicts (spots sign defaults items) spot) (Some 11) (cond (too_big (spots sign defaults items) spot) (Some 5) None)
+  unfolding offence
+  offence-character number cell found =
+      let spot : Spot = record { at = standing sign defaults items; put = Glyph cell } in
+      ap (λ o. first_code (character_cases sign defaults items o)) found ∙ two_cases (conflicts (spots sign defaults items) spot) (too_big (spots sign defaults items) spot) 11 5
+
+  -- the end of a line
+  pub offence-break : (gap : Option ℕ) →
+      let spot : Spot = record { at = standing sign defaults items; put = Break gap } in
+      offence sign defaults items (Does (NewLine gap)) ≡ cond (conflicts (spots sign defaults items) spot) (Some 11) (cond (too_big (spots sign defaults items) spot) (Some 5) None)
+  unfolding offence
+  offence-break gap =
+      let spot : Spot = record { at = standing sign defaults items; put = Break gap } in
+      two_cases (conflicts (spots sign defaults items) spot) (too_big (spots sign defaults items) spot) 11 5
+
+  pub offence-page : offence sign defaults items (Does NewPage) ≡ cond (nat_lt sign.max_pages (count_by is_new_page items + 2)) (Some 12) None
+  unfolding offence
+  offence-page = one_case (nat_lt sign.max_pages (count_by is_new_page items + 2)) 12
+
+  pub offence-rectangle : (x y w h : ℕ) → offence sign defaults items (Does (Rect x y w h)) ≡ cond (is_inside sign x y w h) None (Some 4)
+  unfolding offence
+  offence-rectangle x y w h = go (is_inside sign x y w h)
+    where
+      go : (b : Bool) → first_code ((not b, 4) ∷ []) ≡ cond b None (Some 4)
+      go true = refl
+      go false = refl
+
+  pub offence-no_font : (pick : FontPick) → font_numbered sign pick.number ≡ None → offence sign defaults items (Does (Font (Some pick))) ≡ Some 6
+  unfolding offence
+  offence-no_font pick none = ap (λ o. first_code (font_cases o pick.version)) none
+
+  pub offence-font : (pick : FontPick) (font : FontData) → font_numbered sign pick.number ≡ Some font
+      → offence sign defaults items (Does (Font (Some pick))) ≡ cond (option_map_or (λ v. not (v == font.version)) pick.version false) (Some 13) None
+  unfolding offence
+  offence-font pick font found = ap (λ o. first_code (font_cases o pick.version)) found ∙ one_case (option_map_or (λ v. not (v == font.version)) pick.version false) 13
+
+  pub offence-faulty : (code : ℕ) → offence sign defaults items (Faulty code) ≡ Some code
+  unfolding offence
+  offence-faulty code = refl

@@ -1,0 +1,101 @@
+-- Worked examples of pictures and of pages at clocks on the sample sign, computed.
+use Rattle.std.proofs.Common.{◌≡◌, ℕ, true, List, [], ◌∷◌, map, codes, refl}
+use Rattle.std.specs.Prelude.{if◌then◌else◌, nat_eq}
+use Rattle.std.specs.List.{range_with_len, count_by, sum_by}
+use Rattle.sign_font.specs.Sample.{sample}
+use Rattle.sign_font.specs.Sign.{SignData}
+use Rattle.multi_token.specs.Reading.{reading, read_items, read_item}
+use Rattle.multi_tag.specs.TagOf.{tag_of}
+use Rattle.multi_layout.specs.Meaning.{Meaning, meaning}
+use Rattle.multi_layout.specs.Address.{spots, standing}
+use Rattle.multi_layout.specs.Place.{place_of}
+use Rattle.multi_layout.specs.Picture.{things, colour_of, shown_colour}
+use Rattle.multi_layout.specs.Times.{ShownAt, Page, Off, shown_at, page_times}
+use Rattle.multi_layout.specs.Limits.{frame_limit}
+
+abbrev sample_classic : SignData
+sample_classic = record sample { classic = true }
+
+unfoldable items_of : List ℕ → List Meaning
+unfolding reading read_items read_item tag_of
+items_of octets = map meaning (reading octets).items
+
+-- the rows of a plane from the top, with 35 `#` for a pixel in it and 46 `.` for another
+unfoldable rows : SignData → ℕ → List ℕ → ℕ → ℕ → List (List ℕ)
+unfolding things place_of spots standing items_of
+rows sign phase octets page colour =
+    let all = things sign sample.defaults phase (items_of octets) in
+    map (λ row. map (λ column. if nat_eq (shown_colour sign (colour_of sample.defaults all page column row)) colour then 35 else 46) (range_with_len 0 sign.width)) (range_with_len 0 sign.height)
+
+-- how many pixels of a plane are in it
+unfoldable lit : SignData → ℕ → List ℕ → ℕ → ℕ → ℕ
+unfolding rows
+lit sign phase octets page colour = sum_by (λ row. count_by (λ c. nat_eq c 35) row) (rows sign phase octets page colour)
+
+one_character : rows sample 0 (codes "A") 0 1
+    ≡ codes "............" ∷ codes "............" ∷ codes ".....#......" ∷ codes "....###....." ∷ codes "....#.#....." ∷ codes "............" ∷ codes "............" ∷ []
+unfolding rows
+one_character = refl
+
+flash_on_first : map (λ clock. lit sample clock (codes "[flt5o5]A[/fl]") 0 1) (0 ∷ 4 ∷ 5 ∷ 9 ∷ 10 ∷ []) ≡ 6 ∷ 6 ∷ 0 ∷ 0 ∷ 6 ∷ []
+unfolding lit
+flash_on_first = refl
+
+an_absent_flash_time_is_the_default : map (λ clock. lit sample clock (codes "[flt3]A") 0 1) (7 ∷ 8 ∷ []) ≡ 0 ∷ 6 ∷ []
+unfolding lit
+an_absent_flash_time_is_the_default = refl
+
+flash_off_first : map (λ clock. lit sample clock (codes "[flo5t5]A") 0 1) (0 ∷ 5 ∷ 10 ∷ []) ≡ 0 ∷ 6 ∷ 0 ∷ []
+unfolding lit
+flash_off_first = refl
+
+flash_without_times_is_lit : lit sample 7 (codes "[flt0o0]A") 0 1 ≡ 6
+unfolding lit
+flash_without_times_is_lit = refl
+
+a_background_covers_what_stands_before_it : map (lit sample_classic 0 (codes "[cf3]A[pb1]") 0) (1 ∷ 3 ∷ []) ≡ 84 ∷ 0 ∷ []
+unfolding lit
+a_background_covers_what_stands_before_it = refl
+
+a_character_covers_the_background : map (lit sample_classic 0 (codes "[pb1][cf3]A") 0) (1 ∷ 3 ∷ []) ≡ 78 ∷ 6 ∷ []
+unfolding lit
+a_character_covers_the_background = refl
+
+a_monochrome_sign_shows_one_colour : map (lit sample 0 (codes "[cf3]A") 0) (1 ∷ 3 ∷ []) ≡ 6 ∷ 0 ∷ []
+unfolding lit
+a_monochrome_sign_shows_one_colour = refl
+
+a_background_stays_in_force_on_the_next_page : map (λ page. lit sample_classic 0 (codes "A[pb2][np][cf3]A") page 2) (0 ∷ 1 ∷ []) ≡ 84 ∷ 78 ∷ []
+unfolding lit
+a_background_stays_in_force_on_the_next_page = refl
+
+unfoldable shown : List ℕ → ℕ → ShownAt
+unfolding items_of shown_at page_times standing
+shown octets clock = shown_at (page_times sample sample.defaults (items_of octets)) clock
+
+pages_and_their_off_times : map (shown (codes "[pt10o5]A[np]A")) (9 ∷ 10 ∷ 15 ∷ 29 ∷ 30 ∷ []) ≡ Page 0 9 ∷ Off ∷ Page 1 0 ∷ Off ∷ Page 0 0 ∷ []
+unfolding shown
+pages_and_their_off_times = refl
+
+a_cycle_of_none_shows_page_0 : shown (codes "[pt0o0]A[np]A") 42 ≡ Page 0 42
+unfolding shown
+a_cycle_of_none_shows_page_0 = refl
+
+one_page_is_always_shown : shown (codes "[pt0o5]A") 3 ≡ Page 0 3
+unfolding shown
+one_page_is_always_shown = refl
+
+an_on_time_of_none_is_skipped : shown (codes "[pt0o5]A[np]A") 0 ≡ Off
+unfolding shown
+an_on_time_of_none_is_skipped = refl
+
+times_are_those_at_the_end_of_a_page : map (shown (codes "A[np]A[pt10]")) (30 ∷ 40 ∷ []) ≡ Page 1 0 ∷ Page 0 0 ∷ []
+unfolding shown
+times_are_those_at_the_end_of_a_page = refl
+
+an_absent_page_time_is_the_default : shown (codes "[pt10o5]A[pt20][np]A") 20 ≡ Page 1 0
+unfolding shown
+an_absent_page_time_is_the_default = refl
+
+limits_on_the_sample_sign : map (frame_limit sample) (0 ∷ 1 ∷ 4 ∷ 64 ∷ []) ≡ 18 ∷ 31 ∷ 84 ∷ 1074 ∷ []
+limits_on_the_sample_sign = refl

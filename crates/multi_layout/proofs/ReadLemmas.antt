@@ -1,0 +1,117 @@
+-- The verdict, from the items read so far and their state.
+use Rattle.std.proofs.Common.{◌≡◌, ℕ, ◌+◌, ◌*◌, ◌^◌, ◌<◌, ◌≤◌, List, [], ◌∷◌, ◌++◌, length, drop, map, Option, Some, None, refl, sym, ap, subst, ◌∙◌, arith, append_assoc, append-nil}
+use Rattle.std.specs.List.{All, cons_option, flat_map, sum_by}
+use Rattle.std.specs.Option.{option_map}
+use Rattle.std.proofs.lemmas.List.{length-append, length-drop, drop_all, map-append}
+use Rattle.std.proofs.lemmas.List.Concat.{flat_map-append}
+use Rattle.std.proofs.lemmas.List.Elements.{All-push, All-nil}
+use Rattle.std.proofs.lemmas.List.Sums.{sum_by-append}
+use Rattle.multi_token.specs.declared.token.Token.{Token}
+use Rattle.multi_token.specs.Spelling.{Item, IsItem, spelling, spell, HasNoItem, IsReading}
+use Rattle.multi_token.specs.Reading.{reading}
+use Rattle.multi_token.specs.Tokens.{IsTokenOf, item_of}
+use Rattle.multi_token.proofs.ReadingLemmas.{none_found, spelling_some}
+use Rattle.sign_font.specs.declared.parts.Defaults.{Defaults}
+use Rattle.sign_font.specs.Sign.{SignData}
+use Rattle.multi_layout.specs.declared.attributes.Attributes.{Attributes}
+use Rattle.multi_layout.specs.declared.state.State.{State}
+use Rattle.multi_layout.specs.Address.{standing}
+use Rattle.multi_layout.specs.Meaning.{meaning}
+use Rattle.multi_layout.specs.Offence.{offence}
+use Rattle.multi_layout.specs.State.{IsReady, IsStateOf, ended_times}
+use Rattle.multi_layout.specs.Times.{Times, cycle, page_times, times_at}
+use Rattle.multi_layout.specs.Verdict.{Accepted, IsCycle, IsVerdict, Refused, broken, fault_at, of_first, offences, pages_of, verdict, verdict_on}
+use Rattle.multi_layout.proofs.JudgedLemmas.{ready}
+use Rattle.multi_layout.proofs.VerdictLemmas.{offences_push, one_verdict, refusal_stands}
+
+-- the items before an offset, none of which offends, and their state
+pub record ReadSoFar (sign : SignData) (defaults : Defaults) (octets : List ℕ) (at : ℕ) (state : State) : Type 0 where
+  pub items : List Item
+  pub each : All IsItem items
+  pub front : octets ≡ spell items ++ drop at octets
+  pub place : at ≡ length (spell items)
+  pub within : at ≤ length octets
+  pub none : offences sign defaults items ≡ []
+  pub state_is : IsStateOf sign defaults (map meaning items) state
+  pub few : length items ≤ at
+
+pub nothing_read : (sign : SignData) (defaults : Defaults) (octets : List ℕ) (state : State) → IsStateOf sign defaults [] state → ReadSoFar sign defaults octets 0 state
+nothing_read sign defaults octets state st = record { items = []; each = All-nil IsItem; front = refl; place = refl; within = omega arith; none = refl; state_is = st; few = omega arith }
+
+spell_push : (items : List Item) (item : Item) → spell (items ++ item ∷ []) ≡ spell items ++ spelling item
+spell_push items item = flat_map-append spelling items (item ∷ []) ∙ ap (λ l. spell items ++ l) (append-nil (spelling item))
+
+length-meanings : (items : List Item) → length (map meaning items) ≡ length items
+length-meanings [] = refl
+length-meanings (x ∷ items) = ap (λ n. Prim.Native.Nat.suc n) (length-meanings items)
+
+module _ (sign : SignData) (defaults : Defaults) (octets : List ℕ) (at : ℕ) (state : State) (r : ReadSoFar sign defaults octets at state) where
+  -- the state is small enough
+  pub ready_here : length octets < 2 ^ 32 → IsReady state
+  ready_here short = ready sign defaults (map meaning r.items) state r.state_is (omega (arith, r.few, r.within, length-meanings r.items))
+
+  module _ (t : Token) (here : t.at ≡ at) (stands : IsTokenOf octets t) where
+    -- the string is the items so far, this one, and what stands behind it
+    spelled : octets ≡ spell r.items ++ (spelling (item_of octets t) ++ drop (t.at + t.len) octets)
+    spelled = r.front ∙ ap (λ l. spell r.items ++ l) (ap (λ n. drop n octets) (sym here) ∙ stands.begins.1)
+
+    regrouped : spell (r.items ++ item_of octets t ∷ []) ++ drop (t.at + t.len) octets ≡ octets
+    regrouped = ap (λ l. l ++ drop (t.at + t.len) octets) (spell_push r.items (item_of octets t)) ∙ append_assoc (spell r.items) (spelling (item_of octets t)) (drop (t.at + t.len) octets) ∙ sym spelled
+
+    each_more : All IsItem (r.items ++ item_of octets t ∷ [])
+    each_more = All-push IsItem r.items (item_of octets t) r.each stands.begins.0
+
+    pub read_more : (new : State) → offence sign defaults (map meaning r.items) (meaning (item_of octets t)) ≡ None → IsStateOf sign defaults (map meaning r.items ++ meaning (item_of octets t) ∷ []) new → ReadSoFar sign defaults octets (at + t.len) new
+    read_more new fine st = record {
+      items = r.items ++ item_of octets t ∷ [];
+      each = each_more;
+      front = sym regrouped ∙ ap (λ n. spell (r.items ++ item_of octets t ∷ []) ++ drop (n + t.len) octets) here;
+      place = omega (arith, r.place, stands.len, ap length (spell_push r.items (item_of octets t)), length-append (spell r.items) (spelling (item_of octets t)));
+      within = omega (arith, stands.within);
+      none = offences_push sign defaults r.items (item_of octets t) None r.none fine;
+      state_is = subst (λ ms. IsStateOf sign defaults ms new) (sym (map-append meaning r.items (item_of octets t ∷ []))) st;
+      few = omega (arith, r.few, stands.len, spelling_some (item_of octets t), length-append r.items (item_of octets t ∷ []));
+    }
+
+    -- the item offends, whatever stands behind it
+    pub refused_here : (code : ℕ) → offence sign defaults (map meaning r.items) (meaning (item_of octets t)) ≡ Some code → IsVerdict sign defaults octets (Refused code at)
+    refused_here code offends =
+        let stays = refusal_stands sign defaults r.items (item_of octets t) code (drop (t.at + t.len) octets) each_more r.none offends in
+        let is : Refused code at ≡ verdict sign defaults octets = ap (Refused code) r.place ∙ sym stays ∙ ap (verdict sign defaults) regrouped in
+        (one_verdict sign defaults octets (Refused code at)).1 is
+
+  -- the end, where all items are read
+  all_read : length octets ≡ at → IsReading octets r.items []
+  all_read end =
+      let empty : drop at octets ≡ [] = drop_all at octets (omega arith) in
+      record { each = r.each; spelled = r.front ∙ ap (λ l. spell r.items ++ l) empty; ends = none_found [] refl }
+
+  pub accepted_at_end : length octets ≡ at → IsVerdict sign defaults octets (Accepted state.pages)
+  unfolding verdict_on
+  accepted_at_end end =
+      (r.items, [], all_read end, ap Accepted r.state_is.pages ∙ sym (ap (λ l. of_first (pages_of (map meaning r.items)) (l ++ [])) r.none))
+
+  pub cycle_at_end : length octets ≡ at → IsCycle sign defaults octets (state.cycle + state.attributes.on + state.attributes.off)
+  unfolding page_times
+  cycle_at_end end =
+      let ms = map meaning r.items in
+      let on : state.attributes.on ≡ (standing sign defaults ms).on = ap (λ (a : Attributes). a.on) r.state_is.attributes in
+      let off : state.attributes.off ≡ (standing sign defaults ms).off = ap (λ (a : Attributes). a.off) r.state_is.attributes in
+      let all : cycle (ended_times sign defaults ms ++ times_at (standing sign defaults ms) ∷ []) ≡ cycle (ended_times sign defaults ms) + cycle (times_at (standing sign defaults ms) ∷ []) =
+      sum_by-append (λ (t : Times). t.on + t.off) (ended_times sign defaults ms) (times_at (standing sign defaults ms) ∷ []) in
+      (r.items, [], all_read end, omega (arith, all, on, off, r.state_is.times))
+
+  broken_cons : (items : List Item) (rest : List ℕ) → 1 ≤ length rest → broken items rest ≡ (3, length (spell items)) ∷ []
+  broken_cons items [] h = absurd (omega arith)
+  broken_cons items (c ∷ rest) h = refl
+
+  -- a broken bracket
+  pub refused_at_bracket : at < length octets → HasNoItem (drop at octets) → IsVerdict sign defaults octets (Refused 3 at)
+  unfolding verdict_on
+  refused_at_bracket before none =
+      let some : 1 ≤ length (drop at octets) = simp length-drop (omega arith) in (
+        r.items,
+        drop at octets,
+        record { each = r.each; spelled = r.front; ends = none },
+        ap (Refused 3) r.place ∙ sym (ap (λ l. of_first (pages_of (map meaning r.items)) (l ++ broken r.items (drop at octets))) r.none ∙ ap (of_first (pages_of (map meaning r.items))) (broken_cons r.items (drop at octets) some)),
+      )

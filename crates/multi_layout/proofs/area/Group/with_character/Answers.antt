@@ -1,0 +1,15 @@
+use Rattle.std.proofs.Common.{ap, ◌∙◌, arith}
+use Rattle.std.specs.List.{after_last}
+use Rattle.multi_layout.specs.declared.area.Group.{Group}
+use Rattle.multi_layout.specs.Address.{is_break, in_group}
+use Rattle.multi_layout.proofs.GroupSumLemmas.{group_character, present_glyphs}
+use Rattle.multi_layout.proofs.area.Group.with_character.Goals as goal
+
+pub returns-clause-sum : goal.returns-clause-sum
+returns-clause-sum c area s placing e is page =
+    let just = c.args.just in
+    group_character just area s (page ∙ c.if-page_just-just.false) is.glyph c.args.self c.with_character.result e
+    (c.with_character.ensures.sum (after_last is_break (in_group just area)) s (present_glyphs just area placing) is (ap (λ (g : Group). g.line) e))
+
+pub returns-clause-grows : goal.returns-clause-grows
+returns-clause-grows c k below = record { closed = omega (arith, below.closed); line = c.with_character.ensures.grows k below.line }

@@ -1,0 +1,39 @@
+use Rattle.std.proofs.Common.{◌≡◌, ℕ, ◌-◌, Option, cond, Some, None, refl, sym, ap, ◌∙◌}
+use Rattle.multi_layout.specs.declared.attributes.Attributes.{Attributes}
+use Rattle.multi_layout.proofs.JudgedLemmas.{judged-rectangle, state-rectangle}
+use Rattle.multi_layout.proofs.TagLemmas.{outside_across, outside_down, inside}
+use Rattle.multi_layout.proofs.judge.judge_rectangle.Goals as goal
+
+pub returns-in_default : goal.returns-in_default
+returns-in_default c = record {
+  judged = λ items st.
+      let sign = c.args.sign.now in
+      let none = rw c.width.ensures.width at c.in_default.ensures.outside in
+      judged-rectangle sign sign.defaults items c.args.state st c.args.x c.args.y c.args.w c.args.h
+      ∙ ap (λ b. cond {A = Option ℕ} b None (Some 4)) (outside_across sign c.args.x c.args.y c.args.w c.args.h none);
+}
+
+pub returns-in_default-part_of : goal.returns-in_default-part_of
+returns-in_default-part_of c = record {
+  judged = λ items st.
+      let sign = c.args.sign.now in
+      let none = rw c.height.ensures.height at c.in_default-part_of.ensures.outside in
+      judged-rectangle sign sign.defaults items c.args.state st c.args.x c.args.y c.args.w c.args.h
+      ∙ ap (λ b. cond {A = Option ℕ} b None (Some 4)) (outside_down sign c.args.x c.args.y c.args.w c.args.h none);
+}
+
+pub returns : goal.returns
+returns c = record {
+  judged = λ items st.
+      let sign = c.args.sign.now in
+      let across = rw c.width.ensures.width at c.in-Some.ensures.inside in
+      let down = rw c.height.ensures.height at c.in-Some-part_of.ensures.inside in
+      let fine = inside sign c.args.x c.args.y c.args.w c.args.h across.0 across.1 across.2 down.0 down.1 down.2 in
+      let wide = across.3 in
+      let high = down.3 in (
+        judged-rectangle sign sign.defaults items c.args.state st c.args.x c.args.y c.args.w c.args.h ∙ ap (λ b. cond {A = Option ℕ} b None (Some 4)) fine,
+        state-rectangle sign sign.defaults items c.args.state _ c.args.x c.args.y c.args.w c.args.h st refl refl
+            (rw (wide, high) (ap (λ (a : Attributes). let b : Attributes = record a { width = cond (Rattle.std.specs.Prelude.nat_eq c.args.w 0) (sign.width - (c.args.x - 1)) c.args.w; height = cond (Rattle.std.specs.Prelude.nat_eq c.args.h 0) (sign.height - (c.args.y - 1)) c.args.h } in b) st.attributes))
+            c.new.ensures.sum c.requires.line_just c.requires.page_just c.new.ensures.below,
+      );
+}

@@ -1,0 +1,69 @@
+-- The errors of an item after the items before it (NTCIP 1203 v03, dmsMultiSyntaxError).
+use Rattle.std.specs.Prelude.{ℕ, ◌+◌, Bool, true, false, not, ◌||◌, ◌&&◌, ◌==◌, nat_lt, List, [], ◌∷◌, ◌++◌, Option, Some, None}
+use Rattle.std.specs.List.{count_by, list_any, find}
+use Rattle.std.specs.Option.{option_map, option_map_or}
+use Rattle.multi_tag.specs.declared.tag.Tag.TheVariants.{NewPage, NewLine, Font, Rect}
+use Rattle.sign_font.specs.declared.parts.Defaults.{Defaults}
+use Rattle.sign_font.specs.Sign.{SignData, FontData, CellData, font_numbered, cell_numbered}
+use Rattle.multi_layout.specs.Meaning.{Meaning, Shows, Does, Faulty, is_new_page}
+use Rattle.multi_layout.specs.Attributes.{is_inside}
+use Rattle.multi_layout.specs.Address.{Spot, Glyph, Break, standing, spots, area_of, line_before, is_glyph}
+use Rattle.multi_layout.specs.Fit.{line_fits, area_fits}
+
+-- a case of an error, and the number of the error (own)
+abbrev pub Case : Type 0
+Case = Bool × ℕ
+
+-- the number of the first case that holds (own)
+abbrev pub first_code : List Case → Option ℕ
+first_code cases = option_map (λ c. c.1) (find (λ c. c.0) cases)
+
+-- a placing item has a group before that of an earlier one of its area (own)
+abbrev pub goes_back : Spot → Spot → Bool
+goes_back later earlier = nat_lt later.at.page_just earlier.at.page_just
+
+-- a character has a segment before that of an earlier one of its line, or one of them is full and the other isn't (own)
+abbrev pub clashes : Spot → Spot → Bool
+clashes later earlier = nat_lt later.at.line_just earlier.at.line_just || ((later.at.line_just == 5) && nat_lt earlier.at.line_just 5)
+
+-- tagConflict: a group goes back within the area, or a character's segment on its line (NTCIP 1203 v03,
+-- dmsMultiSyntaxError; what conflicts is own)
+abbrev pub conflicts : List Spot → Spot → Bool
+conflicts before spot = list_any (goes_back spot) (area_of spot before) || (is_glyph spot && list_any (clashes spot) (line_before before spot))
+
+-- textTooBig: the line of a character no longer fits, or the area (NTCIP 1203 v03, dmsMultiSyntaxError)
+abbrev pub too_big : List Spot → Spot → Bool
+too_big before spot =
+    (is_glyph spot && not (line_fits spot.at.rectangle.width (line_before before spot ++ spot ∷ [])))
+    || not (area_fits spot.at.rectangle.height (area_of spot before ++ spot ∷ []))
+
+-- the cases of a placing item: 11 tagConflict, 5 textTooBig (NTCIP 1203 v03, dmsMultiSyntaxError; their order is own)
+abbrev pub placing_cases : List Spot → Spot → List Case
+placing_cases before spot = (conflicts before spot, 11) ∷ (too_big before spot, 5) ∷ []
+
+-- the cases of a character: 7 characterNotDefined, then those of a placing item (NTCIP 1203 v03, dmsMultiSyntaxError;
+-- their order is own)
+abbrev pub character_cases : SignData → Defaults → List Meaning → Option CellData → List Case
+character_cases sign defaults before None = (true, 7) ∷ []
+character_cases sign defaults before (Some cell) = placing_cases (spots sign defaults before) (record { at = standing sign defaults before; put = Glyph cell })
+
+-- the cases of a font: 6 fontNotDefined, 13 fontVersionID (NTCIP 1203 v03, dmsMultiSyntaxError; their order is own)
+abbrev pub font_cases : Option FontData → Option ℕ → List Case
+font_cases None version = (true, 6) ∷ []
+font_cases (Some font) version = (option_map_or (λ v. not (v == font.version)) version false, 13) ∷ []
+
+-- the cases of an item after the items before it, in their order: the tag's own fault, 6 and 13 of a font, 4 of a rectangle
+-- outside the sign, 12 of a new page past the limit, and those of placing items (NTCIP 1203 v03, dmsMultiSyntaxError; their
+-- order is own)
+abbrev pub cases : SignData → Defaults → List Meaning → Meaning → List Case
+cases sign defaults before (Faulty code) = (true, code) ∷ []
+cases sign defaults before (Does (Font (Some pick))) = font_cases (font_numbered sign pick.number) pick.version
+cases sign defaults before (Does (Rect x y w h)) = (not (is_inside sign x y w h), 4) ∷ []
+cases sign defaults before (Does NewPage) = (nat_lt sign.max_pages (count_by is_new_page before + 2), 12) ∷ []
+cases sign defaults before (Does (NewLine gap)) = placing_cases (spots sign defaults before) (record { at = standing sign defaults before; put = Break gap })
+cases sign defaults before (Shows number) = character_cases sign defaults before (cell_numbered (standing sign defaults before).font number)
+cases sign defaults before _ = []
+
+-- the error of an item after the items before it, if it offends (NTCIP 1203 v03, dmsMultiSyntaxError)
+unfoldable pub offence : SignData → Defaults → List Meaning → Meaning → Option ℕ
+offence sign defaults before item = first_code (cases sign defaults before item)

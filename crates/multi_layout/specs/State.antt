@@ -1,0 +1,105 @@
+-- What the verdict keeps of the items that it has read (own).
+use Rattle.std.specs.Prelude.{◌≡◌, ℕ, ◌+◌, ◌*◌, ◌^◌, ◌≤◌, ◌||◌, ◌&&◌, ◌==◌, List, [], ◌∷◌, ◌++◌, length, Option, Some, None, Result, Ok, Err, if◌then◌else◌}
+use Rattle.std.specs.List.{filter}
+use Rattle.std.specs.Option.{unwrap_or}
+use Rattle.multi_tag.specs.declared.tag.Tag.{Tag}
+use Rattle.multi_tag.specs.declared.tag.Tag.TheVariants.{NewPage, NewLine, LineJust, PageJust, Font, CharSpacing, CharSpacingEnd, PageTime, Flash, FlashEnd, Fore, Back, Rect}
+use Rattle.sign_font.specs.declared.parts.Defaults.{Defaults}
+use Rattle.sign_font.specs.Sign.{SignData, font_numbered, info_of}
+use Rattle.multi_layout.specs.declared.attributes.Attributes.{Attributes}
+use Rattle.multi_layout.specs.declared.fault.SyntaxError.{SyntaxError}
+use Rattle.multi_layout.specs.declared.state.State.{State}
+use Rattle.multi_layout.specs.Codes.{code_of}
+use Rattle.multi_layout.specs.Attributes.{given_font, given_line_just, given_page_just, given_spacing, given_fore, given_back, given_on, given_off, given_flash, given_rectangle}
+use Rattle.multi_layout.specs.Meaning.{Meaning, Does, begins_area, is_new_page}
+use Rattle.multi_layout.specs.Address.{Spot, Standing, is_break, is_glyph, spots, standing}
+use Rattle.multi_layout.specs.Offence.{offence}
+use Rattle.multi_layout.specs.Sums.{IsBelow, area_sum}
+use Rattle.multi_layout.specs.Times.{Times, cycle, times_at}
+use Rattle.multi_layout.specs.Verdict.{pages_of}
+use Rattle.multi_layout.specs.Words.{some_after}
+
+-- the placing items of an area (own)
+abbrev pub in_area : ℕ → List Spot → List Spot
+in_area area spots = filter (λ t. (is_glyph t || is_break t) && (t.at.area == area)) spots
+
+-- the placing items of the present area, in which the next item stands (own)
+abbrev pub present_area : SignData → Defaults → List Meaning → List Spot
+present_area sign defaults items = in_area (standing sign defaults items).area (spots sign defaults items)
+
+-- the times of the pages that have ended (own)
+abbrev pub ended_times : SignData → Defaults → List Meaning → List Times
+ended_times sign defaults items = some_after (λ before item. if is_new_page item then Some (times_at (standing sign defaults before)) else None) items
+
+-- the values in force behind one more item (own)
+abbrev pub standing_behind : SignData → Defaults → Standing → Meaning → Standing
+standing_behind sign defaults here x = record {
+  page = here.page + (if is_new_page x then 1 else 0);
+  area = here.area + (if begins_area x then 1 else 0);
+  font = unwrap_or (given_font sign defaults x) here.font;
+  line_just = unwrap_or (given_line_just defaults x) here.line_just;
+  page_just = unwrap_or (given_page_just defaults x) here.page_just;
+  spacing = unwrap_or (given_spacing x) here.spacing;
+  fore = unwrap_or (given_fore defaults x) here.fore;
+  back = unwrap_or (given_back defaults x) here.back;
+  on = unwrap_or (given_on defaults x) here.on;
+  off = unwrap_or (given_off defaults x) here.off;
+  flash = unwrap_or (given_flash defaults x) here.flash;
+  rectangle = unwrap_or (given_rectangle sign x) here.rectangle;
+}
+
+-- what the verdict keeps of the values in force (own)
+abbrev pub attributes_of : Standing → Attributes
+attributes_of at = record {
+  font = info_of at.font;
+  line_just = at.line_just;
+  page_just = at.page_just;
+  spacing = at.spacing;
+  on = at.on;
+  off = at.off;
+  width = at.rectangle.width;
+  height = at.rectangle.height;
+}
+
+-- the state is that of these items: their pages, their ended pages' times, the values in force behind them, and the sums of
+-- their present area; the font in force is the sign's, and the justifications are known ones (own)
+pub record IsStateOf (sign : SignData) (defaults : Defaults) (items : List Meaning) (state : State) : Type 0 where
+  pub pages : state.pages ≡ pages_of items
+  pub times : state.cycle ≡ cycle (ended_times sign defaults items)
+  pub attributes : state.attributes ≡ attributes_of (standing sign defaults items)
+  pub area : state.area ≡ area_sum (present_area sign defaults items)
+  pub font : font_numbered sign (standing sign defaults items).font.number ≡ Some (standing sign defaults items).font
+  pub line_just : (2 ≤ state.attributes.line_just) × (state.attributes.line_just ≤ 5)
+  pub page_just : (2 ≤ state.attributes.page_just) × (state.attributes.page_just ≤ 4)
+  pub below : IsBelow (1024 * length items) state.area
+  pub short : state.cycle ≤ 510 * state.pages
+
+-- the state is small enough that no sum overflows, and its justifications are known ones (own)
+pub record IsReady (state : State) : Type 0 where
+  pub line_just : (2 ≤ state.attributes.line_just) × (state.attributes.line_just ≤ 5)
+  pub page_just : (2 ≤ state.attributes.page_just) × (state.attributes.page_just ≤ 4)
+  pub below : IsBelow (2 ^ 62) state.area
+  pub short : state.cycle ≤ 510 * state.pages
+
+-- one more item is judged: it doesn't offend and the new state is that of the items with it, or it offends by this error (own)
+abbrev pub IsJudged : SignData → Defaults → List Meaning → Meaning → Result State SyntaxError → Type 0
+IsJudged sign defaults items item (Ok state) = (offence sign defaults items item ≡ None) × IsStateOf sign defaults (items ++ item ∷ []) state
+IsJudged sign defaults items item (Err error) = offence sign defaults items item ≡ Some (code_of error)
+
+-- whatever the items before are, if the state is theirs, the item is judged behind them (own)
+abbrev pub Judges : SignData → Defaults → State → Meaning → Result State SyntaxError → Type 0
+Judges sign defaults state item result = (items : List Meaning) → IsStateOf sign defaults items state → IsJudged sign defaults items item result
+
+-- a tag that the layout of the sign has no part in: it begins nothing, places nothing, and asks for no font (own)
+abbrev pub IsSimple : Tag → Type 0
+IsSimple NewPage = ⊥
+IsSimple (NewLine gap) = ⊥
+IsSimple (Font pick) = ⊥
+IsSimple (Rect x y w h) = ⊥
+IsSimple tag = Unit {0}
+
+-- the justification that a tag gives is a known one (NTCIP 1203 v03, MULTI tags 'jl' and 'jp')
+abbrev pub IsKnown : Tag → Type 0
+IsKnown (LineJust (Some just)) = (2 ≤ just) × (just ≤ 5)
+IsKnown (PageJust (Some just)) = (2 ≤ just) × (just ≤ 4)
+IsKnown tag = Unit {0}

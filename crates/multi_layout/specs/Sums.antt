@@ -1,0 +1,97 @@
+-- The running sums of an area: what is kept of its items, in place of the items.
+use Rattle.std.specs.Prelude.{◌≡◌, ◌⊎◌, ℕ, ◌≤◌, true, nat_lt, List, Option, None}
+use Rattle.std.specs.List.{filter, filter_map, last_or, list_any, after_last}
+use Rattle.std.specs.Option.{option_map}
+use Rattle.sign_font.specs.declared.font.FontInfo.{FontInfo}
+use Rattle.sign_font.specs.Sign.{info_of}
+use Rattle.multi_layout.specs.declared.line.Character.{Character}
+use Rattle.multi_layout.specs.declared.line.Segment.{Segment}
+use Rattle.multi_layout.specs.declared.line.Line.{Line}
+use Rattle.multi_layout.specs.declared.area.Ended.{Ended}
+use Rattle.multi_layout.specs.declared.area.Group.{Group}
+use Rattle.multi_layout.specs.declared.area.Area.{Area}
+use Rattle.multi_layout.specs.Address.{Spot, Break, is_glyph, is_break, segment, in_group, lines_of}
+use Rattle.multi_layout.specs.Line.{line_height, line_spacing, given_gap, glyph_width, width_of, height_of}
+use Rattle.multi_layout.specs.Words.{largest}
+
+-- the width of a line's characters with one line justification, and the spacing of the last one's font (own)
+abbrev pub segment_sum : ℕ → List Spot → Segment
+segment_sum just line = record {
+  width = width_of (segment just line);
+  last = option_map (λ t. t.at.font.char_spacing) (last_or None (segment just line));
+}
+
+-- the sums of a line of characters: its four segments, the largest line justification, whether one of them isn't full, the
+-- line's height and spacing, and whether there is one (own)
+abbrev pub line_sum : List Spot → Line
+line_sum line = record {
+  left = segment_sum 2 line;
+  centre = segment_sum 3 line;
+  right = segment_sum 4 line;
+  full = segment_sum 5 line;
+  most = largest (λ t. t.at.line_just) line;
+  has_parts = list_any (λ t. nat_lt t.at.line_just 5) line;
+  height = line_height line;
+  spacing = line_spacing line;
+  any = list_any is_glyph line;
+}
+
+-- the lines of a group that an `nl` ends (own)
+abbrev pub ended_lines : List Spot → List (List Spot)
+ended_lines group = filter (list_any is_break) (lines_of group)
+
+-- the gap that a line's `nl` gave, and the line's spacing (own)
+abbrev pub ended_sum : List Spot → Ended
+ended_sum line = record { gap = last_or None (filter_map given_gap line); spacing = line_spacing line }
+
+-- the sums of a group: the height of its ended lines with the gaps between them, the last of them, and the present line (own)
+abbrev pub group_sum : List Spot → Group
+group_sum group = record {
+  closed = height_of (ended_lines group);
+  last = option_map ended_sum (last_or None (ended_lines group));
+  line = line_sum (after_last is_break group);
+}
+
+-- the sums of an area: the largest page justification of its items, and its three groups (own)
+abbrev pub area_sum : List Spot → Area
+area_sum area = record {
+  most = largest (λ t. t.at.page_just) area;
+  top = group_sum (in_group 2 area);
+  middle = group_sum (in_group 3 area);
+  bottom = group_sum (in_group 4 area);
+}
+
+-- a placing item: a character or the end of a line (NTCIP 1203 v03, MULTI tag 'nl')
+abbrev pub IsPlacing : Spot → Type 0
+IsPlacing s = (is_glyph s ≡ true) ⊎ (is_break s ≡ true)
+
+-- these are the numbers of a character that its line is judged by (own)
+pub record IsCharacter (s : Spot) (character : Character) : Type 0 where
+  pub glyph : is_glyph s ≡ true
+  pub just : character.just ≡ s.at.line_just
+  pub spacing : character.spacing ≡ s.at.spacing
+  pub width : character.width ≡ glyph_width s
+  pub font : character.font ≡ info_of s.at.font
+
+-- this is the end of a line, with the gap that it gives and the numbers of the font in force (NTCIP 1203 v03, MULTI tag 'nl')
+pub record IsBreak (s : Spot) (gap : Option ℕ) (info : FontInfo) : Type 0 where
+  pub put : s.put ≡ Break gap
+  pub font : info ≡ info_of s.at.font
+
+-- the widths of a line are at most k (own)
+pub record IsLineBelow (k : ℕ) (line : Line) : Type 0 where
+  pub left : line.left.width ≤ k
+  pub centre : line.centre.width ≤ k
+  pub right : line.right.width ≤ k
+  pub full : line.full.width ≤ k
+
+-- the height of a group's ended lines and the widths of its present line are at most k (own)
+pub record IsGroupBelow (k : ℕ) (group : Group) : Type 0 where
+  pub closed : group.closed ≤ k
+  pub line : IsLineBelow k group.line
+
+-- the heights and widths of an area's groups are at most k (own)
+pub record IsBelow (k : ℕ) (area : Area) : Type 0 where
+  pub top : IsGroupBelow k area.top
+  pub middle : IsGroupBelow k area.middle
+  pub bottom : IsGroupBelow k area.bottom

@@ -1,0 +1,49 @@
+-- The times of pages and the page at a clock, in tenths of a second (NTCIP 1203 v03, MULTI tag 'pt').
+use Rattle.std.specs.Prelude.{ℕ, ◌+◌, ◌-◌, ◌%◌, Bool, false, ◌||◌, ◌&&◌, ◌==◌, nat_le, nat_lt, List, [], ◌∷◌, ◌++◌, take, length, slice_get, Some, None, if◌then◌else◌}
+use Rattle.std.specs.List.{sum_by, find, range_with_len}
+use Rattle.std.specs.Option.{option_map_or}
+use Rattle.sign_font.specs.declared.parts.Defaults.{Defaults}
+use Rattle.sign_font.specs.Sign.{SignData}
+use Rattle.multi_layout.specs.Meaning.{Meaning, is_new_page}
+use Rattle.multi_layout.specs.Address.{Standing, standing}
+use Rattle.multi_layout.specs.Words.{some_after}
+
+-- a page's on time and off time (NTCIP 1203 v03, MULTI tag 'pt')
+pub record Times : Type 0 where
+  pub on : ℕ
+  pub off : ℕ
+
+-- the times that are in force where an item stands (own)
+abbrev pub times_at : Standing → Times
+times_at at = record { on = at.on; off = at.off }
+
+-- the times of each page: those in force at its end (NTCIP 1203 v03, MULTI tag 'pt'; which of several is own)
+unfoldable pub page_times : SignData → Defaults → List Meaning → List Times
+unfolding standing
+page_times sign defaults items =
+    some_after (λ before item. if is_new_page item then Some (times_at (standing sign defaults before)) else None) items
+    ++ times_at (standing sign defaults items) ∷ []
+
+-- the cycle: the times of all pages together (own)
+abbrev pub cycle : List Times → ℕ
+cycle pages = sum_by (λ times. times.on + times.off) pages
+
+-- a page with the time since it began, or no page (own)
+pub data ShownAt : Type 0 where
+  Page : ℕ → ℕ → ShownAt
+  Off : ShownAt
+
+-- when page k, counted from 0, begins (own)
+abbrev pub begin : List Times → ℕ → ℕ
+begin pages k = cycle (take k pages)
+
+-- the clock is in the on time of page k (own)
+abbrev pub is_on : List Times → ℕ → ℕ → Bool
+is_on pages clock k = nat_le (begin pages k) clock && option_map_or (λ times. nat_lt clock (begin pages k + times.on)) (slice_get pages k) false
+
+-- what is shown at a clock: of one page, or of a cycle of 0, always page 0 with the clock as its phase; else, of the clock
+-- modulo the cycle, the page whose on time it is in, or nothing (own)
+unfoldable pub shown_at : List Times → ℕ → ShownAt
+shown_at pages clock =
+    if (length pages == 1) || (cycle pages == 0) then Page 0 clock
+    else option_map_or (λ k. Page k (clock % cycle pages - begin pages k)) (find (is_on pages (clock % cycle pages)) (range_with_len 0 (length pages))) Off

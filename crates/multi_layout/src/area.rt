@@ -1,0 +1,236 @@
+//! The running sums of an area's groups.
+
+ghost use Rattle.std.specs.Prelude.{◌≡◌, ℕ, ◌+◌, ◌^◌, ◌≤◌, true, false, not, List, [], ◌∷◌, ◌++◌};
+ghost use Rattle.std.specs.List.{All};
+ghost use Rattle.std.specs.Option.{option_map_or, unwrap_or};
+ghost use Rattle.multi_layout.specs.Address.{Spot, is_glyph, is_break, area_of, in_group, lines_of};
+ghost use Rattle.multi_layout.specs.Fit.{area_fits};
+ghost use Rattle.multi_layout.specs.Line.{average, height_of};
+ghost use Rattle.multi_layout.specs.Offence.{conflicts, too_big};
+ghost use Rattle.multi_layout.specs.Sums.{group_sum, area_sum, IsPlacing, IsCharacter, IsBreak, IsGroupBelow, IsBelow};
+
+use crate::line::{Character, Line, gap_or_average, parts_fit};
+use sign_font::FontInfo;
+
+/// The last line that an `nl` ended.
+#[derive(Clone, Copy, Debug, PartialEq, Eq)]
+pub(crate) struct Ended {
+    /// The gap that its `nl` gave, in pixels, if it gave one.
+    pub(crate) gap: Option<u8>,
+    /// The line's spacing, in pixels.
+    pub(crate) spacing: u8,
+}
+
+/// The placing items of an area with one page justification.
+#[derive(Clone, Copy, Debug, PartialEq, Eq)]
+pub(crate) struct Group {
+    /// The height of the ended lines in pixels, with the gaps between them.
+    pub(crate) closed: u64,
+    /// The last ended line, if there is one.
+    pub(crate) last: Option<Ended>,
+    /// What stands behind the last `nl`.
+    pub(crate) line: Line,
+}
+
+/// The placing items of an area.
+#[derive(Clone, Copy, Debug, PartialEq, Eq)]
+pub(crate) struct Area {
+    /// The largest page justification; 0 where there is no item.
+    pub(crate) most: u8,
+    pub(crate) top: Group,
+    pub(crate) middle: Group,
+    pub(crate) bottom: Group,
+}
+
+impl Group {
+    /// A group of no item.
+    pub(crate) fn new() -> Group
+        ensures sum { result ≡ group_sum [] }
+        ensures below { IsGroupBelow 0 result }
+    {
+        Group {
+            closed: 0,
+            last: None,
+            line: Line::new(),
+        }
+    }
+
+    /// The group `just` of an area with one more character.
+    pub(crate) fn with_character(self, just: u8, page_just: u8, character: &Character) -> Group
+        requires below { IsGroupBelow (2 ^ 62) self }
+        ensures sum { (area : List Spot) (s : Spot) → All IsPlacing area → self ≡ group_sum (in_group just area)
+            → IsCharacter s character.now → s.at.page_just ≡ page_just → result ≡ group_sum (in_group just (area ++ s ∷ [])) }
+        ensures grows { (k : ℕ) → IsGroupBelow k self → IsGroupBelow (k + 1024) result }
+    {
+        if page_just != just {
+            return self;
+        }
+        Group {
+            closed: self.closed,
+            last: self.last,
+            line: self.line.with_character(character),
+        }
+    }
+
+    /// The group `just` of an area with one more `nl`.
+    pub(crate) fn with_break(
+        self,
+        just: u8,
+        page_just: u8,
+        gap: Option<u8>,
+        font: &FontInfo,
+    ) -> Group
+        requires below { IsGroupBelow (2 ^ 62) self }
+        ensures sum { (area : List Spot) (s : Spot) → All IsPlacing area → self ≡ group_sum (in_group just area)
+            → IsBreak s gap font.now → s.at.page_just ≡ page_just → result ≡ group_sum (in_group just (area ++ s ∷ [])) }
+        ensures grows { (k : ℕ) → IsGroupBelow k self → IsGroupBelow (k + 1024) result }
+    {
+        if page_just != just {
+            return self;
+        }
+        let height = self.line.ended_height(font);
+        let spacing = self.line.ended_spacing(font);
+        Group {
+            closed: self.closed + u64::from(self.gap(spacing)) + u64::from(height),
+            last: Some(Ended { gap, spacing }),
+            line: Line::new(),
+        }
+    }
+
+    /// The pixels between the last ended line and the present one with this spacing, 0 where none is ended.
+    fn gap(&self, spacing: u8) -> u8
+        ensures { result ≡ option_map_or
+            (λ ended. unwrap_or ended.gap (average ended.spacing spacing)) self.now.last 0 }
+    {
+        match self.last {
+            Some(ended) => gap_or_average(ended.gap, ended.spacing, spacing),
+            None => 0,
+        }
+    }
+
+    /// The height of the group's lines in pixels, with the gaps between them.
+    fn height(self) -> u64
+        requires below { self.closed ≤ 2 ^ 62 + 1024 }
+        ensures sum { (group : List Spot) → All IsPlacing group → self ≡ group_sum group
+            → result ≡ height_of (lines_of group) }
+        ensures below { result ≤ 2 ^ 62 + 2048 }
+    {
+        if !self.line.any {
+            return self.closed;
+        }
+        self.closed + u64::from(self.gap(self.line.spacing)) + u64::from(self.line.height)
+    }
+}
+
+impl Area {
+    /// An area of no item.
+    pub(crate) fn new() -> Area
+        ensures sum { result ≡ area_sum [] }
+        ensures below { IsBelow 0 result }
+    {
+        let none = Group::new();
+        Area {
+            most: 0,
+            top: none,
+            middle: none,
+            bottom: none,
+        }
+    }
+
+    /// The area with one more character, with this page justification in force.
+    pub(crate) fn with_character(self, page_just: u8, character: &Character) -> Area
+        requires below { IsBelow (2 ^ 62) self }
+        ensures sum { (area : List Spot) (s : Spot) → All IsPlacing area → self ≡ area_sum area
+            → IsCharacter s character.now → s.at.page_just ≡ page_just → result ≡ area_sum (area ++ s ∷ []) }
+        ensures grows { (k : ℕ) → IsBelow k self → IsBelow (k + 1024) result }
+    {
+        Area {
+            most: self.most.max(page_just),
+            top: self.top.with_character(2, page_just, character),
+            middle: self.middle.with_character(3, page_just, character),
+            bottom: self.bottom.with_character(4, page_just, character),
+        }
+    }
+
+    /// The area with one more `nl`, with this page justification and this font in force.
+    pub(crate) fn with_break(self, page_just: u8, gap: Option<u8>, font: &FontInfo) -> Area
+        requires below { IsBelow (2 ^ 62) self }
+        ensures sum { (area : List Spot) (s : Spot) → All IsPlacing area → self ≡ area_sum area
+            → IsBreak s gap font.now → s.at.page_just ≡ page_just → result ≡ area_sum (area ++ s ∷ []) }
+        ensures grows { (k : ℕ) → IsBelow k self → IsBelow (k + 1024) result }
+    {
+        Area {
+            most: self.most.max(page_just),
+            top: self.top.with_break(2, page_just, gap, font),
+            middle: self.middle.with_break(3, page_just, gap, font),
+            bottom: self.bottom.with_break(4, page_just, gap, font),
+        }
+    }
+
+    /// The group with this page justification: top 2, middle 3, bottom 4.
+    fn group(&self, page_just: u8) -> Group
+        requires known { (2 ≤ page_just) × (page_just ≤ 4) }
+        ensures sum { (area : List Spot) → self.now ≡ area_sum area → result ≡ group_sum (in_group page_just area) }
+        ensures below { (k : ℕ) → IsBelow k self.now → IsGroupBelow k result }
+    {
+        match page_just {
+            2 => self.top,
+            3 => self.middle,
+            _ => self.bottom,
+        }
+    }
+
+    /// Whether a character with these justifications conflicts with the items before it.
+    pub(crate) fn conflicts_with_character(&self, page_just: u8, just: u8) -> bool
+        requires known { (2 ≤ page_just) × (page_just ≤ 4) }
+        ensures { (before : List Spot) (s : Spot) → self.now ≡ area_sum (area_of s before) → is_glyph s ≡ true
+            → s.at.page_just ≡ page_just → s.at.line_just ≡ just → result ≡ conflicts before s }
+    {
+        let line = self.group(page_just).line;
+        (page_just < self.most) | line.clashes(just)
+    }
+
+    /// Whether an `nl` with this page justification conflicts with the items before it.
+    pub(crate) fn conflicts_with_break(&self, page_just: u8) -> bool
+        ensures { (before : List Spot) (s : Spot) → self.now ≡ area_sum (area_of s before) → is_glyph s ≡ false
+            → s.at.page_just ≡ page_just → result ≡ conflicts before s }
+    {
+        page_just < self.most
+    }
+
+    /// Whether the area fits a rectangle of this width and height in pixels, as far as its last item goes: a
+    /// character with this page justification.
+    pub(crate) fn fits_with_character(&self, page_just: u8, width: u16, height: u16) -> bool
+        requires known { (2 ≤ page_just) × (page_just ≤ 4) }
+        requires below { IsBelow (2 ^ 62 + 1024) self.now }
+        ensures { (before : List Spot) (s : Spot) → is_glyph s ≡ true → self.now ≡ area_sum (area_of s before ++ s ∷ [])
+            → s.at.page_just ≡ page_just → s.at.rectangle.width ≡ width → s.at.rectangle.height ≡ height
+            → result ≡ not (too_big before s) }
+    {
+        let line = self.group(page_just).line;
+        line.fits(width) & self.fits_height(height)
+    }
+
+    /// Whether the area fits a rectangle of this height in pixels, as far as its last item goes: an `nl`.
+    pub(crate) fn fits_with_break(&self, height: u16) -> bool
+        requires below { IsBelow (2 ^ 62 + 1024) self.now }
+        ensures { (before : List Spot) (s : Spot) → is_break s ≡ true → self.now ≡ area_sum (area_of s before ++ s ∷ [])
+            → s.at.rectangle.height ≡ height → result ≡ not (too_big before s) }
+    {
+        self.fits_height(height)
+    }
+
+    /// Whether the groups stand apart within a height in pixels.
+    fn fits_height(&self, height: u16) -> bool
+        requires below { IsBelow (2 ^ 62 + 1024) self.now }
+        ensures { (area : List Spot) → All IsPlacing area → self.now ≡ area_sum area
+            → result ≡ area_fits height area }
+    {
+        parts_fit(
+            self.top.height(),
+            self.middle.height(),
+            self.bottom.height(),
+            u64::from(height),
+        )
+    }
+}

@@ -1,0 +1,57 @@
+//! What the verdict keeps of the items that it has read.
+
+ghost use Rattle.std.specs.Prelude.{◌≡◌, []};
+
+use crate::area::Area;
+use crate::attributes::Attributes;
+use sign_font::{FontInfo, Sign};
+
+/// The running state of a verdict.
+#[derive(Clone, Copy, Debug, PartialEq, Eq)]
+pub(crate) struct State {
+    /// The pages so far, the present one with them: 1 to the sign's limit.
+    pub(crate) pages: u8,
+    /// The times of the pages before the present one, in tenths of a second.
+    pub(crate) cycle: u32,
+    pub(crate) attributes: Attributes,
+    pub(crate) area: Area,
+}
+
+impl State {
+    ghost use Rattle.multi_layout.specs.State.{IsStateOf};
+
+    /// The state before the first item.
+    pub(crate) fn new(sign: &Sign) -> State
+        ensures { IsStateOf sign.now sign.now.defaults [] result }
+    {
+        let defaults = sign.defaults();
+        State {
+            pages: 1,
+            cycle: 0,
+            attributes: Attributes {
+                font: sign.default_font(),
+                line_just: defaults.line,
+                page_just: defaults.page,
+                spacing: None,
+                on: defaults.page_on,
+                off: defaults.page_off,
+                width: sign.width(),
+                height: sign.height(),
+            },
+            area: Area::new(),
+        }
+    }
+
+    /// The state with another font in force.
+    pub(crate) fn with_font(self, font: FontInfo) -> State
+        ensures { result ≡ record self { attributes = record self.attributes { font = font } } }
+    {
+        State {
+            attributes: Attributes {
+                font,
+                ..self.attributes
+            },
+            ..self
+        }
+    }
+}
