@@ -184,7 +184,7 @@ fn the_sample_sign_judges_lines_and_segments(rt: HostRuntime) {
 
 #[test]
 fn the_sample_sign_judges_spacings_groups_and_rectangles(rt: HostRuntime) {
-    let rows: [(&[u8], &[u8]); 16] = [
+    let rows: [(&[u8], &[u8]); 24] = [
         (b"[sc0]AAAA\n", b"ok 1\n"),
         (b"[sc0]AAAAA\n", b"error 5 9\n"),
         (b"A[sc4]A\n", b"ok 1\n"),
@@ -201,6 +201,14 @@ fn the_sample_sign_judges_spacings_groups_and_rectangles(rt: HostRuntime) {
         (b"[flt5o5]A[/fl]\n", b"ok 1\n"),
         (b"[pt10o5]A[np]A\n", b"ok 2\n"),
         (b"[cf3]A[pb1]\n", b"ok 1\n"),
+        (b"[pb1][cf3]A\n", b"ok 1\n"),
+        (b"[cf3]A\n", b"ok 1\n"),
+        (b"[flo5t5]A\n", b"ok 1\n"),
+        (b"[flt0o0]A\n", b"ok 1\n"),
+        (b"[pt0o0]A[np]A\n", b"ok 2\n"),
+        (b"[pt0o5]A[np]A\n", b"ok 2\n"),
+        (b"A[np]A[pt10]\n", b"ok 2\n"),
+        (b"[/sc][/fl]\n", b"ok 1\n"),
     ];
     for (input, want) in rows {
         let (output, result) = check(rt.alloc(), input);
@@ -235,6 +243,16 @@ fn a_line_has_a_greatest_length(rt: HostRuntime) -> Result<(), Fail> {
         );
         assert!(rt; result == end, "the end at {letters} and {line_end:?}");
     }
+    Ok(())
+}
+
+#[test]
+fn a_long_line_of_brackets_is_refused_where_it_no_longer_fits(rt: HostRuntime) -> Result<(), Fail> {
+    let mut input = vec![in rt.alloc(); b'['; 4_096]?;
+    input.push(b'\n')?;
+    let (output, result) = check(rt.alloc(), &input);
+    assert!(rt; output.as_slice() == b"error 5 8\n".as_slice());
+    assert!(rt; result == Ok(()));
     Ok(())
 }
 
