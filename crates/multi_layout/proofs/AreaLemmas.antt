@@ -41,7 +41,7 @@ spots_within sign defaults = push_ind (λ items. All (InAreas (count_by begins_a
         (subst (λ k. All (InAreas k) (cons_option (spot_at defaults (standing sign defaults items) x) [])) (at_area sign defaults items) (spot_area (standing sign defaults items) (put_at defaults (standing sign defaults items) x))) in
         subst (All (InAreas m)) (sym (spots_push sign defaults items x)) (All-append (InAreas m) (spots sign defaults items) (cons_option (spot_at defaults (standing sign defaults items) x) []) old new)
 
-filter_none : {X : Type 0} (p : X → Bool) (xs : List X) → All (λ x. p x ≡ false) xs → filter p xs ≡ []
+pub filter_none : {X : Type 0} (p : X → Bool) (xs : List X) → All (λ x. p x ≡ false) xs → filter p xs ≡ []
 filter_none p [] h = refl
 filter_none p (x ∷ xs) h = ap (λ b. cond b (x ∷ filter p xs) (filter p xs)) (All-head (λ x. p x ≡ false) x xs h) ∙ filter_none p xs (All-tail (λ x. p x ≡ false) x xs h)
 

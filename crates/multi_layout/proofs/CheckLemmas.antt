@@ -1,7 +1,7 @@
 -- What code that checks and draws needs besides: tests by a running maximum, prefixes, and parts inside a length.
-use Rattle.std.proofs.Common.{◌≡◌, ℕ, ◌+◌, ◌≤◌, max, Bool, true, false, ◌||◌, List, [], ◌∷◌, ◌++◌, Option, Some, None, refl, sym, ap, subst, ◌∙◌, arith}
+use Rattle.std.proofs.Common.{◌≡◌, ℕ, ◌+◌, ◌≤◌, max, Bool, true, false, ◌||◌, List, [], ◌∷◌, ◌++◌, Option, None, refl, sym, ap, subst, ◌∙◌, arith}
 use Rattle.std.specs.Prelude.{nat_lt}
-use Rattle.std.specs.List.{cons_option, list_any}
+use Rattle.std.specs.List.{list_any}
 use Rattle.std.proofs.lemmas.List.{append_assoc, append-nil}
 use Rattle.std.proofs.lemmas.List.Folds.{list_any-append}
 use Rattle.std.proofs.lemmas.Bool.Decides.{nat_tests}
@@ -10,7 +10,7 @@ use Rattle.multi_layout.specs.Address.{Spot}
 use Rattle.multi_layout.specs.Fit.{fit}
 use Rattle.multi_layout.specs.Place.{start}
 use Rattle.multi_layout.specs.Offence.{goes_back}
-use Rattle.multi_layout.proofs.WordLemmas.{some_after-append, largest_push, extent_push, push_ind}
+use Rattle.multi_layout.proofs.WordLemmas.{none_of, right_nil, some_after-append, largest_push, extent_push, push_ind}
 
 -- a test of each item against a number is one of the largest
 lt_max : (n a b : ℕ) → (nat_lt n a || nat_lt n b) ≡ nat_lt n (max a b)
@@ -46,17 +46,6 @@ extent-append-le size gap (y ∷ ys) xs =
     subst (λ l. extent size gap xs ≤ extent size gap l) (append_assoc xs (y ∷ []) ys) (omega (arith, extent_push size gap xs y, more))
 
 -- of an accepted list no item offends after those before it
-cons_nil : {X : Type 0} (x : X) (xs : List X) → x ∷ xs ≡ [] → ⊥
-cons_nil x xs e = cc
-
-none_of : {X : Type 0} (o : Option X) (xs : List X) → cons_option o xs ≡ [] → o ≡ None
-none_of None xs e = refl
-none_of (Some x) xs e = absurd (cons_nil x xs e)
-
-right_nil : {X : Type 0} (xs ys : List X) → xs ++ ys ≡ [] → ys ≡ []
-right_nil [] ys e = e
-right_nil (x ∷ xs) ys e = absurd (cons_nil x (xs ++ ys) e)
-
 pub none_offends : {X Y : Type 0} (f : List X → X → Option Y) (xs : List X) (x : X) (ys : List X) → some_after f (xs ++ x ∷ ys) ≡ [] → f xs x ≡ None
 none_offends f xs x ys e =
     let all = sym (some_after-append f xs (x ∷ ys)) ∙ e in

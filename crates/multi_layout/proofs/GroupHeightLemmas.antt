@@ -1,5 +1,5 @@
 -- The sums of a group after one more `nl`, and the height of a group from its sums.
-use Rattle.std.proofs.Common.{◌≡◌, ℕ, ◌+◌, Bool, true, false, cond, ◌||◌, List, [], ◌∷◌, ◌++◌, Option, Some, None, refl, sym, ap, ◌∙◌}
+use Rattle.std.proofs.Common.{◌≡◌, ℕ, ◌+◌, Bool, true, false, cond, ◌||◌, List, [], ◌∷◌, ◌++◌, length, Option, Some, None, refl, sym, ap, ◌∙◌, arith, length-append}
 use Rattle.std.specs.List.{last_or, list_any, All, AllPass}
 use Rattle.std.specs.Option.{unwrap_or, option_map, option_map_or}
 use Rattle.std.proofs.lemmas.Bool.{false≢true}
@@ -25,7 +25,7 @@ module _ (just : ℕ) (area : List Spot) (s : Spot) (given : Option ℕ) (info :
   pub group_break : (group : Group) (line : Line) (gap height spacing : ℕ) → group ≡ group_sum (in_group just area) → line ≡ line_sum []
       → gap ≡ option_map_or (λ ended. unwrap_or ended.gap (average ended.spacing spacing)) group.last 0
       → height ≡ cond group.line.any group.line.height info.height → spacing ≡ cond group.line.any group.line.spacing info.line_spacing
-      → ◌≡◌ {A = Group} (record { closed = group.closed + gap + height; last = Some (record { gap = given; spacing = spacing }); line = line }) (group_sum (in_group just (area ++ s ∷ [])))
+      → ◌≡◌ {A = Group} (record { ended = group.ended + 1; closed = group.closed + gap + height; last = Some (record { gap = given; spacing = spacing }); line = line }) (group_sum (in_group just (area ++ s ∷ [])))
   group_break group line gap height spacing e l g h n =
       let before = in_group just area in
       let c = cut is_break before in
@@ -48,17 +48,18 @@ module _ (just : ℕ) (area : List Spot) (s : Spot) (given : Option ℕ) (info :
       ap (ended given) spaced
       ∙ ap (λ o. ended o (line_spacing more)) (sym (gap_of_break c.open' s given glyphs is.put))
       ∙ ap (option_map ended_sum) (sym (last_or_push None c.closed more)) in
-      same_group (group.closed + gap + height) (height_of (c.closed ++ more ∷ [])) (ended given spacing) (option_map ended_sum (last_or None (c.closed ++ more ∷ []))) line (line_sum []) total last l
+      let counted : group.ended + 1 ≡ length (c.closed ++ more ∷ []) = omega (arith, ap (λ (g : Group). g.ended) from, length-append c.closed (more ∷ [])) in
+      same_group (group.ended + 1) (length (c.closed ++ more ∷ [])) (group.closed + gap + height) (height_of (c.closed ++ more ∷ [])) (ended given spacing) (option_map ended_sum (last_or None (c.closed ++ more ∷ []))) line (line_sum []) counted total last l
       ∙ sym (sums_push before s true is_nl)
       ∙ ap group_sum (sym (own_group just area s own))
 
 -- THE HEIGHT OF A GROUP
 
-part_none : (line : List Spot) → AllPass is_glyph line → list_any is_glyph line ≡ false → part is_break line ≡ []
+pub part_none : (line : List Spot) → AllPass is_glyph line → list_any is_glyph line ≡ false → part is_break line ≡ []
 part_none [] h n = refl
 part_none (s ∷ line) h n = absurd (false≢true (sym n ∙ ap (λ b. b || list_any is_glyph line) (All-head (λ x. is_glyph x ≡ true) s line h)))
 
-part_some : (line : List Spot) → list_any is_glyph line ≡ true → part is_break line ≡ line ∷ []
+pub part_some : (line : List Spot) → list_any is_glyph line ≡ true → part is_break line ≡ line ∷ []
 part_some [] h = absurd (false≢true h)
 part_some (s ∷ line) h = refl
 

@@ -1,5 +1,5 @@
 -- The sums of a group after one more placing item, and its height.
-use Rattle.std.proofs.Common.{◌≡◌, ℕ, ◌+◌, max, Bool, true, false, cond, ◌||◌, ◌==◌, List, [], ◌∷◌, ◌++◌, Option, Some, None, refl, sym, ap, subst, ◌∙◌, arith}
+use Rattle.std.proofs.Common.{◌≡◌, ℕ, ◌+◌, max, Bool, true, false, cond, ◌||◌, ◌==◌, List, [], ◌∷◌, ◌++◌, length, Option, Some, None, refl, sym, ap, subst, ◌∙◌, arith}
 use Rattle.std.specs.List.{filter_map, last_or, list_any, after_last, cons_option, All, AllPass}
 use Rattle.std.specs.Option.{unwrap_or, option_map, option_map_or}
 use Rattle.std.proofs.lemmas.Bool.{eq-eqb, false≢true}
@@ -19,7 +19,7 @@ use Rattle.multi_layout.proofs.LineSumLemmas.{filter_yes}
 
 -- THE KINDS OF ITEMS
 
-glyph_put : (at : Standing) (p : Put) → is_glyph (record { at = at; put = p }) ≡ true → (is_break (record { at = at; put = p }) ≡ false) × (given_gap (record { at = at; put = p }) ≡ None)
+pub glyph_put : (at : Standing) (p : Put) → is_glyph (record { at = at; put = p }) ≡ true → (is_break (record { at = at; put = p }) ≡ false) × (given_gap (record { at = at; put = p }) ≡ None)
 glyph_put at (Glyph cell) e = (refl, refl)
 glyph_put at (Break gap) e = absurd (false≢true e)
 glyph_put at (Cover page colour) e = absurd (false≢true e)
@@ -60,7 +60,7 @@ largest_break f (t ∷ line) s h n =
 -- THE SUMS FROM THE CUT GROUP
 
 abbrev pub sums : List (List Spot) → List Spot → Group
-sums closed open' = record { closed = height_of closed; last = option_map ended_sum (last_or None closed); line = line_sum open' }
+sums closed open' = record { ended = length closed; closed = height_of closed; last = option_map ended_sum (last_or None closed); line = line_sum open' }
 
 abbrev pub cut_sums : Cut Spot → Group
 cut_sums c = sums c.closed c.open'
@@ -94,12 +94,12 @@ present_push group s g =
 
 -- a group after one more character
 pub group_character : (just : ℕ) (area : List Spot) (s : Spot) → s.at.page_just ≡ just → is_glyph s ≡ true → (group : Group) (line : Line) → group ≡ group_sum (in_group just area) → line ≡ line_sum (after_last is_break (in_group just area) ++ s ∷ [])
-    → ◌≡◌ {A = Group} (record { closed = group.closed; last = group.last; line = line }) (group_sum (in_group just (area ++ s ∷ [])))
+    → ◌≡◌ {A = Group} (record { ended = group.ended; closed = group.closed; last = group.last; line = line }) (group_sum (in_group just (area ++ s ∷ [])))
 group_character just area s own g group line e l =
     let before = in_group just area in
     let c = cut is_break before in
-    ap (λ (group : Group). record { closed = group.closed; last = group.last; line = line }) (e ∙ sums_are before)
-    ∙ ap (λ (line : Line). record { closed = (cut_sums c).closed; last = (cut_sums c).last; line = line }) (l ∙ ap (λ l. line_sum (l ++ s ∷ [])) (after_last_is is_break before))
+    ap (λ (group : Group). record { ended = group.ended; closed = group.closed; last = group.last; line = line }) (e ∙ sums_are before)
+    ∙ ap (λ (line : Line). record { ended = (cut_sums c).ended; closed = (cut_sums c).closed; last = (cut_sums c).last; line = line }) (l ∙ ap (λ l. line_sum (l ++ s ∷ [])) (after_last_is is_break before))
     ∙ sym (sums_push before s false (glyph_put s.at s.put g).0)
     ∙ ap group_sum (sym (own_group just area s own))
 
@@ -108,8 +108,8 @@ gap_if : (o : Option (List Spot)) (line : List Spot) → option_map_or (λ ended
 gap_if None line = refl
 gap_if (Some l) line = refl
 
-pub same_group : (n m : ℕ) (o p : Option Ended) (l k : Line) → n ≡ m → o ≡ p → l ≡ k → ◌≡◌ {A = Group} (record { closed = n; last = o; line = l }) (record { closed = m; last = p; line = k })
-same_group n m o p l k d e f = rw (d, e, f) refl
+pub same_group : (a b n m : ℕ) (o p : Option Ended) (l k : Line) → a ≡ b → n ≡ m → o ≡ p → l ≡ k → ◌≡◌ {A = Group} (record { ended = a; closed = n; last = o; line = l }) (record { ended = b; closed = m; last = p; line = k })
+same_group a b n m o p l k c d e f = rw (c, d, e, f) refl
 
 -- the height of the ended lines and one more, from the sums
 pub more_height : (closed : List (List Spot)) (line : List Spot) (group : Group) (gap height spacing : ℕ) → group.closed ≡ height_of closed → group.last ≡ option_map ended_sum (last_or None closed)

@@ -1,29 +1,30 @@
 -- The state of the items read so far, at one more item.
-use Rattle.std.proofs.Common.{◌≡◌, ℕ, ◌+◌, ◌*◌, ◌^◌, ◌<◌, ◌≤◌, Bool, true, false, cond, not, ◌⊎◌, inl, inr, List, [], ◌∷◌, ◌++◌, length, Option, Some, None, refl, sym, ap, ◌∙◌, subst, arith, append-nil}
+use Rattle.std.proofs.Common.{◌≡◌, ℕ, ◌+◌, ◌*◌, ◌^◌, ◌≤◌, Bool, true, false, cond, inl, inr, List, [], ◌∷◌, ◌++◌, length, Option, Some, None, refl, sym, ap, ◌∙◌, subst, arith, append-nil}
 use Rattle.std.specs.Prelude.{nat_lt, ◌==◌}
-use Rattle.std.specs.List.{count_by, cons_option, sum_by, find}
+use Rattle.std.specs.List.{count_by, cons_option, find}
 use Rattle.std.specs.Option.{option_map, option_and_then, unwrap_or}
 use Rattle.std.proofs.lemmas.Bool.{cases_Bool, eqb-true}
 use Rattle.std.proofs.lemmas.Option.{same_Some}
 use Rattle.std.proofs.lemmas.List.{length-append}
 use Rattle.std.proofs.lemmas.List.Sums.{sum_by_push, sum_by-append}
-use Rattle.multi_tag.specs.declared.tag.Tag.TheVariants.{NewPage, NewLine, Font, Back, Rect}
+use Rattle.multi_tag.specs.declared.tag.Tag.TheVariants.{NewPage, NewLine, Back, Rect}
 use Rattle.sign_font.specs.declared.parts.Defaults.{Defaults}
 use Rattle.sign_font.specs.Cell.{SizedCell}
 use Rattle.sign_font.specs.Sign.{SignData, CellData, FontData, cell_in, cell_numbered, font_numbered, info_of, sized}
 use Rattle.sign_font.specs.declared.font.FontInfo.{FontInfo}
 use Rattle.sign_font.specs.Sound.{IsSound}
-use Rattle.multi_layout.specs.Attributes.{default_font}
+use Rattle.multi_layout.specs.Attributes.{default_font, whole_sign}
 use Rattle.multi_layout.specs.declared.area.Area.{Area}
 use Rattle.multi_layout.specs.declared.area.Group.{Group}
 use Rattle.multi_layout.specs.declared.line.Line.{Line}
+use Rattle.multi_layout.specs.declared.line.Segment.{Segment}
 use Rattle.multi_layout.specs.declared.attributes.Attributes.{Attributes}
 use Rattle.multi_layout.specs.declared.state.State.{State}
 use Rattle.multi_layout.specs.Address.{Break, Cover, Glyph, Spot, Standing, put_at, spots, standing}
-use Rattle.multi_layout.specs.Meaning.{Meaning, Shows, Does, Faulty, begins_area, is_new_page}
+use Rattle.multi_layout.specs.Meaning.{Meaning, Shows, Does, begins_area, is_new_page}
 use Rattle.multi_layout.specs.Offence.{conflicts, offence, too_big}
 use Rattle.multi_layout.specs.State.{IsReady, IsStateOf, attributes_of, ended_times, present_area, standing_behind}
-use Rattle.multi_layout.specs.Sums.{IsBelow, IsGroupBelow, IsLineBelow, area_sum}
+use Rattle.multi_layout.specs.Sums.{IsBelow, IsGroupBelow, IsLineBelow, IsSegmentBelow, area_sum}
 use Rattle.multi_layout.specs.Times.{Times, cycle, times_at}
 use Rattle.multi_layout.specs.Verdict.{pages_of}
 use Rattle.multi_layout.proofs.OffenceLemmas.{offence-undefined, offence-character, offence-break, offence-page, offence-rectangle}
@@ -43,12 +44,12 @@ ended_times-push sign defaults items x = some_after_push (λ before item. cond (
 cycle-append : (a b : List Times) → cycle (a ++ b) ≡ cycle a + cycle b
 cycle-append a b = sum_by-append (λ (t : Times). t.on + t.off) a b
 
-cycle-stays : (sign : SignData) (defaults : Defaults) (items : List Meaning) (x : Meaning) → is_new_page x ≡ false → cycle (ended_times sign defaults (items ++ x ∷ [])) ≡ cycle (ended_times sign defaults items)
+pub cycle-stays : (sign : SignData) (defaults : Defaults) (items : List Meaning) (x : Meaning) → is_new_page x ≡ false → cycle (ended_times sign defaults (items ++ x ∷ [])) ≡ cycle (ended_times sign defaults items)
 cycle-stays sign defaults items x same =
     let old = ended_times sign defaults items in
     ap cycle (ended_times-push sign defaults items x ∙ ap (λ b. old ++ cons_option (cond b (Some (times_at (standing sign defaults items))) None) []) same ∙ append-nil old)
 
-cycle-grows : (sign : SignData) (defaults : Defaults) (items : List Meaning) (x : Meaning) → is_new_page x ≡ true
+pub cycle-grows : (sign : SignData) (defaults : Defaults) (items : List Meaning) (x : Meaning) → is_new_page x ≡ true
     → cycle (ended_times sign defaults (items ++ x ∷ [])) ≡ cycle (ended_times sign defaults items) + ((standing sign defaults items).on + (standing sign defaults items).off)
 cycle-grows sign defaults items x new =
     let old = ended_times sign defaults items in
@@ -76,7 +77,7 @@ pub found_again : (sign : SignData) (n : ℕ) (font : FontData) → font_numbere
 found_again sign n font e = ap (font_numbered sign) (found_number sign.fonts n font e) ∙ e
 
 -- the cell of the font in force
-cell_of_font : (sign : SignData) (font : FontData) (number : ℕ) → font_numbered sign font.number ≡ Some font → cell_in sign font.number number ≡ option_map (sized font) (cell_numbered font number)
+pub cell_of_font : (sign : SignData) (font : FontData) (number : ℕ) → font_numbered sign font.number ≡ Some font → cell_in sign font.number number ≡ option_map (sized font) (cell_numbered font number)
 cell_of_font sign font number e = ap (option_and_then (λ f. option_map (sized f) (cell_numbered f number))) e
 
 none_mapped : (font : FontData) (o : Option CellData) → option_map (sized font) o ≡ None → o ≡ None
@@ -89,11 +90,19 @@ some_mapped font (Some cell) c e = (cell, refl, ap (λ (z : SizedCell). z.width)
 
 -- ---- bounds
 
+segment_more : (k m : ℕ) (segment : Segment) → k ≤ m → IsSegmentBelow k segment → IsSegmentBelow m segment
+segment_more k m segment h b = record { width = omega (arith, b.width); count = omega (arith, b.count) }
+
 line_more : (k m : ℕ) (line : Line) → k ≤ m → IsLineBelow k line → IsLineBelow m line
-line_more k m line h b = record { left = omega (arith, b.left); centre = omega (arith, b.centre); right = omega (arith, b.right); full = omega (arith, b.full) }
+line_more k m line h b = record {
+  left = segment_more k m line.left h b.left;
+  centre = segment_more k m line.centre h b.centre;
+  right = segment_more k m line.right h b.right;
+  full = segment_more k m line.full h b.full;
+}
 
 group_more : (k m : ℕ) (group : Group) → k ≤ m → IsGroupBelow k group → IsGroupBelow m group
-group_more k m group h b = record { closed = omega (arith, b.closed); line = line_more k m group.line h b.line }
+group_more k m group h b = record { ended = omega (arith, b.ended); closed = omega (arith, b.closed); line = line_more k m group.line h b.line }
 
 -- what is below a bound is below a larger one
 pub below_more : (k m : ℕ) (area : Area) → k ≤ m → IsBelow k area → IsBelow m area
@@ -219,7 +228,7 @@ module _ (sign : SignData) (defaults : Defaults) (items : List Meaning) (state :
 
   -- a new page: the times of the one before are ended, and the whole sign and an empty area begin
   pub state-page : (new : State) → new.pages ≡ state.pages + 1 → new.cycle ≡ state.cycle + (state.attributes.on + state.attributes.off)
-      → new.attributes ≡ record state.attributes { width = sign.width; height = sign.height } → new.area ≡ area_sum [] → IsBelow 0 new.area
+      → new.attributes ≡ record state.attributes { rectangle = whole_sign sign } → new.area ≡ area_sum [] → IsBelow 0 new.area
       → state.attributes.on ≤ 255 → state.attributes.off ≤ 255
       → IsStateOf sign defaults (items ++ Does NewPage ∷ []) new
   state-page new pages times attributes area below on_bound off_bound =
@@ -230,7 +239,7 @@ module _ (sign : SignData) (defaults : Defaults) (items : List Meaning) (state :
       let line : new.attributes.line_just ≡ state.attributes.line_just = ap (λ (a : Attributes). a.line_just) attributes in
       let page : new.attributes.page_just ≡ state.attributes.page_just = ap (λ (a : Attributes). a.page_just) attributes in
       let whole : new.attributes ≡ attributes_of (standing_behind sign defaults (standing sign defaults items) x) =
-      attributes ∙ ap (λ (a : Attributes). let b : Attributes = record a { width = sign.width; height = sign.height } in b) st.attributes in
+      attributes ∙ ap (λ (a : Attributes). let b : Attributes = record a { rectangle = whole_sign sign } in b) st.attributes in
       record {
         pages = omega (arith, pages, st.pages, pages_of-push items x);
         times = omega (arith, times, st.times, on, off, cycle-grows sign defaults items x refl);
@@ -262,10 +271,12 @@ pub state-start : (sign : SignData) (info : FontInfo) (area : Area) → IsSound 
         line_just = sign.defaults.line;
         page_just = sign.defaults.page;
         spacing = None;
+        fore = sign.defaults.fore;
+        back = sign.defaults.back;
         on = sign.defaults.page_on;
         off = sign.defaults.page_off;
-        width = sign.width;
-        height = sign.height;
+        flash = None;
+        rectangle = whole_sign sign;
       };
       area = area;
     })
@@ -282,10 +293,12 @@ state-start sign info area sound is sum below =
         line_just = sign.defaults.line;
         page_just = sign.defaults.page;
         spacing = None;
+        fore = sign.defaults.fore;
+        back = sign.defaults.back;
         on = sign.defaults.page_on;
         off = sign.defaults.page_off;
-        width = sign.width;
-        height = sign.height;
+        flash = None;
+        rectangle = whole_sign sign;
       };
       area = sum;
       font = subst (λ (f : FontData). font_numbered sign f.number ≡ Some f) (sym default) (found_again sign sign.defaults.font font found);
@@ -306,7 +319,7 @@ ready sign defaults items state st few = record {
 
 -- a `pb`, which covers the page and places nothing
 pub state-cover : (sign : SignData) (defaults : Defaults) (items : List Meaning) (state : State) (attributes : Attributes) (colour : Option ℕ) → IsStateOf sign defaults items state
-    → attributes ≡ attributes_of (standing sign defaults items)
+    → attributes ≡ attributes_of (standing_behind sign defaults (standing sign defaults items) (Does (Back colour)))
     → (2 ≤ attributes.line_just) × (attributes.line_just ≤ 5) → (2 ≤ attributes.page_just) × (attributes.page_just ≤ 4)
     → IsBelow (1024 * length items + 1024) state.area
     → IsStateOf sign defaults (items ++ Does (Back colour) ∷ []) (record state { attributes = attributes })

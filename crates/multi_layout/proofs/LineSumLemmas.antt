@@ -1,5 +1,5 @@
 -- The sums of a line after one more character.
-use Rattle.std.proofs.Common.{◌≡◌, ℕ, ◌+◌, max, Bool, true, false, cond, ◌&&◌, ◌||◌, ◌==◌, List, [], ◌∷◌, ◌++◌, Option, Some, None, refl, sym, ap, ◌∙◌}
+use Rattle.std.proofs.Common.{◌≡◌, ℕ, ◌+◌, max, Bool, true, false, cond, ◌&&◌, ◌||◌, ◌==◌, List, [], ◌∷◌, ◌++◌, length, Option, Some, None, refl, sym, ap, ◌∙◌, arith, length-append}
 use Rattle.std.specs.Prelude.{nat_lt}
 use Rattle.std.specs.List.{filter, last_or, list_any, AllPass}
 use Rattle.std.specs.Option.{unwrap_or, option_map, option_map_or}
@@ -28,8 +28,8 @@ gap_if : (o : Option Spot) (s : Spot) → option_map_or (λ earlier. unwrap_or s
 gap_if None s = refl
 gap_if (Some t) s = refl
 
-same_segment : (w v : ℕ) (o p : Option ℕ) → w ≡ v → o ≡ p → ◌≡◌ {A = Segment} (record { width = w; last = o }) (record { width = v; last = p })
-same_segment w v o p e f = rw (e, f) refl
+same_segment : (w v n m : ℕ) (o p : Option ℕ) → w ≡ v → n ≡ m → o ≡ p → ◌≡◌ {A = Segment} (record { width = w; count = n; last = o }) (record { width = v; count = m; last = p })
+same_segment w v n m o p e c f = rw (e, c, f) refl
 
 passes : (s : Spot) (just : ℕ) → is_glyph s ≡ true → s.at.line_just ≡ just → (is_glyph s && (s.at.line_just == just)) ≡ true
 passes s just g e = ap (λ b. b && (s.at.line_just == just)) g ∙ eq-eqb s.at.line_just just e
@@ -37,7 +37,7 @@ passes s just g e = ap (λ b. b && (s.at.line_just == just)) g ∙ eq-eqb s.at.l
 -- a segment after one more character of its own
 module _ (just : ℕ) (line : List Spot) (s : Spot) (c : Character) (is : IsCharacter s c) (own : c.just ≡ just) where
   pub segment_own : (seg : Segment) (gap width : ℕ) → seg ≡ segment_sum just line → gap ≡ option_map_or (λ earlier. unwrap_or c.spacing (average earlier c.font.char_spacing)) seg.last 0 → width ≡ c.width
-      → ◌≡◌ {A = Segment} (record { width = seg.width + gap + width; last = Some c.font.char_spacing }) (segment_sum just (line ++ s ∷ []))
+      → ◌≡◌ {A = Segment} (record { width = seg.width + gap + width; count = seg.count + 1; last = Some c.font.char_spacing }) (segment_sum just (line ++ s ∷ []))
   segment_own seg gap width e g w =
       let own_part = segment just line in
       let more : segment just (line ++ s ∷ []) ≡ own_part ++ s ∷ [] = filter_yes (λ t. is_glyph t && (t.at.line_just == just)) line s (passes s just is.glyph (sym is.just ∙ own)) in
@@ -57,7 +57,8 @@ module _ (just : ℕ) (line : List Spot) (s : Spot) (c : Character) (is : IsChar
       ap Some spaced
       ∙ ap (option_map (λ (t : Spot). t.at.font.char_spacing)) (sym (last_or_push None own_part s))
       ∙ ap (λ l. option_map (λ (t : Spot). t.at.font.char_spacing) (last_or None l)) (sym more) in
-      same_segment (seg.width + gap + width) (width_of (segment just (line ++ s ∷ []))) (Some c.font.char_spacing) (option_map (λ (t : Spot). t.at.font.char_spacing) (last_or None (segment just (line ++ s ∷ [])))) wide last
+      let counted : seg.count + 1 ≡ length (segment just (line ++ s ∷ [])) = omega (arith, ap (λ (seg : Segment). seg.count) e, ap length more, length-append own_part (s ∷ [])) in
+      same_segment (seg.width + gap + width) (width_of (segment just (line ++ s ∷ []))) (seg.count + 1) (length (segment just (line ++ s ∷ []))) (Some c.font.char_spacing) (option_map (λ (t : Spot). t.at.font.char_spacing) (last_or None (segment just (line ++ s ∷ [])))) wide counted last
 
 -- the largest number of a line of characters, after one more
 largest_glyph : (f : Spot → ℕ) (line : List Spot) (s : Spot) → AllPass is_glyph line → is_glyph s ≡ true → largest f (bearers (line ++ s ∷ [])) ≡ max (largest f (bearers line)) (f s)

@@ -1,16 +1,16 @@
 -- What a token's item means, from what its tag was read as.
-use Rattle.std.proofs.Common.{◌≡◌, ℕ, ◌≤◌, List, Option, Some, None, Result, Ok, Err, refl, sym, ap, ◌∙◌, subst}
+use Rattle.std.proofs.Common.{◌≡◌, ℕ, List, Some, None, Result, refl, ap, ◌∙◌}
 use Rattle.multi_token.specs.declared.token.Token.{Token}
 use Rattle.multi_token.specs.declared.token.Kind.TheVariants as kinds
 use Rattle.multi_token.specs.Spelling as items
 use Rattle.multi_token.specs.Tokens.{body_of, item_of}
-use Rattle.multi_tag.specs.Body.{HasName, Spells}
+use Rattle.multi_tag.specs.Body.{Spells}
 use Rattle.multi_tag.specs.declared.tag.Tag.{Tag}
 use Rattle.multi_tag.specs.declared.tag.Tag.TheVariants.{NewPage, NewLine, LineJust, PageJust, Font, CharSpacing, CharSpacingEnd, PageTime, Flash, FlashEnd, Fore, Back, Rect}
 use Rattle.multi_tag.specs.declared.tag.TagFault.{TagFault}
 use Rattle.multi_tag.specs.TagOf.{tag_of}
 use Rattle.multi_tag.proofs.TagOfLemmas.{line_just_known, page_just_known}
-use Rattle.multi_layout.specs.Meaning.{Does, meaning, meaning_of_tag}
+use Rattle.multi_layout.specs.Meaning.{meaning, meaning_of_tag}
 use Rattle.multi_layout.specs.State.{IsKnown}
 
 -- a tag that is read gives a known justification

@@ -10,7 +10,7 @@ use Rattle.sign_font.specs.Sign.{SignData, CellData, FontData, cell_numbered, fo
 use Rattle.multi_layout.specs.Attributes.{is_inside}
 use Rattle.multi_layout.specs.Address.{Break, Glyph, Spot, spots, standing}
 use Rattle.multi_layout.specs.Meaning.{Meaning, Shows, Does, Faulty, is_new_page}
-use Rattle.multi_layout.specs.Offence.{character_cases, conflicts, first_code, font_cases, offence, placing_cases, too_big}
+use Rattle.multi_layout.specs.Offence.{character_cases, conflicts, first_code, font_cases, offence, too_big}
 
 one_case : (a : Bool) (n : ℕ) → first_code ((a, n) ∷ []) ≡ cond a (Some n) None
 one_case true n = refl

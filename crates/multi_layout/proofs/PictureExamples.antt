@@ -10,7 +10,9 @@ use Rattle.multi_layout.specs.Meaning.{Meaning, meaning}
 use Rattle.multi_layout.specs.Address.{spots, standing}
 use Rattle.multi_layout.specs.Place.{place_of}
 use Rattle.multi_layout.specs.Picture.{things, colour_of, shown_colour}
-use Rattle.multi_layout.specs.Times.{ShownAt, Page, Off, shown_at, page_times}
+use Rattle.multi_layout.specs.declared.times.Shown.{Shown}
+use Rattle.multi_layout.specs.declared.times.Shown.TheVariants.{Page, Off}
+use Rattle.multi_layout.specs.Times.{shown_at, shown_within, page_times}
 use Rattle.multi_layout.specs.Limits.{frame_limit}
 
 abbrev sample_classic : SignData
@@ -69,8 +71,8 @@ a_background_stays_in_force_on_the_next_page : map (λ page. lit sample_classic 
 unfolding lit
 a_background_stays_in_force_on_the_next_page = refl
 
-unfoldable shown : List ℕ → ℕ → ShownAt
-unfolding items_of shown_at page_times standing
+unfoldable shown : List ℕ → ℕ → Shown
+unfolding items_of shown_at shown_within page_times standing
 shown octets clock = shown_at (page_times sample sample.defaults (items_of octets)) clock
 
 pages_and_their_off_times : map (shown (codes "[pt10o5]A[np]A")) (9 ∷ 10 ∷ 15 ∷ 29 ∷ 30 ∷ []) ≡ Page 0 9 ∷ Off ∷ Page 1 0 ∷ Off ∷ Page 0 0 ∷ []

@@ -5,7 +5,8 @@ use Rattle.multi_tag.specs.TagOf.{tag_of}
 use Rattle.sign_font.specs.Sample.{sample}
 use Rattle.multi_layout.specs.Meaning.{meaning}
 use Rattle.multi_layout.specs.Address.{spots, standing}
-use Rattle.multi_layout.specs.Place.{Place, place_of, places}
+use Rattle.multi_layout.specs.declared.place.Place.{Place}
+use Rattle.multi_layout.specs.Place.{place_of, places}
 
 unfoldable placed : List ℕ → List Place
 unfolding places place_of spots standing reading read_items read_item tag_of

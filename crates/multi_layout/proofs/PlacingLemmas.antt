@@ -1,21 +1,18 @@
 -- What a placing item makes of the state, from what the sums of the present area answer.
-use Rattle.std.proofs.Common.{◌≡◌, ℕ, ◌+◌, ◌*◌, Bool, true, false, cond, not, ◌||◌, ◌&&◌, ◌==◌, ◌⊎◌, inl, inr, List, [], ◌∷◌, ◌++◌, length, Option, Some, None, refl, sym, ap, ◌∙◌, subst}
-use Rattle.std.specs.List.{All, filter}
-use Rattle.std.proofs.lemmas.Bool.{cases_Bool}
-use Rattle.std.proofs.lemmas.List.Elements.{All-nil, All-cons}
+use Rattle.std.proofs.Common.{◌≡◌, ℕ, ◌+◌, ◌*◌, Bool, true, false, not, List, [], ◌∷◌, ◌++◌, length, Option, Some, None, refl, sym, ap, ◌∙◌}
+use Rattle.std.specs.List.{All}
 use Rattle.multi_tag.specs.declared.tag.Tag.TheVariants.{NewLine}
 use Rattle.sign_font.specs.declared.parts.Defaults.{Defaults}
-use Rattle.sign_font.specs.declared.font.FontInfo.{FontInfo}
 use Rattle.sign_font.specs.Cell.{SizedCell}
 use Rattle.sign_font.specs.Sign.{SignData, cell_in, info_of}
 use Rattle.multi_layout.specs.declared.area.Area.{Area}
 use Rattle.multi_layout.specs.declared.attributes.Attributes.{Attributes}
 use Rattle.multi_layout.specs.declared.line.Character.{Character}
 use Rattle.multi_layout.specs.declared.state.State.{State}
-use Rattle.multi_layout.specs.Address.{Break, Glyph, Put, Spot, Standing, area_of, is_break, is_glyph, spots, standing}
+use Rattle.multi_layout.specs.Address.{Break, Glyph, Spot, area_of, is_break, is_glyph, spots, standing}
 use Rattle.multi_layout.specs.Meaning.{Meaning, Shows, Does}
 use Rattle.multi_layout.specs.Offence.{conflicts, offence, too_big}
-use Rattle.multi_layout.specs.State.{IsStateOf, attributes_of, in_area, present_area}
+use Rattle.multi_layout.specs.State.{IsStateOf, present_area}
 use Rattle.multi_layout.specs.Sums.{IsBelow, IsBreak, IsCharacter, IsPlacing, area_sum}
 use Rattle.multi_layout.proofs.AreaSumLemmas.{area_placing}
 use Rattle.multi_layout.proofs.JudgedLemmas.{cell_found, character-conflict, character-too_big, character-fits, state-character, break-conflict, break-too_big, break-fits, state-break}
@@ -39,11 +36,11 @@ module _ (sign : SignData) (defaults : Defaults) (items : List Meaning) (state :
   line_is : (standing sign defaults items).line_just ≡ state.attributes.line_just
   line_is = sym (ap (λ (a : Attributes). a.line_just) st.attributes)
 
-  width_is : (standing sign defaults items).rectangle.width ≡ state.attributes.width
-  width_is = sym (ap (λ (a : Attributes). a.width) st.attributes)
+  width_is : (standing sign defaults items).rectangle.width ≡ state.attributes.rectangle.width
+  width_is = sym (ap (λ (a : Attributes). a.rectangle.width) st.attributes)
 
-  height_is : (standing sign defaults items).rectangle.height ≡ state.attributes.height
-  height_is = sym (ap (λ (a : Attributes). a.height) st.attributes)
+  height_is : (standing sign defaults items).rectangle.height ≡ state.attributes.rectangle.height
+  height_is = sym (ap (λ (a : Attributes). a.rectangle.height) st.attributes)
 
   font_is : state.attributes.font ≡ info_of (standing sign defaults items).font
   font_is = ap (λ (a : Attributes). a.font) st.attributes
@@ -59,7 +56,7 @@ module _ (sign : SignData) (defaults : Defaults) (items : List Meaning) (state :
     module _ (character : Character) (area : Area) (just : character.just ≡ state.attributes.line_just) (spacing : character.spacing ≡ state.attributes.spacing) (wide : character.width ≡ c.width) (font : character.font ≡ state.attributes.font)
         (sum : (xs : List Spot) (s : Spot) → All IsPlacing xs → state.area ≡ area_sum xs → IsCharacter s character → s.at.page_just ≡ state.attributes.page_just → area ≡ area_sum (xs ++ s ∷ []))
         (f : Bool)
-        (fits : (before : List Spot) (s : Spot) → is_glyph s ≡ true → area ≡ area_sum (area_of s before ++ s ∷ []) → s.at.page_just ≡ state.attributes.page_just → s.at.rectangle.width ≡ state.attributes.width → s.at.rectangle.height ≡ state.attributes.height → f ≡ not (too_big before s)) where
+        (fits : (before : List Spot) (s : Spot) → is_glyph s ≡ true → area ≡ area_sum (area_of s before ++ s ∷ []) → s.at.page_just ≡ state.attributes.page_just → s.at.rectangle.width ≡ state.attributes.rectangle.width → s.at.rectangle.height ≡ state.attributes.rectangle.height → f ≡ not (too_big before s)) where
       is_character : (cell : Rattle.sign_font.specs.Sign.CellData) → c.width ≡ cell.width → IsCharacter (record { at = standing sign defaults items; put = Glyph cell }) character
       is_character cell width = record {
         glyph = refl;
@@ -102,7 +99,7 @@ module _ (sign : SignData) (defaults : Defaults) (items : List Meaning) (state :
     module _ (area : Area)
         (sum : (xs : List Spot) (s : Spot) → All IsPlacing xs → state.area ≡ area_sum xs → IsBreak s gap state.attributes.font → s.at.page_just ≡ state.attributes.page_just → area ≡ area_sum (xs ++ s ∷ []))
         (f : Bool)
-        (fits : (before : List Spot) (s : Spot) → is_break s ≡ true → area ≡ area_sum (area_of s before ++ s ∷ []) → s.at.rectangle.height ≡ state.attributes.height → f ≡ not (too_big before s)) where
+        (fits : (before : List Spot) (s : Spot) → is_break s ≡ true → area ≡ area_sum (area_of s before ++ s ∷ []) → s.at.rectangle.height ≡ state.attributes.rectangle.height → f ≡ not (too_big before s)) where
       pub break-exit-too_big : r ≡ false → f ≡ false → offence sign defaults items (Does (NewLine gap)) ≡ Some 5
       break-exit-too_big is big =
           let s : Spot = record { at = standing sign defaults items; put = Break gap } in

@@ -1,14 +1,12 @@
 -- The verdict, from the items read so far and their state.
-use Rattle.std.proofs.Common.{◌≡◌, ℕ, ◌+◌, ◌*◌, ◌^◌, ◌<◌, ◌≤◌, List, [], ◌∷◌, ◌++◌, length, drop, map, Option, Some, None, refl, sym, ap, subst, ◌∙◌, arith, append_assoc, append-nil}
-use Rattle.std.specs.List.{All, cons_option, flat_map, sum_by}
-use Rattle.std.specs.Option.{option_map}
+use Rattle.std.proofs.Common.{◌≡◌, ℕ, ◌+◌, ◌^◌, ◌<◌, ◌≤◌, List, [], ◌∷◌, ◌++◌, length, drop, map, Some, None, refl, sym, ap, subst, ◌∙◌, arith, append_assoc, append-nil}
+use Rattle.std.specs.List.{All}
 use Rattle.std.proofs.lemmas.List.{length-append, length-drop, drop_all, map-append}
 use Rattle.std.proofs.lemmas.List.Concat.{flat_map-append}
 use Rattle.std.proofs.lemmas.List.Elements.{All-push, All-nil}
 use Rattle.std.proofs.lemmas.List.Sums.{sum_by-append}
 use Rattle.multi_token.specs.declared.token.Token.{Token}
 use Rattle.multi_token.specs.Spelling.{Item, IsItem, spelling, spell, HasNoItem, IsReading}
-use Rattle.multi_token.specs.Reading.{reading}
 use Rattle.multi_token.specs.Tokens.{IsTokenOf, item_of}
 use Rattle.multi_token.proofs.ReadingLemmas.{none_found, spelling_some}
 use Rattle.sign_font.specs.declared.parts.Defaults.{Defaults}
@@ -20,8 +18,9 @@ use Rattle.multi_layout.specs.Meaning.{meaning}
 use Rattle.multi_layout.specs.Offence.{offence}
 use Rattle.multi_layout.specs.State.{IsReady, IsStateOf, ended_times}
 use Rattle.multi_layout.specs.Times.{Times, cycle, page_times, times_at}
-use Rattle.multi_layout.specs.Verdict.{Accepted, IsCycle, IsVerdict, Refused, broken, fault_at, of_first, offences, pages_of, verdict, verdict_on}
+use Rattle.multi_layout.specs.Verdict.{Accepted, IsCycle, IsVerdict, Refused, broken, of_first, offences, pages_of, verdict, verdict_on}
 use Rattle.multi_layout.proofs.JudgedLemmas.{ready}
+use Rattle.multi_layout.proofs.WalkLemmas.{length-meanings}
 use Rattle.multi_layout.proofs.VerdictLemmas.{offences_push, one_verdict, refusal_stands}
 
 -- the items before an offset, none of which offends, and their state
@@ -40,10 +39,6 @@ nothing_read sign defaults octets state st = record { items = []; each = All-nil
 
 spell_push : (items : List Item) (item : Item) → spell (items ++ item ∷ []) ≡ spell items ++ spelling item
 spell_push items item = flat_map-append spelling items (item ∷ []) ∙ ap (λ l. spell items ++ l) (append-nil (spelling item))
-
-length-meanings : (items : List Item) → length (map meaning items) ≡ length items
-length-meanings [] = refl
-length-meanings (x ∷ items) = ap (λ n. Prim.Native.Nat.suc n) (length-meanings items)
 
 module _ (sign : SignData) (defaults : Defaults) (octets : List ℕ) (at : ℕ) (state : State) (r : ReadSoFar sign defaults octets at state) where
   -- the state is small enough

@@ -1,14 +1,14 @@
 -- The present area at one more item.
-use Rattle.std.proofs.Common.{◌≡◌, ℕ, ◌+◌, ◌<◌, Bool, true, false, cond, ◌&&◌, ◌||◌, ◌==◌, List, [], ◌∷◌, ◌++◌, Option, Some, None, refl, sym, ap, ◌∙◌, subst, arith, append-nil}
-use Rattle.std.specs.List.{filter, cons_option, count_by}
+use Rattle.std.proofs.Common.{◌≡◌, ℕ, ◌+◌, ◌<◌, Bool, true, false, cond, ◌&&◌, ◌||◌, ◌==◌, List, [], ◌∷◌, ◌++◌, Option, Some, None, refl, ap, ◌∙◌, subst, arith, append-nil}
+use Rattle.std.specs.List.{cons_option, count_by}
 use Rattle.std.specs.Option.{option_map}
 use Rattle.std.proofs.lemmas.List.Elements.{filter-append}
 use Rattle.std.proofs.lemmas.Bool.{eq-eqb, ne_eqb, and_right}
 use Rattle.sign_font.specs.declared.parts.Defaults.{Defaults}
 use Rattle.sign_font.specs.Sign.{SignData}
 use Rattle.multi_layout.specs.Meaning.{Meaning, begins_area}
-use Rattle.multi_layout.specs.Address.{Put, Spot, Standing, area_of, is_break, is_glyph, put_at, spot_at, spots, standing}
-use Rattle.multi_layout.specs.State.{in_area, present_area}
+use Rattle.multi_layout.specs.Address.{Put, Spot, Standing, is_break, is_glyph, put_at, spot_at, spots, standing, in_area}
+use Rattle.multi_layout.specs.State.{present_area}
 use Rattle.multi_layout.proofs.AreaLemmas.{area_new}
 use Rattle.multi_layout.proofs.LayoutLemmas.{spots_push}
 use Rattle.multi_layout.proofs.StandingLemmas.{standing_push}
@@ -24,7 +24,7 @@ area_is sign defaults items = refl
 area_push : (sign : SignData) (defaults : Defaults) (items : List Meaning) (x : Meaning) → (standing sign defaults (items ++ x ∷ [])).area ≡ (standing sign defaults items).area + cond (begins_area x) 1 0
 area_push sign defaults items x = ap (λ (s : Standing). s.area) (standing_push sign defaults items x)
 
-in_area-append : (k : ℕ) (xs ys : List Spot) → in_area k (xs ++ ys) ≡ in_area k xs ++ in_area k ys
+pub in_area-append : (k : ℕ) (xs ys : List Spot) → in_area k (xs ++ ys) ≡ in_area k xs ++ in_area k ys
 in_area-append k xs ys = filter-append (λ t. is_placing t && (t.at.area == k)) xs ys
 
 module _ (sign : SignData) (defaults : Defaults) (items : List Meaning) (x : Meaning) where
@@ -34,7 +34,7 @@ module _ (sign : SignData) (defaults : Defaults) (items : List Meaning) (x : Mea
   grown : (k : ℕ) → in_area k (spots sign defaults (items ++ x ∷ [])) ≡ in_area k (spots sign defaults items) ++ in_area k (cons_option (spot_at defaults (standing sign defaults items) x) [])
   grown k = ap (in_area k) (spots_push sign defaults items x) ∙ in_area-append k (spots sign defaults items) (cons_option (spot_at defaults (standing sign defaults items) x) [])
 
-  same_area : begins_area x ≡ false → (standing sign defaults (items ++ x ∷ [])).area ≡ (standing sign defaults items).area
+  pub same_area : begins_area x ≡ false → (standing sign defaults (items ++ x ∷ [])).area ≡ (standing sign defaults items).area
   same_area stays_in = let none : cond {A = ℕ} (begins_area x) 1 0 ≡ 0 = ap (λ b. cond b 1 0) stays_in in omega (arith, area_push sign defaults items x)
 
   stays : begins_area x ≡ false → present_area sign defaults (items ++ x ∷ []) ≡ present_area sign defaults items ++ in_area (standing sign defaults items).area (cons_option (spot_at defaults (standing sign defaults items) x) [])

@@ -1,10 +1,8 @@
 -- What a tag that places nothing makes of the state.
-use Rattle.std.proofs.Common.{◌≡◌, ℕ, ◌+◌, ◌-◌, ◌*◌, ◌<◌, ◌≤◌, Bool, true, false, cond, not, ◌&&◌, ◌||◌, ◌==◌, ◌⊎◌, inl, inr, List, [], ◌∷◌, ◌++◌, length, Option, Some, None, refl, sym, ap, ◌∙◌, subst, arith}
-use Rattle.std.specs.Prelude.{nat_le}
+use Rattle.std.proofs.Common.{◌≡◌, ℕ, ◌+◌, ◌-◌, ◌*◌, ◌≤◌, true, false, cond, not, ◌==◌, ◌⊎◌, inl, inr, List, [], ◌∷◌, ◌++◌, length, Option, Some, None, refl, sym, ap, ◌∙◌, subst, arith}
 use Rattle.std.specs.Option.{option_map, option_map_or, unwrap_or}
-use Rattle.std.proofs.lemmas.Bool.{cases_Bool, ne_eqb, eq-eqb}
+use Rattle.std.proofs.lemmas.Bool.{cases_Bool}
 use Rattle.std.proofs.lemmas.Bool.Decides.{nat_tests}
-use Rattle.std.proofs.lemmas.Option.{same_Some}
 use Rattle.multi_tag.specs.declared.tag.FontPick.{FontPick}
 use Rattle.multi_tag.specs.declared.tag.Tag.{Tag}
 use Rattle.multi_tag.specs.declared.tag.Tag.TheVariants.{NewPage, NewLine, LineJust, PageJust, Font, CharSpacing, CharSpacingEnd, PageTime, Flash, FlashEnd, Fore, Back, Rect}
@@ -12,17 +10,16 @@ use Rattle.sign_font.specs.declared.parts.Defaults.{Defaults}
 use Rattle.sign_font.specs.declared.font.FontInfo.{FontInfo}
 use Rattle.sign_font.specs.Sign.{SignData, FontData, font_numbered, info_of}
 use Rattle.sign_font.specs.Sound.{IsSound}
-use Rattle.multi_layout.specs.declared.area.Area.{Area}
 use Rattle.multi_layout.specs.declared.attributes.Attributes.{Attributes}
 use Rattle.multi_layout.specs.declared.state.State.{State}
-use Rattle.multi_layout.specs.Address.{Cover, Standing, standing}
-use Rattle.multi_layout.specs.Attributes.{default_font, is_inside}
+use Rattle.multi_layout.specs.Address.{standing}
+use Rattle.multi_layout.specs.Attributes.{is_inside}
 use Rattle.multi_layout.specs.Meaning.{Meaning, Does}
 use Rattle.multi_layout.specs.Offence.{offence}
 use Rattle.multi_layout.specs.State.{IsKnown, IsSimple, IsStateOf, attributes_of, standing_behind}
-use Rattle.multi_layout.specs.Sums.{IsBelow, area_sum}
-use Rattle.multi_layout.proofs.JudgedLemmas.{below_more, font_of_info, found_again, state-attribute, state-cover, state-rectangle}
-use Rattle.multi_layout.proofs.OffenceLemmas.{offence-font, offence-no_font, offence-rectangle}
+use Rattle.multi_layout.specs.Sums.{IsBelow}
+use Rattle.multi_layout.proofs.JudgedLemmas.{below_more, font_of_info, found_again, state-attribute, state-cover}
+use Rattle.multi_layout.proofs.OffenceLemmas.{offence-font, offence-no_font}
 
 -- a tag that is none of these is a simple one
 pub simple_of : (tag : Tag) → (tag ≡ NewPage → ⊥) → ((gap : Option ℕ) → tag ≡ NewLine gap → ⊥) → ((pick : Option FontPick) → tag ≡ Font pick → ⊥) → ((x y w h : ℕ) → tag ≡ Rect x y w h → ⊥) → IsSimple tag

@@ -1,6 +1,6 @@
 -- Each string has one verdict, and a refusal for an item stands however the string goes on.
-use Rattle.std.proofs.Common.{◌≡◌, ℕ, List, [], ◌∷◌, ◌++◌, map, length, Option, Some, sym, ap, ◌∙◌, append-nil}
-use Rattle.std.specs.List.{All, cons_option}
+use Rattle.std.proofs.Common.{◌≡◌, ℕ, List, [], ◌∷◌, ◌++◌, map, length, Option, Some, ap, ◌∙◌}
+use Rattle.std.specs.List.{cons_option}
 use Rattle.std.specs.Option.{option_map}
 use Rattle.multi_token.specs.Spelling.{Item, spell}
 use Rattle.multi_token.specs.Reading.{reading}
@@ -10,7 +10,7 @@ use Rattle.sign_font.specs.declared.parts.Defaults.{Defaults}
 use Rattle.sign_font.specs.Sign.{SignData}
 use Rattle.multi_layout.specs.Meaning.{meaning}
 use Rattle.multi_layout.specs.Offence.{offence}
-use Rattle.multi_layout.specs.Verdict.{Refused, OneVerdict, RefusalStands, verdict, verdict_on, of_first, broken, fault_at, offences, pages_of}
+use Rattle.multi_layout.specs.Verdict.{OneVerdict, RefusalStands, verdict, verdict_on, of_first, broken, fault_at, offences, pages_of}
 use Rattle.multi_layout.specs.Words.{some_after}
 use Rattle.multi_layout.proofs.WordLemmas.{some_after-append, some_after_push}
 

@@ -1,7 +1,7 @@
 -- The words on lists, at one more item and at two lists.
 use Rattle.std.proofs.Common.{◌≡◌, ℕ, ◌+◌, ◌<◌, max, length, take, drop, get_or, List, [], ◌∷◌, ◌++◌, Option, Some, None, refl, sym, ap, subst, ◌∙◌, arith}
 use Rattle.std.specs.List.{sum_by, filter_map, last_or, cons_option, All}
-use Rattle.std.specs.Option.{option_map_or}
+use Rattle.std.specs.Option.{option_map, option_map_or}
 use Rattle.std.proofs.lemmas.List.{append_assoc, append-nil, take_more, drop_more, take-append-drop}
 use Rattle.std.proofs.lemmas.List.Elements.{filter_map-append, All-nil, All-cons, All-head, All-tail}
 use Rattle.std.proofs.lemmas.List.Sums.{sum_by_push, sum_by-append, fold_push}
@@ -102,3 +102,21 @@ All-split P [] x h = (All-nil P, All-head P x [] h)
 All-split P (y ∷ xs) x h =
     let more = All-split P xs x (All-tail P y (xs ++ x ∷ []) h) in
     (All-cons P y xs (All-head P y (xs ++ x ∷ []) h) more.0, more.1)
+
+-- two lists of nothing
+pub left_nil : {X : Type 0} (xs ys : List X) → xs ++ ys ≡ [] → xs ≡ []
+left_nil [] ys e = refl
+left_nil (x ∷ xs) ys e = cc
+
+pub right_nil : {X : Type 0} (xs ys : List X) → xs ++ ys ≡ [] → ys ≡ []
+right_nil [] ys e = e
+right_nil (x ∷ xs) ys e = cc
+
+-- nothing is put before a list of nothing
+pub none_of : {X : Type 0} (o : Option X) (more : List X) → cons_option o more ≡ [] → o ≡ None
+none_of None more e = refl
+none_of (Some x) more e = cc
+
+pub none_mapped : {X Y : Type 0} (f : X → Y) (o : Option X) → option_map f o ≡ None → o ≡ None
+none_mapped f None e = refl
+none_mapped f (Some x) e = cc

@@ -1,12 +1,14 @@
 -- Where the items of a string stand: pages, areas, groups, lines and segments (NTCIP 1203 v03, MULTI).
-use Rattle.std.specs.Prelude.{ℕ, Bool, true, false, ◌||◌, ◌&&◌, ◌==◌, ◌+◌, List, [], Option, Some, None}
+use Rattle.std.specs.Prelude.{ℕ, Bool, true, false, ◌||◌, ◌&&◌, ◌==◌, ◌+◌, List, Option, Some, None}
 use Rattle.std.specs.List.{filter, count_by, after_last}
 use Rattle.std.specs.Option.{unwrap_or, option_map}
 use Rattle.multi_tag.specs.declared.tag.Tag.TheVariants.{NewPage, NewLine, Back}
 use Rattle.sign_font.specs.declared.parts.Defaults.{Defaults}
 use Rattle.sign_font.specs.Sign.{SignData, FontData, CellData, cell_numbered}
 use Rattle.multi_layout.specs.Meaning.{Meaning, Shows, Does, is_new_page, begins_area}
-use Rattle.multi_layout.specs.Attributes.{FlashTimes, Rectangle, in_force, default_font, given_font, given_line_just, given_page_just, given_spacing, given_fore, given_back, given_on, given_off, given_flash, given_rectangle, whole_sign}
+use Rattle.multi_layout.specs.declared.attributes.FlashTimes.{FlashTimes}
+use Rattle.multi_layout.specs.declared.attributes.Rectangle.{Rectangle}
+use Rattle.multi_layout.specs.Attributes.{in_force, default_font, given_font, given_line_just, given_page_just, given_spacing, given_fore, given_back, given_on, given_off, given_flash, given_rectangle, whole_sign}
 use Rattle.multi_layout.specs.Words.{some_after, cut_behind}
 
 -- where an item stands, and what is in force there (own)
@@ -87,9 +89,14 @@ is_break spot = of spot.put
     of (Break gap) = true
     of _ = false
 
--- a placing item of a spot's area: a character or an `nl` between the same page's start or rectangle and the next (NTCIP 1203 v03, MULTI tag 'tr')
+-- the placing items of an area, which begins at a page's start or a rectangle: its characters and `nl` (NTCIP 1203 v03, MULTI
+-- tag 'tr')
+abbrev pub in_area : ℕ → List Spot → List Spot
+in_area area spots = filter (λ t. (is_glyph t || is_break t) && (t.at.area == area)) spots
+
+-- the placing items of a spot's area (own)
 abbrev pub area_of : Spot → List Spot → List Spot
-area_of spot spots = filter (λ t. (is_glyph t || is_break t) && (t.at.area == spot.at.area)) spots
+area_of spot spots = in_area spot.at.area spots
 
 -- the group of an area with this page justification in force (NTCIP 1203 v03, MULTI tag 'jp')
 abbrev pub in_group : ℕ → List Spot → List Spot

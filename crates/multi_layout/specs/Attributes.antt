@@ -6,6 +6,8 @@ use Rattle.std.specs.Option.{unwrap_or}
 use Rattle.multi_tag.specs.declared.tag.Tag.TheVariants.{NewPage, LineJust, PageJust, Font, CharSpacing, CharSpacingEnd, PageTime, Flash, FlashEnd, Fore, Back, Rect}
 use Rattle.sign_font.specs.declared.parts.Defaults.{Defaults}
 use Rattle.sign_font.specs.Sign.{SignData, FontData, font_numbered}
+use Rattle.multi_layout.specs.declared.attributes.FlashTimes.{FlashTimes}
+use Rattle.multi_layout.specs.declared.attributes.Rectangle.{Rectangle}
 use Rattle.multi_layout.specs.Meaning.{Meaning, Does}
 
 -- an attribute in force behind some items is the value that the last of them which gives it gives, else its default
@@ -59,24 +61,11 @@ abbrev pub given_off : Defaults → Meaning → Option ℕ
 given_off defaults (Does (PageTime on off)) = Some (unwrap_or off defaults.page_off)
 given_off defaults _ = None
 
--- whether a flash begins with its off time, and its times in tenths (NTCIP 1203 v03, MULTI tag 'fl')
-pub record FlashTimes : Type 0 where
-  pub off_first : Bool
-  pub on : ℕ
-  pub off : ℕ
-
 -- the flash that an item gives, with the default of each absent time; at its end none (NTCIP 1203 v03, MULTI tags 'fl' and '/fl')
 abbrev pub given_flash : Defaults → Meaning → Option (Option FlashTimes)
 given_flash defaults (Does (Flash off_first on off)) = Some (Some (record { off_first = off_first; on = unwrap_or on defaults.flash_on; off = unwrap_or off defaults.flash_off }))
 given_flash defaults (Does FlashEnd) = Some None
 given_flash defaults _ = None
-
--- a part of the sign: its upper left pixel, counted from 0, its columns and its rows (own)
-pub record Rectangle : Type 0 where
-  pub left : ℕ
-  pub top : ℕ
-  pub width : ℕ
-  pub height : ℕ
 
 -- the whole sign (NTCIP 1203 v03, vmsSignWidthPixels and vmsSignHeightPixels)
 abbrev pub whole_sign : SignData → Rectangle

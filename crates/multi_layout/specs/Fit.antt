@@ -1,5 +1,5 @@
 -- What fits a line and an area (own).
-use Rattle.std.specs.Prelude.{◌≡◌, ℕ, ◌+◌, ◌-◌, ◌*◌, ◌/◌, ◌≤◌, Bool, true, ◌||◌, ◌&&◌, ◌==◌, nat_le, List, if◌then◌else◌}
+use Rattle.std.specs.Prelude.{◌≡◌, ℕ, ◌+◌, ◌-◌, ◌/◌, ◌≤◌, Bool, true, ◌||◌, ◌&&◌, ◌==◌, nat_le, List}
 use Rattle.multi_layout.specs.Address.{Spot, in_group, lines_of, segment}
 use Rattle.multi_layout.specs.Line.{height_of, width_of}
 

@@ -1,5 +1,6 @@
 -- What each item of a string means (NTCIP 1203 v03, MULTI).
-use Rattle.std.specs.Prelude.{ℕ, Bool, true, false, Result, Ok, Err}
+use Rattle.std.specs.Prelude.{◌≡◌, ◌⊎◌, ℕ, Bool, true, false, List, [], ◌∷◌, ◌++◌, map, Result, Ok, Err}
+use Rattle.multi_token.specs.Reading.{reading}
 use Rattle.multi_token.specs.Spelling.{Item, Char, Tag}
 use Rattle.multi_tag.specs.declared.tag.TagFault.{TagFault}
 use Rattle.multi_tag.specs.declared.tag.TagFault.TheVariants.{Unsupported, Value}
@@ -24,6 +25,10 @@ abbrev pub meaning : Item → Meaning
 meaning (Char number) = Shows number
 meaning (Tag body) = meaning_of_tag (tag_of body)
 
+-- what the items of a string mean, without what is left behind them (NTCIP 1203 v03, MULTI)
+abbrev pub meanings : List ℕ → List Meaning
+meanings octets = map meaning (reading octets).items
+
 -- a page begins behind the item (NTCIP 1203 v03, MULTI tag 'np')
 abbrev pub is_new_page : Meaning → Bool
 is_new_page (Does NewPage) = true
@@ -34,3 +39,16 @@ abbrev pub begins_area : Meaning → Bool
 begins_area (Does NewPage) = true
 begins_area (Does (Rect x y w h)) = true
 begins_area _ = false
+
+-- a page begins behind these items: behind none, or behind a new page (NTCIP 1203 v03, MULTI tag 'np')
+abbrev pub BeginsPage : List Meaning → Type 0
+BeginsPage before = (before ≡ []) ⊎ ((earlier : List Meaning) × (before ≡ earlier ++ Does NewPage ∷ []))
+
+-- a page ends before these items: before none, or before a new page (NTCIP 1203 v03, MULTI tag 'np')
+abbrev pub EndsPage : List Meaning → Type 0
+EndsPage behind = (behind ≡ []) ⊎ ((rest : List Meaning) × (behind ≡ Does NewPage ∷ rest))
+
+-- an area ends before these items: before none, or before an item behind which the next begins (NTCIP 1203 v03, MULTI tags
+-- 'np' and 'tr')
+abbrev pub EndsArea : List Meaning → Type 0
+EndsArea behind = (behind ≡ []) ⊎ ((x : Meaning) × (rest : List Meaning) × (begins_area x ≡ true) × (behind ≡ x ∷ rest))

@@ -5,11 +5,13 @@ use Rattle.std.specs.Option.{unwrap_or}
 use Rattle.sign_font.specs.declared.parts.Defaults.{Defaults}
 use Rattle.sign_font.specs.Cell as cells
 use Rattle.sign_font.specs.Sign.{SignData, sized}
-use Rattle.multi_layout.specs.Meaning.{Meaning}
-use Rattle.multi_layout.specs.Attributes.{FlashTimes}
+use Rattle.multi_layout.specs.Meaning.{Meaning, meanings}
+use Rattle.multi_layout.specs.declared.attributes.FlashTimes.{FlashTimes}
 use Rattle.multi_layout.specs.Address.{Put, Glyph, Break, Cover, Spot, spots}
-use Rattle.multi_layout.specs.Place.{Place, place_of}
-use Rattle.multi_layout.specs.Times.{ShownAt, Page, Off}
+use Rattle.multi_layout.specs.declared.place.Place.{Place}
+use Rattle.multi_layout.specs.declared.times.Shown.{Shown}
+use Rattle.multi_layout.specs.declared.times.Shown.TheVariants.{Page, Off}
+use Rattle.multi_layout.specs.Place.{place_of}
 use Rattle.multi_layout.specs.Words.{some_after}
 
 -- a character is lit at a phase of its page: on first in the first `on` tenths of each flash, off first behind the first `off`
@@ -38,12 +40,15 @@ thing_at phase place spot (Glyph cell) = Some (record {
   colour = spot.at.fore;
 })
 
+-- the things that some spots put, in their order, where the string has all these spots (own)
+unfoldable pub things_among : ℕ → List Spot → List Spot → List Thing
+unfolding place_of
+things_among phase all some = some_after (λ before spot. thing_at phase (place_of before all spot) spot spot.put) some
+
 -- the things of all pages, in the order of the string (own)
 unfoldable pub things : SignData → Defaults → ℕ → List Meaning → List Thing
-unfolding spots place_of
-things sign defaults phase items =
-    let all = spots sign defaults items in
-    some_after (λ before spot. thing_at phase (place_of before all spot) spot spot.put) all
+unfolding spots things_among
+things sign defaults phase items = things_among phase (spots sign defaults items) (spots sign defaults items)
 
 -- the colour of a pixel of a page: that of the last thing of the page that covers it, or else the default background, with
 -- which page 0 begins (NTCIP 1203 v03, defaultBackgroundColor; that the last thing covers the others is own)
@@ -61,6 +66,10 @@ unfolding things
 in_plane sign defaults items page phase colour column row = shown_colour sign (colour_of defaults (things sign defaults phase items) page column row) == colour
 
 -- a pixel has a colour while this is shown; in an off time every pixel has colour 0 (own)
-abbrev pub pixel_at : SignData → Defaults → List Meaning → ShownAt → ℕ → ℕ → ℕ → Bool
+abbrev pub pixel_at : SignData → Defaults → List Meaning → Shown → ℕ → ℕ → ℕ → Bool
 pixel_at sign defaults items (Page page phase) colour column row = in_plane sign defaults items page phase colour column row
 pixel_at sign defaults items Off colour column row = colour == 0
+
+-- the plane of a colour of a page of a string at a phase: a test of column and row (NTCIP 1203 v03, MULTI)
+abbrev pub picture : SignData → Defaults → List ℕ → ℕ → ℕ → ℕ → ℕ → ℕ → Bool
+picture sign defaults octets page phase colour column row = in_plane sign defaults (meanings octets) page phase colour column row

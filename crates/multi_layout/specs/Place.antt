@@ -1,8 +1,9 @@
 -- The place of each character of an accepted string (NTCIP 1203 v03, MULTI tags 'jl' and 'jp').
-use Rattle.std.specs.Prelude.{ℕ, ◌+◌, ◌-◌, ◌*◌, ◌/◌, ◌==◌, List, [], ◌∷◌, ◌++◌, take, length, slice_index_or, Option, Some, None, if◌then◌else◌}
+use Rattle.std.specs.Prelude.{ℕ, ◌+◌, ◌-◌, ◌*◌, ◌/◌, ◌==◌, List, [], ◌∷◌, ◌++◌, take, length, slice_index_or, Some, None, if◌then◌else◌}
 use Rattle.std.specs.List.{count_by}
 use Rattle.sign_font.specs.declared.parts.Defaults.{Defaults}
 use Rattle.sign_font.specs.Sign.{SignData}
+use Rattle.multi_layout.specs.declared.place.Place.{Place}
 use Rattle.multi_layout.specs.Meaning.{Meaning}
 use Rattle.multi_layout.specs.Address.{Spot, spots, group_of, lines_of, line_before, segment, is_glyph, is_break}
 use Rattle.multi_layout.specs.Line.{height_of, width_of, glyph_width}
@@ -17,11 +18,6 @@ start just length size = if just == 3 then (length - size) / 2 else (if just == 
 -- (NTCIP 1203 v03, MULTI tag 'jl'; how the spare pixels are rounded is own)
 abbrev pub spread : ℕ → ℕ → ℕ → ℕ
 spread j k spare = j * spare / (k - 1)
-
--- an upper left pixel, counted from 0 (own)
-pub record Place : Type 0 where
-  pub column : ℕ
-  pub row : ℕ
 
 -- the place of a character, from the spots before it and all spots: in its segment behind the characters before it, and on
 -- the bottom of its line, which stands under the counted lines before (own)

@@ -1,9 +1,8 @@
 -- What the verdict keeps of the items that it has read (own).
-use Rattle.std.specs.Prelude.{◌≡◌, ℕ, ◌+◌, ◌*◌, ◌^◌, ◌≤◌, ◌||◌, ◌&&◌, ◌==◌, List, [], ◌∷◌, ◌++◌, length, Option, Some, None, Result, Ok, Err, if◌then◌else◌}
-use Rattle.std.specs.List.{filter}
+use Rattle.std.specs.Prelude.{◌≡◌, ℕ, ◌+◌, ◌*◌, ◌^◌, ◌≤◌, List, [], ◌∷◌, ◌++◌, length, Some, None, Result, Ok, Err, if◌then◌else◌}
 use Rattle.std.specs.Option.{unwrap_or}
 use Rattle.multi_tag.specs.declared.tag.Tag.{Tag}
-use Rattle.multi_tag.specs.declared.tag.Tag.TheVariants.{NewPage, NewLine, LineJust, PageJust, Font, CharSpacing, CharSpacingEnd, PageTime, Flash, FlashEnd, Fore, Back, Rect}
+use Rattle.multi_tag.specs.declared.tag.Tag.TheVariants.{NewPage, NewLine, LineJust, PageJust, Font, Rect}
 use Rattle.sign_font.specs.declared.parts.Defaults.{Defaults}
 use Rattle.sign_font.specs.Sign.{SignData, font_numbered, info_of}
 use Rattle.multi_layout.specs.declared.attributes.Attributes.{Attributes}
@@ -11,17 +10,13 @@ use Rattle.multi_layout.specs.declared.fault.SyntaxError.{SyntaxError}
 use Rattle.multi_layout.specs.declared.state.State.{State}
 use Rattle.multi_layout.specs.Codes.{code_of}
 use Rattle.multi_layout.specs.Attributes.{given_font, given_line_just, given_page_just, given_spacing, given_fore, given_back, given_on, given_off, given_flash, given_rectangle}
-use Rattle.multi_layout.specs.Meaning.{Meaning, Does, begins_area, is_new_page}
-use Rattle.multi_layout.specs.Address.{Spot, Standing, is_break, is_glyph, spots, standing}
+use Rattle.multi_layout.specs.Meaning.{Meaning, begins_area, is_new_page}
+use Rattle.multi_layout.specs.Address.{Spot, Standing, in_area, spots, standing}
 use Rattle.multi_layout.specs.Offence.{offence}
 use Rattle.multi_layout.specs.Sums.{IsBelow, area_sum}
 use Rattle.multi_layout.specs.Times.{Times, cycle, times_at}
 use Rattle.multi_layout.specs.Verdict.{pages_of}
 use Rattle.multi_layout.specs.Words.{some_after}
-
--- the placing items of an area (own)
-abbrev pub in_area : ℕ → List Spot → List Spot
-in_area area spots = filter (λ t. (is_glyph t || is_break t) && (t.at.area == area)) spots
 
 -- the placing items of the present area, in which the next item stands (own)
 abbrev pub present_area : SignData → Defaults → List Meaning → List Spot
@@ -48,17 +43,19 @@ standing_behind sign defaults here x = record {
   rectangle = unwrap_or (given_rectangle sign x) here.rectangle;
 }
 
--- what the verdict keeps of the values in force (own)
+-- what is kept of the values in force (own)
 abbrev pub attributes_of : Standing → Attributes
 attributes_of at = record {
   font = info_of at.font;
   line_just = at.line_just;
   page_just = at.page_just;
   spacing = at.spacing;
+  fore = at.fore;
+  back = at.back;
   on = at.on;
   off = at.off;
-  width = at.rectangle.width;
-  height = at.rectangle.height;
+  flash = at.flash;
+  rectangle = at.rectangle;
 }
 
 -- the state is that of these items: their pages, their ended pages' times, the values in force behind them, and the sums of

@@ -1,5 +1,5 @@
 -- The running sums of an area: what is kept of its items, in place of the items.
-use Rattle.std.specs.Prelude.{◌≡◌, ◌⊎◌, ℕ, ◌≤◌, true, nat_lt, List, Option, None}
+use Rattle.std.specs.Prelude.{◌≡◌, ◌⊎◌, ℕ, ◌≤◌, true, nat_lt, List, length, Option, None}
 use Rattle.std.specs.List.{filter, filter_map, last_or, list_any, after_last}
 use Rattle.std.specs.Option.{option_map}
 use Rattle.sign_font.specs.declared.font.FontInfo.{FontInfo}
@@ -14,10 +14,11 @@ use Rattle.multi_layout.specs.Address.{Spot, Break, is_glyph, is_break, segment,
 use Rattle.multi_layout.specs.Line.{line_height, line_spacing, given_gap, glyph_width, width_of, height_of}
 use Rattle.multi_layout.specs.Words.{largest}
 
--- the width of a line's characters with one line justification, and the spacing of the last one's font (own)
+-- the width of a line's characters with one line justification, how many they are, and the spacing of the last one's font (own)
 abbrev pub segment_sum : ℕ → List Spot → Segment
 segment_sum just line = record {
   width = width_of (segment just line);
+  count = length (segment just line);
   last = option_map (λ t. t.at.font.char_spacing) (last_or None (segment just line));
 }
 
@@ -44,9 +45,10 @@ ended_lines group = filter (list_any is_break) (lines_of group)
 abbrev pub ended_sum : List Spot → Ended
 ended_sum line = record { gap = last_or None (filter_map given_gap line); spacing = line_spacing line }
 
--- the sums of a group: the height of its ended lines with the gaps between them, the last of them, and the present line (own)
+-- the sums of a group: how many lines are ended, their height with the gaps between them, the last of them, and the present line (own)
 abbrev pub group_sum : List Spot → Group
 group_sum group = record {
+  ended = length (ended_lines group);
   closed = height_of (ended_lines group);
   last = option_map ended_sum (last_or None (ended_lines group));
   line = line_sum (after_last is_break group);
@@ -78,19 +80,25 @@ pub record IsBreak (s : Spot) (gap : Option ℕ) (info : FontInfo) : Type 0 wher
   pub put : s.put ≡ Break gap
   pub font : info ≡ info_of s.at.font
 
--- the widths of a line are at most k (own)
-pub record IsLineBelow (k : ℕ) (line : Line) : Type 0 where
-  pub left : line.left.width ≤ k
-  pub centre : line.centre.width ≤ k
-  pub right : line.right.width ≤ k
-  pub full : line.full.width ≤ k
+-- the width and the number of a segment's characters are at most k (own)
+pub record IsSegmentBelow (k : ℕ) (segment : Segment) : Type 0 where
+  pub width : segment.width ≤ k
+  pub count : segment.count ≤ k
 
--- the height of a group's ended lines and the widths of its present line are at most k (own)
+-- the numbers of a line's segments are at most k (own)
+pub record IsLineBelow (k : ℕ) (line : Line) : Type 0 where
+  pub left : IsSegmentBelow k line.left
+  pub centre : IsSegmentBelow k line.centre
+  pub right : IsSegmentBelow k line.right
+  pub full : IsSegmentBelow k line.full
+
+-- the number and the height of a group's ended lines, and the numbers of its present line, are at most k (own)
 pub record IsGroupBelow (k : ℕ) (group : Group) : Type 0 where
+  pub ended : group.ended ≤ k
   pub closed : group.closed ≤ k
   pub line : IsLineBelow k group.line
 
--- the heights and widths of an area's groups are at most k (own)
+-- the numbers of an area's groups are at most k (own)
 pub record IsBelow (k : ℕ) (area : Area) : Type 0 where
   pub top : IsGroupBelow k area.top
   pub middle : IsGroupBelow k area.middle

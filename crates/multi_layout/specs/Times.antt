@@ -4,7 +4,9 @@ use Rattle.std.specs.List.{sum_by, find, range_with_len}
 use Rattle.std.specs.Option.{option_map_or}
 use Rattle.sign_font.specs.declared.parts.Defaults.{Defaults}
 use Rattle.sign_font.specs.Sign.{SignData}
-use Rattle.multi_layout.specs.Meaning.{Meaning, is_new_page}
+use Rattle.multi_layout.specs.declared.times.Shown.{Shown}
+use Rattle.multi_layout.specs.declared.times.Shown.TheVariants.{Page, Off}
+use Rattle.multi_layout.specs.Meaning.{Meaning, is_new_page, meanings}
 use Rattle.multi_layout.specs.Address.{Standing, standing}
 use Rattle.multi_layout.specs.Words.{some_after}
 
@@ -28,11 +30,6 @@ page_times sign defaults items =
 abbrev pub cycle : List Times → ℕ
 cycle pages = sum_by (λ times. times.on + times.off) pages
 
--- a page with the time since it began, or no page (own)
-pub data ShownAt : Type 0 where
-  Page : ℕ → ℕ → ShownAt
-  Off : ShownAt
-
 -- when page k, counted from 0, begins (own)
 abbrev pub begin : List Times → ℕ → ℕ
 begin pages k = cycle (take k pages)
@@ -41,9 +38,15 @@ begin pages k = cycle (take k pages)
 abbrev pub is_on : List Times → ℕ → ℕ → Bool
 is_on pages clock k = nat_le (begin pages k) clock && option_map_or (λ times. nat_lt clock (begin pages k + times.on)) (slice_get pages k) false
 
--- what is shown at a clock: of one page, or of a cycle of 0, always page 0 with the clock as its phase; else, of the clock
--- modulo the cycle, the page whose on time it is in, or nothing (own)
-unfoldable pub shown_at : List Times → ℕ → ShownAt
-shown_at pages clock =
-    if (length pages == 1) || (cycle pages == 0) then Page 0 clock
-    else option_map_or (λ k. Page k (clock % cycle pages - begin pages k)) (find (is_on pages (clock % cycle pages)) (range_with_len 0 (length pages))) Off
+-- what is shown at a time of the cycle: the page in whose on time it is, with the time since it began, or nothing (own)
+unfoldable pub shown_within : List Times → ℕ → Shown
+shown_within pages time = option_map_or (λ k. Page k (time - begin pages k)) (find (is_on pages time) (range_with_len 0 (length pages))) Off
+
+-- what is shown at a clock: of one page, or of a cycle of 0, always page 0 with the clock as its phase; else what is shown at
+-- the clock modulo the cycle (own)
+unfoldable pub shown_at : List Times → ℕ → Shown
+shown_at pages clock = if (length pages == 1) || (cycle pages == 0) then Page 0 clock else shown_within pages (clock % cycle pages)
+
+-- what a string shows at a clock (NTCIP 1203 v03, MULTI tag 'pt')
+abbrev pub shown : SignData → Defaults → List ℕ → ℕ → Shown
+shown sign defaults octets clock = shown_at (page_times sign defaults (meanings octets)) clock

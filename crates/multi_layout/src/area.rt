@@ -24,6 +24,8 @@ pub(crate) struct Ended {
 /// The placing items of an area with one page justification.
 #[derive(Clone, Copy, Debug, PartialEq, Eq)]
 pub(crate) struct Group {
+    /// How many lines an `nl` ended.
+    pub(crate) ended: u64,
     /// The height of the ended lines in pixels, with the gaps between them.
     pub(crate) closed: u64,
     /// The last ended line, if there is one.
@@ -49,6 +51,7 @@ impl Group {
         ensures below { IsGroupBelow 0 result }
     {
         Group {
+            ended: 0,
             closed: 0,
             last: None,
             line: Line::new(),
@@ -66,6 +69,7 @@ impl Group {
             return self;
         }
         Group {
+            ended: self.ended,
             closed: self.closed,
             last: self.last,
             line: self.line.with_character(character),
@@ -91,6 +95,7 @@ impl Group {
         let height = self.line.ended_height(font);
         let spacing = self.line.ended_spacing(font);
         Group {
+            ended: self.ended + 1,
             closed: self.closed + u64::from(self.gap(spacing)) + u64::from(height),
             last: Some(Ended { gap, spacing }),
             line: Line::new(),
@@ -109,11 +114,11 @@ impl Group {
     }
 
     /// The height of the group's lines in pixels, with the gaps between them.
-    fn height(self) -> u64
+    pub(crate) fn height(self) -> u64
         requires below { self.closed ≤ 2 ^ 62 + 1024 }
         ensures sum { (group : List Spot) → All IsPlacing group → self ≡ group_sum group
             → result ≡ height_of (lines_of group) }
-        ensures below { result ≤ 2 ^ 62 + 2048 }
+        ensures below { result ≤ self.closed + 1024 }
     {
         if !self.line.any {
             return self.closed;
@@ -168,7 +173,7 @@ impl Area {
     }
 
     /// The group with this page justification: top 2, middle 3, bottom 4.
-    fn group(&self, page_just: u8) -> Group
+    pub(crate) fn group(&self, page_just: u8) -> Group
         requires known { (2 ≤ page_just) × (page_just ≤ 4) }
         ensures sum { (area : List Spot) → self.now ≡ area_sum area → result ≡ group_sum (in_group page_just area) }
         ensures below { (k : ℕ) → IsBelow k self.now → IsGroupBelow k result }

@@ -1,12 +1,33 @@
-//! The attributes in force, as far as the verdict needs them.
+//! The attributes in force.
 
 ghost use Rattle.std.specs.Prelude.{◌≡◌};
 ghost use Rattle.sign_font.specs.Sign.{SignData};
 ghost use Rattle.multi_layout.specs.Address.{Standing};
+ghost use Rattle.multi_layout.specs.Attributes.{whole_sign};
 ghost use Rattle.multi_layout.specs.Meaning.{Does};
 
+use crate::line::Character;
 use multi_tag::Tag;
-use sign_font::{Defaults, FontInfo};
+use sign_font::{Defaults, FontInfo, Sign};
+
+/// A flash: whether it begins with its off time, and its times in tenths of a second (NTCIP 1203 v03, MULTI
+/// tag 'fl').
+#[derive(Clone, Copy, Debug, PartialEq, Eq)]
+pub(crate) struct FlashTimes {
+    pub(crate) off_first: bool,
+    pub(crate) on: u8,
+    pub(crate) off: u8,
+}
+
+/// A part of the sign: its upper left pixel, counted from 0, and its columns and rows (NTCIP 1203 v03, MULTI
+/// tag 'tr').
+#[derive(Clone, Copy, Debug, PartialEq, Eq)]
+pub(crate) struct Rectangle {
+    pub(crate) left: u16,
+    pub(crate) top: u16,
+    pub(crate) width: u16,
+    pub(crate) height: u16,
+}
 
 /// The values in force behind the items so far (NTCIP 1203 v03, MULTI).
 #[derive(Clone, Copy, Debug, PartialEq, Eq)]
@@ -18,16 +39,59 @@ pub(crate) struct Attributes {
     pub(crate) page_just: u8,
     /// Pixels between characters, where the text gives them.
     pub(crate) spacing: Option<u8>,
+    /// The colours of characters and of the page: 0 to 9.
+    pub(crate) fore: u8,
+    pub(crate) back: u8,
     /// The page's on time and off time, in tenths of a second.
     pub(crate) on: u8,
     pub(crate) off: u8,
-    /// The columns and rows of the rectangle, in pixels.
-    pub(crate) width: u16,
-    pub(crate) height: u16,
+    pub(crate) flash: Option<FlashTimes>,
+    pub(crate) rectangle: Rectangle,
+}
+
+/// The whole sign.
+pub(crate) fn whole_sign(sign: &Sign) -> Rectangle
+    ensures { result ≡ whole_sign sign.now }
+{
+    Rectangle {
+        left: 0,
+        top: 0,
+        width: sign.width(),
+        height: sign.height(),
+    }
 }
 
 impl Attributes {
     ghost use Rattle.multi_layout.specs.State.{IsSimple, attributes_of, standing_behind};
+
+    /// A character of this width in pixels, as its line sees it.
+    pub(crate) fn character(&self, width: u8) -> Character
+        ensures { result ≡ record {
+          just = self.now.line_just;
+          spacing = self.now.spacing;
+          width = width;
+          font = self.now.font;
+        } }
+    {
+        Character {
+            just: self.line_just,
+            spacing: self.spacing,
+            width,
+            font: self.font,
+        }
+    }
+
+    fn with_spacing(self, spacing: Option<u8>) -> Attributes
+        ensures { result ≡ record self { spacing = spacing } }
+    {
+        Attributes { spacing, ..self }
+    }
+
+    fn with_flash(self, flash: Option<FlashTimes>) -> Attributes
+        ensures { result ≡ record self { flash = flash } }
+    {
+        Attributes { flash, ..self }
+    }
 
     /// The values in force behind a tag that begins nothing, places nothing and asks for no font.
     pub(crate) fn behind(self, defaults: Defaults, tag: Tag) -> Attributes
@@ -43,19 +107,27 @@ impl Attributes {
                 page_just: just.unwrap_or(defaults.page),
                 ..self
             },
-            Tag::CharSpacing(pixels) => Attributes {
-                spacing: Some(pixels),
-                ..self
-            },
-            Tag::CharSpacingEnd => Attributes {
-                spacing: None,
-                ..self
-            },
+            Tag::CharSpacing(pixels) => self.with_spacing(Some(pixels)),
+            Tag::CharSpacingEnd => self.with_spacing(None),
             Tag::PageTime { on, off } => Attributes {
                 on: on.unwrap_or(defaults.page_on),
                 off: off.unwrap_or(defaults.page_off),
                 ..self
             },
+            Tag::Fore(colour) => Attributes {
+                fore: colour.unwrap_or(defaults.fore),
+                ..self
+            },
+            Tag::Back(colour) => Attributes {
+                back: colour.unwrap_or(defaults.back),
+                ..self
+            },
+            Tag::Flash { off_first, on, off } => self.with_flash(Some(FlashTimes {
+                off_first,
+                on: on.unwrap_or(defaults.flash_on),
+                off: off.unwrap_or(defaults.flash_off),
+            })),
+            Tag::FlashEnd => self.with_flash(None),
             _ => self,
         }
     }

@@ -17,6 +17,7 @@ pub struct Checked<'a> {
 }
 
 impl<'a> Model for Checked<'a> {
+    ghost use Rattle.std.specs.Prelude.{◌<◌, ◌^◌, length};
     ghost use Rattle.multi_layout.specs.Judged.{Judged};
     ghost use Rattle.multi_layout.specs.Verdict.{Accepted, IsVerdict, IsCycle};
 
@@ -24,7 +25,8 @@ impl<'a> Model for Checked<'a> {
 
     ghost view = { λ c. record { sign = c.sign.now; defaults = c.sign.now.defaults; source = c.source } };
 
-    ghost invariant = { λ c. IsVerdict c.sign.now c.sign.now.defaults c.source.octets (Accepted c.pages) × IsCycle c.sign.now c.sign.now.defaults c.source.octets c.cycle };
+    ghost invariant = { λ c. IsVerdict c.sign.now c.sign.now.defaults c.source.octets (Accepted c.pages) × IsCycle c.sign.now c.sign.now.defaults c.source.octets c.cycle
+        × (length c.source.octets < 2 ^ 32) };
 }
 
 impl<'a> Checked<'a> {

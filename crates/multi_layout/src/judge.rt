@@ -1,26 +1,27 @@
 //! The verdict on a string, in one reading from the left with running sums.
 
-ghost use Rattle.std.specs.Prelude.{◌≡◌, ℕ, ◌+◌, ◌-◌, ◌^◌, ◌<◌, ◌≤◌, ◌*◌, ◌==◌, if◌then◌else◌, length, IfOk, IfErr, IfSome, IfNone, OnOk, true};
+ghost use Rattle.std.specs.Prelude.{◌≡◌, ℕ, ◌+◌, ◌-◌, ◌^◌, ◌<◌, ◌≤◌, ◌*◌, ◌==◌, if◌then◌else◌, length, IfOk, IfErr, IfSome, IfNone, OnOk, Some, true};
 ghost use Rattle.std.specs.Option.{option_map_or};
 ghost use Rattle.multi_token.specs.Counted.{charged, RisesBetween};
 ghost use Rattle.multi_token.specs.Tokens.{IsTokenOf, item_of};
-ghost use Rattle.sign_font.specs.Sign.{SignData};
+ghost use Rattle.sign_font.specs.Sign.{SignData, cell_in};
 ghost use Rattle.sign_font.specs.declared.parts.Defaults.{Defaults};
 ghost use Rattle.multi_layout.specs.Codes.{code_of};
 ghost use Rattle.multi_layout.specs.Limits.{check_limit};
 ghost use Rattle.multi_layout.specs.Meaning.{Does, Faulty, Shows, meaning};
+ghost use Rattle.multi_layout.specs.Item.{IsKnownItem, meant_by};
 ghost use Rattle.multi_layout.specs.State.{IsKnown, IsReady, Judges};
 ghost use Rattle.multi_layout.specs.Verdict.{Accepted, IsCycle, IsVerdict, Refused};
 
 use crate::area::Area;
-use crate::attributes::Attributes;
+use crate::attributes::{Attributes, Rectangle, whole_sign};
 use crate::checked::Checked;
 use crate::fault::{Fault, SyntaxError};
-use crate::line::Character;
+use crate::item::{Item, read_item};
 use crate::state::State;
-use multi_tag::{FontPick, Tag, TagFault, read_tag};
-use multi_token::{Kind, Source, Token, next_token};
-use sign_font::Sign;
+use multi_tag::{FontPick, Tag};
+use multi_token::{Source, Token, next_token};
+use sign_font::{Cell, Sign};
 
 /// The first error of a string, and the offset of its item.
 #[derive(Clone, Copy)]
@@ -113,13 +114,27 @@ fn judge_token(
     ensures judged { Judges sign.now sign.now.defaults state (meaning (item_of source.old.octets token.now)) result }
     ensures steps { RisesBetween source.old source.new 0 token.now.len }
 {
-    match token.kind {
-        Kind::Char(number) => judge_character(sign, state, source, number),
-        Kind::Tag => match read_tag(source, token) {
-            Ok(tag) => judge_tag(sign, state, source, tag),
-            Err(TagFault::Unsupported) => Err(SyntaxError::UnsupportedTag),
-            Err(TagFault::Value) => Err(SyntaxError::UnsupportedTagValue),
-        },
+    match read_item(source, token) {
+        Ok(item) => judge_item(sign, state, source, item),
+        Err(error) => Err(error),
+    }
+}
+
+/// Judges an item that was read.
+pub(crate) fn judge_item(
+    sign: &Sign,
+    state: State,
+    source: &mut Source<'_>,
+    item: Item,
+) -> Result<State, SyntaxError>
+    requires ready { IsReady state }
+    requires known { IsKnownItem item }
+    ensures judged { Judges sign.now sign.now.defaults state (meant_by item) result }
+    ensures steps { RisesBetween source.old source.new 0 1 }
+{
+    match item {
+        Item::Character(number) => judge_character(sign, state, source, number),
+        Item::Tag(tag) => judge_tag(sign, state, source, tag),
     }
 }
 
@@ -158,16 +173,21 @@ fn judge_character(
     ensures judged { Judges sign.now sign.now.defaults state (Shows number) result }
     ensures step { source.new ≡ charged source.old 1 }
 {
+    let font = state.attributes.font.number;
+    match sign.cell(source, font, u16::from(number)) {
+        Some(cell) => judge_cell(state, number, &cell),
+        None => Err(SyntaxError::CharacterNotDefined),
+    }
+}
+
+/// Judges a character whose cell was found.
+pub(crate) fn judge_cell(state: State, number: u8, cell: &Cell<'_>) -> Result<State, SyntaxError>
+    requires { IsReady state }
+    ensures judged { (sign : SignData) (defaults : Defaults) → cell_in sign state.attributes.font.number number ≡ Some cell.now
+        → Judges sign defaults state (Shows number) result }
+{
     let attributes = state.attributes;
-    let Some(cell) = sign.cell(source, attributes.font.number, u16::from(number)) else {
-        return Err(SyntaxError::CharacterNotDefined);
-    };
-    let character = Character {
-        just: attributes.line_just,
-        spacing: attributes.spacing,
-        width: cell.width(),
-        font: attributes.font,
-    };
+    let character = attributes.character(cell.width());
     if state
         .area
         .conflicts_with_character(attributes.page_just, attributes.line_just)
@@ -175,7 +195,8 @@ fn judge_character(
         return Err(SyntaxError::TagConflict);
     }
     let area = state.area.with_character(attributes.page_just, &character);
-    if area.fits_with_character(attributes.page_just, attributes.width, attributes.height) {
+    let Rectangle { width, height, .. } = attributes.rectangle;
+    if area.fits_with_character(attributes.page_just, width, height) {
         Ok(State { area, ..state })
     } else {
         Err(SyntaxError::TextTooBig)
@@ -194,7 +215,7 @@ fn judge_break(state: State, gap: Option<u8>) -> Result<State, SyntaxError>
     let area = state
         .area
         .with_break(attributes.page_just, gap, &attributes.font);
-    if area.fits_with_break(attributes.height) {
+    if area.fits_with_break(attributes.rectangle.height) {
         Ok(State { area, ..state })
     } else {
         Err(SyntaxError::TextTooBig)
@@ -214,8 +235,7 @@ fn judge_page(sign: &Sign, state: State) -> Result<State, SyntaxError>
         pages: state.pages + 1,
         cycle: state.cycle + u32::from(attributes.on) + u32::from(attributes.off),
         attributes: Attributes {
-            width: sign.width(),
-            height: sign.height(),
+            rectangle: whole_sign(sign),
             ..attributes
         },
         area: Area::new(),
@@ -268,16 +288,20 @@ fn judge_rectangle(
     requires { IsReady state }
     ensures judged { Judges sign.now sign.now.defaults state (Does (Tag.Rect x y w h)) result }
 {
-    let Some(width) = part_of(sign.width(), x, w) else {
+    let Some((left, width)) = part_of(sign.width(), x, w) else {
         return Err(SyntaxError::UnsupportedTagValue);
     };
-    let Some(height) = part_of(sign.height(), y, h) else {
+    let Some((top, height)) = part_of(sign.height(), y, h) else {
         return Err(SyntaxError::UnsupportedTagValue);
     };
     Ok(State {
         attributes: Attributes {
-            width,
-            height,
+            rectangle: Rectangle {
+                left,
+                top,
+                width,
+                height,
+            },
             ..state.attributes
         },
         area: Area::new(),
@@ -285,10 +309,11 @@ fn judge_rectangle(
     })
 }
 
-/// The pixels of a part of the sign's width or height, which begins at a pixel counted from 1; a length of 0
-/// reaches to the end. None where the part isn't inside.
-fn part_of(whole: u16, from: u32, length: u32) -> Option<u16>
-    ensures inside { IfSome result (λ pixels. (1 ≤ from) × (from ≤ whole) × (from - 1 + length ≤ whole) × (pixels ≡ (if length == 0 then whole - (from - 1) else length))) }
+/// A part of the sign's width or height, which begins at a pixel counted from 1: its first pixel, counted from
+/// 0, and its pixels; a length of 0 reaches to the end. None where the part isn't inside.
+fn part_of(whole: u16, from: u32, length: u32) -> Option<(u16, u16)>
+    ensures inside { IfSome result (λ part. (1 ≤ from) × (from ≤ whole) × (from - 1 + length ≤ whole) × (part.0 ≡ from - 1)
+        × (part.1 ≡ (if length == 0 then whole - (from - 1) else length))) }
     ensures outside { IfNone result (1 ≤ from → from ≤ whole → from - 1 + length ≤ whole → ⊥) }
 {
     let whole = u64::from(whole);
@@ -296,9 +321,10 @@ fn part_of(whole: u16, from: u32, length: u32) -> Option<u16>
     if from == 0 || from > whole || from - 1 + length > whole {
         return None;
     }
+    let first = from - 1;
     if length == 0 {
-        Some((whole - (from - 1)) as u16)
+        Some((first as u16, (whole - first) as u16))
     } else {
-        Some(length as u16)
+        Some((first as u16, length as u16))
     }
 }

@@ -6,17 +6,29 @@
 
 mod area;
 mod attributes;
+mod cell;
 mod checked;
+mod cursor;
+mod draw;
 mod fault;
+mod item;
 mod judge;
 mod laws;
 mod line;
+mod pages;
+mod paint;
+mod place;
+mod read;
 mod state;
+mod table;
+mod times;
 
 pub use checked::Checked;
 pub use fault::{Fault, SyntaxError};
 pub use judge::check;
 pub use laws::{one_verdict, refusal_stands, smaller_fits};
+pub use pages::{PageView, Pages};
+pub use times::Shown;
 
 #[cfg(test)]
 mod tests;

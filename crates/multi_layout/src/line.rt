@@ -7,7 +7,7 @@ ghost use Rattle.multi_layout.specs.Address.{Spot, is_glyph};
 ghost use Rattle.multi_layout.specs.Fit.{fit, line_fits};
 ghost use Rattle.multi_layout.specs.Line.{average};
 ghost use Rattle.multi_layout.specs.Offence.{clashes};
-ghost use Rattle.multi_layout.specs.Sums.{segment_sum, line_sum, IsCharacter, IsLineBelow};
+ghost use Rattle.multi_layout.specs.Sums.{segment_sum, line_sum, IsCharacter, IsSegmentBelow, IsLineBelow};
 
 use sign_font::FontInfo;
 
@@ -29,6 +29,8 @@ pub(crate) struct Character {
 pub(crate) struct Segment {
     /// Their width in pixels, with the gaps between them.
     pub(crate) width: u64,
+    /// How many there are.
+    pub(crate) count: u64,
     /// The character spacing of the last one's font, in pixels, if there is one.
     pub(crate) last: Option<u8>,
 }
@@ -56,26 +58,28 @@ impl Segment {
     /// A segment of no line yet.
     pub(crate) fn new() -> Segment
         ensures sum { (just : ℕ) → result ≡ segment_sum just [] }
-        ensures below { result.width ≤ 0 }
+        ensures below { IsSegmentBelow 0 result }
     {
         Segment {
             width: 0,
+            count: 0,
             last: None,
         }
     }
 
     /// The segment `just` of the line with one more character.
     pub(crate) fn with_character(self, just: u8, character: &Character) -> Segment
-        requires below { self.width ≤ 2 ^ 62 }
+        requires below { IsSegmentBelow (2 ^ 62) self }
         ensures sum { (line : List Spot) (s : Spot) → IsCharacter s character.now → self ≡ segment_sum just line
             → result ≡ segment_sum just (line ++ s ∷ []) }
-        ensures grows { result.width ≤ self.width + 1024 }
+        ensures grows { (k : ℕ) → IsSegmentBelow k self → IsSegmentBelow (k + 1024) result }
     {
         if character.just != just {
             return self;
         }
         Segment {
             width: self.width + u64::from(self.gap(character)) + u64::from(character.width),
+            count: self.count + 1,
             last: Some(character.font.char_spacing),
         }
     }
@@ -133,6 +137,20 @@ impl Line {
             height: self.height.max(character.font.height),
             spacing: self.spacing.max(character.font.line_spacing),
             any: true,
+        }
+    }
+
+    /// The characters with this line justification: left 2, centre 3, right 4, full 5.
+    pub(crate) fn segment(&self, just: u8) -> Segment
+        requires known { (2 ≤ just) × (just ≤ 5) }
+        ensures sum { (line : List Spot) → self.now ≡ line_sum line → result ≡ segment_sum just line }
+        ensures below { (k : ℕ) → IsLineBelow k self.now → IsSegmentBelow k result }
+    {
+        match just {
+            2 => self.left,
+            3 => self.centre,
+            4 => self.right,
+            _ => self.full,
         }
     }
 

@@ -1,9 +1,10 @@
 //! What the verdict keeps of the items that it has read.
 
 ghost use Rattle.std.specs.Prelude.{◌≡◌, []};
+ghost use Rattle.sign_font.specs.Sound.{IsSound};
 
 use crate::area::Area;
-use crate::attributes::Attributes;
+use crate::attributes::{Attributes, whole_sign};
 use sign_font::{FontInfo, Sign};
 
 /// The running state of a verdict.
@@ -22,7 +23,8 @@ impl State {
 
     /// The state before the first item.
     pub(crate) fn new(sign: &Sign) -> State
-        ensures { IsStateOf sign.now sign.now.defaults [] result }
+        ensures start { IsStateOf sign.now sign.now.defaults [] result }
+        ensures sound { IsSound sign.now }
     {
         let defaults = sign.defaults();
         State {
@@ -33,10 +35,12 @@ impl State {
                 line_just: defaults.line,
                 page_just: defaults.page,
                 spacing: None,
+                fore: defaults.fore,
+                back: defaults.back,
                 on: defaults.page_on,
                 off: defaults.page_off,
-                width: sign.width(),
-                height: sign.height(),
+                flash: None,
+                rectangle: whole_sign(sign),
             },
             area: Area::new(),
         }

@@ -1,5 +1,8 @@
-use crate::check;
+mod pictures;
+
+use crate::{Shown, check};
 use multi_token::Source;
+use page_plane::Plane;
 use sign_font::{Sign, sample_sign};
 use std::alloc::Global;
 use std::test::Fail;
@@ -34,6 +37,22 @@ fn cycle(sign: &Sign, octets: &[u8]) -> Option<u32> {
         Ok(checked) => Some(checked.cycle()),
         Err(_) => None,
     }
+}
+
+/// What is shown of an accepted string of at most 4,096 octets at a clock.
+fn located(sign: &Sign, octets: &[u8], clock: u64) -> Option<Shown> {
+    if octets.len() > 4096 {
+        return None;
+    }
+    match check(sign, Source::new(octets)) {
+        Ok(mut checked) => Some(checked.locate(clock)),
+        Err(_) => None,
+    }
+}
+
+/// A page at a phase.
+fn page(page: u8, phase: u64) -> Shown {
+    Shown::Page { page, phase }
 }
 
 /// A text this many times.
@@ -189,5 +208,108 @@ fn a_string_comes_back_with_its_steps(rt: HostRuntime) -> Result<(), Fail> {
             assert_eq!(rt; fault.source.len(), 7);
         }
     }
+    Ok(())
+}
+
+#[test]
+fn pages_are_shown_in_turn(rt: HostRuntime) -> Result<(), Fail> {
+    let sign = sign(rt.alloc(), 2)?;
+    let rows: [(&[u8], u64, Shown); 11] = [
+        (b"[pt10o5]A[np]A", 9, page(0, 9)),
+        (b"[pt10o5]A[np]A", 10, Shown::Off),
+        (b"[pt10o5]A[np]A", 15, page(1, 0)),
+        (b"[pt10o5]A[np]A", 29, Shown::Off),
+        (b"[pt10o5]A[np]A", 30, page(0, 0)),
+        (b"[pt10o5]A[np]A", u64::MAX, page(1, 0)),
+        (b"[pt0o0]A[np]A", 42, page(0, 42)),
+        (b"[pt0o5]A[np]A", 0, Shown::Off),
+        (b"A[np]A[pt10]", 30, page(1, 0)),
+        (b"A[np]A[pt10]", 40, page(0, 0)),
+        (b"[pt0o5]A", 7, page(0, 7)),
+    ];
+    for (octets, clock, want) in rows {
+        assert_eq!(rt;
+            located(&sign, octets, clock),
+            Some(want),
+            "{octets:?} at {clock}"
+        );
+    }
+    Ok(())
+}
+
+#[test]
+fn a_page_is_found_in_few_steps(rt: HostRuntime) -> Result<(), Fail> {
+    let sign = sign(rt.alloc(), 2)?;
+    match check(&sign, Source::new(b"A")) {
+        Ok(mut checked) => {
+            let before = checked.steps();
+            assert!(rt; before <= 3, "{before} steps to check");
+            checked.locate(0);
+            let after = checked.steps();
+            assert!(rt;
+                after <= before.saturating_add(3),
+                "{after} steps to check and locate"
+            );
+        }
+        Err(_) => assert!(rt; false, "the string is accepted"),
+    }
+    match check(&sign, Source::new(b"A[np]A")) {
+        Ok(mut checked) => {
+            let before = checked.steps();
+            checked.locate(30);
+            let after = checked.steps();
+            assert!(rt;
+                after <= before.saturating_add(13),
+                "{before} steps and then {after}"
+            );
+        }
+        Err(_) => assert!(rt; false, "the string is accepted"),
+    }
+    Ok(())
+}
+
+/// Whether a plane of the sample sign's size shows one `A` in its middle, and nothing else.
+fn shows_an_a(plane: &Plane) -> bool {
+    if plane.width() != 12 || plane.height() != 7 {
+        return false;
+    }
+    let rows = [0, 0, 0b0000_0100, 0b0000_1110, 0b0000_1010, 0, 0];
+    for y in 0..7 {
+        if plane.row(y) != [rows[usize::from(y)], 0].as_slice() {
+            return false;
+        }
+    }
+    true
+}
+
+#[test]
+fn the_pages_of_a_string_are_drawn_in_turn(rt: HostRuntime) -> Result<(), Fail> {
+    let sign = sign(rt.alloc(), 2)?;
+    let plane = Plane::new(rt.alloc(), sign.width(), sign.height())?;
+    let Ok(checked) = check(&sign, Source::new(b"A[np]A")) else {
+        panic!(rt; "the string is accepted");
+    };
+    let judged = checked.steps();
+    assert!(rt; judged <= 13, "{judged} steps to judge");
+
+    let mut pages = checked.each_page(0, 1, plane);
+    let Some(view) = pages.next_page() else {
+        panic!(rt; "page 0 is missing");
+    };
+    assert_eq!(rt; view.page, 0);
+    assert!(rt; shows_an_a(view.plane), "page 0");
+    let Some(view) = pages.next_page() else {
+        panic!(rt; "page 1 is missing");
+    };
+    assert_eq!(rt; view.page, 1);
+    assert!(rt; shows_an_a(view.plane), "page 1");
+    assert!(rt; pages.next_page().is_none(), "there are two pages");
+
+    let drawn = pages.steps();
+    assert!(rt; drawn <= 84, "{drawn} steps to draw");
+    let (checked, plane) = pages.finish();
+    let (read, put) = (checked.steps(), plane.steps());
+    assert!(rt; read <= 39, "{read} steps over the string");
+    assert!(rt; put <= 58, "{put} steps over the plane");
     Ok(())
 }

@@ -1,16 +1,16 @@
-use Rattle.std.proofs.Common.{◌≡◌, ◌+◌, ◌<◌, ◌≤◌, ◌++◌, [], ◌∷◌, None, Some, length, drop, map, refl, sym, ap, ◌∙◌, arith, subst}
+use Rattle.std.proofs.Common.{◌≡◌, ◌++◌, [], ◌∷◌, None, length, map, refl, sym, ap, ◌∙◌, arith, subst}
 use Rattle.multi_token.specs.Counted.{Counted, charged}
 use Rattle.multi_token.specs.Tokens.{IsTokenOf, item_of}
 use Rattle.multi_layout.specs.Codes.{code_of}
 use Rattle.multi_layout.specs.Meaning.{Meaning, meaning}
 use Rattle.multi_layout.specs.Offence.{offence}
 use Rattle.multi_layout.specs.State.{IsStateOf}
-use Rattle.multi_layout.proofs.ReadLemmas.{nothing_read, ready_here, read_more, refused_here, accepted_at_end, cycle_at_end, refused_at_bracket}
+use Rattle.multi_layout.proofs.ReadLemmas.{nothing_read, read_more, refused_here, accepted_at_end, cycle_at_end, refused_at_bracket}
 use Rattle.multi_layout.proofs.judge.judge.Goals as goal
 
 pub loop-token-init : goal.loop-token-init
 loop-token-init c = record {
-  so_far = nothing_read c.args.sign.now c.args.sign.now.defaults c.args.source.now.octets c.new-state.result c.new-state.ensures;
+  so_far = nothing_read c.args.sign.now c.args.sign.now.defaults c.args.source.now.octets c.new-state.result c.new-state.ensures.start;
   octets = refl;
   least = omega arith;
   most = omega (arith, c.requires.fresh);

@@ -1,4 +1,4 @@
-use Rattle.std.proofs.Common.{◌≡◌, ℕ, ◌+◌, ◌<◌, ◌≤◌, Option, cond, Some, None, refl, sym, ap, ◌∙◌, arith}
+use Rattle.std.proofs.Common.{ℕ, ◌+◌, ◌<◌, ◌≤◌, Option, cond, Some, None, refl, ap, ◌∙◌, arith}
 use Rattle.std.proofs.lemmas.Bool.{lt-ltb, le-ltb}
 use Rattle.multi_layout.proofs.JudgedLemmas.{judged-page, state-page}
 use Rattle.multi_layout.proofs.judge.judge_page.Goals as goal
@@ -17,6 +17,6 @@ returns c = record {
       let on : c.args.state.attributes.on ≤ 255 = omega arith in
       let off : c.args.state.attributes.off ≤ 255 = omega arith in (
         judged-page c.args.sign.now c.args.sign.now.defaults items c.args.state st ∙ ap (λ b. cond {A = Option ℕ} b (Some 12) None) (le-ltb c.args.sign.now.max_pages (c.args.state.pages + 1) room),
-        state-page c.args.sign.now c.args.sign.now.defaults items c.args.state st _ refl (omega (arith, c.from.ensures, c.from-2.ensures)) (rw (c.width.ensures.width, c.height.ensures.height) refl) c.new.ensures.sum c.new.ensures.below on off,
+        state-page c.args.sign.now c.args.sign.now.defaults items c.args.state st _ refl (omega (arith, c.from.ensures, c.from-2.ensures)) (rw c.whole_sign.ensures refl) c.new.ensures.sum c.new.ensures.below on off,
       );
 }

@@ -1,5 +1,6 @@
-use Rattle.std.proofs.Common.{◌≡◌, ℕ, ◌-◌, Option, cond, Some, None, refl, sym, ap, ◌∙◌}
+use Rattle.std.proofs.Common.{ℕ, Option, cond, Some, None, refl, ap, ◌∙◌}
 use Rattle.multi_layout.specs.declared.attributes.Attributes.{Attributes}
+use Rattle.multi_layout.specs.Attributes.{rectangle}
 use Rattle.multi_layout.proofs.JudgedLemmas.{judged-rectangle, state-rectangle}
 use Rattle.multi_layout.proofs.TagLemmas.{outside_across, outside_down, inside}
 use Rattle.multi_layout.proofs.judge.judge_rectangle.Goals as goal
@@ -29,11 +30,13 @@ returns c = record {
       let across = rw c.width.ensures.width at c.in-Some.ensures.inside in
       let down = rw c.height.ensures.height at c.in-Some-part_of.ensures.inside in
       let fine = inside sign c.args.x c.args.y c.args.w c.args.h across.0 across.1 across.2 down.0 down.1 down.2 in
-      let wide = across.3 in
-      let high = down.3 in (
+      let left = across.3 in
+      let wide = across.4 in
+      let top = down.3 in
+      let high = down.4 in (
         judged-rectangle sign sign.defaults items c.args.state st c.args.x c.args.y c.args.w c.args.h ∙ ap (λ b. cond {A = Option ℕ} b None (Some 4)) fine,
         state-rectangle sign sign.defaults items c.args.state _ c.args.x c.args.y c.args.w c.args.h st refl refl
-            (rw (wide, high) (ap (λ (a : Attributes). let b : Attributes = record a { width = cond (Rattle.std.specs.Prelude.nat_eq c.args.w 0) (sign.width - (c.args.x - 1)) c.args.w; height = cond (Rattle.std.specs.Prelude.nat_eq c.args.h 0) (sign.height - (c.args.y - 1)) c.args.h } in b) st.attributes))
+            (rw (left, wide, top, high) (ap (λ (a : Attributes). let b : Attributes = record a { rectangle = rectangle sign c.args.x c.args.y c.args.w c.args.h } in b) st.attributes))
             c.new.ensures.sum c.requires.line_just c.requires.page_just c.new.ensures.below,
       );
 }

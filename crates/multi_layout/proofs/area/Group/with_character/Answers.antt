@@ -12,4 +12,4 @@ returns-clause-sum c area s placing e is page =
     (c.with_character.ensures.sum (after_last is_break (in_group just area)) s (present_glyphs just area placing) is (ap (λ (g : Group). g.line) e))
 
 pub returns-clause-grows : goal.returns-clause-grows
-returns-clause-grows c k below = record { closed = omega (arith, below.closed); line = c.with_character.ensures.grows k below.line }
+returns-clause-grows c k below = record { ended = omega (arith, below.ended); closed = omega (arith, below.closed); line = c.with_character.ensures.grows k below.line }

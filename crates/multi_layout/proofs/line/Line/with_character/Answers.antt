@@ -11,3 +11,11 @@ returns-clause-sum c line s glyphs is e =
     (c.with_character-3.ensures.sum line s is (ap (λ (l : Line). l.right) e))
     (c.with_character-4.ensures.sum line s is (ap (λ (l : Line). l.full) e))
     (c.max.ensures) refl (c.max-2.ensures) (c.max-3.ensures) refl
+
+pub returns-clause-grows : goal.returns-clause-grows
+returns-clause-grows c k below = record {
+  left = c.with_character.ensures.grows k below.left;
+  centre = c.with_character-2.ensures.grows k below.centre;
+  right = c.with_character-3.ensures.grows k below.right;
+  full = c.with_character-4.ensures.grows k below.full;
+}

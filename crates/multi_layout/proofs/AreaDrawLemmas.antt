@@ -1,0 +1,160 @@
+-- The items of an area, drawn one after the other.
+use Rattle.std.proofs.Common.{◌≡◌, ℕ, ◌+◌, ◌<◌, ◌≤◌, false, List, [], ◌∷◌, ◌++◌, length, map, Some, refl, sym, ap, subst, ◌∙◌, arith, append_assoc, append-nil}
+use Rattle.std.proofs.Math.Nat.{mul-add, mul-le-mul_left}
+use Rattle.std.proofs.lemmas.List.{length-append, map-append}
+use Rattle.std.proofs.lemmas.List.Elements.{All-head, All-tail}
+use Rattle.multi_token.specs.Spelling.{Item, spelling, spell}
+use Rattle.multi_token.proofs.ReadingLemmas.{spelling_some}
+use Rattle.page_plane.specs.Plane.{BitPlane}
+use Rattle.sign_font.specs.declared.parts.Defaults.{Defaults}
+use Rattle.sign_font.specs.Sign.{SignData, tallest}
+use Rattle.multi_layout.specs.declared.cursor.Cursor.{Cursor}
+use Rattle.multi_layout.specs.declared.cursor.Next.{Next}
+use Rattle.multi_layout.specs.declared.paint.Layer.{Layer}
+use Rattle.multi_layout.specs.declared.table.LineTable.{LineTable}
+use Rattle.multi_layout.specs.Address.{spots, standing, in_area}
+use Rattle.multi_layout.specs.Limits.{plane_octets}
+use Rattle.multi_layout.specs.Meaning.{begins_area, meaning}
+use Rattle.multi_layout.specs.Passes.{HasCounted, IsDrawnTo, IsFilledBy, IsPlain, whole_area}
+use Rattle.multi_layout.specs.Walk.{IsBetween, IsFirst, IsRead}
+use Rattle.multi_layout.proofs.StateLemmas.{same_area}
+use Rattle.multi_layout.proofs.WalkLemmas.{spell-append}
+
+-- these of the area's items are drawn, and those are left
+pub record AreaSoFar (sign : SignData) (defaults : Defaults) (octets : List ℕ) (before area rest : List Item) (lines : LineTable) (layer : Layer) (cursor : Cursor) (old new : BitPlane) : Type 0 where
+  pub done : List Item
+  pub left : List Item
+  pub split : area ≡ done ++ left
+  pub plain : IsPlain left
+  pub between : IsBetween sign defaults octets (before ++ done) (left ++ rest) cursor
+  pub counted : HasCounted (whole_area sign defaults (before ++ done) (left ++ rest)) lines
+  pub drawn : IsDrawnTo sign defaults layer (map meaning (before ++ (area ++ rest))) (map meaning before) old → IsDrawnTo sign defaults layer (map meaning (before ++ (area ++ rest))) (map meaning (before ++ done)) new
+
+module _ (sign : SignData) (defaults : Defaults) (octets : List ℕ) (before area rest : List Item) (lines : LineTable) (layer : Layer) (old : BitPlane) where
+  -- none is drawn
+  pub area_begins : (cursor : Cursor) → IsBetween sign defaults octets before (area ++ rest) cursor → IsPlain area → HasCounted (whole_area sign defaults before (area ++ rest)) lines
+      → AreaSoFar sign defaults octets before area rest lines layer cursor old old
+  area_begins cursor b plain counted =
+      let none : before ++ [] ≡ before = append-nil before in record {
+        done = [];
+        left = area;
+        split = refl;
+        plain = plain;
+        between = subst (λ l. IsBetween sign defaults octets l (area ++ rest) cursor) (sym none) b;
+        counted = subst (λ l. HasCounted (whole_area sign defaults l (area ++ rest)) lines) (sym none) counted;
+        drawn = λ d. subst (λ l. IsDrawnTo sign defaults layer (map meaning (before ++ (area ++ rest))) (map meaning l) old) (sym none) d;
+      }
+
+  module _ (cursor : Cursor) (new : BitPlane) (s : AreaSoFar sign defaults octets before area rest lines layer cursor old new) (end : ℕ) (ends : end ≡ length (spell before) + length (spell area)) where
+    ahead : length (spell area) ≡ length (spell s.done) + length (spell s.left)
+    ahead = ap (λ l. length (spell l)) s.split ∙ ap length (spell-append s.done s.left) ∙ length-append (spell s.done) (spell s.left)
+
+    here : cursor.at ≡ length (spell before) + length (spell s.done)
+    here = s.between.place ∙ ap length (spell-append before s.done) ∙ length-append (spell before) (spell s.done)
+
+    -- before the end one is left
+    pub one_left : cursor.at < end → (item : Item) × (more : List Item) × (s.left ≡ item ∷ more)
+    one_left more = of s.left (omega (arith, more, ends, ahead, here))
+      where
+        of : (left : List Item) → 1 ≤ length (spell left) → (item : Item) × (more : List Item) × (left ≡ item ∷ more)
+        of [] h = absurd (omega (arith, h))
+        of (item ∷ more) h = (item, more, refl)
+
+    -- at the end none is left
+    pub none_left : end ≤ cursor.at → s.left ≡ []
+    none_left reached = of s.left (omega (arith, reached, ends, ahead, here))
+      where
+        of : (left : List Item) → length (spell left) ≤ 0 → left ≡ []
+        of [] h = refl
+        of (item ∷ more) h = absurd (omega (arith, h, spelling_some item, length-append (spelling item) (spell more)))
+
+    pub area_ended : end ≤ cursor.at → (s.done ≡ area) × IsBetween sign defaults octets (before ++ area) rest cursor
+    area_ended reached =
+        let none = none_left reached in
+        let all : area ≡ s.done = s.split ∙ ap (λ l. s.done ++ l) none ∙ append-nil s.done in (
+          sym all,
+          subst (λ l. IsBetween sign defaults octets (before ++ l) rest cursor) (sym all) (subst (λ l. IsBetween sign defaults octets (before ++ s.done) (l ++ rest) cursor) none s.between),
+        )
+
+    pub none_first : cursor.at < end → s.left ++ rest ≡ [] → ⊥
+    none_first before_end none =
+        let (item, more, is) = one_left before_end in
+        let wrong : item ∷ (more ++ rest) ≡ [] = ap (λ l. l ++ rest) (sym is) ∙ none in
+        absurd cc
+
+    -- the cursor is at the end
+    pub at_end : end ≤ cursor.at → cursor.at ≡ end
+    at_end reached = omega (arith, reached, (area_ended reached).1.place, ends, ap length (spell-append before area), length-append (spell before) (spell area))
+
+    -- the next item is the first that is left
+    pub area_next : cursor.at < end → (next : Next) → ((earlier behind : List Item) → IsBetween sign defaults octets earlier behind cursor → IsFirst behind (Some next))
+        → (item : Item) × (more : List Item) × (s.left ≡ item ∷ more) × IsBetween sign defaults octets (before ++ s.done) (item ∷ (more ++ rest)) cursor × IsRead item next
+        × HasCounted (whole_area sign defaults (before ++ s.done) (item ∷ (more ++ rest))) lines × (begins_area (meaning item) ≡ false)
+    area_next before_end next first =
+        let (item, more, is) = one_left before_end in
+        let b : IsBetween sign defaults octets (before ++ s.done) (item ∷ (more ++ rest)) cursor = subst (λ l. IsBetween sign defaults octets (before ++ s.done) (l ++ rest) cursor) is s.between in
+        let (found, others, same, read) = first (before ++ s.done) (item ∷ (more ++ rest)) b in
+        let one : found ≡ item = cc in (
+          item,
+          more,
+          is,
+          b,
+          subst (λ x. IsRead x next) one read,
+          subst (λ l. HasCounted (whole_area sign defaults (before ++ s.done) (l ++ rest)) lines) is s.counted,
+          All-head (λ x. begins_area (meaning x) ≡ false) item more (subst IsPlain is s.plain),
+        )
+
+    -- one more is drawn
+    pub area_more : (item : Item) (more : List Item) → s.left ≡ item ∷ more → (cursor' : Cursor) (new' : BitPlane)
+        → IsBetween sign defaults octets ((before ++ s.done) ++ item ∷ []) (more ++ rest) cursor'
+        → (IsDrawnTo sign defaults layer (map meaning ((before ++ s.done) ++ item ∷ (more ++ rest))) (map meaning (before ++ s.done)) new → IsDrawnTo sign defaults layer (map meaning ((before ++ s.done) ++ item ∷ (more ++ rest))) (map meaning ((before ++ s.done) ++ item ∷ [])) new')
+        → AreaSoFar sign defaults octets before area rest lines layer cursor' old new'
+    area_more item more is cursor' new' between drawn =
+        let plain = subst IsPlain is s.plain in
+        let first : begins_area (meaning item) ≡ false = All-head (λ x. begins_area (meaning x) ≡ false) item more plain in
+        let assoc : (before ++ s.done) ++ item ∷ [] ≡ before ++ (s.done ++ item ∷ []) = append_assoc before s.done (item ∷ []) in
+        let all : before ++ (area ++ rest) ≡ (before ++ s.done) ++ item ∷ (more ++ rest) =
+        ap (λ l. before ++ (l ++ rest)) (s.split ∙ ap (λ l. s.done ++ l) is) ∙ ap (λ l. before ++ l) (append_assoc s.done (item ∷ more) rest) ∙ sym (append_assoc before s.done (item ∷ (more ++ rest))) in
+        let on : (before ++ s.done) ++ item ∷ (more ++ rest) ≡ ((before ++ s.done) ++ item ∷ []) ++ (more ++ rest) = sym (append_assoc (before ++ s.done) (item ∷ []) (more ++ rest)) in
+        let area_is : (standing sign defaults (map meaning ((before ++ s.done) ++ item ∷ []))).area ≡ (standing sign defaults (map meaning (before ++ s.done))).area =
+        ap (λ ms. (standing sign defaults ms).area) (map-append meaning (before ++ s.done) (item ∷ [])) ∙ same_area sign defaults (map meaning (before ++ s.done)) (meaning item) first in
+        let counted : HasCounted (whole_area sign defaults ((before ++ s.done) ++ item ∷ []) (more ++ rest)) lines =
+        subst (λ n. HasCounted (in_area n (spots sign defaults (map meaning (((before ++ s.done) ++ item ∷ []) ++ (more ++ rest))))) lines) (sym area_is)
+        (subst (λ l. HasCounted (in_area (standing sign defaults (map meaning (before ++ s.done))).area (spots sign defaults (map meaning l))) lines) on (subst (λ l. HasCounted (whole_area sign defaults (before ++ s.done) (l ++ rest)) lines) is s.counted)) in
+        record {
+          done = s.done ++ item ∷ [];
+          left = more;
+          split = s.split ∙ ap (λ l. s.done ++ l) is ∙ sym (append_assoc s.done (item ∷ []) more);
+          plain = All-tail (λ x. begins_area (meaning x) ≡ false) item more plain;
+          between = subst (λ l. IsBetween sign defaults octets l (more ++ rest) cursor') assoc between;
+          counted = subst (λ l. HasCounted (whole_area sign defaults l (more ++ rest)) lines) assoc counted;
+          drawn = λ d.
+              subst (λ l. IsDrawnTo sign defaults layer (map meaning (before ++ (area ++ rest))) (map meaning l) new') assoc
+              (subst (λ l. IsDrawnTo sign defaults layer (map meaning l) (map meaning ((before ++ s.done) ++ item ∷ [])) new') (sym all)
+              (drawn (subst (λ l. IsDrawnTo sign defaults layer (map meaning l) (map meaning (before ++ s.done)) new) all (s.drawn d))));
+        }
+
+-- the steps over the plane add up
+pub filled_then : (sign : SignData) (a b c : BitPlane) (m n : ℕ) → IsFilledBy sign a b m → IsFilledBy sign b c n → IsFilledBy sign a c (m + n)
+filled_then sign a b c m n x y = record {
+  fills = x.fills + y.fills;
+  few = omega (arith, x.few, y.few);
+  least = omega (arith, x.least, y.least);
+  most = omega (arith, x.most, y.most, mul-add (tallest sign) m n, mul-add (plane_octets sign) x.fills y.fills);
+  width = y.width ∙ x.width;
+  height = y.height ∙ x.height;
+}
+
+pub filled_none : (sign : SignData) (a : BitPlane) → IsFilledBy sign a a 0
+filled_none sign a = record { fills = 0; few = omega arith; least = omega arith; most = omega arith; width = refl; height = refl }
+
+-- octets that put nothing
+pub filled_longer : (sign : SignData) (a b : BitPlane) (m n : ℕ) → m ≤ n → IsFilledBy sign a b m → IsFilledBy sign a b n
+filled_longer sign a b m n more x = record {
+  fills = x.fills;
+  few = omega (arith, x.few, more);
+  least = x.least;
+  most = omega (arith, x.most, mul-le-mul_left (tallest sign) more);
+  width = x.width;
+  height = x.height;
+}

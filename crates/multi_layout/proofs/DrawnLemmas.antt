@@ -1,0 +1,413 @@
+-- A pixel of a page at one more item, where a page begins and where it ends; an area where it ends.
+use Rattle.std.proofs.Common.{◌≡◌, ℕ, ◌+◌, ◌-◌, ◌<◌, ◌≤◌, Bool, true, false, cond, ◌&&◌, ◌||◌, ◌==◌, List, [], ◌∷◌, ◌++◌, Option, Some, None, refl, sym, ap, ◌∙◌, arith, append-nil, append_assoc, subst, ◌⊎◌, inl, inr}
+use Rattle.std.specs.Prelude.{nat_le, nat_lt}
+use Rattle.std.specs.List.{filter_map, last_or, cons_option, All}
+use Rattle.std.specs.Option.{option_map, unwrap_or}
+use Rattle.std.proofs.lemmas.Bool.{eq-eqb, ne_eqb, and_right}
+use Rattle.std.proofs.lemmas.List.Elements.{All-nil, All-cons, All-head, All-tail, All-weaker, filter_map-append}
+use Rattle.std.proofs.lemmas.List.Sums.{sum_by-append}
+use Rattle.multi_tag.specs.declared.tag.Tag.TheVariants.{NewPage, NewLine, Back, Rect}
+use Rattle.sign_font.specs.declared.parts.Defaults.{Defaults}
+use Rattle.sign_font.specs.Cell as cells
+use Rattle.sign_font.specs.Sign.{SignData, CellData, cell_numbered, sized}
+use Rattle.multi_layout.specs.Address.{Standing, standing, Put, Glyph, Break, Cover, Spot, spot_at, put_at, spots, is_glyph, is_break, in_area}
+use Rattle.multi_layout.specs.declared.place.Place.{Place}
+use Rattle.multi_layout.specs.Place.{place_of}
+use Rattle.multi_layout.specs.Picture.{Thing, thing_at, things_among, things, colour_of, shown_colour, is_lit_at, in_plane}
+use Rattle.multi_layout.specs.Drawn.{is_covered}
+use Rattle.multi_layout.specs.Meaning.{Meaning, Shows, Does, is_new_page, begins_area, BeginsPage, EndsPage, EndsArea}
+use Rattle.multi_layout.specs.Words.{some_after}
+use Rattle.multi_layout.proofs.WordLemmas.{some_after_push, some_after-append}
+use Rattle.multi_layout.proofs.PictureLemmas.{colour_push, covers_at}
+use Rattle.multi_layout.proofs.LayoutLemmas.{spots_push}
+use Rattle.multi_layout.proofs.AreaLemmas.{filter_none}
+use Rattle.multi_layout.proofs.StandingLemmas.{standing_push}
+use Rattle.multi_layout.proofs.StateLemmas.{in_area-append}
+
+-- what the items behind some others put
+abbrev spots_behind : SignData → Defaults → List Meaning → List Meaning → List Spot
+spots_behind sign defaults before behind = some_after (λ more item. spot_at defaults (standing sign defaults (before ++ more)) item) behind
+
+-- all items are some and those behind them
+spots_split : (sign : SignData) (defaults : Defaults) (before behind : List Meaning) → spots sign defaults (before ++ behind) ≡ spots sign defaults before ++ spots_behind sign defaults before behind
+unfolding spots
+spots_split sign defaults before behind = some_after-append (λ before item. spot_at defaults (standing sign defaults before) item) before behind
+
+-- the items behind some others leave what these put
+pub spots_append : (sign : SignData) (defaults : Defaults) (before behind : List Meaning) → (more : List Spot) × (spots sign defaults (before ++ behind) ≡ spots sign defaults before ++ more)
+spots_append sign defaults before behind = (spots_behind sign defaults before behind, spots_split sign defaults before behind)
+
+-- one more item that puts nothing
+spots_nothing : (sign : SignData) (defaults : Defaults) (before : List Meaning) (x : Meaning) → put_at defaults (standing sign defaults before) x ≡ None → spots sign defaults (before ++ x ∷ []) ≡ spots sign defaults before
+spots_nothing sign defaults before x is =
+    let here = standing sign defaults before in
+    spots_push sign defaults before x
+    ∙ ap (λ o. spots sign defaults before ++ cons_option (option_map (λ p. let s : Spot = record { at = here; put = p } in s) o) []) is
+    ∙ append-nil (spots sign defaults before)
+
+-- one more item that puts something
+spots_more : (sign : SignData) (defaults : Defaults) (before : List Meaning) (x : Meaning) (put : Put) → put_at defaults (standing sign defaults before) x ≡ Some put
+    → spots sign defaults (before ++ x ∷ []) ≡ spots sign defaults before ++ record { at = standing sign defaults before; put = put } ∷ []
+spots_more sign defaults before x put is =
+    let here = standing sign defaults before in
+    spots_push sign defaults before x ∙ ap (λ o. spots sign defaults before ++ cons_option (option_map (λ p. let s : Spot = record { at = here; put = p } in s) o) []) is
+
+-- all items, cut behind one of them
+spots_cut : (sign : SignData) (defaults : Defaults) (before : List Meaning) (x : Meaning) (rest : List Meaning)
+    → spots sign defaults (before ++ x ∷ rest) ≡ spots sign defaults (before ++ x ∷ []) ++ spots_behind sign defaults (before ++ x ∷ []) rest
+spots_cut sign defaults before x rest = ap (spots sign defaults) (sym (append_assoc before (x ∷ []) rest)) ∙ spots_split sign defaults (before ++ x ∷ []) rest
+
+-- all items, with one of them that puts something
+spots_with : (sign : SignData) (defaults : Defaults) (before : List Meaning) (x : Meaning) (rest : List Meaning) (put : Put) → put_at defaults (standing sign defaults before) x ≡ Some put
+    → spots sign defaults (before ++ x ∷ rest) ≡ spots sign defaults before ++ record { at = standing sign defaults before; put = put } ∷ spots_behind sign defaults (before ++ x ∷ []) rest
+spots_with sign defaults before x rest put is =
+    let more = spots_behind sign defaults (before ++ x ∷ []) rest in
+    spots_cut sign defaults before x rest
+    ∙ ap (λ l. l ++ more) (spots_more sign defaults before x put is)
+    ∙ append_assoc (spots sign defaults before) (record { at = standing sign defaults before; put = put } ∷ []) more
+
+-- an item that is no new page leaves the page
+pub same_page_behind : (sign : SignData) (defaults : Defaults) (before : List Meaning) (x : Meaning) → is_new_page x ≡ false → (standing sign defaults (before ++ x ∷ [])).page ≡ (standing sign defaults before).page
+same_page_behind sign defaults before x stays =
+    let none : cond {A = ℕ} (is_new_page x) 1 0 ≡ 0 = ap (λ b. cond b 1 0) stays in
+    let next : (standing sign defaults (before ++ x ∷ [])).page ≡ (standing sign defaults before).page + cond (is_new_page x) 1 0 = ap (λ (s : Standing). s.page) (standing_push sign defaults before x) in
+    omega (arith, next, none)
+
+-- behind a new page stands the next page
+pub next_page_behind : (sign : SignData) (defaults : Defaults) (before : List Meaning) → (standing sign defaults (before ++ Does NewPage ∷ [])).page ≡ (standing sign defaults before).page + 1
+next_page_behind sign defaults before = ap (λ (s : Standing). s.page) (standing_push sign defaults before (Does NewPage))
+
+-- a new page leaves the background in force
+same_back : (sign : SignData) (defaults : Defaults) (before : List Meaning) → (standing sign defaults (before ++ Does NewPage ∷ [])).back ≡ (standing sign defaults before).back
+same_back sign defaults before = ap (λ (s : Standing). s.back) (standing_push sign defaults before (Does NewPage))
+
+module _ (phase : ℕ) (all : List Spot) where
+  -- one more spot, one that is no thing, and one that is
+  things_push : (some : List Spot) (s : Spot) → things_among phase all (some ++ s ∷ []) ≡ things_among phase all some ++ cons_option (thing_at phase (place_of some all s) s s.put) []
+  unfolding things_among
+  things_push some s = some_after_push (λ before spot. thing_at phase (place_of before all spot) spot spot.put) some s
+
+  things_nothing : (some : List Spot) (s : Spot) → thing_at phase (place_of some all s) s s.put ≡ None → things_among phase all (some ++ s ∷ []) ≡ things_among phase all some
+  things_nothing some s is = things_push some s ∙ ap (λ o. things_among phase all some ++ cons_option o []) is ∙ append-nil (things_among phase all some)
+
+  things_more : (some : List Spot) (s : Spot) (t : Thing) → thing_at phase (place_of some all s) s s.put ≡ Some t → things_among phase all (some ++ s ∷ []) ≡ things_among phase all some ++ t ∷ []
+  things_more some s t is = things_push some s ∙ ap (λ o. things_among phase all some ++ cons_option o []) is
+
+-- the test of a colour that is one of two
+test_if : (sign : SignData) (colour a b : ℕ) (which : Bool) → (shown_colour sign (cond which a b) == colour) ≡ cond which (shown_colour sign a == colour) (shown_colour sign b == colour)
+test_if sign colour a b true = refl
+test_if sign colour a b false = refl
+
+module _ (sign : SignData) (defaults : Defaults) (page phase colour : ℕ) (all : List Spot) (column row : ℕ) where
+  -- a pixel after one more spot that is no thing
+  covered_nothing : (some : List Spot) (s : Spot) → thing_at phase (place_of some all s) s s.put ≡ None
+      → is_covered sign defaults page phase colour all (some ++ s ∷ []) column row ≡ is_covered sign defaults page phase colour all some column row
+  unfolding is_covered
+  covered_nothing some s is = ap (λ l. shown_colour sign (colour_of defaults l page column row) == colour) (things_nothing phase all some s is)
+
+  -- a pixel after one more spot that is a thing
+  covered_more : (some : List Spot) (s : Spot) (t : Thing) → thing_at phase (place_of some all s) s s.put ≡ Some t
+      → is_covered sign defaults page phase colour all (some ++ s ∷ []) column row
+      ≡ cond (covers_at t page column row) (shown_colour sign t.colour == colour) (is_covered sign defaults page phase colour all some column row)
+  unfolding is_covered
+  covered_more some s t is =
+      ap (λ l. shown_colour sign (colour_of defaults l page column row) == colour) (things_more phase all some s t is)
+      ∙ ap (λ c. shown_colour sign c == colour) (colour_push defaults (things_among phase all some) t page column row)
+      ∙ test_if sign colour t.colour (colour_of defaults (things_among phase all some) page column row) (covers_at t page column row)
+
+  -- a pixel of the page of one more spot that covers a page
+  covered_whole : (some : List Spot) (at : Standing) (back : ℕ)
+      → is_covered sign defaults page phase colour all (some ++ record { at = at; put = Cover page back } ∷ []) column row ≡ (shown_colour sign back == colour)
+  covered_whole some at back =
+      covered_more some (record { at = at; put = Cover page back }) (record { page = page; covers = λ column row. true; colour = back }) refl
+      ∙ ap (λ b. cond (b && true) (shown_colour sign back == colour) (is_covered sign defaults page phase colour all some column row)) (eq-eqb page page refl)
+
+  -- a pixel of a page on which nothing is put
+  covered_none : is_covered sign defaults page phase colour all [] column row ≡ (shown_colour sign defaults.back == colour)
+  unfolding is_covered things_among
+  covered_none = refl
+
+spots_none : (sign : SignData) (defaults : Defaults) → spots sign defaults [] ≡ []
+unfolding spots
+spots_none sign defaults = refl
+
+first_back : (sign : SignData) (defaults : Defaults) → (standing sign defaults []).back ≡ defaults.back
+unfolding standing
+first_back sign defaults = refl
+
+module _ (sign : SignData) (defaults : Defaults) (phase colour : ℕ) (all : List Spot) (column row : ℕ) where
+  begins_first : is_covered sign defaults (standing sign defaults []).page phase colour all (spots sign defaults []) column row ≡ (shown_colour sign (standing sign defaults []).back == colour)
+  begins_first =
+      ap (λ l. is_covered sign defaults (standing sign defaults []).page phase colour all l column row) (spots_none sign defaults)
+      ∙ covered_none sign defaults (standing sign defaults []).page phase colour all column row
+      ∙ ap (λ c. shown_colour sign c == colour) (sym (first_back sign defaults))
+
+  begins_next : (earlier : List Meaning) → let before = earlier ++ Does NewPage ∷ [] in
+      is_covered sign defaults (standing sign defaults before).page phase colour all (spots sign defaults before) column row ≡ (shown_colour sign (standing sign defaults before).back == colour)
+  begins_next earlier =
+      let before = earlier ++ Does NewPage ∷ [] in
+      let at = standing sign defaults earlier in
+      ap (λ page. is_covered sign defaults page phase colour all (spots sign defaults before) column row) (next_page_behind sign defaults earlier)
+      ∙ ap (λ l. is_covered sign defaults (at.page + 1) phase colour all l column row) (spots_more sign defaults earlier (Does NewPage) (Cover (at.page + 1) at.back) refl)
+      ∙ covered_whole sign defaults (at.page + 1) phase colour all column row (spots sign defaults earlier) at at.back
+      ∙ ap (λ c. shown_colour sign c == colour) (sym (same_back sign defaults earlier))
+
+  -- where a page begins, every pixel has the background in force
+  pub covered_begins : (before : List Meaning) → BeginsPage before
+      → is_covered sign defaults (standing sign defaults before).page phase colour all (spots sign defaults before) column row ≡ (shown_colour sign (standing sign defaults before).back == colour)
+  covered_begins before (inl first) =
+      subst (λ items. is_covered sign defaults (standing sign defaults items).page phase colour all (spots sign defaults items) column row ≡ (shown_colour sign (standing sign defaults items).back == colour)) (sym first) begins_first
+  covered_begins before (inr (earlier, next)) =
+      subst (λ items. is_covered sign defaults (standing sign defaults items).page phase colour all (spots sign defaults items) column row ≡ (shown_colour sign (standing sign defaults items).back == colour)) (sym next) (begins_next earlier)
+
+  -- a pixel after one more character: its colour if the character covers the pixel, else as before
+  pub covered_glyph : (before : List Meaning) (number : ℕ) (cell : CellData) → cell_numbered (standing sign defaults before).font number ≡ Some cell →
+      let at = standing sign defaults before in
+      let spot : Spot = record { at = at; put = Glyph cell } in
+      let place = place_of (spots sign defaults before) all spot in
+      is_covered sign defaults at.page phase colour all (spots sign defaults (before ++ Shows number ∷ [])) column row
+      ≡ cond (is_lit_at phase at.flash && nat_le place.column column && nat_le place.row row && nat_lt row (place.row + at.font.height) && cells.is_lit (sized at.font cell) (column - place.column) (row - place.row))
+      (shown_colour sign at.fore == colour)
+      (is_covered sign defaults at.page phase colour all (spots sign defaults before) column row)
+  covered_glyph before number cell found =
+      let at = standing sign defaults before in
+      let spot : Spot = record { at = at; put = Glyph cell } in
+      let place = place_of (spots sign defaults before) all spot in
+      let t : Thing = record {
+        page = at.page;
+        covers = λ column row. is_lit_at phase at.flash && nat_le place.column column && nat_le place.row row && nat_lt row (place.row + at.font.height) && cells.is_lit (sized at.font cell) (column - place.column) (row - place.row);
+        colour = at.fore;
+      } in
+      ap (λ l. is_covered sign defaults at.page phase colour all l column row) (spots_more sign defaults before (Shows number) (Glyph cell) (ap (option_map Glyph) found))
+      ∙ covered_more sign defaults at.page phase colour all column row (spots sign defaults before) spot t refl
+      ∙ ap (λ b. cond (b && t.covers column row) (shown_colour sign at.fore == colour) (is_covered sign defaults at.page phase colour all (spots sign defaults before) column row)) (eq-eqb at.page at.page refl)
+
+  -- after a background every pixel of its page has it
+  pub covered_cover : (before : List Meaning) (given : Option ℕ)
+      → is_covered sign defaults (standing sign defaults before).page phase colour all (spots sign defaults (before ++ Does (Back given) ∷ [])) column row ≡ (shown_colour sign (unwrap_or given defaults.back) == colour)
+  covered_cover before given =
+      let at = standing sign defaults before in
+      ap (λ l. is_covered sign defaults at.page phase colour all l column row) (spots_more sign defaults before (Does (Back given)) (Cover at.page (unwrap_or given defaults.back)) refl)
+      ∙ covered_whole sign defaults at.page phase colour all column row (spots sign defaults before) at (unwrap_or given defaults.back)
+
+  -- an item that puts nothing, or ends a line, leaves every pixel of every page
+  pub covered_same : (before : List Meaning) (x : Meaning) (page : ℕ)
+      → (put_at defaults (standing sign defaults before) x ≡ None) ⊎ ((gap : Option ℕ) × (put_at defaults (standing sign defaults before) x ≡ Some (Break gap)))
+      → is_covered sign defaults page phase colour all (spots sign defaults (before ++ x ∷ [])) column row ≡ is_covered sign defaults page phase colour all (spots sign defaults before) column row
+  covered_same before x page (inl none) = ap (λ l. is_covered sign defaults page phase colour all l column row) (spots_nothing sign defaults before x none)
+  covered_same before x page (inr (gap, ends)) =
+      ap (λ l. is_covered sign defaults page phase colour all l column row) (spots_more sign defaults before x (Break gap) ends)
+      ∙ covered_nothing sign defaults page phase colour all column row (spots sign defaults before) (record { at = standing sign defaults before; put = Break gap }) refl
+
+-- an item or none, and more items
+all_cons : {X : Type 0} (P : X → Type 0) (o : Option X) (xs : List X) → All P (cons_option o []) → All P xs → All P (cons_option o xs)
+all_cons P None xs first rest = rest
+all_cons P (Some x) xs first rest = All-cons P x xs (All-head P x [] first) rest
+
+-- what f makes of each of some items has a property
+some_all : {X Y : Type 0} (P : X → Type 0) (Q : Y → Type 0) (f : List X → X → Option Y) (xs : List X) → All P xs → ((before : List X) (x : X) → P x → All Q (cons_option (f before x) [])) → All Q (some_after f xs)
+some_all P Q f [] h each = All-nil Q
+some_all P Q f (x ∷ xs) h each =
+    all_cons Q (f [] x) (some_after (λ before. f (x ∷ before)) xs) (each [] x (All-head P x xs h))
+    (some_all P Q (λ before. f (x ∷ before)) xs (All-tail P x xs h) (λ before y p. each (x ∷ before) y p))
+
+-- what holds of everything holds of each
+all_any : {X : Type 0} (xs : List X) → All (λ x. Unit {0}) xs
+all_any [] = All-nil (λ x. Unit {0})
+all_any (x ∷ xs) = All-cons (λ x. Unit {0}) x xs tt (all_any xs)
+
+-- where h gives nothing of each item it gives none
+maps_none : {X Y : Type 0} (h : X → Option Y) (xs : List X) → All (λ x. h x ≡ None) xs → filter_map h xs ≡ []
+maps_none h [] none = refl
+maps_none h (x ∷ xs) none = ap (λ o. cons_option o (filter_map h xs)) (All-head (λ x. h x ≡ None) x xs none) ∙ maps_none h xs (All-tail (λ x. h x ≡ None) x xs none)
+
+-- a thing is of another page
+abbrev IsBeside : ℕ → Thing → Type 0
+IsBeside page t = (t.page == page) ≡ false
+
+-- things of other pages leave the colour of a pixel
+colour_beside : (defaults : Defaults) (some more : List Thing) (page column row : ℕ) → All (IsBeside page) more → colour_of defaults (some ++ more) page column row ≡ colour_of defaults some page column row
+colour_beside defaults some more page column row beside =
+    let f = λ (t : Thing). cond (covers_at t page column row) (Some t.colour) None in
+    let none : All (λ t. f t ≡ None) more = All-weaker (IsBeside page) (λ t. f t ≡ None) (λ t apart. ap (λ b. cond (b && t.covers column row) (Some t.colour) None) apart) more beside in
+    ap (λ l. unwrap_or (last_or None l) defaults.back) (filter_map-append f some more ∙ ap (λ l. filter_map f some ++ l) (maps_none f more none) ∙ append-nil (filter_map f some))
+
+-- the page of what is put
+abbrev page_put : Standing → Put → ℕ
+page_put at (Cover page colour) = page
+page_put at _ = at.page
+
+-- what a spot puts is of this page or a later one
+abbrev IsFrom : ℕ → Spot → Type 0
+IsFrom page s = page ≤ page_put s.at s.put
+
+module _ (here : Standing) (low : ℕ) (reached : low ≤ here.page) where
+  put_page : (put : Put) → low ≤ page_put here put → All (IsFrom low) (record { at = here; put = put } ∷ [])
+  put_page put h = All-cons (IsFrom low) (record { at = here; put = put }) [] h (All-nil (IsFrom low))
+
+  glyph_page : (o : Option CellData) → All (IsFrom low) (cons_option (option_map (λ p. let s : Spot = record { at = here; put = p } in s) (option_map Glyph o)) [])
+  glyph_page None = All-nil (IsFrom low)
+  glyph_page (Some cell) = put_page (Glyph cell) reached
+
+  spot_page : (defaults : Defaults) (x : Meaning) → All (IsFrom low) (cons_option (spot_at defaults here x) [])
+  spot_page defaults (Shows number) = glyph_page (cell_numbered here.font number)
+  spot_page defaults (Does (NewLine gap)) = put_page (Break gap) reached
+  spot_page defaults (Does NewPage) = put_page (Cover (here.page + 1) here.back) (omega arith)
+  spot_page defaults (Does (Back colour)) = put_page (Cover here.page (unwrap_or colour defaults.back)) reached
+  spot_page defaults _ = All-nil (IsFrom low)
+
+-- pages don't fall along the items, nor do areas
+page_on : (sign : SignData) (defaults : Defaults) (before more : List Meaning) → (standing sign defaults before).page ≤ (standing sign defaults (before ++ more)).page
+unfolding standing
+page_on sign defaults before more = omega (arith, sum_by-append (λ x. cond (is_new_page x) 1 0) before more)
+
+area_on : (sign : SignData) (defaults : Defaults) (before more : List Meaning) → (standing sign defaults before).area ≤ (standing sign defaults (before ++ more)).area
+unfolding standing
+area_on sign defaults before more = omega (arith, sum_by-append (λ x. cond (begins_area x) 1 0) before more)
+
+-- what the items behind some others put is of their page or a later one
+pages_behind : (sign : SignData) (defaults : Defaults) (before behind : List Meaning) → All (IsFrom (standing sign defaults before).page) (spots_behind sign defaults before behind)
+pages_behind sign defaults before behind =
+    let low = (standing sign defaults before).page in
+    some_all (λ x. Unit {0}) (IsFrom low) (λ more item. spot_at defaults (standing sign defaults (before ++ more)) item) behind (all_any behind)
+    (λ more x _. spot_page (standing sign defaults (before ++ more)) low (page_on sign defaults before more) defaults x)
+
+-- what a spot of a later page puts is beside this page
+thing_beside : (page phase : ℕ) (place : Place) (spot : Spot) (put : Put) → page < page_put spot.at put → All (IsBeside page) (cons_option (thing_at phase place spot put) [])
+thing_beside page phase place spot (Break gap) h = All-nil (IsBeside page)
+thing_beside page phase place spot (Cover later back) h = All-cons (IsBeside page) _ [] (ne_eqb later page (λ e. omega arith)) (All-nil (IsBeside page))
+thing_beside page phase place spot (Glyph cell) h = All-cons (IsBeside page) _ [] (ne_eqb spot.at.page page (λ e. omega arith)) (All-nil (IsBeside page))
+
+-- the things of two lists of spots
+things_append : (phase : ℕ) (all some more : List Spot) → things_among phase all (some ++ more) ≡ things_among phase all some ++ some_after (λ next spot. thing_at phase (place_of (some ++ next) all spot) spot spot.put) more
+unfolding things_among
+things_append phase all some more = some_after-append (λ before spot. thing_at phase (place_of before all spot) spot spot.put) some more
+
+module _ (sign : SignData) (defaults : Defaults) (page phase colour : ℕ) (all : List Spot) (column row : ℕ) where
+  -- spots of later pages leave every pixel of a page
+  covered_later : (some more : List Spot) → All (IsFrom (page + 1)) more
+      → is_covered sign defaults page phase colour all (some ++ more) column row ≡ is_covered sign defaults page phase colour all some column row
+  unfolding is_covered
+  covered_later some more later =
+      let f = λ (next : List Spot) (spot : Spot). thing_at phase (place_of (some ++ next) all spot) spot spot.put in
+      let beside : All (IsBeside page) (some_after f more) =
+      some_all (IsFrom (page + 1)) (IsBeside page) f more later (λ next s h. thing_beside page phase (place_of (some ++ next) all s) s s.put (omega arith)) in
+      ap (λ l. shown_colour sign (colour_of defaults l page column row) == colour) (things_append phase all some more)
+      ∙ ap (λ c. shown_colour sign c == colour) (colour_beside defaults (things_among phase all some) (some_after f more) page column row beside)
+
+-- a pixel of a string is that of all its spots
+plane_is : (sign : SignData) (defaults : Defaults) (items : List Meaning) (page phase colour column row : ℕ)
+    → in_plane sign defaults items page phase colour column row ≡ is_covered sign defaults page phase colour (spots sign defaults items) (spots sign defaults items) column row
+unfolding in_plane things is_covered
+plane_is sign defaults items page phase colour column row = refl
+
+module _ (sign : SignData) (defaults : Defaults) (before : List Meaning) where
+  -- behind a new page all is of a later page
+  later_behind : (rest : List Meaning) → (more : List Spot) × (spots sign defaults (before ++ Does NewPage ∷ rest) ≡ spots sign defaults before ++ more) × All (IsFrom ((standing sign defaults before).page + 1)) more
+  later_behind rest =
+      let at = standing sign defaults before in
+      let next = before ++ Does NewPage ∷ [] in
+      let cover : Spot = record { at = at; put = Cover (at.page + 1) at.back } in
+      let more = spots_behind sign defaults next rest in
+      let behind : All (IsFrom (at.page + 1)) more = subst (λ low. All (IsFrom low) more) (next_page_behind sign defaults before) (pages_behind sign defaults next rest) in
+      (cover ∷ more, spots_with sign defaults before (Does NewPage) rest (Cover (at.page + 1) at.back) refl, All-cons (IsFrom (at.page + 1)) cover more (omega arith) behind)
+
+  -- where a page ends, the rest of the string covers none of its pixels
+  pub covered_ends : (behind : List Meaning) (phase colour column row : ℕ) → EndsPage behind
+      → in_plane sign defaults (before ++ behind) (standing sign defaults before).page phase colour column row
+      ≡ is_covered sign defaults (standing sign defaults before).page phase colour (spots sign defaults (before ++ behind)) (spots sign defaults before) column row
+  covered_ends behind phase colour column row (inl last) =
+      let page = (standing sign defaults before).page in
+      let all = spots sign defaults (before ++ behind) in
+      let same : before ++ behind ≡ before = ap (λ l. before ++ l) last ∙ append-nil before in
+      plane_is sign defaults (before ++ behind) page phase colour column row
+      ∙ ap (λ items. is_covered sign defaults page phase colour all (spots sign defaults items) column row) same
+  covered_ends behind phase colour column row (inr (rest, next)) =
+      let page = (standing sign defaults before).page in
+      let all = spots sign defaults (before ++ behind) in
+      let later = later_behind rest in
+      plane_is sign defaults (before ++ behind) page phase colour column row
+      ∙ ap (λ l. is_covered sign defaults page phase colour all (spots sign defaults (before ++ l)) column row) next
+      ∙ ap (λ l. is_covered sign defaults page phase colour all l column row) later.1
+      ∙ covered_later sign defaults page phase colour all column row (spots sign defaults before) later.0 later.2
+
+-- a spot is of this area or a later one
+abbrev IsLater : ℕ → Spot → Type 0
+IsLater low s = low ≤ s.at.area
+
+spot_area : (defaults : Defaults) (here : Standing) (low : ℕ) (x : Meaning) → low ≤ here.area → All (IsLater low) (cons_option (spot_at defaults here x) [])
+spot_area defaults here low x reached = go (put_at defaults here x)
+  where
+    go : (o : Option Put) → All (IsLater low) (cons_option (option_map (λ p. let s : Spot = record { at = here; put = p } in s) o) [])
+    go None = All-nil (IsLater low)
+    go (Some put) = All-cons (IsLater low) (record { at = here; put = put }) [] reached (All-nil (IsLater low))
+
+-- what the items behind some others put is of their area or a later one
+areas_behind : (sign : SignData) (defaults : Defaults) (before behind : List Meaning) → All (IsLater (standing sign defaults before).area) (spots_behind sign defaults before behind)
+areas_behind sign defaults before behind =
+    let low = (standing sign defaults before).area in
+    some_all (λ x. Unit {0}) (IsLater low) (λ more item. spot_at defaults (standing sign defaults (before ++ more)) item) behind (all_any behind)
+    (λ more x _. spot_area defaults (standing sign defaults (before ++ more)) low x (area_on sign defaults before more))
+
+-- spots of later areas are not in an area
+area_later : (k : ℕ) (spots : List Spot) → All (IsLater (k + 1)) spots → in_area k spots ≡ []
+area_later k spots later =
+    let test = λ (t : Spot). (is_glyph t || is_break t) && (t.at.area == k) in
+    filter_none test spots (All-weaker (IsLater (k + 1)) (λ t. test t ≡ false) (λ t h. and_right (is_glyph t || is_break t) (t.at.area == k) (ne_eqb t.at.area k (λ e. omega arith))) spots later)
+
+-- an item that begins an area places nothing
+begins_none : (k : ℕ) (defaults : Defaults) (here : Standing) (x : Meaning) → begins_area x ≡ true → in_area k (cons_option (spot_at defaults here x) []) ≡ []
+begins_none k defaults here (Does NewPage) begins = refl
+begins_none k defaults here (Does (Rect x y w h)) begins = refl
+begins_none k defaults here _ begins = absurd (cc)
+
+-- the items behind some others leave what stands in an area
+pub area_goes_on : (sign : SignData) (defaults : Defaults) (before behind : List Meaning) (k : ℕ) → (more : List Spot) × (in_area k (spots sign defaults (before ++ behind)) ≡ in_area k (spots sign defaults before) ++ more)
+area_goes_on sign defaults before behind k =
+    let more = spots_behind sign defaults before behind in
+    (in_area k more, ap (in_area k) (spots_split sign defaults before behind) ∙ in_area-append k (spots sign defaults before) more)
+
+module _ (sign : SignData) (defaults : Defaults) (before : List Meaning) where
+  -- behind an item that begins an area stands the next area
+  area_next : (x : Meaning) → begins_area x ≡ true → (standing sign defaults (before ++ x ∷ [])).area ≡ (standing sign defaults before).area + 1
+  area_next x begins = ap (λ (s : Standing). s.area) (standing_push sign defaults before x) ∙ ap (λ b. (standing sign defaults before).area + cond b 1 0) begins
+
+  -- an item that begins an area, and the items behind it, place nothing in the area that ends
+  ends_next : (x : Meaning) (rest : List Meaning) → begins_area x ≡ true
+      → in_area (standing sign defaults before).area (spots sign defaults (before ++ x ∷ rest)) ≡ in_area (standing sign defaults before).area (spots sign defaults before)
+  ends_next x rest begins =
+      let at = standing sign defaults before in
+      let next = before ++ x ∷ [] in
+      let one = cons_option (spot_at defaults at x) [] in
+      let more = spots_behind sign defaults next rest in
+      let is : spots sign defaults (before ++ x ∷ rest) ≡ (spots sign defaults before ++ one) ++ more =
+      spots_cut sign defaults before x rest ∙ ap (λ l. l ++ more) (spots_push sign defaults before x) in
+      let later : in_area at.area more ≡ [] = area_later at.area more (subst (λ low. All (IsLater low) more) (area_next x begins) (areas_behind sign defaults next rest)) in
+      ap (in_area at.area) is
+      ∙ in_area-append at.area (spots sign defaults before ++ one) more
+      ∙ ap (λ l. in_area at.area (spots sign defaults before ++ one) ++ l) later
+      ∙ append-nil (in_area at.area (spots sign defaults before ++ one))
+      ∙ in_area-append at.area (spots sign defaults before) one
+      ∙ ap (λ l. in_area at.area (spots sign defaults before) ++ l) (begins_none at.area defaults at x begins)
+      ∙ append-nil (in_area at.area (spots sign defaults before))
+
+  -- where an area ends, the rest of the string puts nothing into it
+  pub area_ends : (behind : List Meaning) → EndsArea behind
+      → in_area (standing sign defaults before).area (spots sign defaults (before ++ behind)) ≡ in_area (standing sign defaults before).area (spots sign defaults before)
+  area_ends behind (inl last) = ap (λ l. in_area (standing sign defaults before).area (spots sign defaults l)) (ap (λ l. before ++ l) last ∙ append-nil before)
+  area_ends behind (inr (x, rest, begins, next)) = ap (λ l. in_area (standing sign defaults before).area (spots sign defaults (before ++ l))) next ∙ ends_next x rest begins
+
+  -- a character joins its area, and the items behind it come after it
+  pub area_with_glyph : (number : ℕ) (cell : CellData) (rest : List Meaning) → cell_numbered (standing sign defaults before).font number ≡ Some cell →
+      let at = standing sign defaults before in
+      let spot : Spot = record { at = at; put = Glyph cell } in
+      (more : List Spot) × (in_area at.area (spots sign defaults (before ++ Shows number ∷ rest)) ≡ in_area at.area (spots sign defaults before) ++ spot ∷ more)
+  area_with_glyph number cell rest found =
+      let at = standing sign defaults before in
+      let spot : Spot = record { at = at; put = Glyph cell } in
+      let more = spots_behind sign defaults (before ++ Shows number ∷ []) rest in
+      let is : in_area at.area (spots sign defaults (before ++ Shows number ∷ rest)) ≡ in_area at.area (spots sign defaults before) ++ spot ∷ in_area at.area more =
+      ap (in_area at.area) (spots_with sign defaults before (Shows number) rest (Glyph cell) (ap (option_map Glyph) found))
+      ∙ in_area-append at.area (spots sign defaults before) (spot ∷ more)
+      ∙ ap (λ b. in_area at.area (spots sign defaults before) ++ cond b (spot ∷ in_area at.area more) (in_area at.area more)) (eq-eqb at.area at.area refl) in
+      (in_area at.area more, is)

@@ -1,0 +1,328 @@
+-- The areas of a page, drawn one after the other.
+use Rattle.std.proofs.Common.{◌≡◌, ℕ, ◌+◌, ◌-◌, ◌*◌, ◌<◌, ◌≤◌, Bool, true, false, cond, ◌==◌, inl, inr, List, [], ◌∷◌, ◌++◌, length, map, None, refl, sym, ap, subst, ◌∙◌, arith, append_assoc, append-nil}
+use Rattle.std.proofs.Math.Nat.{mul-add, mul-le-mul_left}
+use Rattle.std.proofs.lemmas.Bool.{eq-eqb}
+use Rattle.std.proofs.lemmas.List.{length-append, map-append}
+use Rattle.std.proofs.lemmas.List.Elements.{All-head, All-tail}
+use Rattle.multi_token.specs.Counted.{Counted, RisesBetween}
+use Rattle.multi_token.specs.Spelling.{Item, IsReading, spelling, spell}
+use Rattle.multi_token.proofs.ReadingLemmas.{none_found, spelling_some}
+use Rattle.multi_token.proofs.SpellingLemmas.{one_reading}
+use Rattle.multi_token.proofs.StepLemmas.{rises_then}
+use Rattle.multi_tag.specs.declared.tag.Tag.TheVariants.{NewPage, Rect}
+use Rattle.page_plane.specs.Plane.{BitPlane, is_lit}
+use Rattle.sign_font.specs.declared.parts.Defaults.{Defaults}
+use Rattle.sign_font.specs.Sign.{SignData, tallest}
+use Rattle.multi_layout.specs.declared.attributes.Attributes.{Attributes}
+use Rattle.multi_layout.specs.declared.cursor.Cursor.{Cursor}
+use Rattle.multi_layout.specs.declared.paint.Layer.{Layer}
+use Rattle.multi_layout.specs.declared.read.AreaLines.{AreaLines}
+use Rattle.multi_layout.specs.Address.{Standing, spots, standing, put_at}
+use Rattle.multi_layout.specs.Drawn.{is_covered}
+use Rattle.multi_layout.specs.Drawn as drawn
+use Rattle.multi_layout.specs.Limits.{plane_octets}
+use Rattle.multi_layout.specs.Meaning.{Meaning, Shows, Does, Faulty, BeginsPage, EndsArea, EndsPage, begins_area, is_new_page, meaning}
+use Rattle.multi_layout.specs.Paging.{IsFilledFew, IsPagePassed}
+use Rattle.multi_layout.specs.Passes.{HasCounted, IsAreaRead, IsDrawnTo, IsFilledBy, IsPlain, first_steps, whole_area}
+use Rattle.multi_layout.specs.Picture.{in_plane, shown_colour}
+use Rattle.multi_layout.specs.State.{present_area}
+use Rattle.multi_layout.specs.Verdict.{pages_of}
+use Rattle.multi_layout.specs.Walk.{IsAccepted, IsBetween}
+use Rattle.multi_layout.proofs.DrawLemmas.{no_page}
+use Rattle.multi_layout.proofs.DrawnLemmas.{covered_begins, covered_ends, covered_same, same_page_behind, next_page_behind}
+use Rattle.multi_layout.proofs.StateLemmas.{present_area-new}
+use Rattle.multi_layout.proofs.WalkLemmas.{spell-append}
+
+-- ONE PLACE
+
+same_front : (xs ys zs ws : List Item) → xs ++ ys ≡ zs ++ ws → length (spell xs) ≡ length (spell zs) → xs ≡ zs
+same_front [] ys [] ws e n = refl
+same_front [] ys (z ∷ zs) ws e n = absurd (omega (arith, n, spelling_some z, length-append (spelling z) (spell zs)))
+same_front (x ∷ xs) ys [] ws e n = absurd (omega (arith, n, spelling_some x, length-append (spelling x) (spell xs)))
+same_front (x ∷ xs) ys (z ∷ zs) ws e n =
+    let head : x ≡ z = cc in
+    let tail : xs ++ ys ≡ zs ++ ws = cc in
+    let long : length (spelling x) ≡ length (spelling z) = ap (λ y. length (spelling y)) head in
+    let more = same_front xs ys zs ws tail (omega (arith, n, long, length-append (spelling x) (spell xs), length-append (spelling z) (spell zs))) in
+    ap (λ y. y ∷ xs) head ∙ ap (λ l. z ∷ l) more
+
+-- a string has the same items whatever says that it is accepted
+one_list : (sign : SignData) (defaults : Defaults) (octets : List ℕ) (items items' : List Item) → IsAccepted sign defaults octets items → IsAccepted sign defaults octets items' → items ≡ items'
+one_list sign defaults octets items items' a a' =
+    let read = λ (l : List Item) (x : IsAccepted sign defaults octets l). let r : IsReading octets l [] = record { each = x.each; spelled = x.spelled ∙ sym (append-nil (spell l)); ends = none_found [] refl } in r in
+    (one_reading octets items items' [] [] (read items a) (read items' a')).0
+
+-- a cursor stands behind the same items whatever says so
+pub one_place : (sign : SignData) (defaults : Defaults) (octets : List ℕ) (before behind before' behind' : List Item) (cursor : Cursor) → IsBetween sign defaults octets before behind cursor → IsBetween sign defaults octets before' behind' cursor → before ≡ before'
+one_place sign defaults octets before behind before' behind' cursor b b' =
+    same_front before behind before' behind' (one_list sign defaults octets (before ++ behind) (before' ++ behind') b.accepted b'.accepted) (sym b.place ∙ b'.place)
+
+-- AREAS OF A PAGE
+
+-- these items of a page are drawn, and those behind them are left
+pub record PageDrawn (sign : SignData) (defaults : Defaults) (octets : List ℕ) (before behind : List Item) (layer : Layer) (cursor : Cursor) (plane : BitPlane) : Type 0 where
+  pub done : List Item
+  pub left : List Item
+  pub split : behind ≡ done ++ left
+  pub between : IsBetween sign defaults octets (before ++ done) left cursor
+  pub page : (standing sign defaults (map meaning (before ++ done))).page ≡ (standing sign defaults (map meaning before)).page
+  pub drawn : IsDrawnTo sign defaults layer (map meaning (before ++ behind)) (map meaning (before ++ done)) plane
+
+-- and an area begins behind them
+pub record PageSoFar (sign : SignData) (defaults : Defaults) (octets : List ℕ) (before behind : List Item) (layer : Layer) (cursor : Cursor) (plane : BitPlane) : Type 0 where
+  pub so : PageDrawn sign defaults octets before behind layer cursor plane
+  pub begins : present_area sign defaults (map meaning (before ++ so.done)) ≡ []
+
+-- where a page begins, no area has an item yet
+pub nothing_placed : (sign : SignData) (defaults : Defaults) (before : List Meaning) → BeginsPage before → present_area sign defaults before ≡ []
+unfolding spots
+nothing_placed sign defaults before (inl none) = ap (present_area sign defaults) none
+nothing_placed sign defaults before (inr (earlier, is)) = ap (present_area sign defaults) is ∙ present_area-new sign defaults earlier (Does NewPage) refl
+
+page_of : (sign : SignData) (defaults : Defaults) (items : List Meaning) → (standing sign defaults items).page + 1 ≡ pages_of items
+unfolding standing
+page_of sign defaults items = refl
+
+-- an item behind which no area begins is no new page
+plain_page : (m : Meaning) → begins_area m ≡ false → is_new_page m ≡ false
+plain_page (Shows number) plain = refl
+plain_page (Does tag) plain = no_page tag plain
+plain_page (Faulty code) plain = refl
+
+module _ (sign : SignData) (defaults : Defaults) where
+  -- items behind which no area begins leave the page
+  pages_on : (before items : List Item) → IsPlain items → (standing sign defaults (map meaning (before ++ items))).page ≡ (standing sign defaults (map meaning before)).page
+  pages_on before [] plain = ap (λ l. (standing sign defaults (map meaning l)).page) (append-nil before)
+  pages_on before (x ∷ items) plain =
+      let first : is_new_page (meaning x) ≡ false = plain_page (meaning x) (All-head (λ y. begins_area (meaning y) ≡ false) x items plain) in
+      ap (λ l. (standing sign defaults (map meaning l)).page) (sym (append_assoc before (x ∷ []) items))
+      ∙ pages_on (before ++ x ∷ []) items (All-tail (λ y. begins_area (meaning y) ≡ false) x items plain)
+      ∙ ap (λ ms. (standing sign defaults ms).page) (map-append meaning before (x ∷ []))
+      ∙ same_page_behind sign defaults (map meaning before) (meaning x) first
+
+module _ (sign : SignData) (defaults : Defaults) (octets : List ℕ) (before behind : List Item) (layer : Layer) where
+  pub page_begins : (cursor : Cursor) (plane : BitPlane) (on : Bool) → IsBetween sign defaults octets before behind cursor → BeginsPage (map meaning before) → on ≡ (shown_colour sign cursor.state.attributes.back == layer.colour)
+      → ((x y : ℕ) → x < plane.width → y < plane.height → is_lit plane x y ≡ on) → PageSoFar sign defaults octets before behind layer cursor plane
+  page_begins cursor plane on b begins colour pixels =
+      let none : before ++ [] ≡ before = append-nil before in
+      let back : (standing sign defaults (map meaning before)).back ≡ cursor.state.attributes.back = sym (ap (λ (a : Attributes). a.back) b.state_is.attributes) in
+      record {
+        so = record {
+          done = [];
+          left = behind;
+          split = refl;
+          between = subst (λ l. IsBetween sign defaults octets l behind cursor) (sym none) b;
+          page = ap (λ l. (standing sign defaults (map meaning l)).page) none;
+          drawn = subst (λ l. IsDrawnTo sign defaults layer (map meaning (before ++ behind)) (map meaning l) plane) (sym none)
+              (λ x y across down. pixels x y across down ∙ colour ∙ ap (λ n. shown_colour sign n == layer.colour) (sym back)
+              ∙ sym (covered_begins sign defaults layer.phase layer.colour (spots sign defaults (map meaning (before ++ behind))) x y (map meaning before) begins));
+        };
+        begins = ap (λ l. present_area sign defaults (map meaning l)) none ∙ nothing_placed sign defaults (map meaning before) begins;
+      }
+
+  module _ (cursor : Cursor) (plane : BitPlane) (s : PageDrawn sign defaults octets before behind layer cursor plane) where
+    -- an area more
+    pub page_area : (area rest : List Item) → s.left ≡ area ++ rest → IsPlain area → (cursor' : Cursor) (plane' : BitPlane) → IsBetween sign defaults octets ((before ++ s.done) ++ area) rest cursor'
+        → (IsDrawnTo sign defaults layer (map meaning ((before ++ s.done) ++ (area ++ rest))) (map meaning (before ++ s.done)) plane → IsDrawnTo sign defaults layer (map meaning ((before ++ s.done) ++ (area ++ rest))) (map meaning ((before ++ s.done) ++ area)) plane')
+        → (d : PageDrawn sign defaults octets before behind layer cursor' plane') × (d.done ≡ s.done ++ area) × (d.left ≡ rest)
+    page_area area rest is plain cursor' plane' between drawn =
+        let assoc : (before ++ s.done) ++ area ≡ before ++ (s.done ++ area) = append_assoc before s.done area in
+        let all : before ++ behind ≡ (before ++ s.done) ++ (area ++ rest) = ap (λ l. before ++ l) (s.split ∙ ap (λ l. s.done ++ l) is) ∙ sym (append_assoc before s.done (area ++ rest)) in (
+          record {
+            done = s.done ++ area;
+            left = rest;
+            split = s.split ∙ ap (λ l. s.done ++ l) is ∙ sym (append_assoc s.done area rest);
+            between = subst (λ l. IsBetween sign defaults octets l rest cursor') assoc between;
+            page = ap (λ l. (standing sign defaults (map meaning l)).page) (sym assoc) ∙ pages_on sign defaults (before ++ s.done) area plain ∙ s.page;
+            drawn = subst (λ l. IsDrawnTo sign defaults layer (map meaning (before ++ behind)) (map meaning l) plane') assoc
+                (subst (λ l. IsDrawnTo sign defaults layer (map meaning l) (map meaning ((before ++ s.done) ++ area)) plane') (sym all)
+                (drawn (subst (λ l. IsDrawnTo sign defaults layer (map meaning l) (map meaning (before ++ s.done)) plane) all s.drawn)));
+          },
+          refl,
+          refl,
+        )
+
+    -- the rest of the string covers nothing of the page where the page ends
+    pub page_shown : EndsPage (map meaning s.left) → (pages : ℕ) → pages ≡ pages_of (map meaning before) → drawn.Shows plane (λ column row. in_plane sign defaults (map meaning (before ++ behind)) (pages - 1) layer.phase layer.colour column row)
+    page_shown ends pages count = λ column row across down.
+        let done = map meaning (before ++ s.done) in
+        let all : map meaning (before ++ behind) ≡ done ++ map meaning s.left = ap (λ l. map meaning (before ++ l)) s.split ∙ ap (map meaning) (sym (append_assoc before s.done s.left)) ∙ map-append meaning (before ++ s.done) s.left in
+        let here : (standing sign defaults done).page ≡ pages - 1 = omega (arith, s.page, count, page_of sign defaults (map meaning before)) in
+        s.drawn column row across down
+        ∙ ap (λ ms. is_covered sign defaults (standing sign defaults done).page layer.phase layer.colour (spots sign defaults ms) (spots sign defaults done) column row) all
+        ∙ sym (covered_ends sign defaults done (map meaning s.left) layer.phase layer.colour column row ends)
+        ∙ ap (λ n. in_plane sign defaults (done ++ map meaning s.left) n layer.phase layer.colour column row) here
+        ∙ ap (λ ms. in_plane sign defaults ms (pages - 1) layer.phase layer.colour column row) (sym all)
+
+    pub same_pages : (pages : ℕ) → pages ≡ pages_of (map meaning before) → cursor.state.pages ≡ pages
+    same_pages pages count = omega (arith, s.page, count, s.between.state_is.pages, page_of sign defaults (map meaning before), page_of sign defaults (map meaning (before ++ s.done)))
+
+    -- the end of the string
+    pub last_passed : (start : Cursor) → start.state.pages ≡ pages_of (map meaning before) → start.at ≤ cursor.at → s.left ≡ [] → IsPagePassed sign defaults octets before behind start cursor
+    last_passed start count on none = record { page = s.done; rest = s.left; split = s.split; between = s.between; on = on; ends = inl (none, same_pages start.state.pages count) }
+
+    module _ (item : Item) (rest : List Item) (is : s.left ≡ item ∷ rest) (new : Cursor) (between : IsBetween sign defaults octets ((before ++ s.done) ++ item ∷ []) rest new) where
+      assoc : (before ++ s.done) ++ item ∷ [] ≡ before ++ (s.done ++ item ∷ [])
+      assoc = append_assoc before s.done (item ∷ [])
+
+      split' : behind ≡ (s.done ++ item ∷ []) ++ rest
+      split' = s.split ∙ ap (λ l. s.done ++ l) is ∙ sym (append_assoc s.done (item ∷ []) rest)
+
+      -- a new page
+      pub page_passed : (start : Cursor) → start.state.pages ≡ pages_of (map meaning before) → start.at ≤ new.at → meaning item ≡ Does NewPage → IsPagePassed sign defaults octets before behind start new
+      page_passed start count on turns =
+          let begins : map meaning ((before ++ s.done) ++ item ∷ []) ≡ map meaning (before ++ s.done) ++ Does NewPage ∷ [] = map-append meaning (before ++ s.done) (item ∷ []) ∙ ap (λ m. map meaning (before ++ s.done) ++ m ∷ []) turns in
+          let more : (standing sign defaults (map meaning ((before ++ s.done) ++ item ∷ []))).page ≡ (standing sign defaults (map meaning (before ++ s.done))).page + 1 =
+          ap (λ ms. (standing sign defaults ms).page) begins ∙ next_page_behind sign defaults (map meaning (before ++ s.done)) in
+          record {
+            page = s.done ++ item ∷ [];
+            rest = rest;
+            split = split';
+            between = subst (λ l. IsBetween sign defaults octets l rest new) assoc between;
+            on = on;
+            ends = inr (
+              subst (λ l. BeginsPage (map meaning l)) assoc (inr (map meaning (before ++ s.done), begins)),
+              omega (arith, count, s.page, more, between.state_is.pages, page_of sign defaults (map meaning before), page_of sign defaults (map meaning ((before ++ s.done) ++ item ∷ []))),
+            );
+          }
+
+      -- a rectangle
+      pub page_goes_on : begins_area (meaning item) ≡ true → is_new_page (meaning item) ≡ false → put_at defaults (standing sign defaults (map meaning (before ++ s.done))) (meaning item) ≡ None → PageSoFar sign defaults octets before behind layer new plane
+      page_goes_on area page puts =
+          let one : map meaning ((before ++ s.done) ++ item ∷ []) ≡ map meaning (before ++ s.done) ++ meaning item ∷ [] = map-append meaning (before ++ s.done) (item ∷ []) in
+          let all = spots sign defaults (map meaning (before ++ behind)) in
+          let stays = same_page_behind sign defaults (map meaning (before ++ s.done)) (meaning item) page in
+          let drawn : IsDrawnTo sign defaults layer (map meaning (before ++ behind)) (map meaning (before ++ s.done) ++ meaning item ∷ []) plane =
+          (λ x y across down. s.drawn x y across down
+          ∙ sym (covered_same sign defaults layer.phase layer.colour all x y (map meaning (before ++ s.done)) (meaning item) (standing sign defaults (map meaning (before ++ s.done))).page (inl puts))
+          ∙ ap (λ p. is_covered sign defaults p layer.phase layer.colour all (spots sign defaults (map meaning (before ++ s.done) ++ meaning item ∷ [])) x y) (sym stays)) in
+          record {
+            so = record {
+              done = s.done ++ item ∷ [];
+              left = rest;
+              split = split';
+              between = subst (λ l. IsBetween sign defaults octets l rest new) assoc between;
+              page = ap (λ l. (standing sign defaults (map meaning l)).page) (sym assoc) ∙ ap (λ ms. (standing sign defaults ms).page) one ∙ stays ∙ s.page;
+              drawn = subst (λ l. IsDrawnTo sign defaults layer (map meaning (before ++ behind)) (map meaning l) plane) assoc (subst (λ ms. IsDrawnTo sign defaults layer (map meaning (before ++ behind)) ms plane) (sym one) drawn);
+            };
+            begins = ap (λ l. present_area sign defaults (map meaning l)) (sym assoc) ∙ ap (present_area sign defaults) one ∙ present_area-new sign defaults (map meaning (before ++ s.done)) (meaning item) area;
+          }
+
+-- what begins an area and no page is a rectangle, which puts nothing
+pub area_no_page : (defaults : Defaults) (at : Standing) (m : Meaning) → begins_area m ≡ true → is_new_page m ≡ false → put_at defaults at m ≡ None
+area_no_page defaults at (Shows number) area other = cc
+area_no_page defaults at (Faulty code) area other = cc
+area_no_page defaults at (Does NewPage) area other = cc
+area_no_page defaults at (Does (Rect x y w h)) area other = refl
+area_no_page defaults at (Does _) area other = cc
+
+pub new_page_is : (m : Meaning) → is_new_page m ≡ true → m ≡ Does NewPage
+new_page_is (Shows number) is = cc
+new_page_is (Faulty code) is = cc
+new_page_is (Does NewPage) is = refl
+new_page_is (Does _) is = cc
+
+pub first_begins : (item : Item) (rest : List Item) → EndsArea (map meaning (item ∷ rest)) → begins_area (meaning item) ≡ true
+first_begins item rest (inl none) = cc
+first_begins item rest (inr (x, more, begins, is)) = let same : x ≡ meaning item = cc in ap begins_area (sym same) ∙ begins
+
+pub first_ends : (item : Item) (rest : List Item) → is_new_page (meaning item) ≡ true → EndsPage (map meaning (item ∷ rest))
+first_ends item rest is = inr (map meaning rest, ap (λ m. m ∷ map meaning rest) (new_page_is (meaning item) is))
+
+-- A ROUND
+
+-- an area was read and drawn
+pub record Round (sign : SignData) (defaults : Defaults) (octets : List ℕ) (before behind : List Item) (layer : Layer) (old new : Cursor) (plane : BitPlane) (end : ℕ) (source source' : Counted) : Type 0 where
+  pub so : PageDrawn sign defaults octets before behind layer new plane
+  pub ends : EndsArea (map meaning so.left)
+  pub at : new.at ≡ end
+  pub on : old.at ≤ end
+  pub steps : RisesBetween source source' 0 (2 * (end - old.at) + first_steps so.left)
+
+pub round : (sign : SignData) (defaults : Defaults) (octets : List ℕ) (before behind : List Item) (layer : Layer) (cursor : Cursor) (plane : BitPlane) (s : PageSoFar sign defaults octets before behind layer cursor plane)
+    → (read : AreaLines) (source source' : Counted) → IsAreaRead sign defaults (before ++ s.so.done) s.so.left cursor read source source' → (new : Cursor) (plane' : BitPlane)
+    → ((earlier area rest : List Item) → IsBetween sign defaults octets earlier (area ++ rest) cursor → IsPlain area → read.end ≡ cursor.at + length (spell area) → HasCounted (whole_area sign defaults earlier (area ++ rest)) read.lines
+    → IsBetween sign defaults octets (earlier ++ area) rest new)
+    → ((earlier area rest : List Item) → IsBetween sign defaults octets earlier (area ++ rest) cursor → IsPlain area → read.end ≡ cursor.at + length (spell area) → HasCounted (whole_area sign defaults earlier (area ++ rest)) read.lines
+    → IsDrawnTo sign defaults layer (map meaning (earlier ++ (area ++ rest))) (map meaning earlier) plane → IsDrawnTo sign defaults layer (map meaning (earlier ++ (area ++ rest))) (map meaning (earlier ++ area)) plane')
+    → Round sign defaults octets before behind layer cursor new plane' read.end source source'
+round sign defaults octets before behind layer cursor plane s read source source' a new plane' passed drawn =
+    let b : IsBetween sign defaults octets (before ++ s.so.done) (a.area ++ a.rest) cursor = subst (λ l. IsBetween sign defaults octets (before ++ s.so.done) l cursor) a.split s.so.between in
+    let table : HasCounted (whole_area sign defaults (before ++ s.so.done) (a.area ++ a.rest)) read.lines = subst (λ l. HasCounted (whole_area sign defaults (before ++ s.so.done) l) read.lines) a.split a.table in
+    let between = passed (before ++ s.so.done) a.area a.rest b a.plain a.end table in
+    let (d, done, left) = page_area sign defaults octets before behind layer cursor plane s.so a.area a.rest a.split a.plain new plane' between (drawn (before ++ s.so.done) a.area a.rest b a.plain a.end table) in
+    let long : length (spell a.area) ≡ read.end - cursor.at = omega (arith, a.end) in
+    record {
+      so = d;
+      ends = subst (λ l. EndsArea (map meaning l)) (sym left) a.ends;
+      at = omega (arith, between.place, b.place, a.end, ap length (spell-append (before ++ s.so.done) a.area), length-append (spell (before ++ s.so.done)) (spell a.area));
+      on = omega (arith, a.end);
+      steps = subst (λ n. RisesBetween source source' 0 (2 * n + first_steps d.left)) long (subst (λ l. RisesBetween source source' 0 (2 * length (spell a.area) + first_steps l)) (sym left) a.steps);
+    }
+
+-- STEPS
+
+pub rises_more : (a b : Counted) (low high high' : ℕ) → high ≤ high' → RisesBetween a b low high → RisesBetween a b low high'
+rises_more a b low high high' more (k, l, h, is) = (k, l, omega (arith, h, more), is)
+
+-- a bound that holds only where two numbers are one
+pub if_same : (a b k : ℕ) → a ≡ b → cond (a == b) k 0 ≡ k
+if_same a b k is = ap (λ t. cond t k 0) (eq-eqb a b is)
+
+pub rises_far : (a b : Counted) (m n k : ℕ) → m ≡ n → RisesBetween a b 0 (4 * m) → RisesBetween a b 0 (4 * n + k)
+rises_far a b m n k is r = rises_more a b 0 (4 * m) (4 * n + k) (omega (arith, is)) r
+
+pub no_less : (x y k : ℕ) → x ≤ y → x ≤ y + k
+no_less x y k within = omega (arith, within)
+
+-- the steps over the string to its end
+pub string_end : (a b c d e : Counted) (start at end : ℕ) (left : List Item) → start ≤ at → at ≤ end → left ≡ [] → RisesBetween a b 0 (4 * (at - start)) → RisesBetween b c 0 (2 * (end - at) + first_steps left) → RisesBetween c d 0 (2 * (end - at)) → RisesBetween d e 0 1
+    → RisesBetween a e 0 (4 * (end - start) + 2)
+string_end a b c d e start at end left on more none w x y z =
+    let one : first_steps left ≡ 1 = ap first_steps none in
+    let all = rises_then a d e 0 _ 0 1 (rises_then a c d 0 _ 0 (2 * (end - at)) (rises_then a b c 0 (4 * (at - start)) 0 (2 * (end - at) + first_steps left) w x) y) z in
+    rises_more a e 0 _ (4 * (end - start) + 2) (omega (arith, one, on, more)) all
+
+-- the steps over the string behind one more item
+pub string_more : (a b c d e f : Counted) (start at end len : ℕ) (item : Item) (rest left : List Item) → start ≤ at → at ≤ end → left ≡ item ∷ rest → len ≡ length (spelling item)
+    → RisesBetween a b 0 (4 * (at - start)) → RisesBetween b c 0 (2 * (end - at) + first_steps left) → RisesBetween c d 0 (2 * (end - at)) → RisesBetween d e 0 (2 * len - 1) → RisesBetween e f 0 1
+    → RisesBetween a f 0 (4 * (end + len - start))
+string_more a b c d e f start at end len item rest left on more some is v w x y z =
+    let first : first_steps left ≡ 2 * length (spelling item) - 1 = ap first_steps some in
+    let all = rises_then a e f 0 _ 0 1 (rises_then a d e 0 _ 0 (2 * len - 1) (rises_then a c d 0 _ 0 (2 * (end - at)) (rises_then a b c 0 (4 * (at - start)) 0 (2 * (end - at) + first_steps left) v w) x) y) z in
+    rises_more a f 0 _ (4 * (end + len - start)) (omega (arith, first, on, more, is, spelling_some item)) all
+
+-- the steps over the plane of the areas of a page so far, with the fill where it begins
+pub record PageFilled (sign : SignData) (plane plane' : BitPlane) (octets : ℕ) : Type 0 where
+  pub fills : ℕ
+  pub few : 4 * fills ≤ octets
+  pub least : plane.steps ≤ plane'.steps
+  pub most : plane'.steps ≤ plane.steps + tallest sign * octets + plane_octets sign * (fills + 1)
+  pub width : plane'.width ≡ plane.width
+  pub height : plane'.height ≡ plane.height
+
+first_fill : (old new k a b : ℕ) → new ≤ old + k → k ≡ b → new ≤ old + a + b * (0 + 1)
+first_fill old new k a b most is = omega (arith, most, is)
+
+pub first_filled : (sign : SignData) (old new : BitPlane) (k : ℕ) → old.steps ≤ new.steps → new.steps ≤ old.steps + k → k ≡ plane_octets sign → new.width ≡ old.width → new.height ≡ old.height → PageFilled sign old new 0
+first_filled sign old new k least most is width height = record { fills = 0; few = omega arith; least = least; most = first_fill old.steps new.steps k (tallest sign * 0) (plane_octets sign) most is; width = width; height = height }
+
+pub more_filled : (sign : SignData) (a b c : BitPlane) (m n : ℕ) → PageFilled sign a b m → IsFilledBy sign b c n → PageFilled sign a c (m + n)
+more_filled sign a b c m n x y = record {
+  fills = x.fills + y.fills;
+  few = omega (arith, x.few, y.few);
+  least = omega (arith, x.least, y.least);
+  most = let regroup : x.fills + y.fills + 1 ≡ x.fills + 1 + y.fills = omega arith in
+      omega (arith, x.most, y.most, mul-add (tallest sign) m n, ap (λ z. plane_octets sign * z) regroup, mul-add (plane_octets sign) (x.fills + 1) y.fills);
+  width = y.width ∙ x.width;
+  height = y.height ∙ x.height;
+}
+
+-- the fills of a whole page
+pub page_filled : (sign : SignData) (a b : BitPlane) (old new : Cursor) (octets : ℕ) → PageFilled sign a b octets → octets ≤ new.at - old.at → octets + 4 ≤ (new.at - old.at) + cond (new.state.pages == old.state.pages) 4 0 → IsFilledFew sign a b old new
+page_filled sign a b old new octets x within four = record {
+  fills = x.fills + 1;
+  few = omega (arith, x.few, four);
+  least = x.least;
+  most = omega (arith, x.most, mul-le-mul_left (tallest sign) within);
+}

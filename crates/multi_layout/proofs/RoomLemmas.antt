@@ -1,0 +1,348 @@
+-- What holds behind the items of an accepted string: the rectangle in force is inside the sign, every font in force is at
+-- least one pixel high, the present area fits its rectangle, and no group of it has more lines than the sign has rows.
+use Rattle.std.proofs.Common.{◌≡◌, ℕ, ◌+◌, ◌-◌, ◌≤◌, Bool, true, false, cond, not, ◌&&◌, ◌||◌, ◌==◌, length, map, List, [], ◌∷◌, ◌++◌, Option, Some, None, refl, sym, ap, subst, ◌∙◌, arith, inl, inr}
+use Rattle.std.specs.Prelude.{IsSome}
+use Rattle.std.specs.List.{All, cons_option, find}
+use Rattle.std.specs.Option.{IfSome, option_map, unwrap_or}
+use Rattle.std.proofs.lemmas.Bool.{cases_Bool, false≢true, le-leb}
+use Rattle.std.proofs.lemmas.Bool.Decides.{nat_tests}
+use Rattle.std.proofs.lemmas.List.{map-append}
+use Rattle.std.proofs.lemmas.List.Elements.{All-nil, All-cons, All-head, All-tail, All-append, All-filter, All-weaker}
+use Rattle.multi_tag.specs.declared.tag.Tag.TheVariants.{NewPage, NewLine, LineJust, PageJust, Font, CharSpacing, CharSpacingEnd, PageTime, Flash, FlashEnd, Fore, Back, Rect}
+use Rattle.multi_token.specs.Spelling.{Item, spell}
+use Rattle.sign_font.specs.declared.parts.Defaults.{Defaults}
+use Rattle.sign_font.specs.Sign.{SignData, CellData, FontData, font_numbered, cell_numbered}
+use Rattle.sign_font.specs.Sound.{IsSound, IsSoundFont}
+use Rattle.multi_layout.specs.declared.attributes.Rectangle.{Rectangle}
+use Rattle.multi_layout.specs.Meaning.{Meaning, Shows, Does, Faulty, meaning, begins_area}
+use Rattle.multi_layout.specs.Attributes.{default_font, given_font, given_rectangle, is_inside, rectangle, whole_sign}
+use Rattle.multi_layout.specs.Address.{Standing, standing, Put, Glyph, Break, Cover, Spot, put_at, spot_at, spots, is_glyph, is_break, in_group, lines_of, line_before}
+use Rattle.multi_layout.specs.Fit.{area_fits, line_fits}
+use Rattle.multi_layout.specs.Offence.{conflicts, offence, too_big}
+use Rattle.multi_layout.specs.State.{present_area}
+use Rattle.multi_layout.specs.Sums.{ended_lines}
+use Rattle.multi_layout.specs.Verdict.{fault_at, offences}
+use Rattle.multi_layout.specs.Words.{some_after}
+use Rattle.multi_layout.proofs.LayoutLemmas.{spots_push}
+use Rattle.multi_layout.proofs.OffenceLemmas.{offence-undefined, offence-character, offence-break, offence-rectangle}
+use Rattle.multi_layout.proofs.PlaceLemmas.{ended_most, lines_within}
+use Rattle.multi_layout.proofs.StandingLemmas.{standing_push}
+use Rattle.multi_layout.proofs.StateLemmas.{present_area-placing, present_area-nothing, present_area-cover, present_area-new}
+use Rattle.multi_layout.proofs.WordLemmas.{left_nil, none_mapped, none_of, push_ind, right_nil, some_after_push, some_after-append}
+
+-- ---- the items of an accepted string, from the end
+
+module _ (sign : SignData) (defaults : Defaults) where
+  -- where no item offends, none of a front of them does
+  pub none_front : (items behind : List Item) → offences sign defaults (items ++ behind) ≡ [] → offences sign defaults items ≡ []
+  none_front items behind none =
+      let f = fault_at sign defaults in
+      left_nil (offences sign defaults items) (some_after (λ more. f (items ++ more)) behind) (sym (some_after-append f items behind) ∙ none)
+
+  -- where no item offends, the last one doesn't offend after those before it
+  pub none_last : (items : List Item) (item : Item) → offences sign defaults (items ++ item ∷ []) ≡ [] → offence sign defaults (map meaning items) (meaning item) ≡ None
+  none_last items item none =
+      let at = fault_at sign defaults items item in
+      let last : cons_option at [] ≡ [] = right_nil (offences sign defaults items) (cons_option at []) (sym (some_after_push (fault_at sign defaults) items item) ∙ none) in
+      none_mapped (λ code. (code, length (spell items))) (offence sign defaults (map meaning items) (meaning item)) (none_of at [] last)
+
+  -- what holds before the first item, and behind each that doesn't offend if it holds before it, holds behind them all
+  pub accepted_ind : (P : List Meaning → Type 0) → P [] → ((before : List Meaning) (x : Meaning) → offence sign defaults before x ≡ None → P before → P (before ++ x ∷ []))
+      → (items : List Item) → offences sign defaults items ≡ [] → P (map meaning items)
+  accepted_ind P first step = push_ind (λ items. offences sign defaults items ≡ [] → P (map meaning items)) (λ none. first) more
+    where
+      more : (items : List Item) (item : Item) → (offences sign defaults items ≡ [] → P (map meaning items)) → offences sign defaults (items ++ item ∷ []) ≡ [] → P (map meaning (items ++ item ∷ []))
+      more items item holds none =
+          let before = holds (none_front items (item ∷ []) none) in
+          subst P (sym (map-append meaning items (item ∷ []))) (step (map meaning items) (meaning item) (none_last items item none) before)
+
+-- what holds of each value that is given and of the one before holds of the one in force
+in_force_by : {A : Type 0} (P : A → Type 0) (o : Option A) (a : A) → IfSome o P → P a → P (unwrap_or o a)
+in_force_by P None a given old = old
+in_force_by P (Some b) a given old = given
+
+-- ---- the rectangle in force
+
+-- a rectangle is inside the sign
+pub record IsInSign (sign : SignData) (r : Rectangle) : Type 0 where
+  pub across : r.left + r.width ≤ sign.width
+  pub down : r.top + r.height ≤ sign.height
+
+-- one side of a rectangle, whose size of 0 is all that remains
+inside_side : (x w size : ℕ) → 1 ≤ x → x ≤ size → x - 1 + w ≤ size → x - 1 + cond (w == 0) (size - (x - 1)) w ≤ size
+inside_side x w size some at room = elim (cases_Bool (w == 0)) [ inl rest ↦ rw rest (omega arith) | inr given ↦ rw given room ]
+
+-- the four sides of a rectangle that passes
+record Sides (sign : SignData) (x y w h : ℕ) : Type 0 where
+  left : 1 ≤ x
+  top : 1 ≤ y
+  from : x ≤ sign.width
+  from_row : y ≤ sign.height
+  right : x - 1 + w ≤ sign.width
+  bottom : y - 1 + h ≤ sign.height
+
+sides : (sign : SignData) (x y w h : ℕ) → is_inside sign x y w h ≡ true → Sides sign x y w h
+sides sign x y w h passes = record {
+  left = grind (arith, nat_tests);
+  top = grind (arith, nat_tests);
+  from = grind (arith, nat_tests);
+  from_row = grind (arith, nat_tests);
+  right = grind (arith, nat_tests);
+  bottom = grind (arith, nat_tests);
+}
+
+rectangle_in_sign : (sign : SignData) (x y w h : ℕ) → is_inside sign x y w h ≡ true → IsInSign sign (rectangle sign x y w h)
+rectangle_in_sign sign x y w h passes =
+    let s = sides sign x y w h passes in
+    record { across = inside_side x w sign.width s.left s.from s.right; down = inside_side y h sign.height s.top s.from_row s.bottom }
+
+whole_in_sign : (sign : SignData) → IsInSign sign (whole_sign sign)
+whole_in_sign sign = record { across = omega arith; down = omega arith }
+
+-- a test that refuses with an error where it fails
+passed : (b : Bool) (n : ℕ) → cond {A = Option ℕ} b None (Some n) ≡ None → b ≡ true
+passed true n e = refl
+passed false n e = cc
+
+module _ (sign : SignData) (defaults : Defaults) where
+  -- a rectangle that an item gives is inside the sign
+  given_in_sign : (before : List Meaning) (x : Meaning) → offence sign defaults before x ≡ None → IfSome (given_rectangle sign x) (IsInSign sign)
+  given_in_sign before (Does NewPage) none = whole_in_sign sign
+  given_in_sign before (Does (Rect x y w h)) none = rectangle_in_sign sign x y w h (passed (is_inside sign x y w h) 4 (sym (offence-rectangle sign defaults before x y w h) ∙ none))
+  given_in_sign before (Does (NewLine gap)) none = tt
+  given_in_sign before (Does (LineJust just)) none = tt
+  given_in_sign before (Does (PageJust just)) none = tt
+  given_in_sign before (Does (Font pick)) none = tt
+  given_in_sign before (Does (CharSpacing pixels)) none = tt
+  given_in_sign before (Does CharSpacingEnd) none = tt
+  given_in_sign before (Does (PageTime on off)) none = tt
+  given_in_sign before (Does (Flash off_first on off)) none = tt
+  given_in_sign before (Does FlashEnd) none = tt
+  given_in_sign before (Does (Fore colour)) none = tt
+  given_in_sign before (Does (Back colour)) none = tt
+  given_in_sign before (Shows number) none = tt
+  given_in_sign before (Faulty code) none = tt
+
+  first_in_sign : IsInSign sign (standing sign defaults []).rectangle
+  unfolding standing
+  first_in_sign = whole_in_sign sign
+
+  next_in_sign : (before : List Meaning) (x : Meaning) → offence sign defaults before x ≡ None → IsInSign sign (standing sign defaults before).rectangle → IsInSign sign (standing sign defaults (before ++ x ∷ [])).rectangle
+  next_in_sign before x none old =
+      subst (λ (s : Standing). IsInSign sign s.rectangle) (sym (standing_push sign defaults before x))
+      (in_force_by (IsInSign sign) (given_rectangle sign x) (standing sign defaults before).rectangle (given_in_sign before x none) old)
+
+  -- behind the items of an accepted string the rectangle in force is inside the sign
+  pub rectangle_inside : (items : List Item) → offences sign defaults items ≡ [] → IsInSign sign (standing sign defaults (map meaning items)).rectangle
+  rectangle_inside = accepted_ind sign defaults (λ before. IsInSign sign (standing sign defaults before).rectangle) first_in_sign next_in_sign
+
+  -- and so the rectangle in force is no higher than the sign
+  pub rectangle_within : (items : List Item) → offences sign defaults items ≡ [] → (standing sign defaults (map meaning items)).rectangle.height ≤ sign.height
+  rectangle_within items none = omega (arith, (rectangle_inside items none).down)
+
+  -- and no wider
+  pub rectangle_width_within : (items : List Item) → offences sign defaults items ≡ [] → (standing sign defaults (map meaning items)).rectangle.width ≤ sign.width
+  rectangle_width_within items none = omega (arith, (rectangle_inside items none).across)
+
+-- ---- the font in force
+
+-- what holds of each holds of the one that is found
+found_each : {X : Type 0} (P : X → Type 0) (p : X → Bool) (xs : List X) → All P xs → IfSome (find p xs) P
+found_each P p [] all = tt
+found_each P p (x ∷ xs) all = elim (cases_Bool (p x)) [
+  | inl here ↦ rw here (All-head P x xs all)
+  | inr there ↦ rw there (found_each P p xs (All-tail P x xs all))
+]
+
+-- a font of at least one pixel
+abbrev HighFont : FontData → Type 0
+HighFont font = 1 ≤ font.height
+
+-- what is put in a font of at least one pixel
+abbrev High : Spot → Type 0
+High s = 1 ≤ s.at.font.height
+
+high_numbered : (sign : SignData) (number : ℕ) → IsSound sign → IfSome (font_numbered sign number) HighFont
+high_numbered sign number sound =
+    found_each HighFont (λ font. font.number == number) sign.fonts (All-weaker IsSoundFont HighFont (λ font s. s.height.0) sign.fonts sound.each)
+
+high_default : (o : Option FontData) (font : FontData) → IsSome o → IfSome o HighFont → HighFont (unwrap_or o font)
+high_default None font some high = absurd (false≢true some)
+high_default (Some found) font some high = high
+
+-- what is put where the font in force is high
+high_spot : (here : Standing) (o : Option Put) → HighFont here.font → All High (cons_option (option_map (λ p. let s : Spot = record { at = here; put = p } in s) o) [])
+high_spot here None high = All-nil High
+high_spot here (Some put) high = All-cons High (record { at = here; put = put }) [] high (All-nil High)
+
+-- the font in force and all that is put are high
+record IsHigh (sign : SignData) (defaults : Defaults) (items : List Meaning) : Type 0 where
+  font : HighFont (standing sign defaults items).font
+  each : All High (spots sign defaults items)
+
+module _ (sign : SignData) (defaults : Defaults) (sound : IsSound sign) (some : IsSome (font_numbered sign defaults.font)) where
+  default_high : HighFont (default_font sign defaults)
+  default_high = high_default (font_numbered sign defaults.font) (record { number = 0; version = 0; height = 0; char_spacing = 0; line_spacing = 0; cells = [] }) some (high_numbered sign defaults.font sound)
+
+  -- a font that an item gives is high
+  given_high : (x : Meaning) → IfSome (given_font sign defaults x) HighFont
+  given_high (Does (Font None)) = default_high
+  given_high (Does (Font (Some pick))) = high_numbered sign pick.number sound
+  given_high (Does NewPage) = tt
+  given_high (Does (Rect x y w h)) = tt
+  given_high (Does (NewLine gap)) = tt
+  given_high (Does (LineJust just)) = tt
+  given_high (Does (PageJust just)) = tt
+  given_high (Does (CharSpacing pixels)) = tt
+  given_high (Does CharSpacingEnd) = tt
+  given_high (Does (PageTime on off)) = tt
+  given_high (Does (Flash off_first on off)) = tt
+  given_high (Does FlashEnd) = tt
+  given_high (Does (Fore colour)) = tt
+  given_high (Does (Back colour)) = tt
+  given_high (Shows number) = tt
+  given_high (Faulty code) = tt
+
+  first_high : IsHigh sign defaults []
+  unfolding standing spots
+  first_high = record { font = default_high; each = All-nil High }
+
+  next_high : (before : List Meaning) (x : Meaning) → IsHigh sign defaults before → IsHigh sign defaults (before ++ x ∷ [])
+  next_high before x old =
+      let here = standing sign defaults before in
+      record {
+        font = subst (λ (s : Standing). HighFont s.font) (sym (standing_push sign defaults before x)) (in_force_by HighFont (given_font sign defaults x) here.font (given_high x) old.font);
+        each = subst (All High) (sym (spots_push sign defaults before x))
+            (All-append High (spots sign defaults before) (cons_option (spot_at defaults here x) []) old.each (high_spot here (put_at defaults here x) old.font));
+      }
+
+  -- whatever the items are, all that they put is put in a font of at least one pixel
+  pub fonts_high : (items : List Meaning) → All (λ (s : Spot). 1 ≤ s.at.font.height) (spots sign defaults items)
+  fonts_high items = (push_ind (IsHigh sign defaults) first_high next_high items).each
+
+  -- and so are the placing items of the present area
+  pub area_high : (items : List Meaning) → All (λ (s : Spot). 1 ≤ s.at.font.height) (present_area sign defaults items)
+  area_high items =
+      let area = (standing sign defaults items).area in
+      All-filter (λ t. (is_glyph t || is_break t) && (t.at.area == area)) High (spots sign defaults items) (fonts_high items)
+
+-- ---- the present area
+
+-- an area without items fits
+fits_none : (height : ℕ) → area_fits height [] ≡ true
+fits_none height = ap (λ b. b && true) (le-leb 0 height (omega arith))
+
+-- the area of these items fits the rectangle in force
+abbrev Fits : SignData → Defaults → List Meaning → Type 0
+Fits sign defaults items = area_fits (standing sign defaults items).rectangle.height (present_area sign defaults items) ≡ true
+
+-- a placing item that doesn't offend isn't too big
+not_big : (a b : Bool) → cond {A = Option ℕ} a (Some 11) (cond b (Some 5) None) ≡ None → b ≡ false
+not_big true b e = cc
+not_big false true e = cc
+not_big false false e = refl
+
+-- where an item isn't too big, its area fits
+fits_where : (a b : Bool) → (a || not b) ≡ false → b ≡ true
+fits_where true b e = absurd (false≢true (sym e))
+fits_where false true e = refl
+fits_where false false e = absurd (false≢true (sym e))
+
+none≢some : (n : ℕ) → Some n ≡ None → ⊥
+none≢some n e = cc
+
+module _ (sign : SignData) (defaults : Defaults) where
+  first_fits : Fits sign defaults []
+  unfolding standing spots
+  first_fits = fits_none sign.height
+
+  module _ (before : List Meaning) (x : Meaning) where
+    -- an item that gives no rectangle leaves it
+    same_rectangle : given_rectangle sign x ≡ None → (standing sign defaults (before ++ x ∷ [])).rectangle ≡ (standing sign defaults before).rectangle
+    same_rectangle gives = ap (λ (s : Standing). s.rectangle) (standing_push sign defaults before x) ∙ ap (λ o. unwrap_or o (standing sign defaults before).rectangle) gives
+
+    -- an area that begins is empty
+    fits_new : begins_area x ≡ true → Fits sign defaults (before ++ x ∷ [])
+    fits_new begins =
+        let height = (standing sign defaults (before ++ x ∷ [])).rectangle.height in
+        ap (area_fits height) (present_area-new sign defaults before x begins) ∙ fits_none height
+
+    -- the area behind the item, by what it is and by the rectangle before the item
+    fits_by : (area : List Spot) → given_rectangle sign x ≡ None → present_area sign defaults (before ++ x ∷ []) ≡ area → area_fits (standing sign defaults before).rectangle.height area ≡ true → Fits sign defaults (before ++ x ∷ [])
+    fits_by area gives is fits =
+        ap (λ (r : Rectangle). area_fits r.height (present_area sign defaults (before ++ x ∷ []))) (same_rectangle gives)
+        ∙ ap (area_fits (standing sign defaults before).rectangle.height) is
+        ∙ fits
+
+    -- an item that begins no area and puts nothing leaves it
+    fits_same : given_rectangle sign x ≡ None → begins_area x ≡ false → put_at defaults (standing sign defaults before) x ≡ None → Fits sign defaults before → Fits sign defaults (before ++ x ∷ [])
+    fits_same gives stays puts old = fits_by (present_area sign defaults before) gives (present_area-nothing sign defaults before x stays puts) old
+
+    -- a placing item joins it
+    fits_placing : (put : Put) → let spot : Spot = record { at = standing sign defaults before; put = put } in
+        given_rectangle sign x ≡ None → begins_area x ≡ false → put_at defaults (standing sign defaults before) x ≡ Some put → (is_glyph spot || is_break spot) ≡ true
+        → too_big (spots sign defaults before) spot ≡ false → Fits sign defaults (before ++ x ∷ [])
+    fits_placing put gives stays puts placing small =
+        let spot : Spot = record { at = standing sign defaults before; put = put } in
+        let area = present_area sign defaults before ++ spot ∷ [] in
+        fits_by area gives (present_area-placing sign defaults before x put stays puts placing)
+        (fits_where (is_glyph spot && not (line_fits spot.at.rectangle.width (line_before (spots sign defaults before) spot ++ spot ∷ []))) (area_fits spot.at.rectangle.height area) small)
+
+  module _ (before : List Meaning) where
+    fits_character : (number : ℕ) (o : Option CellData) → cell_numbered (standing sign defaults before).font number ≡ o → offence sign defaults before (Shows number) ≡ None → Fits sign defaults (before ++ Shows number ∷ [])
+    fits_character number None found none = absurd (none≢some 7 (sym (offence-undefined sign defaults before number found) ∙ none))
+    fits_character number (Some cell) found none =
+        let spot : Spot = record { at = standing sign defaults before; put = Glyph cell } in
+        let spots_before = spots sign defaults before in
+        fits_placing before (Shows number) (Glyph cell) refl refl (ap (option_map Glyph) found) refl
+        (not_big (conflicts spots_before spot) (too_big spots_before spot) (sym (offence-character sign defaults before number cell found) ∙ none))
+
+    fits_break : (gap : Option ℕ) → offence sign defaults before (Does (NewLine gap)) ≡ None → Fits sign defaults (before ++ Does (NewLine gap) ∷ [])
+    fits_break gap none =
+        let spot : Spot = record { at = standing sign defaults before; put = Break gap } in
+        let spots_before = spots sign defaults before in
+        fits_placing before (Does (NewLine gap)) (Break gap) refl refl refl refl
+        (not_big (conflicts spots_before spot) (too_big spots_before spot) (sym (offence-break sign defaults before gap) ∙ none))
+
+    fits_cover : (colour : Option ℕ) → Fits sign defaults before → Fits sign defaults (before ++ Does (Back colour) ∷ [])
+    fits_cover colour old =
+        let here = standing sign defaults before in
+        fits_by before (Does (Back colour)) (present_area sign defaults before) refl (present_area-cover sign defaults before (Does (Back colour)) (Cover here.page (unwrap_or colour defaults.back)) refl refl refl) old
+
+  -- the present area fits behind one more item that doesn't offend
+  next_fits : (before : List Meaning) (x : Meaning) → offence sign defaults before x ≡ None → Fits sign defaults before → Fits sign defaults (before ++ x ∷ [])
+  next_fits before (Shows number) none old = fits_character before number (cell_numbered (standing sign defaults before).font number) refl none
+  next_fits before (Does (NewLine gap)) none old = fits_break before gap none
+  next_fits before (Does NewPage) none old = fits_new before (Does NewPage) refl
+  next_fits before (Does (Rect x y w h)) none old = fits_new before (Does (Rect x y w h)) refl
+  next_fits before (Does (Back colour)) none old = fits_cover before colour old
+  next_fits before (Does (LineJust just)) none old = fits_same before (Does (LineJust just)) refl refl refl old
+  next_fits before (Does (PageJust just)) none old = fits_same before (Does (PageJust just)) refl refl refl old
+  next_fits before (Does (Font pick)) none old = fits_same before (Does (Font pick)) refl refl refl old
+  next_fits before (Does (CharSpacing pixels)) none old = fits_same before (Does (CharSpacing pixels)) refl refl refl old
+  next_fits before (Does CharSpacingEnd) none old = fits_same before (Does CharSpacingEnd) refl refl refl old
+  next_fits before (Does (PageTime on off)) none old = fits_same before (Does (PageTime on off)) refl refl refl old
+  next_fits before (Does (Flash off_first on off)) none old = fits_same before (Does (Flash off_first on off)) refl refl refl old
+  next_fits before (Does FlashEnd) none old = fits_same before (Does FlashEnd) refl refl refl old
+  next_fits before (Does (Fore colour)) none old = fits_same before (Does (Fore colour)) refl refl refl old
+  next_fits before (Faulty code) none old = fits_same before (Faulty code) refl refl refl old
+
+  -- behind the items of an accepted string the present area fits the rectangle in force
+  pub area_fits_always : (items : List Item) → offences sign defaults items ≡ [] → area_fits (standing sign defaults (map meaning items)).rectangle.height (present_area sign defaults (map meaning items)) ≡ true
+  area_fits_always = accepted_ind sign defaults (Fits sign defaults) first_fits next_fits
+
+-- ---- room for the lines of a group
+
+module _ (sign : SignData) (defaults : Defaults) (sound : IsSound sign) (some : IsSome (font_numbered sign defaults.font)) (items : List Item) (none : offences sign defaults items ≡ []) where
+  -- behind the items of an accepted string no group of the present area has more lines than a sign has rows
+  pub room : (just : ℕ) → 2 ≤ just → just ≤ 4 → length (lines_of (in_group just (present_area sign defaults (map meaning items)))) ≤ 128
+  room just low high =
+      let ms = map meaning items in
+      let height = (standing sign defaults ms).rectangle.height in
+      let area = present_area sign defaults ms in
+      let lines = lines_within just height area low high (area_fits_always sign defaults items none) (area_high sign defaults sound some ms) in
+      omega (arith, lines, rectangle_within sign defaults items none, sound.height.1)
+
+  -- and so none has more ended lines
+  pub room_ended : (just : ℕ) → 2 ≤ just → just ≤ 4 → length (ended_lines (in_group just (present_area sign defaults (map meaning items)))) ≤ 128
+  room_ended just low high = omega (arith, ended_most (in_group just (present_area sign defaults (map meaning items))), room just low high)

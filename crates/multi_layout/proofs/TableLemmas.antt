@@ -1,0 +1,195 @@
+-- The line table of a group: what one more `nl` adds to it, what its last line adds, and what is looked up in it.
+use Rattle.std.proofs.Common.{◌≡◌, ℕ, ◌+◌, ◌-◌, ◌<◌, Bool, true, false, cond, ◌&&◌, ◌==◌, length, take, List, [], ◌∷◌, ◌++◌, Option, Some, None, refl, sym, ap, ◌∙◌, suc, zero, arith}
+use Rattle.std.specs.Prelude.{slice_get, slice_index_or}
+use Rattle.std.specs.List.{last_or, list_any, after_last, count_by, All}
+use Rattle.std.specs.Option.{option_map_or}
+use Rattle.std.proofs.lemmas.List.{append-nil, take_more, length_push}
+use Rattle.std.proofs.lemmas.List.Elements.{filter-append}
+use Rattle.std.proofs.lemmas.List.Sums.{sum_by_push}
+use Rattle.multi_layout.specs.declared.line.Line.{Line}
+use Rattle.multi_layout.specs.declared.table.CountedLine.{CountedLine}
+use Rattle.multi_layout.specs.Words.{each_after}
+use Rattle.multi_layout.specs.Address.{Spot, is_glyph, is_break, segment, lines_of}
+use Rattle.multi_layout.specs.Line.{height_of, width_of}
+use Rattle.multi_layout.specs.Sums.{line_sum, ended_lines, IsPlacing}
+use Rattle.multi_layout.specs.Table.{counted_line, table_of}
+use Rattle.multi_layout.proofs.WordLemmas.{each_after_push, last_or_push, push_ind}
+use Rattle.multi_layout.proofs.CutLemmas.{Cut, cut, cut_push, cut_behind_is}
+use Rattle.multi_layout.proofs.GroupHeightLemmas.{part_none, part_some}
+use Rattle.multi_layout.proofs.BehindLemmas.{after_last_is, ended_is, cut_if}
+use Rattle.multi_layout.proofs.HeightLemmas.{open_glyphs}
+use Rattle.multi_layout.proofs.GroupSumLemmas.{break_put, glyph_put}
+
+-- ONE MORE LINE
+
+-- a table after one more line
+pub table_push : (lines : List (List Spot)) (line : List Spot) → table_of (lines ++ line ∷ []) ≡ table_of lines ++ counted_line lines line ∷ []
+table_push lines line = each_after_push counted_line lines line
+
+each_after_length : {X Y : Type 0} (f : List X → X → Y) (xs : List X) → length (each_after f xs) ≡ length xs
+each_after_length f [] = refl
+each_after_length f (x ∷ xs) = ap suc (each_after_length (λ before. f (x ∷ before)) xs)
+
+-- a table has one entry for each line
+pub table_length : (lines : List (List Spot)) → length (table_of lines) ≡ length lines
+table_length lines = each_after_length counted_line lines
+
+-- the last entry of a table has the height of all its lines
+pub last_bottom : (lines : List (List Spot)) → option_map_or (λ (l : CountedLine). l.bottom) (last_or None (table_of lines)) 0 ≡ height_of lines
+last_bottom = push_ind (λ lines. option_map_or (λ (l : CountedLine). l.bottom) (last_or None (table_of lines)) 0 ≡ height_of lines) refl step
+  where
+    step : (lines : List (List Spot)) (line : List Spot) → option_map_or (λ (l : CountedLine). l.bottom) (last_or None (table_of lines)) 0 ≡ height_of lines
+        → option_map_or (λ (l : CountedLine). l.bottom) (last_or None (table_of (lines ++ line ∷ []))) 0 ≡ height_of (lines ++ line ∷ [])
+    step lines line ih = ap (λ o. option_map_or (λ (l : CountedLine). l.bottom) o 0) (ap (last_or None) (table_push lines line) ∙ last_or_push None (table_of lines) (counted_line lines line))
+
+-- LOOK-UPS
+
+last_behind : {X : Type 0} (x : X) (xs : List X) → slice_get (x ∷ xs) (length xs) ≡ last_or (Some x) xs
+last_behind x [] = refl
+last_behind x (y ∷ xs) = last_behind y xs
+
+last_get : {X : Type 0} (xs : List X) → slice_get xs (length xs - 1) ≡ last_or None xs
+last_get [] = refl
+last_get (x ∷ xs) = let last : length (x ∷ xs) - 1 ≡ length xs = omega arith in rw last (last_behind x xs)
+
+-- the last entry of a table, if there is one, has the height of all its lines
+pub height_found : (lines : List (List Spot)) (found : Option CountedLine) → found ≡ slice_get (table_of lines) (length (table_of lines) - 1) → option_map_or (λ (l : CountedLine). l.bottom) found 0 ≡ height_of lines
+height_found lines found e = ap (λ o. option_map_or (λ (l : CountedLine). l.bottom) o 0) (e ∙ last_get (table_of lines)) ∙ last_bottom lines
+
+each_after_get : {X Y : Type 0} (f : List X → X → Y) (xs : List X) (k : ℕ) (d : X) → k < length xs → slice_get (each_after f xs) k ≡ Some (f (take k xs) (slice_index_or xs k d))
+each_after_get f [] k d h = absurd (omega arith)
+each_after_get f (x ∷ xs) zero d h = refl
+each_after_get f (x ∷ xs) (suc k) d h = each_after_get (λ before. f (x ∷ before)) xs k d (omega arith)
+
+-- the entry of a line
+pub look_up : (lines : List (List Spot)) (k : ℕ) → k < length lines → slice_get (table_of lines) k ≡ Some (counted_line (take k lines) (slice_index_or lines k []))
+look_up lines k h = each_after_get counted_line lines k [] h
+
+-- its bottom is the height of the lines down to it
+pub look_up_bottom : (lines : List (List Spot)) (k : ℕ) → k < length lines → height_of (take k lines ++ slice_index_or lines k [] ∷ []) ≡ height_of (take (k + 1) lines)
+look_up_bottom lines k h = ap height_of (sym (take_more lines k [] h))
+
+-- ENDED LINES
+
+ended_if : (g : List Spot) (s : Spot) (b : Bool) → is_break s ≡ b → ended_lines (g ++ s ∷ []) ≡ (cut_if is_break b (cut is_break g) s).closed
+ended_if g s b e = ended_is is_break (g ++ s ∷ []) ∙ ap (λ (c : Cut Spot). c.closed) (cut_push is_break g s) ∙ ap (λ b. (cut_if is_break b (cut is_break g) s).closed) e
+
+-- one more `nl` ends the open line
+pub ended_break : (g : List Spot) (s : Spot) → is_break s ≡ true → ended_lines (g ++ s ∷ []) ≡ ended_lines g ++ (after_last is_break g ++ s ∷ []) ∷ []
+ended_break g s b =
+    ended_if g s true b
+    ∙ ap (λ l. (cut is_break g).closed ++ (l ++ s ∷ []) ∷ []) (sym (after_last_is is_break g))
+    ∙ ap (λ l. l ++ (after_last is_break g ++ s ∷ []) ∷ []) (sym (ended_is is_break g))
+
+-- one more character ends none
+pub ended_glyph : (g : List Spot) (s : Spot) → is_glyph s ≡ true → ended_lines (g ++ s ∷ []) ≡ ended_lines g
+ended_glyph g s b = ended_if g s false (glyph_put s.at s.put b).0 ∙ sym (ended_is is_break g)
+
+-- one more item counts if it is an `nl`
+pub count_push : (g : List Spot) (s : Spot) → count_by is_break (g ++ s ∷ []) ≡ count_by is_break g + cond (is_break s) 1 0
+count_push g s = sum_by_push (λ s. cond (is_break s) 1 0) g s
+
+closed_if : (b : Bool) (c : Cut Spot) (s : Spot) → length (cut_if is_break b c s).closed ≡ length c.closed + cond b 1 0
+closed_if true c s = length_push c.closed (c.open' ++ s ∷ [])
+closed_if false c s = omega arith
+
+closed_count : (g : List Spot) → length (cut is_break g).closed ≡ count_by is_break g
+closed_count = push_ind (λ g. length (cut is_break g).closed ≡ count_by is_break g) refl step
+  where
+    step : (g : List Spot) (s : Spot) → length (cut is_break g).closed ≡ count_by is_break g → length (cut is_break (g ++ s ∷ [])).closed ≡ count_by is_break (g ++ s ∷ [])
+    step g s ih =
+        ap (λ (c : Cut Spot). length c.closed) (cut_push is_break g s)
+        ∙ closed_if (is_break s) (cut is_break g) s
+        ∙ ap (λ n. n + cond (is_break s) 1 0) ih
+        ∙ sym (count_push g s)
+
+-- there are as many ended lines as `nl`s
+pub ended_count : (g : List Spot) → length (ended_lines g) ≡ count_by is_break g
+ended_count g = ap length (ended_is is_break g) ∙ closed_count g
+
+-- ONE MORE ENTRY
+
+-- the entry of a line of these sums whose bottom is known
+abbrev pub entry_of : Line → ℕ → ℕ → CountedLine
+entry_of sums characters bottom = record {
+  left = sums.left.width;
+  centre = sums.centre.width;
+  right = sums.right.width;
+  full = sums.full.width;
+  characters = characters;
+  bottom = bottom;
+}
+
+-- the entry of the open line of a group
+abbrev pub open_entry : List Spot → ℕ → CountedLine
+open_entry g bottom = entry_of (line_sum (after_last is_break g)) (length (segment 5 (after_last is_break g))) bottom
+
+-- it is what is kept of the open line's sums
+pub entry_is : (g : List Spot) (line : Line) (bottom : ℕ) → line ≡ line_sum (after_last is_break g) → entry_of line line.full.count bottom ≡ open_entry g bottom
+entry_is g line bottom e = ap (λ (l : Line). entry_of l l.full.count bottom) e
+
+no_glyph : (just : ℕ) (s : Spot) → is_glyph s ≡ false → (is_glyph s && (s.at.line_just == just)) ≡ false
+no_glyph just s n = ap (λ b. b && (s.at.line_just == just)) n
+
+-- what isn't a character adds nothing to a segment
+segment_no : (just : ℕ) (line : List Spot) (s : Spot) → is_glyph s ≡ false → segment just (line ++ s ∷ []) ≡ segment just line
+segment_no just line s n =
+    filter-append (λ t. is_glyph t && (t.at.line_just == just)) line (s ∷ [])
+    ∙ ap (λ b. segment just line ++ cond b (s ∷ []) []) (no_glyph just s n)
+    ∙ append-nil (segment just line)
+
+same_entry : {a a' b b' c c' d d' n n' m : ℕ} → a ≡ a' → b ≡ b' → c ≡ c' → d ≡ d' → n ≡ n'
+    → ◌≡◌ {A = CountedLine} (record { left = a; centre = b; right = c; full = d; characters = n; bottom = m }) (record { left = a'; centre = b'; right = c'; full = d'; characters = n'; bottom = m })
+same_entry e f g h i = rw (e, f, g, h, i) refl
+
+-- an `nl` changes only the bottom of a line
+counted_break : (lines : List (List Spot)) (line : List Spot) (s : Spot) → is_glyph s ≡ false
+    → counted_line lines (line ++ s ∷ []) ≡ entry_of (line_sum line) (length (segment 5 line)) (height_of (lines ++ (line ++ s ∷ []) ∷ []))
+counted_break lines line s n =
+    let same = λ (just : ℕ). segment_no just line s n in
+    same_entry (ap width_of (same 2)) (ap width_of (same 3)) (ap width_of (same 4)) (ap width_of (same 5)) (ap length (same 5))
+
+-- one more `nl` adds the entry of the open line
+pub table_break : (g : List Spot) (s : Spot) → is_break s ≡ true → table_of (ended_lines (g ++ s ∷ [])) ≡ table_of (ended_lines g) ++ open_entry g (height_of (ended_lines (g ++ s ∷ []))) ∷ []
+table_break g s b =
+    let line = after_last is_break g in
+    let ended = ended_break g s b in
+    ap table_of ended
+    ∙ table_push (ended_lines g) (line ++ s ∷ [])
+    ∙ ap (λ (e : CountedLine). table_of (ended_lines g) ++ e ∷ []) (counted_break (ended_lines g) line s (break_put s.at s.put b))
+    ∙ ap (λ n. table_of (ended_lines g) ++ open_entry g n ∷ []) (ap height_of (sym ended))
+
+-- THE LAST LINE
+
+any_cut : (g : List Spot) (b : Bool) → list_any is_glyph (after_last is_break g) ≡ b → list_any is_glyph (cut is_break g).open' ≡ b
+any_cut g b h = ap (list_any is_glyph) (sym (after_last_is is_break g)) ∙ h
+
+-- an open line with characters is the last line
+pub lines_open : (g : List Spot) → list_any is_glyph (after_last is_break g) ≡ true → lines_of g ≡ ended_lines g ++ after_last is_break g ∷ []
+lines_open g h =
+    let c = cut is_break g in
+    cut_behind_is is_break g
+    ∙ ap (λ l. c.closed ++ l) (part_some c.open' (any_cut g true h))
+    ∙ ap (λ l. l ++ c.open' ∷ []) (sym (ended_is is_break g))
+    ∙ ap (λ l. ended_lines g ++ l ∷ []) (sym (after_last_is is_break g))
+
+-- else the ended lines are all
+pub lines_closed : (g : List Spot) → All IsPlacing g → list_any is_glyph (after_last is_break g) ≡ false → lines_of g ≡ ended_lines g
+lines_closed g placing h =
+    let c = cut is_break g in
+    cut_behind_is is_break g
+    ∙ ap (λ l. c.closed ++ l) (part_none c.open' (open_glyphs g placing) (any_cut g false h))
+    ∙ append-nil c.closed
+    ∙ sym (ended_is is_break g)
+
+-- the open line gives the last entry
+pub table_open : (g : List Spot) → list_any is_glyph (after_last is_break g) ≡ true → table_of (lines_of g) ≡ table_of (ended_lines g) ++ open_entry g (height_of (lines_of g)) ∷ []
+table_open g h =
+    let all = lines_open g h in
+    ap table_of all
+    ∙ table_push (ended_lines g) (after_last is_break g)
+    ∙ ap (λ n. table_of (ended_lines g) ++ open_entry g n ∷ []) (ap height_of (sym all))
+
+-- else there is none
+pub table_closed : (g : List Spot) → All IsPlacing g → list_any is_glyph (after_last is_break g) ≡ false → table_of (lines_of g) ≡ table_of (ended_lines g)
+table_closed g placing h = ap table_of (lines_closed g placing h)

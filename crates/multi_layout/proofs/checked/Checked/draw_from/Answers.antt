@@ -1,0 +1,22 @@
+use Rattle.std.proofs.Common.{◌-◌, ◌++◌}
+use Rattle.multi_layout.proofs.PagesLemmas.{shows_picture, turned}
+use Rattle.multi_layout.proofs.checked.Checked.draw_from.Goals as goal
+
+pub invariant_of-self : goal.invariant_of-self
+invariant_of-self c = rw c.draw_page.ensures.kept c.self.invariant
+
+pub returns-clause-drawn : goal.returns-clause-drawn
+returns-clause-drawn c =
+    let sign = c.self.inside.sign.now in
+    let octets = c.self.inside.source.octets in
+    let (before, behind, b, begins) = rw (← c.self.view_is) at c.requires.begins in
+    rw (← c.self.view_is)
+    (shows_picture c.draw_page.new.plane sign sign.defaults octets (before ++ behind) (c.args.cursor.state.pages - 1) c.args.layer.phase c.args.layer.colour b.accepted (c.draw_page.ensures.drawn before behind b))
+
+pub returns-clause-turned : goal.returns-clause-turned
+returns-clause-turned c =
+    let sign = c.self.inside.sign.now in
+    let octets = c.self.inside.source.octets in
+    let (before, behind, b, begins) = rw (← c.self.view_is) at c.requires.begins in
+    rw (← c.self.view_is)
+    (turned sign sign.defaults octets before behind c.args.cursor c.draw_page.result b (c.draw_page.ensures.passed before behind b))

@@ -1,0 +1,83 @@
+use Rattle.std.proofs.Common.{◌≡◌, ℕ, ◌^◌, List, [], ◌∷◌, ◌++◌, map, Option, Some, None, refl, sym, ap, ◌∙◌, subst, arith}
+use Rattle.multi_token.proofs.ReadingLemmas.{spelling_some}
+use Rattle.sign_font.specs.Sign.{cell_in}
+use Rattle.multi_layout.specs.Address.{spots, standing, in_area}
+use Rattle.multi_layout.specs.Item.{meant_by}
+use Rattle.multi_layout.specs.Limits.{plane_octets}
+use Rattle.multi_layout.specs.Meaning.{Meaning, Shows, Does, begins_area, meaning}
+use Rattle.multi_layout.specs.Offence.{offence}
+use Rattle.multi_layout.specs.Passes.{HasCounted, IsDrawnTo}
+use Rattle.multi_layout.proofs.DrawLemmas.{low_between, cell_height, map_split, four_octets, tag_drawn, rows_few, fill_few}
+use Rattle.multi_layout.proofs.JudgedLemmas.{below_more, judged-undefined}
+use Rattle.multi_layout.proofs.WalkLemmas.{never_offends}
+use Rattle.multi_layout.proofs.draw.draw_item.Goals as goal
+
+pub unreachable-requires : goal.unreachable-requires
+unreachable-requires c =
+    let sign = c.args.sign.now in
+    let (before, rest, item, b, read, counted) = c.requires.known in
+    let shows : meaning item ≡ Shows c.in-Character.number = read.meant ∙ ap meant_by c.in-Character.is in
+    let none : cell_in sign c.args.cursor.state.attributes.font.number c.in-Character.number ≡ None = ap (cell_in sign c.args.cursor.state.attributes.font.number) (sym c.from.ensures) ∙ sym c.cell.ensures.cell ∙ c.in_default.is in
+    let offends = judged-undefined sign sign.defaults (map meaning before) c.args.cursor.state b.state_is c.in-Character.number none in
+    let fine = never_offends sign sign.defaults c.args.source.now.octets before rest item c.args.cursor b in
+    let wrong : ◌≡◌ {A = Option ℕ} (Some 7) None = sym offends ∙ ap (offence sign sign.defaults (map meaning before)) (sym shows) ∙ fine in
+    cc
+
+pub put_character-requires-clause-below : goal.put_character-requires-clause-below
+put_character-requires-clause-below c =
+    let (before, rest, item, b, read, counted) = c.requires.known in
+    below_more (2 ^ 42) (2 ^ 43) c.args.cursor.state.area (omega arith) (low_between c.args.sign.now c.args.sign.now.defaults c.args.source.now.octets before (item ∷ rest) c.args.cursor b)
+
+pub put_character-requires-clause-height : goal.put_character-requires-clause-height
+put_character-requires-clause-height c =
+    let sign = c.args.sign.now in
+    let (before, rest, item, b, read, counted) = c.requires.known in
+    let found : cell_in sign c.args.cursor.state.attributes.font.number c.in-Character.number ≡ Some c.in-Some.cell = ap (cell_in sign c.args.cursor.state.attributes.font.number) (sym c.from.ensures) ∙ sym c.cell.ensures.cell ∙ c.in-Some.is in
+    (cell_height sign sign.defaults (map meaning before) c.args.cursor.state b.state_is c.in-Character.number c.in-Some.cell found).0
+
+pub returns-in-Some-clause-passed : goal.returns-in-Some-clause-passed
+returns-in-Some-clause-passed c = λ before rest item b read.
+    let sign = c.args.sign.now in
+    let found : cell_in sign c.args.cursor.state.attributes.font.number c.in-Character.number ≡ Some c.in-Some.cell = ap (cell_in sign c.args.cursor.state.attributes.font.number) (sym c.from.ensures) ∙ sym c.cell.ensures.cell ∙ c.in-Some.is in
+    c.pass_character.ensures.passed sign sign.defaults c.args.source.now.octets before rest item b (record { meant = read.meant ∙ ap meant_by c.in-Character.is; known = tt; len = read.len }) found
+
+pub returns-in-Some-clause-drawn : goal.returns-in-Some-clause-drawn
+returns-in-Some-clause-drawn c = λ before rest item b read plain counted drawn.
+    let sign = c.args.sign.now in
+    let shows : meaning item ≡ Shows c.in-Character.number = read.meant ∙ ap meant_by c.in-Character.is in
+    let found : cell_in sign c.args.cursor.state.attributes.font.number c.in-Character.number ≡ Some c.in-Some.cell = ap (cell_in sign c.args.cursor.state.attributes.font.number) (sym c.from.ensures) ∙ sym c.cell.ensures.cell ∙ c.in-Some.is in
+    let all = map_split before rest item (Shows c.in-Character.number) shows in
+    let one = map_split before [] item (Shows c.in-Character.number) shows in
+    let k = (standing sign sign.defaults (map meaning before)).area in
+    let put = c.put_character.ensures.drawn sign.defaults (map meaning before) (map meaning rest) c.in-Character.number b.state_is found
+    (subst (λ (ms : List Meaning). HasCounted (in_area k (spots sign sign.defaults ms)) c.args.lines.now) all counted)
+    (subst (λ (ms : List Meaning). IsDrawnTo sign sign.defaults c.args.layer ms (map meaning before) c.args.plane.now) all drawn) in
+    subst (λ (ms : List Meaning). IsDrawnTo sign sign.defaults c.args.layer ms (map meaning (before ++ item ∷ [])) c.put_character.new.plane) (sym all)
+    (subst (λ (ms : List Meaning). IsDrawnTo sign sign.defaults c.args.layer (map meaning before ++ Shows c.in-Character.number ∷ map meaning rest) ms c.put_character.new.plane) (sym one) put)
+
+pub returns-in-Some-clause-fills : goal.returns-in-Some-clause-fills
+returns-in-Some-clause-fills c =
+    let sign = c.args.sign.now in
+    let (before, rest, item, b, read, counted) = c.requires.known in
+    let found : cell_in sign c.args.cursor.state.attributes.font.number c.in-Character.number ≡ Some c.in-Some.cell = ap (cell_in sign c.args.cursor.state.attributes.font.number) (sym c.from.ensures) ∙ sym c.cell.ensures.cell ∙ c.in-Some.is in
+    let tall = (cell_height sign sign.defaults (map meaning before) c.args.cursor.state b.state_is c.in-Character.number c.in-Some.cell found).1 in
+    rows_few sign c.args.plane.now c.put_character.new.plane c.args.next.len c.in-Some.cell.height (omega (arith, read.len, spelling_some item)) tall
+    c.put_character.ensures.counted c.put_character.ensures.steps c.put_character.ensures.width c.put_character.ensures.height
+
+pub returns-in-Tag-clause-drawn : goal.returns-in-Tag-clause-drawn
+returns-in-Tag-clause-drawn c = λ before rest item b read plain counted drawn.
+    let sign = c.args.sign.now in
+    let does : meaning item ≡ Does c.in-Tag.tag = read.meant ∙ ap meant_by c.in-Tag.is in
+    let all = map_split before rest item (Does c.in-Tag.tag) does in
+    let one = map_split before [] item (Does c.in-Tag.tag) does in
+    let put = tag_drawn sign sign.defaults c.args.layer (map meaning before) (map meaning rest) c.in-Tag.tag c.args.plane.now c.draw_tag.new.plane (ap begins_area (sym does) ∙ plain) c.draw_tag.ensures.back c.draw_tag.ensures.quiet
+    (subst (λ (ms : List Meaning). IsDrawnTo sign sign.defaults c.args.layer ms (map meaning before) c.args.plane.now) all drawn) in
+    subst (λ (ms : List Meaning). IsDrawnTo sign sign.defaults c.args.layer ms (map meaning (before ++ item ∷ [])) c.draw_tag.new.plane) (sym all)
+    (subst (λ (ms : List Meaning). IsDrawnTo sign sign.defaults c.args.layer (map meaning before ++ Does c.in-Tag.tag ∷ map meaning rest) ms c.draw_tag.new.plane) (sym one) put)
+
+pub returns-in-Tag-clause-fills : goal.returns-in-Tag-clause-fills
+returns-in-Tag-clause-fills c =
+    let sign = c.args.sign.now in
+    let (before, rest, item, b, read, counted) = c.requires.known in
+    let four = four_octets item c.in-Tag.tag (read.meant ∙ ap meant_by c.in-Tag.is) in
+    fill_few sign c.args.plane.now c.draw_tag.new.plane c.args.next.len (plane_octets sign) (omega (arith, read.len, four)) c.draw_tag.ensures.counted c.draw_tag.ensures.steps refl c.draw_tag.ensures.width c.draw_tag.ensures.height

@@ -1,0 +1,43 @@
+use Rattle.std.proofs.Common.{◌≡◌, List, ap, subst, arith}
+use Rattle.multi_token.specs.Counted.{Counted}
+use Rattle.multi_token.specs.Spelling.{Item}
+use Rattle.multi_layout.specs.Walk.{IsBetween}
+use Rattle.multi_layout.proofs.PagesLemmas.{not_the_end, some_read, steps_further, way_further, within_further}
+use Rattle.multi_layout.proofs.pages.page_start.Goals as goal
+
+pub unreachable-requires : goal.unreachable-requires
+unreachable-requires c =
+    let sign = c.args.sign.now in
+    let octets = c.args.source.now.octets in
+    let w = c.loop-cursor.invariant.way in
+    let same : c.loop-cursor.source.octets ≡ octets = ap (λ (s : Counted). s.octets) c.loop-cursor.invariant.steps.3 in
+    let none = c.in_default.ensures.first sign sign.defaults w.before w.behind (rw same w.between) in
+    let all = subst (λ (l : List Item). IsBetween sign sign.defaults octets w.before l c.loop-cursor.cursor) none w.between in
+    not_the_end sign sign.defaults octets c.args.page w.before c.loop-cursor.cursor all c.loop-cursor-test.true c.requires.page
+
+pub loop-cursor-smaller : goal.loop-cursor-smaller
+loop-cursor-smaller c =
+    let sign = c.args.sign.now in
+    let start = c.args.source.now in
+    let i = c.loop-cursor.invariant in
+    let old = c.loop-cursor.cursor in
+    let same : c.loop-cursor.source.octets ≡ start.octets = ap (λ (s : Counted). s.octets) i.steps.3 in
+    let first = c.in-Some.ensures.first sign sign.defaults i.way.before i.way.behind (rw same i.way.between) in
+    let some = some_read sign c.args.page start c.loop-cursor.source c.next_item.new.source c.pass-cursor.new.source old c.pass-cursor.result c.in-Some.next i.steps c.in-Some.ensures.steps c.pass-cursor.ensures.at i.way first in
+    let within = within_further sign c.args.page start c.loop-cursor.source c.next_item.new.source c.pass-cursor.new.source old c.pass-cursor.result c.in-Some.next i.steps c.in-Some.ensures.steps c.pass-cursor.ensures.at i.way first in
+    omega (arith, c.pass-cursor.ensures.at, some, within)
+
+pub loop-cursor-preserved : goal.loop-cursor-preserved
+loop-cursor-preserved c =
+    let sign = c.args.sign.now in
+    let start = c.args.source.now in
+    let i = c.loop-cursor.invariant in
+    let old = c.loop-cursor.cursor in
+    let same : c.loop-cursor.source.octets ≡ start.octets = ap (λ (s : Counted). s.octets) i.steps.3 in
+    let first = c.in-Some.ensures.first sign sign.defaults i.way.before i.way.behind (rw same i.way.between) in
+    let some = some_read sign c.args.page start c.loop-cursor.source c.next_item.new.source c.pass-cursor.new.source old c.pass-cursor.result c.in-Some.next i.steps c.in-Some.ensures.steps c.pass-cursor.ensures.at i.way first in
+    record {
+      way = way_further sign c.args.page start c.loop-cursor.source c.next_item.new.source c.pass-cursor.new.source old c.pass-cursor.result c.in-Some.next i.steps c.in-Some.ensures.steps c.pass-cursor.ensures.at i.way first
+          c.loop-cursor-test.true (c.pass-cursor.ensures.passed);
+      steps = steps_further sign c.args.page start c.loop-cursor.source c.next_item.new.source c.pass-cursor.new.source old c.pass-cursor.result c.in-Some.next i.steps c.in-Some.ensures.steps c.pass-cursor.ensures.at some c.pass-cursor.ensures.steps;
+    }

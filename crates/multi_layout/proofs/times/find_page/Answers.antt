@@ -1,0 +1,76 @@
+use Rattle.std.proofs.Common.{◌≡◌, ◌+◌, ◌-◌, ◌*◌, sym, ap, ◌∙◌, arith}
+use Rattle.std.proofs.lemmas.Bool.{false≢true}
+use Rattle.multi_token.specs.Counted.{Counted}
+use Rattle.multi_token.proofs.StepLemmas.{rises_then}
+use Rattle.multi_layout.proofs.LocateLemmas.{within_octets, next_fits, searched_more, shown_at_end, shown_at_page, over_here, never_over}
+use Rattle.multi_layout.proofs.times.find_page.Goals as goal
+use Rattle.multi_layout.proofs.times.find_page.Goals.{then-ends_page+in_default-shown_in, else-ends_page}
+
+pub returns-in-Some-shown_in-clause-shown : goal.returns-in-Some-shown_in-clause-shown
+returns-in-Some-shown_in-clause-shown c =
+    let i = c.loop-next.invariant in
+    let s = i.searched in
+    let first = (rw i.octets at c.in-Some.ensures.first) c.args.sign.now c.args.sign.now.defaults s.before s.behind s.between in
+    let e = c.shown_in.ensures in
+    shown_at_page s e.on e.off e.ended c.in-Some.next first (sym c.ends_page.ensures ∙ c.if-ends_page.true) c.in-Some-shown_in.is
+
+pub returns-in-Some-shown_in-clause-steps : goal.returns-in-Some-shown_in-clause-steps
+returns-in-Some-shown_in-clause-steps c =
+    let i = c.loop-next.invariant in
+    let s = i.searched in
+    let len = c.in-Some.next.len in
+    let first = (rw i.octets at c.in-Some.ensures.first) c.args.sign.now c.args.sign.now.defaults s.before s.behind s.between in
+    let fits = next_fits s c.in-Some.next first in
+    let k = rises_then c.args.source.now c.loop-next.source c.next_item.new.source 0 (2 * c.loop-next.cursor.at) 0 (2 * len - 1) i.steps c.in-Some.ensures.steps in
+    (k.0, k.1, omega (arith, k.2, fits), k.3)
+
+pub loop-next-smaller : goal.loop-next-smaller
+loop-next-smaller c =
+    let i = c.loop-next.invariant in
+    let s = i.searched in
+    let first = (rw i.octets at c.in-Some.ensures.first) c.args.sign.now c.args.sign.now.defaults s.before s.behind s.between in
+    let fits = next_fits s c.in-Some.next first in
+    omega (arith, fits, c.pass-cursor.ensures.at)
+
+pub loop-next-preserved : goal.loop-next-preserved
+loop-next-preserved c =
+    let i = c.loop-next.invariant in
+    let s = i.searched in
+    let next = c.in-Some.next in
+    let cursor = c.loop-next.cursor in
+    let pass = c.pass-cursor.ensures in
+    let first = (rw i.octets at c.in-Some.ensures.first) c.args.sign.now c.args.sign.now.defaults s.before s.behind s.between in
+    let fits = next_fits s next first in
+    let same : c.next_item.new.source.octets ≡ c.args.source.now.octets = ap (λ (s : Counted). s.octets) c.in-Some.ensures.steps.3 ∙ i.octets in
+    let k = rises_then c.args.source.now c.loop-next.source c.next_item.new.source 0 (2 * cursor.at) 0 (2 * next.len - 1) i.steps c.in-Some.ensures.steps in
+    let all = rises_then c.args.source.now c.next_item.new.source c.pass-cursor.new.source 0 (2 * cursor.at + (2 * next.len - 1)) 0 1 k pass.steps in
+    record {
+      searched = searched_more s next first c.pass-cursor.result (rw same at pass.passed) (elim c.if-ends_page.branch [
+        | then-ends_page+in_default-shown_in w ↦ λ _. over_here s w.shown_in.ensures.on w.shown_in.ensures.off w.shown_in.ensures.ended w.in_default-shown_in.is
+        | else-ends_page w ↦ λ e. absurd (false≢true (sym w.if-ends_page.false ∙ c.ends_page.ensures ∙ e))
+      ]);
+      octets = ap (λ (s : Counted). s.octets) pass.steps.3 ∙ same;
+      steps = (all.0, all.1, omega (arith, all.2, fits, pass.at), all.3);
+    }
+
+pub unreachable-requires : goal.unreachable-requires
+unreachable-requires c =
+    let i = c.loop-next.invariant in
+    let s = i.searched in
+    let end = (rw i.octets at c.in_default.ensures.first) c.args.sign.now c.args.sign.now.defaults s.before s.behind s.between in
+    let e = c.shown_in-2.ensures in
+    never_over s e.on e.off e.ended end c.requires.within c.in-None.is
+
+pub returns-clause-shown : goal.returns-clause-shown
+returns-clause-shown c =
+    let i = c.loop-next.invariant in
+    let s = i.searched in
+    let end = (rw i.octets at c.in_default.ensures.first) c.args.sign.now c.args.sign.now.defaults s.before s.behind s.between in
+    let e = c.shown_in-2.ensures in
+    shown_at_end s e.on e.off e.ended end c.in-Some-shown_in-2.is
+
+pub returns-clause-steps : goal.returns-clause-steps
+returns-clause-steps c =
+    let i = c.loop-next.invariant in
+    let k = rises_then c.args.source.now c.loop-next.source c.next_item.new.source 0 (2 * c.loop-next.cursor.at) 0 1 i.steps c.in_default.ensures.end_steps in
+    (k.0, k.1, omega (arith, k.2, within_octets i.searched), k.3)

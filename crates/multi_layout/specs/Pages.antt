@@ -1,0 +1,68 @@
+-- The pages of an accepted string, drawn one after the other into one plane.
+use Rattle.std.specs.Prelude.{◌≡◌, ◌⊎◌, ℕ, ◌+◌, ◌*◌, ◌^◌, ◌<◌, ◌≤◌, ◌==◌, List, length, if◌then◌else◌}
+use Rattle.multi_token.specs.Counted.{RisesBetween}
+use Rattle.page_plane.specs.Plane.{BitPlane}
+use Rattle.sign_font.specs.declared.parts.Defaults.{Defaults}
+use Rattle.sign_font.specs.Sign.{SignData, tallest}
+use Rattle.sign_font.specs.Sound.{IsSound}
+use Rattle.multi_layout.specs.declared.cursor.Cursor.{Cursor}
+use Rattle.multi_layout.specs.Judged.{Judged}
+use Rattle.multi_layout.specs.Limits.{plane_limit, plane_octets, reading_limit}
+use Rattle.multi_layout.specs.Meaning.{meanings}
+use Rattle.multi_layout.specs.Paging.{IsPageStart}
+use Rattle.multi_layout.specs.Verdict.{pages_of}
+
+-- the string and the plane as they are, what is drawn, the page that comes next, and both counts at the start (own)
+pub record PagesState : Type 0 where
+  pub string : Judged
+  pub plane : BitPlane
+  pub phase : ℕ
+  pub colour : ℕ
+  pub next : ℕ
+  pub string_started : ℕ
+  pub plane_started : ℕ
+
+-- the number of pages of a string that was judged (own)
+abbrev pub page_count : Judged → ℕ
+page_count string = pages_of (meanings string.source.octets)
+
+-- the plane has the size of the sign (own)
+abbrev pub IsSized : BitPlane → SignData → Type 0
+IsSized plane sign = (plane.width ≡ sign.width) × (plane.height ≡ sign.height)
+
+-- the page that begins at the old cursor is passed: it is the last of the string, or the next begins at the new one (own)
+pub record IsTurned (sign : SignData) (defaults : Defaults) (octets : List ℕ) (old new : Cursor) : Type 0 where
+  pub on : old.at ≤ new.at
+  pub within : new.at ≤ length octets
+  pub ends : ((old.state.pages ≡ pages_of (meanings octets)) × (new.state.pages ≡ old.state.pages))
+      ⊎ ((old.state.pages < pages_of (meanings octets)) × (new.state.pages ≡ old.state.pages + 1) × IsPageStart sign defaults octets new)
+
+-- the next page begins at the cursor, and the octets before it are all that was read and drawn so far (own)
+pub record IsUnderWay (pages : PagesState) (cursor : Cursor) : Type 0 where
+  pub sound : IsSound pages.string.sign
+  pub short : length pages.string.source.octets < 2 ^ 32
+  pub size : IsSized pages.plane pages.string.sign
+  pub next_most : pages.next ≤ page_count pages.string
+  pub begins : pages.next < page_count pages.string
+      → IsPageStart pages.string.sign pages.string.defaults pages.string.source.octets cursor × (cursor.state.pages ≡ pages.next + 1)
+  pub within : cursor.at ≤ length pages.string.source.octets
+  pub read_least : pages.string_started ≤ pages.string.source.steps
+  pub read_most : pages.string.source.steps ≤ pages.string_started + 4 * cursor.at + (if pages.next == page_count pages.string then 2 else 0)
+  pub fills : ℕ
+  pub fills_few : 4 * fills ≤ cursor.at + (if pages.next == page_count pages.string then 4 else 0)
+  pub drawn_least : pages.plane_started ≤ pages.plane.steps
+  pub drawn_most : pages.plane.steps ≤ pages.plane_started + tallest pages.string.sign * cursor.at + plane_octets pages.string.sign * fills
+
+-- the next page was drawn, and the one after it comes next (own)
+pub record TurnsPage (old new : PagesState) : Type 0 where
+  pub sign_kept : new.string.sign ≡ old.string.sign
+  pub defaults_kept : new.string.defaults ≡ old.string.defaults
+  pub read : RisesBetween old.string.source new.string.source 0 (reading_limit (length old.string.source.octets))
+  pub size_kept : (new.plane.width ≡ old.plane.width) × (new.plane.height ≡ old.plane.height)
+  pub drawn_least : old.plane.steps ≤ new.plane.steps
+  pub drawn_most : new.plane.steps ≤ old.plane.steps + plane_limit old.string.sign (length old.string.source.octets)
+  pub phase_kept : new.phase ≡ old.phase
+  pub colour_kept : new.colour ≡ old.colour
+  pub next_page : new.next ≡ old.next + 1
+  pub string_started_kept : new.string_started ≡ old.string_started
+  pub plane_started_kept : new.plane_started ≡ old.plane_started

@@ -1,0 +1,37 @@
+-- The drawing of pages, one after the other.
+use Rattle.std.specs.Prelude.{◌≡◌, ◌⊎◌, ℕ, ◌+◌, ◌-◌, ◌*◌, ◌≤◌, ◌==◌, List, [], ◌++◌, map, if◌then◌else◌}
+use Rattle.multi_token.specs.Counted.{Counted, RisesBetween}
+use Rattle.multi_token.specs.Spelling.{Item}
+use Rattle.page_plane.specs.Plane.{BitPlane}
+use Rattle.sign_font.specs.declared.parts.Defaults.{Defaults}
+use Rattle.sign_font.specs.Sign.{SignData, tallest}
+use Rattle.multi_layout.specs.declared.cursor.Cursor.{Cursor}
+use Rattle.multi_layout.specs.Limits.{plane_octets}
+use Rattle.multi_layout.specs.Meaning.{meaning, BeginsPage}
+use Rattle.multi_layout.specs.Walk.{IsBetween}
+
+-- the cursor stands where a page of an accepted string begins (own)
+abbrev pub IsPageStart : SignData → Defaults → List ℕ → Cursor → Type 0
+IsPageStart sign defaults octets cursor = (before behind : List Item) × IsBetween sign defaults octets before behind cursor × BeginsPage (map meaning before)
+
+-- the page that begins at the old cursor is passed: the new one stands behind the `np` that ends it, or at the end of the string (own)
+pub record IsPagePassed (sign : SignData) (defaults : Defaults) (octets : List ℕ) (before behind : List Item) (old new : Cursor) : Type 0 where
+  pub page : List Item
+  pub rest : List Item
+  pub split : behind ≡ page ++ rest
+  pub between : IsBetween sign defaults octets (before ++ page) rest new
+  pub on : old.at ≤ new.at
+  pub ends : ((rest ≡ []) × (new.state.pages ≡ old.state.pages)) ⊎ (BeginsPage (map meaning (before ++ page)) × (new.state.pages ≡ old.state.pages + 1))
+
+-- the steps over the string from cursor to cursor: each octet is read at most twice for the table of its area's lines, and at most
+-- twice to draw; at the end of the string each of both takes one more (own)
+abbrev pub IsReadTwice : Counted → Counted → Cursor → Cursor → Type 0
+IsReadTwice source source' old new = RisesBetween source source' 0 (4 * (new.at - old.at) + (if new.state.pages == old.state.pages then 2 else 0))
+
+-- the steps over the plane: a row for each row of each character, and a fill where the page begins and for each background; each
+-- fill but that of the last page has four octets of its own (own)
+pub record IsFilledFew (sign : SignData) (plane plane' : BitPlane) (old new : Cursor) : Type 0 where
+  pub fills : ℕ
+  pub least : plane.steps ≤ plane'.steps
+  pub few : 4 * fills ≤ (new.at - old.at) + (if new.state.pages == old.state.pages then 4 else 0)
+  pub most : plane'.steps ≤ plane.steps + tallest sign * (new.at - old.at) + plane_octets sign * fills

@@ -1,0 +1,86 @@
+-- The two readings of an area: one for the table of its lines, one to put its cells.
+use Rattle.std.specs.Prelude.{◌≡◌, ℕ, ◌+◌, ◌-◌, ◌*◌, ◌^◌, ◌≤◌, Bool, true, false, List, [], ◌∷◌, ◌++◌, map, length}
+use Rattle.std.specs.List.{All}
+use Rattle.multi_token.specs.Counted.{Counted, RisesBetween}
+use Rattle.multi_token.specs.Spelling.{Item, spelling, spell}
+use Rattle.multi_tag.specs.declared.tag.Tag.{Tag}
+use Rattle.multi_tag.specs.declared.tag.Tag.TheVariants.{Back, NewLine}
+use Rattle.page_plane.specs.Plane.{BitPlane}
+use Rattle.sign_font.specs.declared.parts.Defaults.{Defaults}
+use Rattle.sign_font.specs.Sign.{SignData, tallest}
+use Rattle.multi_layout.specs.declared.cursor.Cursor.{Cursor}
+use Rattle.multi_layout.specs.declared.paint.Layer.{Layer}
+use Rattle.multi_layout.specs.declared.read.AreaLines.{AreaLines}
+use Rattle.multi_layout.specs.declared.table.LineTable.{LineTable}
+use Rattle.multi_layout.specs.Address.{Spot, spots, standing, in_group, lines_of, in_area}
+use Rattle.multi_layout.specs.Drawn.{Shows, is_covered}
+use Rattle.multi_layout.specs.Limits.{plane_octets}
+use Rattle.multi_layout.specs.Meaning.{Meaning, Does, EndsArea, begins_area, meaning}
+use Rattle.multi_layout.specs.Sums.{ended_lines}
+use Rattle.multi_layout.specs.Table.{group_lines, table_of}
+
+-- the item ends a line (NTCIP 1203 v03, MULTI tag 'nl')
+abbrev pub ends_line : Meaning → Bool
+ends_line (Does (NewLine gap)) = true
+ends_line _ = false
+
+-- the table has the ended lines of each group of an area (own)
+abbrev pub HasEnded : List Spot → LineTable → Type 0
+HasEnded area table = (just : ℕ) → 2 ≤ just → just ≤ 4 → group_lines just table ≡ table_of (ended_lines (in_group just area))
+
+-- the table has the counted lines of each group of an area (own)
+abbrev pub HasCounted : List Spot → LineTable → Type 0
+HasCounted area table = (just : ℕ) → 2 ≤ just → just ≤ 4 → group_lines just table ≡ table_of (lines_of (in_group just area))
+
+-- the bottoms of the table's lines are low enough that no sum overflows (own)
+abbrev pub IsLow : LineTable → Type 0
+IsLow table = (just : ℕ) → 2 ≤ just → just ≤ 4 → All (λ line. line.bottom ≤ 2 ^ 43) (group_lines just table)
+
+-- no group of an area has more counted lines than a table has room for (own)
+abbrev pub HasRoom : List Spot → Type 0
+HasRoom area = (just : ℕ) → 2 ≤ just → just ≤ 4 → length (lines_of (in_group just area)) ≤ 128
+
+-- no area begins behind these items (own)
+abbrev pub IsPlain : List Item → Type 0
+IsPlain area = All (λ item. begins_area (meaning item) ≡ false) area
+
+-- a tag that sets no background (own)
+abbrev pub IsQuiet : Tag → Type 0
+IsQuiet (Back given) = ⊥
+IsQuiet tag = Unit {0}
+
+-- the area that the items before a cursor's next one begin or go on with, of all those of the string (own)
+abbrev pub whole_area : SignData → Defaults → List Item → List Item → List Spot
+whole_area sign defaults before behind = in_area (standing sign defaults (map meaning before)).area (spots sign defaults (map meaning (before ++ behind)))
+
+-- the steps that reading the first of these items takes at most, and one at the end (own)
+abbrev pub first_steps : List Item → ℕ
+first_steps [] = 1
+first_steps (item ∷ rest) = 2 * length (spelling item) - 1
+
+-- the area that begins at the cursor was read: these are its items, and those behind it (own)
+pub record IsAreaRead (sign : SignData) (defaults : Defaults) (before behind : List Item) (cursor : Cursor) (read : AreaLines) (source source' : Counted) : Type 0 where
+  pub area : List Item
+  pub rest : List Item
+  pub split : behind ≡ area ++ rest
+  pub plain : IsPlain area
+  pub ends : EndsArea (map meaning rest)
+  pub end : read.end ≡ cursor.at + length (spell area)
+  pub table : HasCounted (whole_area sign defaults before behind) read.lines
+  pub low : IsLow read.lines
+  pub steps : RisesBetween source source' 0 (2 * length (spell area) + first_steps rest)
+
+-- the plane shows what these items put on their page, of all the items of the string (own)
+abbrev pub IsDrawnTo : SignData → Defaults → Layer → List Meaning → List Meaning → BitPlane → Type 0
+IsDrawnTo sign defaults layer items before plane =
+    Shows plane (is_covered sign defaults (standing sign defaults before).page layer.phase layer.colour (spots sign defaults items) (spots sign defaults before))
+
+-- these octets of a page took at most these steps over the plane: a row for each row of each character, and a fill for each
+-- background, which has four octets (own)
+pub record IsFilledBy (sign : SignData) (plane plane' : BitPlane) (octets : ℕ) : Type 0 where
+  pub fills : ℕ
+  pub few : 4 * fills ≤ octets
+  pub least : plane.steps ≤ plane'.steps
+  pub most : plane'.steps ≤ plane.steps + tallest sign * octets + plane_octets sign * fills
+  pub width : plane'.width ≡ plane.width
+  pub height : plane'.height ≡ plane.height

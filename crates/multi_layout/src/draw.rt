@@ -1,0 +1,150 @@
+//! The drawing of a page into one plane: each area is read for the table of its lines, and then to put its cells.
+
+ghost use Rattle.std.specs.Prelude.{◌≡◌, ℕ, ◌+◌, ◌-◌, ◌*◌, ◌≤◌, [], ◌∷◌, ◌++◌, List, Option, false, length, map, ◌==◌};
+ghost use Rattle.std.specs.Option.{unwrap_or};
+ghost use Rattle.multi_token.specs.Counted.{RisesBetween};
+ghost use Rattle.multi_token.specs.Spelling as spelled;
+ghost use Rattle.sign_font.specs.Sound.{IsSound};
+ghost use Rattle.multi_layout.specs.Drawn.{Shows};
+ghost use Rattle.multi_layout.specs.Meaning.{begins_area, meaning};
+ghost use Rattle.multi_layout.specs.Paging.{IsFilledFew, IsPagePassed, IsPageStart, IsReadTwice};
+ghost use Rattle.multi_layout.specs.Passes.{HasCounted, IsDrawnTo, IsFilledBy, IsLow, IsPlain, IsQuiet, whole_area};
+ghost use Rattle.multi_layout.specs.Limits.{plane_octets};
+ghost use Rattle.multi_layout.specs.Picture.{in_plane, shown_colour};
+ghost use Rattle.multi_layout.specs.Walk.{IsBetween, IsRead};
+
+use crate::cursor::{Cursor, Next};
+use crate::item::Item;
+use crate::paint::{Layer, put_character};
+use crate::read::{AreaLines, read_area};
+use crate::table::LineTable;
+use multi_tag::Tag;
+use multi_token::Source;
+use page_plane::Plane;
+use sign_font::Sign;
+
+/// Draws the page that begins at a cursor, and gives the cursor behind it.
+pub(crate) fn draw_page(
+    sign: &Sign,
+    source: &mut Source<'_>,
+    cursor: Cursor,
+    layer: Layer,
+    plane: &mut Plane,
+) -> Cursor
+    requires begins { IsPageStart sign.now sign.now.defaults source.old.octets cursor }
+    requires size { (plane.old.width ≡ sign.now.width) × (plane.old.height ≡ sign.now.height) }
+    ensures drawn { (before behind : List spelled.Item) → IsBetween sign.now sign.now.defaults source.old.octets before behind cursor
+        → Shows plane.new (λ column row. in_plane sign.now sign.now.defaults (map meaning (before ++ behind)) (cursor.state.pages - 1) layer.phase layer.colour column row) }
+    ensures passed { (before behind : List spelled.Item) → IsBetween sign.now sign.now.defaults source.old.octets before behind cursor
+        → IsPagePassed sign.now sign.now.defaults source.old.octets before behind cursor result }
+    ensures size { (plane.new.width ≡ plane.old.width) × (plane.new.height ≡ plane.old.height) }
+    ensures kept { source.new.octets ≡ source.old.octets }
+    ensures steps { IsReadTwice source.old source.new cursor result }
+    ensures fills { IsFilledFew sign.now plane.old plane.new cursor result }
+{
+    plane.fill(layer.has(sign, cursor.state.attributes.back));
+    let mut cursor = cursor;
+    loop {
+        let read = read_area(sign, source, cursor);
+        cursor = draw_area(sign, source, cursor, &read, layer, plane);
+        let Some(next) = cursor.next_item(source) else {
+            return cursor;
+        };
+        cursor = cursor.pass(sign, source, next);
+        if next.item.ends_page() {
+            return cursor;
+        }
+    }
+}
+
+/// Draws the items of an area from its begin on, and gives the cursor behind them.
+fn draw_area(
+    sign: &Sign,
+    source: &mut Source<'_>,
+    cursor: Cursor,
+    read: &AreaLines,
+    layer: Layer,
+    plane: &mut Plane,
+) -> Cursor
+    requires sound { IsSound sign.now }
+    requires known { (before area rest : List spelled.Item) × IsBetween sign.now sign.now.defaults source.old.octets before (area ++ rest) cursor
+        × IsPlain area × (read.now.end ≡ cursor.at + length (spelled.spell area)) × HasCounted (whole_area sign.now sign.now.defaults before (area ++ rest)) read.now.lines }
+    requires low { IsLow read.now.lines }
+    requires size { (plane.old.width ≡ sign.now.width) × (plane.old.height ≡ sign.now.height) }
+    ensures passed { (before area rest : List spelled.Item) → IsBetween sign.now sign.now.defaults source.old.octets before (area ++ rest) cursor
+        → IsPlain area → read.now.end ≡ cursor.at + length (spelled.spell area) → HasCounted (whole_area sign.now sign.now.defaults before (area ++ rest)) read.now.lines
+        → IsBetween sign.now sign.now.defaults source.old.octets (before ++ area) rest result }
+    ensures drawn { (before area rest : List spelled.Item) → IsBetween sign.now sign.now.defaults source.old.octets before (area ++ rest) cursor
+        → IsPlain area → read.now.end ≡ cursor.at + length (spelled.spell area) → HasCounted (whole_area sign.now sign.now.defaults before (area ++ rest)) read.now.lines
+        → IsDrawnTo sign.now sign.now.defaults layer (map meaning (before ++ (area ++ rest))) (map meaning before) plane.old
+        → IsDrawnTo sign.now sign.now.defaults layer (map meaning (before ++ (area ++ rest))) (map meaning (before ++ area)) plane.new }
+    ensures steps { RisesBetween source.old source.new 0 (2 * (read.now.end - cursor.at)) }
+    ensures fills { IsFilledBy sign.now plane.old plane.new (read.now.end - cursor.at) }
+{
+    let mut cursor = cursor;
+    while cursor.at < read.end {
+        let Some(next) = cursor.next_item(source) else {
+            unreachable!();
+        };
+        cursor = draw_item(sign, source, cursor, next, &read.lines, layer, plane);
+    }
+    cursor
+}
+
+/// Draws what the next item puts, and gives the cursor behind it.
+fn draw_item(
+    sign: &Sign,
+    source: &mut Source<'_>,
+    cursor: Cursor,
+    next: Next,
+    lines: &LineTable,
+    layer: Layer,
+    plane: &mut Plane,
+) -> Cursor
+    requires sound { IsSound sign.now }
+    requires known { (before rest : List spelled.Item) × (item : spelled.Item) × IsBetween sign.now sign.now.defaults source.old.octets before (item ∷ rest) cursor
+        × IsRead item next × HasCounted (whole_area sign.now sign.now.defaults before (item ∷ rest)) lines.now }
+    requires low { IsLow lines.now }
+    requires size { (plane.old.width ≡ sign.now.width) × (plane.old.height ≡ sign.now.height) }
+    ensures passed { (before rest : List spelled.Item) (item : spelled.Item) → IsBetween sign.now sign.now.defaults source.old.octets before (item ∷ rest) cursor
+        → IsRead item next → IsBetween sign.now sign.now.defaults source.old.octets (before ++ item ∷ []) rest result }
+    ensures drawn { (before rest : List spelled.Item) (item : spelled.Item) → IsBetween sign.now sign.now.defaults source.old.octets before (item ∷ rest) cursor
+        → IsRead item next → begins_area (meaning item) ≡ false → HasCounted (whole_area sign.now sign.now.defaults before (item ∷ rest)) lines.now
+        → IsDrawnTo sign.now sign.now.defaults layer (map meaning (before ++ item ∷ rest)) (map meaning before) plane.old
+        → IsDrawnTo sign.now sign.now.defaults layer (map meaning (before ++ item ∷ rest)) (map meaning (before ++ item ∷ [])) plane.new }
+    ensures at { result.at ≡ cursor.at + next.len }
+    ensures steps { RisesBetween source.old source.new 0 1 }
+    ensures fills { IsFilledBy sign.now plane.old plane.new next.len }
+{
+    match next.item {
+        Item::Character(number) => {
+            let font = cursor.state.attributes.font.number;
+            let Some(cell) = sign.cell(source, font, u16::from(number)) else {
+                // Each character of an accepted string has a cell.
+                unreachable!();
+            };
+            put_character(sign, &cursor.state, &cell, lines, layer, plane);
+            cursor.pass_character(number, &cell, next.len)
+        }
+        Item::Tag(tag) => {
+            draw_tag(sign, tag, layer, plane);
+            cursor.pass(sign, source, next)
+        }
+    }
+}
+
+/// Fills the plane where a tag sets the page's background.
+fn draw_tag(sign: &Sign, tag: Tag, layer: Layer, plane: &mut Plane)
+    requires size { (plane.old.width ≡ sign.now.width) × (plane.old.height ≡ sign.now.height) }
+    ensures back { (given : Option ℕ) → tag ≡ Tag.Back given → Shows plane.new (λ column row. shown_colour sign.now (unwrap_or given sign.now.defaults.back) == layer.colour) }
+    ensures quiet { IsQuiet tag → plane.new ≡ plane.old }
+    ensures counted { plane.old.steps ≤ plane.new.steps }
+    ensures steps { plane.new.steps ≤ plane.old.steps + plane_octets sign.now }
+    ensures width { plane.new.width ≡ plane.old.width }
+    ensures height { plane.new.height ≡ plane.old.height }
+{
+    if let Tag::Back(colour) = tag {
+        let colour = colour.unwrap_or(sign.defaults().back);
+        plane.fill(layer.has(sign, colour));
+    }
+}

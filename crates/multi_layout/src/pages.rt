@@ -1,0 +1,211 @@
+//! The drawing of one page of an accepted string, or of all its pages in order into one plane.
+
+ghost use Rattle.std.specs.Prelude.{◌≡◌, ◌+◌, ◌-◌, ◌*◌, ◌<◌, ◌≤◌, true, false, nat_lt, length, IfSome, MatchOption};
+ghost use Rattle.std.specs.Borrow.{sem};
+ghost use Rattle.multi_token.specs.Counted.{RisesBetween};
+ghost use Rattle.multi_token.specs.Reading.{reading};
+ghost use Rattle.multi_layout.specs.Drawn.{Shows};
+ghost use Rattle.multi_layout.specs.Limits.{drawing_limit, plane_limit, reading_limit};
+ghost use Rattle.multi_layout.specs.Meaning.{meanings};
+ghost use Rattle.multi_layout.specs.Pages.{IsSized, IsTurned, page_count};
+ghost use Rattle.multi_layout.specs.Paging.{IsFilledFew, IsPageStart, IsReadTwice};
+ghost use Rattle.multi_layout.specs.Picture.{picture};
+ghost use Rattle.multi_layout.specs.Verdict.{pages_of};
+ghost use Rattle.multi_layout.specs.Walk.{IsAccepted};
+
+use crate::checked::Checked;
+use crate::cursor::Cursor;
+use crate::draw::draw_page;
+use crate::paint::Layer;
+use multi_token::Source;
+use page_plane::Plane;
+use sign_font::Sign;
+use std::marker::Model;
+
+/// One page, as the plane shows it until the next is asked for.
+#[derive(Clone, Copy)]
+pub struct PageView<'a> {
+    /// The number of the page, from 0.
+    pub page: u8,
+    /// Its plane.
+    pub plane: &'a Plane,
+}
+
+/// The pages of a string in order, each drawn into the same plane.
+#[derive(Drop)]
+pub struct Pages<'a> {
+    string: Checked<'a>,
+    plane: Plane,
+    layer: Layer,
+    /// Where the next page begins, or the end of the string.
+    cursor: Cursor,
+    next: u8,
+    string_started: u64,
+    plane_started: u64,
+}
+
+impl<'a> Model for Pages<'a> {
+    ghost use Rattle.multi_layout.specs.Pages.{PagesState, IsUnderWay};
+
+    ghost Value = { PagesState };
+
+    ghost view = { λ p. record {
+      string = p.string;
+      plane = p.plane;
+      phase = p.layer.phase;
+      colour = p.layer.colour;
+      next = p.next;
+      string_started = p.string_started;
+      plane_started = p.plane_started;
+    } };
+
+    ghost invariant = { λ p. IsUnderWay (record {
+      string = p.string;
+      plane = p.plane;
+      phase = p.layer.phase;
+      colour = p.layer.colour;
+      next = p.next;
+      string_started = p.string_started;
+      plane_started = p.plane_started;
+    }) p.cursor };
+}
+
+impl<'a> Checked<'a> {
+    ghost use Rattle.multi_layout.specs.Pages.{PagesState};
+
+    /// Draws the plane of a colour of a page at a phase: the pixels that have the colour then.
+    ///
+    /// Pages count from 0, the phase is in tenths of a second since the page began, and a colour is 0 to 255.
+    /// False where there is no such page; then nothing changes. The plane has the sign's size. For n octets it takes
+    /// at most 4n + 2 steps over the string, and over the plane a row for each row of the tallest font, n times, and
+    /// n / 4 + 1 fills.
+    pub fn draw(&mut self, page: u8, phase: u64, colour: u8, plane: &mut Plane) -> bool
+        requires size { IsSized plane.old self.old.sign }
+        ensures exists { result ≡ nat_lt page (page_count self.old) }
+        ensures drawn { result ≡ true → Shows plane.new (picture self.old.sign self.old.defaults self.old.source.octets page phase colour) }
+        ensures undrawn { result ≡ false → (self.new ≡ self.old) × (plane.new ≡ plane.old) }
+        ensures kept { (self.new.sign ≡ self.old.sign) × (self.new.defaults ≡ self.old.defaults) }
+        ensures size { (plane.new.width ≡ plane.old.width) × (plane.new.height ≡ plane.old.height) }
+        ensures steps { RisesBetween self.old.source self.new.source 0 (reading_limit (length self.old.source.octets)) }
+        ensures plane_steps { (plane.old.steps ≤ plane.new.steps)
+            × (plane.new.steps ≤ plane.old.steps + plane_limit self.old.sign (length self.old.source.octets)) }
+    {
+        if page >= self.pages {
+            return false;
+        }
+        let cursor = page_start(self.sign, &mut self.source, page);
+        self.draw_from(cursor, Layer { phase, colour }, plane);
+        true
+    }
+
+    /// Draws the page that begins at a cursor, and gives the cursor behind it.
+    fn draw_from(&mut self, cursor: Cursor, layer: Layer, plane: &mut Plane) -> Cursor
+        requires begins { IsPageStart self.old.sign self.old.defaults self.old.source.octets cursor }
+        requires size { IsSized plane.old self.old.sign }
+        ensures drawn { Shows plane.new
+            (picture self.old.sign self.old.defaults self.old.source.octets (cursor.state.pages - 1) layer.phase layer.colour) }
+        ensures turned { IsTurned self.old.sign self.old.defaults self.old.source.octets cursor result }
+        ensures kept { (self.new.sign ≡ self.old.sign) × (self.new.defaults ≡ self.old.defaults) }
+        ensures size { (plane.new.width ≡ plane.old.width) × (plane.new.height ≡ plane.old.height) }
+        ensures steps { IsReadTwice self.old.source self.new.source cursor result }
+        ensures fills { IsFilledFew self.old.sign plane.old plane.new cursor result }
+    {
+        draw_page(self.sign, &mut self.source, cursor, layer, plane)
+    }
+
+    /// Starts at page 0, to draw the plane of a colour of each page at a phase, as [`Checked::draw`] does. The plane has
+    /// the sign's size. No step is taken yet.
+    pub fn each_page(self, phase: u64, colour: u8, plane: Plane) -> Pages<'a>
+        requires size { IsSized plane self.sign }
+        ensures { result ≡ record {
+          string = self.entry;
+          plane = plane;
+          phase = phase;
+          colour = colour;
+          next = 0;
+          string_started = self.entry.source.steps;
+          plane_started = plane.steps;
+        } }
+    {
+        Pages {
+            cursor: Cursor::new(self.sign),
+            layer: Layer { phase, colour },
+            next: 0,
+            string_started: self.source.steps(),
+            plane_started: plane.steps(),
+            string: self,
+            plane,
+        }
+    }
+}
+
+/// The cursor where a page begins, read from the front of the string.
+fn page_start(sign: &Sign, source: &mut Source<'_>, page: u8) -> Cursor
+    requires accepted { IsAccepted sign.now sign.now.defaults source.old.octets (reading source.old.octets).items }
+    requires page { page < pages_of (meanings source.old.octets) }
+    ensures begins { IsPageStart sign.now sign.now.defaults source.old.octets result }
+    ensures page { result.state.pages ≡ page + 1 }
+    ensures steps { RisesBetween source.old source.new 0 (2 * result.at) }
+{
+    let mut cursor = Cursor::new(sign);
+    while cursor.state.pages <= page {
+        // The string has more pages than these.
+        let Some(next) = cursor.next_item(source) else {
+            unreachable!();
+        };
+        cursor = cursor.pass(sign, source, next);
+    }
+    cursor
+}
+
+impl<'a> Pages<'a> {
+    ghost use Rattle.multi_layout.specs.Lending.{TurnedAfter};
+
+    /// The next page, drawn, or `None` after the last; then nothing changes. The string is read on from where the page
+    /// before ended, so that all pages together take no more steps than [`Checked::draw`] may take for one.
+    pub fn next_page(&mut self) -> Option<PageView<'_>>
+        ensures* after { sem 𝓛 (TurnedAfter self.entry result) }
+        ensures page { MatchOption result (self.old.next ≡ page_count self.old.string)
+            (λ view. (self.old.next < page_count self.old.string) × (view.page ≡ self.old.next)
+            × Shows view.plane.now (picture self.old.string.sign self.old.string.defaults self.old.string.source.octets self.old.next self.old.phase self.old.colour)) }
+        ensures size { IfSome result (λ view. IsSized view.plane.now self.old.string.sign) }
+    {
+        let page = self.next;
+        if page >= self.string.pages() {
+            return None;
+        }
+        self.cursor = self
+            .string
+            .draw_from(self.cursor, self.layer, &mut self.plane);
+        self.next = page + 1;
+        Some(PageView {
+            page,
+            plane: &self.plane,
+        })
+    }
+
+    /// The number of steps over the string and over the plane since the start, of both counts as they stand.
+    pub fn steps(&self) -> u64
+        ensures risen { result ≡ (self.now.string.source.steps - self.now.string_started) + (self.now.plane.steps - self.now.plane_started) }
+        ensures most { result ≤ drawing_limit self.now.string.sign (length self.now.string.source.octets) }
+        ensures read { (self.now.string_started ≤ self.now.string.source.steps)
+            × (self.now.string.source.steps ≤ self.now.string_started + reading_limit (length self.now.string.source.octets)) }
+        ensures drawn { (self.now.plane_started ≤ self.now.plane.steps)
+            × (self.now.plane.steps ≤ self.now.plane_started + plane_limit self.now.string.sign (length self.now.string.source.octets)) }
+    {
+        (self.string.steps() - self.string_started) + (self.plane.steps() - self.plane_started)
+    }
+
+    /// The string and the plane, as they are.
+    pub fn finish(self) -> (Checked<'a>, Plane)
+        ensures given_back { result ≡ (self.entry.string, self.entry.plane) }
+        ensures size { IsSized self.entry.plane self.entry.string.sign }
+        ensures read { (self.entry.string_started ≤ self.entry.string.source.steps)
+            × (self.entry.string.source.steps ≤ self.entry.string_started + reading_limit (length self.entry.string.source.octets)) }
+        ensures drawn { (self.entry.plane_started ≤ self.entry.plane.steps)
+            × (self.entry.plane.steps ≤ self.entry.plane_started + plane_limit self.entry.string.sign (length self.entry.string.source.octets)) }
+    {
+        let Pages { string, plane, .. } = self;
+        (string, plane)
+    }
+}

@@ -1,0 +1,98 @@
+//! What is put on a plane: the plane of a colour at a phase of its page.
+
+ghost use Rattle.std.specs.Prelude.{◌≡◌, ℕ, ◌+◌, ◌^◌, ◌≤◌, ◌==◌, [], ◌∷◌, ◌++◌, List, Some};
+ghost use Rattle.sign_font.specs.declared.parts.Defaults.{Defaults};
+ghost use Rattle.sign_font.specs.Sign.{cell_in};
+ghost use Rattle.sign_font.specs.Sound.{IsSound, IsSoundSize};
+ghost use Rattle.multi_layout.specs.Address.{spots, standing, in_area};
+ghost use Rattle.multi_layout.specs.Meaning.{Meaning, Shows};
+ghost use Rattle.multi_layout.specs.Passes.{HasCounted, IsDrawnTo, IsLow};
+ghost use Rattle.multi_layout.specs.Picture.{is_lit_at, shown_colour};
+ghost use Rattle.multi_layout.specs.State.{IsStateOf};
+ghost use Rattle.multi_layout.specs.Sums.{IsBelow};
+
+use crate::attributes::FlashTimes;
+use crate::cell::put_cell;
+use crate::place::place_at;
+use crate::state::State;
+use crate::table::LineTable;
+use page_plane::Plane;
+use sign_font::{Cell, Sign};
+
+/// What is drawn: the plane of a colour, at a phase of its page in tenths of a second.
+#[derive(Clone, Copy, Debug, PartialEq, Eq)]
+pub(crate) struct Layer {
+    pub(crate) phase: u64,
+    pub(crate) colour: u8,
+}
+
+impl Layer {
+    /// Whether the pixels that a thing of this colour covers are in the plane.
+    pub(crate) fn has(&self, sign: &Sign, colour: u8) -> bool
+        ensures colour { result ≡ (shown_colour sign.now colour == self.now.colour) }
+        ensures sound { IsSound sign.now }
+    {
+        let shown = if sign.classic() {
+            colour
+        } else {
+            colour.min(1)
+        };
+        shown == self.colour
+    }
+
+    /// Whether a character with this flash is lit.
+    pub(crate) fn is_lit(&self, flash: Option<FlashTimes>) -> bool
+        ensures { result ≡ is_lit_at self.now.phase flash }
+    {
+        let Some(flash) = flash else {
+            return true;
+        };
+        let (on, off) = (u64::from(flash.on), u64::from(flash.off));
+        if on + off == 0 {
+            return true;
+        }
+        let time = self.phase % (on + off);
+        if flash.off_first {
+            time >= off
+        } else {
+            time < on
+        }
+    }
+}
+
+/// Puts a character's cell at its place, if it is lit; `lines` are those of its area, and the state is the one
+/// before the character.
+pub(crate) fn put_character(
+    sign: &Sign,
+    state: &State,
+    cell: &Cell<'_>,
+    lines: &LineTable,
+    layer: Layer,
+    plane: &mut Plane,
+)
+    requires line_just { (2 ≤ state.now.attributes.line_just) × (state.now.attributes.line_just ≤ 5) }
+    requires page_just { (2 ≤ state.now.attributes.page_just) × (state.now.attributes.page_just ≤ 4) }
+    requires below { IsBelow (2 ^ 43) state.now.area }
+    requires low { IsLow lines.now }
+    requires size { IsSoundSize cell.now }
+    requires height { cell.now.height ≡ state.now.attributes.font.height }
+    ensures drawn { (defaults : Defaults) (before rest : List Meaning) (number : ℕ) → IsStateOf sign.now defaults before state.now
+        → cell_in sign.now state.now.attributes.font.number number ≡ Some cell.now
+        → HasCounted (in_area (standing sign.now defaults before).area (spots sign.now defaults (before ++ Shows number ∷ rest))) lines.now
+        → IsDrawnTo sign.now defaults layer (before ++ Shows number ∷ rest) before plane.old
+        → IsDrawnTo sign.now defaults layer (before ++ Shows number ∷ rest) (before ++ Shows number ∷ []) plane.new }
+    ensures counted { plane.old.steps ≤ plane.new.steps }
+    ensures steps { plane.new.steps ≤ plane.old.steps + cell.now.height }
+    ensures width { plane.new.width ≡ plane.old.width }
+    ensures height { plane.new.height ≡ plane.old.height }
+{
+    let attributes = state.attributes;
+    if !layer.is_lit(attributes.flash) {
+        return;
+    }
+    let lines = lines.group(attributes.page_just);
+    let place = place_at(&attributes, &state.area, lines, cell.width());
+    let on = layer.has(sign, attributes.fore);
+    let height = attributes.font.height;
+    put_cell(cell, height, place.column, place.row, on, plane);
+}

@@ -1,0 +1,121 @@
+//! The first reading of an area, for the table of its lines.
+
+ghost use Rattle.std.specs.Prelude.{◌≡◌, ◌≢◌, ℕ, ◌-◌, ◌*◌, ◌^◌, ◌≤◌, ◌<◌, [], ◌∷◌, ◌++◌, List, Some, IfSome, IfNone, map, length, true, false};
+ghost use Rattle.std.specs.List.{All};
+ghost use Rattle.multi_token.specs.Counted.{RisesBetween};
+ghost use Rattle.multi_token.specs.Spelling as spelled;
+ghost use Rattle.sign_font.specs.declared.parts.Defaults.{Defaults};
+ghost use Rattle.sign_font.specs.Sign.{SignData};
+ghost use Rattle.sign_font.specs.Sound.{IsSound};
+ghost use Rattle.multi_layout.specs.Address.{Spot, lines_of};
+ghost use Rattle.multi_layout.specs.Item.{meant_by};
+ghost use Rattle.multi_layout.specs.Meaning.{Meaning, EndsArea, meaning, begins_area};
+ghost use Rattle.multi_layout.specs.Passes.{HasCounted, HasEnded, HasRoom, IsAreaRead, IsLow, ends_line, first_steps};
+ghost use Rattle.multi_layout.specs.State.{IsStateOf, present_area};
+ghost use Rattle.multi_layout.specs.Sums.{IsBelow, IsGroupBelow, IsPlacing, area_sum, group_sum, ended_lines};
+ghost use Rattle.multi_layout.specs.Table.{group_lines, table_of};
+ghost use Rattle.multi_layout.specs.Walk.{IsBetween, IsCursor, IsFirst};
+
+use crate::area::{Area, Group};
+use crate::cursor::{Cursor, Next};
+use crate::item::Item;
+use crate::state::State;
+use crate::table::{CountedLine, LineTable};
+use multi_token::Source;
+use sign_font::Sign;
+
+/// What drawing an area needs: the table of its counted lines, and the offset behind its last item.
+#[derive(Drop)]
+pub(crate) struct AreaLines {
+    pub(crate) lines: LineTable,
+    pub(crate) end: usize,
+}
+
+/// Reads the area that begins at a cursor.
+pub(crate) fn read_area(sign: &Sign, source: &mut Source<'_>, cursor: Cursor) -> AreaLines
+    requires sound { IsSound sign.now }
+    requires begins { (before behind : List spelled.Item) × IsBetween sign.now sign.now.defaults source.old.octets before behind cursor
+        × (present_area sign.now sign.now.defaults (map meaning before) ≡ []) }
+    ensures read { (before behind : List spelled.Item) → IsBetween sign.now sign.now.defaults source.old.octets before behind cursor
+        → present_area sign.now sign.now.defaults (map meaning before) ≡ []
+        → IsAreaRead sign.now sign.now.defaults before behind cursor result source.old source.new }
+{
+    let mut lines = LineTable::new();
+    let mut cursor = cursor;
+    while let Some(next) = next_plain(&cursor, source) {
+        let before = cursor;
+        cursor = before.pass(sign, source, next);
+        end_line(&mut lines, next.item, &before.state, &cursor.state);
+    }
+    end_area(&mut lines, &cursor.state.area);
+    AreaLines {
+        lines,
+        end: cursor.at,
+    }
+}
+
+/// Reads the next item, or `None` where the area ends.
+fn next_plain(cursor: &Cursor, source: &mut Source<'_>) -> Option<Next>
+    requires { (sign : SignData) × (defaults : Defaults) × IsCursor sign defaults source.old.octets cursor.now }
+    ensures first { IfSome result (λ next. (sign : SignData) (defaults : Defaults) (before behind : List spelled.Item)
+        → IsBetween sign defaults source.old.octets before behind cursor.now → IsFirst behind (Some next)) }
+    ensures plain { IfSome result (λ next. begins_area (meant_by next.item) ≡ false) }
+    ensures steps { IfSome result (λ next. RisesBetween source.old source.new 0 (2 * next.len - 1)) }
+    ensures ends { IfNone result ((sign : SignData) (defaults : Defaults) (before behind : List spelled.Item)
+        → IsBetween sign defaults source.old.octets before behind cursor.now
+        → EndsArea (map meaning behind) × RisesBetween source.old source.new 0 (first_steps behind)) }
+{
+    let next = cursor.next_item(source)?;
+    if next.item.begins_area() {
+        return None;
+    }
+    Some(next)
+}
+
+/// Puts the line into the table that an item ended, if it is an `nl`.
+fn end_line(lines: &mut LineTable, item: Item, before: &State, after: &State)
+    requires known { (2 ≤ before.now.attributes.page_just) × (before.now.attributes.page_just ≤ 4) }
+    requires room { ends_line (meant_by item) ≡ true → length (group_lines before.now.attributes.page_just lines.old) < 128 }
+    requires below { IsBelow (2 ^ 43) after.now.area }
+    ensures ended { (sign : SignData) (defaults : Defaults) (items : List Meaning) → IsStateOf sign defaults items before.now
+        → IsStateOf sign defaults (items ++ meant_by item ∷ []) after.now → begins_area (meant_by item) ≡ false
+        → HasEnded (present_area sign defaults items) lines.old → HasEnded (present_area sign defaults (items ++ meant_by item ∷ [])) lines.new }
+    ensures low { IsLow lines.old → IsLow lines.new }
+{
+    if !item.ends_line() {
+        return;
+    }
+    let page_just = before.attributes.page_just;
+    let line = before.area.group(page_just).line;
+    let bottom = after.area.group(page_just).closed;
+    lines.push(page_just, CountedLine::of(&line, bottom));
+}
+
+/// Puts the last line of each group into the table, if it has characters.
+fn end_area(lines: &mut LineTable, area: &Area)
+    requires below { IsBelow (2 ^ 42) area.now }
+    requires room { (spots : List Spot) × All IsPlacing spots × (area.now ≡ area_sum spots) × HasEnded spots lines.old
+        × HasRoom spots }
+    ensures counted { (spots : List Spot) → All IsPlacing spots → area.now ≡ area_sum spots → HasEnded spots lines.old → HasCounted spots lines.new }
+    ensures low { IsLow lines.old → IsLow lines.new }
+{
+    end_group(lines, 2, area.group(2));
+    end_group(lines, 3, area.group(3));
+    end_group(lines, 4, area.group(4));
+}
+
+/// Puts the last line of a group into the table, if it has characters.
+fn end_group(lines: &mut LineTable, page_just: u8, group: Group)
+    requires known { (2 ≤ page_just) × (page_just ≤ 4) }
+    requires below { IsGroupBelow (2 ^ 42) group }
+    requires room { (spots : List Spot) × All IsPlacing spots × (group ≡ group_sum spots)
+        × (group_lines page_just lines.old ≡ table_of (ended_lines spots)) × (length (lines_of spots) ≤ 128) }
+    ensures counted { (spots : List Spot) → All IsPlacing spots → group ≡ group_sum spots
+        → group_lines page_just lines.old ≡ table_of (ended_lines spots) → group_lines page_just lines.new ≡ table_of (lines_of spots) }
+    ensures others { (just : ℕ) → 2 ≤ just → just ≤ 4 → just ≢ page_just → group_lines just lines.new ≡ group_lines just lines.old }
+    ensures low { IsLow lines.old → IsLow lines.new }
+{
+    if group.line.any {
+        lines.push(page_just, CountedLine::of(&group.line, group.height()));
+    }
+}

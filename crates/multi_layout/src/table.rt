@@ -1,0 +1,104 @@
+//! The counted lines of an area, as drawing needs them.
+
+ghost use Rattle.std.specs.Prelude.{◌≡◌, ℕ, ◌<◌, ◌≤◌, ◌==◌, length, List, [], ◌∷◌, ◌++◌, if◌then◌else◌};
+ghost use Rattle.multi_layout.specs.Table.{width_in, group_lines};
+
+use crate::line::Line;
+use arrayvec::ArrayVec;
+
+/// What is kept of a counted line, in pixels.
+#[derive(Clone, Copy, Debug, PartialEq, Eq, Default)]
+pub(crate) struct CountedLine {
+    /// The widths of its segments.
+    pub(crate) left: u64,
+    pub(crate) centre: u64,
+    pub(crate) right: u64,
+    pub(crate) full: u64,
+    /// How many characters its full segment has.
+    pub(crate) characters: u64,
+    /// The height of its group down to its bottom.
+    pub(crate) bottom: u64,
+}
+
+/// The counted lines of an area: those of the top, the middle and the bottom group.
+#[derive(Drop)]
+pub(crate) struct LineTable {
+    top: ArrayVec<CountedLine, 128>,
+    middle: ArrayVec<CountedLine, 128>,
+    bottom: ArrayVec<CountedLine, 128>,
+}
+
+impl CountedLine {
+    /// What is kept of a line with this height of its group down to its bottom.
+    pub(crate) fn of(line: &Line, bottom: u64) -> CountedLine
+        ensures { result ≡ record {
+          left = line.now.left.width;
+          centre = line.now.centre.width;
+          right = line.now.right.width;
+          full = line.now.full.width;
+          characters = line.now.full.count;
+          bottom = bottom;
+        } }
+    {
+        CountedLine {
+            left: line.left.width,
+            centre: line.centre.width,
+            right: line.right.width,
+            full: line.full.width,
+            characters: line.full.count,
+            bottom,
+        }
+    }
+
+    /// The width of its segment with this line justification: left 2, centre 3, right 4, full 5.
+    pub(crate) fn width(&self, just: u8) -> u64
+        ensures { result ≡ width_in just self.now }
+    {
+        match just {
+            2 => self.left,
+            3 => self.centre,
+            4 => self.right,
+            _ => self.full,
+        }
+    }
+}
+
+impl LineTable {
+    /// A table of no line.
+    pub(crate) fn new() -> LineTable
+        ensures { (just : ℕ) → group_lines just result ≡ [] }
+    {
+        LineTable {
+            top: ArrayVec::new(),
+            middle: ArrayVec::new(),
+            bottom: ArrayVec::new(),
+        }
+    }
+
+    /// Puts a line behind those of the group with this page justification: top 2, middle 3, bottom 4.
+    pub(crate) fn push(&mut self, page_just: u8, line: CountedLine)
+        requires known { (2 ≤ page_just) × (page_just ≤ 4) }
+        requires room { length (group_lines page_just self.old) < 128 }
+        ensures { (just : ℕ) → (2 ≤ just) × (just ≤ 4) → group_lines just self.new
+            ≡ (if just == page_just then group_lines just self.old ++ line ∷ [] else group_lines just self.old) }
+    {
+        match page_just {
+            2 => self.top.push(line),
+            3 => self.middle.push(line),
+            _ => self.bottom.push(line),
+        }
+    }
+
+    /// The lines of the group with this page justification: top 2, middle 3, bottom 4.
+    pub(crate) fn group(&self, page_just: u8) -> &[CountedLine]
+        requires known { (2 ≤ page_just) × (page_just ≤ 4) }
+        ensures lines { result.now ≡ group_lines page_just self.now }
+        ensures few { length result.now ≤ 128 }
+    {
+        match page_just {
+            2 => self.top.as_slice(),
+            3 => self.middle.as_slice(),
+            _ => self.bottom.as_slice(),
+        }
+    }
+}
