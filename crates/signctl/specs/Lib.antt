@@ -1,6 +1,8 @@
 pub mod Lines
+pub mod SignFile
 pub mod Streams
 pub mod Output
 pub mod Reply
-pub mod Runs
+pub mod Frame
 pub mod Tool
+pub mod Runs

@@ -1,5 +1,7 @@
 -- The lines of an input.
-use Rattle.std.specs.Prelude.{ℕ, ◌≢◌, ◌==◌, List, [], ◌∷◌, All, if◌then◌else◌}
+use Rattle.std.specs.Prelude.{ℕ, Bool, ◌≢◌, ◌==◌, List, [], ◌∷◌, ◌++◌, All, if◌then◌else◌, Option, None, Some, codes}
+use Rattle.std.specs.List.{flat_map}
+use Rattle.std.specs.Str.{bytes_eq}
 use Rattle.std.specs.Io.BufRead.{strip_last}
 
 -- An input is cut at its line feeds into the octets before each, and those behind the last (own).
@@ -26,3 +28,24 @@ IsOneLine octets = All (λ c. c ≢ 10) octets
 -- The text of a line is the line without the one carriage return, octet 13, at its end (own).
 abbrev pub text_of : List ℕ → List ℕ
 text_of line = strip_last 13 line
+
+-- The octets of whole lines, each with its line feed (own).
+abbrev pub octets_of : List (List ℕ) → List ℕ
+octets_of lines = flat_map (λ line. line ++ 10 ∷ []) lines
+
+-- The mark, which ends a sign file, is a line with the text `%%` and no more (own).
+abbrev pub is_mark : List ℕ → Bool
+is_mark line = bytes_eq (text_of line) (codes "%%")
+
+-- Lines are parted at the first mark into those before it, which are a sign file's, and those behind it, if there is
+-- a mark (own).
+pub record Parted : Type 0 where
+  pub file : List (List ℕ)
+  pub behind : Option (List (List ℕ))
+
+-- The first mark parts the lines, and is on neither side (own).
+unfoldable pub parted : List (List ℕ) → Parted
+parted [] = record { file = []; behind = None }
+parted (line ∷ lines) =
+    if is_mark line then record { file = []; behind = Some lines }
+    else record { file = line ∷ (parted lines).file; behind = (parted lines).behind }

@@ -1,9 +1,16 @@
 -- What a run over a reader and a writer does.
-use Rattle.std.specs.Prelude.{◌≡◌, ℕ, ◌≤◌, Bool, true, false, List, ◌∷◌, ◌++◌, length, Option, None, Some, IfSome, Result, Ok, Err}
+use Rattle.std.specs.Prelude.{◌≡◌, ℕ, ◌+◌, ◌≤◌, Bool, true, false, List, [], ◌∷◌, ◌++◌, length, Option, None, Some, IfSome, Result, Ok, Err}
 use Rattle.std.specs.Io.KnownBytes.{Consumes, Appends}
+use Rattle.sign_font.specs.Sign.{SignData}
 use Rattle.signctl.specs.declared.fault.ToolFault.{ToolFault}
 use Rattle.signctl.specs.declared.fault.ToolFault.TheVariants.{Read, Write, Memory}
-use Rattle.signctl.specs.Output.{outcome, outcome_of_whole}
+use Rattle.signctl.specs.declared.lines.Place.{Place}
+use Rattle.signctl.specs.declared.start.FilePart.{FilePart}
+use Rattle.signctl.specs.declared.start.Start.{Start}
+use Rattle.signctl.specs.declared.tool.Mode.{Mode}
+use Rattle.signctl.specs.Output.{Outcome, ended, outcome, output_of_whole}
+use Rattle.signctl.specs.SignFile.{sign_of_octets}
+use Rattle.signctl.specs.Tool.{answers_of, outcome_of, output_so_far}
 
 -- The line's answer is appended, or the line is bad, or there is no memory; `behind` has the answers to all the
 -- lines that come after this one (own).
@@ -21,19 +28,60 @@ fault_of (Err e) = Some e
 abbrev pub IsFront : List ℕ → List ℕ → Type 0
 IsFront sent all = (unsent : List ℕ) × (all ≡ sent ++ unsent)
 
--- What was sent is the whole output, with its fault; after a failed read it is that of the whole lines that
--- were taken, and after a failed write or want of memory it is a front of the output (own).
-abbrev pub IsWritten : (List (List ℕ) → List (Option (List ℕ))) → Option (List ℕ) → List ℕ → List ℕ → Option ToolFault → Type 0
-IsWritten answers input taken sent (Some Read) = outcome_of_whole answers taken ≡ record { output = sent; fault = None }
-IsWritten answers input taken sent (Some Write) = IfSome input (λ octets. IsFront sent (outcome answers 1 16777216 octets).output)
-IsWritten answers input taken sent (Some Memory) = IfSome input (λ octets. IsFront sent (outcome answers 1 16777216 octets).output)
-IsWritten answers input taken sent fault = IfSome input (λ octets. outcome answers 1 16777216 octets ≡ record { output = sent; fault = fault })
+-- What was sent is the whole output of the input, with its fault; after a failed read it is the output of the whole
+-- lines that were taken, and after a failed write or want of memory it is a front of the output (own).
+abbrev pub IsWritten : (List ℕ → Outcome) → (List ℕ → List ℕ) → Option (List ℕ) → List ℕ → List ℕ → Option ToolFault → Type 0
+IsWritten outcomes so_far input taken sent (Some Read) = so_far taken ≡ sent
+IsWritten outcomes so_far input taken sent (Some Write) = IfSome input (λ octets. IsFront sent (outcomes octets).output)
+IsWritten outcomes so_far input taken sent (Some Memory) = IfSome input (λ octets. IsFront sent (outcomes octets).output)
+IsWritten outcomes so_far input taken sent fault = IfSome input (λ octets. outcomes octets ≡ record { output = sent; fault = fault })
 
--- A run takes some octets of its input and sends some, which its answers give (own).
-pub record Runs (answers : List (List ℕ) → List (Option (List ℕ))) (input input' output output' : Option (List ℕ)) (fault : Option ToolFault) : Type 0 where
+-- A run takes some octets of its input and sends some, where inputs have these outcomes, the whole lines of what was
+-- read have the output `so_far`, and at most `limit` octets are taken as lines (own).
+pub record Runs (outcomes : List ℕ → Outcome) (so_far : List ℕ → List ℕ) (limit : ℕ) (input input' output output' : Option (List ℕ)) (fault : Option ToolFault) : Type 0 where
   pub taken : List ℕ
   pub sent : List ℕ
   pub takes : Consumes input input' taken
   pub writes : Appends output output' sent
+  pub most : length taken ≤ limit + 1
+  pub written : IsWritten outcomes so_far input taken sent fault
+
+-- ---- up to the sign
+
+-- What a place says of the octets before it: how many more may be taken as lines, and that lines are no more than
+-- octets (own).
+abbrev pub IsPlaceBehind : List ℕ → Place → Type 0
+IsPlaceBehind taken place = (length taken + place.left ≡ 16777216) × (place.number + place.left ≤ 16777217)
+
+-- The outcome of the lines behind a sign, if there is one (own).
+abbrev pub outcome_on : Mode → Result SignData ToolFault → Place → List ℕ → Outcome
+outcome_on mode (Err fault) place rest = ended (Some fault)
+outcome_on mode (Ok sign) place rest = outcome (answers_of mode sign) place.number place.left rest
+
+-- The output of the whole lines behind a sign, if there is one (own).
+abbrev pub output_on : Mode → Result SignData ToolFault → Place → List ℕ → List ℕ
+output_on mode (Err fault) place rest = []
+output_on mode (Ok sign) place rest = output_of_whole (answers_of mode sign) place.number rest
+
+-- These octets lead to a place with this sign, or to the fault for which there is none, and write nothing (own).
+pub record Leads (sample : Bool) (taken : List ℕ) (sign : Result SignData ToolFault) (place : Place) : Type 0 where
+  pub place_is : IsPlaceBehind taken place
+  pub whole : (mode : Mode) (rest : List ℕ) → outcome_of mode sample (taken ++ rest) ≡ outcome_on mode sign place rest
+  pub so_far : (mode : Mode) (rest : List ℕ) → output_so_far mode sample (taken ++ rest) ≡ output_on mode sign place rest
+
+-- Before the sign is there, a run ends with a fault, and has written nothing (own).
+pub record Fails (sample : Bool) (input input' : Option (List ℕ)) (e : ToolFault) : Type 0 where
+  pub taken : List ℕ
+  pub takes : Consumes input input' taken
   pub most : length taken ≤ 16777217
-  pub written : IsWritten answers input taken sent fault
+  pub written : (mode : Mode) → IsWritten (outcome_of mode sample) (output_so_far mode sample) input taken [] (Some e)
+
+-- The octets of a sign file and the mark are taken (own).
+abbrev pub TakesFile : Option (List ℕ) → Option (List ℕ) → Result FilePart ToolFault → Type 0
+TakesFile input input' (Ok part) = (taken : List ℕ) × Consumes input input' taken × Leads false taken (sign_of_octets part.octets.items) part.place
+TakesFile input input' (Err e) = Fails false input input' e
+
+-- What stands before the lines is taken, and there is a sign (own).
+abbrev pub Starts : Bool → Option (List ℕ) → Option (List ℕ) → Result Start ToolFault → Type 0
+Starts sample input input' (Ok start) = (taken : List ℕ) × Consumes input input' taken × Leads sample taken (Ok start.sign) start.place
+Starts sample input input' (Err e) = Fails sample input input' e

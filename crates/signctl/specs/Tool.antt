@@ -1,21 +1,29 @@
 -- What the tool does for an input.
 use Rattle.std.specs.Prelude.{ℕ, Bool, true, false, List, Option, Some, map}
 use Rattle.sign_font.specs.Sample.{sample}
+use Rattle.sign_font.specs.Sign.{SignData}
 use Rattle.signctl.specs.declared.fault.ToolFault.{ToolFault}
-use Rattle.signctl.specs.declared.fault.ToolFault.TheVariants.{Read, Write, Memory, BadSign}
+use Rattle.signctl.specs.declared.fault.ToolFault.TheVariants.{Read, Write, Memory}
 use Rattle.signctl.specs.declared.tool.Mode.{Mode}
-use Rattle.signctl.specs.declared.tool.Mode.TheVariants.{Check}
-use Rattle.signctl.specs.Output.{Outcome, outcome, ended}
+use Rattle.signctl.specs.declared.tool.Mode.TheVariants.{Check, Show}
+use Rattle.signctl.specs.Frame.{show_answer}
+use Rattle.signctl.specs.Output.{Outcome, outcome, outcome_of_file, output_of_whole, output_of_whole_file}
 use Rattle.signctl.specs.Reply.{check_answer}
 
--- The answers to these lines for the sample sign, None at a bad line (own).
-abbrev pub answers_of : Mode → List (List ℕ) → List (Option (List ℕ))
-answers_of Check lines = map (λ line. Some (check_answer sample line)) lines
+-- The answers to these lines for a sign, None at a bad line (own).
+abbrev pub answers_of : Mode → SignData → List (List ℕ) → List (Option (List ℕ))
+answers_of Check sign lines = map (λ line. Some (check_answer sign line)) lines
+answers_of (Show colour clock) sign lines = map (λ line. Some (show_answer sign colour clock line)) lines
 
--- The outcome of an input, which without the sample sign ends at once (own).
+-- The outcome of an input: with the sample sign it is lines alone, and else a sign file, the mark and lines (own).
 abbrev pub outcome_of : Mode → Bool → List ℕ → Outcome
-outcome_of mode true input = outcome (answers_of mode) 1 16777216 input
-outcome_of mode false input = ended (Some BadSign)
+outcome_of mode true input = outcome (answers_of mode sample) 1 16777216 input
+outcome_of mode false input = outcome_of_file (answers_of mode) 16777216 input
+
+-- The output of the whole lines of what was read, whatever comes behind them (own).
+abbrev pub output_so_far : Mode → Bool → List ℕ → List ℕ
+output_so_far mode true octets = output_of_whole (answers_of mode sample) 1 octets
+output_so_far mode false octets = output_of_whole_file (answers_of mode) octets
 
 -- The end of a run comes from its input, and not from a reader, a writer or memory that failed (own).
 abbrev pub IsOfInput : Option ToolFault → Type 0

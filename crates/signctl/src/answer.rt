@@ -10,7 +10,7 @@ use multi_token::Source;
 use sign_font::Sign;
 
 /// The most octets of a string that is judged (own).
-const MAX_STRING: usize = 4_096;
+pub(crate) const MAX_STRING: usize = 4_096;
 
 /// Answers the lines of an input one after the other (own).
 pub(crate) trait Answer {

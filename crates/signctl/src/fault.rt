@@ -20,10 +20,14 @@ pub enum ToolFault {
     /// The input has more than 16,777,216 octets.
     #[error("input too long")]
     InputTooLong,
-    /// No sign was named.
+    /// The input doesn't begin with a sign file and the line `%%`: no line is `%%`, or what stands before it is no
+    /// TOML document, or a key is missing, or of another kind, or its number is outside its type.
     #[error("sign not read")]
     BadSign,
-    /// There was no memory for a line or its answer.
+    /// The sign of the sign file is outside a limit, whose number is 1 to 5, as by `SignFault::code`.
+    #[error("sign fault {number}")]
+    SignRefused { number: u8 },
+    /// There was no memory for the sign, a line or its answer.
     #[error("out of memory")]
     Memory,
 }

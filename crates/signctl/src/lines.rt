@@ -1,19 +1,34 @@
 //! The lines of an input, read an octet at a time.
 ghost use Rattle.std.specs.Prelude.{◌≡◌, ◌++◌, ◌∷◌, [], OnOk, IfErr};
-ghost use Rattle.signctl.specs.Lines.{text_of};
+ghost use Rattle.signctl.specs.Lines.{is_mark, text_of};
 ghost use Rattle.signctl.specs.Streams.{TakesOctet, TakesLine};
 
 use crate::fault::ToolFault;
 use std::io::Read;
 
 /// The most octets of an input that are taken as lines (own).
-pub(crate) const MAX_INPUT: u32 = 16_777_216;
+const MAX_INPUT: u32 = 16_777_216;
 
 /// The most octets of a line before its end (own).
 const MAX_LINE: usize = 8_300;
 
 /// The most octets that are kept of a line: those of the longest, and a carriage return.
 const MAX_KEPT: usize = MAX_LINE + 1;
+
+/// Where in an input a run is, at the start of a line (own).
+#[derive(Clone, Copy)]
+pub(crate) struct Place {
+    /// The number of the line, counted from 1.
+    pub(crate) number: u32,
+    /// How many more octets are taken as lines.
+    pub(crate) left: u32,
+}
+
+/// The start of an input.
+pub(crate) const FIRST_PLACE: Place = Place {
+    number: 1,
+    left: MAX_INPUT,
+};
 
 /// What comes next in an input (own).
 #[derive(Clone, Copy, PartialEq, Eq)]
@@ -50,6 +65,13 @@ pub(crate) fn text_of(line: &[u8]) -> &[u8]
         [text @ .., b'\r'] => text,
         _ => line,
     }
+}
+
+/// Whether a line is the mark that ends a sign file.
+pub(crate) fn is_mark(line: &[u8]) -> bool
+    ensures { result ≡ is_mark line.now }
+{
+    text_of(line) == b"%%".as_slice()
 }
 
 /// Adds an octet to the line.

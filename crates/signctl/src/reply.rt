@@ -1,13 +1,24 @@
 //! The texts of answers.
-ghost use Rattle.std.specs.Prelude.{◌≡◌, ◌++◌, OnOk, IfErr, decimal};
+ghost use Rattle.std.specs.Prelude.{◌≡◌, ◌++◌, ◌∷◌, [], OnOk, IfErr, decimal};
 ghost use Rattle.multi_layout.specs.Verdict.{Accepted, Refused};
 ghost use Rattle.signctl.specs.Reply.{verdict_text, too_long_text};
 
 use crate::fault::ToolFault;
 use itoa::Buffer;
 
+/// Appends an octet. The error is `Memory`.
+pub(crate) fn push_octet(text: &mut Vec<u8>, octet: u8) -> Result<(), ToolFault>
+    ensures ok { OnOk result (text.new.items ≡ text.old.items ++ octet ∷ []) }
+    ensures err { IfErr result (λ e. e ≡ ToolFault.Memory) }
+{
+    match text.push(octet) {
+        Ok(()) => Ok(()),
+        Err(_) => Err(ToolFault::Memory),
+    }
+}
+
 /// Appends octets. The error is `Memory`.
-fn push_octets(text: &mut Vec<u8>, octets: &[u8]) -> Result<(), ToolFault>
+pub(crate) fn push_octets(text: &mut Vec<u8>, octets: &[u8]) -> Result<(), ToolFault>
     ensures ok { OnOk result (text.new.items ≡ text.old.items ++ octets.now) }
     ensures err { IfErr result (λ e. e ≡ ToolFault.Memory) }
 {
@@ -18,7 +29,7 @@ fn push_octets(text: &mut Vec<u8>, octets: &[u8]) -> Result<(), ToolFault>
 }
 
 /// Appends a number in decimal. The error is `Memory`.
-fn push_number(text: &mut Vec<u8>, number: usize) -> Result<(), ToolFault>
+pub(crate) fn push_number(text: &mut Vec<u8>, number: u64) -> Result<(), ToolFault>
     ensures ok { OnOk result (text.new.items ≡ text.old.items ++ decimal number) }
     ensures err { IfErr result (λ e. e ≡ ToolFault.Memory) }
 {
@@ -31,7 +42,7 @@ pub(crate) fn push_accepted(text: &mut Vec<u8>, pages: u8) -> Result<(), ToolFau
     ensures err { IfErr result (λ e. e ≡ ToolFault.Memory) }
 {
     push_octets(text, b"ok ")?;
-    push_number(text, usize::from(pages))?;
+    push_number(text, u64::from(pages))?;
     push_octets(text, b"\n")
 }
 
@@ -42,9 +53,9 @@ pub(crate) fn push_refused(text: &mut Vec<u8>, code: u8, at: usize) -> Result<()
     ensures err { IfErr result (λ e. e ≡ ToolFault.Memory) }
 {
     push_octets(text, b"error ")?;
-    push_number(text, usize::from(code))?;
+    push_number(text, u64::from(code))?;
     push_octets(text, b" ")?;
-    push_number(text, at)?;
+    push_number(text, at as u64)?;
     push_octets(text, b"\n")
 }
 

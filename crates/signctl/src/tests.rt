@@ -1,9 +1,17 @@
+mod full_matrix;
+mod pages;
+mod portable;
+mod show;
+mod show_signs;
+mod sign_file;
+
 use crate::fault::ToolFault;
 use crate::main_with::main_with;
 use crate::tool::{Mode, run_tool};
-use std::alloc::Global;
+use std::alloc::{AllocError, Global};
 use std::io;
 use std::io::{ErrorKind, Read, Write};
+use std::process::Abort;
 use std::test::Fail;
 
 /// A reader that gives one octet at a time, and fails where it has no more.
@@ -99,6 +107,56 @@ fn check(alloc: Global, input: &[u8]) -> (Vec<u8>, Result<(), ToolFault>) {
     (output, result)
 }
 
+/// What a run writes for this sign file, the mark and these lines, and how it ends.
+fn run_behind(
+    alloc: Global,
+    mode: Mode,
+    file: &str,
+    lines: &[u8],
+) -> Result<(Vec<u8>, Result<(), ToolFault>), AllocError> {
+    let mut input = file.as_bytes().to_vec(alloc)?;
+    input.extend_from_slice(b"%%\n")?;
+    input.extend_from_slice(lines)?;
+    let mut reader = input.as_slice();
+    let mut output = Vec::new(alloc);
+    let result = run_tool(alloc, mode, false, &mut reader, &mut output);
+    Ok((output, result))
+}
+
+/// What a check writes for this sign file, the mark and these lines, and how it ends.
+fn check_behind(
+    alloc: Global,
+    file: &str,
+    lines: &[u8],
+) -> Result<(Vec<u8>, Result<(), ToolFault>), AllocError> {
+    run_behind(alloc, Mode::Check, file, lines)
+}
+
+/// The status of the tool with these words and this input, what it writes and what it says.
+fn main_output(alloc: Global, words: &[&str], input: &[u8]) -> (u8, Vec<u8>, Vec<u8>) {
+    let mut reader = input;
+    let mut output = Vec::new(alloc);
+    let mut errors = Vec::new(alloc);
+    let status = main_with(alloc, words, &mut reader, &mut output, &mut errors);
+    (status, output, errors)
+}
+
+/// Each input is answered so by the sample sign, also where that comes from its file.
+fn check_rows(rt: &impl Abort, alloc: Global, rows: &[(&[u8], &[u8])]) -> Result<(), Fail> {
+    for &(input, want) in rows {
+        let (output, result) = check(alloc, input);
+        assert!(rt; output.as_slice() == want, "what is written at {input:?}");
+        assert!(rt; result == Ok(()), "the end at {input:?}");
+        let (output, result) = check_behind(alloc, sign_file::SAMPLE, input)?;
+        assert!(rt;
+            output.as_slice() == want,
+            "what is written behind a sign file at {input:?}"
+        );
+        assert!(rt; result == Ok(()), "the end behind a sign file at {input:?}");
+    }
+    Ok(())
+}
+
 #[test]
 fn a_line_ends_with_a_line_feed(rt: HostRuntime) {
     let bad = |line| Err(ToolFault::BadLine { line });
@@ -119,7 +177,7 @@ fn a_line_ends_with_a_line_feed(rt: HostRuntime) {
 }
 
 #[test]
-fn the_sample_sign_judges_items_pages_and_fonts(rt: HostRuntime) {
+fn the_sample_sign_judges_items_pages_and_fonts(rt: HostRuntime) -> Result<(), Fail> {
     let rows: [(&[u8], &[u8]); 23] = [
         (b"A[np]A\n", b"ok 2\n"),
         (b"A[np]A\r\n", b"ok 2\n"),
@@ -145,15 +203,11 @@ fn the_sample_sign_judges_items_pages_and_fonts(rt: HostRuntime) {
         (b"[fo2]A[fo1]A\n", b"ok 1\n"),
         (b"A]\n[np]\nA\n", b"error 3 1\nok 2\nok 1\n"),
     ];
-    for (input, want) in rows {
-        let (output, result) = check(rt.alloc(), input);
-        assert!(rt; output.as_slice() == want, "what is written at {input:?}");
-        assert!(rt; result == Ok(()), "the end at {input:?}");
-    }
+    check_rows(&rt, rt.alloc(), &rows)
 }
 
 #[test]
-fn the_sample_sign_judges_lines_and_segments(rt: HostRuntime) {
+fn the_sample_sign_judges_lines_and_segments(rt: HostRuntime) -> Result<(), Fail> {
     let rows: [(&[u8], &[u8]); 19] = [
         (b"A\n", b"ok 1\n"),
         (b"AAA\n", b"ok 1\n"),
@@ -175,15 +229,11 @@ fn the_sample_sign_judges_lines_and_segments(rt: HostRuntime) {
         (b"[tr7,1,6,0]AA\n", b"error 5 12\n"),
         (b"[tr8,1,6,7]\n", b"error 4 0\n"),
     ];
-    for (input, want) in rows {
-        let (output, result) = check(rt.alloc(), input);
-        assert!(rt; output.as_slice() == want, "what is written at {input:?}");
-        assert!(rt; result == Ok(()), "the end at {input:?}");
-    }
+    check_rows(&rt, rt.alloc(), &rows)
 }
 
 #[test]
-fn the_sample_sign_judges_spacings_groups_and_rectangles(rt: HostRuntime) {
+fn the_sample_sign_judges_spacings_groups_and_rectangles(rt: HostRuntime) -> Result<(), Fail> {
     let rows: [(&[u8], &[u8]); 24] = [
         (b"[sc0]AAAA\n", b"ok 1\n"),
         (b"[sc0]AAAAA\n", b"error 5 9\n"),
@@ -210,11 +260,7 @@ fn the_sample_sign_judges_spacings_groups_and_rectangles(rt: HostRuntime) {
         (b"A[np]A[pt10]\n", b"ok 2\n"),
         (b"[/sc][/fl]\n", b"ok 1\n"),
     ];
-    for (input, want) in rows {
-        let (output, result) = check(rt.alloc(), input);
-        assert!(rt; output.as_slice() == want, "what is written at {input:?}");
-        assert!(rt; result == Ok(()), "the end at {input:?}");
-    }
+    check_rows(&rt, rt.alloc(), &rows)
 }
 
 #[test]
@@ -336,15 +382,6 @@ fn a_failed_write_ends_the_run(rt: HostRuntime) {
 }
 
 #[test]
-fn without_a_sign_nothing_is_read_or_written(rt: HostRuntime) {
-    let mut reader = b"A\n".as_slice();
-    let mut output = Vec::new(rt.alloc());
-    let result = run_tool(rt.alloc(), Mode::Check, false, &mut reader, &mut output);
-    assert!(rt; result == Err(ToolFault::BadSign));
-    assert!(rt; reader.len() == 2 && output.is_empty());
-}
-
-#[test]
 fn each_fault_has_its_text(rt: HostRuntime) -> Result<(), Fail> {
     let rows = [
         (ToolFault::Read, "read failed"),
@@ -353,6 +390,7 @@ fn each_fault_has_its_text(rt: HostRuntime) -> Result<(), Fail> {
         (ToolFault::BadLine { line: 12 }, "line 12: bad line"),
         (ToolFault::InputTooLong, "input too long"),
         (ToolFault::BadSign, "sign not read"),
+        (ToolFault::SignRefused { number: 3 }, "sign fault 3"),
         (ToolFault::Memory, "out of memory"),
     ];
     for (fault, want) in rows {
@@ -398,13 +436,21 @@ fn a_run_ends_with_its_status_and_text(rt: HostRuntime) {
 #[test]
 fn a_command_line_is_helped_or_refused(rt: HostRuntime) {
     let alloc = rt.alloc();
-    let rows: [(&[&str], u8); 12] = [
+    let rows: [(&[&str], u8); 20] = [
         (&["signctl", "--help"], 0),
         (&["signctl", "check", "--help"], 0),
+        (&["signctl", "show", "--help"], 0),
         (&["signctl", "help"], 0),
         (&[], 2),
         (&["signctl"], 2),
-        (&["signctl", "show"], 2),
+        (&["signctl", "show", "--sample", "--colour", "10"], 2),
+        (&["signctl", "show", "--colour", "10"], 2),
+        (&["signctl", "show", "--colour=-1"], 2),
+        (&["signctl", "show", "--colour", "red"], 2),
+        (&["signctl", "show", "--colour"], 2),
+        (&["signctl", "show", "--clock", "4294967296"], 2),
+        (&["signctl", "show", "--clock=-1"], 2),
+        (&["signctl", "check", "--colour", "1"], 2),
         (&["signctl", "run", "--sample"], 2),
         (&["signctl", "check", "--other"], 2),
         (&["signctl", "--sample"], 2),

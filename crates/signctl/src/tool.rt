@@ -1,15 +1,16 @@
 //! A run of the tool: an answer for each line.
-ghost use Rattle.std.specs.Prelude.{◌≡◌, ◌≤◌, ◌⊎◌, [], List, ℕ, Some, true, false, IfSome, length};
+ghost use Rattle.std.specs.Prelude.{◌≡◌, ◌+◌, ◌≤◌, ◌⊎◌, List, ℕ, Some, IfSome, length};
 ghost use Rattle.std.specs.Io.KnownBytes.{Appends, Consumes};
-ghost use Rattle.signctl.specs.Output.{outcome_of_whole};
+ghost use Rattle.signctl.specs.Output.{outcome, output_of_whole};
 ghost use Rattle.signctl.specs.Runs.{IsFront, Runs, fault_of};
-ghost use Rattle.signctl.specs.Tool.{IsOfInput, answers_of, outcome_of};
+ghost use Rattle.signctl.specs.Tool.{IsOfInput, answers_of, outcome_of, output_so_far};
 
 use crate::answer::{Answer, Checker};
 use crate::fault::ToolFault;
-use crate::lines::{MAX_INPUT, Next, next_line, text_of};
+use crate::lines::{Next, Place, next_line, text_of};
 use crate::output::write_whole;
-use crate::sample::sample_sign;
+use crate::show::Shower;
+use crate::start::{Start, begin};
 use std::alloc::Global;
 use std::io::{Read, Write};
 
@@ -18,21 +19,32 @@ use std::io::{Read, Write};
 pub enum Mode {
     /// Each line is a MULTI string, and the answer is the verdict on it.
     Check,
+    /// Each line is a MULTI string, and the answer to one that the sign accepts is what it shows: the page at a clock
+    /// and its phase, or `off`, and a line for each pixel row.
+    Show {
+        /// The colour whose pixels are shown, 0 to 9.
+        colour: u8,
+        /// In tenths of a second since the string began to be shown.
+        clock: u32,
+    },
 }
 
-/// Answers each line of the input until a fault or the end. A line and its answer reuse memory.
+/// Answers each line from this place until a fault or the end. A line and its answer reuse memory.
 fn answer_lines<A: Answer, R: Read, W: Write>(
     alloc: Global,
     answer: &mut A,
+    place: Place,
     reader: &mut R,
     writer: &mut W,
 ) -> Result<(), ToolFault>
-    ensures runs { Runs (A.answers answer.old) (R.remaining reader.old) (R.remaining reader.new) (W.contents writer.old) (W.contents writer.new) (fault_of result) }
+    requires { place.number + place.left ≤ 16777217 }
+    ensures runs { Runs (outcome (A.answers answer.old) place.number place.left) (output_of_whole (A.answers answer.old) place.number) place.left
+        (R.remaining reader.old) (R.remaining reader.new) (W.contents writer.old) (W.contents writer.new) (fault_of result) }
 {
     let mut line = Vec::new(alloc);
     let mut text = Vec::new(alloc);
-    let mut left = MAX_INPUT;
-    let mut number = 1;
+    let mut left = place.left;
+    let mut number = place.number;
     loop {
         match next_line(reader, &mut line, &mut left)? {
             Next::Line => {}
@@ -50,30 +62,54 @@ fn answer_lines<A: Answer, R: Read, W: Write>(
     }
 }
 
-/// A run on the sample sign.
-fn run_sample<R: Read, W: Write>(
+/// Answers the lines behind a sign.
+fn run_on<R: Read, W: Write>(
     alloc: Global,
     mode: Mode,
+    start: Start,
     reader: &mut R,
     writer: &mut W,
 ) -> Result<(), ToolFault>
-    ensures runs { Runs (answers_of mode) (R.remaining reader.old) (R.remaining reader.new) (W.contents writer.old) (W.contents writer.new) (fault_of result) }
+    requires { start.place.number + start.place.left ≤ 16777217 }
+    ensures { Runs (outcome (answers_of mode start.sign) start.place.number start.place.left) (output_of_whole (answers_of mode start.sign) start.place.number) start.place.left
+        (R.remaining reader.old) (R.remaining reader.new) (W.contents writer.old) (W.contents writer.new) (fault_of result) }
 {
     match mode {
         Mode::Check => {
-            let sign = sample_sign(alloc)?;
-            answer_lines(alloc, &mut Checker { sign }, reader, writer)
+            let mut answer = Checker { sign: start.sign };
+            answer_lines(alloc, &mut answer, start.place, reader, writer)
+        }
+        Mode::Show { colour, clock } => {
+            let mut answer = Shower::new(alloc, start.sign, colour, clock)?;
+            answer_lines(alloc, &mut answer, start.place, reader, writer)
         }
     }
+}
+
+/// A run, from the start of its input.
+fn run<R: Read, W: Write>(
+    alloc: Global,
+    mode: Mode,
+    sample: bool,
+    reader: &mut R,
+    writer: &mut W,
+) -> Result<(), ToolFault>
+    ensures { Runs (outcome_of mode sample) (output_so_far mode sample) 16777216
+        (R.remaining reader.old) (R.remaining reader.new) (W.contents writer.old) (W.contents writer.new) (fault_of result) }
+{
+    let start = begin(alloc, sample, reader)?;
+    run_on(alloc, mode, start, reader, writer)
 }
 
 /// Reads an input to its end or to the first fault, and writes the answer to each line when its end was read
 /// (own).
 ///
-/// At most 16,777,216 octets are taken as lines, and one more is read where as many are there. Without
-/// `sample` there is no sign: the fault is `BadSign`, and nothing is read or written. The other faults are
-/// those of the input (`LineTooLong`, `BadLine`, `InputTooLong`) and those from outside (`Read`, `Write`,
-/// `Memory`).
+/// With `sample` the input is lines for the sample sign. Else it is a sign file, a line `%%`, and lines for the sign
+/// of that file; the lines of all of it are counted.
+///
+/// At most 16,777,216 octets are taken as lines, and one more is read where as many are there. The faults are those of
+/// the input (`LineTooLong`, `BadLine`, `InputTooLong`), those of its sign (`BadSign`, `SignRefused`), before which
+/// nothing is written, and those from outside (`Read`, `Write`, `Memory`).
 pub fn run_tool<R: Read, W: Write>(
     alloc: Global,
     mode: Mode,
@@ -89,7 +125,7 @@ pub fn run_tool<R: Read, W: Write>(
     // After a failed read it is the output of the whole lines that were read.
     ensures read { fault_of result ≡ Some ToolFault.Read → (taken : List ℕ)
         × Consumes (R.remaining reader.old) (R.remaining reader.new) taken
-        × Appends (W.contents writer.old) (W.contents writer.new) (outcome_of_whole (answers_of mode) taken).output }
+        × Appends (W.contents writer.old) (W.contents writer.new) (output_so_far mode sample taken) }
 
     // After a failed write or want of memory it is a front of the output.
     ensures front { (fault_of result ≡ Some ToolFault.Write) ⊎ (fault_of result ≡ Some ToolFault.Memory) →
@@ -100,14 +136,6 @@ pub fn run_tool<R: Read, W: Write>(
     // No more is read than shows that an input is too long.
     ensures most { (taken : List ℕ) × Consumes (R.remaining reader.old) (R.remaining reader.new) taken
         × (length taken ≤ 16777217) }
-
-    // Without a sign nothing is read or written.
-    ensures no_sign { sample ≡ false → (fault_of result ≡ Some ToolFault.BadSign)
-        × Consumes (R.remaining reader.old) (R.remaining reader.new) []
-        × Appends (W.contents writer.old) (W.contents writer.new) [] }
 {
-    if !sample {
-        return Err(ToolFault::BadSign);
-    }
-    run_sample(alloc, mode, reader, writer)
+    run(alloc, mode, sample, reader, writer)
 }

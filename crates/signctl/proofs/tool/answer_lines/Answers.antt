@@ -1,4 +1,4 @@
-use Rattle.std.proofs.Common.{[], ◌∷◌, ◌++◌, ap, ◌∙◌, refl, arith, true, false}
+use Rattle.std.proofs.Common.{[], ◌∷◌, ◌++◌, ap, ◌∙◌, arith, true, false}
 use Rattle.std.proofs.lemmas.Result.{err_from_is_err_and}
 use Rattle.std.proofs.KnownBytes.{Consumes-nil, Appends-nil}
 use Rattle.signctl.specs.Lines.{text_of}
@@ -13,9 +13,9 @@ loop-text-init g c = (
   record {
     takes = Consumes-nil _;
     writes = Appends-nil _;
-    limit = refl;
+    limit = omega arith;
     counted = omega arith;
-    progress = RunLemmas.Progress-none _;
+    progress = RunLemmas.Progress-none _ _;
   },
 )
 
@@ -23,40 +23,40 @@ pub returns-in_err-next_line : goal.returns-in_err-next_line
 returns-in_err-next_line g c =
     let p = err_from_is_err_and c.from_residual.result c.from_residual.ensures.1 in
     let (taken, sent, lines, go) = c.loop-text.invariant in
-    rw (p.1, p.2) (record { runs = RunLemmas.ends_failing _ _ _ _ _ _ _ _ _ c.next_line.new.left _ _ c.next_line.new.line.items _ go _ c.in_err-next_line.ensures.taken })
+    rw (p.1, p.2) (record { runs = RunLemmas.ends_failing _ _ _ _ _ _ _ _ _ _ _ c.next_line.new.left _ _ c.next_line.new.line.items _ go _ c.in_err-next_line.ensures.taken })
 
 pub returns-in-TooLong : goal.returns-in-TooLong
 returns-in-TooLong g c =
     let (taken, sent, lines, go) = c.loop-text.invariant in
-    record { runs = RunLemmas.ends_too_long _ _ _ _ _ _ _ _ _ c.next_line.new.left _ _ c.next_line.new.line.items _ go (rw c.in-TooLong.is at c.in_ok-next_line.ensures.taken) }
+    record { runs = RunLemmas.ends_too_long _ _ _ _ _ _ _ _ _ _ _ c.next_line.new.left _ _ c.next_line.new.line.items _ go (rw c.in-TooLong.is at c.in_ok-next_line.ensures.taken) }
 
 pub returns-in-Unfinished : goal.returns-in-Unfinished
 returns-in-Unfinished g c =
     let (taken, sent, lines, go) = c.loop-text.invariant in
-    record { runs = RunLemmas.ends_unfinished _ _ _ _ _ _ _ _ _ c.next_line.new.left _ _ c.next_line.new.line.items _ go (rw c.in-Unfinished.is at c.in_ok-next_line.ensures.taken) }
+    record { runs = RunLemmas.ends_unfinished _ _ _ _ _ _ _ _ _ _ _ c.next_line.new.left _ _ c.next_line.new.line.items _ go (rw c.in-Unfinished.is at c.in_ok-next_line.ensures.taken) }
 
 pub returns-in-End : goal.returns-in-End
 returns-in-End g c =
     let (taken, sent, lines, go) = c.loop-text.invariant in
-    record { runs = RunLemmas.ends_well _ _ _ _ _ _ _ _ _ c.next_line.new.left _ _ c.next_line.new.line.items _ go (rw c.in-End.is at c.in_ok-next_line.ensures.taken) }
+    record { runs = RunLemmas.ends_well _ _ _ _ _ _ _ _ _ _ _ c.next_line.new.left _ _ c.next_line.new.line.items _ go (rw c.in-End.is at c.in_ok-next_line.ensures.taken) }
 
 pub returns-in-InputTooLong : goal.returns-in-InputTooLong
 returns-in-InputTooLong g c =
     let (taken, sent, lines, go) = c.loop-text.invariant in
-    record { runs = RunLemmas.ends_past _ _ _ _ _ _ _ _ _ c.next_line.new.left _ _ c.next_line.new.line.items _ go (rw c.in-InputTooLong.is at c.in_ok-next_line.ensures.taken) }
+    record { runs = RunLemmas.ends_past _ _ _ _ _ _ _ _ _ _ _ c.next_line.new.left _ _ c.next_line.new.line.items _ go (rw c.in-InputTooLong.is at c.in_ok-next_line.ensures.taken) }
 
 pub returns-in_err-answer : goal.returns-in_err-answer
 returns-in_err-answer g c =
     let p = err_from_is_err_and c.from_residual-in_err-answer.result c.from_residual-in_err-answer.ensures.1 in
     let (taken, sent, lines, go) = c.loop-text.invariant in
-    rw (p.1, p.2) (record { runs = RunLemmas.ends_unanswered _ _ _ _ _ _ _ _ _ c.next_line.new.left _ _ c.next_line.new.line.items _ go _ (rw c.in-Line.is at c.in_ok-next_line.ensures.taken) c.in_err-answer.ensures.answered })
+    rw (p.1, p.2) (record { runs = RunLemmas.ends_unanswered _ _ _ _ _ _ _ _ _ _ _ c.next_line.new.left _ _ c.next_line.new.line.items _ go _ (rw c.in-Line.is at c.in_ok-next_line.ensures.taken) c.in_err-answer.ensures.answered })
 
 pub returns-then-not-branch : goal.returns-then-not-branch
 returns-then-not-branch g c =
     let (taken, sent, lines, go) = c.loop-text.invariant in
     let answer = RunLemmas.same_answer (g.A.Answer.answers c.loop-text.answer) (g.A.Answer.answers c.answer.new.self) _ (text_of c.next_line.new.line.items) _ [] c.answer.new.text.items _ false
     (c.text_of.ensures.text ∙ ap text_of c.deref.ensures.value) c.clear.ensures.items c.if-not-branch.true c.in_ok-answer.ensures.answered in
-    record { runs = RunLemmas.ends_bad _ (g.A.Answer.answers c.loop-text.answer) _ _ _ _ _ _ _ c.next_line.new.left _ _ c.next_line.new.line.items _ go (g.A.Answer.answers c.answer.new.self) [] c.answer.new.text.items (rw c.in-Line.is at c.in_ok-next_line.ensures.taken) answer }
+    record { runs = RunLemmas.ends_bad _ _ _ (g.A.Answer.answers c.loop-text.answer) _ _ _ _ _ _ _ c.next_line.new.left _ _ c.next_line.new.line.items _ go (g.A.Answer.answers c.answer.new.self) [] c.answer.new.text.items (rw c.in-Line.is at c.in_ok-next_line.ensures.taken) answer }
 
 pub returns-in_err-write_whole : goal.returns-in_err-write_whole
 returns-in_err-write_whole g c =
@@ -65,7 +65,7 @@ returns-in_err-write_whole g c =
     let answer = RunLemmas.same_answer (g.A.Answer.answers c.loop-text.answer) (g.A.Answer.answers c.answer.new.self) _ (text_of c.next_line.new.line.items) _ [] c.answer.new.text.items _ true
     (c.text_of.ensures.text ∙ ap text_of c.deref.ensures.value) c.clear.ensures.items c.if-not-branch.false c.in_ok-answer.ensures.answered in
     rw (p.1, p.2) (record {
-      runs = RunLemmas.ends_writing _ (g.A.Answer.answers c.loop-text.answer) _ _ _ _ _ _ _ c.next_line.new.left _ _ c.next_line.new.line.items _ go (g.A.Answer.answers c.answer.new.self) _ c.answer.new.text.items _ _
+      runs = RunLemmas.ends_writing _ _ _ (g.A.Answer.answers c.loop-text.answer) _ _ _ _ _ _ _ c.next_line.new.left _ _ c.next_line.new.line.items _ go (g.A.Answer.answers c.answer.new.self) _ c.answer.new.text.items _ _
           (rw c.in-Line.is at c.in_ok-next_line.ensures.taken) answer c.deref-in-loop-text.ensures.value c.in_err-write_whole.ensures.written;
     })
 
@@ -78,6 +78,6 @@ loop-text-preserved g c =
       taken ++ (line ++ 10 ∷ []),
       sent ++ c.answer.new.text.items,
       lines ++ line ∷ [],
-      RunLemmas.goes_on _ (g.A.Answer.answers c.loop-text.answer) _ _ _ _ _ _ _ _ _ _ line _ go (g.A.Answer.answers c.answer.new.self) _ c.answer.new.text.items
+      RunLemmas.goes_on _ _ _ (g.A.Answer.answers c.loop-text.answer) _ _ _ _ _ _ _ _ _ _ line _ go (g.A.Answer.answers c.answer.new.self) _ c.answer.new.text.items
           (rw c.in-Line.is at c.in_ok-next_line.ensures.taken) answer (rw c.deref-in-loop-text.ensures.value at c.in_ok-write_whole.ensures.written),
     )

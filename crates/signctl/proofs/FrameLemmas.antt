@@ -1,0 +1,144 @@
+-- The rows of a frame, one after the other, and the page at a clock.
+use Rattle.std.proofs.Common.{◌≡◌, ℕ, zero, suc, ◌+◌, ◌-◌, ◌%◌, ◌<◌, ◌≤◌, Bool, true, false, ◌||◌, ◌==◌, List, [], ◌∷◌, ◌++◌, length, map, Option, Some, None, refl, sym, ap, subst, ◌∙◌, inl, inr, arith, append_assoc, append-nil}
+use Rattle.std.specs.List.{flat_map, find, range_with_len}
+use Rattle.std.specs.Option.{option_map_or}
+use Rattle.std.proofs.lemmas.Bool.{cases_Bool, cond-true, cond-false, le-ltb}
+use Rattle.std.proofs.lemmas.List.FromFn.{map-range_with_len_more}
+use Rattle.page_plane.specs.Plane.{BitPlane, is_lit}
+use Rattle.sign_font.specs.declared.parts.Defaults.{Defaults}
+use Rattle.sign_font.specs.Sign.{SignData}
+use Rattle.multi_layout.specs.declared.times.Shown.{Shown}
+use Rattle.multi_layout.specs.declared.times.Shown.TheVariants.{Page, Off}
+use Rattle.multi_layout.specs.Drawn.{Shows}
+use Rattle.multi_layout.specs.Meaning.{meanings}
+use Rattle.multi_layout.specs.Pages.{IsSized}
+use Rattle.multi_layout.specs.Picture.{pixel_at}
+use Rattle.multi_layout.specs.Times.{Times, begin, cycle, is_on, page_times, shown, shown_at, shown_within}
+use Rattle.multi_layout.specs.Verdict.{Verdict, IsVerdict, pages_of, verdict}
+use Rattle.multi_layout.proofs.TimesLemmas.{shown_always, shown_modulo, times_count}
+use Rattle.multi_layout.proofs.VerdictLemmas.{one_verdict}
+use Rattle.signctl.specs.Frame.{frame_text, head_text, pixel_text, pixels_text, row_text, rows_text, show_answer, shown_text}
+
+-- ROWS
+
+-- what was written so far grows by one piece
+pub grown : (start now new done piece more : List ℕ) → now ≡ start ++ done → new ≡ now ++ piece → more ≡ done ++ piece → new ≡ start ++ more
+grown start now new done piece more so_far next is =
+    next ∙ ap (λ l. l ++ piece) so_far ∙ append_assoc start done piece ∙ ap (λ l. start ++ l) (sym is)
+
+-- functions that agree on a range have the same values there
+map_same : (f g : ℕ → ℕ) (a n : ℕ) → ((k : ℕ) → k < a + n → f k ≡ g k) → map f (range_with_len a n) ≡ map g (range_with_len a n)
+map_same f g a zero same = refl
+map_same f g a (suc n) same =
+    ap (λ x. x ∷ map f (range_with_len (a + 1) n)) (same a (omega arith))
+    ∙ ap (λ l. g a ∷ l) (map_same f g (a + 1) n (λ k below. same k (omega arith)))
+
+flat_map_same : (f g : ℕ → List ℕ) (a n : ℕ) → ((k : ℕ) → k < a + n → f k ≡ g k) → flat_map f (range_with_len a n) ≡ flat_map g (range_with_len a n)
+flat_map_same f g a zero same = refl
+flat_map_same f g a (suc n) same =
+    ap (λ x. x ++ flat_map f (range_with_len (a + 1) n)) (same a (omega arith))
+    ∙ ap (λ l. g a ++ l) (flat_map_same f g (a + 1) n (λ k below. same k (omega arith)))
+
+flat_map_more : (f : ℕ → List ℕ) (a n j : ℕ) → a + n ≡ j → flat_map f (range_with_len a (suc n)) ≡ flat_map f (range_with_len a n) ++ f j
+flat_map_more f a zero j is = append-nil (f a) ∙ ap f (omega (arith, is))
+flat_map_more f a (suc n) j is =
+    ap (λ l. f a ++ l) (flat_map_more f (a + 1) n j (omega (arith, is)))
+    ∙ sym (append_assoc (f a) (flat_map f (range_with_len (a + 1) n)) (f j))
+
+-- one more pixel comes behind those left of it
+pub pixels_more : (lit : ℕ → ℕ → Bool) (row column : ℕ) → pixels_text lit row (column + 1) ≡ pixels_text lit row column ++ pixel_text (lit column row) ∷ []
+pixels_more lit row column = map-range_with_len_more (λ k. pixel_text (lit k row)) 0 column column (omega arith)
+
+-- no row is written at first
+pub rows_none : (lit : ℕ → ℕ → Bool) (width : ℕ) → rows_text lit width 0 ≡ []
+unfolding rows_text
+rows_none lit width = refl
+
+-- one more row comes behind those above it
+pub rows_more : (lit : ℕ → ℕ → Bool) (width row : ℕ) → rows_text lit width (row + 1) ≡ rows_text lit width row ++ row_text lit width row
+unfolding rows_text
+rows_more lit width row =
+    let next : row + 1 ≡ suc row = omega arith in
+    ap (λ n. flat_map (row_text lit width) (range_with_len 0 n)) next ∙ flat_map_more (row_text lit width) 0 row row (omega arith)
+
+-- what lights the same pixels has the same rows
+rows_same : (lit other : ℕ → ℕ → Bool) (width height : ℕ) → ((column row : ℕ) → column < width → row < height → lit column row ≡ other column row)
+    → rows_text lit width height ≡ rows_text other width height
+unfolding rows_text
+rows_same lit other width height same =
+    flat_map_same (row_text lit width) (row_text other width) 0 height (λ row above.
+    ap (λ l. l ++ 10 ∷ []) (map_same (λ k. pixel_text (lit k row)) (λ k. pixel_text (other k row)) 0 width (λ column left. ap pixel_text (same column row (omega arith) (omega arith)))))
+
+-- FRAMES
+
+-- the head and the rows of a plane that shows what is shown are a frame
+pub frame_of : (old now : List ℕ) (sign : SignData) (defaults : Defaults) (octets : List ℕ) (clock colour : ℕ) (s : Shown) (plane : BitPlane)
+    → s ≡ shown sign defaults octets clock → Shows plane (pixel_at sign defaults (meanings octets) s colour) → IsSized plane sign → defaults ≡ sign.defaults → now ≡ old ++ head_text s
+    → now ++ rows_text (is_lit plane) plane.width plane.height ≡ old ++ frame_text sign octets colour (shown sign sign.defaults octets clock)
+frame_of old now sign defaults octets clock colour s plane is shows sized own written =
+    let pixels : Defaults → ℕ → ℕ → Bool = λ d. pixel_at sign d (meanings octets) s colour in
+    let rows : rows_text (is_lit plane) plane.width plane.height ≡ rows_text (pixels sign.defaults) sign.width sign.height =
+    rows_same (is_lit plane) (pixels defaults) plane.width plane.height shows
+    ∙ ap (λ w. rows_text (pixels defaults) w plane.height) sized.0
+    ∙ ap (rows_text (pixels defaults) sign.width) sized.1
+    ∙ ap (λ d. rows_text (pixels d) sign.width sign.height) own in
+    ap (λ l. l ++ rows_text (is_lit plane) plane.width plane.height) written
+    ∙ append_assoc old (head_text s) (rows_text (is_lit plane) plane.width plane.height)
+    ∙ ap (λ l. old ++ (head_text s ++ l)) rows
+    ∙ ap (λ x. old ++ frame_text sign octets colour x) (is ∙ ap (λ d. shown sign d octets clock) own)
+
+-- the answer to a line that isn't too long is that of the one verdict on it
+pub answer_of_verdict : (sign : SignData) (line octets : List ℕ) (colour clock : ℕ) (v : Verdict) → length line ≤ 4096 → octets ≡ line
+    → IsVerdict sign sign.defaults octets v → shown_text sign colour clock line v ≡ show_answer sign colour clock line
+answer_of_verdict sign line octets colour clock v short same is =
+    let one : v ≡ verdict sign sign.defaults line = (one_verdict sign sign.defaults octets v).0 is ∙ ap (verdict sign sign.defaults) same in
+    rw (le-ltb _ _ short) (ap (shown_text sign colour clock line) one)
+
+-- what a sign shows of an octet list is what an equal one shows of an equal list
+pub same_frame : (judge sign : SignData) (octets line : List ℕ) (colour clock : ℕ) → judge ≡ sign → octets ≡ line
+    → frame_text judge octets colour (shown judge judge.defaults octets clock) ≡ frame_text sign line colour (shown sign sign.defaults line clock)
+same_frame judge sign octets line colour clock same_sign same_octets =
+    ap (λ (s : SignData). frame_text s octets colour (shown s s.defaults octets clock)) same_sign
+    ∙ ap (λ l. frame_text sign l colour (shown sign sign.defaults l clock)) same_octets
+
+-- THE PAGE AT A CLOCK
+
+-- what is found in a range is below its end
+found_below : (p : ℕ → Bool) (a n k : ℕ) → find p (range_with_len a n) ≡ Some k → k < a + n
+found_below p a zero k is = absurd cc
+found_below p a (suc n) k is = elim (cases_Bool (p a)) [
+  | inl e ↦
+      let here : Some a ≡ Some k = sym (cond-true (p a) (Some a) (find p (range_with_len (a + 1) n)) e) ∙ is in
+      let same : a ≡ k = cc in
+      omega arith
+  | inr e ↦
+      let below : k < a + 1 + n = found_below p (a + 1) n k (sym (cond-false (p a) (Some a) (find p (range_with_len (a + 1) n)) e) ∙ is) in
+      omega arith
+]
+
+page_found : (pages : List Times) (time page phase : ℕ) (found : Option ℕ) → find (is_on pages time) (range_with_len 0 (length pages)) ≡ found
+    → option_map_or (λ k. Page k (time - begin pages k)) found Off ≡ Page page phase → page < length pages
+page_found pages time page phase None from is = absurd cc
+page_found pages time page phase (Some k) from is =
+    let same : k ≡ page = cc in
+    omega (arith, found_below (is_on pages time) 0 (length pages) k from)
+
+within_below : (pages : List Times) (time page phase : ℕ) → shown_within pages time ≡ Page page phase → page < length pages
+unfolding shown_within
+within_below pages time page phase is = page_found pages time page phase _ refl is
+
+at_below : (pages : List Times) (clock page phase : ℕ) → 0 < length pages → shown_at pages clock ≡ Page page phase → page < length pages
+at_below pages clock page phase some is = elim (cases_Bool ((length pages == 1) || (cycle pages == 0))) [
+  | inl e ↦
+      let first : Page 0 clock ≡ Page page phase = sym (shown_always pages clock e) ∙ is in
+      let same : 0 ≡ page = cc in
+      omega arith
+  | inr e ↦ within_below pages (clock % cycle pages) page phase (sym (shown_modulo pages clock e) ∙ is)
+]
+
+-- a page that is shown is one of the string's
+pub page_below : (sign : SignData) (defaults : Defaults) (octets : List ℕ) (clock page phase : ℕ) → shown sign defaults octets clock ≡ Page page phase → page < pages_of (meanings octets)
+page_below sign defaults octets clock page phase is =
+    let count = times_count sign defaults (meanings octets) in
+    let below : page < length (page_times sign defaults (meanings octets)) = at_below (page_times sign defaults (meanings octets)) clock page phase (omega (arith, count)) is in
+    omega (arith, count)

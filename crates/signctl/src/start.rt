@@ -1,0 +1,122 @@
+//! The start of a run, up to its sign.
+
+ghost use Rattle.std.specs.Prelude.{◌≡◌, ◌++◌, ◌⊎◌, ◌∷◌, [], OnOk, IfOk, IfErr, Ok, Err};
+ghost use Rattle.signctl.specs.Runs.{Starts, TakesFile};
+ghost use Rattle.signctl.specs.SignFile.{refusal, sign_of_octets};
+
+use crate::fault::ToolFault;
+use crate::keys::FileFault;
+use crate::lines::{FIRST_PLACE, Next, Place, is_mark, next_line};
+use crate::sample::sample_sign;
+use crate::sign_file::read_sign_file;
+use sign_font::{Sign, SignFault};
+use std::alloc::Global;
+use std::io::Read;
+
+/// A run that has its sign (own).
+#[derive(Drop)]
+pub(crate) struct Start {
+    pub(crate) sign: Sign,
+    /// Where the lines begin that are answered.
+    pub(crate) place: Place,
+}
+
+/// A sign file as it stands in an input (own).
+#[derive(Drop)]
+struct FilePart {
+    /// The octets before the mark.
+    octets: Vec<u8>,
+    /// Behind the mark.
+    place: Place,
+}
+
+/// Adds a line and its line feed. The error is `Memory`.
+fn push_line(file: &mut Vec<u8>, line: &[u8]) -> Result<(), ToolFault>
+    ensures ok { OnOk result (file.new.items ≡ file.old.items ++ (line.now ++ 10 ∷ [])) }
+    ensures err { IfErr result (λ e. e ≡ ToolFault.Memory) }
+{
+    let Ok(()) = file.extend_from_slice(line) else {
+        return Err(ToolFault::Memory);
+    };
+    match file.push(b'\n') {
+        Ok(()) => Ok(()),
+        Err(_) => Err(ToolFault::Memory),
+    }
+}
+
+/// Reads the sign file and the mark behind it, from the start of an input.
+fn read_file<R: Read>(alloc: Global, reader: &mut R) -> Result<FilePart, ToolFault>
+    ensures taken { TakesFile (R.remaining reader.old) (R.remaining reader.new) result }
+{
+    let mut octets = Vec::new(alloc);
+    let mut line = Vec::new(alloc);
+    let mut place = FIRST_PLACE;
+    loop {
+        match next_line(reader, &mut line, &mut place.left)? {
+            Next::Line => {}
+            Next::TooLong => {
+                return Err(ToolFault::LineTooLong { line: place.number });
+            }
+            Next::Unfinished | Next::End => return Err(ToolFault::BadSign),
+            Next::InputTooLong => return Err(ToolFault::InputTooLong),
+        }
+        place.number += 1;
+        if is_mark(&line) {
+            return Ok(FilePart { octets, place });
+        }
+        push_line(&mut octets, &line)?;
+    }
+}
+
+/// The fault of a run whose sign is refused.
+fn refusal(fault: SignFault) -> ToolFault
+    ensures { result ≡ refusal fault }
+{
+    match fault {
+        SignFault::Memory => ToolFault::Memory,
+        fault => ToolFault::SignRefused {
+            number: fault.code(),
+        },
+    }
+}
+
+/// The sign of a sign file's octets. The errors are `BadSign`, `SignRefused` and `Memory`.
+#[tactic(auto, unfolding(crate::specs::SignFile::sign_of_octets))]
+fn sign_of_octets(alloc: Global, octets: &[u8]) -> Result<Sign, ToolFault>
+    ensures ok { IfOk result (λ sign. sign_of_octets octets.now ≡ Ok sign) }
+    ensures err { IfErr result (λ e. (e ≡ ToolFault.Memory) ⊎ (sign_of_octets octets.now ≡ Err e)) }
+{
+    let file = match read_sign_file(alloc, octets) {
+        Ok(file) => file,
+        Err(FileFault::Bad) => return Err(ToolFault::BadSign),
+        Err(FileFault::Memory) => return Err(ToolFault::Memory),
+    };
+    match Sign::new(alloc, file.sign) {
+        Ok(sign) => Ok(sign),
+        Err(fault) => Err(refusal(fault)),
+    }
+}
+
+/// Reads what stands before the lines that are answered: with `sample` nothing, and else a sign file and the mark.
+/// The errors are `LineTooLong`, `InputTooLong`, `BadSign`, `SignRefused`, `Read` and `Memory`.
+pub(crate) fn begin<R: Read>(
+    alloc: Global,
+    sample: bool,
+    reader: &mut R,
+) -> Result<Start, ToolFault>
+    ensures starts { Starts sample (R.remaining reader.old) (R.remaining reader.new) result }
+{
+    if sample {
+        let sign = sample_sign(alloc)?;
+        return Ok(Start {
+            sign,
+            place: FIRST_PLACE,
+        });
+    }
+    let part = read_file(alloc, reader)?;
+    let sign = sign_of_octets(alloc, &part.octets)?;
+    Ok(Start {
+        sign,
+        place: part.place,
+    })
+}
