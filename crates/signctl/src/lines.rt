@@ -1,9 +1,10 @@
 //! The lines of an input, read an octet at a time.
-ghost use Rattle.std.specs.Prelude.{◌≡◌, ◌++◌, ◌∷◌, [], OnOk, IfErr};
+ghost use Rattle.std.specs.Prelude.{◌≡◌};
 ghost use Rattle.signctl.specs.Lines.{is_mark, text_of};
 ghost use Rattle.signctl.specs.Streams.{TakesOctet, TakesLine};
 
 use crate::fault::ToolFault;
+use crate::octets::push_octet;
 use std::io::Read;
 
 /// The most octets of an input that are taken as lines (own).
@@ -74,17 +75,6 @@ pub(crate) fn is_mark(line: &[u8]) -> bool
     text_of(line) == b"%%".as_slice()
 }
 
-/// Adds an octet to the line.
-fn keep(line: &mut Vec<u8>, octet: u8) -> Result<(), ToolFault>
-    ensures ok { OnOk result (line.new.items ≡ line.old.items ++ octet ∷ []) }
-    ensures err { IfErr result (λ e. e ≡ ToolFault.Memory) }
-{
-    match line.push(octet) {
-        Ok(()) => Ok(()),
-        Err(_) => Err(ToolFault::Memory),
-    }
-}
-
 /// Reads up to the end of a line, whose octets are then in `line`, with the carriage return.
 ///
 /// At most `left` octets are taken as lines, and one more is read where as many are there. At `Next::Line`
@@ -111,7 +101,7 @@ pub(crate) fn next_line<R: Read>(
                 return Ok(Next::Line);
             }
             Some(octet) if line.len() < MAX_KEPT => {
-                keep(line, octet)?;
+                push_octet(line, octet)?;
             }
             Some(_) => is_cut = true,
         }

@@ -39,6 +39,7 @@ mod fault;
 mod keys;
 mod lines;
 mod main_with;
+mod octets;
 mod output;
 mod reply;
 mod sample;

@@ -1,32 +1,11 @@
 //! The texts of answers.
-ghost use Rattle.std.specs.Prelude.{◌≡◌, ◌++◌, ◌∷◌, [], OnOk, IfErr, decimal};
+ghost use Rattle.std.specs.Prelude.{◌≡◌, ◌++◌, OnOk, IfErr, decimal};
 ghost use Rattle.multi_layout.specs.Verdict.{Accepted, Refused};
 ghost use Rattle.signctl.specs.Reply.{verdict_text, too_long_text};
 
 use crate::fault::ToolFault;
+use crate::octets::push_octets;
 use itoa::Buffer;
-
-/// Appends an octet. The error is `Memory`.
-pub(crate) fn push_octet(text: &mut Vec<u8>, octet: u8) -> Result<(), ToolFault>
-    ensures ok { OnOk result (text.new.items ≡ text.old.items ++ octet ∷ []) }
-    ensures err { IfErr result (λ e. e ≡ ToolFault.Memory) }
-{
-    match text.push(octet) {
-        Ok(()) => Ok(()),
-        Err(_) => Err(ToolFault::Memory),
-    }
-}
-
-/// Appends octets. The error is `Memory`.
-pub(crate) fn push_octets(text: &mut Vec<u8>, octets: &[u8]) -> Result<(), ToolFault>
-    ensures ok { OnOk result (text.new.items ≡ text.old.items ++ octets.now) }
-    ensures err { IfErr result (λ e. e ≡ ToolFault.Memory) }
-{
-    match text.extend_from_slice(octets) {
-        Ok(()) => Ok(()),
-        Err(_) => Err(ToolFault::Memory),
-    }
-}
 
 /// Appends a number in decimal. The error is `Memory`.
 pub(crate) fn push_number(text: &mut Vec<u8>, number: u64) -> Result<(), ToolFault>

@@ -10,7 +10,8 @@ ghost use Rattle.signctl.specs.Frame.{frame_text, head_text, pixel_text, row_tex
 
 use crate::answer::{Answer, MAX_STRING};
 use crate::fault::ToolFault;
-use crate::reply::{push_number, push_octet, push_octets, push_refused, push_too_long};
+use crate::octets::{push_octet, push_octets};
+use crate::reply::{push_number, push_refused, push_too_long};
 use multi_layout::{Checked, Shown, check};
 use multi_token::Source;
 use page_plane::Plane;

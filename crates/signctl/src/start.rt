@@ -7,6 +7,7 @@ ghost use Rattle.signctl.specs.SignFile.{refusal, sign_of_octets};
 use crate::fault::ToolFault;
 use crate::keys::FileFault;
 use crate::lines::{FIRST_PLACE, Next, Place, is_mark, next_line};
+use crate::octets::{push_octet, push_octets};
 use crate::sample::sample_sign;
 use crate::sign_file::read_sign_file;
 use sign_font::{Sign, SignFault};
@@ -35,13 +36,8 @@ fn push_line(file: &mut Vec<u8>, line: &[u8]) -> Result<(), ToolFault>
     ensures ok { OnOk result (file.new.items ≡ file.old.items ++ (line.now ++ 10 ∷ [])) }
     ensures err { IfErr result (λ e. e ≡ ToolFault.Memory) }
 {
-    let Ok(()) = file.extend_from_slice(line) else {
-        return Err(ToolFault::Memory);
-    };
-    match file.push(b'\n') {
-        Ok(()) => Ok(()),
-        Err(_) => Err(ToolFault::Memory),
-    }
+    push_octets(file, line)?;
+    push_octet(file, b'\n')
 }
 
 /// Reads the sign file and the mark behind it, from the start of an input.

@@ -2,7 +2,7 @@ use Rattle.std.proofs.Common.{◌≡◌, ◌<◌, ◌≤◌, ◌++◌, [], ◌�
 use Rattle.std.proofs.lemmas.Result.{err_from_is_err_and}
 use Rattle.signctl.specs.Lines.{text_of}
 use Rattle.signctl.proofs.SeenLemmas
-use Rattle.signctl.proofs.lines.next_line.Goals.{then-len-lt-MAX_KEPT+in_ok-keep-in-Some, in-Some-2, then-is_cut-via-then-is_cut, then-is_cut-via-else-is_cut+then-text_of-gt-MAX_LINE}
+use Rattle.signctl.proofs.lines.next_line.Goals.{then-len-lt-MAX_KEPT+in_ok-push_octet-in-Some, in-Some-2, then-is_cut-via-then-is_cut, then-is_cut-via-else-is_cut+then-text_of-gt-MAX_LINE}
 use Rattle.signctl.proofs.lines.next_line.Goals as goal
 
 pub returns-in_err-next_octet : goal.returns-in_err-next_octet
@@ -51,12 +51,12 @@ returns-in-Some-3 g c =
     let (seen, s) = c.loop-taken.invariant.0 in
     record { taken = SeenLemmas.ends_past_limit _ _ _ _ _ _ c.args.left.now seen s c.loop-taken.line.items 0 _ (omega arith) (SeenLemmas.at_octet _ _ _ _ c.in-Some-3.is c.in_ok-next_octet-2.ensures.taken) }
 
-pub returns-in_err-keep-in-Some : goal.returns-in_err-keep-in-Some
-returns-in_err-keep-in-Some g c =
-    let p = err_from_is_err_and c.from_residual-in_err-keep-in-Some.result c.from_residual-in_err-keep-in-Some.ensures.1 in
+pub returns-in_err-push_octet-in-Some : goal.returns-in_err-push_octet-in-Some
+returns-in_err-push_octet-in-Some g c =
+    let p = err_from_is_err_and c.from_residual-in_err-push_octet-in-Some.result c.from_residual-in_err-push_octet-in-Some.ensures.1 in
     let (seen, s) = c.loop-taken.invariant.0 in
     let more = SeenLemmas.at_octet _ _ _ _ c.in-Some.is c.in_ok-next_octet.ensures.taken in
-    rw (p.1, p.2) (record { taken = SeenLemmas.fails_keeping _ _ _ _ _ _ _ seen s c.keep.new.line.items c.args.left.now _ _ (omega arith) c.in_err-keep-in-Some.ensures.err more })
+    rw (p.1, p.2) (record { taken = SeenLemmas.fails_keeping _ _ _ _ _ _ _ seen s c.push_octet.new.text.items c.args.left.now _ _ (omega arith) c.in_err-push_octet-in-Some.ensures.err more })
 
 pub loop-taken-preserved : goal.loop-taken-preserved
 loop-taken-preserved g c =
@@ -64,8 +64,8 @@ loop-taken-preserved g c =
     let more = SeenLemmas.at_octet _ _ _ _ c.in-Some.is c.in_ok-next_octet.ensures.taken in
     let count : c.len.result ≡ length c.loop-taken.line.items = c.len.ensures ∙ c.loop-taken.line.ok.0 in (
       elim c.if-len-lt-MAX_KEPT.branch [
-        | then-len-lt-MAX_KEPT+in_ok-keep-in-Some w ↦
-            rw (w.line-is, w.is_cut-is, w.in_ok-keep-in-Some.ensures.ok) (
+        | then-len-lt-MAX_KEPT+in_ok-push_octet-in-Some w ↦
+            rw (w.line-is, w.is_cut-is, w.in_ok-push_octet-in-Some.ensures.ok) (
               seen ++ c.in-Some.octet ∷ [],
               SeenLemmas.Seen-kept 8301 _ _ _ _ _ _ _ seen s more c.in-Some.octet-test.1 (omega arith),
             )
