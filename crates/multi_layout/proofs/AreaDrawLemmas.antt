@@ -15,7 +15,7 @@ use Rattle.multi_layout.specs.declared.table.LineTable.{LineTable}
 use Rattle.multi_layout.specs.Address.{spots, standing, in_area}
 use Rattle.multi_layout.specs.Limits.{plane_octets}
 use Rattle.multi_layout.specs.Meaning.{begins_area, meaning}
-use Rattle.multi_layout.specs.Passes.{HasCounted, IsDrawnTo, IsFilledBy, IsPlain, whole_area}
+use Rattle.multi_layout.specs.Passes.{HasCounted, IsDrawnTo, IsFilledBy, BeginsNoArea, whole_area}
 use Rattle.multi_layout.specs.Walk.{IsBetween, IsFirst, IsRead}
 use Rattle.multi_layout.proofs.StateLemmas.{same_area}
 use Rattle.multi_layout.proofs.WalkLemmas.{spell-append}
@@ -25,14 +25,14 @@ pub record AreaSoFar (sign : SignData) (defaults : Defaults) (octets : List ℕ)
   pub done : List Item
   pub left : List Item
   pub split : area ≡ done ++ left
-  pub plain : IsPlain left
+  pub plain : BeginsNoArea left
   pub between : IsBetween sign defaults octets (before ++ done) (left ++ rest) cursor
   pub counted : HasCounted (whole_area sign defaults (before ++ done) (left ++ rest)) lines
   pub drawn : IsDrawnTo sign defaults layer (map meaning (before ++ (area ++ rest))) (map meaning before) old → IsDrawnTo sign defaults layer (map meaning (before ++ (area ++ rest))) (map meaning (before ++ done)) new
 
 module _ (sign : SignData) (defaults : Defaults) (octets : List ℕ) (before area rest : List Item) (lines : LineTable) (layer : Layer) (old : BitPlane) where
   -- none is drawn
-  pub area_begins : (cursor : Cursor) → IsBetween sign defaults octets before (area ++ rest) cursor → IsPlain area → HasCounted (whole_area sign defaults before (area ++ rest)) lines
+  pub area_begins : (cursor : Cursor) → IsBetween sign defaults octets before (area ++ rest) cursor → BeginsNoArea area → HasCounted (whole_area sign defaults before (area ++ rest)) lines
       → AreaSoFar sign defaults octets before area rest lines layer cursor old old
   area_begins cursor b plain counted =
       let none : before ++ [] ≡ before = append-nil before in record {
@@ -101,7 +101,7 @@ module _ (sign : SignData) (defaults : Defaults) (octets : List ℕ) (before are
           b,
           subst (λ x. IsRead x next) one read,
           subst (λ l. HasCounted (whole_area sign defaults (before ++ s.done) (l ++ rest)) lines) is s.counted,
-          All-head (λ x. begins_area (meaning x) ≡ false) item more (subst IsPlain is s.plain),
+          All-head (λ x. begins_area (meaning x) ≡ false) item more (subst BeginsNoArea is s.plain),
         )
 
     -- one more is drawn
@@ -110,7 +110,7 @@ module _ (sign : SignData) (defaults : Defaults) (octets : List ℕ) (before are
         → (IsDrawnTo sign defaults layer (map meaning ((before ++ s.done) ++ item ∷ (more ++ rest))) (map meaning (before ++ s.done)) new → IsDrawnTo sign defaults layer (map meaning ((before ++ s.done) ++ item ∷ (more ++ rest))) (map meaning ((before ++ s.done) ++ item ∷ [])) new')
         → AreaSoFar sign defaults octets before area rest lines layer cursor' old new'
     area_more item more is cursor' new' between drawn =
-        let plain = subst IsPlain is s.plain in
+        let plain = subst BeginsNoArea is s.plain in
         let first : begins_area (meaning item) ≡ false = All-head (λ x. begins_area (meaning x) ≡ false) item more plain in
         let assoc : (before ++ s.done) ++ item ∷ [] ≡ before ++ (s.done ++ item ∷ []) = append_assoc before s.done (item ∷ []) in
         let all : before ++ (area ++ rest) ≡ (before ++ s.done) ++ item ∷ (more ++ rest) =

@@ -27,7 +27,7 @@ use Rattle.multi_layout.specs.Address.{Spot, Standing, Glyph, Break, Cover, is_g
 use Rattle.multi_layout.specs.Item.{meant_by}
 use Rattle.multi_layout.specs.Line.{height_of}
 use Rattle.multi_layout.specs.Meaning.{Meaning, Shows, Does, Faulty, EndsArea, begins_area, meaning}
-use Rattle.multi_layout.specs.Passes.{HasEnded, HasCounted, HasRoom, IsAreaRead, IsLow, IsPlain, ends_line, first_steps, whole_area}
+use Rattle.multi_layout.specs.Passes.{HasEnded, HasCounted, HasRoom, IsAreaRead, IsLow, BeginsNoArea, ends_line, first_steps, whole_area}
 use Rattle.multi_layout.specs.State.{IsStateOf, present_area}
 use Rattle.multi_layout.specs.Sums.{IsBelow, IsPlacing, area_sum, group_sum, ended_lines}
 use Rattle.multi_layout.specs.Table.{group_lines, table_of}
@@ -270,7 +270,7 @@ module _ (sign : SignData) (defaults : Defaults) (octets : List ℕ) where
     pub items : List Item
     pub left : List Item
     pub split : behind ≡ items ++ left
-    pub plain : IsPlain items
+    pub plain : BeginsNoArea items
     pub same_area : (standing sign defaults (map meaning (before ++ items))).area ≡ (standing sign defaults (map meaning before)).area
     pub between : IsBetween sign defaults octets (before ++ items) left cursor
     pub ended : HasEnded (present_area sign defaults (map meaning (before ++ items))) lines

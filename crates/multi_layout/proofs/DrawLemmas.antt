@@ -28,7 +28,7 @@ use Rattle.multi_layout.specs.declared.attributes.Attributes.{Attributes}
 use Rattle.multi_layout.specs.Address.{Standing, standing, put_at, spots, Break}
 use Rattle.multi_layout.specs.Limits.{plane_octets}
 use Rattle.multi_layout.specs.Meaning.{Meaning, Does, begins_area, is_new_page, meaning, meaning_of_tag}
-use Rattle.multi_layout.specs.Drawn.{is_covered}
+use Rattle.multi_layout.specs.Drawn.{has_colour}
 use Rattle.multi_layout.specs.Drawn as drawn
 use Rattle.multi_layout.specs.Passes.{IsDrawnTo, IsFilledBy, IsQuiet}
 use Rattle.multi_layout.specs.Picture.{shown_colour}
@@ -111,7 +111,7 @@ module _ (sign : SignData) (defaults : Defaults) (layer : Layer) (before rest : 
       let all = spots sign defaults (before ++ Does (Back given) ∷ rest) in
       pixels x y across down ∙ colour
       ∙ sym (covered_cover sign defaults layer.phase layer.colour all x y before given)
-      ∙ ap (λ p. is_covered sign defaults p layer.phase layer.colour all (spots sign defaults (before ++ Does (Back given) ∷ [])) x y) (sym (same_page_behind sign defaults before (Does (Back given)) refl))
+      ∙ ap (λ p. has_colour sign defaults p layer.phase layer.colour all (spots sign defaults (before ++ Does (Back given) ∷ [])) x y) (sym (same_page_behind sign defaults before (Does (Back given)) refl))
 
   -- an item that covers nothing leaves the plane
   pub same_drawn : (x : Meaning) (old : BitPlane) → is_new_page x ≡ false → (put_at defaults (standing sign defaults before) x ≡ None) ⊎ ((gap : Option ℕ) × (put_at defaults (standing sign defaults before) x ≡ Some (Break gap)))
@@ -120,7 +120,7 @@ module _ (sign : SignData) (defaults : Defaults) (layer : Layer) (before rest : 
       let all = spots sign defaults (before ++ x ∷ rest) in
       drawn column row across down
       ∙ sym (covered_same sign defaults layer.phase layer.colour all column row before x (standing sign defaults before).page puts)
-      ∙ ap (λ p. is_covered sign defaults p layer.phase layer.colour all (spots sign defaults (before ++ x ∷ [])) column row) (sym (same_page_behind sign defaults before x page))
+      ∙ ap (λ p. has_colour sign defaults p layer.phase layer.colour all (spots sign defaults (before ++ x ∷ [])) column row) (sym (same_page_behind sign defaults before x page))
 
 -- a tag that begins no area and sets no background puts nothing, or ends a line
 pub quiet_put : (defaults : Defaults) (at : Standing) (tag : Tag) → IsQuiet tag → begins_area (Does tag) ≡ false → (put_at defaults at (Does tag) ≡ None) ⊎ ((gap : Option ℕ) × (put_at defaults at (Does tag) ≡ Some (Break gap)))

@@ -14,7 +14,7 @@ use Rattle.multi_layout.specs.Address.{Standing, standing, Put, Glyph, Break, Co
 use Rattle.multi_layout.specs.declared.place.Place.{Place}
 use Rattle.multi_layout.specs.Place.{place_of}
 use Rattle.multi_layout.specs.Picture.{Thing, thing_at, things_among, things, colour_of, shown_colour, is_lit_at, in_plane}
-use Rattle.multi_layout.specs.Drawn.{is_covered}
+use Rattle.multi_layout.specs.Drawn.{has_colour}
 use Rattle.multi_layout.specs.Meaning.{Meaning, Shows, Does, is_new_page, begins_area, BeginsPage, EndsPage, EndsArea}
 use Rattle.multi_layout.specs.Words.{some_after}
 use Rattle.multi_layout.proofs.WordLemmas.{some_after_push, some_after-append}
@@ -101,15 +101,15 @@ test_if sign colour a b false = refl
 module _ (sign : SignData) (defaults : Defaults) (page phase colour : ℕ) (all : List Spot) (column row : ℕ) where
   -- a pixel after one more spot that is no thing
   covered_nothing : (some : List Spot) (s : Spot) → thing_at phase (place_of some all s) s s.put ≡ None
-      → is_covered sign defaults page phase colour all (some ++ s ∷ []) column row ≡ is_covered sign defaults page phase colour all some column row
-  unfolding is_covered
+      → has_colour sign defaults page phase colour all (some ++ s ∷ []) column row ≡ has_colour sign defaults page phase colour all some column row
+  unfolding has_colour
   covered_nothing some s is = ap (λ l. shown_colour sign (colour_of defaults l page column row) == colour) (things_nothing phase all some s is)
 
   -- a pixel after one more spot that is a thing
   covered_more : (some : List Spot) (s : Spot) (t : Thing) → thing_at phase (place_of some all s) s s.put ≡ Some t
-      → is_covered sign defaults page phase colour all (some ++ s ∷ []) column row
-      ≡ cond (covers_at t page column row) (shown_colour sign t.colour == colour) (is_covered sign defaults page phase colour all some column row)
-  unfolding is_covered
+      → has_colour sign defaults page phase colour all (some ++ s ∷ []) column row
+      ≡ cond (covers_at t page column row) (shown_colour sign t.colour == colour) (has_colour sign defaults page phase colour all some column row)
+  unfolding has_colour
   covered_more some s t is =
       ap (λ l. shown_colour sign (colour_of defaults l page column row) == colour) (things_more phase all some s t is)
       ∙ ap (λ c. shown_colour sign c == colour) (colour_push defaults (things_among phase all some) t page column row)
@@ -117,14 +117,14 @@ module _ (sign : SignData) (defaults : Defaults) (page phase colour : ℕ) (all 
 
   -- a pixel of the page of one more spot that covers a page
   covered_whole : (some : List Spot) (at : Standing) (back : ℕ)
-      → is_covered sign defaults page phase colour all (some ++ record { at = at; put = Cover page back } ∷ []) column row ≡ (shown_colour sign back == colour)
+      → has_colour sign defaults page phase colour all (some ++ record { at = at; put = Cover page back } ∷ []) column row ≡ (shown_colour sign back == colour)
   covered_whole some at back =
       covered_more some (record { at = at; put = Cover page back }) (record { page = page; covers = λ column row. true; colour = back }) refl
-      ∙ ap (λ b. cond (b && true) (shown_colour sign back == colour) (is_covered sign defaults page phase colour all some column row)) (eq-eqb page page refl)
+      ∙ ap (λ b. cond (b && true) (shown_colour sign back == colour) (has_colour sign defaults page phase colour all some column row)) (eq-eqb page page refl)
 
   -- a pixel of a page on which nothing is put
-  covered_none : is_covered sign defaults page phase colour all [] column row ≡ (shown_colour sign defaults.back == colour)
-  unfolding is_covered things_among
+  covered_none : has_colour sign defaults page phase colour all [] column row ≡ (shown_colour sign defaults.back == colour)
+  unfolding has_colour things_among
   covered_none = refl
 
 spots_none : (sign : SignData) (defaults : Defaults) → spots sign defaults [] ≡ []
@@ -136,39 +136,39 @@ unfolding standing
 first_back sign defaults = refl
 
 module _ (sign : SignData) (defaults : Defaults) (phase colour : ℕ) (all : List Spot) (column row : ℕ) where
-  begins_first : is_covered sign defaults (standing sign defaults []).page phase colour all (spots sign defaults []) column row ≡ (shown_colour sign (standing sign defaults []).back == colour)
+  begins_first : has_colour sign defaults (standing sign defaults []).page phase colour all (spots sign defaults []) column row ≡ (shown_colour sign (standing sign defaults []).back == colour)
   begins_first =
-      ap (λ l. is_covered sign defaults (standing sign defaults []).page phase colour all l column row) (spots_none sign defaults)
+      ap (λ l. has_colour sign defaults (standing sign defaults []).page phase colour all l column row) (spots_none sign defaults)
       ∙ covered_none sign defaults (standing sign defaults []).page phase colour all column row
       ∙ ap (λ c. shown_colour sign c == colour) (sym (first_back sign defaults))
 
   begins_next : (earlier : List Meaning) → let before = earlier ++ Does NewPage ∷ [] in
-      is_covered sign defaults (standing sign defaults before).page phase colour all (spots sign defaults before) column row ≡ (shown_colour sign (standing sign defaults before).back == colour)
+      has_colour sign defaults (standing sign defaults before).page phase colour all (spots sign defaults before) column row ≡ (shown_colour sign (standing sign defaults before).back == colour)
   begins_next earlier =
       let before = earlier ++ Does NewPage ∷ [] in
       let at = standing sign defaults earlier in
-      ap (λ page. is_covered sign defaults page phase colour all (spots sign defaults before) column row) (next_page_behind sign defaults earlier)
-      ∙ ap (λ l. is_covered sign defaults (at.page + 1) phase colour all l column row) (spots_more sign defaults earlier (Does NewPage) (Cover (at.page + 1) at.back) refl)
+      ap (λ page. has_colour sign defaults page phase colour all (spots sign defaults before) column row) (next_page_behind sign defaults earlier)
+      ∙ ap (λ l. has_colour sign defaults (at.page + 1) phase colour all l column row) (spots_more sign defaults earlier (Does NewPage) (Cover (at.page + 1) at.back) refl)
       ∙ covered_whole sign defaults (at.page + 1) phase colour all column row (spots sign defaults earlier) at at.back
       ∙ ap (λ c. shown_colour sign c == colour) (sym (same_back sign defaults earlier))
 
   -- where a page begins, every pixel has the background in force
   pub covered_begins : (before : List Meaning) → BeginsPage before
-      → is_covered sign defaults (standing sign defaults before).page phase colour all (spots sign defaults before) column row ≡ (shown_colour sign (standing sign defaults before).back == colour)
+      → has_colour sign defaults (standing sign defaults before).page phase colour all (spots sign defaults before) column row ≡ (shown_colour sign (standing sign defaults before).back == colour)
   covered_begins before (inl first) =
-      subst (λ items. is_covered sign defaults (standing sign defaults items).page phase colour all (spots sign defaults items) column row ≡ (shown_colour sign (standing sign defaults items).back == colour)) (sym first) begins_first
+      subst (λ items. has_colour sign defaults (standing sign defaults items).page phase colour all (spots sign defaults items) column row ≡ (shown_colour sign (standing sign defaults items).back == colour)) (sym first) begins_first
   covered_begins before (inr (earlier, next)) =
-      subst (λ items. is_covered sign defaults (standing sign defaults items).page phase colour all (spots sign defaults items) column row ≡ (shown_colour sign (standing sign defaults items).back == colour)) (sym next) (begins_next earlier)
+      subst (λ items. has_colour sign defaults (standing sign defaults items).page phase colour all (spots sign defaults items) column row ≡ (shown_colour sign (standing sign defaults items).back == colour)) (sym next) (begins_next earlier)
 
   -- a pixel after one more character: its colour if the character covers the pixel, else as before
   pub covered_glyph : (before : List Meaning) (number : ℕ) (cell : CellData) → cell_numbered (standing sign defaults before).font number ≡ Some cell →
       let at = standing sign defaults before in
       let spot : Spot = record { at = at; put = Glyph cell } in
       let place = place_of (spots sign defaults before) all spot in
-      is_covered sign defaults at.page phase colour all (spots sign defaults (before ++ Shows number ∷ [])) column row
+      has_colour sign defaults at.page phase colour all (spots sign defaults (before ++ Shows number ∷ [])) column row
       ≡ cond (is_lit_at phase at.flash && nat_le place.column column && nat_le place.row row && nat_lt row (place.row + at.font.height) && cells.is_lit (sized at.font cell) (column - place.column) (row - place.row))
       (shown_colour sign at.fore == colour)
-      (is_covered sign defaults at.page phase colour all (spots sign defaults before) column row)
+      (has_colour sign defaults at.page phase colour all (spots sign defaults before) column row)
   covered_glyph before number cell found =
       let at = standing sign defaults before in
       let spot : Spot = record { at = at; put = Glyph cell } in
@@ -178,25 +178,25 @@ module _ (sign : SignData) (defaults : Defaults) (phase colour : ℕ) (all : Lis
         covers = λ column row. is_lit_at phase at.flash && nat_le place.column column && nat_le place.row row && nat_lt row (place.row + at.font.height) && cells.is_lit (sized at.font cell) (column - place.column) (row - place.row);
         colour = at.fore;
       } in
-      ap (λ l. is_covered sign defaults at.page phase colour all l column row) (spots_more sign defaults before (Shows number) (Glyph cell) (ap (option_map Glyph) found))
+      ap (λ l. has_colour sign defaults at.page phase colour all l column row) (spots_more sign defaults before (Shows number) (Glyph cell) (ap (option_map Glyph) found))
       ∙ covered_more sign defaults at.page phase colour all column row (spots sign defaults before) spot t refl
-      ∙ ap (λ b. cond (b && t.covers column row) (shown_colour sign at.fore == colour) (is_covered sign defaults at.page phase colour all (spots sign defaults before) column row)) (eq-eqb at.page at.page refl)
+      ∙ ap (λ b. cond (b && t.covers column row) (shown_colour sign at.fore == colour) (has_colour sign defaults at.page phase colour all (spots sign defaults before) column row)) (eq-eqb at.page at.page refl)
 
   -- after a background every pixel of its page has it
   pub covered_cover : (before : List Meaning) (given : Option ℕ)
-      → is_covered sign defaults (standing sign defaults before).page phase colour all (spots sign defaults (before ++ Does (Back given) ∷ [])) column row ≡ (shown_colour sign (unwrap_or given defaults.back) == colour)
+      → has_colour sign defaults (standing sign defaults before).page phase colour all (spots sign defaults (before ++ Does (Back given) ∷ [])) column row ≡ (shown_colour sign (unwrap_or given defaults.back) == colour)
   covered_cover before given =
       let at = standing sign defaults before in
-      ap (λ l. is_covered sign defaults at.page phase colour all l column row) (spots_more sign defaults before (Does (Back given)) (Cover at.page (unwrap_or given defaults.back)) refl)
+      ap (λ l. has_colour sign defaults at.page phase colour all l column row) (spots_more sign defaults before (Does (Back given)) (Cover at.page (unwrap_or given defaults.back)) refl)
       ∙ covered_whole sign defaults at.page phase colour all column row (spots sign defaults before) at (unwrap_or given defaults.back)
 
   -- an item that puts nothing, or ends a line, leaves every pixel of every page
   pub covered_same : (before : List Meaning) (x : Meaning) (page : ℕ)
       → (put_at defaults (standing sign defaults before) x ≡ None) ⊎ ((gap : Option ℕ) × (put_at defaults (standing sign defaults before) x ≡ Some (Break gap)))
-      → is_covered sign defaults page phase colour all (spots sign defaults (before ++ x ∷ [])) column row ≡ is_covered sign defaults page phase colour all (spots sign defaults before) column row
-  covered_same before x page (inl none) = ap (λ l. is_covered sign defaults page phase colour all l column row) (spots_nothing sign defaults before x none)
+      → has_colour sign defaults page phase colour all (spots sign defaults (before ++ x ∷ [])) column row ≡ has_colour sign defaults page phase colour all (spots sign defaults before) column row
+  covered_same before x page (inl none) = ap (λ l. has_colour sign defaults page phase colour all l column row) (spots_nothing sign defaults before x none)
   covered_same before x page (inr (gap, ends)) =
-      ap (λ l. is_covered sign defaults page phase colour all l column row) (spots_more sign defaults before x (Break gap) ends)
+      ap (λ l. has_colour sign defaults page phase colour all l column row) (spots_more sign defaults before x (Break gap) ends)
       ∙ covered_nothing sign defaults page phase colour all column row (spots sign defaults before) (record { at = standing sign defaults before; put = Break gap }) refl
 
 -- an item or none, and more items
@@ -286,8 +286,8 @@ things_append phase all some more = some_after-append (λ before spot. thing_at 
 module _ (sign : SignData) (defaults : Defaults) (page phase colour : ℕ) (all : List Spot) (column row : ℕ) where
   -- spots of later pages leave every pixel of a page
   covered_later : (some more : List Spot) → All (IsFrom (page + 1)) more
-      → is_covered sign defaults page phase colour all (some ++ more) column row ≡ is_covered sign defaults page phase colour all some column row
-  unfolding is_covered
+      → has_colour sign defaults page phase colour all (some ++ more) column row ≡ has_colour sign defaults page phase colour all some column row
+  unfolding has_colour
   covered_later some more later =
       let f = λ (next : List Spot) (spot : Spot). thing_at phase (place_of (some ++ next) all spot) spot spot.put in
       let beside : All (IsBeside page) (some_after f more) =
@@ -297,8 +297,8 @@ module _ (sign : SignData) (defaults : Defaults) (page phase colour : ℕ) (all 
 
 -- a pixel of a string is that of all its spots
 plane_is : (sign : SignData) (defaults : Defaults) (items : List Meaning) (page phase colour column row : ℕ)
-    → in_plane sign defaults items page phase colour column row ≡ is_covered sign defaults page phase colour (spots sign defaults items) (spots sign defaults items) column row
-unfolding in_plane things is_covered
+    → in_plane sign defaults items page phase colour column row ≡ has_colour sign defaults page phase colour (spots sign defaults items) (spots sign defaults items) column row
+unfolding in_plane things has_colour
 plane_is sign defaults items page phase colour column row = refl
 
 module _ (sign : SignData) (defaults : Defaults) (before : List Meaning) where
@@ -315,20 +315,20 @@ module _ (sign : SignData) (defaults : Defaults) (before : List Meaning) where
   -- where a page ends, the rest of the string covers none of its pixels
   pub covered_ends : (behind : List Meaning) (phase colour column row : ℕ) → EndsPage behind
       → in_plane sign defaults (before ++ behind) (standing sign defaults before).page phase colour column row
-      ≡ is_covered sign defaults (standing sign defaults before).page phase colour (spots sign defaults (before ++ behind)) (spots sign defaults before) column row
+      ≡ has_colour sign defaults (standing sign defaults before).page phase colour (spots sign defaults (before ++ behind)) (spots sign defaults before) column row
   covered_ends behind phase colour column row (inl last) =
       let page = (standing sign defaults before).page in
       let all = spots sign defaults (before ++ behind) in
       let same : before ++ behind ≡ before = ap (λ l. before ++ l) last ∙ append-nil before in
       plane_is sign defaults (before ++ behind) page phase colour column row
-      ∙ ap (λ items. is_covered sign defaults page phase colour all (spots sign defaults items) column row) same
+      ∙ ap (λ items. has_colour sign defaults page phase colour all (spots sign defaults items) column row) same
   covered_ends behind phase colour column row (inr (rest, next)) =
       let page = (standing sign defaults before).page in
       let all = spots sign defaults (before ++ behind) in
       let later = later_behind rest in
       plane_is sign defaults (before ++ behind) page phase colour column row
-      ∙ ap (λ l. is_covered sign defaults page phase colour all (spots sign defaults (before ++ l)) column row) next
-      ∙ ap (λ l. is_covered sign defaults page phase colour all l column row) later.1
+      ∙ ap (λ l. has_colour sign defaults page phase colour all (spots sign defaults (before ++ l)) column row) next
+      ∙ ap (λ l. has_colour sign defaults page phase colour all l column row) later.1
       ∙ covered_later sign defaults page phase colour all column row (spots sign defaults before) later.0 later.2
 
 -- a spot is of this area or a later one

@@ -23,9 +23,9 @@ use Rattle.multi_layout.specs.declared.state.State.{State}
 use Rattle.multi_layout.specs.Address.{Break, Cover, Glyph, Spot, Standing, put_at, spots, standing}
 use Rattle.multi_layout.specs.Meaning.{Meaning, Shows, Does, begins_area, is_new_page}
 use Rattle.multi_layout.specs.Offence.{conflicts, offence, too_big}
-use Rattle.multi_layout.specs.State.{IsReady, IsStateOf, attributes_of, ended_times, present_area, standing_behind}
+use Rattle.multi_layout.specs.State.{IsReady, IsStateOf, attributes_of, present_area, standing_behind}
 use Rattle.multi_layout.specs.Sums.{IsBelow, IsGroupBelow, IsLineBelow, IsSegmentBelow, area_sum}
-use Rattle.multi_layout.specs.Times.{Times, cycle, times_at}
+use Rattle.multi_layout.specs.Times.{Times, cycle, ended_times, times_at}
 use Rattle.multi_layout.specs.Verdict.{pages_of}
 use Rattle.multi_layout.proofs.OffenceLemmas.{offence-undefined, offence-character, offence-break, offence-page, offence-rectangle}
 use Rattle.multi_layout.proofs.StandingLemmas.{standing_push}

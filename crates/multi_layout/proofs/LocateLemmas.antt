@@ -17,8 +17,8 @@ use Rattle.multi_layout.specs.declared.times.Shown.TheVariants.{Page, Off}
 use Rattle.multi_layout.specs.Address.{standing}
 use Rattle.multi_layout.specs.Item.{meant_by}
 use Rattle.multi_layout.specs.Meaning.{Meaning, Does, is_new_page, meaning, meanings}
-use Rattle.multi_layout.specs.State.{IsStateOf, ended_times}
-use Rattle.multi_layout.specs.Times.{Times, cycle, page_times, shown, shown_within, times_at}
+use Rattle.multi_layout.specs.State.{IsStateOf}
+use Rattle.multi_layout.specs.Times.{Times, cycle, ended_times, page_times, shown, shown_within, times_at}
 use Rattle.multi_layout.specs.Verdict.{Accepted, IsCycle, IsVerdict}
 use Rattle.multi_layout.specs.Walk.{IsBetween, IsFirst, IsRead}
 use Rattle.multi_layout.proofs.AcceptedLemmas.{accepted_is, cycle_is}

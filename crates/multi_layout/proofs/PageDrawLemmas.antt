@@ -18,12 +18,12 @@ use Rattle.multi_layout.specs.declared.cursor.Cursor.{Cursor}
 use Rattle.multi_layout.specs.declared.paint.Layer.{Layer}
 use Rattle.multi_layout.specs.declared.read.AreaLines.{AreaLines}
 use Rattle.multi_layout.specs.Address.{Standing, spots, standing, put_at}
-use Rattle.multi_layout.specs.Drawn.{is_covered}
+use Rattle.multi_layout.specs.Drawn.{has_colour}
 use Rattle.multi_layout.specs.Drawn as drawn
 use Rattle.multi_layout.specs.Limits.{plane_octets}
 use Rattle.multi_layout.specs.Meaning.{Meaning, Shows, Does, Faulty, BeginsPage, EndsArea, EndsPage, begins_area, is_new_page, meaning}
 use Rattle.multi_layout.specs.Paging.{IsFilledFew, IsPagePassed}
-use Rattle.multi_layout.specs.Passes.{HasCounted, IsAreaRead, IsDrawnTo, IsFilledBy, IsPlain, first_steps, whole_area}
+use Rattle.multi_layout.specs.Passes.{HasCounted, IsAreaRead, IsDrawnTo, IsFilledBy, BeginsNoArea, first_steps, whole_area}
 use Rattle.multi_layout.specs.Picture.{in_plane, shown_colour}
 use Rattle.multi_layout.specs.State.{present_area}
 use Rattle.multi_layout.specs.Verdict.{pages_of}
@@ -91,7 +91,7 @@ plain_page (Faulty code) plain = refl
 
 module _ (sign : SignData) (defaults : Defaults) where
   -- items behind which no area begins leave the page
-  pages_on : (before items : List Item) → IsPlain items → (standing sign defaults (map meaning (before ++ items))).page ≡ (standing sign defaults (map meaning before)).page
+  pages_on : (before items : List Item) → BeginsNoArea items → (standing sign defaults (map meaning (before ++ items))).page ≡ (standing sign defaults (map meaning before)).page
   pages_on before [] plain = ap (λ l. (standing sign defaults (map meaning l)).page) (append-nil before)
   pages_on before (x ∷ items) plain =
       let first : is_new_page (meaning x) ≡ false = plain_page (meaning x) (All-head (λ y. begins_area (meaning y) ≡ false) x items plain) in
@@ -122,7 +122,7 @@ module _ (sign : SignData) (defaults : Defaults) (octets : List ℕ) (before beh
 
   module _ (cursor : Cursor) (plane : BitPlane) (s : PageDrawn sign defaults octets before behind layer cursor plane) where
     -- an area more
-    pub page_area : (area rest : List Item) → s.left ≡ area ++ rest → IsPlain area → (cursor' : Cursor) (plane' : BitPlane) → IsBetween sign defaults octets ((before ++ s.done) ++ area) rest cursor'
+    pub page_area : (area rest : List Item) → s.left ≡ area ++ rest → BeginsNoArea area → (cursor' : Cursor) (plane' : BitPlane) → IsBetween sign defaults octets ((before ++ s.done) ++ area) rest cursor'
         → (IsDrawnTo sign defaults layer (map meaning ((before ++ s.done) ++ (area ++ rest))) (map meaning (before ++ s.done)) plane → IsDrawnTo sign defaults layer (map meaning ((before ++ s.done) ++ (area ++ rest))) (map meaning ((before ++ s.done) ++ area)) plane')
         → (d : PageDrawn sign defaults octets before behind layer cursor' plane') × (d.done ≡ s.done ++ area) × (d.left ≡ rest)
     page_area area rest is plain cursor' plane' between drawn =
@@ -149,7 +149,7 @@ module _ (sign : SignData) (defaults : Defaults) (octets : List ℕ) (before beh
         let all : map meaning (before ++ behind) ≡ done ++ map meaning s.left = ap (λ l. map meaning (before ++ l)) s.split ∙ ap (map meaning) (sym (append_assoc before s.done s.left)) ∙ map-append meaning (before ++ s.done) s.left in
         let here : (standing sign defaults done).page ≡ pages - 1 = omega (arith, s.page, count, page_of sign defaults (map meaning before)) in
         s.drawn column row across down
-        ∙ ap (λ ms. is_covered sign defaults (standing sign defaults done).page layer.phase layer.colour (spots sign defaults ms) (spots sign defaults done) column row) all
+        ∙ ap (λ ms. has_colour sign defaults (standing sign defaults done).page layer.phase layer.colour (spots sign defaults ms) (spots sign defaults done) column row) all
         ∙ sym (covered_ends sign defaults done (map meaning s.left) layer.phase layer.colour column row ends)
         ∙ ap (λ n. in_plane sign defaults (done ++ map meaning s.left) n layer.phase layer.colour column row) here
         ∙ ap (λ ms. in_plane sign defaults ms (pages - 1) layer.phase layer.colour column row) (sym all)
@@ -195,7 +195,7 @@ module _ (sign : SignData) (defaults : Defaults) (octets : List ℕ) (before beh
           let drawn : IsDrawnTo sign defaults layer (map meaning (before ++ behind)) (map meaning (before ++ s.done) ++ meaning item ∷ []) plane =
           (λ x y across down. s.drawn x y across down
           ∙ sym (covered_same sign defaults layer.phase layer.colour all x y (map meaning (before ++ s.done)) (meaning item) (standing sign defaults (map meaning (before ++ s.done))).page (inl puts))
-          ∙ ap (λ p. is_covered sign defaults p layer.phase layer.colour all (spots sign defaults (map meaning (before ++ s.done) ++ meaning item ∷ [])) x y) (sym stays)) in
+          ∙ ap (λ p. has_colour sign defaults p layer.phase layer.colour all (spots sign defaults (map meaning (before ++ s.done) ++ meaning item ∷ [])) x y) (sym stays)) in
           record {
             so = record {
               done = s.done ++ item ∷ [];
@@ -241,9 +241,9 @@ pub record Round (sign : SignData) (defaults : Defaults) (octets : List ℕ) (be
 
 pub round : (sign : SignData) (defaults : Defaults) (octets : List ℕ) (before behind : List Item) (layer : Layer) (cursor : Cursor) (plane : BitPlane) (s : PageSoFar sign defaults octets before behind layer cursor plane)
     → (read : AreaLines) (source source' : Counted) → IsAreaRead sign defaults (before ++ s.so.done) s.so.left cursor read source source' → (new : Cursor) (plane' : BitPlane)
-    → ((earlier area rest : List Item) → IsBetween sign defaults octets earlier (area ++ rest) cursor → IsPlain area → read.end ≡ cursor.at + length (spell area) → HasCounted (whole_area sign defaults earlier (area ++ rest)) read.lines
+    → ((earlier area rest : List Item) → IsBetween sign defaults octets earlier (area ++ rest) cursor → BeginsNoArea area → read.end ≡ cursor.at + length (spell area) → HasCounted (whole_area sign defaults earlier (area ++ rest)) read.lines
     → IsBetween sign defaults octets (earlier ++ area) rest new)
-    → ((earlier area rest : List Item) → IsBetween sign defaults octets earlier (area ++ rest) cursor → IsPlain area → read.end ≡ cursor.at + length (spell area) → HasCounted (whole_area sign defaults earlier (area ++ rest)) read.lines
+    → ((earlier area rest : List Item) → IsBetween sign defaults octets earlier (area ++ rest) cursor → BeginsNoArea area → read.end ≡ cursor.at + length (spell area) → HasCounted (whole_area sign defaults earlier (area ++ rest)) read.lines
     → IsDrawnTo sign defaults layer (map meaning (earlier ++ (area ++ rest))) (map meaning earlier) plane → IsDrawnTo sign defaults layer (map meaning (earlier ++ (area ++ rest))) (map meaning (earlier ++ area)) plane')
     → Round sign defaults octets before behind layer cursor new plane' read.end source source'
 round sign defaults octets before behind layer cursor plane s read source source' a new plane' passed drawn =

@@ -16,7 +16,7 @@ use Rattle.multi_layout.specs.declared.place.Place.{Place}
 use Rattle.multi_layout.specs.declared.state.State.{State}
 use Rattle.multi_layout.specs.declared.table.LineTable.{LineTable}
 use Rattle.multi_layout.specs.Address.{standing, Glyph, Spot, spots, area_of, group_of, in_group, lines_of, is_glyph, is_break, in_area}
-use Rattle.multi_layout.specs.Drawn.{is_covered}
+use Rattle.multi_layout.specs.Drawn.{has_colour}
 use Rattle.multi_layout.specs.Line.{glyph_width}
 use Rattle.multi_layout.specs.Meaning.{Meaning, Shows}
 use Rattle.multi_layout.specs.Passes.{HasCounted, IsDrawnTo}
@@ -84,7 +84,7 @@ module _ (sign : SignData) (defaults : Defaults) (before : List Meaning) (state 
         let here = place_of (spots sign defaults before) all spot in
         let page = same_page_behind sign defaults before (Shows number) refl in
         let shown = shown_colour sign at.fore == layer.colour in
-        let was = is_covered sign defaults at.page layer.phase layer.colour all (spots sign defaults before) x y in
+        let was = has_colour sign defaults at.page layer.phase layer.colour all (spots sign defaults before) x y in
         let flash : is_lit_at layer.phase at.flash ≡ true = ap (λ (a : Attributes). is_lit_at layer.phase a.flash) (sym st.attributes) ∙ lit in
         let covered = covered_glyph sign defaults layer.phase layer.colour all x y before number cell numbered in
         let in_old : x < old.width = omega (arith, width, across) in
@@ -97,7 +97,7 @@ module _ (sign : SignData) (defaults : Defaults) (before : List Meaning) (state 
         ∙ ap (λ b. cond (covers (sized at.font cell) here.column here.row at.font.height x y) shown b) (drawn x y in_old in_old')
         ∙ ap (λ l. cond (lit_covers l (sized at.font cell) here.column here.row at.font.height x y) shown was) (sym flash)
         ∙ sym covered
-        ∙ ap (λ p. is_covered sign defaults p layer.phase layer.colour all (spots sign defaults (before ++ Shows number ∷ [])) x y) (sym page)
+        ∙ ap (λ p. has_colour sign defaults p layer.phase layer.colour all (spots sign defaults (before ++ Shows number ∷ [])) x y) (sym page)
 
   -- a character that isn't lit covers none
   pub dark_drawn : (rest : List Meaning) (layer : Layer) (old : BitPlane) → is_lit_at layer.phase state.attributes.flash ≡ false
@@ -110,10 +110,10 @@ module _ (sign : SignData) (defaults : Defaults) (before : List Meaning) (state 
       let here = place_of (spots sign defaults before) all spot in
       let page = same_page_behind sign defaults before (Shows number) refl in
       let shown = shown_colour sign at.fore == layer.colour in
-      let was = is_covered sign defaults at.page layer.phase layer.colour all (spots sign defaults before) x y in
+      let was = has_colour sign defaults at.page layer.phase layer.colour all (spots sign defaults before) x y in
       let flash : is_lit_at layer.phase at.flash ≡ false = ap (λ (a : Attributes). is_lit_at layer.phase a.flash) (sym st.attributes) ∙ dark in
       let covered = covered_glyph sign defaults layer.phase layer.colour all x y before number cell numbered in
       drawn x y across down
       ∙ ap (λ l. cond (lit_covers l (sized at.font cell) here.column here.row at.font.height x y) shown was) (sym flash)
       ∙ sym covered
-      ∙ ap (λ p. is_covered sign defaults p layer.phase layer.colour all (spots sign defaults (before ++ Shows number ∷ [])) x y) (sym page)
+      ∙ ap (λ p. has_colour sign defaults p layer.phase layer.colour all (spots sign defaults (before ++ Shows number ∷ [])) x y) (sym page)

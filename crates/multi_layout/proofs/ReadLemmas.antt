@@ -16,8 +16,8 @@ use Rattle.multi_layout.specs.declared.state.State.{State}
 use Rattle.multi_layout.specs.Address.{standing}
 use Rattle.multi_layout.specs.Meaning.{meaning}
 use Rattle.multi_layout.specs.Offence.{offence}
-use Rattle.multi_layout.specs.State.{IsReady, IsStateOf, ended_times}
-use Rattle.multi_layout.specs.Times.{Times, cycle, page_times, times_at}
+use Rattle.multi_layout.specs.State.{IsReady, IsStateOf}
+use Rattle.multi_layout.specs.Times.{Times, cycle, ended_times, page_times, times_at}
 use Rattle.multi_layout.specs.Verdict.{Accepted, IsCycle, IsVerdict, Refused, broken, of_first, offences, pages_of, verdict, verdict_on}
 use Rattle.multi_layout.proofs.JudgedLemmas.{ready}
 use Rattle.multi_layout.proofs.WalkLemmas.{length-meanings}

@@ -11,9 +11,8 @@ use Rattle.sign_font.specs.Sign.{SignData}
 use Rattle.multi_tag.specs.declared.tag.Tag.TheVariants.{NewPage}
 use Rattle.multi_layout.specs.Address.{standing}
 use Rattle.multi_layout.specs.Meaning.{Meaning, Does, is_new_page}
-use Rattle.multi_layout.specs.State.{ended_times}
 use Rattle.multi_layout.specs.declared.times.Shown.TheVariants.{Page, Off}
-use Rattle.multi_layout.specs.Times.{Times, begin, cycle, is_on, page_times, shown_at, shown_within, times_at}
+use Rattle.multi_layout.specs.Times.{Times, begin, cycle, ended_times, is_on, page_times, shown_at, shown_within, times_at}
 use Rattle.multi_layout.specs.Words.{some_after}
 use Rattle.multi_layout.proofs.WordLemmas.{some_after-append}
 

@@ -6,10 +6,10 @@ use Rattle.sign_font.specs.Sign.{SignData}
 use Rattle.multi_layout.specs.Address.{Spot}
 use Rattle.multi_layout.specs.Picture.{colour_of, shown_colour, things_among}
 
--- a pixel has a colour on a page on which some of all the spots of a string are put (own)
-unfoldable pub is_covered : SignData → Defaults → ℕ → ℕ → ℕ → List Spot → List Spot → ℕ → ℕ → Bool
+-- a pixel has this colour on a page when only some of all the spots of a string are put (own)
+unfoldable pub has_colour : SignData → Defaults → ℕ → ℕ → ℕ → List Spot → List Spot → ℕ → ℕ → Bool
 unfolding things_among
-is_covered sign defaults page phase colour all some column row = shown_colour sign (colour_of defaults (things_among phase all some) page column row) == colour
+has_colour sign defaults page phase colour all some column row = shown_colour sign (colour_of defaults (things_among phase all some) page column row) == colour
 
 -- the plane has lit the pixels of a test of column and row (own)
 abbrev pub Shows : BitPlane → (ℕ → ℕ → Bool) → Type 0

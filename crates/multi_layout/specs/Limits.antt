@@ -1,5 +1,6 @@
 -- Limits on steps, for a string of n octets (own).
 use Rattle.std.specs.Prelude.{ℕ, ◌+◌, ◌*◌, ◌/◌}
+use Rattle.page_plane.specs.Octets.{row_octets}
 use Rattle.sign_font.specs.Sign.{SignData, tallest}
 
 -- the check limit, C1: the most steps that judging a string takes (own)
@@ -8,14 +9,14 @@ check_limit n = 2 * n + 1
 
 -- the octets of the sign's plane (own)
 abbrev pub plane_octets : SignData → ℕ
-plane_octets sign = (sign.width + 7) / 8 * sign.height
+plane_octets sign = row_octets sign.width * sign.height
 
 -- the most steps that drawing takes over the string (own)
 abbrev pub reading_limit : ℕ → ℕ
 reading_limit n = 4 * n + 2
 
--- the most steps that drawing takes over the plane: a row for each row of each character, and a fill for each new page and
--- each background (own)
+-- the most steps that drawing takes over the plane: a row for each row of each character, and a fill for page 0, for each new
+-- page and for each background (own)
 abbrev pub plane_limit : SignData → ℕ → ℕ
 plane_limit sign n = tallest sign * n + plane_octets sign * (n / 4 + 1)
 

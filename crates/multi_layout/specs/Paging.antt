@@ -29,7 +29,7 @@ abbrev pub IsReadTwice : Counted → Counted → Cursor → Cursor → Type 0
 IsReadTwice source source' old new = RisesBetween source source' 0 (4 * (new.at - old.at) + (if new.state.pages == old.state.pages then 2 else 0))
 
 -- the steps over the plane: a row for each row of each character, and a fill where the page begins and for each background; each
--- fill but that of the last page has four octets of its own (own)
+-- background and each `np` behind the page has four octets, so that only the fill with which the last page begins has none (own)
 pub record IsFilledFew (sign : SignData) (plane plane' : BitPlane) (old new : Cursor) : Type 0 where
   pub fills : ℕ
   pub least : plane.steps ≤ plane'.steps

@@ -13,7 +13,7 @@ use Rattle.multi_layout.specs.declared.paint.Layer.{Layer}
 use Rattle.multi_layout.specs.declared.read.AreaLines.{AreaLines}
 use Rattle.multi_layout.specs.declared.table.LineTable.{LineTable}
 use Rattle.multi_layout.specs.Address.{Spot, spots, standing, in_group, lines_of, in_area}
-use Rattle.multi_layout.specs.Drawn.{Shows, is_covered}
+use Rattle.multi_layout.specs.Drawn.{Shows, has_colour}
 use Rattle.multi_layout.specs.Limits.{plane_octets}
 use Rattle.multi_layout.specs.Meaning.{Meaning, Does, EndsArea, begins_area, meaning}
 use Rattle.multi_layout.specs.Sums.{ended_lines}
@@ -41,15 +41,15 @@ abbrev pub HasRoom : List Spot → Type 0
 HasRoom area = (just : ℕ) → 2 ≤ just → just ≤ 4 → length (lines_of (in_group just area)) ≤ 128
 
 -- no area begins behind these items (own)
-abbrev pub IsPlain : List Item → Type 0
-IsPlain area = All (λ item. begins_area (meaning item) ≡ false) area
+abbrev pub BeginsNoArea : List Item → Type 0
+BeginsNoArea area = All (λ item. begins_area (meaning item) ≡ false) area
 
 -- a tag that sets no background (own)
 abbrev pub IsQuiet : Tag → Type 0
 IsQuiet (Back given) = ⊥
 IsQuiet tag = Unit {0}
 
--- the area that the items before a cursor's next one begin or go on with, of all those of the string (own)
+-- the placing items of the area in which the next item stands, those behind that item too (own)
 abbrev pub whole_area : SignData → Defaults → List Item → List Item → List Spot
 whole_area sign defaults before behind = in_area (standing sign defaults (map meaning before)).area (spots sign defaults (map meaning (before ++ behind)))
 
@@ -63,7 +63,7 @@ pub record IsAreaRead (sign : SignData) (defaults : Defaults) (before behind : L
   pub area : List Item
   pub rest : List Item
   pub split : behind ≡ area ++ rest
-  pub plain : IsPlain area
+  pub plain : BeginsNoArea area
   pub ends : EndsArea (map meaning rest)
   pub end : read.end ≡ cursor.at + length (spell area)
   pub table : HasCounted (whole_area sign defaults before behind) read.lines
@@ -73,7 +73,7 @@ pub record IsAreaRead (sign : SignData) (defaults : Defaults) (before behind : L
 -- the plane shows what these items put on their page, of all the items of the string (own)
 abbrev pub IsDrawnTo : SignData → Defaults → Layer → List Meaning → List Meaning → BitPlane → Type 0
 IsDrawnTo sign defaults layer items before plane =
-    Shows plane (is_covered sign defaults (standing sign defaults before).page layer.phase layer.colour (spots sign defaults items) (spots sign defaults before))
+    Shows plane (has_colour sign defaults (standing sign defaults before).page layer.phase layer.colour (spots sign defaults items) (spots sign defaults before))
 
 -- these octets of a page took at most these steps over the plane: a row for each row of each character, and a fill for each
 -- background, which has four octets (own)

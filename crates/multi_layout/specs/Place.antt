@@ -14,8 +14,8 @@ use Rattle.multi_layout.specs.Words.{some_after}
 abbrev pub start : ℕ → ℕ → ℕ → ℕ
 start just length size = if just == 3 then (length - size) / 2 else (if just == 4 then length - size else 0)
 
--- how far character j, counted from 0, of k moves right on a full line with some spare pixels; a lone character stays
--- (NTCIP 1203 v03, MULTI tag 'jl'; how the spare pixels are rounded is own)
+-- how far character j, counted from 0, of k moves right on a full line with some spare pixels; a lone character stays,
+-- since 0 / 0 is 0 (NTCIP 1203 v03, MULTI tag 'jl'; how the spare pixels are rounded is own)
 abbrev pub spread : ℕ → ℕ → ℕ → ℕ
 spread j k spare = j * spare / (k - 1)
 

@@ -1,4 +1,4 @@
--- What the verdict keeps of the items that it has read (own).
+-- What is kept of the items that were read (own).
 use Rattle.std.specs.Prelude.{◌≡◌, ◌+◌, ◌*◌, ◌^◌, ◌≤◌, List, [], ◌∷◌, ◌++◌, length, Some, None, Result, Ok, Err, if◌then◌else◌}
 use Rattle.std.specs.Option.{unwrap_or}
 use Rattle.multi_tag.specs.declared.tag.Tag.{Tag}
@@ -14,17 +14,12 @@ use Rattle.multi_layout.specs.Meaning.{Meaning, begins_area, is_new_page}
 use Rattle.multi_layout.specs.Address.{Spot, Standing, in_area, spots, standing}
 use Rattle.multi_layout.specs.Offence.{offence}
 use Rattle.multi_layout.specs.Sums.{IsBelow, area_sum}
-use Rattle.multi_layout.specs.Times.{Times, cycle, times_at}
+use Rattle.multi_layout.specs.Times.{cycle, ended_times}
 use Rattle.multi_layout.specs.Verdict.{pages_of}
-use Rattle.multi_layout.specs.Words.{some_after}
 
 -- the placing items of the present area, in which the next item stands (own)
 abbrev pub present_area : SignData → Defaults → List Meaning → List Spot
 present_area sign defaults items = in_area (standing sign defaults items).area (spots sign defaults items)
-
--- the times of the pages that have ended (own)
-abbrev pub ended_times : SignData → Defaults → List Meaning → List Times
-ended_times sign defaults items = some_after (λ before item. if is_new_page item then Some (times_at (standing sign defaults before)) else None) items
 
 -- the values in force behind one more item (own)
 abbrev pub standing_behind : SignData → Defaults → Standing → Meaning → Standing

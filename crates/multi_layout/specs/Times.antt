@@ -19,12 +19,14 @@ pub record Times : Type 0 where
 abbrev pub times_at : Standing → Times
 times_at at = record { on = at.on; off = at.off }
 
--- the times of each page: those in force at its end (NTCIP 1203 v03, MULTI tag 'pt'; which of several is own)
+-- the times of each page that an `np` ends: those in force before it (NTCIP 1203 v03, MULTI tag 'pt'; which of several is own)
+abbrev pub ended_times : SignData → Defaults → List Meaning → List Times
+ended_times sign defaults items = some_after (λ before item. if is_new_page item then Some (times_at (standing sign defaults before)) else None) items
+
+-- the times of each page, the last one's being those in force at the end (NTCIP 1203 v03, MULTI tag 'pt')
 unfoldable pub page_times : SignData → Defaults → List Meaning → List Times
 unfolding standing
-page_times sign defaults items =
-    some_after (λ before item. if is_new_page item then Some (times_at (standing sign defaults before)) else None) items
-    ++ times_at (standing sign defaults items) ∷ []
+page_times sign defaults items = ended_times sign defaults items ++ times_at (standing sign defaults items) ∷ []
 
 -- the cycle: the times of all pages together (own)
 abbrev pub cycle : List Times → ℕ

@@ -7,8 +7,9 @@ ghost use Rattle.multi_token.specs.Spelling as spelled;
 ghost use Rattle.sign_font.specs.Sound.{IsSound};
 ghost use Rattle.multi_layout.specs.Drawn.{Shows};
 ghost use Rattle.multi_layout.specs.Meaning.{begins_area, meaning};
+ghost use Rattle.multi_layout.specs.Pages.{IsSized};
 ghost use Rattle.multi_layout.specs.Paging.{IsFilledFew, IsPagePassed, IsPageStart, IsReadTwice};
-ghost use Rattle.multi_layout.specs.Passes.{HasCounted, IsDrawnTo, IsFilledBy, IsLow, IsPlain, IsQuiet, whole_area};
+ghost use Rattle.multi_layout.specs.Passes.{HasCounted, IsDrawnTo, IsFilledBy, IsLow, BeginsNoArea, IsQuiet, whole_area};
 ghost use Rattle.multi_layout.specs.Limits.{plane_octets};
 ghost use Rattle.multi_layout.specs.Picture.{in_plane, shown_colour};
 ghost use Rattle.multi_layout.specs.Walk.{IsBetween, IsRead};
@@ -32,7 +33,7 @@ pub(crate) fn draw_page(
     plane: &mut Plane,
 ) -> Cursor
     requires begins { IsPageStart sign.now sign.now.defaults source.old.octets cursor }
-    requires size { (plane.old.width ≡ sign.now.width) × (plane.old.height ≡ sign.now.height) }
+    requires size { IsSized plane.old sign.now }
     ensures drawn { (before behind : List spelled.Item) → IsBetween sign.now sign.now.defaults source.old.octets before behind cursor
         → Shows plane.new (λ column row. in_plane sign.now sign.now.defaults (map meaning (before ++ behind)) (cursor.state.pages - 1) layer.phase layer.colour column row) }
     ensures passed { (before behind : List spelled.Item) → IsBetween sign.now sign.now.defaults source.old.octets before behind cursor
@@ -57,7 +58,7 @@ pub(crate) fn draw_page(
     }
 }
 
-/// Draws the items of an area from its begin on, and gives the cursor behind them.
+/// Draws the items of an area from its start on, and gives the cursor behind them.
 fn draw_area(
     sign: &Sign,
     source: &mut Source<'_>,
@@ -68,14 +69,14 @@ fn draw_area(
 ) -> Cursor
     requires sound { IsSound sign.now }
     requires known { (before area rest : List spelled.Item) × IsBetween sign.now sign.now.defaults source.old.octets before (area ++ rest) cursor
-        × IsPlain area × (read.now.end ≡ cursor.at + length (spelled.spell area)) × HasCounted (whole_area sign.now sign.now.defaults before (area ++ rest)) read.now.lines }
+        × BeginsNoArea area × (read.now.end ≡ cursor.at + length (spelled.spell area)) × HasCounted (whole_area sign.now sign.now.defaults before (area ++ rest)) read.now.lines }
     requires low { IsLow read.now.lines }
-    requires size { (plane.old.width ≡ sign.now.width) × (plane.old.height ≡ sign.now.height) }
+    requires size { IsSized plane.old sign.now }
     ensures passed { (before area rest : List spelled.Item) → IsBetween sign.now sign.now.defaults source.old.octets before (area ++ rest) cursor
-        → IsPlain area → read.now.end ≡ cursor.at + length (spelled.spell area) → HasCounted (whole_area sign.now sign.now.defaults before (area ++ rest)) read.now.lines
+        → BeginsNoArea area → read.now.end ≡ cursor.at + length (spelled.spell area) → HasCounted (whole_area sign.now sign.now.defaults before (area ++ rest)) read.now.lines
         → IsBetween sign.now sign.now.defaults source.old.octets (before ++ area) rest result }
     ensures drawn { (before area rest : List spelled.Item) → IsBetween sign.now sign.now.defaults source.old.octets before (area ++ rest) cursor
-        → IsPlain area → read.now.end ≡ cursor.at + length (spelled.spell area) → HasCounted (whole_area sign.now sign.now.defaults before (area ++ rest)) read.now.lines
+        → BeginsNoArea area → read.now.end ≡ cursor.at + length (spelled.spell area) → HasCounted (whole_area sign.now sign.now.defaults before (area ++ rest)) read.now.lines
         → IsDrawnTo sign.now sign.now.defaults layer (map meaning (before ++ (area ++ rest))) (map meaning before) plane.old
         → IsDrawnTo sign.now sign.now.defaults layer (map meaning (before ++ (area ++ rest))) (map meaning (before ++ area)) plane.new }
     ensures steps { RisesBetween source.old source.new 0 (2 * (read.now.end - cursor.at)) }
@@ -84,6 +85,7 @@ fn draw_area(
     let mut cursor = cursor;
     while cursor.at < read.end {
         let Some(next) = cursor.next_item(source) else {
+            // The area goes on.
             unreachable!();
         };
         cursor = draw_item(sign, source, cursor, next, &read.lines, layer, plane);
@@ -105,7 +107,7 @@ fn draw_item(
     requires known { (before rest : List spelled.Item) × (item : spelled.Item) × IsBetween sign.now sign.now.defaults source.old.octets before (item ∷ rest) cursor
         × IsRead item next × HasCounted (whole_area sign.now sign.now.defaults before (item ∷ rest)) lines.now }
     requires low { IsLow lines.now }
-    requires size { (plane.old.width ≡ sign.now.width) × (plane.old.height ≡ sign.now.height) }
+    requires size { IsSized plane.old sign.now }
     ensures passed { (before rest : List spelled.Item) (item : spelled.Item) → IsBetween sign.now sign.now.defaults source.old.octets before (item ∷ rest) cursor
         → IsRead item next → IsBetween sign.now sign.now.defaults source.old.octets (before ++ item ∷ []) rest result }
     ensures drawn { (before rest : List spelled.Item) (item : spelled.Item) → IsBetween sign.now sign.now.defaults source.old.octets before (item ∷ rest) cursor
@@ -135,7 +137,7 @@ fn draw_item(
 
 /// Fills the plane where a tag sets the page's background.
 fn draw_tag(sign: &Sign, tag: Tag, layer: Layer, plane: &mut Plane)
-    requires size { (plane.old.width ≡ sign.now.width) × (plane.old.height ≡ sign.now.height) }
+    requires size { IsSized plane.old sign.now }
     ensures back { (given : Option ℕ) → tag ≡ Tag.Back given → Shows plane.new (λ column row. shown_colour sign.now (unwrap_or given sign.now.defaults.back) == layer.colour) }
     ensures quiet { IsQuiet tag → plane.new ≡ plane.old }
     ensures counted { plane.old.steps ≤ plane.new.steps }

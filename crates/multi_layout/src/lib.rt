@@ -1,7 +1,9 @@
-//! The verdict of a sign on a MULTI string: its pages, or its first error and where it stands.
+//! The verdict of a sign on a MULTI string, and the pages of a string that it accepts.
 //!
-//! A string is read once from the left. Each item is judged after those before it by running sums of the
-//! present area, and the first that offends gives the error and its offset.
+//! [`check`] reads a string once from the left. Each item is judged after those before it by running sums of the present
+//! area, and the first that offends gives the error and its offset. A string without one is a [`Checked`], which tells
+//! the page at a clock and draws pages into a plane that the caller lends; each area is then read twice, for its lines
+//! and for its cells.
 #![tactic(auto)]
 
 mod area;

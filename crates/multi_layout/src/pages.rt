@@ -39,8 +39,11 @@ pub struct Pages<'a> {
     layer: Layer,
     /// Where the next page begins, or the end of the string.
     cursor: Cursor,
+    /// The number of the next page, or of all pages.
     next: u8,
+    /// The count of the string at the start.
     string_started: u64,
+    /// The count of the plane at the start.
     plane_started: u64,
 }
 

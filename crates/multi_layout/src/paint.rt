@@ -1,4 +1,4 @@
-//! What is put on a plane: the plane of a colour at a phase of its page.
+//! What a plane shows of a page: the pixels of one colour at one phase.
 
 ghost use Rattle.std.specs.Prelude.{◌≡◌, ℕ, ◌+◌, ◌^◌, ◌≤◌, ◌==◌, [], ◌∷◌, ◌++◌, List, Some};
 ghost use Rattle.sign_font.specs.declared.parts.Defaults.{Defaults};

@@ -72,7 +72,7 @@ fn next_plain(cursor: &Cursor, source: &mut Source<'_>) -> Option<Next>
     Some(next)
 }
 
-/// Puts the line into the table that an item ended, if it is an `nl`.
+/// Puts the line that an item ended into the table; only an `nl` ends one.
 fn end_line(lines: &mut LineTable, item: Item, before: &State, after: &State)
     requires known { (2 ≤ before.now.attributes.page_just) × (before.now.attributes.page_just ≤ 4) }
     requires room { ends_line (meant_by item) ≡ true → length (group_lines before.now.attributes.page_just lines.old) < 128 }

@@ -1,4 +1,4 @@
-//! What the verdict keeps of the items that it has read.
+//! What is kept of the items that were read.
 
 ghost use Rattle.std.specs.Prelude.{◌≡◌, []};
 ghost use Rattle.sign_font.specs.Sound.{IsSound};
@@ -7,7 +7,7 @@ use crate::area::Area;
 use crate::attributes::{Attributes, whole_sign};
 use sign_font::{FontInfo, Sign};
 
-/// The running state of a verdict.
+/// The running state behind some items of a string.
 #[derive(Clone, Copy, Debug, PartialEq, Eq)]
 pub(crate) struct State {
     /// The pages so far, the present one with them: 1 to the sign's limit.

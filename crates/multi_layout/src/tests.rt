@@ -268,12 +268,17 @@ fn a_page_is_found_in_few_steps(rt: HostRuntime) -> Result<(), Fail> {
     Ok(())
 }
 
-/// Whether a plane of the sample sign's size shows one `A` in its middle, and nothing else.
-fn shows_an_a(plane: &Plane) -> bool {
+/// The left octets of the rows of one `A` in the middle of the sample sign.
+const LETTER_A: [u8; 7] = [0, 0, 0b0000_0100, 0b0000_1110, 0b0000_1010, 0, 0];
+
+/// The left octets of the rows of one `I` in the middle of the sample sign.
+const LETTER_I: [u8; 7] = [0, 0, 0b0000_0100, 0b0000_0100, 0b0000_0100, 0, 0];
+
+/// Whether a plane of the sample sign's size shows these left octets, and nothing to the right of them.
+fn shows(plane: &Plane, rows: [u8; 7]) -> bool {
     if plane.width() != 12 || plane.height() != 7 {
         return false;
     }
-    let rows = [0, 0, 0b0000_0100, 0b0000_1110, 0b0000_1010, 0, 0];
     for y in 0..7 {
         if plane.row(y) != [rows[usize::from(y)], 0].as_slice() {
             return false;
@@ -297,12 +302,12 @@ fn the_pages_of_a_string_are_drawn_in_turn(rt: HostRuntime) -> Result<(), Fail> 
         panic!(rt; "page 0 is missing");
     };
     assert_eq!(rt; view.page, 0);
-    assert!(rt; shows_an_a(view.plane), "page 0");
+    assert!(rt; shows(view.plane, LETTER_A), "page 0");
     let Some(view) = pages.next_page() else {
         panic!(rt; "page 1 is missing");
     };
     assert_eq!(rt; view.page, 1);
-    assert!(rt; shows_an_a(view.plane), "page 1");
+    assert!(rt; shows(view.plane, LETTER_A), "page 1");
     assert!(rt; pages.next_page().is_none(), "there are two pages");
 
     let drawn = pages.steps();
@@ -311,5 +316,27 @@ fn the_pages_of_a_string_are_drawn_in_turn(rt: HostRuntime) -> Result<(), Fail> 
     let (read, put) = (checked.steps(), plane.steps());
     assert!(rt; read <= 39, "{read} steps over the string");
     assert!(rt; put <= 58, "{put} steps over the plane");
+    Ok(())
+}
+
+#[test]
+fn the_plane_stays_as_the_last_page_left_it(rt: HostRuntime) -> Result<(), Fail> {
+    let sign = sign(rt.alloc(), 2)?;
+    let plane = Plane::new(rt.alloc(), sign.width(), sign.height())?;
+    let Ok(checked) = check(&sign, Source::new(b"A[np]I")) else {
+        panic!(rt; "the string is accepted");
+    };
+    let mut pages = checked.each_page(0, 1, plane);
+    for page in 0..2 {
+        let Some(view) = pages.next_page() else {
+            panic!(rt; "page {page} is missing");
+        };
+        assert_eq!(rt; view.page, page);
+        let rows = if page == 0 { LETTER_A } else { LETTER_I };
+        assert!(rt; shows(view.plane, rows), "page {page}");
+    }
+    assert!(rt; pages.next_page().is_none(), "there are two pages");
+    let (_, plane) = pages.finish();
+    assert!(rt; shows(&plane, LETTER_I), "what is given back");
     Ok(())
 }

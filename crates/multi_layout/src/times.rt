@@ -67,7 +67,7 @@ fn find_page(sign: &Sign, source: &mut Source<'_>, time: u64) -> Shown
     }
 }
 
-/// What the present page shows at a time from its begin on, or `None` from its end on.
+/// What the present page shows at a time from its start on, or `None` from its end on.
 fn shown_in(state: &State, time: u64) -> Option<Shown>
     requires some { 1 ≤ state.now.pages }
     requires began { state.now.cycle ≤ time }

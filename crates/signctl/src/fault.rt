@@ -27,7 +27,7 @@ pub enum ToolFault {
     /// The sign of the sign file is outside a limit, whose number is 1 to 5, as by `SignFault::code`.
     #[error("sign fault {number}")]
     SignRefused { number: u8 },
-    /// There was no memory for the sign, a line or its answer.
+    /// There was no memory for the sign or its file, the plane, a line or its answer.
     #[error("out of memory")]
     Memory,
 }

@@ -11,10 +11,10 @@
 //! | `too long` | the string has more than 4,096 octets, and isn't judged |
 //!
 //! `signctl show` reads the same, and shows a page in place of `ok P`: that of the clock of `--clock`, in tenths of a
-//! second since the string began to be shown (0 to 4,294,967,295, else 0), in the colour of `--colour` (0 to 9, else 1).
-//! `page P phase F` says which page it is, counted from 0, and how long it was shown; in the off time of a page it is
-//! `off`. Then comes a line for each pixel row from the top, with `#` for a pixel of that colour and `.` for another; in
-//! an off time every pixel has colour 0.
+//! second since the string began to be shown (0 to 4,294,967,295; 0 where none is given), in the colour of `--colour`
+//! (0 to 9; 1 where none is given). `page P phase F` says which page it is, counted from 0, and how long it was shown; in
+//! the off time of a page it is `off`. Then comes a line for each pixel row from the top, with `#` for a pixel of that
+//! colour and `.` for another; in an off time every pixel has colour 0.
 //!
 //! A line ends with a line feed, and one carriage return before that is dropped. It has at most 8,300 octets
 //! besides, and an input has at most 16,777,216; the sign file's lines count too. The first fault ends the run, after

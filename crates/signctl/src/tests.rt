@@ -1,4 +1,5 @@
 mod full_matrix;
+mod lending;
 mod pages;
 mod portable;
 mod show;
@@ -377,6 +378,9 @@ fn a_failed_write_ends_the_run(rt: HostRuntime) {
                 writer.taken.as_slice() == &want[..room],
                 "what is written after {room}"
             );
+            // The second line isn't read before the first is answered.
+            let left = if room < 5 { 2 } else { 0 };
+            assert!(rt; reader.len() == left, "what isn't read after {room}");
         }
     }
 }
@@ -423,10 +427,7 @@ fn a_run_ends_with_its_status_and_text(rt: HostRuntime) {
         (&["", "check", "--sample"], b"\n", 0, b"ok 1\n", b""),
     ];
     for (words, input, want, wrote, said) in rows {
-        let mut output = Vec::new(alloc);
-        let mut errors = Vec::new(alloc);
-        let mut reader = input;
-        let status = main_with(alloc, words, &mut reader, &mut output, &mut errors);
+        let (status, output, errors) = main_output(alloc, words, input);
         assert_eq!(rt; status, want, "at {words:?}");
         assert!(rt; output.as_slice() == wrote, "what is written at {words:?}");
         assert!(rt; errors.as_slice() == said, "what is said at {words:?}");
@@ -436,7 +437,7 @@ fn a_run_ends_with_its_status_and_text(rt: HostRuntime) {
 #[test]
 fn a_command_line_is_helped_or_refused(rt: HostRuntime) {
     let alloc = rt.alloc();
-    let rows: [(&[&str], u8); 20] = [
+    let rows: [(&[&str], u8); 24] = [
         (&["signctl", "--help"], 0),
         (&["signctl", "check", "--help"], 0),
         (&["signctl", "show", "--help"], 0),
@@ -446,10 +447,14 @@ fn a_command_line_is_helped_or_refused(rt: HostRuntime) {
         (&["signctl", "show", "--sample", "--colour", "10"], 2),
         (&["signctl", "show", "--colour", "10"], 2),
         (&["signctl", "show", "--colour=-1"], 2),
+        (&["signctl", "show", "--colour", "-1"], 2),
+        (&["signctl", "show", "--colour", "1", "--colour", "2"], 2),
         (&["signctl", "show", "--colour", "red"], 2),
         (&["signctl", "show", "--colour"], 2),
         (&["signctl", "show", "--clock", "4294967296"], 2),
         (&["signctl", "show", "--clock=-1"], 2),
+        (&["signctl", "show", "--clock", "-1"], 2),
+        (&["signctl", "show", "--clock", "1", "--clock", "1"], 2),
         (&["signctl", "check", "--colour", "1"], 2),
         (&["signctl", "run", "--sample"], 2),
         (&["signctl", "check", "--other"], 2),

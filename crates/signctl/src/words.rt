@@ -45,7 +45,7 @@ fn show_command<'a>(alloc: Global) -> Result<Command<'a>, AllocError> {
         .default_value("0");
     Command::new(alloc, "show")
         .about(
-            "Reads a sign file, a line %% and messages, and shows of each message that the sign accepts a page",
+            "Reads a sign file, a line %% and messages, and shows a page of each message that the sign accepts",
         )
         .arg(sample_flag(alloc))?
         .arg(colour)?

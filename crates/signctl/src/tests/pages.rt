@@ -1,10 +1,6 @@
-//! The pages that the documents show, and a caller of the calls that lend a plane.
-
-ghost use Rattle.std.specs.Prelude.{◌≡◌, ◌+◌, ◌<◌};
-ghost use Rattle.multi_layout.specs.Pages.{page_count};
+//! The pages that the documents show.
 
 use crate::tool::{Mode, run_tool};
-use multi_layout::Pages;
 
 /// What `show` answers on the sample sign: the line, the clock, and the text.
 const PAGES: [(&str, u32, &str); 18] = [
@@ -225,20 +221,6 @@ const PAGES: [(&str, u32, &str); 18] = [
          ............\n",
     ),
 ];
-
-/// The number of the next page, which is passed over. It stays a page of the same string, in a plane of the same size.
-fn pass_over(pages: &mut Pages<'_>) -> u8
-    requires { pages.old.next < page_count pages.old.string }
-    ensures number { result ≡ pages.old.next }
-    ensures next { pages.new.next ≡ pages.old.next + 1 }
-    ensures octets { pages.new.string.source.octets ≡ pages.old.string.source.octets }
-    ensures width { pages.new.plane.width ≡ pages.old.plane.width }
-{
-    match pages.next_page() {
-        Some(view) => view.page,
-        None => 0,
-    }
-}
 
 #[test]
 fn the_documents_show_what_is_drawn(rt: HostRuntime) {

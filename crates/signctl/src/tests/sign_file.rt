@@ -1,12 +1,13 @@
 //! Sign files, and the lines behind them.
 
-use super::{FailingReader, LineMaker, check_behind};
+use super::{FailingReader, LineMaker, check_behind, main_output};
 use crate::fault::ToolFault;
 use crate::keys::FileFault;
-use crate::main_with::main_with;
 use crate::sign_file::{StoreLimits, read_sign_file};
 use crate::tool::{Mode, run_tool};
 use std::alloc::{AllocError, Global};
+use std::io;
+use std::io::Read;
 use std::process::Abort;
 use std::test::Fail;
 
@@ -410,6 +411,75 @@ fn an_input_without_a_mark_has_a_greatest_length(rt: HostRuntime) {
     }
 }
 
+/// A reader that gives a text, and then what a maker of lines makes.
+#[derive(Drop)]
+struct TextAndLines<'a> {
+    text: &'a [u8],
+    lines: LineMaker,
+}
+
+impl Read for TextAndLines<'_> {
+    fn read(&mut self, buf: &mut [u8]) -> io::Result<usize> {
+        let Some((first, rest)) = self.text.split_first() else {
+            return self.lines.read(buf);
+        };
+        if buf.is_empty() {
+            return Ok(0);
+        }
+        buf[0] = *first;
+        self.text = rest;
+        Ok(1)
+    }
+}
+
+#[test]
+fn an_input_behind_a_mark_has_a_greatest_length(rt: HostRuntime) -> Result<(), Fail> {
+    let alloc = rt.alloc();
+    let mut start = SMALL.as_bytes().to_vec(alloc)?;
+    start.extend_from_slice(b"%%\n")?;
+    // With the nine lines and the mark, 2,047 whole lines are in 16,777,216 octets.
+    for (octets, end) in [
+        (16_777_216, Err(ToolFault::BadLine { line: 2_058 })),
+        (16_777_217, Err(ToolFault::InputTooLong)),
+    ] {
+        let made = octets - start.len() as u64;
+        let mut reader = TextAndLines {
+            text: &start,
+            lines: LineMaker::new(8_191, made),
+        };
+        let mut output = Vec::new(alloc);
+        let result = run_tool(alloc, Mode::Check, false, &mut reader, &mut output);
+        assert!(rt; result == end, "the end at {octets} octets");
+        assert!(rt; output.len() / 9 == 2_047, "the answers at {octets} octets");
+        let reads = reader.lines.reads + start.len() as u64;
+        assert!(rt; reads == 16_777_217, "the reads at {octets} octets");
+    }
+    Ok(())
+}
+
+#[test]
+fn a_fault_comes_before_a_failed_read(rt: HostRuntime) -> Result<(), Fail> {
+    let alloc = rt.alloc();
+    let mut refused_sign = SMALL.replacen(alloc, "width = 12", "width = 0", 1)?;
+    refused_sign.push_str("%%\n")?;
+    let long_line = with_long_line(alloc, "", false, 8_301, b"\n")?;
+    let too_long = Err(ToolFault::LineTooLong { line: 1 });
+    let rows: [(bool, &[u8], Result<(), ToolFault>); 4] = [
+        (false, b"width = 0\n%%\n", BAD),
+        (false, refused_sign.as_bytes(), refused(1)),
+        (false, &long_line, too_long),
+        (true, &long_line, too_long),
+    ];
+    for (sample, input, end) in rows {
+        let mut output = Vec::new(alloc);
+        let mut reader = FailingReader(input);
+        let result = run_tool(alloc, Mode::Check, sample, &mut reader, &mut output);
+        assert!(rt; result == end, "the end where {end:?} comes first");
+        assert!(rt; output.is_empty(), "what is written before {end:?}");
+    }
+    Ok(())
+}
+
 #[test]
 fn a_failed_read_of_a_sign_file_writes_nothing(rt: HostRuntime) -> Result<(), Fail> {
     let alloc = rt.alloc();
@@ -437,7 +507,7 @@ fn a_failed_read_of_a_sign_file_writes_nothing(rt: HostRuntime) -> Result<(), Fa
 }
 
 #[test]
-fn a_sign_file_that_is_refused_is_said(rt: HostRuntime) -> Result<(), Fail> {
+fn a_fault_of_a_sign_file_has_its_status_and_text(rt: HostRuntime) -> Result<(), Fail> {
     let alloc = rt.alloc();
     let rows: [(&str, &str, &[u8]); 3] = [
         ("width = 12", "width = 0", b"signctl: sign fault 1\n"),
@@ -448,16 +518,7 @@ fn a_sign_file_that_is_refused_is_said(rt: HostRuntime) -> Result<(), Fail> {
         let file = SMALL.replacen(alloc, old, new, 1)?;
         let mut input = file.as_str().as_bytes().to_vec(alloc)?;
         input.extend_from_slice(b"%%\n")?;
-        let mut output = Vec::new(alloc);
-        let mut errors = Vec::new(alloc);
-        let mut reader = input.as_slice();
-        let status = main_with(
-            alloc,
-            &["signctl", "check"],
-            &mut reader,
-            &mut output,
-            &mut errors,
-        );
+        let (status, output, errors) = main_output(alloc, &["signctl", "check"], &input);
         assert_eq!(rt; status, if said.is_empty() { 0 } else { 1 }, "with {new}");
         assert!(rt; errors.as_slice() == said, "what is said with {new}");
         assert!(rt; output.is_empty(), "what is written with {new}");

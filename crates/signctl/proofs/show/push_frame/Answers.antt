@@ -1,4 +1,4 @@
-use Rattle.std.proofs.Common.{◌≡◌, OnOk, ap, ◌∙◌, subst}
+use Rattle.std.proofs.Common.{◌≡◌, OnOk, subst}
 use Rattle.signctl.proofs.FrameLemmas
 use Rattle.signctl.proofs.show.push_frame.Goals as goal
 
