@@ -442,7 +442,7 @@ fn an_input_behind_a_mark_has_a_greatest_length(rt: HostRuntime) -> Result<(), F
         (16_777_216, Err(ToolFault::BadLine { line: 2_058 })),
         (16_777_217, Err(ToolFault::InputTooLong)),
     ] {
-        let made = octets - start.len() as u64;
+        let made = u64::saturating_sub(octets, start.len() as u64);
         let mut reader = TextAndLines {
             text: &start,
             lines: LineMaker::new(8_191, made),
@@ -451,7 +451,7 @@ fn an_input_behind_a_mark_has_a_greatest_length(rt: HostRuntime) -> Result<(), F
         let result = run_tool(alloc, Mode::Check, false, &mut reader, &mut output);
         assert!(rt; result == end, "the end at {octets} octets");
         assert!(rt; output.len() / 9 == 2_047, "the answers at {octets} octets");
-        let reads = reader.lines.reads + start.len() as u64;
+        let reads = reader.lines.reads.saturating_add(start.len() as u64);
         assert!(rt; reads == 16_777_217, "the reads at {octets} octets");
     }
     Ok(())
