@@ -4,7 +4,6 @@ use Rattle.multi_token.specs.Reading.{reading}
 use Rattle.multi_token.specs.Spelling.{Item, spell}
 use Rattle.multi_token.proofs.SpellingLemmas.{one_reading}
 use Rattle.multi_token.proofs.ReadingLemmas.{each_string_has_a_reading}
-use Rattle.sign_font.specs.declared.parts.Defaults.{Defaults}
 use Rattle.sign_font.specs.Sign.{SignData}
 use Rattle.multi_layout.specs.Meaning.{meaning, meanings}
 use Rattle.multi_layout.specs.Times.{cycle, page_times}
@@ -25,27 +24,27 @@ not_broken items [] is = refl
 not_broken items (octet ∷ rest) is = absurd cc
 
 -- the items of an accepted string are those of its reading, and it has so many pages
-pub accepted_is : (sign : SignData) (defaults : Defaults) (octets : List ℕ) (pages : ℕ) → IsVerdict sign defaults octets (Accepted pages) → length octets < 2 ^ 32
-    → IsAccepted sign defaults octets (reading octets).items × (pages ≡ pages_of (meanings octets))
+pub accepted_is : (sign : SignData) (octets : List ℕ) (pages : ℕ) → IsVerdict sign octets (Accepted pages) → length octets < 2 ^ 32
+    → IsAccepted sign octets (reading octets).items × (pages ≡ pages_of (meanings octets))
 unfolding verdict_on
-accepted_is sign defaults octets pages (items, rest, read, is) short =
+accepted_is sign octets pages (items, rest, read, is) short =
     let all = each_string_has_a_reading octets in
     let same = one_reading octets items (reading octets).items rest (reading octets).rest read all in
-    let none = no_fault pages (pages_of (map meaning items)) (offences sign defaults items ++ broken items rest) is in
-    let parts = both_nil (offences sign defaults items) (broken items rest) none.1 in
+    let none = no_fault pages (pages_of (map meaning items)) (offences sign items ++ broken items rest) is in
+    let parts = both_nil (offences sign items) (broken items rest) none.1 in
     let whole : (reading octets).rest ≡ [] = sym same.1 ∙ not_broken items rest parts.1 in (
       record {
         each = all.each;
         spelled = all.spelled ∙ ap (λ l. spell (reading octets).items ++ l) whole ∙ append-nil (spell (reading octets).items);
-        none = ap (offences sign defaults) (sym same.0) ∙ parts.0;
+        none = ap (offences sign) (sym same.0) ∙ parts.0;
         short = short;
       },
       none.0 ∙ ap (λ l. pages_of (map meaning l)) same.0,
     )
 
 -- the cycle of a string is that of its reading
-pub cycle_is : (sign : SignData) (defaults : Defaults) (octets : List ℕ) (tenths : ℕ) → IsCycle sign defaults octets tenths
-    → tenths ≡ cycle (page_times sign defaults (meanings octets))
-cycle_is sign defaults octets tenths (items, rest, read, is) =
+pub cycle_is : (sign : SignData) (octets : List ℕ) (tenths : ℕ) → IsCycle sign octets tenths
+    → tenths ≡ cycle (page_times sign (meanings octets))
+cycle_is sign octets tenths (items, rest, read, is) =
     let same = one_reading octets items (reading octets).items rest (reading octets).rest read (each_string_has_a_reading octets) in
-    is ∙ ap (λ l. cycle (page_times sign defaults (map meaning l))) same.0
+    is ∙ ap (λ l. cycle (page_times sign (map meaning l))) same.0

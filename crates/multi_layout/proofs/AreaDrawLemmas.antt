@@ -6,7 +6,6 @@ use Rattle.std.proofs.lemmas.List.Elements.{All-head, All-tail}
 use Rattle.multi_token.specs.Spelling.{Item, spelling, spell}
 use Rattle.multi_token.proofs.ReadingLemmas.{spelling_some}
 use Rattle.page_plane.specs.Plane.{BitPlane}
-use Rattle.sign_font.specs.declared.parts.Defaults.{Defaults}
 use Rattle.sign_font.specs.Sign.{SignData, tallest}
 use Rattle.multi_layout.specs.declared.cursor.Cursor.{Cursor}
 use Rattle.multi_layout.specs.declared.cursor.Next.{Next}
@@ -21,31 +20,31 @@ use Rattle.multi_layout.proofs.StateLemmas.{same_area}
 use Rattle.multi_layout.proofs.WalkLemmas.{spell-append}
 
 -- these of the area's items are drawn, and those are left
-pub record AreaSoFar (sign : SignData) (defaults : Defaults) (octets : List ℕ) (before area rest : List Item) (lines : LineTable) (layer : Layer) (cursor : Cursor) (old new : BitPlane) : Type 0 where
+pub record AreaSoFar (sign : SignData) (octets : List ℕ) (before area rest : List Item) (lines : LineTable) (layer : Layer) (cursor : Cursor) (old new : BitPlane) : Type 0 where
   pub done : List Item
   pub left : List Item
   pub split : area ≡ done ++ left
   pub plain : BeginsNoArea left
-  pub between : IsBetween sign defaults octets (before ++ done) (left ++ rest) cursor
-  pub counted : HasCounted (whole_area sign defaults (before ++ done) (left ++ rest)) lines
-  pub drawn : IsDrawnTo sign defaults layer (map meaning (before ++ (area ++ rest))) (map meaning before) old → IsDrawnTo sign defaults layer (map meaning (before ++ (area ++ rest))) (map meaning (before ++ done)) new
+  pub between : IsBetween sign octets (before ++ done) (left ++ rest) cursor
+  pub counted : HasCounted (whole_area sign (before ++ done) (left ++ rest)) lines
+  pub drawn : IsDrawnTo sign layer (map meaning (before ++ (area ++ rest))) (map meaning before) old → IsDrawnTo sign layer (map meaning (before ++ (area ++ rest))) (map meaning (before ++ done)) new
 
-module _ (sign : SignData) (defaults : Defaults) (octets : List ℕ) (before area rest : List Item) (lines : LineTable) (layer : Layer) (old : BitPlane) where
+module _ (sign : SignData) (octets : List ℕ) (before area rest : List Item) (lines : LineTable) (layer : Layer) (old : BitPlane) where
   -- none is drawn
-  pub area_begins : (cursor : Cursor) → IsBetween sign defaults octets before (area ++ rest) cursor → BeginsNoArea area → HasCounted (whole_area sign defaults before (area ++ rest)) lines
-      → AreaSoFar sign defaults octets before area rest lines layer cursor old old
+  pub area_begins : (cursor : Cursor) → IsBetween sign octets before (area ++ rest) cursor → BeginsNoArea area → HasCounted (whole_area sign before (area ++ rest)) lines
+      → AreaSoFar sign octets before area rest lines layer cursor old old
   area_begins cursor b plain counted =
       let none : before ++ [] ≡ before = append-nil before in record {
         done = [];
         left = area;
         split = refl;
         plain = plain;
-        between = subst (λ l. IsBetween sign defaults octets l (area ++ rest) cursor) (sym none) b;
-        counted = subst (λ l. HasCounted (whole_area sign defaults l (area ++ rest)) lines) (sym none) counted;
-        drawn = λ d. subst (λ l. IsDrawnTo sign defaults layer (map meaning (before ++ (area ++ rest))) (map meaning l) old) (sym none) d;
+        between = subst (λ l. IsBetween sign octets l (area ++ rest) cursor) (sym none) b;
+        counted = subst (λ l. HasCounted (whole_area sign l (area ++ rest)) lines) (sym none) counted;
+        drawn = λ d. subst (λ l. IsDrawnTo sign layer (map meaning (before ++ (area ++ rest))) (map meaning l) old) (sym none) d;
       }
 
-  module _ (cursor : Cursor) (new : BitPlane) (s : AreaSoFar sign defaults octets before area rest lines layer cursor old new) (end : ℕ) (ends : end ≡ length (spell before) + length (spell area)) where
+  module _ (cursor : Cursor) (new : BitPlane) (s : AreaSoFar sign octets before area rest lines layer cursor old new) (end : ℕ) (ends : end ≡ length (spell before) + length (spell area)) where
     ahead : length (spell area) ≡ length (spell s.done) + length (spell s.left)
     ahead = ap (λ l. length (spell l)) s.split ∙ ap length (spell-append s.done s.left) ∙ length-append (spell s.done) (spell s.left)
 
@@ -68,12 +67,12 @@ module _ (sign : SignData) (defaults : Defaults) (octets : List ℕ) (before are
         of [] h = refl
         of (item ∷ more) h = absurd (omega (arith, h, spelling_some item, length-append (spelling item) (spell more)))
 
-    pub area_ended : end ≤ cursor.at → (s.done ≡ area) × IsBetween sign defaults octets (before ++ area) rest cursor
+    pub area_ended : end ≤ cursor.at → (s.done ≡ area) × IsBetween sign octets (before ++ area) rest cursor
     area_ended reached =
         let none = none_left reached in
         let all : area ≡ s.done = s.split ∙ ap (λ l. s.done ++ l) none ∙ append-nil s.done in (
           sym all,
-          subst (λ l. IsBetween sign defaults octets (before ++ l) rest cursor) (sym all) (subst (λ l. IsBetween sign defaults octets (before ++ s.done) (l ++ rest) cursor) none s.between),
+          subst (λ l. IsBetween sign octets (before ++ l) rest cursor) (sym all) (subst (λ l. IsBetween sign octets (before ++ s.done) (l ++ rest) cursor) none s.between),
         )
 
     pub none_first : cursor.at < end → s.left ++ rest ≡ [] → ⊥
@@ -87,12 +86,12 @@ module _ (sign : SignData) (defaults : Defaults) (octets : List ℕ) (before are
     at_end reached = omega (arith, reached, (area_ended reached).1.place, ends, ap length (spell-append before area), length-append (spell before) (spell area))
 
     -- the next item is the first that is left
-    pub area_next : cursor.at < end → (next : Next) → ((earlier behind : List Item) → IsBetween sign defaults octets earlier behind cursor → IsFirst behind (Some next))
-        → (item : Item) × (more : List Item) × (s.left ≡ item ∷ more) × IsBetween sign defaults octets (before ++ s.done) (item ∷ (more ++ rest)) cursor × IsRead item next
-        × HasCounted (whole_area sign defaults (before ++ s.done) (item ∷ (more ++ rest))) lines × (begins_area (meaning item) ≡ false)
+    pub area_next : cursor.at < end → (next : Next) → ((earlier behind : List Item) → IsBetween sign octets earlier behind cursor → IsFirst behind (Some next))
+        → (item : Item) × (more : List Item) × (s.left ≡ item ∷ more) × IsBetween sign octets (before ++ s.done) (item ∷ (more ++ rest)) cursor × IsRead item next
+        × HasCounted (whole_area sign (before ++ s.done) (item ∷ (more ++ rest))) lines × (begins_area (meaning item) ≡ false)
     area_next before_end next first =
         let (item, more, is) = one_left before_end in
-        let b : IsBetween sign defaults octets (before ++ s.done) (item ∷ (more ++ rest)) cursor = subst (λ l. IsBetween sign defaults octets (before ++ s.done) (l ++ rest) cursor) is s.between in
+        let b : IsBetween sign octets (before ++ s.done) (item ∷ (more ++ rest)) cursor = subst (λ l. IsBetween sign octets (before ++ s.done) (l ++ rest) cursor) is s.between in
         let (found, others, same, read) = first (before ++ s.done) (item ∷ (more ++ rest)) b in
         let one : found ≡ item = cc in (
           item,
@@ -100,15 +99,15 @@ module _ (sign : SignData) (defaults : Defaults) (octets : List ℕ) (before are
           is,
           b,
           subst (λ x. IsRead x next) one read,
-          subst (λ l. HasCounted (whole_area sign defaults (before ++ s.done) (l ++ rest)) lines) is s.counted,
+          subst (λ l. HasCounted (whole_area sign (before ++ s.done) (l ++ rest)) lines) is s.counted,
           All-head (λ x. begins_area (meaning x) ≡ false) item more (subst BeginsNoArea is s.plain),
         )
 
     -- one more is drawn
     pub area_more : (item : Item) (more : List Item) → s.left ≡ item ∷ more → (cursor' : Cursor) (new' : BitPlane)
-        → IsBetween sign defaults octets ((before ++ s.done) ++ item ∷ []) (more ++ rest) cursor'
-        → (IsDrawnTo sign defaults layer (map meaning ((before ++ s.done) ++ item ∷ (more ++ rest))) (map meaning (before ++ s.done)) new → IsDrawnTo sign defaults layer (map meaning ((before ++ s.done) ++ item ∷ (more ++ rest))) (map meaning ((before ++ s.done) ++ item ∷ [])) new')
-        → AreaSoFar sign defaults octets before area rest lines layer cursor' old new'
+        → IsBetween sign octets ((before ++ s.done) ++ item ∷ []) (more ++ rest) cursor'
+        → (IsDrawnTo sign layer (map meaning ((before ++ s.done) ++ item ∷ (more ++ rest))) (map meaning (before ++ s.done)) new → IsDrawnTo sign layer (map meaning ((before ++ s.done) ++ item ∷ (more ++ rest))) (map meaning ((before ++ s.done) ++ item ∷ [])) new')
+        → AreaSoFar sign octets before area rest lines layer cursor' old new'
     area_more item more is cursor' new' between drawn =
         let plain = subst BeginsNoArea is s.plain in
         let first : begins_area (meaning item) ≡ false = All-head (λ x. begins_area (meaning x) ≡ false) item more plain in
@@ -116,22 +115,22 @@ module _ (sign : SignData) (defaults : Defaults) (octets : List ℕ) (before are
         let all : before ++ (area ++ rest) ≡ (before ++ s.done) ++ item ∷ (more ++ rest) =
         ap (λ l. before ++ (l ++ rest)) (s.split ∙ ap (λ l. s.done ++ l) is) ∙ ap (λ l. before ++ l) (append_assoc s.done (item ∷ more) rest) ∙ sym (append_assoc before s.done (item ∷ (more ++ rest))) in
         let on : (before ++ s.done) ++ item ∷ (more ++ rest) ≡ ((before ++ s.done) ++ item ∷ []) ++ (more ++ rest) = sym (append_assoc (before ++ s.done) (item ∷ []) (more ++ rest)) in
-        let area_is : (standing sign defaults (map meaning ((before ++ s.done) ++ item ∷ []))).area ≡ (standing sign defaults (map meaning (before ++ s.done))).area =
-        ap (λ ms. (standing sign defaults ms).area) (map-append meaning (before ++ s.done) (item ∷ [])) ∙ same_area sign defaults (map meaning (before ++ s.done)) (meaning item) first in
-        let counted : HasCounted (whole_area sign defaults ((before ++ s.done) ++ item ∷ []) (more ++ rest)) lines =
-        subst (λ n. HasCounted (in_area n (spots sign defaults (map meaning (((before ++ s.done) ++ item ∷ []) ++ (more ++ rest))))) lines) (sym area_is)
-        (subst (λ l. HasCounted (in_area (standing sign defaults (map meaning (before ++ s.done))).area (spots sign defaults (map meaning l))) lines) on (subst (λ l. HasCounted (whole_area sign defaults (before ++ s.done) (l ++ rest)) lines) is s.counted)) in
+        let area_is : (standing sign (map meaning ((before ++ s.done) ++ item ∷ []))).area ≡ (standing sign (map meaning (before ++ s.done))).area =
+        ap (λ ms. (standing sign ms).area) (map-append meaning (before ++ s.done) (item ∷ [])) ∙ same_area sign (map meaning (before ++ s.done)) (meaning item) first in
+        let counted : HasCounted (whole_area sign ((before ++ s.done) ++ item ∷ []) (more ++ rest)) lines =
+        subst (λ n. HasCounted (in_area n (spots sign (map meaning (((before ++ s.done) ++ item ∷ []) ++ (more ++ rest))))) lines) (sym area_is)
+        (subst (λ l. HasCounted (in_area (standing sign (map meaning (before ++ s.done))).area (spots sign (map meaning l))) lines) on (subst (λ l. HasCounted (whole_area sign (before ++ s.done) (l ++ rest)) lines) is s.counted)) in
         record {
           done = s.done ++ item ∷ [];
           left = more;
           split = s.split ∙ ap (λ l. s.done ++ l) is ∙ sym (append_assoc s.done (item ∷ []) more);
           plain = All-tail (λ x. begins_area (meaning x) ≡ false) item more plain;
-          between = subst (λ l. IsBetween sign defaults octets l (more ++ rest) cursor') assoc between;
-          counted = subst (λ l. HasCounted (whole_area sign defaults l (more ++ rest)) lines) assoc counted;
+          between = subst (λ l. IsBetween sign octets l (more ++ rest) cursor') assoc between;
+          counted = subst (λ l. HasCounted (whole_area sign l (more ++ rest)) lines) assoc counted;
           drawn = λ d.
-              subst (λ l. IsDrawnTo sign defaults layer (map meaning (before ++ (area ++ rest))) (map meaning l) new') assoc
-              (subst (λ l. IsDrawnTo sign defaults layer (map meaning l) (map meaning ((before ++ s.done) ++ item ∷ [])) new') (sym all)
-              (drawn (subst (λ l. IsDrawnTo sign defaults layer (map meaning l) (map meaning (before ++ s.done)) new) all (s.drawn d))));
+              subst (λ l. IsDrawnTo sign layer (map meaning (before ++ (area ++ rest))) (map meaning l) new') assoc
+              (subst (λ l. IsDrawnTo sign layer (map meaning l) (map meaning ((before ++ s.done) ++ item ∷ [])) new') (sym all)
+              (drawn (subst (λ l. IsDrawnTo sign layer (map meaning l) (map meaning (before ++ s.done)) new) all (s.drawn d))));
         }
 
 -- the steps over the plane add up

@@ -12,7 +12,6 @@ use Rattle.multi_token.specs.Counted.{Counted, RisesBetween}
 use Rattle.multi_token.specs.Spelling.{Item, spelling, spell}
 use Rattle.multi_token.proofs.ReadingLemmas.{spelling_some}
 use Rattle.multi_token.proofs.StepLemmas.{rises_then}
-use Rattle.sign_font.specs.declared.parts.Defaults.{Defaults}
 use Rattle.sign_font.specs.Sign.{SignData, CellData, cell_numbered}
 use Rattle.sign_font.specs.Sound.{IsSound}
 use Rattle.multi_layout.specs.declared.area.Group.{Group}
@@ -171,86 +170,86 @@ line_end (Does (Fore colour)) e = absurd (false≢true e)
 line_end (Does (Back colour)) e = absurd (false≢true e)
 line_end (Does (Rect x y w h)) e = absurd (false≢true e)
 
-module _ (sign : SignData) (defaults : Defaults) (items : List Meaning) where
+module _ (sign : SignData) (items : List Meaning) where
   abbrev break_spot : Option ℕ → Spot
-  break_spot gap = record { at = standing sign defaults items; put = Break gap }
+  break_spot gap = record { at = standing sign items; put = Break gap }
 
-  area_break : (gap : Option ℕ) → present_area sign defaults (items ++ Does (NewLine gap) ∷ []) ≡ present_area sign defaults items ++ break_spot gap ∷ []
-  area_break gap = present_area-placing sign defaults items (Does (NewLine gap)) (Break gap) refl refl refl
+  area_break : (gap : Option ℕ) → present_area sign (items ++ Does (NewLine gap) ∷ []) ≡ present_area sign items ++ break_spot gap ∷ []
+  area_break gap = present_area-placing sign items (Does (NewLine gap)) (Break gap) refl refl refl
 
-  module _ (before : State) (st : IsStateOf sign defaults items before) where
-    just_is : before.attributes.page_just ≡ (standing sign defaults items).page_just
+  module _ (before : State) (st : IsStateOf sign items before) where
+    just_is : before.attributes.page_just ≡ (standing sign items).page_just
     just_is = ap (λ (a : Attributes). a.page_just) st.attributes
 
     -- an item that ends a line ends the open line of the group in force
-    pub ended_more : (x : Meaning) → ends_line x ≡ true → (after : State) (own next : Group) (line : CountedLine) (old new : LineTable) → IsStateOf sign defaults (items ++ x ∷ []) after
+    pub ended_more : (x : Meaning) → ends_line x ≡ true → (after : State) (own next : Group) (line : CountedLine) (old new : LineTable) → IsStateOf sign (items ++ x ∷ []) after
         → ((area : List Spot) → before.area ≡ area_sum area → own ≡ group_sum (in_group before.attributes.page_just area))
         → ((area : List Spot) → after.area ≡ area_sum area → next ≡ group_sum (in_group before.attributes.page_just area))
         → line ≡ entry_of own.line own.line.full.count next.closed → Pushed before.attributes.page_just line old new
-        → HasEnded (present_area sign defaults items) old → HasEnded (present_area sign defaults (items ++ x ∷ [])) new
+        → HasEnded (present_area sign items) old → HasEnded (present_area sign (items ++ x ∷ [])) new
     ended_more x ends after own next line old new st_after sum sum_after is pushed has =
         let (gap, same) = line_end x ends in
-        let area = present_area sign defaults items in
-        let grown : present_area sign defaults (items ++ x ∷ []) ≡ area ++ break_spot gap ∷ [] = ap (λ x. present_area sign defaults (items ++ x ∷ [])) same ∙ area_break gap in
+        let area = present_area sign items in
+        let grown : present_area sign (items ++ x ∷ []) ≡ area ++ break_spot gap ∷ [] = ap (λ x. present_area sign (items ++ x ∷ [])) same ∙ area_break gap in
         subst (λ a. HasEnded a new) (sym grown)
         (break_ended before.attributes.page_just area (break_spot gap) refl (sym just_is) st.page_just.0 st.page_just.1 own next line old new
         (sum area st.area) (sum_after (area ++ break_spot gap ∷ []) (st_after.area ∙ ap area_sum grown)) is pushed has)
 
     -- before it there is room for that line
-    pub ended_room : (x : Meaning) → ends_line x ≡ true → (table : LineTable) → HasEnded (present_area sign defaults items) table → HasRoom (present_area sign defaults (items ++ x ∷ []))
+    pub ended_room : (x : Meaning) → ends_line x ≡ true → (table : LineTable) → HasEnded (present_area sign items) table → HasRoom (present_area sign (items ++ x ∷ []))
         → length (group_lines before.attributes.page_just table) < 128
     ended_room x ends table has room =
         let (gap, same) = line_end x ends in
-        let area = present_area sign defaults items in
-        let grown : present_area sign defaults (items ++ x ∷ []) ≡ area ++ break_spot gap ∷ [] = ap (λ x. present_area sign defaults (items ++ x ∷ [])) same ∙ area_break gap in
+        let area = present_area sign items in
+        let grown : present_area sign (items ++ x ∷ []) ≡ area ++ break_spot gap ∷ [] = ap (λ x. present_area sign (items ++ x ∷ [])) same ∙ area_break gap in
         break_room before.attributes.page_just area (break_spot gap) refl (sym just_is) st.page_just.0 st.page_just.1 table has (subst HasRoom grown room)
 
-  module _ (table : LineTable) (has : HasEnded (present_area sign defaults items) table) where
-    same_ended : (x : Meaning) → present_area sign defaults (items ++ x ∷ []) ≡ present_area sign defaults items → HasEnded (present_area sign defaults (items ++ x ∷ [])) table
+  module _ (table : LineTable) (has : HasEnded (present_area sign items) table) where
+    same_ended : (x : Meaning) → present_area sign (items ++ x ∷ []) ≡ present_area sign items → HasEnded (present_area sign (items ++ x ∷ [])) table
     same_ended x e = subst (λ a. HasEnded a table) (sym e) has
 
-    character_ended : (number : ℕ) (o : Option CellData) → cell_numbered (standing sign defaults items).font number ≡ o → HasEnded (present_area sign defaults (items ++ Shows number ∷ [])) table
-    character_ended number None found = same_ended (Shows number) (present_area-nothing sign defaults items (Shows number) refl (ap (option_map Glyph) found))
+    character_ended : (number : ℕ) (o : Option CellData) → cell_numbered (standing sign items).font number ≡ o → HasEnded (present_area sign (items ++ Shows number ∷ [])) table
+    character_ended number None found = same_ended (Shows number) (present_area-nothing sign items (Shows number) refl (ap (option_map Glyph) found))
     character_ended number (Some cell) found =
-        let spot : Spot = record { at = standing sign defaults items; put = Glyph cell } in
-        subst (λ a. HasEnded a table) (sym (present_area-placing sign defaults items (Shows number) (Glyph cell) refl (ap (option_map Glyph) found) refl))
-        (glyph_ended (present_area sign defaults items) spot table refl has)
+        let spot : Spot = record { at = standing sign items; put = Glyph cell } in
+        subst (λ a. HasEnded a table) (sym (present_area-placing sign items (Shows number) (Glyph cell) refl (ap (option_map Glyph) found) refl))
+        (glyph_ended (present_area sign items) spot table refl has)
 
     -- another item that begins no area ends no line
-    pub ended_same : (x : Meaning) → begins_area x ≡ false → ends_line x ≡ false → HasEnded (present_area sign defaults (items ++ x ∷ [])) table
-    ended_same (Shows number) stays open' = character_ended number (cell_numbered (standing sign defaults items).font number) refl
-    ended_same (Faulty code) stays open' = same_ended (Faulty code) (present_area-nothing sign defaults items (Faulty code) refl refl)
+    pub ended_same : (x : Meaning) → begins_area x ≡ false → ends_line x ≡ false → HasEnded (present_area sign (items ++ x ∷ [])) table
+    ended_same (Shows number) stays open' = character_ended number (cell_numbered (standing sign items).font number) refl
+    ended_same (Faulty code) stays open' = same_ended (Faulty code) (present_area-nothing sign items (Faulty code) refl refl)
     ended_same (Does NewPage) stays open' = absurd (false≢true (sym stays))
     ended_same (Does (NewLine gap)) stays open' = absurd (false≢true (sym open'))
-    ended_same (Does (LineJust just)) stays open' = same_ended (Does (LineJust just)) (present_area-nothing sign defaults items (Does (LineJust just)) refl refl)
-    ended_same (Does (PageJust just)) stays open' = same_ended (Does (PageJust just)) (present_area-nothing sign defaults items (Does (PageJust just)) refl refl)
-    ended_same (Does (Font pick)) stays open' = same_ended (Does (Font pick)) (present_area-nothing sign defaults items (Does (Font pick)) refl refl)
-    ended_same (Does (CharSpacing pixels)) stays open' = same_ended (Does (CharSpacing pixels)) (present_area-nothing sign defaults items (Does (CharSpacing pixels)) refl refl)
-    ended_same (Does CharSpacingEnd) stays open' = same_ended (Does CharSpacingEnd) (present_area-nothing sign defaults items (Does CharSpacingEnd) refl refl)
-    ended_same (Does (PageTime on off)) stays open' = same_ended (Does (PageTime on off)) (present_area-nothing sign defaults items (Does (PageTime on off)) refl refl)
-    ended_same (Does (Flash off_first on off)) stays open' = same_ended (Does (Flash off_first on off)) (present_area-nothing sign defaults items (Does (Flash off_first on off)) refl refl)
-    ended_same (Does FlashEnd) stays open' = same_ended (Does FlashEnd) (present_area-nothing sign defaults items (Does FlashEnd) refl refl)
-    ended_same (Does (Fore colour)) stays open' = same_ended (Does (Fore colour)) (present_area-nothing sign defaults items (Does (Fore colour)) refl refl)
+    ended_same (Does (LineJust just)) stays open' = same_ended (Does (LineJust just)) (present_area-nothing sign items (Does (LineJust just)) refl refl)
+    ended_same (Does (PageJust just)) stays open' = same_ended (Does (PageJust just)) (present_area-nothing sign items (Does (PageJust just)) refl refl)
+    ended_same (Does (Font pick)) stays open' = same_ended (Does (Font pick)) (present_area-nothing sign items (Does (Font pick)) refl refl)
+    ended_same (Does (CharSpacing pixels)) stays open' = same_ended (Does (CharSpacing pixels)) (present_area-nothing sign items (Does (CharSpacing pixels)) refl refl)
+    ended_same (Does CharSpacingEnd) stays open' = same_ended (Does CharSpacingEnd) (present_area-nothing sign items (Does CharSpacingEnd) refl refl)
+    ended_same (Does (PageTime on off)) stays open' = same_ended (Does (PageTime on off)) (present_area-nothing sign items (Does (PageTime on off)) refl refl)
+    ended_same (Does (Flash off_first on off)) stays open' = same_ended (Does (Flash off_first on off)) (present_area-nothing sign items (Does (Flash off_first on off)) refl refl)
+    ended_same (Does FlashEnd) stays open' = same_ended (Does FlashEnd) (present_area-nothing sign items (Does FlashEnd) refl refl)
+    ended_same (Does (Fore colour)) stays open' = same_ended (Does (Fore colour)) (present_area-nothing sign items (Does (Fore colour)) refl refl)
     ended_same (Does (Back colour)) stays open' =
-        same_ended (Does (Back colour)) (present_area-cover sign defaults items (Does (Back colour)) (Cover (standing sign defaults items).page (unwrap_or colour defaults.back)) refl refl refl)
+        same_ended (Does (Back colour)) (present_area-cover sign items (Does (Back colour)) (Cover (standing sign items).page (unwrap_or colour sign.defaults.back)) refl refl refl)
     ended_same (Does (Rect x y w h)) stays open' = absurd (false≢true (sym stays))
 
 -- AN ACCEPTED STRING
 
 -- what the present area has is placing items
-pub present_placing : (sign : SignData) (defaults : Defaults) (items : List Meaning) → All IsPlacing (present_area sign defaults items)
-present_placing sign defaults items = area_placing (spots sign defaults items) (record { at = standing sign defaults items; put = Break None })
+pub present_placing : (sign : SignData) (items : List Meaning) → All IsPlacing (present_area sign items)
+present_placing sign items = area_placing (spots sign items) (record { at = standing sign items; put = Break None })
 
 -- the present area has room for its lines
-pub present_room : {sign : SignData} {octets : List ℕ} {before behind : List Item} {cursor : Cursor} → IsSound sign → IsBetween sign sign.defaults octets before behind cursor
-    → HasRoom (present_area sign sign.defaults (map meaning before))
+pub present_room : {sign : SignData} {octets : List ℕ} {before behind : List Item} {cursor : Cursor} → IsSound sign → IsBetween sign octets before behind cursor
+    → HasRoom (present_area sign (map meaning before))
 present_room {sign} {octets} {before} {behind} {cursor} sound b =
-    let none : offences sign sign.defaults before ≡ [] = left_nil (offences sign sign.defaults before) _ (sym (some_after-append (fault_at sign sign.defaults) before behind) ∙ b.accepted.none) in
-    room_lemmas.room sign sign.defaults sound sound.font before none
+    let none : offences sign before ≡ [] = left_nil (offences sign before) _ (sym (some_after-append (fault_at sign) before behind) ∙ b.accepted.none) in
+    room_lemmas.room sign sound sound.font before none
 
 -- the sums are small
-pub present_low : {sign : SignData} {defaults : Defaults} {octets : List ℕ} {before behind : List Item} {cursor : Cursor} → IsBetween sign defaults octets before behind cursor → IsBelow (2 ^ 42) cursor.state.area
-present_low {sign} {defaults} {octets} {before} {behind} {cursor} b =
+pub present_low : {sign : SignData} {octets : List ℕ} {before behind : List Item} {cursor : Cursor} → IsBetween sign octets before behind cursor → IsBelow (2 ^ 42) cursor.state.area
+present_low {sign} {octets} {before} {behind} {cursor} b =
     let total = ap length (b.accepted.spelled ∙ flat_map-append spelling before behind) ∙ length-append (spell before) (spell behind) in
     below_more (1024 * length (map meaning before)) (2 ^ 42) cursor.state.area (omega (arith, few before, total, b.accepted.short, length-map before meaning)) b.state_is.below
 
@@ -264,31 +263,31 @@ steps_on at source a b d from to len low on more earlier item passing =
 
 -- THE READING OF AN AREA
 
-module _ (sign : SignData) (defaults : Defaults) (octets : List ℕ) where
+module _ (sign : SignData) (octets : List ℕ) where
   -- the reading of an area so far: the items read and left, none of which begins an area, and the table of the ended lines
   pub record SoFar (before behind : List Item) (cursor : Cursor) (lines : LineTable) : Type 0 where
     pub items : List Item
     pub left : List Item
     pub split : behind ≡ items ++ left
     pub plain : BeginsNoArea items
-    pub same_area : (standing sign defaults (map meaning (before ++ items))).area ≡ (standing sign defaults (map meaning before)).area
-    pub between : IsBetween sign defaults octets (before ++ items) left cursor
-    pub ended : HasEnded (present_area sign defaults (map meaning (before ++ items))) lines
+    pub same_area : (standing sign (map meaning (before ++ items))).area ≡ (standing sign (map meaning before)).area
+    pub between : IsBetween sign octets (before ++ items) left cursor
+    pub ended : HasEnded (present_area sign (map meaning (before ++ items))) lines
     pub low : IsLow lines
 
   -- before the first item
-  pub nothing_read : (before behind : List Item) (cursor : Cursor) (lines : LineTable) → IsBetween sign defaults octets before behind cursor → present_area sign defaults (map meaning before) ≡ []
+  pub nothing_read : (before behind : List Item) (cursor : Cursor) (lines : LineTable) → IsBetween sign octets before behind cursor → present_area sign (map meaning before) ≡ []
       → ((just : ℕ) → group_lines just lines ≡ []) → SoFar before behind cursor lines
   nothing_read before behind cursor lines b begins none =
       let all : before ++ [] ≡ before = append-nil before in
-      let area : present_area sign defaults (map meaning (before ++ [])) ≡ [] = ap (λ l. present_area sign defaults (map meaning l)) all ∙ begins in
+      let area : present_area sign (map meaning (before ++ [])) ≡ [] = ap (λ l. present_area sign (map meaning l)) all ∙ begins in
       record {
         items = [];
         left = behind;
         split = refl;
         plain = All-nil (λ item. begins_area (meaning item) ≡ false);
-        same_area = ap (λ l. (standing sign defaults (map meaning l)).area) all;
-        between = subst (λ l. IsBetween sign defaults octets l behind cursor) (sym all) b;
+        same_area = ap (λ l. (standing sign (map meaning l)).area) all;
+        between = subst (λ l. IsBetween sign octets l behind cursor) (sym all) b;
         ended = subst (λ a. HasEnded a lines) (sym area) (λ just least most. none just);
         low = λ just least most. subst (All (λ l. l.bottom ≤ 2 ^ 43)) (sym (none just)) (All-nil (λ l. l.bottom ≤ 2 ^ 43));
       }
@@ -300,20 +299,20 @@ module _ (sign : SignData) (defaults : Defaults) (octets : List ℕ) where
       pub rest : List Item
       pub first : so.left ≡ item ∷ rest
       pub read : IsRead item next
-      pub between : IsBetween sign defaults octets ((before ++ so.items) ++ item ∷ []) rest new
+      pub between : IsBetween sign octets ((before ++ so.items) ++ item ∷ []) rest new
 
-module _ {sign : SignData} {defaults : Defaults} {octets : List ℕ} {before behind : List Item} {cursor : Cursor} {lines : LineTable} (so : SoFar sign defaults octets before behind cursor lines) where
+module _ {sign : SignData} {octets : List ℕ} {before behind : List Item} {cursor : Cursor} {lines : LineTable} (so : SoFar sign octets before behind cursor lines) where
   -- the cursor is the same on the same octets
-  pub so_between : {octets' : List ℕ} → octets' ≡ octets → IsBetween sign defaults octets' (before ++ so.items) so.left cursor
-  so_between same = subst (λ o. IsBetween sign defaults o (before ++ so.items) so.left cursor) (sym same) so.between
+  pub so_between : {octets' : List ℕ} → octets' ≡ octets → IsBetween sign octets' (before ++ so.items) so.left cursor
+  so_between same = subst (λ o. IsBetween sign o (before ++ so.items) so.left cursor) (sym same) so.between
 
-  pub so_first : {octets' : List ℕ} → octets' ≡ octets → (item : Item) (rest : List Item) → so.left ≡ item ∷ rest → IsBetween sign defaults octets' (before ++ so.items) (item ∷ rest) cursor
-  so_first {octets'} same item rest first = subst (λ l. IsBetween sign defaults octets' (before ++ so.items) l cursor) first (so_between same)
+  pub so_first : {octets' : List ℕ} → octets' ≡ octets → (item : Item) (rest : List Item) → so.left ≡ item ∷ rest → IsBetween sign octets' (before ++ so.items) (item ∷ rest) cursor
+  so_first {octets'} same item rest first = subst (λ l. IsBetween sign octets' (before ++ so.items) l cursor) first (so_between same)
 
   pub pass_on : (next : Next) (new : Cursor) {octets' octets'' : List ℕ} → octets' ≡ octets → octets'' ≡ octets
-      → ((before behind : List Item) → IsBetween sign defaults octets' before behind cursor → IsFirst behind (Some next))
-      → ((before rest : List Item) (item : Item) → IsBetween sign defaults octets'' before (item ∷ rest) cursor → IsRead item next → IsBetween sign defaults octets'' (before ++ item ∷ []) rest new)
-      → Passed sign defaults octets before behind cursor lines so next new
+      → ((before behind : List Item) → IsBetween sign octets' before behind cursor → IsFirst behind (Some next))
+      → ((before rest : List Item) (item : Item) → IsBetween sign octets'' before (item ∷ rest) cursor → IsRead item next → IsBetween sign octets'' (before ++ item ∷ []) rest new)
+      → Passed sign octets before behind cursor lines so next new
   pass_on next new same same' found pass =
       let (item, rest, first, read) = found (before ++ so.items) so.left (so_between same) in
       record {
@@ -321,65 +320,65 @@ module _ {sign : SignData} {defaults : Defaults} {octets : List ℕ} {before beh
         rest = rest;
         first = first;
         read = read;
-        between = subst (λ o. IsBetween sign defaults o ((before ++ so.items) ++ item ∷ []) rest new) same'
+        between = subst (λ o. IsBetween sign o ((before ++ so.items) ++ item ∷ []) rest new) same'
             (pass (before ++ so.items) rest item (so_first same' item rest first) read);
       }
 
-  module _ {next : Next} {new : Cursor} (p : Passed sign defaults octets before behind cursor lines so next new) where
+  module _ {next : Next} {new : Cursor} (p : Passed sign octets before behind cursor lines so next new) where
     -- the cursor goes on, and not past the end
     pub so_advances : new.at ≡ cursor.at + next.len → (cursor.at < new.at) × (new.at ≤ length octets)
-    so_advances at = (omega (arith, at, spelling_some p.item, p.read.len), within sign defaults octets ((before ++ so.items) ++ p.item ∷ []) p.rest new p.between)
+    so_advances at = (omega (arith, at, spelling_some p.item, p.read.len), within sign octets ((before ++ so.items) ++ p.item ∷ []) p.rest new p.between)
 
     grown : map meaning ((before ++ so.items) ++ p.item ∷ []) ≡ map meaning (before ++ so.items) ++ meant_by next.item ∷ []
     grown = map-append meaning (before ++ so.items) (p.item ∷ []) ∙ ap (λ m. map meaning (before ++ so.items) ++ m ∷ []) p.read.meant
 
     -- the state behind the item
-    pub state_behind : IsStateOf sign defaults (map meaning (before ++ so.items) ++ meant_by next.item ∷ []) new.state
-    state_behind = subst (λ ms. IsStateOf sign defaults ms new.state) grown p.between.state_is
+    pub state_behind : IsStateOf sign (map meaning (before ++ so.items) ++ meant_by next.item ∷ []) new.state
+    state_behind = subst (λ ms. IsStateOf sign ms new.state) grown p.between.state_is
 
     -- if the item ends a line, there is room for it
-    pub room_on : HasRoom (present_area sign defaults (map meaning ((before ++ so.items) ++ p.item ∷ []))) → ends_line (meant_by next.item) ≡ true → length (group_lines cursor.state.attributes.page_just lines) < 128
+    pub room_on : HasRoom (present_area sign (map meaning ((before ++ so.items) ++ p.item ∷ []))) → ends_line (meant_by next.item) ≡ true → length (group_lines cursor.state.attributes.page_just lines) < 128
     room_on room ends =
-        ended_room sign defaults (map meaning (before ++ so.items)) cursor.state so.between.state_is (meant_by next.item) ends lines so.ended
-        (subst (λ ms. HasRoom (present_area sign defaults ms)) grown room)
+        ended_room sign (map meaning (before ++ so.items)) cursor.state so.between.state_is (meant_by next.item) ends lines so.ended
+        (subst (λ ms. HasRoom (present_area sign ms)) grown room)
 
     -- one more item
     pub read_on : (lines' : LineTable) → begins_area (meant_by next.item) ≡ false
-        → HasEnded (present_area sign defaults (map meaning (before ++ so.items) ++ meant_by next.item ∷ [])) lines' → IsLow lines' → SoFar sign defaults octets before behind new lines'
+        → HasEnded (present_area sign (map meaning (before ++ so.items) ++ meant_by next.item ∷ [])) lines' → IsLow lines' → SoFar sign octets before behind new lines'
     read_on lines' stays ended low =
         let ms = map meaning (before ++ so.items) in
         let again : (before ++ so.items) ++ p.item ∷ [] ≡ before ++ (so.items ++ p.item ∷ []) = append_assoc before so.items (p.item ∷ []) in
         let all : map meaning (before ++ (so.items ++ p.item ∷ [])) ≡ ms ++ meant_by next.item ∷ [] = ap (map meaning) (sym again) ∙ grown in
-        let stands : (standing sign defaults (ms ++ meant_by next.item ∷ [])).area ≡ (standing sign defaults ms).area + cond (begins_area (meant_by next.item)) 1 0 =
-        ap (λ (s : Standing). s.area) (standing_push sign defaults ms (meant_by next.item)) in
+        let stands : (standing sign (ms ++ meant_by next.item ∷ [])).area ≡ (standing sign ms).area + cond (begins_area (meant_by next.item)) 1 0 =
+        ap (λ (s : Standing). s.area) (standing_push sign ms (meant_by next.item)) in
         let none : cond {A = ℕ} (begins_area (meant_by next.item)) 1 0 ≡ 0 = ap (λ b. cond b 1 0) stays in
-        let same : (standing sign defaults (ms ++ meant_by next.item ∷ [])).area ≡ (standing sign defaults ms).area = omega (arith, stands, none) in
+        let same : (standing sign (ms ++ meant_by next.item ∷ [])).area ≡ (standing sign ms).area = omega (arith, stands, none) in
         record {
           items = so.items ++ p.item ∷ [];
           left = p.rest;
           split = so.split ∙ ap (λ l. so.items ++ l) p.first ∙ sym (append_assoc so.items (p.item ∷ []) p.rest);
           plain = All-push (λ item. begins_area (meaning item) ≡ false) so.items p.item so.plain (ap begins_area p.read.meant ∙ stays);
-          same_area = ap (λ ms. (standing sign defaults ms).area) all ∙ same ∙ so.same_area;
-          between = subst (λ l. IsBetween sign defaults octets l p.rest new) again p.between;
-          ended = subst (λ ms. HasEnded (present_area sign defaults ms) lines') (sym all) ended;
+          same_area = ap (λ ms. (standing sign ms).area) all ∙ same ∙ so.same_area;
+          between = subst (λ l. IsBetween sign octets l p.rest new) again p.between;
+          ended = subst (λ ms. HasEnded (present_area sign ms) lines') (sym all) ended;
           low = low;
         }
 
   -- the end of the area
   pub area_read : (start : Cursor) (read : AreaLines) (source source' source'' : Counted) → start.at ≡ length (spell before) → EndsArea (map meaning so.left)
-      → HasCounted (present_area sign defaults (map meaning (before ++ so.items))) read.lines → IsLow read.lines → read.end ≡ cursor.at
+      → HasCounted (present_area sign (map meaning (before ++ so.items))) read.lines → IsLow read.lines → read.end ≡ cursor.at
       → RisesBetween source source' 0 (2 * (cursor.at - start.at)) → RisesBetween source' source'' 0 (first_steps so.left)
-      → IsAreaRead sign defaults before behind start read source source''
+      → IsAreaRead sign before behind start read source source''
   area_read start read source source' source'' place ends counted low end earlier last =
       let ms = map meaning (before ++ so.items) in
       let octets_of : length (spell (before ++ so.items)) ≡ length (spell before) + length (spell so.items) = ap length (flat_map-append spelling before so.items) ∙ length-append (spell before) (spell so.items) in
       let long : cursor.at ≡ start.at + length (spell so.items) = omega (arith, so.between.place, octets_of, place) in
       let all : map meaning (before ++ behind) ≡ ms ++ map meaning so.left =
       ap (λ l. map meaning (before ++ l)) so.split ∙ ap (map meaning) (sym (append_assoc before so.items so.left)) ∙ map-append meaning (before ++ so.items) so.left in
-      let whole : whole_area sign defaults before behind ≡ present_area sign defaults ms =
-      ap (λ k. in_area k (spots sign defaults (map meaning (before ++ behind)))) (sym so.same_area)
-      ∙ ap (λ l. in_area (standing sign defaults ms).area (spots sign defaults l)) all
-      ∙ area_ends sign defaults ms (map meaning so.left) ends in
+      let whole : whole_area sign before behind ≡ present_area sign ms =
+      ap (λ k. in_area k (spots sign (map meaning (before ++ behind)))) (sym so.same_area)
+      ∙ ap (λ l. in_area (standing sign ms).area (spots sign l)) all
+      ∙ area_ends sign ms (map meaning so.left) ends in
       let steps : 2 * (cursor.at - start.at) ≡ 2 * length (spell so.items) = omega (arith, long) in
       record {
         area = so.items;

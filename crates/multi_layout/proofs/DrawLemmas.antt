@@ -88,12 +88,12 @@ tall_enough [] number font e = cc
 tall_enough (f ∷ fonts) number font e = tall_if (f.number == number) f font (find (λ (f : FontData). f.number == number) fonts) (largest (map (λ (f : FontData). f.height) fonts)) e (tall_enough fonts number font)
 
 -- a cell that was found has its font's height, and the tallest font is no lower
-pub cell_height : (sign : SignData) (defaults : Defaults) (before : List Meaning) (state : State) → IsStateOf sign defaults before state → (number : ℕ) (c : cells.SizedCell)
+pub cell_height : (sign : SignData) (before : List Meaning) (state : State) → IsStateOf sign before state → (number : ℕ) (c : cells.SizedCell)
     → cell_in sign state.attributes.font.number number ≡ Some c → (c.height ≡ state.attributes.font.height) × (c.height ≤ tallest sign)
-cell_height sign defaults before state st number c found =
-    let (cell, numbered, is) = glyph_found sign defaults before state st number c found in
-    let high : c.height ≡ (standing sign defaults before).font.height = ap (λ (z : cells.SizedCell). z.height) (sym is) in
-    let tall = tall_enough sign.fonts (standing sign defaults before).font.number (standing sign defaults before).font st.font in
+cell_height sign before state st number c found =
+    let (cell, numbered, is) = glyph_found sign before state st number c found in
+    let high : c.height ≡ (standing sign before).font.height = ap (λ (z : cells.SizedCell). z.height) (sym is) in
+    let tall = tall_enough sign.fonts (standing sign before).font.number (standing sign before).font st.font in
     (high ∙ sym (ap (λ (a : Attributes). a.font.height) st.attributes), omega (arith, high, tall))
 
 -- ONE MORE ITEM
@@ -102,25 +102,25 @@ cell_height sign defaults before state st number c found =
 pub map_split : (before rest : List spelled.Item) (item : spelled.Item) (m : Meaning) → meaning item ≡ m → map meaning (before ++ item ∷ rest) ≡ map meaning before ++ m ∷ map meaning rest
 map_split before rest item m e = map-append meaning before (item ∷ rest) ∙ ap (λ x. map meaning before ++ x ∷ map meaning rest) e
 
-module _ (sign : SignData) (defaults : Defaults) (layer : Layer) (before rest : List Meaning) where
+module _ (sign : SignData) (layer : Layer) (before rest : List Meaning) where
   -- a background covers the page
-  pub cover_drawn : (given : Option ℕ) (new : BitPlane) (on : Bool) → on ≡ (shown_colour sign (unwrap_or given defaults.back) == layer.colour)
+  pub cover_drawn : (given : Option ℕ) (new : BitPlane) (on : Bool) → on ≡ (shown_colour sign (unwrap_or given sign.defaults.back) == layer.colour)
       → ((x y : ℕ) → x < new.width → y < new.height → is_lit new x y ≡ on)
-      → IsDrawnTo sign defaults layer (before ++ Does (Back given) ∷ rest) (before ++ Does (Back given) ∷ []) new
+      → IsDrawnTo sign layer (before ++ Does (Back given) ∷ rest) (before ++ Does (Back given) ∷ []) new
   cover_drawn given new on colour pixels = λ x y across down.
-      let all = spots sign defaults (before ++ Does (Back given) ∷ rest) in
+      let all = spots sign (before ++ Does (Back given) ∷ rest) in
       pixels x y across down ∙ colour
-      ∙ sym (covered_cover sign defaults layer.phase layer.colour all x y before given)
-      ∙ ap (λ p. has_colour sign defaults p layer.phase layer.colour all (spots sign defaults (before ++ Does (Back given) ∷ [])) x y) (sym (same_page_behind sign defaults before (Does (Back given)) refl))
+      ∙ sym (covered_cover sign layer.phase layer.colour all x y before given)
+      ∙ ap (λ p. has_colour sign p layer.phase layer.colour all (spots sign (before ++ Does (Back given) ∷ [])) x y) (sym (same_page_behind sign before (Does (Back given)) refl))
 
   -- an item that covers nothing leaves the plane
-  pub same_drawn : (x : Meaning) (old : BitPlane) → is_new_page x ≡ false → (put_at defaults (standing sign defaults before) x ≡ None) ⊎ ((gap : Option ℕ) × (put_at defaults (standing sign defaults before) x ≡ Some (Break gap)))
-      → IsDrawnTo sign defaults layer (before ++ x ∷ rest) before old → IsDrawnTo sign defaults layer (before ++ x ∷ rest) (before ++ x ∷ []) old
+  pub same_drawn : (x : Meaning) (old : BitPlane) → is_new_page x ≡ false → (put_at sign.defaults (standing sign before) x ≡ None) ⊎ ((gap : Option ℕ) × (put_at sign.defaults (standing sign before) x ≡ Some (Break gap)))
+      → IsDrawnTo sign layer (before ++ x ∷ rest) before old → IsDrawnTo sign layer (before ++ x ∷ rest) (before ++ x ∷ []) old
   same_drawn x old page puts drawn = λ column row across down.
-      let all = spots sign defaults (before ++ x ∷ rest) in
+      let all = spots sign (before ++ x ∷ rest) in
       drawn column row across down
-      ∙ sym (covered_same sign defaults layer.phase layer.colour all column row before x (standing sign defaults before).page puts)
-      ∙ ap (λ p. has_colour sign defaults p layer.phase layer.colour all (spots sign defaults (before ++ x ∷ [])) column row) (sym (same_page_behind sign defaults before x page))
+      ∙ sym (covered_same sign layer.phase layer.colour all column row before x (standing sign before).page puts)
+      ∙ ap (λ p. has_colour sign p layer.phase layer.colour all (spots sign (before ++ x ∷ [])) column row) (sym (same_page_behind sign before x page))
 
 -- a tag that begins no area and sets no background puts nothing, or ends a line
 pub quiet_put : (defaults : Defaults) (at : Standing) (tag : Tag) → IsQuiet tag → begins_area (Does tag) ≡ false → (put_at defaults at (Does tag) ≡ None) ⊎ ((gap : Option ℕ) × (put_at defaults at (Does tag) ≡ Some (Break gap)))
@@ -169,16 +169,16 @@ back_or_quiet (Fore colour) = inr tt
 back_or_quiet (Rect x y w h) = inr tt
 
 -- a tag that begins no area
-pub tag_drawn : (sign : SignData) (defaults : Defaults) (layer : Layer) (before rest : List Meaning) (tag : Tag) (old new : BitPlane) → begins_area (Does tag) ≡ false
-    → ((given : Option ℕ) → tag ≡ Back given → drawn.Shows new (λ column row. shown_colour sign (unwrap_or given defaults.back) == layer.colour)) → (IsQuiet tag → new ≡ old)
-    → IsDrawnTo sign defaults layer (before ++ Does tag ∷ rest) before old → IsDrawnTo sign defaults layer (before ++ Does tag ∷ rest) (before ++ Does tag ∷ []) new
-tag_drawn sign defaults layer before rest tag old new plain back quiet drawn = of (back_or_quiet tag)
+pub tag_drawn : (sign : SignData) (layer : Layer) (before rest : List Meaning) (tag : Tag) (old new : BitPlane) → begins_area (Does tag) ≡ false
+    → ((given : Option ℕ) → tag ≡ Back given → drawn.Shows new (λ column row. shown_colour sign (unwrap_or given sign.defaults.back) == layer.colour)) → (IsQuiet tag → new ≡ old)
+    → IsDrawnTo sign layer (before ++ Does tag ∷ rest) before old → IsDrawnTo sign layer (before ++ Does tag ∷ rest) (before ++ Does tag ∷ []) new
+tag_drawn sign layer before rest tag old new plain back quiet drawn = of (back_or_quiet tag)
   where
-    of : ((given : Option ℕ) × (tag ≡ Back given)) ⊎ IsQuiet tag → IsDrawnTo sign defaults layer (before ++ Does tag ∷ rest) (before ++ Does tag ∷ []) new
-    of (inl (given, is)) = subst (λ (t : Tag). IsDrawnTo sign defaults layer (before ++ Does t ∷ rest) (before ++ Does t ∷ []) new) (sym is)
-        (cover_drawn sign defaults layer before rest given new (shown_colour sign (unwrap_or given defaults.back) == layer.colour) refl (back given is))
-    of (inr other) = subst (IsDrawnTo sign defaults layer (before ++ Does tag ∷ rest) (before ++ Does tag ∷ [])) (sym (quiet other))
-        (same_drawn sign defaults layer before rest (Does tag) old (no_page tag plain) (quiet_put defaults (standing sign defaults before) tag other plain) drawn)
+    of : ((given : Option ℕ) × (tag ≡ Back given)) ⊎ IsQuiet tag → IsDrawnTo sign layer (before ++ Does tag ∷ rest) (before ++ Does tag ∷ []) new
+    of (inl (given, is)) = subst (λ (t : Tag). IsDrawnTo sign layer (before ++ Does t ∷ rest) (before ++ Does t ∷ []) new) (sym is)
+        (cover_drawn sign layer before rest given new (shown_colour sign (unwrap_or given sign.defaults.back) == layer.colour) refl (back given is))
+    of (inr other) = subst (IsDrawnTo sign layer (before ++ Does tag ∷ rest) (before ++ Does tag ∷ [])) (sym (quiet other))
+        (same_drawn sign layer before rest (Does tag) old (no_page tag plain) (quiet_put sign.defaults (standing sign before) tag other plain) drawn)
 
 -- STEPS OVER THE PLANE
 
@@ -218,5 +218,5 @@ fill_few sign old new octets k four least most is width height = record {
 }
 
 -- the sums of the present area are small
-pub low_between : (sign : SignData) (defaults : Defaults) (octets : List ℕ) (before behind : List spelled.Item) (cursor : Cursor) → IsBetween sign defaults octets before behind cursor → IsBelow (2 ^ 42) cursor.state.area
-low_between sign defaults octets before behind cursor b = below_more (1024 * length (map meaning before)) (2 ^ 42) cursor.state.area (omega (arith, few_between sign defaults octets before behind cursor b)) b.state_is.below
+pub low_between : (sign : SignData) (octets : List ℕ) (before behind : List spelled.Item) (cursor : Cursor) → IsBetween sign octets before behind cursor → IsBelow (2 ^ 42) cursor.state.area
+low_between sign octets before behind cursor b = below_more (1024 * length (map meaning before)) (2 ^ 42) cursor.state.area (omega (arith, few_between sign octets before behind cursor b)) b.state_is.below

@@ -25,61 +25,61 @@ use Rattle.multi_layout.proofs.StandingLemmas.{standing_push}
 use Rattle.multi_layout.proofs.StateLemmas.{in_area-append}
 
 -- what the items behind some others put
-abbrev spots_behind : SignData → Defaults → List Meaning → List Meaning → List Spot
-spots_behind sign defaults before behind = some_after (λ more item. spot_at defaults (standing sign defaults (before ++ more)) item) behind
+abbrev spots_behind : SignData → List Meaning → List Meaning → List Spot
+spots_behind sign before behind = some_after (λ more item. spot_at sign.defaults (standing sign (before ++ more)) item) behind
 
 -- all items are some and those behind them
-spots_split : (sign : SignData) (defaults : Defaults) (before behind : List Meaning) → spots sign defaults (before ++ behind) ≡ spots sign defaults before ++ spots_behind sign defaults before behind
+spots_split : (sign : SignData) (before behind : List Meaning) → spots sign (before ++ behind) ≡ spots sign before ++ spots_behind sign before behind
 unfolding spots
-spots_split sign defaults before behind = some_after-append (λ before item. spot_at defaults (standing sign defaults before) item) before behind
+spots_split sign before behind = some_after-append (λ before item. spot_at sign.defaults (standing sign before) item) before behind
 
 -- the items behind some others leave what these put
-pub spots_append : (sign : SignData) (defaults : Defaults) (before behind : List Meaning) → (more : List Spot) × (spots sign defaults (before ++ behind) ≡ spots sign defaults before ++ more)
-spots_append sign defaults before behind = (spots_behind sign defaults before behind, spots_split sign defaults before behind)
+pub spots_append : (sign : SignData) (before behind : List Meaning) → (more : List Spot) × (spots sign (before ++ behind) ≡ spots sign before ++ more)
+spots_append sign before behind = (spots_behind sign before behind, spots_split sign before behind)
 
 -- one more item that puts nothing
-spots_nothing : (sign : SignData) (defaults : Defaults) (before : List Meaning) (x : Meaning) → put_at defaults (standing sign defaults before) x ≡ None → spots sign defaults (before ++ x ∷ []) ≡ spots sign defaults before
-spots_nothing sign defaults before x is =
-    let here = standing sign defaults before in
-    spots_push sign defaults before x
-    ∙ ap (λ o. spots sign defaults before ++ cons_option (option_map (λ p. let s : Spot = record { at = here; put = p } in s) o) []) is
-    ∙ append-nil (spots sign defaults before)
+spots_nothing : (sign : SignData) (before : List Meaning) (x : Meaning) → put_at sign.defaults (standing sign before) x ≡ None → spots sign (before ++ x ∷ []) ≡ spots sign before
+spots_nothing sign before x is =
+    let here = standing sign before in
+    spots_push sign before x
+    ∙ ap (λ o. spots sign before ++ cons_option (option_map (λ p. let s : Spot = record { at = here; put = p } in s) o) []) is
+    ∙ append-nil (spots sign before)
 
 -- one more item that puts something
-spots_more : (sign : SignData) (defaults : Defaults) (before : List Meaning) (x : Meaning) (put : Put) → put_at defaults (standing sign defaults before) x ≡ Some put
-    → spots sign defaults (before ++ x ∷ []) ≡ spots sign defaults before ++ record { at = standing sign defaults before; put = put } ∷ []
-spots_more sign defaults before x put is =
-    let here = standing sign defaults before in
-    spots_push sign defaults before x ∙ ap (λ o. spots sign defaults before ++ cons_option (option_map (λ p. let s : Spot = record { at = here; put = p } in s) o) []) is
+spots_more : (sign : SignData) (before : List Meaning) (x : Meaning) (put : Put) → put_at sign.defaults (standing sign before) x ≡ Some put
+    → spots sign (before ++ x ∷ []) ≡ spots sign before ++ record { at = standing sign before; put = put } ∷ []
+spots_more sign before x put is =
+    let here = standing sign before in
+    spots_push sign before x ∙ ap (λ o. spots sign before ++ cons_option (option_map (λ p. let s : Spot = record { at = here; put = p } in s) o) []) is
 
 -- all items, cut behind one of them
-spots_cut : (sign : SignData) (defaults : Defaults) (before : List Meaning) (x : Meaning) (rest : List Meaning)
-    → spots sign defaults (before ++ x ∷ rest) ≡ spots sign defaults (before ++ x ∷ []) ++ spots_behind sign defaults (before ++ x ∷ []) rest
-spots_cut sign defaults before x rest = ap (spots sign defaults) (sym (append_assoc before (x ∷ []) rest)) ∙ spots_split sign defaults (before ++ x ∷ []) rest
+spots_cut : (sign : SignData) (before : List Meaning) (x : Meaning) (rest : List Meaning)
+    → spots sign (before ++ x ∷ rest) ≡ spots sign (before ++ x ∷ []) ++ spots_behind sign (before ++ x ∷ []) rest
+spots_cut sign before x rest = ap (spots sign) (sym (append_assoc before (x ∷ []) rest)) ∙ spots_split sign (before ++ x ∷ []) rest
 
 -- all items, with one of them that puts something
-spots_with : (sign : SignData) (defaults : Defaults) (before : List Meaning) (x : Meaning) (rest : List Meaning) (put : Put) → put_at defaults (standing sign defaults before) x ≡ Some put
-    → spots sign defaults (before ++ x ∷ rest) ≡ spots sign defaults before ++ record { at = standing sign defaults before; put = put } ∷ spots_behind sign defaults (before ++ x ∷ []) rest
-spots_with sign defaults before x rest put is =
-    let more = spots_behind sign defaults (before ++ x ∷ []) rest in
-    spots_cut sign defaults before x rest
-    ∙ ap (λ l. l ++ more) (spots_more sign defaults before x put is)
-    ∙ append_assoc (spots sign defaults before) (record { at = standing sign defaults before; put = put } ∷ []) more
+spots_with : (sign : SignData) (before : List Meaning) (x : Meaning) (rest : List Meaning) (put : Put) → put_at sign.defaults (standing sign before) x ≡ Some put
+    → spots sign (before ++ x ∷ rest) ≡ spots sign before ++ record { at = standing sign before; put = put } ∷ spots_behind sign (before ++ x ∷ []) rest
+spots_with sign before x rest put is =
+    let more = spots_behind sign (before ++ x ∷ []) rest in
+    spots_cut sign before x rest
+    ∙ ap (λ l. l ++ more) (spots_more sign before x put is)
+    ∙ append_assoc (spots sign before) (record { at = standing sign before; put = put } ∷ []) more
 
 -- an item that is no new page leaves the page
-pub same_page_behind : (sign : SignData) (defaults : Defaults) (before : List Meaning) (x : Meaning) → is_new_page x ≡ false → (standing sign defaults (before ++ x ∷ [])).page ≡ (standing sign defaults before).page
-same_page_behind sign defaults before x stays =
+pub same_page_behind : (sign : SignData) (before : List Meaning) (x : Meaning) → is_new_page x ≡ false → (standing sign (before ++ x ∷ [])).page ≡ (standing sign before).page
+same_page_behind sign before x stays =
     let none : cond {A = ℕ} (is_new_page x) 1 0 ≡ 0 = ap (λ b. cond b 1 0) stays in
-    let next : (standing sign defaults (before ++ x ∷ [])).page ≡ (standing sign defaults before).page + cond (is_new_page x) 1 0 = ap (λ (s : Standing). s.page) (standing_push sign defaults before x) in
+    let next : (standing sign (before ++ x ∷ [])).page ≡ (standing sign before).page + cond (is_new_page x) 1 0 = ap (λ (s : Standing). s.page) (standing_push sign before x) in
     omega (arith, next, none)
 
 -- behind a new page stands the next page
-pub next_page_behind : (sign : SignData) (defaults : Defaults) (before : List Meaning) → (standing sign defaults (before ++ Does NewPage ∷ [])).page ≡ (standing sign defaults before).page + 1
-next_page_behind sign defaults before = ap (λ (s : Standing). s.page) (standing_push sign defaults before (Does NewPage))
+pub next_page_behind : (sign : SignData) (before : List Meaning) → (standing sign (before ++ Does NewPage ∷ [])).page ≡ (standing sign before).page + 1
+next_page_behind sign before = ap (λ (s : Standing). s.page) (standing_push sign before (Does NewPage))
 
 -- a new page leaves the background in force
-same_back : (sign : SignData) (defaults : Defaults) (before : List Meaning) → (standing sign defaults (before ++ Does NewPage ∷ [])).back ≡ (standing sign defaults before).back
-same_back sign defaults before = ap (λ (s : Standing). s.back) (standing_push sign defaults before (Does NewPage))
+same_back : (sign : SignData) (before : List Meaning) → (standing sign (before ++ Does NewPage ∷ [])).back ≡ (standing sign before).back
+same_back sign before = ap (λ (s : Standing). s.back) (standing_push sign before (Does NewPage))
 
 module _ (phase : ℕ) (all : List Spot) where
   -- one more spot, one that is no thing, and one that is
@@ -98,106 +98,106 @@ test_if : (sign : SignData) (colour a b : ℕ) (which : Bool) → (shown_colour 
 test_if sign colour a b true = refl
 test_if sign colour a b false = refl
 
-module _ (sign : SignData) (defaults : Defaults) (page phase colour : ℕ) (all : List Spot) (column row : ℕ) where
+module _ (sign : SignData) (page phase colour : ℕ) (all : List Spot) (column row : ℕ) where
   -- a pixel after one more spot that is no thing
   covered_nothing : (some : List Spot) (s : Spot) → thing_at phase (place_of some all s) s s.put ≡ None
-      → has_colour sign defaults page phase colour all (some ++ s ∷ []) column row ≡ has_colour sign defaults page phase colour all some column row
+      → has_colour sign page phase colour all (some ++ s ∷ []) column row ≡ has_colour sign page phase colour all some column row
   unfolding has_colour
-  covered_nothing some s is = ap (λ l. shown_colour sign (colour_of defaults l page column row) == colour) (things_nothing phase all some s is)
+  covered_nothing some s is = ap (λ l. shown_colour sign (colour_of sign.defaults l page column row) == colour) (things_nothing phase all some s is)
 
   -- a pixel after one more spot that is a thing
   covered_more : (some : List Spot) (s : Spot) (t : Thing) → thing_at phase (place_of some all s) s s.put ≡ Some t
-      → has_colour sign defaults page phase colour all (some ++ s ∷ []) column row
-      ≡ cond (covers_at t page column row) (shown_colour sign t.colour == colour) (has_colour sign defaults page phase colour all some column row)
+      → has_colour sign page phase colour all (some ++ s ∷ []) column row
+      ≡ cond (covers_at t page column row) (shown_colour sign t.colour == colour) (has_colour sign page phase colour all some column row)
   unfolding has_colour
   covered_more some s t is =
-      ap (λ l. shown_colour sign (colour_of defaults l page column row) == colour) (things_more phase all some s t is)
-      ∙ ap (λ c. shown_colour sign c == colour) (colour_push defaults (things_among phase all some) t page column row)
-      ∙ test_if sign colour t.colour (colour_of defaults (things_among phase all some) page column row) (covers_at t page column row)
+      ap (λ l. shown_colour sign (colour_of sign.defaults l page column row) == colour) (things_more phase all some s t is)
+      ∙ ap (λ c. shown_colour sign c == colour) (colour_push sign.defaults (things_among phase all some) t page column row)
+      ∙ test_if sign colour t.colour (colour_of sign.defaults (things_among phase all some) page column row) (covers_at t page column row)
 
   -- a pixel of the page of one more spot that covers a page
   covered_whole : (some : List Spot) (at : Standing) (back : ℕ)
-      → has_colour sign defaults page phase colour all (some ++ record { at = at; put = Cover page back } ∷ []) column row ≡ (shown_colour sign back == colour)
+      → has_colour sign page phase colour all (some ++ record { at = at; put = Cover page back } ∷ []) column row ≡ (shown_colour sign back == colour)
   covered_whole some at back =
       covered_more some (record { at = at; put = Cover page back }) (record { page = page; covers = λ column row. true; colour = back }) refl
-      ∙ ap (λ b. cond (b && true) (shown_colour sign back == colour) (has_colour sign defaults page phase colour all some column row)) (eq-eqb page page refl)
+      ∙ ap (λ b. cond (b && true) (shown_colour sign back == colour) (has_colour sign page phase colour all some column row)) (eq-eqb page page refl)
 
   -- a pixel of a page on which nothing is put
-  covered_none : has_colour sign defaults page phase colour all [] column row ≡ (shown_colour sign defaults.back == colour)
+  covered_none : has_colour sign page phase colour all [] column row ≡ (shown_colour sign sign.defaults.back == colour)
   unfolding has_colour things_among
   covered_none = refl
 
-spots_none : (sign : SignData) (defaults : Defaults) → spots sign defaults [] ≡ []
+spots_none : (sign : SignData) → spots sign [] ≡ []
 unfolding spots
-spots_none sign defaults = refl
+spots_none sign = refl
 
-first_back : (sign : SignData) (defaults : Defaults) → (standing sign defaults []).back ≡ defaults.back
+first_back : (sign : SignData) → (standing sign []).back ≡ sign.defaults.back
 unfolding standing
-first_back sign defaults = refl
+first_back sign = refl
 
-module _ (sign : SignData) (defaults : Defaults) (phase colour : ℕ) (all : List Spot) (column row : ℕ) where
-  begins_first : has_colour sign defaults (standing sign defaults []).page phase colour all (spots sign defaults []) column row ≡ (shown_colour sign (standing sign defaults []).back == colour)
+module _ (sign : SignData) (phase colour : ℕ) (all : List Spot) (column row : ℕ) where
+  begins_first : has_colour sign (standing sign []).page phase colour all (spots sign []) column row ≡ (shown_colour sign (standing sign []).back == colour)
   begins_first =
-      ap (λ l. has_colour sign defaults (standing sign defaults []).page phase colour all l column row) (spots_none sign defaults)
-      ∙ covered_none sign defaults (standing sign defaults []).page phase colour all column row
-      ∙ ap (λ c. shown_colour sign c == colour) (sym (first_back sign defaults))
+      ap (λ l. has_colour sign (standing sign []).page phase colour all l column row) (spots_none sign)
+      ∙ covered_none sign (standing sign []).page phase colour all column row
+      ∙ ap (λ c. shown_colour sign c == colour) (sym (first_back sign))
 
   begins_next : (earlier : List Meaning) → let before = earlier ++ Does NewPage ∷ [] in
-      has_colour sign defaults (standing sign defaults before).page phase colour all (spots sign defaults before) column row ≡ (shown_colour sign (standing sign defaults before).back == colour)
+      has_colour sign (standing sign before).page phase colour all (spots sign before) column row ≡ (shown_colour sign (standing sign before).back == colour)
   begins_next earlier =
       let before = earlier ++ Does NewPage ∷ [] in
-      let at = standing sign defaults earlier in
-      ap (λ page. has_colour sign defaults page phase colour all (spots sign defaults before) column row) (next_page_behind sign defaults earlier)
-      ∙ ap (λ l. has_colour sign defaults (at.page + 1) phase colour all l column row) (spots_more sign defaults earlier (Does NewPage) (Cover (at.page + 1) at.back) refl)
-      ∙ covered_whole sign defaults (at.page + 1) phase colour all column row (spots sign defaults earlier) at at.back
-      ∙ ap (λ c. shown_colour sign c == colour) (sym (same_back sign defaults earlier))
+      let at = standing sign earlier in
+      ap (λ page. has_colour sign page phase colour all (spots sign before) column row) (next_page_behind sign earlier)
+      ∙ ap (λ l. has_colour sign (at.page + 1) phase colour all l column row) (spots_more sign earlier (Does NewPage) (Cover (at.page + 1) at.back) refl)
+      ∙ covered_whole sign (at.page + 1) phase colour all column row (spots sign earlier) at at.back
+      ∙ ap (λ c. shown_colour sign c == colour) (sym (same_back sign earlier))
 
   -- where a page begins, every pixel has the background in force
   pub covered_begins : (before : List Meaning) → BeginsPage before
-      → has_colour sign defaults (standing sign defaults before).page phase colour all (spots sign defaults before) column row ≡ (shown_colour sign (standing sign defaults before).back == colour)
+      → has_colour sign (standing sign before).page phase colour all (spots sign before) column row ≡ (shown_colour sign (standing sign before).back == colour)
   covered_begins before (inl first) =
-      subst (λ items. has_colour sign defaults (standing sign defaults items).page phase colour all (spots sign defaults items) column row ≡ (shown_colour sign (standing sign defaults items).back == colour)) (sym first) begins_first
+      subst (λ items. has_colour sign (standing sign items).page phase colour all (spots sign items) column row ≡ (shown_colour sign (standing sign items).back == colour)) (sym first) begins_first
   covered_begins before (inr (earlier, next)) =
-      subst (λ items. has_colour sign defaults (standing sign defaults items).page phase colour all (spots sign defaults items) column row ≡ (shown_colour sign (standing sign defaults items).back == colour)) (sym next) (begins_next earlier)
+      subst (λ items. has_colour sign (standing sign items).page phase colour all (spots sign items) column row ≡ (shown_colour sign (standing sign items).back == colour)) (sym next) (begins_next earlier)
 
   -- a pixel after one more character: its colour if the character covers the pixel, else as before
-  pub covered_glyph : (before : List Meaning) (number : ℕ) (cell : CellData) → cell_numbered (standing sign defaults before).font number ≡ Some cell →
-      let at = standing sign defaults before in
+  pub covered_glyph : (before : List Meaning) (number : ℕ) (cell : CellData) → cell_numbered (standing sign before).font number ≡ Some cell →
+      let at = standing sign before in
       let spot : Spot = record { at = at; put = Glyph cell } in
-      let place = place_of (spots sign defaults before) all spot in
-      has_colour sign defaults at.page phase colour all (spots sign defaults (before ++ Shows number ∷ [])) column row
+      let place = place_of (spots sign before) all spot in
+      has_colour sign at.page phase colour all (spots sign (before ++ Shows number ∷ [])) column row
       ≡ cond (is_lit_at phase at.flash && nat_le place.column column && nat_le place.row row && nat_lt row (place.row + at.font.height) && cells.is_lit (sized at.font cell) (column - place.column) (row - place.row))
       (shown_colour sign at.fore == colour)
-      (has_colour sign defaults at.page phase colour all (spots sign defaults before) column row)
+      (has_colour sign at.page phase colour all (spots sign before) column row)
   covered_glyph before number cell found =
-      let at = standing sign defaults before in
+      let at = standing sign before in
       let spot : Spot = record { at = at; put = Glyph cell } in
-      let place = place_of (spots sign defaults before) all spot in
+      let place = place_of (spots sign before) all spot in
       let t : Thing = record {
         page = at.page;
         covers = λ column row. is_lit_at phase at.flash && nat_le place.column column && nat_le place.row row && nat_lt row (place.row + at.font.height) && cells.is_lit (sized at.font cell) (column - place.column) (row - place.row);
         colour = at.fore;
       } in
-      ap (λ l. has_colour sign defaults at.page phase colour all l column row) (spots_more sign defaults before (Shows number) (Glyph cell) (ap (option_map Glyph) found))
-      ∙ covered_more sign defaults at.page phase colour all column row (spots sign defaults before) spot t refl
-      ∙ ap (λ b. cond (b && t.covers column row) (shown_colour sign at.fore == colour) (has_colour sign defaults at.page phase colour all (spots sign defaults before) column row)) (eq-eqb at.page at.page refl)
+      ap (λ l. has_colour sign at.page phase colour all l column row) (spots_more sign before (Shows number) (Glyph cell) (ap (option_map Glyph) found))
+      ∙ covered_more sign at.page phase colour all column row (spots sign before) spot t refl
+      ∙ ap (λ b. cond (b && t.covers column row) (shown_colour sign at.fore == colour) (has_colour sign at.page phase colour all (spots sign before) column row)) (eq-eqb at.page at.page refl)
 
   -- after a background every pixel of its page has it
   pub covered_cover : (before : List Meaning) (given : Option ℕ)
-      → has_colour sign defaults (standing sign defaults before).page phase colour all (spots sign defaults (before ++ Does (Back given) ∷ [])) column row ≡ (shown_colour sign (unwrap_or given defaults.back) == colour)
+      → has_colour sign (standing sign before).page phase colour all (spots sign (before ++ Does (Back given) ∷ [])) column row ≡ (shown_colour sign (unwrap_or given sign.defaults.back) == colour)
   covered_cover before given =
-      let at = standing sign defaults before in
-      ap (λ l. has_colour sign defaults at.page phase colour all l column row) (spots_more sign defaults before (Does (Back given)) (Cover at.page (unwrap_or given defaults.back)) refl)
-      ∙ covered_whole sign defaults at.page phase colour all column row (spots sign defaults before) at (unwrap_or given defaults.back)
+      let at = standing sign before in
+      ap (λ l. has_colour sign at.page phase colour all l column row) (spots_more sign before (Does (Back given)) (Cover at.page (unwrap_or given sign.defaults.back)) refl)
+      ∙ covered_whole sign at.page phase colour all column row (spots sign before) at (unwrap_or given sign.defaults.back)
 
   -- an item that puts nothing, or ends a line, leaves every pixel of every page
   pub covered_same : (before : List Meaning) (x : Meaning) (page : ℕ)
-      → (put_at defaults (standing sign defaults before) x ≡ None) ⊎ ((gap : Option ℕ) × (put_at defaults (standing sign defaults before) x ≡ Some (Break gap)))
-      → has_colour sign defaults page phase colour all (spots sign defaults (before ++ x ∷ [])) column row ≡ has_colour sign defaults page phase colour all (spots sign defaults before) column row
-  covered_same before x page (inl none) = ap (λ l. has_colour sign defaults page phase colour all l column row) (spots_nothing sign defaults before x none)
+      → (put_at sign.defaults (standing sign before) x ≡ None) ⊎ ((gap : Option ℕ) × (put_at sign.defaults (standing sign before) x ≡ Some (Break gap)))
+      → has_colour sign page phase colour all (spots sign (before ++ x ∷ [])) column row ≡ has_colour sign page phase colour all (spots sign before) column row
+  covered_same before x page (inl none) = ap (λ l. has_colour sign page phase colour all l column row) (spots_nothing sign before x none)
   covered_same before x page (inr (gap, ends)) =
-      ap (λ l. has_colour sign defaults page phase colour all l column row) (spots_more sign defaults before x (Break gap) ends)
-      ∙ covered_nothing sign defaults page phase colour all column row (spots sign defaults before) (record { at = standing sign defaults before; put = Break gap }) refl
+      ap (λ l. has_colour sign page phase colour all l column row) (spots_more sign before x (Break gap) ends)
+      ∙ covered_nothing sign page phase colour all column row (spots sign before) (record { at = standing sign before; put = Break gap }) refl
 
 -- an item or none, and more items
 all_cons : {X : Type 0} (P : X → Type 0) (o : Option X) (xs : List X) → All P (cons_option o []) → All P xs → All P (cons_option o xs)
@@ -257,20 +257,20 @@ module _ (here : Standing) (low : ℕ) (reached : low ≤ here.page) where
   spot_page defaults _ = All-nil (IsFrom low)
 
 -- pages don't fall along the items, nor do areas
-page_on : (sign : SignData) (defaults : Defaults) (before more : List Meaning) → (standing sign defaults before).page ≤ (standing sign defaults (before ++ more)).page
+page_on : (sign : SignData) (before more : List Meaning) → (standing sign before).page ≤ (standing sign (before ++ more)).page
 unfolding standing
-page_on sign defaults before more = omega (arith, sum_by-append (λ x. cond (is_new_page x) 1 0) before more)
+page_on sign before more = omega (arith, sum_by-append (λ x. cond (is_new_page x) 1 0) before more)
 
-area_on : (sign : SignData) (defaults : Defaults) (before more : List Meaning) → (standing sign defaults before).area ≤ (standing sign defaults (before ++ more)).area
+area_on : (sign : SignData) (before more : List Meaning) → (standing sign before).area ≤ (standing sign (before ++ more)).area
 unfolding standing
-area_on sign defaults before more = omega (arith, sum_by-append (λ x. cond (begins_area x) 1 0) before more)
+area_on sign before more = omega (arith, sum_by-append (λ x. cond (begins_area x) 1 0) before more)
 
 -- what the items behind some others put is of their page or a later one
-pages_behind : (sign : SignData) (defaults : Defaults) (before behind : List Meaning) → All (IsFrom (standing sign defaults before).page) (spots_behind sign defaults before behind)
-pages_behind sign defaults before behind =
-    let low = (standing sign defaults before).page in
-    some_all (λ x. Unit {0}) (IsFrom low) (λ more item. spot_at defaults (standing sign defaults (before ++ more)) item) behind (all_any behind)
-    (λ more x _. spot_page (standing sign defaults (before ++ more)) low (page_on sign defaults before more) defaults x)
+pages_behind : (sign : SignData) (before behind : List Meaning) → All (IsFrom (standing sign before).page) (spots_behind sign before behind)
+pages_behind sign before behind =
+    let low = (standing sign before).page in
+    some_all (λ x. Unit {0}) (IsFrom low) (λ more item. spot_at sign.defaults (standing sign (before ++ more)) item) behind (all_any behind)
+    (λ more x _. spot_page (standing sign (before ++ more)) low (page_on sign before more) sign.defaults x)
 
 -- what a spot of a later page puts is beside this page
 thing_beside : (page phase : ℕ) (place : Place) (spot : Spot) (put : Put) → page < page_put spot.at put → All (IsBeside page) (cons_option (thing_at phase place spot put) [])
@@ -283,53 +283,53 @@ things_append : (phase : ℕ) (all some more : List Spot) → things_among phase
 unfolding things_among
 things_append phase all some more = some_after-append (λ before spot. thing_at phase (place_of before all spot) spot spot.put) some more
 
-module _ (sign : SignData) (defaults : Defaults) (page phase colour : ℕ) (all : List Spot) (column row : ℕ) where
+module _ (sign : SignData) (page phase colour : ℕ) (all : List Spot) (column row : ℕ) where
   -- spots of later pages leave every pixel of a page
   covered_later : (some more : List Spot) → All (IsFrom (page + 1)) more
-      → has_colour sign defaults page phase colour all (some ++ more) column row ≡ has_colour sign defaults page phase colour all some column row
+      → has_colour sign page phase colour all (some ++ more) column row ≡ has_colour sign page phase colour all some column row
   unfolding has_colour
   covered_later some more later =
       let f = λ (next : List Spot) (spot : Spot). thing_at phase (place_of (some ++ next) all spot) spot spot.put in
       let beside : All (IsBeside page) (some_after f more) =
       some_all (IsFrom (page + 1)) (IsBeside page) f more later (λ next s h. thing_beside page phase (place_of (some ++ next) all s) s s.put (omega arith)) in
-      ap (λ l. shown_colour sign (colour_of defaults l page column row) == colour) (things_append phase all some more)
-      ∙ ap (λ c. shown_colour sign c == colour) (colour_beside defaults (things_among phase all some) (some_after f more) page column row beside)
+      ap (λ l. shown_colour sign (colour_of sign.defaults l page column row) == colour) (things_append phase all some more)
+      ∙ ap (λ c. shown_colour sign c == colour) (colour_beside sign.defaults (things_among phase all some) (some_after f more) page column row beside)
 
 -- a pixel of a string is that of all its spots
-plane_is : (sign : SignData) (defaults : Defaults) (items : List Meaning) (page phase colour column row : ℕ)
-    → in_plane sign defaults items page phase colour column row ≡ has_colour sign defaults page phase colour (spots sign defaults items) (spots sign defaults items) column row
+plane_is : (sign : SignData) (items : List Meaning) (page phase colour column row : ℕ)
+    → in_plane sign items page phase colour column row ≡ has_colour sign page phase colour (spots sign items) (spots sign items) column row
 unfolding in_plane things has_colour
-plane_is sign defaults items page phase colour column row = refl
+plane_is sign items page phase colour column row = refl
 
-module _ (sign : SignData) (defaults : Defaults) (before : List Meaning) where
+module _ (sign : SignData) (before : List Meaning) where
   -- behind a new page all is of a later page
-  later_behind : (rest : List Meaning) → (more : List Spot) × (spots sign defaults (before ++ Does NewPage ∷ rest) ≡ spots sign defaults before ++ more) × All (IsFrom ((standing sign defaults before).page + 1)) more
+  later_behind : (rest : List Meaning) → (more : List Spot) × (spots sign (before ++ Does NewPage ∷ rest) ≡ spots sign before ++ more) × All (IsFrom ((standing sign before).page + 1)) more
   later_behind rest =
-      let at = standing sign defaults before in
+      let at = standing sign before in
       let next = before ++ Does NewPage ∷ [] in
       let cover : Spot = record { at = at; put = Cover (at.page + 1) at.back } in
-      let more = spots_behind sign defaults next rest in
-      let behind : All (IsFrom (at.page + 1)) more = subst (λ low. All (IsFrom low) more) (next_page_behind sign defaults before) (pages_behind sign defaults next rest) in
-      (cover ∷ more, spots_with sign defaults before (Does NewPage) rest (Cover (at.page + 1) at.back) refl, All-cons (IsFrom (at.page + 1)) cover more (omega arith) behind)
+      let more = spots_behind sign next rest in
+      let behind : All (IsFrom (at.page + 1)) more = subst (λ low. All (IsFrom low) more) (next_page_behind sign before) (pages_behind sign next rest) in
+      (cover ∷ more, spots_with sign before (Does NewPage) rest (Cover (at.page + 1) at.back) refl, All-cons (IsFrom (at.page + 1)) cover more (omega arith) behind)
 
   -- where a page ends, the rest of the string covers none of its pixels
   pub covered_ends : (behind : List Meaning) (phase colour column row : ℕ) → EndsPage behind
-      → in_plane sign defaults (before ++ behind) (standing sign defaults before).page phase colour column row
-      ≡ has_colour sign defaults (standing sign defaults before).page phase colour (spots sign defaults (before ++ behind)) (spots sign defaults before) column row
+      → in_plane sign (before ++ behind) (standing sign before).page phase colour column row
+      ≡ has_colour sign (standing sign before).page phase colour (spots sign (before ++ behind)) (spots sign before) column row
   covered_ends behind phase colour column row (inl last) =
-      let page = (standing sign defaults before).page in
-      let all = spots sign defaults (before ++ behind) in
+      let page = (standing sign before).page in
+      let all = spots sign (before ++ behind) in
       let same : before ++ behind ≡ before = ap (λ l. before ++ l) last ∙ append-nil before in
-      plane_is sign defaults (before ++ behind) page phase colour column row
-      ∙ ap (λ items. has_colour sign defaults page phase colour all (spots sign defaults items) column row) same
+      plane_is sign (before ++ behind) page phase colour column row
+      ∙ ap (λ items. has_colour sign page phase colour all (spots sign items) column row) same
   covered_ends behind phase colour column row (inr (rest, next)) =
-      let page = (standing sign defaults before).page in
-      let all = spots sign defaults (before ++ behind) in
+      let page = (standing sign before).page in
+      let all = spots sign (before ++ behind) in
       let later = later_behind rest in
-      plane_is sign defaults (before ++ behind) page phase colour column row
-      ∙ ap (λ l. has_colour sign defaults page phase colour all (spots sign defaults (before ++ l)) column row) next
-      ∙ ap (λ l. has_colour sign defaults page phase colour all l column row) later.1
-      ∙ covered_later sign defaults page phase colour all column row (spots sign defaults before) later.0 later.2
+      plane_is sign (before ++ behind) page phase colour column row
+      ∙ ap (λ l. has_colour sign page phase colour all (spots sign (before ++ l)) column row) next
+      ∙ ap (λ l. has_colour sign page phase colour all l column row) later.1
+      ∙ covered_later sign page phase colour all column row (spots sign before) later.0 later.2
 
 -- a spot is of this area or a later one
 abbrev IsLater : ℕ → Spot → Type 0
@@ -343,11 +343,11 @@ spot_area defaults here low x reached = go (put_at defaults here x)
     go (Some put) = All-cons (IsLater low) (record { at = here; put = put }) [] reached (All-nil (IsLater low))
 
 -- what the items behind some others put is of their area or a later one
-areas_behind : (sign : SignData) (defaults : Defaults) (before behind : List Meaning) → All (IsLater (standing sign defaults before).area) (spots_behind sign defaults before behind)
-areas_behind sign defaults before behind =
-    let low = (standing sign defaults before).area in
-    some_all (λ x. Unit {0}) (IsLater low) (λ more item. spot_at defaults (standing sign defaults (before ++ more)) item) behind (all_any behind)
-    (λ more x _. spot_area defaults (standing sign defaults (before ++ more)) low x (area_on sign defaults before more))
+areas_behind : (sign : SignData) (before behind : List Meaning) → All (IsLater (standing sign before).area) (spots_behind sign before behind)
+areas_behind sign before behind =
+    let low = (standing sign before).area in
+    some_all (λ x. Unit {0}) (IsLater low) (λ more item. spot_at sign.defaults (standing sign (before ++ more)) item) behind (all_any behind)
+    (λ more x _. spot_area sign.defaults (standing sign (before ++ more)) low x (area_on sign before more))
 
 -- spots of later areas are not in an area
 area_later : (k : ℕ) (spots : List Spot) → All (IsLater (k + 1)) spots → in_area k spots ≡ []
@@ -362,52 +362,52 @@ begins_none k defaults here (Does (Rect x y w h)) begins = refl
 begins_none k defaults here _ begins = absurd (cc)
 
 -- the items behind some others leave what stands in an area
-pub area_goes_on : (sign : SignData) (defaults : Defaults) (before behind : List Meaning) (k : ℕ) → (more : List Spot) × (in_area k (spots sign defaults (before ++ behind)) ≡ in_area k (spots sign defaults before) ++ more)
-area_goes_on sign defaults before behind k =
-    let more = spots_behind sign defaults before behind in
-    (in_area k more, ap (in_area k) (spots_split sign defaults before behind) ∙ in_area-append k (spots sign defaults before) more)
+pub area_goes_on : (sign : SignData) (before behind : List Meaning) (k : ℕ) → (more : List Spot) × (in_area k (spots sign (before ++ behind)) ≡ in_area k (spots sign before) ++ more)
+area_goes_on sign before behind k =
+    let more = spots_behind sign before behind in
+    (in_area k more, ap (in_area k) (spots_split sign before behind) ∙ in_area-append k (spots sign before) more)
 
-module _ (sign : SignData) (defaults : Defaults) (before : List Meaning) where
+module _ (sign : SignData) (before : List Meaning) where
   -- behind an item that begins an area stands the next area
-  area_next : (x : Meaning) → begins_area x ≡ true → (standing sign defaults (before ++ x ∷ [])).area ≡ (standing sign defaults before).area + 1
-  area_next x begins = ap (λ (s : Standing). s.area) (standing_push sign defaults before x) ∙ ap (λ b. (standing sign defaults before).area + cond b 1 0) begins
+  area_next : (x : Meaning) → begins_area x ≡ true → (standing sign (before ++ x ∷ [])).area ≡ (standing sign before).area + 1
+  area_next x begins = ap (λ (s : Standing). s.area) (standing_push sign before x) ∙ ap (λ b. (standing sign before).area + cond b 1 0) begins
 
   -- an item that begins an area, and the items behind it, place nothing in the area that ends
   ends_next : (x : Meaning) (rest : List Meaning) → begins_area x ≡ true
-      → in_area (standing sign defaults before).area (spots sign defaults (before ++ x ∷ rest)) ≡ in_area (standing sign defaults before).area (spots sign defaults before)
+      → in_area (standing sign before).area (spots sign (before ++ x ∷ rest)) ≡ in_area (standing sign before).area (spots sign before)
   ends_next x rest begins =
-      let at = standing sign defaults before in
+      let at = standing sign before in
       let next = before ++ x ∷ [] in
-      let one = cons_option (spot_at defaults at x) [] in
-      let more = spots_behind sign defaults next rest in
-      let is : spots sign defaults (before ++ x ∷ rest) ≡ (spots sign defaults before ++ one) ++ more =
-      spots_cut sign defaults before x rest ∙ ap (λ l. l ++ more) (spots_push sign defaults before x) in
-      let later : in_area at.area more ≡ [] = area_later at.area more (subst (λ low. All (IsLater low) more) (area_next x begins) (areas_behind sign defaults next rest)) in
+      let one = cons_option (spot_at sign.defaults at x) [] in
+      let more = spots_behind sign next rest in
+      let is : spots sign (before ++ x ∷ rest) ≡ (spots sign before ++ one) ++ more =
+      spots_cut sign before x rest ∙ ap (λ l. l ++ more) (spots_push sign before x) in
+      let later : in_area at.area more ≡ [] = area_later at.area more (subst (λ low. All (IsLater low) more) (area_next x begins) (areas_behind sign next rest)) in
       ap (in_area at.area) is
-      ∙ in_area-append at.area (spots sign defaults before ++ one) more
-      ∙ ap (λ l. in_area at.area (spots sign defaults before ++ one) ++ l) later
-      ∙ append-nil (in_area at.area (spots sign defaults before ++ one))
-      ∙ in_area-append at.area (spots sign defaults before) one
-      ∙ ap (λ l. in_area at.area (spots sign defaults before) ++ l) (begins_none at.area defaults at x begins)
-      ∙ append-nil (in_area at.area (spots sign defaults before))
+      ∙ in_area-append at.area (spots sign before ++ one) more
+      ∙ ap (λ l. in_area at.area (spots sign before ++ one) ++ l) later
+      ∙ append-nil (in_area at.area (spots sign before ++ one))
+      ∙ in_area-append at.area (spots sign before) one
+      ∙ ap (λ l. in_area at.area (spots sign before) ++ l) (begins_none at.area sign.defaults at x begins)
+      ∙ append-nil (in_area at.area (spots sign before))
 
   -- where an area ends, the rest of the string puts nothing into it
   pub area_ends : (behind : List Meaning) → EndsArea behind
-      → in_area (standing sign defaults before).area (spots sign defaults (before ++ behind)) ≡ in_area (standing sign defaults before).area (spots sign defaults before)
-  area_ends behind (inl last) = ap (λ l. in_area (standing sign defaults before).area (spots sign defaults l)) (ap (λ l. before ++ l) last ∙ append-nil before)
-  area_ends behind (inr (x, rest, begins, next)) = ap (λ l. in_area (standing sign defaults before).area (spots sign defaults (before ++ l))) next ∙ ends_next x rest begins
+      → in_area (standing sign before).area (spots sign (before ++ behind)) ≡ in_area (standing sign before).area (spots sign before)
+  area_ends behind (inl last) = ap (λ l. in_area (standing sign before).area (spots sign l)) (ap (λ l. before ++ l) last ∙ append-nil before)
+  area_ends behind (inr (x, rest, begins, next)) = ap (λ l. in_area (standing sign before).area (spots sign (before ++ l))) next ∙ ends_next x rest begins
 
   -- a character joins its area, and the items behind it come after it
-  pub area_with_glyph : (number : ℕ) (cell : CellData) (rest : List Meaning) → cell_numbered (standing sign defaults before).font number ≡ Some cell →
-      let at = standing sign defaults before in
+  pub area_with_glyph : (number : ℕ) (cell : CellData) (rest : List Meaning) → cell_numbered (standing sign before).font number ≡ Some cell →
+      let at = standing sign before in
       let spot : Spot = record { at = at; put = Glyph cell } in
-      (more : List Spot) × (in_area at.area (spots sign defaults (before ++ Shows number ∷ rest)) ≡ in_area at.area (spots sign defaults before) ++ spot ∷ more)
+      (more : List Spot) × (in_area at.area (spots sign (before ++ Shows number ∷ rest)) ≡ in_area at.area (spots sign before) ++ spot ∷ more)
   area_with_glyph number cell rest found =
-      let at = standing sign defaults before in
+      let at = standing sign before in
       let spot : Spot = record { at = at; put = Glyph cell } in
-      let more = spots_behind sign defaults (before ++ Shows number ∷ []) rest in
-      let is : in_area at.area (spots sign defaults (before ++ Shows number ∷ rest)) ≡ in_area at.area (spots sign defaults before) ++ spot ∷ in_area at.area more =
-      ap (in_area at.area) (spots_with sign defaults before (Shows number) rest (Glyph cell) (ap (option_map Glyph) found))
-      ∙ in_area-append at.area (spots sign defaults before) (spot ∷ more)
-      ∙ ap (λ b. in_area at.area (spots sign defaults before) ++ cond b (spot ∷ in_area at.area more) (in_area at.area more)) (eq-eqb at.area at.area refl) in
+      let more = spots_behind sign (before ++ Shows number ∷ []) rest in
+      let is : in_area at.area (spots sign (before ++ Shows number ∷ rest)) ≡ in_area at.area (spots sign before) ++ spot ∷ in_area at.area more =
+      ap (in_area at.area) (spots_with sign before (Shows number) rest (Glyph cell) (ap (option_map Glyph) found))
+      ∙ in_area-append at.area (spots sign before) (spot ∷ more)
+      ∙ ap (λ b. in_area at.area (spots sign before) ++ cond b (spot ∷ in_area at.area more) (in_area at.area more)) (eq-eqb at.area at.area refl) in
       (in_area at.area more, is)

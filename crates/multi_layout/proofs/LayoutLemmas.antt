@@ -4,7 +4,6 @@ use Rattle.std.specs.List.{filter, filter_map, last_or, cons_option}
 use Rattle.std.specs.Option.{unwrap_or}
 use Rattle.std.proofs.lemmas.List.{append-nil}
 use Rattle.std.proofs.lemmas.List.Elements.{filter_map-append, filter-append}
-use Rattle.sign_font.specs.declared.parts.Defaults.{Defaults}
 use Rattle.sign_font.specs.Sign.{SignData}
 use Rattle.multi_layout.specs.Meaning.{Meaning}
 use Rattle.multi_layout.specs.Attributes.{in_force}
@@ -24,9 +23,9 @@ in_force_push given default before x =
     ∙ ap (λ o. unwrap_or o default) (last_or-append None (filter_map given before) (cons_option (given x) []))
     ∙ in_force_if (last_or None (filter_map given before)) (given x) default
 
-pub spots_push : (sign : SignData) (defaults : Defaults) (items : List Meaning) (x : Meaning) → spots sign defaults (items ++ x ∷ []) ≡ spots sign defaults items ++ cons_option (spot_at defaults (standing sign defaults items) x) []
+pub spots_push : (sign : SignData) (items : List Meaning) (x : Meaning) → spots sign (items ++ x ∷ []) ≡ spots sign items ++ cons_option (spot_at sign.defaults (standing sign items) x) []
 unfolding spots
-spots_push sign defaults items x = some_after_push (λ before x. spot_at defaults (standing sign defaults before) x) items x
+spots_push sign items x = some_after_push (λ before x. spot_at sign.defaults (standing sign before) x) items x
 
 -- a segment after one more character of its own
 pub width_push : (characters : List Spot) (s : Spot) → width_of (characters ++ s ∷ []) ≡ width_of characters + gap_before char_gap characters s + glyph_width s

@@ -5,7 +5,6 @@ use Rattle.std.specs.List.{count_by}
 use Rattle.std.specs.Option.{option_map_or}
 use Rattle.multi_tag.specs.declared.tag.Tag.TheVariants.{NewPage, NewLine, Font, Rect}
 use Rattle.multi_tag.specs.declared.tag.FontPick.{FontPick}
-use Rattle.sign_font.specs.declared.parts.Defaults.{Defaults}
 use Rattle.sign_font.specs.Sign.{SignData, CellData, FontData, cell_numbered, font_numbered}
 use Rattle.multi_layout.specs.Attributes.{is_inside}
 use Rattle.multi_layout.specs.Address.{Break, Glyph, Spot, spots, standing}
@@ -21,35 +20,35 @@ two_cases true b n m = refl
 two_cases false true n m = refl
 two_cases false false n m = refl
 
-module _ (sign : SignData) (defaults : Defaults) (items : List Meaning) where
+module _ (sign : SignData) (items : List Meaning) where
   -- a character without a cell
-  pub offence-undefined : (number : ℕ) → cell_numbered (standing sign defaults items).font number ≡ None → offence sign defaults items (Shows number) ≡ Some 7
+  pub offence-undefined : (number : ℕ) → cell_numbered (standing sign items).font number ≡ None → offence sign items (Shows number) ≡ Some 7
   unfolding offence
-  offence-undefined number none = ap (λ o. first_code (character_cases sign defaults items o)) none
+  offence-undefined number none = ap (λ o. first_code (character_cases sign items o)) none
 
   -- a character with a cell
-  pub offence-character : (number : ℕ) (cell : CellData) → cell_numbered (standing sign defaults items).font number ≡ Some cell →
-      let spot : Spot = record { at = standing sign defaults items; put = Glyph cell } in
-      offence sign defaults items (Shows number) ≡ cond (conflicts (spots sign defaults items) spot) (Some 11) (cond (too_big (spots sign defaults items) spot) (Some 5) None)
+  pub offence-character : (number : ℕ) (cell : CellData) → cell_numbered (standing sign items).font number ≡ Some cell →
+      let spot : Spot = record { at = standing sign items; put = Glyph cell } in
+      offence sign items (Shows number) ≡ cond (conflicts (spots sign items) spot) (Some 11) (cond (too_big (spots sign items) spot) (Some 5) None)
   unfolding offence
   offence-character number cell found =
-      let spot : Spot = record { at = standing sign defaults items; put = Glyph cell } in
-      ap (λ o. first_code (character_cases sign defaults items o)) found ∙ two_cases (conflicts (spots sign defaults items) spot) (too_big (spots sign defaults items) spot) 11 5
+      let spot : Spot = record { at = standing sign items; put = Glyph cell } in
+      ap (λ o. first_code (character_cases sign items o)) found ∙ two_cases (conflicts (spots sign items) spot) (too_big (spots sign items) spot) 11 5
 
   -- the end of a line
   pub offence-break : (gap : Option ℕ) →
-      let spot : Spot = record { at = standing sign defaults items; put = Break gap } in
-      offence sign defaults items (Does (NewLine gap)) ≡ cond (conflicts (spots sign defaults items) spot) (Some 11) (cond (too_big (spots sign defaults items) spot) (Some 5) None)
+      let spot : Spot = record { at = standing sign items; put = Break gap } in
+      offence sign items (Does (NewLine gap)) ≡ cond (conflicts (spots sign items) spot) (Some 11) (cond (too_big (spots sign items) spot) (Some 5) None)
   unfolding offence
   offence-break gap =
-      let spot : Spot = record { at = standing sign defaults items; put = Break gap } in
-      two_cases (conflicts (spots sign defaults items) spot) (too_big (spots sign defaults items) spot) 11 5
+      let spot : Spot = record { at = standing sign items; put = Break gap } in
+      two_cases (conflicts (spots sign items) spot) (too_big (spots sign items) spot) 11 5
 
-  pub offence-page : offence sign defaults items (Does NewPage) ≡ cond (nat_lt sign.max_pages (count_by is_new_page items + 2)) (Some 12) None
+  pub offence-page : offence sign items (Does NewPage) ≡ cond (nat_lt sign.max_pages (count_by is_new_page items + 2)) (Some 12) None
   unfolding offence
   offence-page = one_case (nat_lt sign.max_pages (count_by is_new_page items + 2)) 12
 
-  pub offence-rectangle : (x y w h : ℕ) → offence sign defaults items (Does (Rect x y w h)) ≡ cond (is_inside sign x y w h) None (Some 4)
+  pub offence-rectangle : (x y w h : ℕ) → offence sign items (Does (Rect x y w h)) ≡ cond (is_inside sign x y w h) None (Some 4)
   unfolding offence
   offence-rectangle x y w h = go (is_inside sign x y w h)
     where
@@ -57,15 +56,15 @@ module _ (sign : SignData) (defaults : Defaults) (items : List Meaning) where
       go true = refl
       go false = refl
 
-  pub offence-no_font : (pick : FontPick) → font_numbered sign pick.number ≡ None → offence sign defaults items (Does (Font (Some pick))) ≡ Some 6
+  pub offence-no_font : (pick : FontPick) → font_numbered sign pick.number ≡ None → offence sign items (Does (Font (Some pick))) ≡ Some 6
   unfolding offence
   offence-no_font pick none = ap (λ o. first_code (font_cases o pick.version)) none
 
   pub offence-font : (pick : FontPick) (font : FontData) → font_numbered sign pick.number ≡ Some font
-      → offence sign defaults items (Does (Font (Some pick))) ≡ cond (option_map_or (λ v. not (v == font.version)) pick.version false) (Some 13) None
+      → offence sign items (Does (Font (Some pick))) ≡ cond (option_map_or (λ v. not (v == font.version)) pick.version false) (Some 13) None
   unfolding offence
   offence-font pick font found = ap (λ o. first_code (font_cases o pick.version)) found ∙ one_case (option_map_or (λ v. not (v == font.version)) pick.version false) 13
 
-  pub offence-faulty : (code : ℕ) → offence sign defaults items (Faulty code) ≡ Some code
+  pub offence-faulty : (code : ℕ) → offence sign items (Faulty code) ≡ Some code
   unfolding offence
   offence-faulty code = refl

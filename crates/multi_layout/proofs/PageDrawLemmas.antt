@@ -47,41 +47,41 @@ same_front (x ∷ xs) ys (z ∷ zs) ws e n =
     ap (λ y. y ∷ xs) head ∙ ap (λ l. z ∷ l) more
 
 -- a string has the same items whatever says that it is accepted
-one_list : (sign : SignData) (defaults : Defaults) (octets : List ℕ) (items items' : List Item) → IsAccepted sign defaults octets items → IsAccepted sign defaults octets items' → items ≡ items'
-one_list sign defaults octets items items' a a' =
-    let read = λ (l : List Item) (x : IsAccepted sign defaults octets l). let r : IsReading octets l [] = record { each = x.each; spelled = x.spelled ∙ sym (append-nil (spell l)); ends = none_found [] refl } in r in
+one_list : (sign : SignData) (octets : List ℕ) (items items' : List Item) → IsAccepted sign octets items → IsAccepted sign octets items' → items ≡ items'
+one_list sign octets items items' a a' =
+    let read = λ (l : List Item) (x : IsAccepted sign octets l). let r : IsReading octets l [] = record { each = x.each; spelled = x.spelled ∙ sym (append-nil (spell l)); ends = none_found [] refl } in r in
     (one_reading octets items items' [] [] (read items a) (read items' a')).0
 
 -- a cursor stands behind the same items whatever says so
-pub one_place : (sign : SignData) (defaults : Defaults) (octets : List ℕ) (before behind before' behind' : List Item) (cursor : Cursor) → IsBetween sign defaults octets before behind cursor → IsBetween sign defaults octets before' behind' cursor → before ≡ before'
-one_place sign defaults octets before behind before' behind' cursor b b' =
-    same_front before behind before' behind' (one_list sign defaults octets (before ++ behind) (before' ++ behind') b.accepted b'.accepted) (sym b.place ∙ b'.place)
+pub one_place : (sign : SignData) (octets : List ℕ) (before behind before' behind' : List Item) (cursor : Cursor) → IsBetween sign octets before behind cursor → IsBetween sign octets before' behind' cursor → before ≡ before'
+one_place sign octets before behind before' behind' cursor b b' =
+    same_front before behind before' behind' (one_list sign octets (before ++ behind) (before' ++ behind') b.accepted b'.accepted) (sym b.place ∙ b'.place)
 
 -- AREAS OF A PAGE
 
 -- these items of a page are drawn, and those behind them are left
-pub record PageDrawn (sign : SignData) (defaults : Defaults) (octets : List ℕ) (before behind : List Item) (layer : Layer) (cursor : Cursor) (plane : BitPlane) : Type 0 where
+pub record PageDrawn (sign : SignData) (octets : List ℕ) (before behind : List Item) (layer : Layer) (cursor : Cursor) (plane : BitPlane) : Type 0 where
   pub done : List Item
   pub left : List Item
   pub split : behind ≡ done ++ left
-  pub between : IsBetween sign defaults octets (before ++ done) left cursor
-  pub page : (standing sign defaults (map meaning (before ++ done))).page ≡ (standing sign defaults (map meaning before)).page
-  pub drawn : IsDrawnTo sign defaults layer (map meaning (before ++ behind)) (map meaning (before ++ done)) plane
+  pub between : IsBetween sign octets (before ++ done) left cursor
+  pub page : (standing sign (map meaning (before ++ done))).page ≡ (standing sign (map meaning before)).page
+  pub drawn : IsDrawnTo sign layer (map meaning (before ++ behind)) (map meaning (before ++ done)) plane
 
 -- and an area begins behind them
-pub record PageSoFar (sign : SignData) (defaults : Defaults) (octets : List ℕ) (before behind : List Item) (layer : Layer) (cursor : Cursor) (plane : BitPlane) : Type 0 where
-  pub so : PageDrawn sign defaults octets before behind layer cursor plane
-  pub begins : present_area sign defaults (map meaning (before ++ so.done)) ≡ []
+pub record PageSoFar (sign : SignData) (octets : List ℕ) (before behind : List Item) (layer : Layer) (cursor : Cursor) (plane : BitPlane) : Type 0 where
+  pub so : PageDrawn sign octets before behind layer cursor plane
+  pub begins : present_area sign (map meaning (before ++ so.done)) ≡ []
 
 -- where a page begins, no area has an item yet
-pub nothing_placed : (sign : SignData) (defaults : Defaults) (before : List Meaning) → BeginsPage before → present_area sign defaults before ≡ []
+pub nothing_placed : (sign : SignData) (before : List Meaning) → BeginsPage before → present_area sign before ≡ []
 unfolding spots
-nothing_placed sign defaults before (inl none) = ap (present_area sign defaults) none
-nothing_placed sign defaults before (inr (earlier, is)) = ap (present_area sign defaults) is ∙ present_area-new sign defaults earlier (Does NewPage) refl
+nothing_placed sign before (inl none) = ap (present_area sign) none
+nothing_placed sign before (inr (earlier, is)) = ap (present_area sign) is ∙ present_area-new sign earlier (Does NewPage) refl
 
-page_of : (sign : SignData) (defaults : Defaults) (items : List Meaning) → (standing sign defaults items).page + 1 ≡ pages_of items
+page_of : (sign : SignData) (items : List Meaning) → (standing sign items).page + 1 ≡ pages_of items
 unfolding standing
-page_of sign defaults items = refl
+page_of sign items = refl
 
 -- an item behind which no area begins is no new page
 plain_page : (m : Meaning) → begins_area m ≡ false → is_new_page m ≡ false
@@ -89,42 +89,42 @@ plain_page (Shows number) plain = refl
 plain_page (Does tag) plain = no_page tag plain
 plain_page (Faulty code) plain = refl
 
-module _ (sign : SignData) (defaults : Defaults) where
+module _ (sign : SignData) where
   -- items behind which no area begins leave the page
-  pages_on : (before items : List Item) → BeginsNoArea items → (standing sign defaults (map meaning (before ++ items))).page ≡ (standing sign defaults (map meaning before)).page
-  pages_on before [] plain = ap (λ l. (standing sign defaults (map meaning l)).page) (append-nil before)
+  pages_on : (before items : List Item) → BeginsNoArea items → (standing sign (map meaning (before ++ items))).page ≡ (standing sign (map meaning before)).page
+  pages_on before [] plain = ap (λ l. (standing sign (map meaning l)).page) (append-nil before)
   pages_on before (x ∷ items) plain =
       let first : is_new_page (meaning x) ≡ false = plain_page (meaning x) (All-head (λ y. begins_area (meaning y) ≡ false) x items plain) in
-      ap (λ l. (standing sign defaults (map meaning l)).page) (sym (append_assoc before (x ∷ []) items))
+      ap (λ l. (standing sign (map meaning l)).page) (sym (append_assoc before (x ∷ []) items))
       ∙ pages_on (before ++ x ∷ []) items (All-tail (λ y. begins_area (meaning y) ≡ false) x items plain)
-      ∙ ap (λ ms. (standing sign defaults ms).page) (map-append meaning before (x ∷ []))
-      ∙ same_page_behind sign defaults (map meaning before) (meaning x) first
+      ∙ ap (λ ms. (standing sign ms).page) (map-append meaning before (x ∷ []))
+      ∙ same_page_behind sign (map meaning before) (meaning x) first
 
-module _ (sign : SignData) (defaults : Defaults) (octets : List ℕ) (before behind : List Item) (layer : Layer) where
-  pub page_begins : (cursor : Cursor) (plane : BitPlane) (on : Bool) → IsBetween sign defaults octets before behind cursor → BeginsPage (map meaning before) → on ≡ (shown_colour sign cursor.state.attributes.back == layer.colour)
-      → ((x y : ℕ) → x < plane.width → y < plane.height → is_lit plane x y ≡ on) → PageSoFar sign defaults octets before behind layer cursor plane
+module _ (sign : SignData) (octets : List ℕ) (before behind : List Item) (layer : Layer) where
+  pub page_begins : (cursor : Cursor) (plane : BitPlane) (on : Bool) → IsBetween sign octets before behind cursor → BeginsPage (map meaning before) → on ≡ (shown_colour sign cursor.state.attributes.back == layer.colour)
+      → ((x y : ℕ) → x < plane.width → y < plane.height → is_lit plane x y ≡ on) → PageSoFar sign octets before behind layer cursor plane
   page_begins cursor plane on b begins colour pixels =
       let none : before ++ [] ≡ before = append-nil before in
-      let back : (standing sign defaults (map meaning before)).back ≡ cursor.state.attributes.back = sym (ap (λ (a : Attributes). a.back) b.state_is.attributes) in
+      let back : (standing sign (map meaning before)).back ≡ cursor.state.attributes.back = sym (ap (λ (a : Attributes). a.back) b.state_is.attributes) in
       record {
         so = record {
           done = [];
           left = behind;
           split = refl;
-          between = subst (λ l. IsBetween sign defaults octets l behind cursor) (sym none) b;
-          page = ap (λ l. (standing sign defaults (map meaning l)).page) none;
-          drawn = subst (λ l. IsDrawnTo sign defaults layer (map meaning (before ++ behind)) (map meaning l) plane) (sym none)
+          between = subst (λ l. IsBetween sign octets l behind cursor) (sym none) b;
+          page = ap (λ l. (standing sign (map meaning l)).page) none;
+          drawn = subst (λ l. IsDrawnTo sign layer (map meaning (before ++ behind)) (map meaning l) plane) (sym none)
               (λ x y across down. pixels x y across down ∙ colour ∙ ap (λ n. shown_colour sign n == layer.colour) (sym back)
-              ∙ sym (covered_begins sign defaults layer.phase layer.colour (spots sign defaults (map meaning (before ++ behind))) x y (map meaning before) begins));
+              ∙ sym (covered_begins sign layer.phase layer.colour (spots sign (map meaning (before ++ behind))) x y (map meaning before) begins));
         };
-        begins = ap (λ l. present_area sign defaults (map meaning l)) none ∙ nothing_placed sign defaults (map meaning before) begins;
+        begins = ap (λ l. present_area sign (map meaning l)) none ∙ nothing_placed sign (map meaning before) begins;
       }
 
-  module _ (cursor : Cursor) (plane : BitPlane) (s : PageDrawn sign defaults octets before behind layer cursor plane) where
+  module _ (cursor : Cursor) (plane : BitPlane) (s : PageDrawn sign octets before behind layer cursor plane) where
     -- an area more
-    pub page_area : (area rest : List Item) → s.left ≡ area ++ rest → BeginsNoArea area → (cursor' : Cursor) (plane' : BitPlane) → IsBetween sign defaults octets ((before ++ s.done) ++ area) rest cursor'
-        → (IsDrawnTo sign defaults layer (map meaning ((before ++ s.done) ++ (area ++ rest))) (map meaning (before ++ s.done)) plane → IsDrawnTo sign defaults layer (map meaning ((before ++ s.done) ++ (area ++ rest))) (map meaning ((before ++ s.done) ++ area)) plane')
-        → (d : PageDrawn sign defaults octets before behind layer cursor' plane') × (d.done ≡ s.done ++ area) × (d.left ≡ rest)
+    pub page_area : (area rest : List Item) → s.left ≡ area ++ rest → BeginsNoArea area → (cursor' : Cursor) (plane' : BitPlane) → IsBetween sign octets ((before ++ s.done) ++ area) rest cursor'
+        → (IsDrawnTo sign layer (map meaning ((before ++ s.done) ++ (area ++ rest))) (map meaning (before ++ s.done)) plane → IsDrawnTo sign layer (map meaning ((before ++ s.done) ++ (area ++ rest))) (map meaning ((before ++ s.done) ++ area)) plane')
+        → (d : PageDrawn sign octets before behind layer cursor' plane') × (d.done ≡ s.done ++ area) × (d.left ≡ rest)
     page_area area rest is plain cursor' plane' between drawn =
         let assoc : (before ++ s.done) ++ area ≡ before ++ (s.done ++ area) = append_assoc before s.done area in
         let all : before ++ behind ≡ (before ++ s.done) ++ (area ++ rest) = ap (λ l. before ++ l) (s.split ∙ ap (λ l. s.done ++ l) is) ∙ sym (append_assoc before s.done (area ++ rest)) in (
@@ -132,36 +132,36 @@ module _ (sign : SignData) (defaults : Defaults) (octets : List ℕ) (before beh
             done = s.done ++ area;
             left = rest;
             split = s.split ∙ ap (λ l. s.done ++ l) is ∙ sym (append_assoc s.done area rest);
-            between = subst (λ l. IsBetween sign defaults octets l rest cursor') assoc between;
-            page = ap (λ l. (standing sign defaults (map meaning l)).page) (sym assoc) ∙ pages_on sign defaults (before ++ s.done) area plain ∙ s.page;
-            drawn = subst (λ l. IsDrawnTo sign defaults layer (map meaning (before ++ behind)) (map meaning l) plane') assoc
-                (subst (λ l. IsDrawnTo sign defaults layer (map meaning l) (map meaning ((before ++ s.done) ++ area)) plane') (sym all)
-                (drawn (subst (λ l. IsDrawnTo sign defaults layer (map meaning l) (map meaning (before ++ s.done)) plane) all s.drawn)));
+            between = subst (λ l. IsBetween sign octets l rest cursor') assoc between;
+            page = ap (λ l. (standing sign (map meaning l)).page) (sym assoc) ∙ pages_on sign (before ++ s.done) area plain ∙ s.page;
+            drawn = subst (λ l. IsDrawnTo sign layer (map meaning (before ++ behind)) (map meaning l) plane') assoc
+                (subst (λ l. IsDrawnTo sign layer (map meaning l) (map meaning ((before ++ s.done) ++ area)) plane') (sym all)
+                (drawn (subst (λ l. IsDrawnTo sign layer (map meaning l) (map meaning (before ++ s.done)) plane) all s.drawn)));
           },
           refl,
           refl,
         )
 
     -- the rest of the string covers nothing of the page where the page ends
-    pub page_shown : EndsPage (map meaning s.left) → (pages : ℕ) → pages ≡ pages_of (map meaning before) → drawn.Shows plane (λ column row. in_plane sign defaults (map meaning (before ++ behind)) (pages - 1) layer.phase layer.colour column row)
+    pub page_shown : EndsPage (map meaning s.left) → (pages : ℕ) → pages ≡ pages_of (map meaning before) → drawn.Shows plane (λ column row. in_plane sign (map meaning (before ++ behind)) (pages - 1) layer.phase layer.colour column row)
     page_shown ends pages count = λ column row across down.
         let done = map meaning (before ++ s.done) in
         let all : map meaning (before ++ behind) ≡ done ++ map meaning s.left = ap (λ l. map meaning (before ++ l)) s.split ∙ ap (map meaning) (sym (append_assoc before s.done s.left)) ∙ map-append meaning (before ++ s.done) s.left in
-        let here : (standing sign defaults done).page ≡ pages - 1 = omega (arith, s.page, count, page_of sign defaults (map meaning before)) in
+        let here : (standing sign done).page ≡ pages - 1 = omega (arith, s.page, count, page_of sign (map meaning before)) in
         s.drawn column row across down
-        ∙ ap (λ ms. has_colour sign defaults (standing sign defaults done).page layer.phase layer.colour (spots sign defaults ms) (spots sign defaults done) column row) all
-        ∙ sym (covered_ends sign defaults done (map meaning s.left) layer.phase layer.colour column row ends)
-        ∙ ap (λ n. in_plane sign defaults (done ++ map meaning s.left) n layer.phase layer.colour column row) here
-        ∙ ap (λ ms. in_plane sign defaults ms (pages - 1) layer.phase layer.colour column row) (sym all)
+        ∙ ap (λ ms. has_colour sign (standing sign done).page layer.phase layer.colour (spots sign ms) (spots sign done) column row) all
+        ∙ sym (covered_ends sign done (map meaning s.left) layer.phase layer.colour column row ends)
+        ∙ ap (λ n. in_plane sign (done ++ map meaning s.left) n layer.phase layer.colour column row) here
+        ∙ ap (λ ms. in_plane sign ms (pages - 1) layer.phase layer.colour column row) (sym all)
 
     pub same_pages : (pages : ℕ) → pages ≡ pages_of (map meaning before) → cursor.state.pages ≡ pages
-    same_pages pages count = omega (arith, s.page, count, s.between.state_is.pages, page_of sign defaults (map meaning before), page_of sign defaults (map meaning (before ++ s.done)))
+    same_pages pages count = omega (arith, s.page, count, s.between.state_is.pages, page_of sign (map meaning before), page_of sign (map meaning (before ++ s.done)))
 
     -- the end of the string
-    pub last_passed : (start : Cursor) → start.state.pages ≡ pages_of (map meaning before) → start.at ≤ cursor.at → s.left ≡ [] → IsPagePassed sign defaults octets before behind start cursor
+    pub last_passed : (start : Cursor) → start.state.pages ≡ pages_of (map meaning before) → start.at ≤ cursor.at → s.left ≡ [] → IsPagePassed sign octets before behind start cursor
     last_passed start count on none = record { page = s.done; rest = s.left; split = s.split; between = s.between; on = on; ends = inl (none, same_pages start.state.pages count) }
 
-    module _ (item : Item) (rest : List Item) (is : s.left ≡ item ∷ rest) (new : Cursor) (between : IsBetween sign defaults octets ((before ++ s.done) ++ item ∷ []) rest new) where
+    module _ (item : Item) (rest : List Item) (is : s.left ≡ item ∷ rest) (new : Cursor) (between : IsBetween sign octets ((before ++ s.done) ++ item ∷ []) rest new) where
       assoc : (before ++ s.done) ++ item ∷ [] ≡ before ++ (s.done ++ item ∷ [])
       assoc = append_assoc before s.done (item ∷ [])
 
@@ -169,43 +169,43 @@ module _ (sign : SignData) (defaults : Defaults) (octets : List ℕ) (before beh
       split' = s.split ∙ ap (λ l. s.done ++ l) is ∙ sym (append_assoc s.done (item ∷ []) rest)
 
       -- a new page
-      pub page_passed : (start : Cursor) → start.state.pages ≡ pages_of (map meaning before) → start.at ≤ new.at → meaning item ≡ Does NewPage → IsPagePassed sign defaults octets before behind start new
+      pub page_passed : (start : Cursor) → start.state.pages ≡ pages_of (map meaning before) → start.at ≤ new.at → meaning item ≡ Does NewPage → IsPagePassed sign octets before behind start new
       page_passed start count on turns =
           let begins : map meaning ((before ++ s.done) ++ item ∷ []) ≡ map meaning (before ++ s.done) ++ Does NewPage ∷ [] = map-append meaning (before ++ s.done) (item ∷ []) ∙ ap (λ m. map meaning (before ++ s.done) ++ m ∷ []) turns in
-          let more : (standing sign defaults (map meaning ((before ++ s.done) ++ item ∷ []))).page ≡ (standing sign defaults (map meaning (before ++ s.done))).page + 1 =
-          ap (λ ms. (standing sign defaults ms).page) begins ∙ next_page_behind sign defaults (map meaning (before ++ s.done)) in
+          let more : (standing sign (map meaning ((before ++ s.done) ++ item ∷ []))).page ≡ (standing sign (map meaning (before ++ s.done))).page + 1 =
+          ap (λ ms. (standing sign ms).page) begins ∙ next_page_behind sign (map meaning (before ++ s.done)) in
           record {
             page = s.done ++ item ∷ [];
             rest = rest;
             split = split';
-            between = subst (λ l. IsBetween sign defaults octets l rest new) assoc between;
+            between = subst (λ l. IsBetween sign octets l rest new) assoc between;
             on = on;
             ends = inr (
               subst (λ l. BeginsPage (map meaning l)) assoc (inr (map meaning (before ++ s.done), begins)),
-              omega (arith, count, s.page, more, between.state_is.pages, page_of sign defaults (map meaning before), page_of sign defaults (map meaning ((before ++ s.done) ++ item ∷ []))),
+              omega (arith, count, s.page, more, between.state_is.pages, page_of sign (map meaning before), page_of sign (map meaning ((before ++ s.done) ++ item ∷ []))),
             );
           }
 
       -- a rectangle
-      pub page_goes_on : begins_area (meaning item) ≡ true → is_new_page (meaning item) ≡ false → put_at defaults (standing sign defaults (map meaning (before ++ s.done))) (meaning item) ≡ None → PageSoFar sign defaults octets before behind layer new plane
+      pub page_goes_on : begins_area (meaning item) ≡ true → is_new_page (meaning item) ≡ false → put_at sign.defaults (standing sign (map meaning (before ++ s.done))) (meaning item) ≡ None → PageSoFar sign octets before behind layer new plane
       page_goes_on area page puts =
           let one : map meaning ((before ++ s.done) ++ item ∷ []) ≡ map meaning (before ++ s.done) ++ meaning item ∷ [] = map-append meaning (before ++ s.done) (item ∷ []) in
-          let all = spots sign defaults (map meaning (before ++ behind)) in
-          let stays = same_page_behind sign defaults (map meaning (before ++ s.done)) (meaning item) page in
-          let drawn : IsDrawnTo sign defaults layer (map meaning (before ++ behind)) (map meaning (before ++ s.done) ++ meaning item ∷ []) plane =
+          let all = spots sign (map meaning (before ++ behind)) in
+          let stays = same_page_behind sign (map meaning (before ++ s.done)) (meaning item) page in
+          let drawn : IsDrawnTo sign layer (map meaning (before ++ behind)) (map meaning (before ++ s.done) ++ meaning item ∷ []) plane =
           (λ x y across down. s.drawn x y across down
-          ∙ sym (covered_same sign defaults layer.phase layer.colour all x y (map meaning (before ++ s.done)) (meaning item) (standing sign defaults (map meaning (before ++ s.done))).page (inl puts))
-          ∙ ap (λ p. has_colour sign defaults p layer.phase layer.colour all (spots sign defaults (map meaning (before ++ s.done) ++ meaning item ∷ [])) x y) (sym stays)) in
+          ∙ sym (covered_same sign layer.phase layer.colour all x y (map meaning (before ++ s.done)) (meaning item) (standing sign (map meaning (before ++ s.done))).page (inl puts))
+          ∙ ap (λ p. has_colour sign p layer.phase layer.colour all (spots sign (map meaning (before ++ s.done) ++ meaning item ∷ [])) x y) (sym stays)) in
           record {
             so = record {
               done = s.done ++ item ∷ [];
               left = rest;
               split = split';
-              between = subst (λ l. IsBetween sign defaults octets l rest new) assoc between;
-              page = ap (λ l. (standing sign defaults (map meaning l)).page) (sym assoc) ∙ ap (λ ms. (standing sign defaults ms).page) one ∙ stays ∙ s.page;
-              drawn = subst (λ l. IsDrawnTo sign defaults layer (map meaning (before ++ behind)) (map meaning l) plane) assoc (subst (λ ms. IsDrawnTo sign defaults layer (map meaning (before ++ behind)) ms plane) (sym one) drawn);
+              between = subst (λ l. IsBetween sign octets l rest new) assoc between;
+              page = ap (λ l. (standing sign (map meaning l)).page) (sym assoc) ∙ ap (λ ms. (standing sign ms).page) one ∙ stays ∙ s.page;
+              drawn = subst (λ l. IsDrawnTo sign layer (map meaning (before ++ behind)) (map meaning l) plane) assoc (subst (λ ms. IsDrawnTo sign layer (map meaning (before ++ behind)) ms plane) (sym one) drawn);
             };
-            begins = ap (λ l. present_area sign defaults (map meaning l)) (sym assoc) ∙ ap (present_area sign defaults) one ∙ present_area-new sign defaults (map meaning (before ++ s.done)) (meaning item) area;
+            begins = ap (λ l. present_area sign (map meaning l)) (sym assoc) ∙ ap (present_area sign) one ∙ present_area-new sign (map meaning (before ++ s.done)) (meaning item) area;
           }
 
 -- what begins an area and no page is a rectangle, which puts nothing
@@ -232,25 +232,25 @@ first_ends item rest is = inr (map meaning rest, ap (λ m. m ∷ map meaning res
 -- A ROUND
 
 -- an area was read and drawn
-pub record Round (sign : SignData) (defaults : Defaults) (octets : List ℕ) (before behind : List Item) (layer : Layer) (old new : Cursor) (plane : BitPlane) (end : ℕ) (source source' : Counted) : Type 0 where
-  pub so : PageDrawn sign defaults octets before behind layer new plane
+pub record Round (sign : SignData) (octets : List ℕ) (before behind : List Item) (layer : Layer) (old new : Cursor) (plane : BitPlane) (end : ℕ) (source source' : Counted) : Type 0 where
+  pub so : PageDrawn sign octets before behind layer new plane
   pub ends : EndsArea (map meaning so.left)
   pub at : new.at ≡ end
   pub on : old.at ≤ end
   pub steps : RisesBetween source source' 0 (2 * (end - old.at) + first_steps so.left)
 
-pub round : (sign : SignData) (defaults : Defaults) (octets : List ℕ) (before behind : List Item) (layer : Layer) (cursor : Cursor) (plane : BitPlane) (s : PageSoFar sign defaults octets before behind layer cursor plane)
-    → (read : AreaLines) (source source' : Counted) → IsAreaRead sign defaults (before ++ s.so.done) s.so.left cursor read source source' → (new : Cursor) (plane' : BitPlane)
-    → ((earlier area rest : List Item) → IsBetween sign defaults octets earlier (area ++ rest) cursor → BeginsNoArea area → read.end ≡ cursor.at + length (spell area) → HasCounted (whole_area sign defaults earlier (area ++ rest)) read.lines
-    → IsBetween sign defaults octets (earlier ++ area) rest new)
-    → ((earlier area rest : List Item) → IsBetween sign defaults octets earlier (area ++ rest) cursor → BeginsNoArea area → read.end ≡ cursor.at + length (spell area) → HasCounted (whole_area sign defaults earlier (area ++ rest)) read.lines
-    → IsDrawnTo sign defaults layer (map meaning (earlier ++ (area ++ rest))) (map meaning earlier) plane → IsDrawnTo sign defaults layer (map meaning (earlier ++ (area ++ rest))) (map meaning (earlier ++ area)) plane')
-    → Round sign defaults octets before behind layer cursor new plane' read.end source source'
-round sign defaults octets before behind layer cursor plane s read source source' a new plane' passed drawn =
-    let b : IsBetween sign defaults octets (before ++ s.so.done) (a.area ++ a.rest) cursor = subst (λ l. IsBetween sign defaults octets (before ++ s.so.done) l cursor) a.split s.so.between in
-    let table : HasCounted (whole_area sign defaults (before ++ s.so.done) (a.area ++ a.rest)) read.lines = subst (λ l. HasCounted (whole_area sign defaults (before ++ s.so.done) l) read.lines) a.split a.table in
+pub round : (sign : SignData) (octets : List ℕ) (before behind : List Item) (layer : Layer) (cursor : Cursor) (plane : BitPlane) (s : PageSoFar sign octets before behind layer cursor plane)
+    → (read : AreaLines) (source source' : Counted) → IsAreaRead sign (before ++ s.so.done) s.so.left cursor read source source' → (new : Cursor) (plane' : BitPlane)
+    → ((earlier area rest : List Item) → IsBetween sign octets earlier (area ++ rest) cursor → BeginsNoArea area → read.end ≡ cursor.at + length (spell area) → HasCounted (whole_area sign earlier (area ++ rest)) read.lines
+    → IsBetween sign octets (earlier ++ area) rest new)
+    → ((earlier area rest : List Item) → IsBetween sign octets earlier (area ++ rest) cursor → BeginsNoArea area → read.end ≡ cursor.at + length (spell area) → HasCounted (whole_area sign earlier (area ++ rest)) read.lines
+    → IsDrawnTo sign layer (map meaning (earlier ++ (area ++ rest))) (map meaning earlier) plane → IsDrawnTo sign layer (map meaning (earlier ++ (area ++ rest))) (map meaning (earlier ++ area)) plane')
+    → Round sign octets before behind layer cursor new plane' read.end source source'
+round sign octets before behind layer cursor plane s read source source' a new plane' passed drawn =
+    let b : IsBetween sign octets (before ++ s.so.done) (a.area ++ a.rest) cursor = subst (λ l. IsBetween sign octets (before ++ s.so.done) l cursor) a.split s.so.between in
+    let table : HasCounted (whole_area sign (before ++ s.so.done) (a.area ++ a.rest)) read.lines = subst (λ l. HasCounted (whole_area sign (before ++ s.so.done) l) read.lines) a.split a.table in
     let between = passed (before ++ s.so.done) a.area a.rest b a.plain a.end table in
-    let (d, done, left) = page_area sign defaults octets before behind layer cursor plane s.so a.area a.rest a.split a.plain new plane' between (drawn (before ++ s.so.done) a.area a.rest b a.plain a.end table) in
+    let (d, done, left) = page_area sign octets before behind layer cursor plane s.so a.area a.rest a.split a.plain new plane' between (drawn (before ++ s.so.done) a.area a.rest b a.plain a.end table) in
     let long : length (spell a.area) ≡ read.end - cursor.at = omega (arith, a.end) in
     record {
       so = d;

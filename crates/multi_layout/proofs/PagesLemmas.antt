@@ -17,7 +17,6 @@ use Rattle.multi_token.proofs.ReadingLemmas.{each_string_has_a_reading, none_fou
 use Rattle.multi_token.proofs.SpellingLemmas.{one_reading}
 use Rattle.multi_token.proofs.StepLemmas.{rises_then}
 use Rattle.page_plane.specs.Plane.{BitPlane}
-use Rattle.sign_font.specs.declared.parts.Defaults.{Defaults}
 use Rattle.sign_font.specs.Sign.{FontData, SignData, largest, tallest}
 use Rattle.sign_font.specs.Sound.{IsSound, IsSoundFont}
 use Rattle.multi_layout.specs.declared.cursor.Cursor.{Cursor}
@@ -35,14 +34,14 @@ use Rattle.multi_layout.proofs.WalkLemmas.{room, within}
 
 -- ---- the items of a string are those of its reading
 
-pub same_items : (sign : SignData) (defaults : Defaults) (octets : List ℕ) (items : List Item) → IsAccepted sign defaults octets items → items ≡ (reading octets).items
-same_items sign defaults octets items a =
+pub same_items : (sign : SignData) (octets : List ℕ) (items : List Item) → IsAccepted sign octets items → items ≡ (reading octets).items
+same_items sign octets items a =
     let read : IsReading octets items [] = record { each = a.each; spelled = a.spelled ∙ sym (append-nil (spell items)); ends = none_found [] refl } in
     (one_reading octets items (reading octets).items [] (reading octets).rest read (each_string_has_a_reading octets)).0
 
 -- and so is what they mean
-same_meanings : (sign : SignData) (defaults : Defaults) (octets : List ℕ) (items : List Item) → IsAccepted sign defaults octets items → map meaning items ≡ meanings octets
-same_meanings sign defaults octets items a = ap (map meaning) (same_items sign defaults octets items a)
+same_meanings : (sign : SignData) (octets : List ℕ) (items : List Item) → IsAccepted sign octets items → map meaning items ≡ meanings octets
+same_meanings sign octets items a = ap (map meaning) (same_items sign octets items a)
 
 -- ---- the number of pages
 
@@ -50,15 +49,15 @@ pages_of-append : (a b : List Meaning) → pages_of (a ++ b) ≡ pages_of a + co
 pages_of-append a b = omega (arith, sum_by-append (λ x. cond (is_new_page x) 1 0) a b)
 
 -- the items before are some of the string's
-pages_before : (sign : SignData) (defaults : Defaults) (octets : List ℕ) (before behind : List Item) (cursor : Cursor) → IsBetween sign defaults octets before behind cursor
+pages_before : (sign : SignData) (octets : List ℕ) (before behind : List Item) (cursor : Cursor) → IsBetween sign octets before behind cursor
     → cursor.state.pages + count_by is_new_page (map meaning behind) ≡ pages_of (meanings octets)
-pages_before sign defaults octets before behind cursor b =
+pages_before sign octets before behind cursor b =
     omega (
       arith,
       b.state_is.pages,
       pages_of-append (map meaning before) (map meaning behind),
       ap pages_of (sym (map-append meaning before behind)),
-      ap pages_of (same_meanings sign defaults octets (before ++ behind) b.accepted),
+      ap pages_of (same_meanings sign octets (before ++ behind) b.accepted),
     )
 
 -- a new page is one tag
@@ -68,38 +67,38 @@ new_page_is _ e = absurd (cc)
 
 -- ---- a page that is passed
 
-pub turned : (sign : SignData) (defaults : Defaults) (octets : List ℕ) (before behind : List Item) (old new : Cursor)
-    → IsBetween sign defaults octets before behind old → IsPagePassed sign defaults octets before behind old new → IsTurned sign defaults octets old new
-turned sign defaults octets before behind old new b p = record {
+pub turned : (sign : SignData) (octets : List ℕ) (before behind : List Item) (old new : Cursor)
+    → IsBetween sign octets before behind old → IsPagePassed sign octets before behind old new → IsTurned sign octets old new
+turned sign octets before behind old new b p = record {
   on = p.on;
-  within = within sign defaults octets (before ++ p.page) p.rest new p.between;
+  within = within sign octets (before ++ p.page) p.rest new p.between;
   ends = elim p.ends [
     | inl last ↦ inl (omega (arith, last.1, at_end last.0), last.1)
-    | inr more ↦ inr (omega (arith, more.1, pages_before sign defaults octets (before ++ p.page) p.rest new p.between), more.1, (before ++ p.page, p.rest, p.between, more.0))
+    | inr more ↦ inr (omega (arith, more.1, pages_before sign octets (before ++ p.page) p.rest new p.between), more.1, (before ++ p.page, p.rest, p.between, more.0))
   ];
 }
   where
     at_end : p.rest ≡ [] → new.state.pages ≡ pages_of (meanings octets)
-    at_end none = omega (arith, pages_before sign defaults octets (before ++ p.page) p.rest new p.between, ap (λ l. count_by is_new_page (map meaning l)) none)
+    at_end none = omega (arith, pages_before sign octets (before ++ p.page) p.rest new p.between, ap (λ l. count_by is_new_page (map meaning l)) none)
 
 -- what is drawn of its items is the picture of the string
-pub shows_picture : (plane : BitPlane) (sign : SignData) (defaults : Defaults) (octets : List ℕ) (items : List Item) (page phase colour : ℕ) → IsAccepted sign defaults octets items
-    → drawn.Shows plane (λ column row. in_plane sign defaults (map meaning items) page phase colour column row) → drawn.Shows plane (picture sign defaults octets page phase colour)
-shows_picture plane sign defaults octets items page phase colour a shows =
-    λ column row w h. shows column row w h ∙ ap (λ ms. in_plane sign defaults ms page phase colour column row) (same_meanings sign defaults octets items a)
+pub shows_picture : (plane : BitPlane) (sign : SignData) (octets : List ℕ) (items : List Item) (page phase colour : ℕ) → IsAccepted sign octets items
+    → drawn.Shows plane (λ column row. in_plane sign (map meaning items) page phase colour column row) → drawn.Shows plane (picture sign octets page phase colour)
+shows_picture plane sign octets items page phase colour a shows =
+    λ column row w h. shows column row w h ∙ ap (λ ms. in_plane sign ms page phase colour column row) (same_meanings sign octets items a)
 
 -- ---- the way to a page
 
 -- the cursor hasn't passed the begin of a page, and where it has as many pages it stands there
-pub record IsOnTheWay (sign : SignData) (defaults : Defaults) (octets : List ℕ) (page : ℕ) (cursor : Cursor) : Type 0 where
+pub record IsOnTheWay (sign : SignData) (octets : List ℕ) (page : ℕ) (cursor : Cursor) : Type 0 where
   pub before : List Item
   pub behind : List Item
-  pub between : IsBetween sign defaults octets before behind cursor
+  pub between : IsBetween sign octets before behind cursor
   pub begins : page < cursor.state.pages → BeginsPage (map meaning before) × (cursor.state.pages ≡ page + 1)
 
-module _ (sign : SignData) (defaults : Defaults) (octets : List ℕ) (page : ℕ) where
+module _ (sign : SignData) (octets : List ℕ) (page : ℕ) where
   -- behind one more item
-  module _ (old new : Cursor) (few : old.state.pages ≤ page) (before rest : List Item) (item : Item) (b : IsBetween sign defaults octets before (item ∷ rest) old) (b' : IsBetween sign defaults octets (before ++ item ∷ []) rest new) where
+  module _ (old new : Cursor) (few : old.state.pages ≤ page) (before rest : List Item) (item : Item) (b : IsBetween sign octets before (item ∷ rest) old) (b' : IsBetween sign octets (before ++ item ∷ []) rest new) where
     counted : new.state.pages ≡ old.state.pages + cond (is_new_page (meaning item)) 1 0
     counted =
         omega (arith, b.state_is.pages, b'.state_is.pages, ap pages_of (map-append meaning before (item ∷ [])), sum_by_push (λ x. cond (is_new_page x) 1 0) (map meaning before) (meaning item))
@@ -107,7 +106,7 @@ module _ (sign : SignData) (defaults : Defaults) (octets : List ℕ) (page : ℕ
     begins_here : is_new_page (meaning item) ≡ true → BeginsPage (map meaning (before ++ item ∷ []))
     begins_here new = inr (map meaning before, map-append meaning before (item ∷ []) ∙ ap (λ x. map meaning before ++ x ∷ []) (new_page_is (meaning item) new))
 
-    pub one_further : IsOnTheWay sign defaults octets page new
+    pub one_further : IsOnTheWay sign octets page new
     one_further = record {
       before = before ++ item ∷ [];
       behind = rest;
@@ -119,8 +118,8 @@ module _ (sign : SignData) (defaults : Defaults) (octets : List ℕ) (page : ℕ
     }
 
   -- the last page has begun where the items end
-  pub not_the_end : (before : List Item) (cursor : Cursor) → IsBetween sign defaults octets before [] cursor → cursor.state.pages ≤ page → page < pages_of (meanings octets) → ⊥
-  not_the_end before cursor b few more = omega (arith, few, more, pages_before sign defaults octets before [] cursor b)
+  pub not_the_end : (before : List Item) (cursor : Cursor) → IsBetween sign octets before [] cursor → cursor.state.pages ≤ page → page < pages_of (meanings octets) → ⊥
+  not_the_end before cursor b few more = omega (arith, few, more, pages_before sign octets before [] cursor b)
 
 -- ---- one step of the way: an item is read, and the cursor passes it
 
@@ -138,22 +137,22 @@ module _ (sign : SignData) (page : ℕ) (start source read passed : Counted) (ol
       let sum : 2 * old.at + (2 * next.len - 1 + 1) ≡ 2 * new.at = omega (arith, at, some) in
       subst (RisesBetween start passed 0) sum all
 
-  module _ (w : IsOnTheWay sign sign.defaults start.octets page old) (first : IsFirst w.behind (Some next)) where
-    stands : IsBetween sign sign.defaults start.octets w.before (first.0 ∷ first.1) old
-    stands = subst (λ (l : List Item). IsBetween sign sign.defaults start.octets w.before l old) first.2 w.between
+  module _ (w : IsOnTheWay sign start.octets page old) (first : IsFirst w.behind (Some next)) where
+    stands : IsBetween sign start.octets w.before (first.0 ∷ first.1) old
+    stands = subst (λ (l : List Item). IsBetween sign start.octets w.before l old) first.2 w.between
 
     pub some_read : 1 ≤ next.len
     some_read = omega (arith, first.3.len, spelling_some first.0)
 
     pub within_further : new.at ≤ length start.octets
-    within_further = omega (arith, at, first.3.len, room sign sign.defaults start.octets w.before first.1 first.0 old stands)
+    within_further = omega (arith, at, first.3.len, room sign start.octets w.before first.1 first.0 old stands)
 
     pub way_further : old.state.pages ≤ page
-        → ((before rest : List Item) (item : Item) → IsBetween sign sign.defaults read.octets before (item ∷ rest) old → IsRead item next → IsBetween sign sign.defaults read.octets (before ++ item ∷ []) rest new)
-        → IsOnTheWay sign sign.defaults start.octets page new
+        → ((before rest : List Item) (item : Item) → IsBetween sign read.octets before (item ∷ rest) old → IsRead item next → IsBetween sign read.octets (before ++ item ∷ []) rest new)
+        → IsOnTheWay sign start.octets page new
     way_further few passes =
         let b' = passes w.before first.1 first.0 (rw read_same stands) first.3 in
-        one_further sign sign.defaults start.octets page old new few w.before first.1 first.0 stands (rw read_same at b')
+        one_further sign start.octets page old new few w.before first.1 first.0 stands (rw read_same at b')
 
 -- ---- bounds
 
@@ -208,23 +207,20 @@ drawing_fills sign plane plane' old cursor n f few =
 -- ---- the pages in turn
 
 -- what was judged is its parts
-judged_is : (a b : Judged) → a.sign ≡ b.sign → a.defaults ≡ b.defaults → a.source ≡ b.source → a ≡ b
-judged_is a b p q r =
-    ap (λ x. record { sign = x; defaults = a.defaults; source = a.source }) p
-    ∙ ap (λ x. record { sign = b.sign; defaults = x; source = a.source }) q
-    ∙ ap (λ x. record { sign = b.sign; defaults = b.defaults; source = x }) r
+judged_is : (a b : Judged) → a.sign ≡ b.sign → a.source ≡ b.source → a ≡ b
+judged_is a b p q = λ i. record { sign = p i; source = q i }
 
 -- at the start
 pub under_way_first : (pages : PagesState) (cursor : Cursor) → IsSound pages.string.sign → length pages.string.source.octets < 2 ^ 32 → IsSized pages.plane pages.string.sign
     → pages.next ≡ 0 → pages.string_started ≡ pages.string.source.steps → pages.plane_started ≡ pages.plane.steps
-    → (items : List Item) → IsBetween pages.string.sign pages.string.defaults pages.string.source.octets [] items cursor → IsUnderWay pages cursor
+    → (items : List Item) → IsBetween pages.string.sign pages.string.source.octets [] items cursor → IsUnderWay pages cursor
 under_way_first pages cursor sound short size first read drawn items b = record {
   sound = sound;
   short = short;
   size = size;
   next_most = omega (arith, first);
   begins = λ h. (([], items, b, inl refl), omega (arith, first, b.state_is.pages));
-  within = within pages.string.sign pages.string.defaults pages.string.source.octets [] items cursor b;
+  within = within pages.string.sign pages.string.source.octets [] items cursor b;
   read_least = omega (arith, read);
   read_most = omega (arith, read);
   fills = 0;
@@ -241,7 +237,7 @@ same_end next count new (inr more) = grind (arith, nat_tests)
 not_all : (next count : ℕ) → next < count → (next == count) ≡ false
 not_all next count more = grind (arith, nat_tests)
 
-module _ (old : PagesState) (cursor cursor' : Cursor) (u : IsUnderWay old cursor) (more : old.next < page_count old.string) (t : IsTurned old.string.sign old.string.defaults old.string.source.octets cursor cursor') where
+module _ (old : PagesState) (cursor cursor' : Cursor) (u : IsUnderWay old cursor) (more : old.next < page_count old.string) (t : IsTurned old.string.sign old.string.source.octets cursor cursor') where
   begun : cursor.state.pages ≡ old.next + 1
   begun = (u.begins more).1
 
@@ -257,18 +253,18 @@ module _ (old : PagesState) (cursor cursor' : Cursor) (u : IsUnderWay old cursor
   none_yet : (n : ℕ) → cond (old.next == page_count old.string) n 0 ≡ 0
   none_yet n = ap (λ b. cond b n 0) (not_all old.next (page_count old.string) more)
 
-  begins_next : old.next + 1 < page_count old.string → IsPageStart old.string.sign old.string.defaults old.string.source.octets cursor' × (cursor'.state.pages ≡ old.next + 1 + 1)
+  begins_next : old.next + 1 < page_count old.string → IsPageStart old.string.sign old.string.source.octets cursor' × (cursor'.state.pages ≡ old.next + 1 + 1)
   begins_next h = elim t.ends [
     | inl last ↦ absurd (omega (arith, begun, last.0, h))
     | inr then ↦ (then.2, omega (arith, begun, then.1))
   ]
 
   -- behind one more page
-  module _ (string : Judged) (plane : BitPlane) (sign_kept : string.sign ≡ old.string.sign) (defaults_kept : string.defaults ≡ old.string.defaults) (size_kept : (plane.width ≡ old.plane.width) × (plane.height ≡ old.plane.height))
+  module _ (string : Judged) (plane : BitPlane) (sign_kept : string.sign ≡ old.string.sign) (size_kept : (plane.width ≡ old.plane.width) × (plane.height ≡ old.plane.height))
       (twice : IsReadTwice old.string.source string.source cursor cursor') (f : IsFilledFew old.string.sign old.plane plane cursor cursor') where
     abbrev pub moved : ℕ → PagesState
     moved k = record {
-      string = record { sign = old.string.sign; defaults = old.string.defaults; source = charged old.string.source k };
+      string = record { sign = old.string.sign; source = charged old.string.source k };
       plane = plane;
       phase = old.phase;
       colour = old.colour;
@@ -278,7 +274,7 @@ module _ (old : PagesState) (cursor cursor' : Cursor) (u : IsUnderWay old cursor
     }
 
     string_is : string ≡ (moved twice.0).string
-    string_is = judged_is string (moved twice.0).string sign_kept defaults_kept twice.3
+    string_is = judged_is string (moved twice.0).string sign_kept twice.3
 
     rows : tallest old.string.sign * cursor'.at ≡ tallest old.string.sign * cursor.at + tallest old.string.sign * (cursor'.at - cursor.at)
     rows =
@@ -307,7 +303,6 @@ module _ (old : PagesState) (cursor cursor' : Cursor) (u : IsUnderWay old cursor
     pub turns_page : TurnsPage old (record (moved twice.0) { string = string })
     turns_page = record {
       sign_kept = sign_kept;
-      defaults_kept = defaults_kept;
       read = rises_fewer old.string.source string.source (4 * (cursor'.at - cursor.at) + cond (cursor'.state.pages == cursor.state.pages) 2 0) (reading_limit (length old.string.source.octets)) twice
           (omega (arith, t.within, at_most (cursor'.state.pages == cursor.state.pages) 2));
       size_kept = size_kept;

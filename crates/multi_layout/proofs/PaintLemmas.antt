@@ -7,7 +7,6 @@ use Rattle.std.proofs.lemmas.Bool.{eq-eqb}
 use Rattle.std.proofs.lemmas.Option.{same_Some}
 use Rattle.std.proofs.lemmas.List.Elements.{filter-append}
 use Rattle.page_plane.specs.Plane.{BitPlane, is_lit}
-use Rattle.sign_font.specs.declared.parts.Defaults.{Defaults}
 use Rattle.sign_font.specs.Cell as cells
 use Rattle.sign_font.specs.Sign.{SignData, FontData, CellData, cell_in, cell_numbered, sized}
 use Rattle.multi_layout.specs.declared.attributes.Attributes.{Attributes}
@@ -39,54 +38,54 @@ some_sized : (font : FontData) (o : Option CellData) (c : cells.SizedCell) → o
 some_sized font None c e = cc
 some_sized font (Some cell) c e = (cell, refl, same_Some (sized font cell) c e)
 
-module _ (sign : SignData) (defaults : Defaults) (before : List Meaning) (state : State) (st : IsStateOf sign defaults before state) (number : ℕ) (c : cells.SizedCell)
+module _ (sign : SignData) (before : List Meaning) (state : State) (st : IsStateOf sign before state) (number : ℕ) (c : cells.SizedCell)
     (found : cell_in sign state.attributes.font.number number ≡ Some c) where
-  pub glyph_found : (cell : CellData) × (cell_numbered (standing sign defaults before).font number ≡ Some cell) × (sized (standing sign defaults before).font cell ≡ c)
+  pub glyph_found : (cell : CellData) × (cell_numbered (standing sign before).font number ≡ Some cell) × (sized (standing sign before).font cell ≡ c)
   glyph_found =
-      let font = (standing sign defaults before).font in
+      let font = (standing sign before).font in
       let number_is : state.attributes.font.number ≡ font.number = ap (λ (a : Attributes). a.font.number) st.attributes in
       some_sized font (cell_numbered font number) c (sym (cell_of_font sign font number st.font) ∙ ap (λ n. cell_in sign n number) (sym number_is) ∙ found)
 
   -- the pixels of a character that is lit
-  module _ (rest : List Meaning) (layer : Layer) (lines : LineTable) (counted : HasCounted (in_area (standing sign defaults before).area (spots sign defaults (before ++ Shows number ∷ rest))) lines)
+  module _ (rest : List Meaning) (layer : Layer) (lines : LineTable) (counted : HasCounted (in_area (standing sign before).area (spots sign (before ++ Shows number ∷ rest))) lines)
       (place : Place)
       (placed : (earlier all : List Spot) (spot : Spot) → is_glyph spot ≡ true → state.attributes ≡ attributes_of spot.at → glyph_width spot ≡ c.width → state.area ≡ area_sum (area_of spot earlier)
       → group_lines state.attributes.page_just lines ≡ table_of (lines_of (group_of spot all)) → count_by is_break (group_of spot earlier) < length (lines_of (group_of spot all)) → place ≡ place_of earlier all spot) where
     -- the place is the character's
-    place_is : (cell : CellData) → cell_numbered (standing sign defaults before).font number ≡ Some cell → sized (standing sign defaults before).font cell ≡ c
-        → place ≡ place_of (spots sign defaults before) (spots sign defaults (before ++ Shows number ∷ rest)) (record { at = standing sign defaults before; put = Glyph cell })
+    place_is : (cell : CellData) → cell_numbered (standing sign before).font number ≡ Some cell → sized (standing sign before).font cell ≡ c
+        → place ≡ place_of (spots sign before) (spots sign (before ++ Shows number ∷ rest)) (record { at = standing sign before; put = Glyph cell })
     place_is cell numbered is =
-        let at = standing sign defaults before in
+        let at = standing sign before in
         let spot : Spot = record { at = at; put = Glyph cell } in
         let page : state.attributes.page_just ≡ at.page_just = ap (λ (a : Attributes). a.page_just) st.attributes in
-        let (more, split) = area_with_glyph sign defaults before number cell rest numbered in
+        let (more, split) = area_with_glyph sign before number cell rest numbered in
         let own : filter (λ (t : Spot). t.at.page_just == at.page_just) (spot ∷ more) ≡ spot ∷ in_group at.page_just more =
         ap (λ b. cond b (spot ∷ in_group at.page_just more) (in_group at.page_just more)) (eq-eqb at.page_just at.page_just refl) in
-        let group : group_of spot (spots sign defaults (before ++ Shows number ∷ rest)) ≡ group_of spot (spots sign defaults before) ++ spot ∷ in_group at.page_just more =
+        let group : group_of spot (spots sign (before ++ Shows number ∷ rest)) ≡ group_of spot (spots sign before) ++ spot ∷ in_group at.page_just more =
         ap (in_group at.page_just) split
-        ∙ filter-append (λ (t : Spot). t.at.page_just == at.page_just) (in_area at.area (spots sign defaults before)) (spot ∷ more)
-        ∙ ap (λ l. group_of spot (spots sign defaults before) ++ l) own in
-        let there = line_is_there (group_of spot (spots sign defaults before)) (in_group at.page_just more) spot in
-        placed (spots sign defaults before) (spots sign defaults (before ++ Shows number ∷ rest)) spot refl st.attributes (ap (λ (z : cells.SizedCell). z.width) is) st.area
-        (counted state.attributes.page_just st.page_just.0 st.page_just.1 ∙ ap (λ n. table_of (lines_of (in_group n (in_area at.area (spots sign defaults (before ++ Shows number ∷ rest)))))) page)
-        (subst (λ g. count_by is_break (group_of spot (spots sign defaults before)) < length (lines_of g)) (sym group) there)
+        ∙ filter-append (λ (t : Spot). t.at.page_just == at.page_just) (in_area at.area (spots sign before)) (spot ∷ more)
+        ∙ ap (λ l. group_of spot (spots sign before) ++ l) own in
+        let there = line_is_there (group_of spot (spots sign before)) (in_group at.page_just more) spot in
+        placed (spots sign before) (spots sign (before ++ Shows number ∷ rest)) spot refl st.attributes (ap (λ (z : cells.SizedCell). z.width) is) st.area
+        (counted state.attributes.page_just st.page_just.0 st.page_just.1 ∙ ap (λ n. table_of (lines_of (in_group n (in_area at.area (spots sign (before ++ Shows number ∷ rest)))))) page)
+        (subst (λ g. count_by is_break (group_of spot (spots sign before)) < length (lines_of g)) (sym group) there)
 
     -- a character that is lit covers the pixels of its cell
     pub lit_drawn : (old new : BitPlane) (on : Bool) (height : ℕ) → height ≡ state.attributes.font.height → is_lit_at layer.phase state.attributes.flash ≡ true → on ≡ (shown_colour sign state.attributes.fore == layer.colour)
         → new.width ≡ old.width → new.height ≡ old.height
         → ((x y : ℕ) → x < old.width → y < old.height → is_lit new x y ≡ cond (covers c place.column place.row height x y) on (is_lit old x y))
-        → IsDrawnTo sign defaults layer (before ++ Shows number ∷ rest) before old → IsDrawnTo sign defaults layer (before ++ Shows number ∷ rest) (before ++ Shows number ∷ []) new
+        → IsDrawnTo sign layer (before ++ Shows number ∷ rest) before old → IsDrawnTo sign layer (before ++ Shows number ∷ rest) (before ++ Shows number ∷ []) new
     lit_drawn old new on height high lit colour width tall pixels drawn = λ x y across down.
-        let at = standing sign defaults before in
-        let all = spots sign defaults (before ++ Shows number ∷ rest) in
+        let at = standing sign before in
+        let all = spots sign (before ++ Shows number ∷ rest) in
         let (cell, numbered, is) = glyph_found in
         let spot : Spot = record { at = at; put = Glyph cell } in
-        let here = place_of (spots sign defaults before) all spot in
-        let page = same_page_behind sign defaults before (Shows number) refl in
+        let here = place_of (spots sign before) all spot in
+        let page = same_page_behind sign before (Shows number) refl in
         let shown = shown_colour sign at.fore == layer.colour in
-        let was = has_colour sign defaults at.page layer.phase layer.colour all (spots sign defaults before) x y in
+        let was = has_colour sign at.page layer.phase layer.colour all (spots sign before) x y in
         let flash : is_lit_at layer.phase at.flash ≡ true = ap (λ (a : Attributes). is_lit_at layer.phase a.flash) (sym st.attributes) ∙ lit in
-        let covered = covered_glyph sign defaults layer.phase layer.colour all x y before number cell numbered in
+        let covered = covered_glyph sign layer.phase layer.colour all x y before number cell numbered in
         let in_old : x < old.width = omega (arith, width, across) in
         let in_old' : y < old.height = omega (arith, tall, down) in
         pixels x y in_old in_old'
@@ -97,23 +96,23 @@ module _ (sign : SignData) (defaults : Defaults) (before : List Meaning) (state 
         ∙ ap (λ b. cond (covers (sized at.font cell) here.column here.row at.font.height x y) shown b) (drawn x y in_old in_old')
         ∙ ap (λ l. cond (lit_covers l (sized at.font cell) here.column here.row at.font.height x y) shown was) (sym flash)
         ∙ sym covered
-        ∙ ap (λ p. has_colour sign defaults p layer.phase layer.colour all (spots sign defaults (before ++ Shows number ∷ [])) x y) (sym page)
+        ∙ ap (λ p. has_colour sign p layer.phase layer.colour all (spots sign (before ++ Shows number ∷ [])) x y) (sym page)
 
   -- a character that isn't lit covers none
   pub dark_drawn : (rest : List Meaning) (layer : Layer) (old : BitPlane) → is_lit_at layer.phase state.attributes.flash ≡ false
-      → IsDrawnTo sign defaults layer (before ++ Shows number ∷ rest) before old → IsDrawnTo sign defaults layer (before ++ Shows number ∷ rest) (before ++ Shows number ∷ []) old
+      → IsDrawnTo sign layer (before ++ Shows number ∷ rest) before old → IsDrawnTo sign layer (before ++ Shows number ∷ rest) (before ++ Shows number ∷ []) old
   dark_drawn rest layer old dark drawn = λ x y across down.
-      let at = standing sign defaults before in
-      let all = spots sign defaults (before ++ Shows number ∷ rest) in
+      let at = standing sign before in
+      let all = spots sign (before ++ Shows number ∷ rest) in
       let (cell, numbered, is) = glyph_found in
       let spot : Spot = record { at = at; put = Glyph cell } in
-      let here = place_of (spots sign defaults before) all spot in
-      let page = same_page_behind sign defaults before (Shows number) refl in
+      let here = place_of (spots sign before) all spot in
+      let page = same_page_behind sign before (Shows number) refl in
       let shown = shown_colour sign at.fore == layer.colour in
-      let was = has_colour sign defaults at.page layer.phase layer.colour all (spots sign defaults before) x y in
+      let was = has_colour sign at.page layer.phase layer.colour all (spots sign before) x y in
       let flash : is_lit_at layer.phase at.flash ≡ false = ap (λ (a : Attributes). is_lit_at layer.phase a.flash) (sym st.attributes) ∙ dark in
-      let covered = covered_glyph sign defaults layer.phase layer.colour all x y before number cell numbered in
+      let covered = covered_glyph sign layer.phase layer.colour all x y before number cell numbered in
       drawn x y across down
       ∙ ap (λ l. cond (lit_covers l (sized at.font cell) here.column here.row at.font.height x y) shown was) (sym flash)
       ∙ sym covered
-      ∙ ap (λ p. has_colour sign defaults p layer.phase layer.colour all (spots sign defaults (before ++ Shows number ∷ [])) x y) (sym page)
+      ∙ ap (λ p. has_colour sign p layer.phase layer.colour all (spots sign (before ++ Shows number ∷ [])) x y) (sym page)

@@ -26,7 +26,7 @@ items_of octets = map meaning (reading octets).items
 unfoldable rows : SignData → ℕ → List ℕ → ℕ → ℕ → List (List ℕ)
 unfolding things place_of spots standing items_of
 rows sign phase octets page colour =
-    let all = things sign sample.defaults phase (items_of octets) in
+    let all = things sign phase (items_of octets) in
     map (λ row. map (λ column. if nat_eq (shown_colour sign (colour_of sample.defaults all page column row)) colour then 35 else 46) (range_with_len 0 sign.width)) (range_with_len 0 sign.height)
 
 -- how many pixels of a plane are in it
@@ -73,7 +73,7 @@ a_background_stays_in_force_on_the_next_page = refl
 
 unfoldable shown : List ℕ → ℕ → Shown
 unfolding items_of shown_at shown_within page_times standing
-shown octets clock = shown_at (page_times sample sample.defaults (items_of octets)) clock
+shown octets clock = shown_at (page_times sample (items_of octets)) clock
 
 pages_and_their_off_times : map (shown (codes "[pt10o5]A[np]A")) (9 ∷ 10 ∷ 15 ∷ 29 ∷ 30 ∷ []) ≡ Page 0 9 ∷ Off ∷ Page 1 0 ∷ Off ∷ Page 0 0 ∷ []
 unfolding shown

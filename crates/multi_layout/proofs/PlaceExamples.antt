@@ -10,7 +10,7 @@ use Rattle.multi_layout.specs.Place.{place_of, places}
 
 unfoldable placed : List ℕ → List Place
 unfolding places place_of spots standing reading read_items read_item tag_of
-placed octets = places sample sample.defaults (map meaning (reading octets).items)
+placed octets = places sample (map meaning (reading octets).items)
 
 one_character_stands_in_the_middle : placed (codes "A") ≡ record { column = 4; row = 2 } ∷ []
 unfolding placed

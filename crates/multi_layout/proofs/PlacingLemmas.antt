@@ -2,7 +2,6 @@
 use Rattle.std.proofs.Common.{◌≡◌, ℕ, ◌+◌, ◌*◌, Bool, true, false, not, List, [], ◌∷◌, ◌++◌, length, Option, Some, None, refl, sym, ap, ◌∙◌}
 use Rattle.std.specs.List.{All}
 use Rattle.multi_tag.specs.declared.tag.Tag.TheVariants.{NewLine}
-use Rattle.sign_font.specs.declared.parts.Defaults.{Defaults}
 use Rattle.sign_font.specs.Cell.{SizedCell}
 use Rattle.sign_font.specs.Sign.{SignData, cell_in, info_of}
 use Rattle.multi_layout.specs.declared.area.Area.{Area}
@@ -26,38 +25,38 @@ not_false : (f b : Bool) → f ≡ not b → f ≡ false → b ≡ true
 not_false f true e t = refl
 not_false f false e t = absurd (let wrong : true ≡ false = sym e ∙ t in cc)
 
-module _ (sign : SignData) (defaults : Defaults) (items : List Meaning) (state : State) (st : IsStateOf sign defaults items state) where
-  placing : All IsPlacing (present_area sign defaults items)
-  placing = area_placing (spots sign defaults items) (record { at = standing sign defaults items; put = Break None })
+module _ (sign : SignData) (items : List Meaning) (state : State) (st : IsStateOf sign items state) where
+  placing : All IsPlacing (present_area sign items)
+  placing = area_placing (spots sign items) (record { at = standing sign items; put = Break None })
 
-  page_is : (standing sign defaults items).page_just ≡ state.attributes.page_just
+  page_is : (standing sign items).page_just ≡ state.attributes.page_just
   page_is = sym (ap (λ (a : Attributes). a.page_just) st.attributes)
 
-  line_is : (standing sign defaults items).line_just ≡ state.attributes.line_just
+  line_is : (standing sign items).line_just ≡ state.attributes.line_just
   line_is = sym (ap (λ (a : Attributes). a.line_just) st.attributes)
 
-  width_is : (standing sign defaults items).rectangle.width ≡ state.attributes.rectangle.width
+  width_is : (standing sign items).rectangle.width ≡ state.attributes.rectangle.width
   width_is = sym (ap (λ (a : Attributes). a.rectangle.width) st.attributes)
 
-  height_is : (standing sign defaults items).rectangle.height ≡ state.attributes.rectangle.height
+  height_is : (standing sign items).rectangle.height ≡ state.attributes.rectangle.height
   height_is = sym (ap (λ (a : Attributes). a.rectangle.height) st.attributes)
 
-  font_is : state.attributes.font ≡ info_of (standing sign defaults items).font
+  font_is : state.attributes.font ≡ info_of (standing sign items).font
   font_is = ap (λ (a : Attributes). a.font) st.attributes
 
   module _ (number : ℕ) (c : SizedCell) (some : cell_in sign state.attributes.font.number number ≡ Some c) (r : Bool)
       (answer : (before : List Spot) (s : Spot) → state.area ≡ area_sum (area_of s before) → is_glyph s ≡ true → s.at.page_just ≡ state.attributes.page_just → s.at.line_just ≡ state.attributes.line_just → r ≡ conflicts before s) where
-    pub character-exit-conflict : r ≡ true → offence sign defaults items (Shows number) ≡ Some 11
+    pub character-exit-conflict : r ≡ true → offence sign items (Shows number) ≡ Some 11
     character-exit-conflict is =
-        let (cell, found, width) = cell_found sign defaults items state st number c some in
-        character-conflict sign defaults items state st number cell found
-        (sym (answer (spots sign defaults items) (record { at = standing sign defaults items; put = Glyph cell }) st.area refl page_is line_is) ∙ is)
+        let (cell, found, width) = cell_found sign items state st number c some in
+        character-conflict sign items state st number cell found
+        (sym (answer (spots sign items) (record { at = standing sign items; put = Glyph cell }) st.area refl page_is line_is) ∙ is)
 
     module _ (character : Character) (area : Area) (just : character.just ≡ state.attributes.line_just) (spacing : character.spacing ≡ state.attributes.spacing) (wide : character.width ≡ c.width) (font : character.font ≡ state.attributes.font)
         (sum : (xs : List Spot) (s : Spot) → All IsPlacing xs → state.area ≡ area_sum xs → IsCharacter s character → s.at.page_just ≡ state.attributes.page_just → area ≡ area_sum (xs ++ s ∷ []))
         (f : Bool)
         (fits : (before : List Spot) (s : Spot) → is_glyph s ≡ true → area ≡ area_sum (area_of s before ++ s ∷ []) → s.at.page_just ≡ state.attributes.page_just → s.at.rectangle.width ≡ state.attributes.rectangle.width → s.at.rectangle.height ≡ state.attributes.rectangle.height → f ≡ not (too_big before s)) where
-      is_character : (cell : Rattle.sign_font.specs.Sign.CellData) → c.width ≡ cell.width → IsCharacter (record { at = standing sign defaults items; put = Glyph cell }) character
+      is_character : (cell : Rattle.sign_font.specs.Sign.CellData) → c.width ≡ cell.width → IsCharacter (record { at = standing sign items; put = Glyph cell }) character
       is_character cell width = record {
         glyph = refl;
         just = just ∙ sym line_is;
@@ -66,57 +65,57 @@ module _ (sign : SignData) (defaults : Defaults) (items : List Meaning) (state :
         font = font ∙ font_is;
       }
 
-      pub character-exit-too_big : r ≡ false → f ≡ false → offence sign defaults items (Shows number) ≡ Some 5
+      pub character-exit-too_big : r ≡ false → f ≡ false → offence sign items (Shows number) ≡ Some 5
       character-exit-too_big is big =
-          let (cell, found, width) = cell_found sign defaults items state st number c some in
-          let s : Spot = record { at = standing sign defaults items; put = Glyph cell } in
-          let before = spots sign defaults items in
-          let grown = sum (present_area sign defaults items) s placing st.area (is_character cell width) page_is in
-          character-too_big sign defaults items state st number cell found (sym (answer before s st.area refl page_is line_is) ∙ is)
+          let (cell, found, width) = cell_found sign items state st number c some in
+          let s : Spot = record { at = standing sign items; put = Glyph cell } in
+          let before = spots sign items in
+          let grown = sum (present_area sign items) s placing st.area (is_character cell width) page_is in
+          character-too_big sign items state st number cell found (sym (answer before s st.area refl page_is line_is) ∙ is)
           (not_false f (too_big before s) (fits before s refl grown page_is width_is height_is) big)
 
       pub character-exit-fits : r ≡ false → f ≡ true → IsBelow (1024 * length items + 1024) area
-          → (offence sign defaults items (Shows number) ≡ None) × IsStateOf sign defaults (items ++ Shows number ∷ []) (record state { area = area })
+          → (offence sign items (Shows number) ≡ None) × IsStateOf sign (items ++ Shows number ∷ []) (record state { area = area })
       character-exit-fits is fine below =
-          let (cell, found, width) = cell_found sign defaults items state st number c some in
-          let s : Spot = record { at = standing sign defaults items; put = Glyph cell } in
-          let before = spots sign defaults items in
-          let grown = sum (present_area sign defaults items) s placing st.area (is_character cell width) page_is in (
-            character-fits sign defaults items state st number cell found (sym (answer before s st.area refl page_is line_is) ∙ is)
+          let (cell, found, width) = cell_found sign items state st number c some in
+          let s : Spot = record { at = standing sign items; put = Glyph cell } in
+          let before = spots sign items in
+          let grown = sum (present_area sign items) s placing st.area (is_character cell width) page_is in (
+            character-fits sign items state st number cell found (sym (answer before s st.area refl page_is line_is) ∙ is)
                 (not_true f (too_big before s) (fits before s refl grown page_is width_is height_is) fine),
-            state-character sign defaults items state st number cell found area grown below,
+            state-character sign items state st number cell found area grown below,
           )
 
   module _ (gap : Option ℕ) (r : Bool)
       (answer : (before : List Spot) (s : Spot) → state.area ≡ area_sum (area_of s before) → is_glyph s ≡ false → s.at.page_just ≡ state.attributes.page_just → r ≡ conflicts before s) where
     ended : Spot
-    ended = record { at = standing sign defaults items; put = Break gap }
+    ended = record { at = standing sign items; put = Break gap }
 
-    pub break-exit-conflict : r ≡ true → offence sign defaults items (Does (NewLine gap)) ≡ Some 11
+    pub break-exit-conflict : r ≡ true → offence sign items (Does (NewLine gap)) ≡ Some 11
     break-exit-conflict is =
-        break-conflict sign defaults items state st gap (sym (answer (spots sign defaults items) (record { at = standing sign defaults items; put = Break gap }) st.area refl page_is) ∙ is)
+        break-conflict sign items state st gap (sym (answer (spots sign items) (record { at = standing sign items; put = Break gap }) st.area refl page_is) ∙ is)
 
     module _ (area : Area)
         (sum : (xs : List Spot) (s : Spot) → All IsPlacing xs → state.area ≡ area_sum xs → IsBreak s gap state.attributes.font → s.at.page_just ≡ state.attributes.page_just → area ≡ area_sum (xs ++ s ∷ []))
         (f : Bool)
         (fits : (before : List Spot) (s : Spot) → is_break s ≡ true → area ≡ area_sum (area_of s before ++ s ∷ []) → s.at.rectangle.height ≡ state.attributes.rectangle.height → f ≡ not (too_big before s)) where
-      pub break-exit-too_big : r ≡ false → f ≡ false → offence sign defaults items (Does (NewLine gap)) ≡ Some 5
+      pub break-exit-too_big : r ≡ false → f ≡ false → offence sign items (Does (NewLine gap)) ≡ Some 5
       break-exit-too_big is big =
-          let s : Spot = record { at = standing sign defaults items; put = Break gap } in
-          let before = spots sign defaults items in
+          let s : Spot = record { at = standing sign items; put = Break gap } in
+          let before = spots sign items in
           let ends : IsBreak s gap state.attributes.font = record { put = refl; font = font_is } in
-          let grown = sum (present_area sign defaults items) s placing st.area ends page_is in
-          break-too_big sign defaults items state st gap (sym (answer before s st.area refl page_is) ∙ is)
+          let grown = sum (present_area sign items) s placing st.area ends page_is in
+          break-too_big sign items state st gap (sym (answer before s st.area refl page_is) ∙ is)
           (not_false f (too_big before s) (fits before s refl grown height_is) big)
 
       pub break-exit-fits : r ≡ false → f ≡ true → IsBelow (1024 * length items + 1024) area
-          → (offence sign defaults items (Does (NewLine gap)) ≡ None) × IsStateOf sign defaults (items ++ Does (NewLine gap) ∷ []) (record state { area = area })
+          → (offence sign items (Does (NewLine gap)) ≡ None) × IsStateOf sign (items ++ Does (NewLine gap) ∷ []) (record state { area = area })
       break-exit-fits is fine below =
-          let s : Spot = record { at = standing sign defaults items; put = Break gap } in
-          let before = spots sign defaults items in
+          let s : Spot = record { at = standing sign items; put = Break gap } in
+          let before = spots sign items in
           let ends : IsBreak s gap state.attributes.font = record { put = refl; font = font_is } in
-          let grown = sum (present_area sign defaults items) s placing st.area ends page_is in (
-            break-fits sign defaults items state st gap (sym (answer before s st.area refl page_is) ∙ is)
+          let grown = sum (present_area sign items) s placing st.area ends page_is in (
+            break-fits sign items state st gap (sym (answer before s st.area refl page_is) ∙ is)
                 (not_true f (too_big before s) (fits before s refl grown height_is) fine),
-            state-break sign defaults items state st gap area grown below,
+            state-break sign items state st gap area grown below,
           )

@@ -9,7 +9,6 @@ use Rattle.multi_token.specs.declared.token.Token.{Token}
 use Rattle.multi_token.specs.Spelling.{Item, IsItem, spelling, spell, HasNoItem, IsReading}
 use Rattle.multi_token.specs.Tokens.{IsTokenOf, item_of}
 use Rattle.multi_token.proofs.ReadingLemmas.{none_found, spelling_some}
-use Rattle.sign_font.specs.declared.parts.Defaults.{Defaults}
 use Rattle.sign_font.specs.Sign.{SignData}
 use Rattle.multi_layout.specs.declared.attributes.Attributes.{Attributes}
 use Rattle.multi_layout.specs.declared.state.State.{State}
@@ -24,26 +23,26 @@ use Rattle.multi_layout.proofs.WalkLemmas.{length-meanings}
 use Rattle.multi_layout.proofs.VerdictLemmas.{offences_push, one_verdict, refusal_stands}
 
 -- the items before an offset, none of which offends, and their state
-pub record ReadSoFar (sign : SignData) (defaults : Defaults) (octets : List ℕ) (at : ℕ) (state : State) : Type 0 where
+pub record ReadSoFar (sign : SignData) (octets : List ℕ) (at : ℕ) (state : State) : Type 0 where
   pub items : List Item
   pub each : All IsItem items
   pub front : octets ≡ spell items ++ drop at octets
   pub place : at ≡ length (spell items)
   pub within : at ≤ length octets
-  pub none : offences sign defaults items ≡ []
-  pub state_is : IsStateOf sign defaults (map meaning items) state
+  pub none : offences sign items ≡ []
+  pub state_is : IsStateOf sign (map meaning items) state
   pub few : length items ≤ at
 
-pub nothing_read : (sign : SignData) (defaults : Defaults) (octets : List ℕ) (state : State) → IsStateOf sign defaults [] state → ReadSoFar sign defaults octets 0 state
-nothing_read sign defaults octets state st = record { items = []; each = All-nil IsItem; front = refl; place = refl; within = omega arith; none = refl; state_is = st; few = omega arith }
+pub nothing_read : (sign : SignData) (octets : List ℕ) (state : State) → IsStateOf sign [] state → ReadSoFar sign octets 0 state
+nothing_read sign octets state st = record { items = []; each = All-nil IsItem; front = refl; place = refl; within = omega arith; none = refl; state_is = st; few = omega arith }
 
 spell_push : (items : List Item) (item : Item) → spell (items ++ item ∷ []) ≡ spell items ++ spelling item
 spell_push items item = flat_map-append spelling items (item ∷ []) ∙ ap (λ l. spell items ++ l) (append-nil (spelling item))
 
-module _ (sign : SignData) (defaults : Defaults) (octets : List ℕ) (at : ℕ) (state : State) (r : ReadSoFar sign defaults octets at state) where
+module _ (sign : SignData) (octets : List ℕ) (at : ℕ) (state : State) (r : ReadSoFar sign octets at state) where
   -- the state is small enough
   pub ready_here : length octets < 2 ^ 32 → IsReady state
-  ready_here short = ready sign defaults (map meaning r.items) state r.state_is (omega (arith, r.few, r.within, length-meanings r.items))
+  ready_here short = ready sign (map meaning r.items) state r.state_is (omega (arith, r.few, r.within, length-meanings r.items))
 
   module _ (t : Token) (here : t.at ≡ at) (stands : IsTokenOf octets t) where
     -- the string is the items so far, this one, and what stands behind it
@@ -56,24 +55,24 @@ module _ (sign : SignData) (defaults : Defaults) (octets : List ℕ) (at : ℕ) 
     each_more : All IsItem (r.items ++ item_of octets t ∷ [])
     each_more = All-push IsItem r.items (item_of octets t) r.each stands.begins.0
 
-    pub read_more : (new : State) → offence sign defaults (map meaning r.items) (meaning (item_of octets t)) ≡ None → IsStateOf sign defaults (map meaning r.items ++ meaning (item_of octets t) ∷ []) new → ReadSoFar sign defaults octets (at + t.len) new
+    pub read_more : (new : State) → offence sign (map meaning r.items) (meaning (item_of octets t)) ≡ None → IsStateOf sign (map meaning r.items ++ meaning (item_of octets t) ∷ []) new → ReadSoFar sign octets (at + t.len) new
     read_more new fine st = record {
       items = r.items ++ item_of octets t ∷ [];
       each = each_more;
       front = sym regrouped ∙ ap (λ n. spell (r.items ++ item_of octets t ∷ []) ++ drop (n + t.len) octets) here;
       place = omega (arith, r.place, stands.len, ap length (spell_push r.items (item_of octets t)), length-append (spell r.items) (spelling (item_of octets t)));
       within = omega (arith, stands.within);
-      none = offences_push sign defaults r.items (item_of octets t) None r.none fine;
-      state_is = subst (λ ms. IsStateOf sign defaults ms new) (sym (map-append meaning r.items (item_of octets t ∷ []))) st;
+      none = offences_push sign r.items (item_of octets t) None r.none fine;
+      state_is = subst (λ ms. IsStateOf sign ms new) (sym (map-append meaning r.items (item_of octets t ∷ []))) st;
       few = omega (arith, r.few, stands.len, spelling_some (item_of octets t), length-append r.items (item_of octets t ∷ []));
     }
 
     -- the item offends, whatever stands behind it
-    pub refused_here : (code : ℕ) → offence sign defaults (map meaning r.items) (meaning (item_of octets t)) ≡ Some code → IsVerdict sign defaults octets (Refused code at)
+    pub refused_here : (code : ℕ) → offence sign (map meaning r.items) (meaning (item_of octets t)) ≡ Some code → IsVerdict sign octets (Refused code at)
     refused_here code offends =
-        let stays = refusal_stands sign defaults r.items (item_of octets t) code (drop (t.at + t.len) octets) each_more r.none offends in
-        let is : Refused code at ≡ verdict sign defaults octets = ap (Refused code) r.place ∙ sym stays ∙ ap (verdict sign defaults) regrouped in
-        (one_verdict sign defaults octets (Refused code at)).1 is
+        let stays = refusal_stands sign r.items (item_of octets t) code (drop (t.at + t.len) octets) each_more r.none offends in
+        let is : Refused code at ≡ verdict sign octets = ap (Refused code) r.place ∙ sym stays ∙ ap (verdict sign) regrouped in
+        (one_verdict sign octets (Refused code at)).1 is
 
   -- the end, where all items are read
   all_read : length octets ≡ at → IsReading octets r.items []
@@ -81,19 +80,19 @@ module _ (sign : SignData) (defaults : Defaults) (octets : List ℕ) (at : ℕ) 
       let empty : drop at octets ≡ [] = drop_all at octets (omega arith) in
       record { each = r.each; spelled = r.front ∙ ap (λ l. spell r.items ++ l) empty; ends = none_found [] refl }
 
-  pub accepted_at_end : length octets ≡ at → IsVerdict sign defaults octets (Accepted state.pages)
+  pub accepted_at_end : length octets ≡ at → IsVerdict sign octets (Accepted state.pages)
   unfolding verdict_on
   accepted_at_end end =
       (r.items, [], all_read end, ap Accepted r.state_is.pages ∙ sym (ap (λ l. of_first (pages_of (map meaning r.items)) (l ++ [])) r.none))
 
-  pub cycle_at_end : length octets ≡ at → IsCycle sign defaults octets (state.cycle + state.attributes.on + state.attributes.off)
+  pub cycle_at_end : length octets ≡ at → IsCycle sign octets (state.cycle + state.attributes.on + state.attributes.off)
   unfolding page_times
   cycle_at_end end =
       let ms = map meaning r.items in
-      let on : state.attributes.on ≡ (standing sign defaults ms).on = ap (λ (a : Attributes). a.on) r.state_is.attributes in
-      let off : state.attributes.off ≡ (standing sign defaults ms).off = ap (λ (a : Attributes). a.off) r.state_is.attributes in
-      let all : cycle (ended_times sign defaults ms ++ times_at (standing sign defaults ms) ∷ []) ≡ cycle (ended_times sign defaults ms) + cycle (times_at (standing sign defaults ms) ∷ []) =
-      sum_by-append (λ (t : Times). t.on + t.off) (ended_times sign defaults ms) (times_at (standing sign defaults ms) ∷ []) in
+      let on : state.attributes.on ≡ (standing sign ms).on = ap (λ (a : Attributes). a.on) r.state_is.attributes in
+      let off : state.attributes.off ≡ (standing sign ms).off = ap (λ (a : Attributes). a.off) r.state_is.attributes in
+      let all : cycle (ended_times sign ms ++ times_at (standing sign ms) ∷ []) ≡ cycle (ended_times sign ms) + cycle (times_at (standing sign ms) ∷ []) =
+      sum_by-append (λ (t : Times). t.on + t.off) (ended_times sign ms) (times_at (standing sign ms) ∷ []) in
       (r.items, [], all_read end, omega (arith, all, on, off, r.state_is.times))
 
   broken_cons : (items : List Item) (rest : List ℕ) → 1 ≤ length rest → broken items rest ≡ (3, length (spell items)) ∷ []
@@ -101,7 +100,7 @@ module _ (sign : SignData) (defaults : Defaults) (octets : List ℕ) (at : ℕ) 
   broken_cons items (c ∷ rest) h = refl
 
   -- a broken bracket
-  pub refused_at_bracket : at < length octets → HasNoItem (drop at octets) → IsVerdict sign defaults octets (Refused 3 at)
+  pub refused_at_bracket : at < length octets → HasNoItem (drop at octets) → IsVerdict sign octets (Refused 3 at)
   unfolding verdict_on
   refused_at_bracket before none =
       let some : 1 ≤ length (drop at octets) = simp length-drop (omega arith) in (

@@ -10,7 +10,6 @@ use Rattle.std.proofs.lemmas.List.{map-append}
 use Rattle.std.proofs.lemmas.List.Elements.{All-nil, All-cons, All-head, All-tail, All-append, All-filter, All-weaker}
 use Rattle.multi_tag.specs.declared.tag.Tag.TheVariants.{NewPage, NewLine, LineJust, PageJust, Font, CharSpacing, CharSpacingEnd, PageTime, Flash, FlashEnd, Fore, Back, Rect}
 use Rattle.multi_token.specs.Spelling.{Item, spell}
-use Rattle.sign_font.specs.declared.parts.Defaults.{Defaults}
 use Rattle.sign_font.specs.Sign.{SignData, CellData, FontData, font_numbered, cell_numbered}
 use Rattle.sign_font.specs.Sound.{IsSound, IsSoundFont}
 use Rattle.multi_layout.specs.declared.attributes.Rectangle.{Rectangle}
@@ -32,26 +31,26 @@ use Rattle.multi_layout.proofs.WordLemmas.{left_nil, none_mapped, none_of, push_
 
 -- ---- the items of an accepted string, from the end
 
-module _ (sign : SignData) (defaults : Defaults) where
+module _ (sign : SignData) where
   -- where no item offends, none of a front of them does
-  pub none_front : (items behind : List Item) → offences sign defaults (items ++ behind) ≡ [] → offences sign defaults items ≡ []
+  pub none_front : (items behind : List Item) → offences sign (items ++ behind) ≡ [] → offences sign items ≡ []
   none_front items behind none =
-      let f = fault_at sign defaults in
-      left_nil (offences sign defaults items) (some_after (λ more. f (items ++ more)) behind) (sym (some_after-append f items behind) ∙ none)
+      let f = fault_at sign in
+      left_nil (offences sign items) (some_after (λ more. f (items ++ more)) behind) (sym (some_after-append f items behind) ∙ none)
 
   -- where no item offends, the last one doesn't offend after those before it
-  pub none_last : (items : List Item) (item : Item) → offences sign defaults (items ++ item ∷ []) ≡ [] → offence sign defaults (map meaning items) (meaning item) ≡ None
+  pub none_last : (items : List Item) (item : Item) → offences sign (items ++ item ∷ []) ≡ [] → offence sign (map meaning items) (meaning item) ≡ None
   none_last items item none =
-      let at = fault_at sign defaults items item in
-      let last : cons_option at [] ≡ [] = right_nil (offences sign defaults items) (cons_option at []) (sym (some_after_push (fault_at sign defaults) items item) ∙ none) in
-      none_mapped (λ code. (code, length (spell items))) (offence sign defaults (map meaning items) (meaning item)) (none_of at [] last)
+      let at = fault_at sign items item in
+      let last : cons_option at [] ≡ [] = right_nil (offences sign items) (cons_option at []) (sym (some_after_push (fault_at sign) items item) ∙ none) in
+      none_mapped (λ code. (code, length (spell items))) (offence sign (map meaning items) (meaning item)) (none_of at [] last)
 
   -- what holds before the first item, and behind each that doesn't offend if it holds before it, holds behind them all
-  pub accepted_ind : (P : List Meaning → Type 0) → P [] → ((before : List Meaning) (x : Meaning) → offence sign defaults before x ≡ None → P before → P (before ++ x ∷ []))
-      → (items : List Item) → offences sign defaults items ≡ [] → P (map meaning items)
-  accepted_ind P first step = push_ind (λ items. offences sign defaults items ≡ [] → P (map meaning items)) (λ none. first) more
+  pub accepted_ind : (P : List Meaning → Type 0) → P [] → ((before : List Meaning) (x : Meaning) → offence sign before x ≡ None → P before → P (before ++ x ∷ []))
+      → (items : List Item) → offences sign items ≡ [] → P (map meaning items)
+  accepted_ind P first step = push_ind (λ items. offences sign items ≡ [] → P (map meaning items)) (λ none. first) more
     where
-      more : (items : List Item) (item : Item) → (offences sign defaults items ≡ [] → P (map meaning items)) → offences sign defaults (items ++ item ∷ []) ≡ [] → P (map meaning (items ++ item ∷ []))
+      more : (items : List Item) (item : Item) → (offences sign items ≡ [] → P (map meaning items)) → offences sign (items ++ item ∷ []) ≡ [] → P (map meaning (items ++ item ∷ []))
       more items item holds none =
           let before = holds (none_front items (item ∷ []) none) in
           subst P (sym (map-append meaning items (item ∷ []))) (step (map meaning items) (meaning item) (none_last items item none) before)
@@ -104,11 +103,11 @@ passed : (b : Bool) (n : ℕ) → cond {A = Option ℕ} b None (Some n) ≡ None
 passed true n e = refl
 passed false n e = cc
 
-module _ (sign : SignData) (defaults : Defaults) where
+module _ (sign : SignData) where
   -- a rectangle that an item gives is inside the sign
-  given_in_sign : (before : List Meaning) (x : Meaning) → offence sign defaults before x ≡ None → IfSome (given_rectangle sign x) (IsInSign sign)
+  given_in_sign : (before : List Meaning) (x : Meaning) → offence sign before x ≡ None → IfSome (given_rectangle sign x) (IsInSign sign)
   given_in_sign before (Does NewPage) none = whole_in_sign sign
-  given_in_sign before (Does (Rect x y w h)) none = rectangle_in_sign sign x y w h (passed (is_inside sign x y w h) 4 (sym (offence-rectangle sign defaults before x y w h) ∙ none))
+  given_in_sign before (Does (Rect x y w h)) none = rectangle_in_sign sign x y w h (passed (is_inside sign x y w h) 4 (sym (offence-rectangle sign before x y w h) ∙ none))
   given_in_sign before (Does (NewLine gap)) none = tt
   given_in_sign before (Does (LineJust just)) none = tt
   given_in_sign before (Does (PageJust just)) none = tt
@@ -123,25 +122,25 @@ module _ (sign : SignData) (defaults : Defaults) where
   given_in_sign before (Shows number) none = tt
   given_in_sign before (Faulty code) none = tt
 
-  first_in_sign : IsInSign sign (standing sign defaults []).rectangle
+  first_in_sign : IsInSign sign (standing sign []).rectangle
   unfolding standing
   first_in_sign = whole_in_sign sign
 
-  next_in_sign : (before : List Meaning) (x : Meaning) → offence sign defaults before x ≡ None → IsInSign sign (standing sign defaults before).rectangle → IsInSign sign (standing sign defaults (before ++ x ∷ [])).rectangle
+  next_in_sign : (before : List Meaning) (x : Meaning) → offence sign before x ≡ None → IsInSign sign (standing sign before).rectangle → IsInSign sign (standing sign (before ++ x ∷ [])).rectangle
   next_in_sign before x none old =
-      subst (λ (s : Standing). IsInSign sign s.rectangle) (sym (standing_push sign defaults before x))
-      (in_force_by (IsInSign sign) (given_rectangle sign x) (standing sign defaults before).rectangle (given_in_sign before x none) old)
+      subst (λ (s : Standing). IsInSign sign s.rectangle) (sym (standing_push sign before x))
+      (in_force_by (IsInSign sign) (given_rectangle sign x) (standing sign before).rectangle (given_in_sign before x none) old)
 
   -- behind the items of an accepted string the rectangle in force is inside the sign
-  pub rectangle_inside : (items : List Item) → offences sign defaults items ≡ [] → IsInSign sign (standing sign defaults (map meaning items)).rectangle
-  rectangle_inside = accepted_ind sign defaults (λ before. IsInSign sign (standing sign defaults before).rectangle) first_in_sign next_in_sign
+  pub rectangle_inside : (items : List Item) → offences sign items ≡ [] → IsInSign sign (standing sign (map meaning items)).rectangle
+  rectangle_inside = accepted_ind sign (λ before. IsInSign sign (standing sign before).rectangle) first_in_sign next_in_sign
 
   -- and so the rectangle in force is no higher than the sign
-  pub rectangle_within : (items : List Item) → offences sign defaults items ≡ [] → (standing sign defaults (map meaning items)).rectangle.height ≤ sign.height
+  pub rectangle_within : (items : List Item) → offences sign items ≡ [] → (standing sign (map meaning items)).rectangle.height ≤ sign.height
   rectangle_within items none = omega (arith, (rectangle_inside items none).down)
 
   -- and no wider
-  pub rectangle_width_within : (items : List Item) → offences sign defaults items ≡ [] → (standing sign defaults (map meaning items)).rectangle.width ≤ sign.width
+  pub rectangle_width_within : (items : List Item) → offences sign items ≡ [] → (standing sign (map meaning items)).rectangle.width ≤ sign.width
   rectangle_width_within items none = omega (arith, (rectangle_inside items none).across)
 
 -- ---- the font in force
@@ -176,16 +175,16 @@ high_spot here None high = All-nil High
 high_spot here (Some put) high = All-cons High (record { at = here; put = put }) [] high (All-nil High)
 
 -- the font in force and all that is put are high
-record IsHigh (sign : SignData) (defaults : Defaults) (items : List Meaning) : Type 0 where
-  font : HighFont (standing sign defaults items).font
-  each : All High (spots sign defaults items)
+record IsHigh (sign : SignData) (items : List Meaning) : Type 0 where
+  font : HighFont (standing sign items).font
+  each : All High (spots sign items)
 
-module _ (sign : SignData) (defaults : Defaults) (sound : IsSound sign) (some : IsSome (font_numbered sign defaults.font)) where
-  default_high : HighFont (default_font sign defaults)
-  default_high = high_default (font_numbered sign defaults.font) (record { number = 0; version = 0; height = 0; char_spacing = 0; line_spacing = 0; cells = [] }) some (high_numbered sign defaults.font sound)
+module _ (sign : SignData) (sound : IsSound sign) (some : IsSome (font_numbered sign sign.defaults.font)) where
+  default_high : HighFont (default_font sign)
+  default_high = high_default (font_numbered sign sign.defaults.font) (record { number = 0; version = 0; height = 0; char_spacing = 0; line_spacing = 0; cells = [] }) some (high_numbered sign sign.defaults.font sound)
 
   -- a font that an item gives is high
-  given_high : (x : Meaning) → IfSome (given_font sign defaults x) HighFont
+  given_high : (x : Meaning) → IfSome (given_font sign x) HighFont
   given_high (Does (Font None)) = default_high
   given_high (Does (Font (Some pick))) = high_numbered sign pick.number sound
   given_high (Does NewPage) = tt
@@ -203,28 +202,28 @@ module _ (sign : SignData) (defaults : Defaults) (sound : IsSound sign) (some : 
   given_high (Shows number) = tt
   given_high (Faulty code) = tt
 
-  first_high : IsHigh sign defaults []
+  first_high : IsHigh sign []
   unfolding standing spots
   first_high = record { font = default_high; each = All-nil High }
 
-  next_high : (before : List Meaning) (x : Meaning) → IsHigh sign defaults before → IsHigh sign defaults (before ++ x ∷ [])
+  next_high : (before : List Meaning) (x : Meaning) → IsHigh sign before → IsHigh sign (before ++ x ∷ [])
   next_high before x old =
-      let here = standing sign defaults before in
+      let here = standing sign before in
       record {
-        font = subst (λ (s : Standing). HighFont s.font) (sym (standing_push sign defaults before x)) (in_force_by HighFont (given_font sign defaults x) here.font (given_high x) old.font);
-        each = subst (All High) (sym (spots_push sign defaults before x))
-            (All-append High (spots sign defaults before) (cons_option (spot_at defaults here x) []) old.each (high_spot here (put_at defaults here x) old.font));
+        font = subst (λ (s : Standing). HighFont s.font) (sym (standing_push sign before x)) (in_force_by HighFont (given_font sign x) here.font (given_high x) old.font);
+        each = subst (All High) (sym (spots_push sign before x))
+            (All-append High (spots sign before) (cons_option (spot_at sign.defaults here x) []) old.each (high_spot here (put_at sign.defaults here x) old.font));
       }
 
   -- whatever the items are, all that they put is put in a font of at least one pixel
-  pub fonts_high : (items : List Meaning) → All (λ (s : Spot). 1 ≤ s.at.font.height) (spots sign defaults items)
-  fonts_high items = (push_ind (IsHigh sign defaults) first_high next_high items).each
+  pub fonts_high : (items : List Meaning) → All (λ (s : Spot). 1 ≤ s.at.font.height) (spots sign items)
+  fonts_high items = (push_ind (IsHigh sign) first_high next_high items).each
 
   -- and so are the placing items of the present area
-  pub area_high : (items : List Meaning) → All (λ (s : Spot). 1 ≤ s.at.font.height) (present_area sign defaults items)
+  pub area_high : (items : List Meaning) → All (λ (s : Spot). 1 ≤ s.at.font.height) (present_area sign items)
   area_high items =
-      let area = (standing sign defaults items).area in
-      All-filter (λ t. (is_glyph t || is_break t) && (t.at.area == area)) High (spots sign defaults items) (fonts_high items)
+      let area = (standing sign items).area in
+      All-filter (λ t. (is_glyph t || is_break t) && (t.at.area == area)) High (spots sign items) (fonts_high items)
 
 -- ---- the present area
 
@@ -233,8 +232,8 @@ fits_none : (height : ℕ) → area_fits height [] ≡ true
 fits_none height = ap (λ b. b && true) (le-leb 0 height (omega arith))
 
 -- the area of these items fits the rectangle in force
-abbrev Fits : SignData → Defaults → List Meaning → Type 0
-Fits sign defaults items = area_fits (standing sign defaults items).rectangle.height (present_area sign defaults items) ≡ true
+abbrev Fits : SignData → List Meaning → Type 0
+Fits sign items = area_fits (standing sign items).rectangle.height (present_area sign items) ≡ true
 
 -- a placing item that doesn't offend isn't too big
 not_big : (a b : Bool) → cond {A = Option ℕ} a (Some 11) (cond b (Some 5) None) ≡ None → b ≡ false
@@ -251,67 +250,67 @@ fits_where false false e = absurd (false≢true (sym e))
 none≢some : (n : ℕ) → Some n ≡ None → ⊥
 none≢some n e = cc
 
-module _ (sign : SignData) (defaults : Defaults) where
-  first_fits : Fits sign defaults []
+module _ (sign : SignData) where
+  first_fits : Fits sign []
   unfolding standing spots
   first_fits = fits_none sign.height
 
   module _ (before : List Meaning) (x : Meaning) where
     -- an item that gives no rectangle leaves it
-    same_rectangle : given_rectangle sign x ≡ None → (standing sign defaults (before ++ x ∷ [])).rectangle ≡ (standing sign defaults before).rectangle
-    same_rectangle gives = ap (λ (s : Standing). s.rectangle) (standing_push sign defaults before x) ∙ ap (λ o. unwrap_or o (standing sign defaults before).rectangle) gives
+    same_rectangle : given_rectangle sign x ≡ None → (standing sign (before ++ x ∷ [])).rectangle ≡ (standing sign before).rectangle
+    same_rectangle gives = ap (λ (s : Standing). s.rectangle) (standing_push sign before x) ∙ ap (λ o. unwrap_or o (standing sign before).rectangle) gives
 
     -- an area that begins is empty
-    fits_new : begins_area x ≡ true → Fits sign defaults (before ++ x ∷ [])
+    fits_new : begins_area x ≡ true → Fits sign (before ++ x ∷ [])
     fits_new begins =
-        let height = (standing sign defaults (before ++ x ∷ [])).rectangle.height in
-        ap (area_fits height) (present_area-new sign defaults before x begins) ∙ fits_none height
+        let height = (standing sign (before ++ x ∷ [])).rectangle.height in
+        ap (area_fits height) (present_area-new sign before x begins) ∙ fits_none height
 
     -- the area behind the item, by what it is and by the rectangle before the item
-    fits_by : (area : List Spot) → given_rectangle sign x ≡ None → present_area sign defaults (before ++ x ∷ []) ≡ area → area_fits (standing sign defaults before).rectangle.height area ≡ true → Fits sign defaults (before ++ x ∷ [])
+    fits_by : (area : List Spot) → given_rectangle sign x ≡ None → present_area sign (before ++ x ∷ []) ≡ area → area_fits (standing sign before).rectangle.height area ≡ true → Fits sign (before ++ x ∷ [])
     fits_by area gives is fits =
-        ap (λ (r : Rectangle). area_fits r.height (present_area sign defaults (before ++ x ∷ []))) (same_rectangle gives)
-        ∙ ap (area_fits (standing sign defaults before).rectangle.height) is
+        ap (λ (r : Rectangle). area_fits r.height (present_area sign (before ++ x ∷ []))) (same_rectangle gives)
+        ∙ ap (area_fits (standing sign before).rectangle.height) is
         ∙ fits
 
     -- an item that begins no area and puts nothing leaves it
-    fits_same : given_rectangle sign x ≡ None → begins_area x ≡ false → put_at defaults (standing sign defaults before) x ≡ None → Fits sign defaults before → Fits sign defaults (before ++ x ∷ [])
-    fits_same gives stays puts old = fits_by (present_area sign defaults before) gives (present_area-nothing sign defaults before x stays puts) old
+    fits_same : given_rectangle sign x ≡ None → begins_area x ≡ false → put_at sign.defaults (standing sign before) x ≡ None → Fits sign before → Fits sign (before ++ x ∷ [])
+    fits_same gives stays puts old = fits_by (present_area sign before) gives (present_area-nothing sign before x stays puts) old
 
     -- a placing item joins it
-    fits_placing : (put : Put) → let spot : Spot = record { at = standing sign defaults before; put = put } in
-        given_rectangle sign x ≡ None → begins_area x ≡ false → put_at defaults (standing sign defaults before) x ≡ Some put → (is_glyph spot || is_break spot) ≡ true
-        → too_big (spots sign defaults before) spot ≡ false → Fits sign defaults (before ++ x ∷ [])
+    fits_placing : (put : Put) → let spot : Spot = record { at = standing sign before; put = put } in
+        given_rectangle sign x ≡ None → begins_area x ≡ false → put_at sign.defaults (standing sign before) x ≡ Some put → (is_glyph spot || is_break spot) ≡ true
+        → too_big (spots sign before) spot ≡ false → Fits sign (before ++ x ∷ [])
     fits_placing put gives stays puts placing small =
-        let spot : Spot = record { at = standing sign defaults before; put = put } in
-        let area = present_area sign defaults before ++ spot ∷ [] in
-        fits_by area gives (present_area-placing sign defaults before x put stays puts placing)
-        (fits_where (is_glyph spot && not (line_fits spot.at.rectangle.width (line_before (spots sign defaults before) spot ++ spot ∷ []))) (area_fits spot.at.rectangle.height area) small)
+        let spot : Spot = record { at = standing sign before; put = put } in
+        let area = present_area sign before ++ spot ∷ [] in
+        fits_by area gives (present_area-placing sign before x put stays puts placing)
+        (fits_where (is_glyph spot && not (line_fits spot.at.rectangle.width (line_before (spots sign before) spot ++ spot ∷ []))) (area_fits spot.at.rectangle.height area) small)
 
   module _ (before : List Meaning) where
-    fits_character : (number : ℕ) (o : Option CellData) → cell_numbered (standing sign defaults before).font number ≡ o → offence sign defaults before (Shows number) ≡ None → Fits sign defaults (before ++ Shows number ∷ [])
-    fits_character number None found none = absurd (none≢some 7 (sym (offence-undefined sign defaults before number found) ∙ none))
+    fits_character : (number : ℕ) (o : Option CellData) → cell_numbered (standing sign before).font number ≡ o → offence sign before (Shows number) ≡ None → Fits sign (before ++ Shows number ∷ [])
+    fits_character number None found none = absurd (none≢some 7 (sym (offence-undefined sign before number found) ∙ none))
     fits_character number (Some cell) found none =
-        let spot : Spot = record { at = standing sign defaults before; put = Glyph cell } in
-        let spots_before = spots sign defaults before in
+        let spot : Spot = record { at = standing sign before; put = Glyph cell } in
+        let spots_before = spots sign before in
         fits_placing before (Shows number) (Glyph cell) refl refl (ap (option_map Glyph) found) refl
-        (not_big (conflicts spots_before spot) (too_big spots_before spot) (sym (offence-character sign defaults before number cell found) ∙ none))
+        (not_big (conflicts spots_before spot) (too_big spots_before spot) (sym (offence-character sign before number cell found) ∙ none))
 
-    fits_break : (gap : Option ℕ) → offence sign defaults before (Does (NewLine gap)) ≡ None → Fits sign defaults (before ++ Does (NewLine gap) ∷ [])
+    fits_break : (gap : Option ℕ) → offence sign before (Does (NewLine gap)) ≡ None → Fits sign (before ++ Does (NewLine gap) ∷ [])
     fits_break gap none =
-        let spot : Spot = record { at = standing sign defaults before; put = Break gap } in
-        let spots_before = spots sign defaults before in
+        let spot : Spot = record { at = standing sign before; put = Break gap } in
+        let spots_before = spots sign before in
         fits_placing before (Does (NewLine gap)) (Break gap) refl refl refl refl
-        (not_big (conflicts spots_before spot) (too_big spots_before spot) (sym (offence-break sign defaults before gap) ∙ none))
+        (not_big (conflicts spots_before spot) (too_big spots_before spot) (sym (offence-break sign before gap) ∙ none))
 
-    fits_cover : (colour : Option ℕ) → Fits sign defaults before → Fits sign defaults (before ++ Does (Back colour) ∷ [])
+    fits_cover : (colour : Option ℕ) → Fits sign before → Fits sign (before ++ Does (Back colour) ∷ [])
     fits_cover colour old =
-        let here = standing sign defaults before in
-        fits_by before (Does (Back colour)) (present_area sign defaults before) refl (present_area-cover sign defaults before (Does (Back colour)) (Cover here.page (unwrap_or colour defaults.back)) refl refl refl) old
+        let here = standing sign before in
+        fits_by before (Does (Back colour)) (present_area sign before) refl (present_area-cover sign before (Does (Back colour)) (Cover here.page (unwrap_or colour sign.defaults.back)) refl refl refl) old
 
   -- the present area fits behind one more item that doesn't offend
-  next_fits : (before : List Meaning) (x : Meaning) → offence sign defaults before x ≡ None → Fits sign defaults before → Fits sign defaults (before ++ x ∷ [])
-  next_fits before (Shows number) none old = fits_character before number (cell_numbered (standing sign defaults before).font number) refl none
+  next_fits : (before : List Meaning) (x : Meaning) → offence sign before x ≡ None → Fits sign before → Fits sign (before ++ x ∷ [])
+  next_fits before (Shows number) none old = fits_character before number (cell_numbered (standing sign before).font number) refl none
   next_fits before (Does (NewLine gap)) none old = fits_break before gap none
   next_fits before (Does NewPage) none old = fits_new before (Does NewPage) refl
   next_fits before (Does (Rect x y w h)) none old = fits_new before (Does (Rect x y w h)) refl
@@ -328,21 +327,21 @@ module _ (sign : SignData) (defaults : Defaults) where
   next_fits before (Faulty code) none old = fits_same before (Faulty code) refl refl refl old
 
   -- behind the items of an accepted string the present area fits the rectangle in force
-  pub area_fits_always : (items : List Item) → offences sign defaults items ≡ [] → area_fits (standing sign defaults (map meaning items)).rectangle.height (present_area sign defaults (map meaning items)) ≡ true
-  area_fits_always = accepted_ind sign defaults (Fits sign defaults) first_fits next_fits
+  pub area_fits_always : (items : List Item) → offences sign items ≡ [] → area_fits (standing sign (map meaning items)).rectangle.height (present_area sign (map meaning items)) ≡ true
+  area_fits_always = accepted_ind sign (Fits sign) first_fits next_fits
 
 -- ---- room for the lines of a group
 
-module _ (sign : SignData) (defaults : Defaults) (sound : IsSound sign) (some : IsSome (font_numbered sign defaults.font)) (items : List Item) (none : offences sign defaults items ≡ []) where
+module _ (sign : SignData) (sound : IsSound sign) (some : IsSome (font_numbered sign sign.defaults.font)) (items : List Item) (none : offences sign items ≡ []) where
   -- behind the items of an accepted string no group of the present area has more lines than a sign has rows
-  pub room : (just : ℕ) → 2 ≤ just → just ≤ 4 → length (lines_of (in_group just (present_area sign defaults (map meaning items)))) ≤ 128
+  pub room : (just : ℕ) → 2 ≤ just → just ≤ 4 → length (lines_of (in_group just (present_area sign (map meaning items)))) ≤ 128
   room just low high =
       let ms = map meaning items in
-      let height = (standing sign defaults ms).rectangle.height in
-      let area = present_area sign defaults ms in
-      let lines = lines_within just height area low high (area_fits_always sign defaults items none) (area_high sign defaults sound some ms) in
-      omega (arith, lines, rectangle_within sign defaults items none, sound.height.1)
+      let height = (standing sign ms).rectangle.height in
+      let area = present_area sign ms in
+      let lines = lines_within just height area low high (area_fits_always sign items none) (area_high sign sound some ms) in
+      omega (arith, lines, rectangle_within sign items none, sound.height.1)
 
   -- and so none has more ended lines
-  pub room_ended : (just : ℕ) → 2 ≤ just → just ≤ 4 → length (ended_lines (in_group just (present_area sign defaults (map meaning items)))) ≤ 128
-  room_ended just low high = omega (arith, ended_most (in_group just (present_area sign defaults (map meaning items))), room just low high)
+  pub room_ended : (just : ℕ) → 2 ≤ just → just ≤ 4 → length (ended_lines (in_group just (present_area sign (map meaning items)))) ≤ 128
+  room_ended just low high = omega (arith, ended_most (in_group just (present_area sign (map meaning items))), room just low high)

@@ -6,7 +6,6 @@ use Rattle.std.proofs.lemmas.Bool.Decides.{nat_tests}
 use Rattle.multi_tag.specs.declared.tag.FontPick.{FontPick}
 use Rattle.multi_tag.specs.declared.tag.Tag.{Tag}
 use Rattle.multi_tag.specs.declared.tag.Tag.TheVariants.{NewPage, NewLine, LineJust, PageJust, Font, CharSpacing, CharSpacingEnd, PageTime, Flash, FlashEnd, Fore, Back, Rect}
-use Rattle.sign_font.specs.declared.parts.Defaults.{Defaults}
 use Rattle.sign_font.specs.declared.font.FontInfo.{FontInfo}
 use Rattle.sign_font.specs.Sign.{SignData, FontData, font_numbered, info_of}
 use Rattle.sign_font.specs.Sound.{IsSound}
@@ -45,16 +44,16 @@ known_page : (just : Option ℕ) (default : ℕ) → IsKnown (PageJust just) →
 known_page None default k d = d
 known_page (Some just) default k d = k
 
-module _ (sign : SignData) (items : List Meaning) (state : State) (st : IsStateOf sign sign.defaults items state) (sound : IsSound sign) (attributes : Attributes) where
+module _ (sign : SignData) (items : List Meaning) (state : State) (st : IsStateOf sign items state) (sound : IsSound sign) (attributes : Attributes) where
   below : IsBelow (1024 * length items + 1024) state.area
   below = below_more (1024 * length items) (1024 * length items + 1024) state.area (omega arith) st.below
 
-  line : (2 ≤ (standing sign sign.defaults items).line_just) × ((standing sign sign.defaults items).line_just ≤ 5)
-  line = let e : state.attributes.line_just ≡ (standing sign sign.defaults items).line_just = ap (λ (a : Attributes). a.line_just) st.attributes in
+  line : (2 ≤ (standing sign items).line_just) × ((standing sign items).line_just ≤ 5)
+  line = let e : state.attributes.line_just ≡ (standing sign items).line_just = ap (λ (a : Attributes). a.line_just) st.attributes in
       (omega (arith, st.line_just.0), omega (arith, st.line_just.1))
 
-  page : (2 ≤ (standing sign sign.defaults items).page_just) × ((standing sign sign.defaults items).page_just ≤ 4)
-  page = let e : state.attributes.page_just ≡ (standing sign sign.defaults items).page_just = ap (λ (a : Attributes). a.page_just) st.attributes in
+  page : (2 ≤ (standing sign items).page_just) × ((standing sign items).page_just ≤ 4)
+  page = let e : state.attributes.page_just ≡ (standing sign items).page_just = ap (λ (a : Attributes). a.page_just) st.attributes in
       (omega (arith, st.page_just.0), omega (arith, st.page_just.1))
 
   along_line : (n : ℕ) → attributes.line_just ≡ n → (2 ≤ n) × (n ≤ 5) → (2 ≤ attributes.line_just) × (attributes.line_just ≤ 5)
@@ -64,10 +63,10 @@ module _ (sign : SignData) (items : List Meaning) (state : State) (st : IsStateO
   along_page n e h = (omega (arith, h.0), omega (arith, h.1))
 
   abbrev pub After : Tag → Type 0
-  After tag = attributes ≡ attributes_of (standing_behind sign sign.defaults (standing sign sign.defaults items) (Does tag))
+  After tag = attributes ≡ attributes_of (standing_behind sign (standing sign items) (Does tag))
 
   abbrev pub Judged : Tag → Type 0
-  Judged tag = (offence sign sign.defaults items (Does tag) ≡ None) × IsStateOf sign sign.defaults (items ++ Does tag ∷ []) (record state { attributes = attributes })
+  Judged tag = (offence sign items (Does tag) ≡ None) × IsStateOf sign (items ++ Does tag ∷ []) (record state { attributes = attributes })
 
   -- a simple tag: it doesn't offend, and the values in force change
   pub judged-simple : (tag : Tag) → IsSimple tag → IsKnown tag → After tag → Judged tag
@@ -78,60 +77,60 @@ module _ (sign : SignData) (items : List Meaning) (state : State) (st : IsStateO
   judged-simple (Rect x y w h) s k is = absurd s
   judged-simple (LineJust just) s k is = (
     refl,
-    state-attribute sign sign.defaults items state attributes (Does (LineJust just)) st refl refl refl is st.font
+    state-attribute sign items state attributes (Does (LineJust just)) st refl refl refl is st.font
         (along_line _ (ap (λ (a : Attributes). a.line_just) is) (known_line just sign.defaults.line k sound.line)) (along_page _ (ap (λ (a : Attributes). a.page_just) is) page) below,
   )
   judged-simple (PageJust just) s k is = (
     refl,
-    state-attribute sign sign.defaults items state attributes (Does (PageJust just)) st refl refl refl is st.font
+    state-attribute sign items state attributes (Does (PageJust just)) st refl refl refl is st.font
         (along_line _ (ap (λ (a : Attributes). a.line_just) is) line) (along_page _ (ap (λ (a : Attributes). a.page_just) is) (known_page just sign.defaults.page k sound.page)) below,
   )
   judged-simple (CharSpacing pixels) s k is = (
     refl,
-    state-attribute sign sign.defaults items state attributes (Does (CharSpacing pixels)) st refl refl refl is st.font
+    state-attribute sign items state attributes (Does (CharSpacing pixels)) st refl refl refl is st.font
         (along_line _ (ap (λ (a : Attributes). a.line_just) is) line) (along_page _ (ap (λ (a : Attributes). a.page_just) is) page) below,
   )
   judged-simple CharSpacingEnd s k is = (
     refl,
-    state-attribute sign sign.defaults items state attributes (Does CharSpacingEnd) st refl refl refl is st.font
+    state-attribute sign items state attributes (Does CharSpacingEnd) st refl refl refl is st.font
         (along_line _ (ap (λ (a : Attributes). a.line_just) is) line) (along_page _ (ap (λ (a : Attributes). a.page_just) is) page) below,
   )
   judged-simple (PageTime on off) s k is = (
     refl,
-    state-attribute sign sign.defaults items state attributes (Does (PageTime on off)) st refl refl refl is st.font
+    state-attribute sign items state attributes (Does (PageTime on off)) st refl refl refl is st.font
         (along_line _ (ap (λ (a : Attributes). a.line_just) is) line) (along_page _ (ap (λ (a : Attributes). a.page_just) is) page) below,
   )
   judged-simple (Flash off_first on off) s k is = (
     refl,
-    state-attribute sign sign.defaults items state attributes (Does (Flash off_first on off)) st refl refl refl is st.font
+    state-attribute sign items state attributes (Does (Flash off_first on off)) st refl refl refl is st.font
         (along_line _ (ap (λ (a : Attributes). a.line_just) is) line) (along_page _ (ap (λ (a : Attributes). a.page_just) is) page) below,
   )
   judged-simple FlashEnd s k is = (
     refl,
-    state-attribute sign sign.defaults items state attributes (Does FlashEnd) st refl refl refl is st.font
+    state-attribute sign items state attributes (Does FlashEnd) st refl refl refl is st.font
         (along_line _ (ap (λ (a : Attributes). a.line_just) is) line) (along_page _ (ap (λ (a : Attributes). a.page_just) is) page) below,
   )
   judged-simple (Fore colour) s k is = (
     refl,
-    state-attribute sign sign.defaults items state attributes (Does (Fore colour)) st refl refl refl is st.font
+    state-attribute sign items state attributes (Does (Fore colour)) st refl refl refl is st.font
         (along_line _ (ap (λ (a : Attributes). a.line_just) is) line) (along_page _ (ap (λ (a : Attributes). a.page_just) is) page) below,
   )
   judged-simple (Back colour) s k is = (
     refl,
-    state-cover sign sign.defaults items state attributes colour st is
+    state-cover sign items state attributes colour st is
         (along_line _ (ap (λ (a : Attributes). a.line_just) is) line) (along_page _ (ap (λ (a : Attributes). a.page_just) is) page) below,
   )
 
   -- a font: the values in force have its numbers
-  pub judged-font : (pick : Option FontPick) (font : FontData) → (standing_behind sign sign.defaults (standing sign sign.defaults items) (Does (Font pick))).font ≡ font → font_numbered sign font.number ≡ Some font
-      → attributes ≡ record state.attributes { font = info_of font } → offence sign sign.defaults items (Does (Font pick)) ≡ None → Judged (Font pick)
+  pub judged-font : (pick : Option FontPick) (font : FontData) → (standing_behind sign (standing sign items) (Does (Font pick))).font ≡ font → font_numbered sign font.number ≡ Some font
+      → attributes ≡ record state.attributes { font = info_of font } → offence sign items (Does (Font pick)) ≡ None → Judged (Font pick)
   judged-font pick font new own is fine =
       let x = Does (Font pick) in
-      let after : attributes ≡ attributes_of (standing_behind sign sign.defaults (standing sign sign.defaults items) x) =
+      let after : attributes ≡ attributes_of (standing_behind sign (standing sign items) x) =
       is ∙ ap (λ (a : Attributes). let b : Attributes = record a { font = info_of font } in b) st.attributes
-      ∙ ap (λ (f : FontData). let b : Attributes = record (attributes_of (standing sign sign.defaults items)) { font = info_of f } in b) (sym new) in (
+      ∙ ap (λ (f : FontData). let b : Attributes = record (attributes_of (standing sign items)) { font = info_of f } in b) (sym new) in (
         fine,
-        state-attribute sign sign.defaults items state attributes x st refl refl refl after
+        state-attribute sign items state attributes x st refl refl refl after
             (subst (λ (f : FontData). font_numbered sign f.number ≡ Some f) (sym new) own)
             (along_line _ (ap (λ (a : Attributes). a.line_just) is) st.line_just) (along_page _ (ap (λ (a : Attributes). a.page_just) is) st.page_just) below,
       )
@@ -139,7 +138,7 @@ module _ (sign : SignData) (items : List Meaning) (state : State) (st : IsStateO
 -- FONTS
 
 -- the default font
-pub judged-default_font : (sign : SignData) (items : List Meaning) (state : State) (st : IsStateOf sign sign.defaults items state) (sound : IsSound sign) (info : FontInfo)
+pub judged-default_font : (sign : SignData) (items : List Meaning) (state : State) (st : IsStateOf sign items state) (sound : IsSound sign) (info : FontInfo)
     → option_map info_of (font_numbered sign sign.defaults.font) ≡ Some info
     → Judged sign items state st sound (record state.attributes { font = info }) (Font None)
 unfolding offence
@@ -153,8 +152,8 @@ no_info : (o : Option FontData) → option_map info_of o ≡ None → o ≡ None
 no_info None e = refl
 no_info (Some font) e = cc
 
-pub judged-no_font : (sign : SignData) (defaults : Defaults) (items : List Meaning) (pick : FontPick) → option_map info_of (font_numbered sign pick.number) ≡ None → offence sign defaults items (Does (Font (Some pick))) ≡ Some 6
-judged-no_font sign defaults items pick none = offence-no_font sign defaults items pick (no_info (font_numbered sign pick.number) none)
+pub judged-no_font : (sign : SignData) (items : List Meaning) (pick : FontPick) → option_map info_of (font_numbered sign pick.number) ≡ None → offence sign items (Does (Font (Some pick))) ≡ Some 6
+judged-no_font sign items pick none = offence-no_font sign items pick (no_info (font_numbered sign pick.number) none)
 
 -- the version that is asked for is another, where the font doesn't agree with it
 other_version : (o : Option ℕ) (n : ℕ) → option_map_or (λ v. not (v == n)) o false ≡ not (option_map_or (λ v. v == n) o true)
@@ -162,17 +161,17 @@ other_version None n = refl
 other_version (Some v) n = refl
 
 -- a font of another version
-pub judged-version : (sign : SignData) (defaults : Defaults) (items : List Meaning) (pick : FontPick) (info : FontInfo) → option_map info_of (font_numbered sign pick.number) ≡ Some info
-    → option_map_or (λ v. v == info.version) pick.version true ≡ false → offence sign defaults items (Does (Font (Some pick))) ≡ Some 13
-judged-version sign defaults items pick info is differs =
+pub judged-version : (sign : SignData) (items : List Meaning) (pick : FontPick) (info : FontInfo) → option_map info_of (font_numbered sign pick.number) ≡ Some info
+    → option_map_or (λ v. v == info.version) pick.version true ≡ false → offence sign items (Does (Font (Some pick))) ≡ Some 13
+judged-version sign items pick info is differs =
     let (font, found, same) = font_of_info (font_numbered sign pick.number) info is in
     let versions : font.version ≡ info.version = ap (λ (i : FontInfo). i.version) (sym same) in
     let test : option_map_or (λ v. not (v == font.version)) pick.version false ≡ true =
     ap (λ n. option_map_or (λ v. not (v == n)) pick.version false) versions ∙ other_version pick.version info.version ∙ ap not differs in
-    offence-font sign defaults items pick font found ∙ ap (λ b. cond {A = Option ℕ} b (Some 13) None) test
+    offence-font sign items pick font found ∙ ap (λ b. cond {A = Option ℕ} b (Some 13) None) test
 
 -- the font that is asked for, in its version
-pub judged-picked : (sign : SignData) (items : List Meaning) (state : State) (st : IsStateOf sign sign.defaults items state) (sound : IsSound sign) (pick : FontPick) (info : FontInfo)
+pub judged-picked : (sign : SignData) (items : List Meaning) (state : State) (st : IsStateOf sign items state) (sound : IsSound sign) (pick : FontPick) (info : FontInfo)
     → option_map info_of (font_numbered sign pick.number) ≡ Some info → option_map_or (λ v. v == info.version) pick.version true ≡ true
     → Judged sign items state st sound (record state.attributes { font = info }) (Font (Some pick))
 judged-picked sign items state st sound pick info is agrees =
@@ -181,9 +180,9 @@ judged-picked sign items state st sound pick info is agrees =
     let test : option_map_or (λ v. not (v == font.version)) pick.version false ≡ false =
     ap (λ n. option_map_or (λ v. not (v == n)) pick.version false) versions ∙ other_version pick.version info.version ∙ ap not agrees in
     judged-font sign items state st sound (record state.attributes { font = info }) (Some pick) font
-    (ap (λ o. unwrap_or o (standing sign sign.defaults items).font) found)
+    (ap (λ o. unwrap_or o (standing sign items).font) found)
     (found_again sign pick.number font found) (ap (λ (i : FontInfo). let a : Attributes = record state.attributes { font = i } in a) same)
-    (offence-font sign sign.defaults items pick font found ∙ ap (λ b. cond {A = Option ℕ} b (Some 13) None) test)
+    (offence-font sign items pick font found ∙ ap (λ b. cond {A = Option ℕ} b (Some 13) None) test)
 
 -- RECTANGLES
 

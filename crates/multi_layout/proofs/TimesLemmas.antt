@@ -6,7 +6,6 @@ use Rattle.std.proofs.lemmas.List.{append_assoc, append-nil, length-append, take
 use Rattle.std.proofs.lemmas.List.Sums.{sum_by-append, sum_by-cons, sum_by_push, sum_by_more, sum_by-take-le}
 use Rattle.std.proofs.lemmas.Option.{slice_get-get_or}
 use Rattle.std.proofs.Math.Seq.{take-append_seam, get_or-append_seam}
-use Rattle.sign_font.specs.declared.parts.Defaults.{Defaults}
 use Rattle.sign_font.specs.Sign.{SignData}
 use Rattle.multi_tag.specs.declared.tag.Tag.TheVariants.{NewPage}
 use Rattle.multi_layout.specs.Address.{standing}
@@ -120,20 +119,20 @@ module _ (pages before after : List Times) (here : Times) (is : pages ≡ before
 -- THE TIMES OF PAGES
 
 -- behind the last item the present page is the last
-pub times_are_all : (sign : SignData) (defaults : Defaults) (before : List Meaning)
-    → page_times sign defaults before ≡ ended_times sign defaults before ++ times_at (standing sign defaults before) ∷ []
+pub times_are_all : (sign : SignData) (before : List Meaning)
+    → page_times sign before ≡ ended_times sign before ++ times_at (standing sign before) ∷ []
 unfolding page_times
-times_are_all sign defaults before = refl
+times_are_all sign before = refl
 
 -- where a new page begins the present page ends with the times in force there
-pub times_are : (sign : SignData) (defaults : Defaults) (before rest : List Meaning)
-    → (more : List Times) × (page_times sign defaults (before ++ Does NewPage ∷ rest) ≡ ended_times sign defaults before ++ times_at (standing sign defaults before) ∷ more)
+pub times_are : (sign : SignData) (before rest : List Meaning)
+    → (more : List Times) × (page_times sign (before ++ Does NewPage ∷ rest) ≡ ended_times sign before ++ times_at (standing sign before) ∷ more)
 unfolding page_times
-times_are sign defaults before rest =
-    let ends : List Meaning → Meaning → Option Times = λ ms m. cond (is_new_page m) (Some (times_at (standing sign defaults ms))) None in
+times_are sign before rest =
+    let ends : List Meaning → Meaning → Option Times = λ ms m. cond (is_new_page m) (Some (times_at (standing sign ms))) None in
     let behind : List Times = some_after (λ ms. ends (before ++ Does NewPage ∷ ms)) rest in
-    let last : List Times = times_at (standing sign defaults (before ++ Does NewPage ∷ rest)) ∷ [] in
-    let here : List Meaning → Times = λ ms. times_at (standing sign defaults ms) in (
+    let last : List Times = times_at (standing sign (before ++ Does NewPage ∷ rest)) ∷ [] in
+    let here : List Meaning → Times = λ ms. times_at (standing sign ms) in (
       behind ++ last,
       ap (λ l. l ++ last) (some_after-append ends before (Does NewPage ∷ rest))
           ∙ append_assoc (some_after ends before) (here (before ++ []) ∷ behind) last
@@ -152,12 +151,12 @@ count_some p of (x ∷ xs) =
     ]
 
 -- as many pages have ended as new pages have begun
-pub ended_count : (sign : SignData) (defaults : Defaults) (before : List Meaning) → length (ended_times sign defaults before) ≡ count_by is_new_page before
-ended_count sign defaults before = count_some is_new_page (λ ms. times_at (standing sign defaults ms)) before
+pub ended_count : (sign : SignData) (before : List Meaning) → length (ended_times sign before) ≡ count_by is_new_page before
+ended_count sign before = count_some is_new_page (λ ms. times_at (standing sign ms)) before
 
 -- there is one page more than new pages begin
-pub times_count : (sign : SignData) (defaults : Defaults) (items : List Meaning) → length (page_times sign defaults items) ≡ count_by is_new_page items + 1
-times_count sign defaults items =
-    let times = ended_times sign defaults items in
-    let last = times_at (standing sign defaults items) in
-    omega (arith, ap length (times_are_all sign defaults items), length-append times (last ∷ []), ended_count sign defaults items)
+pub times_count : (sign : SignData) (items : List Meaning) → length (page_times sign items) ≡ count_by is_new_page items + 1
+times_count sign items =
+    let times = ended_times sign items in
+    let last = times_at (standing sign items) in
+    omega (arith, ap length (times_are_all sign items), length-append times (last ∷ []), ended_count sign items)

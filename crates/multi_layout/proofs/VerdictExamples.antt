@@ -9,7 +9,7 @@ use Rattle.multi_layout.specs.Verdict.{Verdict, Accepted, Refused, verdict, verd
 
 unfoldable judged : List ℕ → Verdict
 unfolding verdict verdict_on offence spots standing reading read_items read_item tag_of
-judged octets = verdict sample sample.defaults octets
+judged octets = verdict sample octets
 
 one_character_fits : judged (codes "A") ≡ Accepted 1
 unfolding judged

@@ -6,7 +6,6 @@ use Rattle.multi_token.specs.Spelling.{Item, spell}
 use Rattle.multi_token.specs.Reading.{reading}
 use Rattle.multi_token.proofs.SpellingLemmas.{reading_begins, one_reading}
 use Rattle.multi_token.proofs.ReadingLemmas.{each_string_has_a_reading}
-use Rattle.sign_font.specs.declared.parts.Defaults.{Defaults}
 use Rattle.sign_font.specs.Sign.{SignData}
 use Rattle.multi_layout.specs.Meaning.{meaning}
 use Rattle.multi_layout.specs.Offence.{offence}
@@ -16,31 +15,31 @@ use Rattle.multi_layout.proofs.WordLemmas.{some_after-append, some_after_push}
 
 pub one_verdict : OneVerdict
 unfolding verdict
-one_verdict sign defaults octets v = (
+one_verdict sign octets v = (
   (λ (items, rest, read, is).
       let same = one_reading octets items (reading octets).items rest (reading octets).rest read (each_string_has_a_reading octets) in
-      is ∙ ap (λ l. verdict_on sign defaults l rest) same.0 ∙ ap (λ r. verdict_on sign defaults (reading octets).items r) same.1),
+      is ∙ ap (λ l. verdict_on sign l rest) same.0 ∙ ap (λ r. verdict_on sign (reading octets).items r) same.1),
   (λ is. ((reading octets).items, (reading octets).rest, each_string_has_a_reading octets, is)),
 )
 
 -- the offences behind one more item
-pub offences_push : (sign : SignData) (defaults : Defaults) (items : List Item) (item : Item) (o : Option ℕ) → offences sign defaults items ≡ [] → offence sign defaults (map meaning items) (meaning item) ≡ o
-    → offences sign defaults (items ++ item ∷ []) ≡ cons_option (option_map (λ code. (code, length (spell items))) o) []
-offences_push sign defaults items item o none is =
-    some_after_push (fault_at sign defaults) items item
-    ∙ ap (λ l. l ++ cons_option (fault_at sign defaults items item) []) none
+pub offences_push : (sign : SignData) (items : List Item) (item : Item) (o : Option ℕ) → offences sign items ≡ [] → offence sign (map meaning items) (meaning item) ≡ o
+    → offences sign (items ++ item ∷ []) ≡ cons_option (option_map (λ code. (code, length (spell items))) o) []
+offences_push sign items item o none is =
+    some_after_push (fault_at sign) items item
+    ∙ ap (λ l. l ++ cons_option (fault_at sign items item) []) none
     ∙ ap (λ p. cons_option (option_map (λ code. (code, length (spell items))) p) []) is
 
 pub refusal_stands : RefusalStands
 unfolding verdict verdict_on
-refusal_stands sign defaults before item code rest each none offends =
+refusal_stands sign before item code rest each none offends =
     let xs = before ++ item ∷ [] in
     let octets = spell xs ++ rest in
     let all = each_string_has_a_reading octets in
     let items = (reading octets).items in
     let (ws, is, behind) = reading_begins xs items rest (reading octets).rest each all.each all.ends all.spelled in
-    let f = fault_at sign defaults in
-    let front = offences_push sign defaults before item (Some code) none offends in
-    let whole : offences sign defaults items ≡ (code, length (spell before)) ∷ some_after (λ more. f (xs ++ more)) ws =
-    ap (offences sign defaults) is ∙ some_after-append f xs ws ∙ ap (λ l. l ++ some_after (λ more. f (xs ++ more)) ws) front in
+    let f = fault_at sign in
+    let front = offences_push sign before item (Some code) none offends in
+    let whole : offences sign items ≡ (code, length (spell before)) ∷ some_after (λ more. f (xs ++ more)) ws =
+    ap (offences sign) is ∙ some_after-append f xs ws ∙ ap (λ l. l ++ some_after (λ more. f (xs ++ more)) ws) front in
     ap (λ l. of_first (pages_of (map meaning items)) (l ++ broken items (reading octets).rest)) whole

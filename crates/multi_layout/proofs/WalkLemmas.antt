@@ -9,7 +9,6 @@ use Rattle.multi_token.specs.Spelling.{Item, IsItem, spelling, spell, HasNoItem}
 use Rattle.multi_token.specs.Tokens.{IsTokenOf, item_of}
 use Rattle.multi_token.proofs.ReadingLemmas.{spelling_some}
 use Rattle.multi_token.proofs.SpellingLemmas.{one_item_begins}
-use Rattle.sign_font.specs.declared.parts.Defaults.{Defaults}
 use Rattle.sign_font.specs.Sign.{SignData}
 use Rattle.multi_layout.specs.declared.cursor.Cursor.{Cursor}
 use Rattle.multi_layout.specs.Meaning.{Faulty, meaning}
@@ -41,7 +40,7 @@ pub length-meanings : (items : List Item) → length (map meaning items) ≡ len
 length-meanings [] = refl
 length-meanings (x ∷ items) = ap (λ n. Prim.Native.Nat.suc n) (length-meanings items)
 
-module _ (sign : SignData) (defaults : Defaults) (octets : List ℕ) (before behind : List Item) (cursor : Cursor) (b : IsBetween sign defaults octets before behind cursor) where
+module _ (sign : SignData) (octets : List ℕ) (before behind : List Item) (cursor : Cursor) (b : IsBetween sign octets before behind cursor) where
   -- what stands from the cursor on
   pub ahead : drop cursor.at octets ≡ spell behind
   ahead =
@@ -61,7 +60,7 @@ module _ (sign : SignData) (defaults : Defaults) (octets : List ℕ) (before beh
 
   -- the state is small enough
   pub ready_between : IsReady cursor.state
-  ready_between = ready sign defaults (map meaning before) cursor.state b.state_is few_between
+  ready_between = ready sign (map meaning before) cursor.state b.state_is few_between
 
   -- at the end there is no item
   pub none_at_end : cursor.at ≡ length octets → behind ≡ []
@@ -90,28 +89,28 @@ module _ (sign : SignData) (defaults : Defaults) (octets : List ℕ) (before beh
           (items, ap (λ y. y ∷ items) same.0)
 
 -- the next item doesn't offend
-module _ (sign : SignData) (defaults : Defaults) (octets : List ℕ) (before rest : List Item) (item : Item) (cursor : Cursor) (b : IsBetween sign defaults octets before (item ∷ rest) cursor) where
-  pub never_offends : offence sign defaults (map meaning before) (meaning item) ≡ None
+module _ (sign : SignData) (octets : List ℕ) (before rest : List Item) (item : Item) (cursor : Cursor) (b : IsBetween sign octets before (item ∷ rest) cursor) where
+  pub never_offends : offence sign (map meaning before) (meaning item) ≡ None
   never_offends =
-      let later = some_after-append (fault_at sign defaults) before (item ∷ rest) in
-      let none = right_nil (offences sign defaults before) _ (sym later ∙ b.accepted.none) in
-      let here = none_of (fault_at sign defaults (before ++ []) item) _ none in
-      let at : fault_at sign defaults before item ≡ None = ap (λ l. fault_at sign defaults l item) (sym (append-nil before)) ∙ here in
-      none_mapped (λ code. (code, length (spell before))) (offence sign defaults (map meaning before) (meaning item)) at
+      let later = some_after-append (fault_at sign) before (item ∷ rest) in
+      let none = right_nil (offences sign before) _ (sym later ∙ b.accepted.none) in
+      let here = none_of (fault_at sign (before ++ []) item) _ none in
+      let at : fault_at sign before item ≡ None = ap (λ l. fault_at sign l item) (sym (append-nil before)) ∙ here in
+      none_mapped (λ code. (code, length (spell before))) (offence sign (map meaning before) (meaning item)) at
 
   -- and so it is no tag with an error
   pub never_faulty : (code : ℕ) → meaning item ≡ Faulty code → ⊥
   never_faulty code e =
-      let wrong : Some code ≡ None = sym (offence-faulty sign defaults (map meaning before) code) ∙ ap (offence sign defaults (map meaning before)) (sym e) ∙ never_offends in
+      let wrong : Some code ≡ None = sym (offence-faulty sign (map meaning before) code) ∙ ap (offence sign (map meaning before)) (sym e) ∙ never_offends in
       absurd cc
 
   -- behind it the cursor stands before the rest
-  pub between_more : (new : Cursor) → new.at ≡ cursor.at + length (spelling item) → IsStateOf sign defaults (map meaning before ++ meaning item ∷ []) new.state
-      → IsBetween sign defaults octets (before ++ item ∷ []) rest new
+  pub between_more : (new : Cursor) → new.at ≡ cursor.at + length (spelling item) → IsStateOf sign (map meaning before ++ meaning item ∷ []) new.state
+      → IsBetween sign octets (before ++ item ∷ []) rest new
   between_more new at st = record {
-    accepted = subst (IsAccepted sign defaults octets) (sym (append_assoc before (item ∷ []) rest)) b.accepted;
+    accepted = subst (IsAccepted sign octets) (sym (append_assoc before (item ∷ []) rest)) b.accepted;
     place = omega (arith, at, b.place, ap length (spell-append before (item ∷ [])), length-append (spell before) (spell (item ∷ [])), ap length (append-nil (spelling item)));
-    state_is = subst (λ ms. IsStateOf sign defaults ms new.state) (sym (map-append meaning before (item ∷ []))) st;
+    state_is = subst (λ ms. IsStateOf sign ms new.state) (sym (map-append meaning before (item ∷ []))) st;
   }
 
   pub room : cursor.at + length (spelling item) ≤ length octets

@@ -28,19 +28,19 @@ pub record Standing : Type 0 where
 
 -- where the item behind some items stands, and what is in force there; pages are counted from 0, and areas from 0
 -- through all pages (NTCIP 1203 v03, MULTI)
-unfoldable pub standing : SignData → Defaults → List Meaning → Standing
-standing sign defaults before = record {
+unfoldable pub standing : SignData → List Meaning → Standing
+standing sign before = record {
   page = count_by is_new_page before;
   area = count_by begins_area before;
-  font = in_force (given_font sign defaults) (default_font sign defaults) before;
-  line_just = in_force (given_line_just defaults) defaults.line before;
-  page_just = in_force (given_page_just defaults) defaults.page before;
+  font = in_force (given_font sign) (default_font sign) before;
+  line_just = in_force (given_line_just sign.defaults) sign.defaults.line before;
+  page_just = in_force (given_page_just sign.defaults) sign.defaults.page before;
   spacing = in_force given_spacing None before;
-  fore = in_force (given_fore defaults) defaults.fore before;
-  back = in_force (given_back defaults) defaults.back before;
-  on = in_force (given_on defaults) defaults.page_on before;
-  off = in_force (given_off defaults) defaults.page_off before;
-  flash = in_force (given_flash defaults) None before;
+  fore = in_force (given_fore sign.defaults) sign.defaults.fore before;
+  back = in_force (given_back sign.defaults) sign.defaults.back before;
+  on = in_force (given_on sign.defaults) sign.defaults.page_on before;
+  off = in_force (given_off sign.defaults) sign.defaults.page_off before;
+  flash = in_force (given_flash sign.defaults) None before;
   rectangle = in_force (given_rectangle sign) (whole_sign sign) before;
 }
 
@@ -70,8 +70,8 @@ abbrev pub spot_at : Defaults → Standing → Meaning → Option Spot
 spot_at defaults at item = option_map (λ put. record { at = at; put = put }) (put_at defaults at item)
 
 -- all that the items of a string put, in their order (own)
-unfoldable pub spots : SignData → Defaults → List Meaning → List Spot
-spots sign defaults items = some_after (λ before item. spot_at defaults (standing sign defaults before) item) items
+unfoldable pub spots : SignData → List Meaning → List Spot
+spots sign items = some_after (λ before item. spot_at sign.defaults (standing sign before) item) items
 
 -- a character (NTCIP 1203 v03, MULTI)
 abbrev pub is_glyph : Spot → Bool

@@ -1,5 +1,5 @@
--- The attributes and their values in force (NTCIP 1203 v03, MULTI and group multiCfg). The defaults are a parameter
--- of their own, apart from the sign.
+-- The attributes and their values in force (NTCIP 1203 v03, MULTI and group multiCfg). The defaults are the sign's: under
+-- other defaults a sign is the same sign with those.
 use Rattle.std.specs.Prelude.{ℕ, ◌+◌, ◌-◌, Bool, ◌&&◌, ◌==◌, nat_le, List, [], Option, Some, None, if◌then◌else◌}
 use Rattle.std.specs.List.{filter_map, last_or}
 use Rattle.std.specs.Option.{unwrap_or}
@@ -16,14 +16,14 @@ abbrev pub in_force : {A : Type 0} → (Meaning → Option A) → A → List Mea
 in_force given default before = unwrap_or (last_or None (filter_map given before)) default
 
 -- the default font, which an accepted sign defines (NTCIP 1203 v03, defaultFont)
-abbrev pub default_font : SignData → Defaults → FontData
-default_font sign defaults = unwrap_or (font_numbered sign defaults.font) (record { number = 0; version = 0; height = 0; char_spacing = 0; line_spacing = 0; cells = [] })
+abbrev pub default_font : SignData → FontData
+default_font sign = unwrap_or (font_numbered sign sign.defaults.font) (record { number = 0; version = 0; height = 0; char_spacing = 0; line_spacing = 0; cells = [] })
 
 -- the font that an item gives: that of the number, or the default (NTCIP 1203 v03, MULTI tag 'fo')
-abbrev pub given_font : SignData → Defaults → Meaning → Option FontData
-given_font sign defaults (Does (Font None)) = Some (default_font sign defaults)
-given_font sign defaults (Does (Font (Some pick))) = font_numbered sign pick.number
-given_font sign defaults _ = None
+abbrev pub given_font : SignData → Meaning → Option FontData
+given_font sign (Does (Font None)) = Some (default_font sign)
+given_font sign (Does (Font (Some pick))) = font_numbered sign pick.number
+given_font sign _ = None
 
 -- the line justification that an item gives: left 2, centre 3, right 4, full 5 (NTCIP 1203 v03, MULTI tag 'jl')
 abbrev pub given_line_just : Defaults → Meaning → Option ℕ

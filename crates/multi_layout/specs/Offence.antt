@@ -3,7 +3,6 @@ use Rattle.std.specs.Prelude.{ℕ, ◌+◌, Bool, true, false, not, ◌||◌, �
 use Rattle.std.specs.List.{count_by, list_any, find}
 use Rattle.std.specs.Option.{option_map, option_map_or}
 use Rattle.multi_tag.specs.declared.tag.Tag.TheVariants.{NewPage, NewLine, Font, Rect}
-use Rattle.sign_font.specs.declared.parts.Defaults.{Defaults}
 use Rattle.sign_font.specs.Sign.{SignData, FontData, CellData, font_numbered, cell_numbered}
 use Rattle.multi_layout.specs.Meaning.{Meaning, Shows, Does, Faulty, is_new_page}
 use Rattle.multi_layout.specs.Attributes.{is_inside}
@@ -43,9 +42,9 @@ placing_cases before spot = (conflicts before spot, 11) ∷ (too_big before spot
 
 -- the cases of a character: 7 characterNotDefined, then those of a placing item (NTCIP 1203 v03, dmsMultiSyntaxError;
 -- their order is own)
-abbrev pub character_cases : SignData → Defaults → List Meaning → Option CellData → List Case
-character_cases sign defaults before None = (true, 7) ∷ []
-character_cases sign defaults before (Some cell) = placing_cases (spots sign defaults before) (record { at = standing sign defaults before; put = Glyph cell })
+abbrev pub character_cases : SignData → List Meaning → Option CellData → List Case
+character_cases sign before None = (true, 7) ∷ []
+character_cases sign before (Some cell) = placing_cases (spots sign before) (record { at = standing sign before; put = Glyph cell })
 
 -- the cases of a font: 6 fontNotDefined, 13 fontVersionID (NTCIP 1203 v03, dmsMultiSyntaxError; their order is own)
 abbrev pub font_cases : Option FontData → Option ℕ → List Case
@@ -55,15 +54,15 @@ font_cases (Some font) version = (option_map_or (λ v. not (v == font.version)) 
 -- the cases of an item after the items before it, in their order: the tag's own fault, 6 and 13 of a font, 4 of a rectangle
 -- outside the sign, 12 of a new page past the limit, and those of placing items (NTCIP 1203 v03, dmsMultiSyntaxError; their
 -- order is own)
-abbrev pub cases : SignData → Defaults → List Meaning → Meaning → List Case
-cases sign defaults before (Faulty code) = (true, code) ∷ []
-cases sign defaults before (Does (Font (Some pick))) = font_cases (font_numbered sign pick.number) pick.version
-cases sign defaults before (Does (Rect x y w h)) = (not (is_inside sign x y w h), 4) ∷ []
-cases sign defaults before (Does NewPage) = (nat_lt sign.max_pages (count_by is_new_page before + 2), 12) ∷ []
-cases sign defaults before (Does (NewLine gap)) = placing_cases (spots sign defaults before) (record { at = standing sign defaults before; put = Break gap })
-cases sign defaults before (Shows number) = character_cases sign defaults before (cell_numbered (standing sign defaults before).font number)
-cases sign defaults before _ = []
+abbrev pub cases : SignData → List Meaning → Meaning → List Case
+cases sign before (Faulty code) = (true, code) ∷ []
+cases sign before (Does (Font (Some pick))) = font_cases (font_numbered sign pick.number) pick.version
+cases sign before (Does (Rect x y w h)) = (not (is_inside sign x y w h), 4) ∷ []
+cases sign before (Does NewPage) = (nat_lt sign.max_pages (count_by is_new_page before + 2), 12) ∷ []
+cases sign before (Does (NewLine gap)) = placing_cases (spots sign before) (record { at = standing sign before; put = Break gap })
+cases sign before (Shows number) = character_cases sign before (cell_numbered (standing sign before).font number)
+cases sign before _ = []
 
 -- the error of an item after the items before it, if it offends (NTCIP 1203 v03, dmsMultiSyntaxError)
-unfoldable pub offence : SignData → Defaults → List Meaning → Meaning → Option ℕ
-offence sign defaults before item = first_code (cases sign defaults before item)
+unfoldable pub offence : SignData → List Meaning → Meaning → Option ℕ
+offence sign before item = first_code (cases sign before item)

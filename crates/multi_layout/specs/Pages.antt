@@ -2,7 +2,6 @@
 use Rattle.std.specs.Prelude.{◌≡◌, ◌⊎◌, ℕ, ◌+◌, ◌*◌, ◌^◌, ◌<◌, ◌≤◌, ◌==◌, List, length, if◌then◌else◌}
 use Rattle.multi_token.specs.Counted.{RisesBetween}
 use Rattle.page_plane.specs.Plane.{BitPlane}
-use Rattle.sign_font.specs.declared.parts.Defaults.{Defaults}
 use Rattle.sign_font.specs.Sign.{SignData, tallest}
 use Rattle.sign_font.specs.Sound.{IsSound}
 use Rattle.multi_layout.specs.declared.cursor.Cursor.{Cursor}
@@ -31,11 +30,11 @@ abbrev pub IsSized : BitPlane → SignData → Type 0
 IsSized plane sign = (plane.width ≡ sign.width) × (plane.height ≡ sign.height)
 
 -- the page that begins at the old cursor is passed: it is the last of the string, or the next begins at the new one (own)
-pub record IsTurned (sign : SignData) (defaults : Defaults) (octets : List ℕ) (old new : Cursor) : Type 0 where
+pub record IsTurned (sign : SignData) (octets : List ℕ) (old new : Cursor) : Type 0 where
   pub on : old.at ≤ new.at
   pub within : new.at ≤ length octets
   pub ends : ((old.state.pages ≡ pages_of (meanings octets)) × (new.state.pages ≡ old.state.pages))
-      ⊎ ((old.state.pages < pages_of (meanings octets)) × (new.state.pages ≡ old.state.pages + 1) × IsPageStart sign defaults octets new)
+      ⊎ ((old.state.pages < pages_of (meanings octets)) × (new.state.pages ≡ old.state.pages + 1) × IsPageStart sign octets new)
 
 -- the next page begins at the cursor, and the octets before it are all that was read and drawn so far (own)
 pub record IsUnderWay (pages : PagesState) (cursor : Cursor) : Type 0 where
@@ -44,7 +43,7 @@ pub record IsUnderWay (pages : PagesState) (cursor : Cursor) : Type 0 where
   pub size : IsSized pages.plane pages.string.sign
   pub next_most : pages.next ≤ page_count pages.string
   pub begins : pages.next < page_count pages.string
-      → IsPageStart pages.string.sign pages.string.defaults pages.string.source.octets cursor × (cursor.state.pages ≡ pages.next + 1)
+      → IsPageStart pages.string.sign pages.string.source.octets cursor × (cursor.state.pages ≡ pages.next + 1)
   pub within : cursor.at ≤ length pages.string.source.octets
   pub read_least : pages.string_started ≤ pages.string.source.steps
   pub read_most : pages.string.source.steps ≤ pages.string_started + 4 * cursor.at + (if pages.next == page_count pages.string then 2 else 0)
@@ -56,7 +55,6 @@ pub record IsUnderWay (pages : PagesState) (cursor : Cursor) : Type 0 where
 -- the next page was drawn, and the one after it comes next (own)
 pub record TurnsPage (old new : PagesState) : Type 0 where
   pub sign_kept : new.string.sign ≡ old.string.sign
-  pub defaults_kept : new.string.defaults ≡ old.string.defaults
   pub read : RisesBetween old.string.source new.string.source 0 (reading_limit (length old.string.source.octets))
   pub size_kept : (new.plane.width ≡ old.plane.width) × (new.plane.height ≡ old.plane.height)
   pub drawn_least : old.plane.steps ≤ new.plane.steps

@@ -3,7 +3,6 @@ use Rattle.std.specs.Prelude.{◌≡◌, ◌⊎◌, ℕ, ◌+◌, ◌-◌, ◌*�
 use Rattle.multi_token.specs.Counted.{Counted, RisesBetween}
 use Rattle.multi_token.specs.Spelling.{Item}
 use Rattle.page_plane.specs.Plane.{BitPlane}
-use Rattle.sign_font.specs.declared.parts.Defaults.{Defaults}
 use Rattle.sign_font.specs.Sign.{SignData, tallest}
 use Rattle.multi_layout.specs.declared.cursor.Cursor.{Cursor}
 use Rattle.multi_layout.specs.Limits.{plane_octets}
@@ -11,15 +10,15 @@ use Rattle.multi_layout.specs.Meaning.{meaning, BeginsPage}
 use Rattle.multi_layout.specs.Walk.{IsBetween}
 
 -- the cursor stands where a page of an accepted string begins (own)
-abbrev pub IsPageStart : SignData → Defaults → List ℕ → Cursor → Type 0
-IsPageStart sign defaults octets cursor = (before behind : List Item) × IsBetween sign defaults octets before behind cursor × BeginsPage (map meaning before)
+abbrev pub IsPageStart : SignData → List ℕ → Cursor → Type 0
+IsPageStart sign octets cursor = (before behind : List Item) × IsBetween sign octets before behind cursor × BeginsPage (map meaning before)
 
 -- the page that begins at the old cursor is passed: the new one stands behind the `np` that ends it, or at the end of the string (own)
-pub record IsPagePassed (sign : SignData) (defaults : Defaults) (octets : List ℕ) (before behind : List Item) (old new : Cursor) : Type 0 where
+pub record IsPagePassed (sign : SignData) (octets : List ℕ) (before behind : List Item) (old new : Cursor) : Type 0 where
   pub page : List Item
   pub rest : List Item
   pub split : behind ≡ page ++ rest
-  pub between : IsBetween sign defaults octets (before ++ page) rest new
+  pub between : IsBetween sign octets (before ++ page) rest new
   pub on : old.at ≤ new.at
   pub ends : ((rest ≡ []) × (new.state.pages ≡ old.state.pages)) ⊎ (BeginsPage (map meaning (before ++ page)) × (new.state.pages ≡ old.state.pages + 1))
 

@@ -6,7 +6,6 @@ use Rattle.multi_token.specs.Spelling.{Item, spelling, spell}
 use Rattle.multi_tag.specs.declared.tag.Tag.{Tag}
 use Rattle.multi_tag.specs.declared.tag.Tag.TheVariants.{Back, NewLine}
 use Rattle.page_plane.specs.Plane.{BitPlane}
-use Rattle.sign_font.specs.declared.parts.Defaults.{Defaults}
 use Rattle.sign_font.specs.Sign.{SignData, tallest}
 use Rattle.multi_layout.specs.declared.cursor.Cursor.{Cursor}
 use Rattle.multi_layout.specs.declared.paint.Layer.{Layer}
@@ -50,8 +49,8 @@ IsQuiet (Back given) = ⊥
 IsQuiet tag = Unit {0}
 
 -- the placing items of the area in which the next item stands, those behind that item too (own)
-abbrev pub whole_area : SignData → Defaults → List Item → List Item → List Spot
-whole_area sign defaults before behind = in_area (standing sign defaults (map meaning before)).area (spots sign defaults (map meaning (before ++ behind)))
+abbrev pub whole_area : SignData → List Item → List Item → List Spot
+whole_area sign before behind = in_area (standing sign (map meaning before)).area (spots sign (map meaning (before ++ behind)))
 
 -- the steps that reading the first of these items takes at most, and one at the end (own)
 abbrev pub first_steps : List Item → ℕ
@@ -59,21 +58,21 @@ first_steps [] = 1
 first_steps (item ∷ rest) = 2 * length (spelling item) - 1
 
 -- the area that begins at the cursor was read: these are its items, and those behind it (own)
-pub record IsAreaRead (sign : SignData) (defaults : Defaults) (before behind : List Item) (cursor : Cursor) (read : AreaLines) (source source' : Counted) : Type 0 where
+pub record IsAreaRead (sign : SignData) (before behind : List Item) (cursor : Cursor) (read : AreaLines) (source source' : Counted) : Type 0 where
   pub area : List Item
   pub rest : List Item
   pub split : behind ≡ area ++ rest
   pub plain : BeginsNoArea area
   pub ends : EndsArea (map meaning rest)
   pub end : read.end ≡ cursor.at + length (spell area)
-  pub table : HasCounted (whole_area sign defaults before behind) read.lines
+  pub table : HasCounted (whole_area sign before behind) read.lines
   pub low : IsLow read.lines
   pub steps : RisesBetween source source' 0 (2 * length (spell area) + first_steps rest)
 
 -- the plane shows what these items put on their page, of all the items of the string (own)
-abbrev pub IsDrawnTo : SignData → Defaults → Layer → List Meaning → List Meaning → BitPlane → Type 0
-IsDrawnTo sign defaults layer items before plane =
-    Shows plane (has_colour sign defaults (standing sign defaults before).page layer.phase layer.colour (spots sign defaults items) (spots sign defaults before))
+abbrev pub IsDrawnTo : SignData → Layer → List Meaning → List Meaning → BitPlane → Type 0
+IsDrawnTo sign layer items before plane =
+    Shows plane (has_colour sign (standing sign before).page layer.phase layer.colour (spots sign items) (spots sign before))
 
 -- these octets of a page took at most these steps over the plane: a row for each row of each character, and a fill for each
 -- background, which has four octets (own)

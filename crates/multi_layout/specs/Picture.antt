@@ -46,9 +46,9 @@ unfolding place_of
 things_among phase all some = some_after (λ before spot. thing_at phase (place_of before all spot) spot spot.put) some
 
 -- the things of all pages, in the order of the string (own)
-unfoldable pub things : SignData → Defaults → ℕ → List Meaning → List Thing
+unfoldable pub things : SignData → ℕ → List Meaning → List Thing
 unfolding spots things_among
-things sign defaults phase items = things_among phase (spots sign defaults items) (spots sign defaults items)
+things sign phase items = things_among phase (spots sign items) (spots sign items)
 
 -- the colour of a pixel of a page: that of the last thing of the page that covers it, or else the default background, with
 -- which page 0 begins (NTCIP 1203 v03, defaultBackgroundColor; that the last thing covers the others is own)
@@ -61,15 +61,15 @@ abbrev pub shown_colour : SignData → ℕ → ℕ
 shown_colour sign colour = if sign.classic then colour else min colour 1
 
 -- a pixel of a page has a colour at a phase: the plane of that colour has the pixel (own)
-unfoldable pub in_plane : SignData → Defaults → List Meaning → ℕ → ℕ → ℕ → ℕ → ℕ → Bool
+unfoldable pub in_plane : SignData → List Meaning → ℕ → ℕ → ℕ → ℕ → ℕ → Bool
 unfolding things
-in_plane sign defaults items page phase colour column row = shown_colour sign (colour_of defaults (things sign defaults phase items) page column row) == colour
+in_plane sign items page phase colour column row = shown_colour sign (colour_of sign.defaults (things sign phase items) page column row) == colour
 
 -- a pixel has a colour while this is shown; in an off time every pixel has colour 0 (own)
-abbrev pub pixel_at : SignData → Defaults → List Meaning → Shown → ℕ → ℕ → ℕ → Bool
-pixel_at sign defaults items (Page page phase) colour column row = in_plane sign defaults items page phase colour column row
-pixel_at sign defaults items Off colour column row = colour == 0
+abbrev pub pixel_at : SignData → List Meaning → Shown → ℕ → ℕ → ℕ → Bool
+pixel_at sign items (Page page phase) colour column row = in_plane sign items page phase colour column row
+pixel_at sign items Off colour column row = colour == 0
 
 -- the plane of a colour of a page of a string at a phase: a test of column and row (NTCIP 1203 v03, MULTI)
-abbrev pub picture : SignData → Defaults → List ℕ → ℕ → ℕ → ℕ → ℕ → ℕ → Bool
-picture sign defaults octets page phase colour column row = in_plane sign defaults (meanings octets) page phase colour column row
+abbrev pub picture : SignData → List ℕ → ℕ → ℕ → ℕ → ℕ → ℕ → Bool
+picture sign octets page phase colour column row = in_plane sign (meanings octets) page phase colour column row

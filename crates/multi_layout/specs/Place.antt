@@ -1,7 +1,6 @@
 -- The place of each character of an accepted string (NTCIP 1203 v03, MULTI tags 'jl' and 'jp').
 use Rattle.std.specs.Prelude.{ℕ, ◌+◌, ◌-◌, ◌*◌, ◌/◌, ◌==◌, List, [], ◌∷◌, ◌++◌, take, length, slice_index_or, Some, None, if◌then◌else◌}
 use Rattle.std.specs.List.{count_by}
-use Rattle.sign_font.specs.declared.parts.Defaults.{Defaults}
 use Rattle.sign_font.specs.Sign.{SignData}
 use Rattle.multi_layout.specs.declared.place.Place.{Place}
 use Rattle.multi_layout.specs.Meaning.{Meaning}
@@ -38,8 +37,8 @@ place_of before all spot =
     }
 
 -- the place of each character of a string, in their order (own)
-unfoldable pub places : SignData → Defaults → List Meaning → List Place
+unfoldable pub places : SignData → List Meaning → List Place
 unfolding spots place_of
-places sign defaults items =
-    let all = spots sign defaults items in
+places sign items =
+    let all = spots sign items in
     some_after (λ before spot. if is_glyph spot then Some (place_of before all spot) else None) all

@@ -3,7 +3,6 @@ use Rattle.std.specs.Prelude.{◌≡◌, ◌+◌, ◌*◌, ◌^◌, ◌≤◌, L
 use Rattle.std.specs.Option.{unwrap_or}
 use Rattle.multi_tag.specs.declared.tag.Tag.{Tag}
 use Rattle.multi_tag.specs.declared.tag.Tag.TheVariants.{NewPage, NewLine, LineJust, PageJust, Font, Rect}
-use Rattle.sign_font.specs.declared.parts.Defaults.{Defaults}
 use Rattle.sign_font.specs.Sign.{SignData, font_numbered, info_of}
 use Rattle.multi_layout.specs.declared.attributes.Attributes.{Attributes}
 use Rattle.multi_layout.specs.declared.fault.SyntaxError.{SyntaxError}
@@ -18,23 +17,23 @@ use Rattle.multi_layout.specs.Times.{cycle, ended_times}
 use Rattle.multi_layout.specs.Verdict.{pages_of}
 
 -- the placing items of the present area, in which the next item stands (own)
-abbrev pub present_area : SignData → Defaults → List Meaning → List Spot
-present_area sign defaults items = in_area (standing sign defaults items).area (spots sign defaults items)
+abbrev pub present_area : SignData → List Meaning → List Spot
+present_area sign items = in_area (standing sign items).area (spots sign items)
 
 -- the values in force behind one more item (own)
-abbrev pub standing_behind : SignData → Defaults → Standing → Meaning → Standing
-standing_behind sign defaults here x = record {
+abbrev pub standing_behind : SignData → Standing → Meaning → Standing
+standing_behind sign here x = record {
   page = here.page + (if is_new_page x then 1 else 0);
   area = here.area + (if begins_area x then 1 else 0);
-  font = unwrap_or (given_font sign defaults x) here.font;
-  line_just = unwrap_or (given_line_just defaults x) here.line_just;
-  page_just = unwrap_or (given_page_just defaults x) here.page_just;
+  font = unwrap_or (given_font sign x) here.font;
+  line_just = unwrap_or (given_line_just sign.defaults x) here.line_just;
+  page_just = unwrap_or (given_page_just sign.defaults x) here.page_just;
   spacing = unwrap_or (given_spacing x) here.spacing;
-  fore = unwrap_or (given_fore defaults x) here.fore;
-  back = unwrap_or (given_back defaults x) here.back;
-  on = unwrap_or (given_on defaults x) here.on;
-  off = unwrap_or (given_off defaults x) here.off;
-  flash = unwrap_or (given_flash defaults x) here.flash;
+  fore = unwrap_or (given_fore sign.defaults x) here.fore;
+  back = unwrap_or (given_back sign.defaults x) here.back;
+  on = unwrap_or (given_on sign.defaults x) here.on;
+  off = unwrap_or (given_off sign.defaults x) here.off;
+  flash = unwrap_or (given_flash sign.defaults x) here.flash;
   rectangle = unwrap_or (given_rectangle sign x) here.rectangle;
 }
 
@@ -55,12 +54,12 @@ attributes_of at = record {
 
 -- the state is that of these items: their pages, their ended pages' times, the values in force behind them, and the sums of
 -- their present area; the font in force is the sign's, and the justifications are known ones (own)
-pub record IsStateOf (sign : SignData) (defaults : Defaults) (items : List Meaning) (state : State) : Type 0 where
+pub record IsStateOf (sign : SignData) (items : List Meaning) (state : State) : Type 0 where
   pub pages : state.pages ≡ pages_of items
-  pub times : state.cycle ≡ cycle (ended_times sign defaults items)
-  pub attributes : state.attributes ≡ attributes_of (standing sign defaults items)
-  pub area : state.area ≡ area_sum (present_area sign defaults items)
-  pub font : font_numbered sign (standing sign defaults items).font.number ≡ Some (standing sign defaults items).font
+  pub times : state.cycle ≡ cycle (ended_times sign items)
+  pub attributes : state.attributes ≡ attributes_of (standing sign items)
+  pub area : state.area ≡ area_sum (present_area sign items)
+  pub font : font_numbered sign (standing sign items).font.number ≡ Some (standing sign items).font
   pub line_just : (2 ≤ state.attributes.line_just) × (state.attributes.line_just ≤ 5)
   pub page_just : (2 ≤ state.attributes.page_just) × (state.attributes.page_just ≤ 4)
   pub below : IsBelow (1024 * length items) state.area
@@ -74,13 +73,13 @@ pub record IsReady (state : State) : Type 0 where
   pub short : state.cycle ≤ 510 * state.pages
 
 -- one more item is judged: it doesn't offend and the new state is that of the items with it, or it offends by this error (own)
-abbrev pub IsJudged : SignData → Defaults → List Meaning → Meaning → Result State SyntaxError → Type 0
-IsJudged sign defaults items item (Ok state) = (offence sign defaults items item ≡ None) × IsStateOf sign defaults (items ++ item ∷ []) state
-IsJudged sign defaults items item (Err error) = offence sign defaults items item ≡ Some (code_of error)
+abbrev pub IsJudged : SignData → List Meaning → Meaning → Result State SyntaxError → Type 0
+IsJudged sign items item (Ok state) = (offence sign items item ≡ None) × IsStateOf sign (items ++ item ∷ []) state
+IsJudged sign items item (Err error) = offence sign items item ≡ Some (code_of error)
 
 -- whatever the items before are, if the state is theirs, the item is judged behind them (own)
-abbrev pub Judges : SignData → Defaults → State → Meaning → Result State SyntaxError → Type 0
-Judges sign defaults state item result = (items : List Meaning) → IsStateOf sign defaults items state → IsJudged sign defaults items item result
+abbrev pub Judges : SignData → State → Meaning → Result State SyntaxError → Type 0
+Judges sign state item result = (items : List Meaning) → IsStateOf sign items state → IsJudged sign items item result
 
 -- a tag that the layout of the sign has no part in: it begins nothing, places nothing, and asks for no font (own)
 abbrev pub IsSimple : Tag → Type 0

@@ -2,7 +2,6 @@
 use Rattle.std.specs.Prelude.{ℕ, ◌+◌, ◌-◌, ◌%◌, Bool, false, ◌||◌, ◌&&◌, ◌==◌, nat_le, nat_lt, List, [], ◌∷◌, ◌++◌, take, length, slice_get, Some, None, if◌then◌else◌}
 use Rattle.std.specs.List.{sum_by, find, range_with_len}
 use Rattle.std.specs.Option.{option_map_or}
-use Rattle.sign_font.specs.declared.parts.Defaults.{Defaults}
 use Rattle.sign_font.specs.Sign.{SignData}
 use Rattle.multi_layout.specs.declared.times.Shown.{Shown}
 use Rattle.multi_layout.specs.declared.times.Shown.TheVariants.{Page, Off}
@@ -20,13 +19,13 @@ abbrev pub times_at : Standing → Times
 times_at at = record { on = at.on; off = at.off }
 
 -- the times of each page that an `np` ends: those in force before it (NTCIP 1203 v03, MULTI tag 'pt'; which of several is own)
-abbrev pub ended_times : SignData → Defaults → List Meaning → List Times
-ended_times sign defaults items = some_after (λ before item. if is_new_page item then Some (times_at (standing sign defaults before)) else None) items
+abbrev pub ended_times : SignData → List Meaning → List Times
+ended_times sign items = some_after (λ before item. if is_new_page item then Some (times_at (standing sign before)) else None) items
 
 -- the times of each page, the last one's being those in force at the end (NTCIP 1203 v03, MULTI tag 'pt')
-unfoldable pub page_times : SignData → Defaults → List Meaning → List Times
+unfoldable pub page_times : SignData → List Meaning → List Times
 unfolding standing
-page_times sign defaults items = ended_times sign defaults items ++ times_at (standing sign defaults items) ∷ []
+page_times sign items = ended_times sign items ++ times_at (standing sign items) ∷ []
 
 -- the cycle: the times of all pages together (own)
 abbrev pub cycle : List Times → ℕ
@@ -50,5 +49,5 @@ unfoldable pub shown_at : List Times → ℕ → Shown
 shown_at pages clock = if (length pages == 1) || (cycle pages == 0) then Page 0 clock else shown_within pages (clock % cycle pages)
 
 -- what a string shows at a clock (NTCIP 1203 v03, MULTI tag 'pt')
-abbrev pub shown : SignData → Defaults → List ℕ → ℕ → Shown
-shown sign defaults octets clock = shown_at (page_times sign defaults (meanings octets)) clock
+abbrev pub shown : SignData → List ℕ → ℕ → Shown
+shown sign octets clock = shown_at (page_times sign (meanings octets)) clock

@@ -4,7 +4,6 @@ use Rattle.std.specs.List.{All, count_by}
 use Rattle.std.specs.Option.{option_map}
 use Rattle.multi_token.specs.Spelling.{Item, IsItem, spell, IsReading}
 use Rattle.multi_token.specs.Reading.{reading}
-use Rattle.sign_font.specs.declared.parts.Defaults.{Defaults}
 use Rattle.sign_font.specs.Sign.{SignData}
 use Rattle.multi_layout.specs.Meaning.{Meaning, meaning, is_new_page}
 use Rattle.multi_layout.specs.Offence.{offence}
@@ -13,12 +12,12 @@ use Rattle.multi_layout.specs.Words.{some_after}
 
 -- the error of an item and the offset of its first octet, if it offends after the items before it (NTCIP 1203 v03,
 -- dmsMultiSyntaxErrorPosition; that it counts from 0 is own)
-abbrev pub fault_at : SignData → Defaults → List Item → Item → Option (ℕ × ℕ)
-fault_at sign defaults before item = option_map (λ code. (code, length (spell before))) (offence sign defaults (map meaning before) (meaning item))
+abbrev pub fault_at : SignData → List Item → Item → Option (ℕ × ℕ)
+fault_at sign before item = option_map (λ code. (code, length (spell before))) (offence sign (map meaning before) (meaning item))
 
 -- the error and the offset of each item that offends after the items before it (own)
-abbrev pub offences : SignData → Defaults → List Item → List (ℕ × ℕ)
-offences sign defaults items = some_after (fault_at sign defaults) items
+abbrev pub offences : SignData → List Item → List (ℕ × ℕ)
+offences sign items = some_after (fault_at sign) items
 
 -- a rest behind the items is a broken bracket, which is 3 unsupportedTag at its first octet (own)
 abbrev pub broken : List Item → List ℕ → List (ℕ × ℕ)
@@ -40,27 +39,27 @@ of_first pages [] = Accepted pages
 of_first pages (fault ∷ faults) = Refused fault.0 fault.1
 
 -- the verdict on the items of a string and what is left of it (NTCIP 1203 v03, dmsMultiSyntaxError)
-unfoldable pub verdict_on : SignData → Defaults → List Item → List ℕ → Verdict
-verdict_on sign defaults items rest = of_first (pages_of (map meaning items)) (offences sign defaults items ++ broken items rest)
+unfoldable pub verdict_on : SignData → List Item → List ℕ → Verdict
+verdict_on sign items rest = of_first (pages_of (map meaning items)) (offences sign items ++ broken items rest)
 
--- this is a sign's verdict on the string, under these defaults (own)
-abbrev pub IsVerdict : SignData → Defaults → List ℕ → Verdict → Type 0
-IsVerdict sign defaults octets verdict = (items : List Item) × (rest : List ℕ) × IsReading octets items rest × (verdict ≡ verdict_on sign defaults items rest)
+-- this is a sign's verdict on the string (own)
+abbrev pub IsVerdict : SignData → List ℕ → Verdict → Type 0
+IsVerdict sign octets verdict = (items : List Item) × (rest : List ℕ) × IsReading octets items rest × (verdict ≡ verdict_on sign items rest)
 
 -- these are the times of all pages of the string together, in tenths of a second (own)
-abbrev pub IsCycle : SignData → Defaults → List ℕ → ℕ → Type 0
-IsCycle sign defaults octets tenths = (items : List Item) × (rest : List ℕ) × IsReading octets items rest × (tenths ≡ cycle (page_times sign defaults (map meaning items)))
+abbrev pub IsCycle : SignData → List ℕ → ℕ → Type 0
+IsCycle sign octets tenths = (items : List Item) × (rest : List ℕ) × IsReading octets items rest × (tenths ≡ cycle (page_times sign (map meaning items)))
 
 -- the verdict on a string as a function of its octets, which definitions of whole strings cite (own)
-unfoldable pub verdict : SignData → Defaults → List ℕ → Verdict
-verdict sign defaults octets = verdict_on sign defaults (reading octets).items (reading octets).rest
+unfoldable pub verdict : SignData → List ℕ → Verdict
+verdict sign octets = verdict_on sign (reading octets).items (reading octets).rest
 
 -- a law: each string has one verdict, this (own)
 abbrev pub OneVerdict : Type 0
-OneVerdict = (sign : SignData) (defaults : Defaults) (octets : List ℕ) (v : Verdict) → IsVerdict sign defaults octets v ↔ (v ≡ verdict sign defaults octets)
+OneVerdict = (sign : SignData) (octets : List ℕ) (v : Verdict) → IsVerdict sign octets v ↔ (v ≡ verdict sign octets)
 
 -- a law: a refusal for an item stands for every string with the same octets up to the end of that item (own)
 abbrev pub RefusalStands : Type 0
-RefusalStands = (sign : SignData) (defaults : Defaults) (before : List Item) (item : Item) (code : ℕ) (rest : List ℕ)
-    → All IsItem (before ++ item ∷ []) → offences sign defaults before ≡ [] → offence sign defaults (map meaning before) (meaning item) ≡ Some code
-    → verdict sign defaults (spell (before ++ item ∷ []) ++ rest) ≡ Refused code (length (spell before))
+RefusalStands = (sign : SignData) (before : List Item) (item : Item) (code : ℕ) (rest : List ℕ)
+    → All IsItem (before ++ item ∷ []) → offences sign before ≡ [] → offence sign (map meaning before) (meaning item) ≡ Some code
+    → verdict sign (spell (before ++ item ∷ []) ++ rest) ≡ Refused code (length (spell before))

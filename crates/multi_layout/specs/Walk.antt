@@ -2,7 +2,6 @@
 use Rattle.std.specs.Prelude.{◌≡◌, ℕ, ◌^◌, ◌<◌, List, [], ◌∷◌, ◌++◌, map, length, Option, Some, None}
 use Rattle.std.specs.List.{All}
 use Rattle.multi_token.specs.Spelling.{Item, IsItem, spelling, spell}
-use Rattle.sign_font.specs.declared.parts.Defaults.{Defaults}
 use Rattle.sign_font.specs.Sign.{SignData}
 use Rattle.multi_layout.specs.declared.cursor.Cursor.{Cursor}
 use Rattle.multi_layout.specs.declared.cursor.Next.{Next}
@@ -12,21 +11,21 @@ use Rattle.multi_layout.specs.State.{IsStateOf}
 use Rattle.multi_layout.specs.Verdict.{offences}
 
 -- these are the items of an accepted string: it spells them, and none offends (own)
-pub record IsAccepted (sign : SignData) (defaults : Defaults) (octets : List ℕ) (items : List Item) : Type 0 where
+pub record IsAccepted (sign : SignData) (octets : List ℕ) (items : List Item) : Type 0 where
   pub each : All IsItem items
   pub spelled : octets ≡ spell items
-  pub none : offences sign defaults items ≡ []
+  pub none : offences sign items ≡ []
   pub short : length octets < 2 ^ 32
 
 -- the cursor stands between these items of an accepted string (own)
-pub record IsBetween (sign : SignData) (defaults : Defaults) (octets : List ℕ) (before behind : List Item) (cursor : Cursor) : Type 0 where
-  pub accepted : IsAccepted sign defaults octets (before ++ behind)
+pub record IsBetween (sign : SignData) (octets : List ℕ) (before behind : List Item) (cursor : Cursor) : Type 0 where
+  pub accepted : IsAccepted sign octets (before ++ behind)
   pub place : cursor.at ≡ length (spell before)
-  pub state_is : IsStateOf sign defaults (map meaning before) cursor.state
+  pub state_is : IsStateOf sign (map meaning before) cursor.state
 
 -- the cursor stands between two items of an accepted string (own)
-abbrev pub IsCursor : SignData → Defaults → List ℕ → Cursor → Type 0
-IsCursor sign defaults octets cursor = (before behind : List Item) × IsBetween sign defaults octets before behind cursor
+abbrev pub IsCursor : SignData → List ℕ → Cursor → Type 0
+IsCursor sign octets cursor = (before behind : List Item) × IsBetween sign octets before behind cursor
 
 -- this is read of an item (own)
 pub record IsRead (item : Item) (next : Next) : Type 0 where
@@ -40,5 +39,5 @@ IsFirst behind None = behind ≡ []
 IsFirst behind (Some next) = (item : Item) × (rest : List Item) × (behind ≡ item ∷ rest) × IsRead item next
 
 -- the cursor stands before an item of an accepted string, of which this is read (own)
-abbrev pub IsBefore : SignData → Defaults → List ℕ → Next → Cursor → Type 0
-IsBefore sign defaults octets next cursor = (before rest : List Item) × (item : Item) × IsBetween sign defaults octets before (item ∷ rest) cursor × IsRead item next
+abbrev pub IsBefore : SignData → List ℕ → Next → Cursor → Type 0
+IsBefore sign octets next cursor = (before rest : List Item) × (item : Item) × IsBetween sign octets before (item ∷ rest) cursor × IsRead item next

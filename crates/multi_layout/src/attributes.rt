@@ -95,8 +95,8 @@ impl Attributes {
 
     /// The values in force behind a tag that begins nothing, places nothing and asks for no font.
     pub(crate) fn behind(self, defaults: Defaults, tag: Tag) -> Attributes
-        ensures { (sign : SignData) (at : Standing) → self ≡ attributes_of at → IsSimple tag
-            → result ≡ attributes_of (standing_behind sign defaults at (Does tag)) }
+        ensures { (sign : SignData) (at : Standing) → sign.defaults ≡ defaults → self ≡ attributes_of at → IsSimple tag
+            → result ≡ attributes_of (standing_behind sign at (Does tag)) }
     {
         match tag {
             Tag::LineJust(just) => Attributes {

@@ -23,23 +23,23 @@ impl<'a> Model for Checked<'a> {
 
     ghost Value = { Judged };
 
-    ghost view = { λ c. record { sign = c.sign.now; defaults = c.sign.now.defaults; source = c.source } };
+    ghost view = { λ c. record { sign = c.sign.now; source = c.source } };
 
-    ghost invariant = { λ c. IsVerdict c.sign.now c.sign.now.defaults c.source.octets (Accepted c.pages) × IsCycle c.sign.now c.sign.now.defaults c.source.octets c.cycle
+    ghost invariant = { λ c. IsVerdict c.sign.now c.source.octets (Accepted c.pages) × IsCycle c.sign.now c.source.octets c.cycle
         × (length c.source.octets < 2 ^ 32) };
 }
 
 impl<'a> Checked<'a> {
     /// The number of pages, from 1 to the sign's limit.
     pub fn pages(&self) -> u8
-        ensures { IsVerdict self.now.sign self.now.defaults self.now.source.octets (Accepted result) }
+        ensures { IsVerdict self.now.sign self.now.source.octets (Accepted result) }
     {
         self.pages
     }
 
     /// The times of all pages together, in tenths of a second.
     pub fn cycle(&self) -> u32
-        ensures { IsCycle self.now.sign self.now.defaults self.now.source.octets result }
+        ensures { IsCycle self.now.sign self.now.source.octets result }
     {
         self.cycle
     }

@@ -3,7 +3,6 @@
 ghost use Rattle.std.specs.Prelude.{◌≡◌, ℕ, ◌+◌, ◌-◌, ◌*◌, ◌<◌, ◌^◌, [], ◌∷◌, ◌++◌, List, Some, IfSome, IfNone, length};
 ghost use Rattle.multi_token.specs.Counted.{RisesBetween};
 ghost use Rattle.multi_token.specs.Spelling as spelled;
-ghost use Rattle.sign_font.specs.declared.parts.Defaults.{Defaults};
 ghost use Rattle.sign_font.specs.Sign.{SignData, cell_in};
 ghost use Rattle.sign_font.specs.Sound.{IsSound};
 ghost use Rattle.multi_layout.specs.Walk.{IsAccepted, IsBefore, IsBetween, IsCursor, IsFirst, IsRead};
@@ -31,8 +30,8 @@ pub(crate) struct Next {
 impl Cursor {
     /// The cursor before the first item.
     pub(crate) fn new(sign: &Sign) -> Cursor
-        ensures between { (octets : List ℕ) (items : List spelled.Item) → IsAccepted sign.now sign.now.defaults octets items
-            → IsBetween sign.now sign.now.defaults octets [] items result }
+        ensures between { (octets : List ℕ) (items : List spelled.Item) → IsAccepted sign.now octets items
+            → IsBetween sign.now octets [] items result }
         ensures sound { IsSound sign.now }
     {
         Cursor {
@@ -43,9 +42,9 @@ impl Cursor {
 
     /// Reads the next item, or `None` at the end.
     pub(crate) fn next_item(&self, source: &mut Source<'_>) -> Option<Next>
-        requires { (sign : SignData) × (defaults : Defaults) × IsCursor sign defaults source.old.octets self.now }
-        ensures first { (sign : SignData) (defaults : Defaults) (before behind : List spelled.Item)
-            → IsBetween sign defaults source.old.octets before behind self.now → IsFirst behind result }
+        requires { (sign : SignData) × IsCursor sign source.old.octets self.now }
+        ensures first { (sign : SignData) (before behind : List spelled.Item)
+            → IsBetween sign source.old.octets before behind self.now → IsFirst behind result }
         ensures steps { IfSome result (λ next. RisesBetween source.old source.new 0 (2 * next.len - 1)) }
         ensures end_steps { IfNone result (RisesBetween source.old source.new 0 1) }
     {
@@ -66,9 +65,9 @@ impl Cursor {
 
     /// The cursor behind the next item, of which this was read.
     pub(crate) fn pass(&self, sign: &Sign, source: &mut Source<'_>, next: Next) -> Cursor
-        requires { IsBefore sign.now sign.now.defaults source.old.octets next self.now }
-        ensures passed { (before rest : List spelled.Item) (item : spelled.Item) → IsBetween sign.now sign.now.defaults source.old.octets before (item ∷ rest) self.now
-            → IsRead item next → IsBetween sign.now sign.now.defaults source.old.octets (before ++ item ∷ []) rest result }
+        requires { IsBefore sign.now source.old.octets next self.now }
+        ensures passed { (before rest : List spelled.Item) (item : spelled.Item) → IsBetween sign.now source.old.octets before (item ∷ rest) self.now
+            → IsRead item next → IsBetween sign.now source.old.octets (before ++ item ∷ []) rest result }
         ensures at { result.at ≡ self.now.at + next.len }
         ensures steps { RisesBetween source.old source.new 0 1 }
     {
@@ -84,13 +83,13 @@ impl Cursor {
 
     /// The cursor behind the next item, a character of so many octets whose cell was found.
     pub(crate) fn pass_character(&self, number: u8, cell: &Cell<'_>, len: usize) -> Cursor
-        requires { (sign : SignData) × (defaults : Defaults) × (octets : List ℕ)
-            × IsBefore sign defaults octets (record { item = Item.Character number; len = len }) self.now
+        requires { (sign : SignData) × (octets : List ℕ)
+            × IsBefore sign octets (record { item = Item.Character number; len = len }) self.now
             × (cell_in sign self.now.state.attributes.font.number number ≡ Some cell.now) }
-        ensures passed { (sign : SignData) (defaults : Defaults) (octets : List ℕ) (before rest : List spelled.Item) (item : spelled.Item)
-            → IsBetween sign defaults octets before (item ∷ rest) self.now → IsRead item (record { item = Item.Character number; len = len })
+        ensures passed { (sign : SignData) (octets : List ℕ) (before rest : List spelled.Item) (item : spelled.Item)
+            → IsBetween sign octets before (item ∷ rest) self.now → IsRead item (record { item = Item.Character number; len = len })
             → cell_in sign self.now.state.attributes.font.number number ≡ Some cell.now
-            → IsBetween sign defaults octets (before ++ item ∷ []) rest result }
+            → IsBetween sign octets (before ++ item ∷ []) rest result }
         ensures at { result.at ≡ self.now.at + len }
     {
         match judge_cell(self.state, number, cell) {

@@ -32,12 +32,12 @@ pub(crate) fn draw_page(
     layer: Layer,
     plane: &mut Plane,
 ) -> Cursor
-    requires begins { IsPageStart sign.now sign.now.defaults source.old.octets cursor }
+    requires begins { IsPageStart sign.now source.old.octets cursor }
     requires size { IsSized plane.old sign.now }
-    ensures drawn { (before behind : List spelled.Item) → IsBetween sign.now sign.now.defaults source.old.octets before behind cursor
-        → Shows plane.new (λ column row. in_plane sign.now sign.now.defaults (map meaning (before ++ behind)) (cursor.state.pages - 1) layer.phase layer.colour column row) }
-    ensures passed { (before behind : List spelled.Item) → IsBetween sign.now sign.now.defaults source.old.octets before behind cursor
-        → IsPagePassed sign.now sign.now.defaults source.old.octets before behind cursor result }
+    ensures drawn { (before behind : List spelled.Item) → IsBetween sign.now source.old.octets before behind cursor
+        → Shows plane.new (λ column row. in_plane sign.now (map meaning (before ++ behind)) (cursor.state.pages - 1) layer.phase layer.colour column row) }
+    ensures passed { (before behind : List spelled.Item) → IsBetween sign.now source.old.octets before behind cursor
+        → IsPagePassed sign.now source.old.octets before behind cursor result }
     ensures size { (plane.new.width ≡ plane.old.width) × (plane.new.height ≡ plane.old.height) }
     ensures kept { source.new.octets ≡ source.old.octets }
     ensures steps { IsReadTwice source.old source.new cursor result }
@@ -68,17 +68,17 @@ fn draw_area(
     plane: &mut Plane,
 ) -> Cursor
     requires sound { IsSound sign.now }
-    requires known { (before area rest : List spelled.Item) × IsBetween sign.now sign.now.defaults source.old.octets before (area ++ rest) cursor
-        × BeginsNoArea area × (read.now.end ≡ cursor.at + length (spelled.spell area)) × HasCounted (whole_area sign.now sign.now.defaults before (area ++ rest)) read.now.lines }
+    requires known { (before area rest : List spelled.Item) × IsBetween sign.now source.old.octets before (area ++ rest) cursor
+        × BeginsNoArea area × (read.now.end ≡ cursor.at + length (spelled.spell area)) × HasCounted (whole_area sign.now before (area ++ rest)) read.now.lines }
     requires low { IsLow read.now.lines }
     requires size { IsSized plane.old sign.now }
-    ensures passed { (before area rest : List spelled.Item) → IsBetween sign.now sign.now.defaults source.old.octets before (area ++ rest) cursor
-        → BeginsNoArea area → read.now.end ≡ cursor.at + length (spelled.spell area) → HasCounted (whole_area sign.now sign.now.defaults before (area ++ rest)) read.now.lines
-        → IsBetween sign.now sign.now.defaults source.old.octets (before ++ area) rest result }
-    ensures drawn { (before area rest : List spelled.Item) → IsBetween sign.now sign.now.defaults source.old.octets before (area ++ rest) cursor
-        → BeginsNoArea area → read.now.end ≡ cursor.at + length (spelled.spell area) → HasCounted (whole_area sign.now sign.now.defaults before (area ++ rest)) read.now.lines
-        → IsDrawnTo sign.now sign.now.defaults layer (map meaning (before ++ (area ++ rest))) (map meaning before) plane.old
-        → IsDrawnTo sign.now sign.now.defaults layer (map meaning (before ++ (area ++ rest))) (map meaning (before ++ area)) plane.new }
+    ensures passed { (before area rest : List spelled.Item) → IsBetween sign.now source.old.octets before (area ++ rest) cursor
+        → BeginsNoArea area → read.now.end ≡ cursor.at + length (spelled.spell area) → HasCounted (whole_area sign.now before (area ++ rest)) read.now.lines
+        → IsBetween sign.now source.old.octets (before ++ area) rest result }
+    ensures drawn { (before area rest : List spelled.Item) → IsBetween sign.now source.old.octets before (area ++ rest) cursor
+        → BeginsNoArea area → read.now.end ≡ cursor.at + length (spelled.spell area) → HasCounted (whole_area sign.now before (area ++ rest)) read.now.lines
+        → IsDrawnTo sign.now layer (map meaning (before ++ (area ++ rest))) (map meaning before) plane.old
+        → IsDrawnTo sign.now layer (map meaning (before ++ (area ++ rest))) (map meaning (before ++ area)) plane.new }
     ensures steps { RisesBetween source.old source.new 0 (2 * (read.now.end - cursor.at)) }
     ensures fills { IsFilledBy sign.now plane.old plane.new (read.now.end - cursor.at) }
 {
@@ -104,16 +104,16 @@ fn draw_item(
     plane: &mut Plane,
 ) -> Cursor
     requires sound { IsSound sign.now }
-    requires known { (before rest : List spelled.Item) × (item : spelled.Item) × IsBetween sign.now sign.now.defaults source.old.octets before (item ∷ rest) cursor
-        × IsRead item next × HasCounted (whole_area sign.now sign.now.defaults before (item ∷ rest)) lines.now }
+    requires known { (before rest : List spelled.Item) × (item : spelled.Item) × IsBetween sign.now source.old.octets before (item ∷ rest) cursor
+        × IsRead item next × HasCounted (whole_area sign.now before (item ∷ rest)) lines.now }
     requires low { IsLow lines.now }
     requires size { IsSized plane.old sign.now }
-    ensures passed { (before rest : List spelled.Item) (item : spelled.Item) → IsBetween sign.now sign.now.defaults source.old.octets before (item ∷ rest) cursor
-        → IsRead item next → IsBetween sign.now sign.now.defaults source.old.octets (before ++ item ∷ []) rest result }
-    ensures drawn { (before rest : List spelled.Item) (item : spelled.Item) → IsBetween sign.now sign.now.defaults source.old.octets before (item ∷ rest) cursor
-        → IsRead item next → begins_area (meaning item) ≡ false → HasCounted (whole_area sign.now sign.now.defaults before (item ∷ rest)) lines.now
-        → IsDrawnTo sign.now sign.now.defaults layer (map meaning (before ++ item ∷ rest)) (map meaning before) plane.old
-        → IsDrawnTo sign.now sign.now.defaults layer (map meaning (before ++ item ∷ rest)) (map meaning (before ++ item ∷ [])) plane.new }
+    ensures passed { (before rest : List spelled.Item) (item : spelled.Item) → IsBetween sign.now source.old.octets before (item ∷ rest) cursor
+        → IsRead item next → IsBetween sign.now source.old.octets (before ++ item ∷ []) rest result }
+    ensures drawn { (before rest : List spelled.Item) (item : spelled.Item) → IsBetween sign.now source.old.octets before (item ∷ rest) cursor
+        → IsRead item next → begins_area (meaning item) ≡ false → HasCounted (whole_area sign.now before (item ∷ rest)) lines.now
+        → IsDrawnTo sign.now layer (map meaning (before ++ item ∷ rest)) (map meaning before) plane.old
+        → IsDrawnTo sign.now layer (map meaning (before ++ item ∷ rest)) (map meaning (before ++ item ∷ [])) plane.new }
     ensures at { result.at ≡ cursor.at + next.len }
     ensures steps { RisesBetween source.old source.new 0 1 }
     ensures fills { IsFilledBy sign.now plane.old plane.new next.len }

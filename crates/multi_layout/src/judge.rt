@@ -5,7 +5,6 @@ ghost use Rattle.std.specs.Option.{option_map_or};
 ghost use Rattle.multi_token.specs.Counted.{charged, RisesBetween};
 ghost use Rattle.multi_token.specs.Tokens.{IsTokenOf, item_of};
 ghost use Rattle.sign_font.specs.Sign.{SignData, cell_in};
-ghost use Rattle.sign_font.specs.declared.parts.Defaults.{Defaults};
 ghost use Rattle.multi_layout.specs.Codes.{code_of};
 ghost use Rattle.multi_layout.specs.Limits.{check_limit};
 ghost use Rattle.multi_layout.specs.Meaning.{Does, Faulty, Shows, meaning};
@@ -39,11 +38,11 @@ struct Offence {
 pub fn check<'a>(sign: &'a Sign, source: Source<'a>) -> Result<Checked<'a>, Fault<'a>>
     requires fresh { source.steps ≡ 0 }
     requires short { length source.octets < 2 ^ 32 }
-    ensures accepted { IfOk result (λ checked. (pages : ℕ) × IsVerdict sign.now sign.now.defaults source.entry.octets (Accepted pages)) }
-    ensures refused { IfErr result (λ fault. IsVerdict sign.now sign.now.defaults source.entry.octets (Refused fault.code fault.at)) }
+    ensures accepted { IfOk result (λ checked. (pages : ℕ) × IsVerdict sign.now source.entry.octets (Accepted pages)) }
+    ensures refused { IfErr result (λ fault. IsVerdict sign.now source.entry.octets (Refused fault.code fault.at)) }
 
     // what was handed in comes back
-    ensures kept { IfOk result (λ checked. (checked.sign ≡ sign.now) × (checked.defaults ≡ sign.now.defaults) × (checked.source.octets ≡ source.entry.octets)) }
+    ensures kept { IfOk result (λ checked. (checked.sign ≡ sign.now) × (checked.source.octets ≡ source.entry.octets)) }
     ensures given_back { IfErr result (λ fault. fault.source.octets ≡ source.entry.octets) }
 
     // and the steps that were taken
@@ -72,10 +71,10 @@ pub fn check<'a>(sign: &'a Sign, source: Source<'a>) -> Result<Checked<'a>, Faul
 fn judge(sign: &Sign, source: &mut Source<'_>) -> Result<State, Offence>
     requires fresh { source.old.steps ≡ 0 }
     requires short { length source.old.octets < 2 ^ 32 }
-    ensures accepted { IfOk result (λ state. IsVerdict sign.now sign.now.defaults source.old.octets (Accepted state.pages)
-        × IsCycle sign.now sign.now.defaults source.old.octets (state.cycle + state.attributes.on + state.attributes.off)
+    ensures accepted { IfOk result (λ state. IsVerdict sign.now source.old.octets (Accepted state.pages)
+        × IsCycle sign.now source.old.octets (state.cycle + state.attributes.on + state.attributes.off)
         × (state.cycle ≤ 510 * state.pages)) }
-    ensures refused { IfErr result (λ offence. IsVerdict sign.now sign.now.defaults source.old.octets (Refused (code_of offence.error) offence.at)) }
+    ensures refused { IfErr result (λ offence. IsVerdict sign.now source.old.octets (Refused (code_of offence.error) offence.at)) }
     ensures kept { source.new.octets ≡ source.old.octets }
     ensures steps { OnOk result (length source.old.octets + 1 ≤ source.new.steps) }
     ensures fault_steps { IfErr result (λ offence. offence.at + 1 ≤ source.new.steps) }
@@ -111,7 +110,7 @@ fn judge_token(
 ) -> Result<State, SyntaxError>
     requires token { IsTokenOf source.old.octets token.now }
     requires ready { IsReady state }
-    ensures judged { Judges sign.now sign.now.defaults state (meaning (item_of source.old.octets token.now)) result }
+    ensures judged { Judges sign.now state (meaning (item_of source.old.octets token.now)) result }
     ensures steps { RisesBetween source.old source.new 0 token.now.len }
 {
     match read_item(source, token) {
@@ -129,7 +128,7 @@ pub(crate) fn judge_item(
 ) -> Result<State, SyntaxError>
     requires ready { IsReady state }
     requires known { IsKnownItem item }
-    ensures judged { Judges sign.now sign.now.defaults state (meant_by item) result }
+    ensures judged { Judges sign.now state (meant_by item) result }
     ensures steps { RisesBetween source.old source.new 0 1 }
 {
     match item {
@@ -147,7 +146,7 @@ fn judge_tag(
 ) -> Result<State, SyntaxError>
     requires ready { IsReady state }
     requires known { IsKnown tag }
-    ensures judged { Judges sign.now sign.now.defaults state (Does tag) result }
+    ensures judged { Judges sign.now state (Does tag) result }
     ensures steps { RisesBetween source.old source.new 0 1 }
 {
     match tag {
@@ -170,7 +169,7 @@ fn judge_character(
     number: u8,
 ) -> Result<State, SyntaxError>
     requires { IsReady state }
-    ensures judged { Judges sign.now sign.now.defaults state (Shows number) result }
+    ensures judged { Judges sign.now state (Shows number) result }
     ensures step { source.new ≡ charged source.old 1 }
 {
     let font = state.attributes.font.number;
@@ -183,8 +182,8 @@ fn judge_character(
 /// Judges a character whose cell was found.
 pub(crate) fn judge_cell(state: State, number: u8, cell: &Cell<'_>) -> Result<State, SyntaxError>
     requires { IsReady state }
-    ensures judged { (sign : SignData) (defaults : Defaults) → cell_in sign state.attributes.font.number number ≡ Some cell.now
-        → Judges sign defaults state (Shows number) result }
+    ensures judged { (sign : SignData) → cell_in sign state.attributes.font.number number ≡ Some cell.now
+        → Judges sign state (Shows number) result }
 {
     let attributes = state.attributes;
     let character = attributes.character(cell.width());
@@ -206,7 +205,7 @@ pub(crate) fn judge_cell(state: State, number: u8, cell: &Cell<'_>) -> Result<St
 /// Judges the end of a line.
 fn judge_break(state: State, gap: Option<u8>) -> Result<State, SyntaxError>
     requires { IsReady state }
-    ensures judged { (sign : SignData) (defaults : Defaults) → Judges sign defaults state (Does (Tag.NewLine gap)) result }
+    ensures judged { (sign : SignData) → Judges sign state (Does (Tag.NewLine gap)) result }
 {
     let attributes = state.attributes;
     if state.area.conflicts_with_break(attributes.page_just) {
@@ -225,7 +224,7 @@ fn judge_break(state: State, gap: Option<u8>) -> Result<State, SyntaxError>
 /// Judges a new page, which has the whole sign.
 fn judge_page(sign: &Sign, state: State) -> Result<State, SyntaxError>
     requires { IsReady state }
-    ensures judged { Judges sign.now sign.now.defaults state (Does Tag.NewPage) result }
+    ensures judged { Judges sign.now state (Does Tag.NewPage) result }
 {
     if state.pages >= sign.max_pages() {
         return Err(SyntaxError::TooManyPages);
@@ -250,7 +249,7 @@ fn judge_font(
     pick: Option<FontPick>,
 ) -> Result<State, SyntaxError>
     requires { IsReady state }
-    ensures judged { Judges sign.now sign.now.defaults state (Does (Tag.Font pick)) result }
+    ensures judged { Judges sign.now state (Does (Tag.Font pick)) result }
     ensures steps { RisesBetween source.old source.new 0 1 }
 {
     let Some(pick) = pick else {
@@ -286,7 +285,7 @@ fn judge_rectangle(
     h: u32,
 ) -> Result<State, SyntaxError>
     requires { IsReady state }
-    ensures judged { Judges sign.now sign.now.defaults state (Does (Tag.Rect x y w h)) result }
+    ensures judged { Judges sign.now state (Does (Tag.Rect x y w h)) result }
 {
     let Some((left, width)) = part_of(sign.width(), x, w) else {
         return Err(SyntaxError::UnsupportedTagValue);

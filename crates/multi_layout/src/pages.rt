@@ -85,9 +85,9 @@ impl<'a> Checked<'a> {
     pub fn draw(&mut self, page: u8, phase: u64, colour: u8, plane: &mut Plane) -> bool
         requires size { IsSized plane.old self.old.sign }
         ensures exists { result ≡ nat_lt page (page_count self.old) }
-        ensures drawn { result ≡ true → Shows plane.new (picture self.old.sign self.old.defaults self.old.source.octets page phase colour) }
+        ensures drawn { result ≡ true → Shows plane.new (picture self.old.sign self.old.source.octets page phase colour) }
         ensures undrawn { result ≡ false → (self.new ≡ self.old) × (plane.new ≡ plane.old) }
-        ensures kept { (self.new.sign ≡ self.old.sign) × (self.new.defaults ≡ self.old.defaults) }
+        ensures kept { self.new.sign ≡ self.old.sign }
         ensures size { (plane.new.width ≡ plane.old.width) × (plane.new.height ≡ plane.old.height) }
         ensures steps { RisesBetween self.old.source self.new.source 0 (reading_limit (length self.old.source.octets)) }
         ensures plane_steps { (plane.old.steps ≤ plane.new.steps)
@@ -103,12 +103,12 @@ impl<'a> Checked<'a> {
 
     /// Draws the page that begins at a cursor, and gives the cursor behind it.
     fn draw_from(&mut self, cursor: Cursor, layer: Layer, plane: &mut Plane) -> Cursor
-        requires begins { IsPageStart self.old.sign self.old.defaults self.old.source.octets cursor }
+        requires begins { IsPageStart self.old.sign self.old.source.octets cursor }
         requires size { IsSized plane.old self.old.sign }
         ensures drawn { Shows plane.new
-            (picture self.old.sign self.old.defaults self.old.source.octets (cursor.state.pages - 1) layer.phase layer.colour) }
-        ensures turned { IsTurned self.old.sign self.old.defaults self.old.source.octets cursor result }
-        ensures kept { (self.new.sign ≡ self.old.sign) × (self.new.defaults ≡ self.old.defaults) }
+            (picture self.old.sign self.old.source.octets (cursor.state.pages - 1) layer.phase layer.colour) }
+        ensures turned { IsTurned self.old.sign self.old.source.octets cursor result }
+        ensures kept { self.new.sign ≡ self.old.sign }
         ensures size { (plane.new.width ≡ plane.old.width) × (plane.new.height ≡ plane.old.height) }
         ensures steps { IsReadTwice self.old.source self.new.source cursor result }
         ensures fills { IsFilledFew self.old.sign plane.old plane.new cursor result }
@@ -144,9 +144,9 @@ impl<'a> Checked<'a> {
 
 /// The cursor where a page begins, read from the front of the string.
 fn page_start(sign: &Sign, source: &mut Source<'_>, page: u8) -> Cursor
-    requires accepted { IsAccepted sign.now sign.now.defaults source.old.octets (reading source.old.octets).items }
+    requires accepted { IsAccepted sign.now source.old.octets (reading source.old.octets).items }
     requires page { page < pages_of (meanings source.old.octets) }
-    ensures begins { IsPageStart sign.now sign.now.defaults source.old.octets result }
+    ensures begins { IsPageStart sign.now source.old.octets result }
     ensures page { result.state.pages ≡ page + 1 }
     ensures steps { RisesBetween source.old source.new 0 (2 * result.at) }
 {
@@ -170,7 +170,7 @@ impl<'a> Pages<'a> {
         ensures* after { sem 𝓛 (TurnedAfter self.entry result) }
         ensures page { MatchOption result (self.old.next ≡ page_count self.old.string)
             (λ view. (self.old.next < page_count self.old.string) × (view.page ≡ self.old.next)
-            × Shows view.plane.now (picture self.old.string.sign self.old.string.defaults self.old.string.source.octets self.old.next self.old.phase self.old.colour)) }
+            × Shows view.plane.now (picture self.old.string.sign self.old.string.source.octets self.old.next self.old.phase self.old.colour)) }
         ensures size { IfSome result (λ view. IsSized view.plane.now self.old.string.sign) }
     {
         let page = self.next;

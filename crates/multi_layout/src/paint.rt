@@ -1,7 +1,6 @@
 //! What a plane shows of a page: the pixels of one colour at one phase.
 
 ghost use Rattle.std.specs.Prelude.{◌≡◌, ℕ, ◌+◌, ◌^◌, ◌≤◌, ◌==◌, [], ◌∷◌, ◌++◌, List, Some};
-ghost use Rattle.sign_font.specs.declared.parts.Defaults.{Defaults};
 ghost use Rattle.sign_font.specs.Sign.{cell_in};
 ghost use Rattle.sign_font.specs.Sound.{IsSound, IsSoundSize};
 ghost use Rattle.multi_layout.specs.Address.{spots, standing, in_area};
@@ -76,11 +75,11 @@ pub(crate) fn put_character(
     requires low { IsLow lines.now }
     requires size { IsSoundSize cell.now }
     requires height { cell.now.height ≡ state.now.attributes.font.height }
-    ensures drawn { (defaults : Defaults) (before rest : List Meaning) (number : ℕ) → IsStateOf sign.now defaults before state.now
+    ensures drawn { (before rest : List Meaning) (number : ℕ) → IsStateOf sign.now before state.now
         → cell_in sign.now state.now.attributes.font.number number ≡ Some cell.now
-        → HasCounted (in_area (standing sign.now defaults before).area (spots sign.now defaults (before ++ Shows number ∷ rest))) lines.now
-        → IsDrawnTo sign.now defaults layer (before ++ Shows number ∷ rest) before plane.old
-        → IsDrawnTo sign.now defaults layer (before ++ Shows number ∷ rest) (before ++ Shows number ∷ []) plane.new }
+        → HasCounted (in_area (standing sign.now before).area (spots sign.now (before ++ Shows number ∷ rest))) lines.now
+        → IsDrawnTo sign.now layer (before ++ Shows number ∷ rest) before plane.old
+        → IsDrawnTo sign.now layer (before ++ Shows number ∷ rest) (before ++ Shows number ∷ []) plane.new }
     ensures counted { plane.old.steps ≤ plane.new.steps }
     ensures steps { plane.new.steps ≤ plane.old.steps + cell.now.height }
     ensures width { plane.new.width ≡ plane.old.width }

@@ -4,7 +4,6 @@ ghost use Rattle.std.specs.Prelude.{◌≡◌, ◌≢◌, ℕ, ◌-◌, ◌*◌,
 ghost use Rattle.std.specs.List.{All};
 ghost use Rattle.multi_token.specs.Counted.{RisesBetween};
 ghost use Rattle.multi_token.specs.Spelling as spelled;
-ghost use Rattle.sign_font.specs.declared.parts.Defaults.{Defaults};
 ghost use Rattle.sign_font.specs.Sign.{SignData};
 ghost use Rattle.sign_font.specs.Sound.{IsSound};
 ghost use Rattle.multi_layout.specs.Address.{Spot, lines_of};
@@ -34,11 +33,11 @@ pub(crate) struct AreaLines {
 /// Reads the area that begins at a cursor.
 pub(crate) fn read_area(sign: &Sign, source: &mut Source<'_>, cursor: Cursor) -> AreaLines
     requires sound { IsSound sign.now }
-    requires begins { (before behind : List spelled.Item) × IsBetween sign.now sign.now.defaults source.old.octets before behind cursor
-        × (present_area sign.now sign.now.defaults (map meaning before) ≡ []) }
-    ensures read { (before behind : List spelled.Item) → IsBetween sign.now sign.now.defaults source.old.octets before behind cursor
-        → present_area sign.now sign.now.defaults (map meaning before) ≡ []
-        → IsAreaRead sign.now sign.now.defaults before behind cursor result source.old source.new }
+    requires begins { (before behind : List spelled.Item) × IsBetween sign.now source.old.octets before behind cursor
+        × (present_area sign.now (map meaning before) ≡ []) }
+    ensures read { (before behind : List spelled.Item) → IsBetween sign.now source.old.octets before behind cursor
+        → present_area sign.now (map meaning before) ≡ []
+        → IsAreaRead sign.now before behind cursor result source.old source.new }
 {
     let mut lines = LineTable::new();
     let mut cursor = cursor;
@@ -56,13 +55,13 @@ pub(crate) fn read_area(sign: &Sign, source: &mut Source<'_>, cursor: Cursor) ->
 
 /// Reads the next item, or `None` where the area ends.
 fn next_plain(cursor: &Cursor, source: &mut Source<'_>) -> Option<Next>
-    requires { (sign : SignData) × (defaults : Defaults) × IsCursor sign defaults source.old.octets cursor.now }
-    ensures first { IfSome result (λ next. (sign : SignData) (defaults : Defaults) (before behind : List spelled.Item)
-        → IsBetween sign defaults source.old.octets before behind cursor.now → IsFirst behind (Some next)) }
+    requires { (sign : SignData) × IsCursor sign source.old.octets cursor.now }
+    ensures first { IfSome result (λ next. (sign : SignData) (before behind : List spelled.Item)
+        → IsBetween sign source.old.octets before behind cursor.now → IsFirst behind (Some next)) }
     ensures plain { IfSome result (λ next. begins_area (meant_by next.item) ≡ false) }
     ensures steps { IfSome result (λ next. RisesBetween source.old source.new 0 (2 * next.len - 1)) }
-    ensures ends { IfNone result ((sign : SignData) (defaults : Defaults) (before behind : List spelled.Item)
-        → IsBetween sign defaults source.old.octets before behind cursor.now
+    ensures ends { IfNone result ((sign : SignData) (before behind : List spelled.Item)
+        → IsBetween sign source.old.octets before behind cursor.now
         → EndsArea (map meaning behind) × RisesBetween source.old source.new 0 (first_steps behind)) }
 {
     let next = cursor.next_item(source)?;
@@ -77,9 +76,9 @@ fn end_line(lines: &mut LineTable, item: Item, before: &State, after: &State)
     requires known { (2 ≤ before.now.attributes.page_just) × (before.now.attributes.page_just ≤ 4) }
     requires room { ends_line (meant_by item) ≡ true → length (group_lines before.now.attributes.page_just lines.old) < 128 }
     requires below { IsBelow (2 ^ 43) after.now.area }
-    ensures ended { (sign : SignData) (defaults : Defaults) (items : List Meaning) → IsStateOf sign defaults items before.now
-        → IsStateOf sign defaults (items ++ meant_by item ∷ []) after.now → begins_area (meant_by item) ≡ false
-        → HasEnded (present_area sign defaults items) lines.old → HasEnded (present_area sign defaults (items ++ meant_by item ∷ [])) lines.new }
+    ensures ended { (sign : SignData) (items : List Meaning) → IsStateOf sign items before.now
+        → IsStateOf sign (items ++ meant_by item ∷ []) after.now → begins_area (meant_by item) ≡ false
+        → HasEnded (present_area sign items) lines.old → HasEnded (present_area sign (items ++ meant_by item ∷ [])) lines.new }
     ensures low { IsLow lines.old → IsLow lines.new }
 {
     if !item.ends_line() {

@@ -23,7 +23,7 @@ impl State {
 
     /// The state before the first item.
     pub(crate) fn new(sign: &Sign) -> State
-        ensures start { IsStateOf sign.now sign.now.defaults [] result }
+        ensures start { IsStateOf sign.now [] result }
         ensures sound { IsSound sign.now }
     {
         let defaults = sign.defaults();

@@ -30,8 +30,8 @@ impl<'a> Checked<'a> {
     /// shown for its on time and then nothing for its off time, over and over: the clock counts modulo the
     /// cycle. This takes at most 2n + 1 steps over a string of n octets.
     pub fn locate(&mut self, clock: u64) -> Shown
-        ensures shown { result ≡ shown self.old.sign self.old.defaults self.old.source.octets clock }
-        ensures kept { (self.new.sign ≡ self.old.sign) × (self.new.defaults ≡ self.old.defaults) }
+        ensures shown { result ≡ shown self.old.sign self.old.source.octets clock }
+        ensures kept { self.new.sign ≡ self.old.sign }
         ensures steps { RisesBetween self.old.source self.new.source 0 (check_limit (length self.old.source.octets)) }
     {
         if self.pages == 1 || self.cycle == 0 {
@@ -46,9 +46,9 @@ impl<'a> Checked<'a> {
 
 /// What an accepted string shows at a time of its cycle.
 fn find_page(sign: &Sign, source: &mut Source<'_>, time: u64) -> Shown
-    requires accepted { IsAccepted sign.now sign.now.defaults source.old.octets (reading source.old.octets).items }
-    requires within { time < cycle (page_times sign.now sign.now.defaults (meanings source.old.octets)) }
-    ensures shown { result ≡ shown_within (page_times sign.now sign.now.defaults (meanings source.old.octets)) time }
+    requires accepted { IsAccepted sign.now source.old.octets (reading source.old.octets).items }
+    requires within { time < cycle (page_times sign.now (meanings source.old.octets)) }
+    ensures shown { result ≡ shown_within (page_times sign.now (meanings source.old.octets)) time }
     ensures steps { RisesBetween source.old source.new 0 (check_limit (length source.old.octets)) }
 {
     let mut cursor = Cursor::new(sign);

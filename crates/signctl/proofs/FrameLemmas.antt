@@ -72,34 +72,33 @@ rows_same lit other width height same =
 -- FRAMES
 
 -- the head and the rows of a plane that shows what is shown are a frame
-pub frame_of : (old now : List ℕ) (sign : SignData) (defaults : Defaults) (octets : List ℕ) (clock colour : ℕ) (s : Shown) (plane : BitPlane)
-    → s ≡ shown sign defaults octets clock → Shows plane (pixel_at sign defaults (meanings octets) s colour) → IsSized plane sign → defaults ≡ sign.defaults → now ≡ old ++ head_text s
-    → now ++ rows_text (is_lit plane) plane.width plane.height ≡ old ++ frame_text sign octets colour (shown sign sign.defaults octets clock)
-frame_of old now sign defaults octets clock colour s plane is shows sized own written =
-    let pixels : Defaults → ℕ → ℕ → Bool = λ d. pixel_at sign d (meanings octets) s colour in
-    let rows : rows_text (is_lit plane) plane.width plane.height ≡ rows_text (pixels sign.defaults) sign.width sign.height =
-    rows_same (is_lit plane) (pixels defaults) plane.width plane.height shows
-    ∙ ap (λ w. rows_text (pixels defaults) w plane.height) sized.0
-    ∙ ap (rows_text (pixels defaults) sign.width) sized.1
-    ∙ ap (λ d. rows_text (pixels d) sign.width sign.height) own in
+pub frame_of : (old now : List ℕ) (sign : SignData) (octets : List ℕ) (clock colour : ℕ) (s : Shown) (plane : BitPlane)
+    → s ≡ shown sign octets clock → Shows plane (pixel_at sign (meanings octets) s colour) → IsSized plane sign → now ≡ old ++ head_text s
+    → now ++ rows_text (is_lit plane) plane.width plane.height ≡ old ++ frame_text sign octets colour (shown sign octets clock)
+frame_of old now sign octets clock colour s plane is shows sized written =
+    let pixels = pixel_at sign (meanings octets) s colour in
+    let rows : rows_text (is_lit plane) plane.width plane.height ≡ rows_text pixels sign.width sign.height =
+    rows_same (is_lit plane) pixels plane.width plane.height shows
+    ∙ ap (λ w. rows_text pixels w plane.height) sized.0
+    ∙ ap (rows_text pixels sign.width) sized.1 in
     ap (λ l. l ++ rows_text (is_lit plane) plane.width plane.height) written
     ∙ append_assoc old (head_text s) (rows_text (is_lit plane) plane.width plane.height)
     ∙ ap (λ l. old ++ (head_text s ++ l)) rows
-    ∙ ap (λ x. old ++ frame_text sign octets colour x) (is ∙ ap (λ d. shown sign d octets clock) own)
+    ∙ ap (λ x. old ++ frame_text sign octets colour x) is
 
 -- the answer to a line that isn't too long is that of the one verdict on it
 pub answer_of_verdict : (sign : SignData) (line octets : List ℕ) (colour clock : ℕ) (v : Verdict) → length line ≤ 4096 → octets ≡ line
-    → IsVerdict sign sign.defaults octets v → shown_text sign colour clock line v ≡ show_answer sign colour clock line
+    → IsVerdict sign octets v → shown_text sign colour clock line v ≡ show_answer sign colour clock line
 answer_of_verdict sign line octets colour clock v short same is =
-    let one : v ≡ verdict sign sign.defaults line = (one_verdict sign sign.defaults octets v).0 is ∙ ap (verdict sign sign.defaults) same in
+    let one : v ≡ verdict sign line = (one_verdict sign octets v).0 is ∙ ap (verdict sign) same in
     rw (le-ltb _ _ short) (ap (shown_text sign colour clock line) one)
 
 -- what a sign shows of an octet list is what an equal one shows of an equal list
 pub same_frame : (judge sign : SignData) (octets line : List ℕ) (colour clock : ℕ) → judge ≡ sign → octets ≡ line
-    → frame_text judge octets colour (shown judge judge.defaults octets clock) ≡ frame_text sign line colour (shown sign sign.defaults line clock)
+    → frame_text judge octets colour (shown judge octets clock) ≡ frame_text sign line colour (shown sign line clock)
 same_frame judge sign octets line colour clock same_sign same_octets =
-    ap (λ (s : SignData). frame_text s octets colour (shown s s.defaults octets clock)) same_sign
-    ∙ ap (λ l. frame_text sign l colour (shown sign sign.defaults l clock)) same_octets
+    ap (λ (s : SignData). frame_text s octets colour (shown s octets clock)) same_sign
+    ∙ ap (λ l. frame_text sign l colour (shown sign l clock)) same_octets
 
 -- THE PAGE AT A CLOCK
 
@@ -137,8 +136,8 @@ at_below pages clock page phase some is = elim (cases_Bool ((length pages == 1) 
 ]
 
 -- a page that is shown is one of the string's
-pub page_below : (sign : SignData) (defaults : Defaults) (octets : List ℕ) (clock page phase : ℕ) → shown sign defaults octets clock ≡ Page page phase → page < pages_of (meanings octets)
-page_below sign defaults octets clock page phase is =
-    let count = times_count sign defaults (meanings octets) in
-    let below : page < length (page_times sign defaults (meanings octets)) = at_below (page_times sign defaults (meanings octets)) clock page phase (omega (arith, count)) is in
+pub page_below : (sign : SignData) (octets : List ℕ) (clock page phase : ℕ) → shown sign octets clock ≡ Page page phase → page < pages_of (meanings octets)
+page_below sign octets clock page phase is =
+    let count = times_count sign (meanings octets) in
+    let below : page < length (page_times sign (meanings octets)) = at_below (page_times sign (meanings octets)) clock page phase (omega (arith, count)) is in
     omega (arith, count)

@@ -34,11 +34,11 @@ head_text Off = codes "off\n"
 
 -- The frame of a colour for what is shown of a string, by the sign's own defaults (own).
 abbrev pub frame_text : SignData → List ℕ → ℕ → Shown → List ℕ
-frame_text sign line colour shown = head_text shown ++ rows_text (pixel_at sign sign.defaults (meanings line) shown colour) sign.width sign.height
+frame_text sign line colour shown = head_text shown ++ rows_text (pixel_at sign (meanings line) shown colour) sign.width sign.height
 
 -- An accepted string is answered by its frame at a clock, and a refused one as the check does (own).
 abbrev pub shown_text : SignData → ℕ → ℕ → List ℕ → Verdict → List ℕ
-shown_text sign colour clock line (Accepted pages) = frame_text sign line colour (shown sign sign.defaults line clock)
+shown_text sign colour clock line (Accepted pages) = frame_text sign line colour (shown sign line clock)
 shown_text sign colour clock line (Refused code at) = verdict_text (Refused code at)
 
 -- A string of at most 4,096 octets is answered by the sign's verdict on it, and an accepted one by its frame of this
@@ -46,7 +46,7 @@ shown_text sign colour clock line (Refused code at) = verdict_text (Refused code
 abbrev pub show_answer : SignData → ℕ → ℕ → List ℕ → List ℕ
 show_answer sign colour clock line =
     if nat_lt 4096 (length line) then too_long_text
-    else shown_text sign colour clock line (verdict sign sign.defaults line)
+    else shown_text sign colour clock line (verdict sign line)
 
 -- What lines are shown for: a sign, a colour, and a clock (own).
 pub record Showing : Type 0 where

@@ -14,4 +14,4 @@ too_long_text = codes "too long\n"
 
 -- A string of at most 4,096 octets is answered by the sign's verdict on it, by the sign's own defaults (own).
 abbrev pub check_answer : SignData → List ℕ → List ℕ
-check_answer sign line = if nat_lt 4096 (length line) then too_long_text else verdict_text (verdict sign sign.defaults line)
+check_answer sign line = if nat_lt 4096 (length line) then too_long_text else verdict_text (verdict sign line)

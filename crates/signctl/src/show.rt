@@ -113,8 +113,8 @@ fn push_head(text: &mut Vec<u8>, shown: Shown) -> Result<(), ToolFault>
 /// Finds what a string shows at a clock, and draws its plane of a colour.
 fn draw_shown(checked: &mut Checked<'_>, clock: u32, colour: u8, plane: &mut Plane) -> Shown
     requires size { IsSized plane.old checked.old.sign }
-    ensures shown { result ≡ shown checked.old.sign checked.old.defaults checked.old.source.octets clock }
-    ensures drawn { Shows plane.new (pixel_at checked.old.sign checked.old.defaults (meanings checked.old.source.octets) result colour) }
+    ensures shown { result ≡ shown checked.old.sign checked.old.source.octets clock }
+    ensures drawn { Shows plane.new (pixel_at checked.old.sign (meanings checked.old.source.octets) result colour) }
     ensures size { IsSized plane.new checked.old.sign }
 {
     let shown = checked.locate(u64::from(clock));
@@ -139,9 +139,8 @@ fn push_frame(
     plane: &mut Plane,
 ) -> Result<(), ToolFault>
     requires size { IsSized plane.old checked.old.sign }
-    requires defaults { checked.old.defaults ≡ checked.old.sign.defaults }
     ensures ok { OnOk result (text.new.items ≡ text.old.items
-        ++ frame_text checked.old.sign checked.old.source.octets colour (shown checked.old.sign checked.old.sign.defaults checked.old.source.octets clock)) }
+        ++ frame_text checked.old.sign checked.old.source.octets colour (shown checked.old.sign checked.old.source.octets clock)) }
     ensures err { IfErr result (λ e. e ≡ ToolFault.Memory) }
     ensures size { IsSized plane.new checked.old.sign }
 {

@@ -11,7 +11,7 @@ use Rattle.multi_layout.proofs.draw.draw_area.Goals as goal
 
 pub loop-cursor-init : goal.loop-cursor-init
 loop-cursor-init c = record {
-  so_far = λ before area rest b plain ends counted. area_begins c.args.sign.now c.args.sign.now.defaults c.args.source.now.octets before area rest c.args.read.now.lines c.args.layer c.args.plane.now c.args.cursor b plain counted;
+  so_far = λ before area rest b plain ends counted. area_begins c.args.sign.now c.args.source.now.octets before area rest c.args.read.now.lines c.args.layer c.args.plane.now c.args.cursor b plain counted;
   on = omega arith;
   steps = (0, omega arith, omega arith, sym (charged-zero c.args.source.now));
   fills = subst (IsFilledBy c.args.sign.now c.args.plane.now c.args.plane.now) (omega arith) (filled_none c.args.sign.now c.args.plane.now);
@@ -24,7 +24,7 @@ next_item-requires c =
     let (before, area, rest, b, plain, ends, counted) = c.requires.known in
     let s = i.so_far before area rest b plain ends counted in
     let same : c.loop-cursor.source.octets ≡ c.args.source.now.octets = ap (λ (x : Counted). x.octets) i.steps.3 in
-    (sign, sign.defaults, (before ++ s.done, s.left ++ rest, subst (λ o. IsBetween sign sign.defaults o (before ++ s.done) (s.left ++ rest) c.loop-cursor.cursor) (sym same) s.between))
+    (sign, (before ++ s.done, s.left ++ rest, subst (λ o. IsBetween sign o (before ++ s.done) (s.left ++ rest) c.loop-cursor.cursor) (sym same) s.between))
 
 pub unreachable-requires : goal.unreachable-requires
 unreachable-requires c =
@@ -34,8 +34,8 @@ unreachable-requires c =
     let s = i.so_far before area rest b plain ends counted in
     let same : c.loop-cursor.source.octets ≡ c.args.source.now.octets = ap (λ (x : Counted). x.octets) i.steps.3 in
     let end : c.args.read.now.end ≡ length (spell before) + length (spell area) = omega (arith, ends, b.place) in
-    none_first sign sign.defaults c.args.source.now.octets before area rest c.args.read.now.lines c.args.layer c.args.plane.now c.loop-cursor.cursor c.loop-cursor.plane s c.args.read.now.end end c.loop-cursor-test.true
-    (c.in_default.ensures.first sign sign.defaults (before ++ s.done) (s.left ++ rest) (subst (λ o. IsBetween sign sign.defaults o (before ++ s.done) (s.left ++ rest) c.loop-cursor.cursor) (sym same) s.between))
+    none_first sign c.args.source.now.octets before area rest c.args.read.now.lines c.args.layer c.args.plane.now c.loop-cursor.cursor c.loop-cursor.plane s c.args.read.now.end end c.loop-cursor-test.true
+    (c.in_default.ensures.first sign (before ++ s.done) (s.left ++ rest) (subst (λ o. IsBetween sign o (before ++ s.done) (s.left ++ rest) c.loop-cursor.cursor) (sym same) s.between))
 
 pub draw_item-cursor-requires-clause-known : goal.draw_item-cursor-requires-clause-known
 draw_item-cursor-requires-clause-known c =
@@ -46,9 +46,9 @@ draw_item-cursor-requires-clause-known c =
     let same : c.loop-cursor.source.octets ≡ c.args.source.now.octets = ap (λ (x : Counted). x.octets) i.steps.3 in
     let read_same : c.next_item.new.source.octets ≡ c.args.source.now.octets = ap (λ (x : Counted). x.octets) c.in-Some.ensures.steps.3 ∙ same in
     let end : c.args.read.now.end ≡ length (spell before) + length (spell area) = omega (arith, ends, b.place) in
-    let (item, more, is, here, read, table, quiet) = area_next sign sign.defaults c.args.source.now.octets before area rest c.args.read.now.lines c.args.layer c.args.plane.now c.loop-cursor.cursor c.loop-cursor.plane s c.args.read.now.end end c.loop-cursor-test.true c.in-Some.next
-    (λ earlier behind x. c.in-Some.ensures.first sign sign.defaults earlier behind (subst (λ o. IsBetween sign sign.defaults o earlier behind c.loop-cursor.cursor) (sym same) x)) in
-    (before ++ s.done, more ++ rest, item, subst (λ o. IsBetween sign sign.defaults o (before ++ s.done) (item ∷ (more ++ rest)) c.loop-cursor.cursor) (sym read_same) here, read, table)
+    let (item, more, is, here, read, table, quiet) = area_next sign c.args.source.now.octets before area rest c.args.read.now.lines c.args.layer c.args.plane.now c.loop-cursor.cursor c.loop-cursor.plane s c.args.read.now.end end c.loop-cursor-test.true c.in-Some.next
+    (λ earlier behind x. c.in-Some.ensures.first sign earlier behind (subst (λ o. IsBetween sign o earlier behind c.loop-cursor.cursor) (sym same) x)) in
+    (before ++ s.done, more ++ rest, item, subst (λ o. IsBetween sign o (before ++ s.done) (item ∷ (more ++ rest)) c.loop-cursor.cursor) (sym read_same) here, read, table)
 
 pub loop-cursor-smaller : goal.loop-cursor-smaller
 loop-cursor-smaller c =
@@ -58,8 +58,8 @@ loop-cursor-smaller c =
     let s = i.so_far before area rest b plain ends counted in
     let same : c.loop-cursor.source.octets ≡ c.args.source.now.octets = ap (λ (x : Counted). x.octets) i.steps.3 in
     let end : c.args.read.now.end ≡ length (spell before) + length (spell area) = omega (arith, ends, b.place) in
-    let (item, more, is, here, read, table, quiet) = area_next sign sign.defaults c.args.source.now.octets before area rest c.args.read.now.lines c.args.layer c.args.plane.now c.loop-cursor.cursor c.loop-cursor.plane s c.args.read.now.end end c.loop-cursor-test.true c.in-Some.next
-    (λ earlier behind x. c.in-Some.ensures.first sign sign.defaults earlier behind (subst (λ o. IsBetween sign sign.defaults o earlier behind c.loop-cursor.cursor) (sym same) x)) in
+    let (item, more, is, here, read, table, quiet) = area_next sign c.args.source.now.octets before area rest c.args.read.now.lines c.args.layer c.args.plane.now c.loop-cursor.cursor c.loop-cursor.plane s c.args.read.now.end end c.loop-cursor-test.true c.in-Some.next
+    (λ earlier behind x. c.in-Some.ensures.first sign earlier behind (subst (λ o. IsBetween sign o earlier behind c.loop-cursor.cursor) (sym same) x)) in
     omega (arith, c.loop-cursor-test.true, c.draw_item-cursor.ensures.at, read.len, spelling_some item)
 
 pub loop-cursor-preserved : goal.loop-cursor-preserved
@@ -74,8 +74,8 @@ loop-cursor-preserved c =
     let (before', area', rest', b', plain', ends', counted') = c.requires.known in
     let s' = i.so_far before' area' rest' b' plain' ends' counted' in
     let end' : c.args.read.now.end ≡ length (spell before') + length (spell area') = omega (arith, ends', b'.place) in
-    let first = λ (earlier behind : List Item) (x : IsBetween sign sign.defaults octets earlier behind c.loop-cursor.cursor). c.in-Some.ensures.first sign sign.defaults earlier behind (subst (λ o. IsBetween sign sign.defaults o earlier behind c.loop-cursor.cursor) (sym same) x) in
-    let some = area_next sign sign.defaults octets before' area' rest' c.args.read.now.lines c.args.layer c.args.plane.now c.loop-cursor.cursor c.loop-cursor.plane s' c.args.read.now.end end' c.loop-cursor-test.true next first in
+    let first = λ (earlier behind : List Item) (x : IsBetween sign octets earlier behind c.loop-cursor.cursor). c.in-Some.ensures.first sign earlier behind (subst (λ o. IsBetween sign o earlier behind c.loop-cursor.cursor) (sym same) x) in
+    let some = area_next sign octets before' area' rest' c.args.read.now.lines c.args.layer c.args.plane.now c.loop-cursor.cursor c.loop-cursor.plane s' c.args.read.now.end end' c.loop-cursor-test.true next first in
     let long : 1 ≤ next.len = omega (arith, some.4.len, spelling_some some.0) in
     let both = rises_then c.args.source.now c.loop-cursor.source c.next_item.new.source 0 (2 * (c.loop-cursor.cursor.at - c.args.cursor.at)) 0 (2 * next.len - 1) i.steps c.in-Some.ensures.steps in
     let all = rises_then c.args.source.now c.next_item.new.source c.draw_item-cursor.new.source 0 (2 * (c.loop-cursor.cursor.at - c.args.cursor.at) + (2 * next.len - 1)) 0 1 both c.draw_item-cursor.ensures.steps in
@@ -85,10 +85,10 @@ loop-cursor-preserved c =
       so_far = λ before area rest b plain ends counted.
           let s = i.so_far before area rest b plain ends counted in
           let end : c.args.read.now.end ≡ length (spell before) + length (spell area) = omega (arith, ends, b.place) in
-          let (item, more, is, here, read, table, quiet) = area_next sign sign.defaults octets before area rest c.args.read.now.lines c.args.layer c.args.plane.now c.loop-cursor.cursor c.loop-cursor.plane s c.args.read.now.end end c.loop-cursor-test.true next first in
-          let here' = subst (λ o. IsBetween sign sign.defaults o (before ++ s.done) (item ∷ (more ++ rest)) c.loop-cursor.cursor) (sym read_same) here in
-          let passed = subst (λ o. IsBetween sign sign.defaults o ((before ++ s.done) ++ item ∷ []) (more ++ rest) c.draw_item-cursor.result) read_same (c.draw_item-cursor.ensures.passed (before ++ s.done) (more ++ rest) item here' read) in
-          area_more sign sign.defaults octets before area rest c.args.read.now.lines c.args.layer c.args.plane.now c.loop-cursor.cursor c.loop-cursor.plane s c.args.read.now.end end item more is c.draw_item-cursor.result c.draw_item-cursor.new.plane passed
+          let (item, more, is, here, read, table, quiet) = area_next sign octets before area rest c.args.read.now.lines c.args.layer c.args.plane.now c.loop-cursor.cursor c.loop-cursor.plane s c.args.read.now.end end c.loop-cursor-test.true next first in
+          let here' = subst (λ o. IsBetween sign o (before ++ s.done) (item ∷ (more ++ rest)) c.loop-cursor.cursor) (sym read_same) here in
+          let passed = subst (λ o. IsBetween sign o ((before ++ s.done) ++ item ∷ []) (more ++ rest) c.draw_item-cursor.result) read_same (c.draw_item-cursor.ensures.passed (before ++ s.done) (more ++ rest) item here' read) in
+          area_more sign octets before area rest c.args.read.now.lines c.args.layer c.args.plane.now c.loop-cursor.cursor c.loop-cursor.plane s c.args.read.now.end end item more is c.draw_item-cursor.result c.draw_item-cursor.new.plane passed
           (c.draw_item-cursor.ensures.drawn (before ++ s.done) (more ++ rest) item here' read quiet table);
       on = omega (arith, at, i.on);
       steps = subst (RisesBetween c.args.source.now c.draw_item-cursor.new.source 0) steps all;
@@ -99,15 +99,15 @@ pub returns-clause-passed : goal.returns-clause-passed
 returns-clause-passed c = λ before area rest b plain ends counted.
     let s = c.loop-cursor.invariant.so_far before area rest b plain ends counted in
     let end : c.args.read.now.end ≡ length (spell before) + length (spell area) = omega (arith, ends, b.place) in
-    (area_ended c.args.sign.now c.args.sign.now.defaults c.args.source.now.octets before area rest c.args.read.now.lines c.args.layer c.args.plane.now c.loop-cursor.cursor c.loop-cursor.plane s c.args.read.now.end end (omega (arith, c.loop-cursor-test.false))).1
+    (area_ended c.args.sign.now c.args.source.now.octets before area rest c.args.read.now.lines c.args.layer c.args.plane.now c.loop-cursor.cursor c.loop-cursor.plane s c.args.read.now.end end (omega (arith, c.loop-cursor-test.false))).1
 
 pub returns-clause-drawn : goal.returns-clause-drawn
 returns-clause-drawn c = λ before area rest b plain ends counted drawn.
     let sign = c.args.sign.now in
     let s = c.loop-cursor.invariant.so_far before area rest b plain ends counted in
     let end : c.args.read.now.end ≡ length (spell before) + length (spell area) = omega (arith, ends, b.place) in
-    let ended = area_ended sign sign.defaults c.args.source.now.octets before area rest c.args.read.now.lines c.args.layer c.args.plane.now c.loop-cursor.cursor c.loop-cursor.plane s c.args.read.now.end end (omega (arith, c.loop-cursor-test.false)) in
-    subst (λ l. IsDrawnTo sign sign.defaults c.args.layer (map meaning (before ++ (area ++ rest))) (map meaning (before ++ l)) c.loop-cursor.plane) ended.0 (s.drawn drawn)
+    let ended = area_ended sign c.args.source.now.octets before area rest c.args.read.now.lines c.args.layer c.args.plane.now c.loop-cursor.cursor c.loop-cursor.plane s c.args.read.now.end end (omega (arith, c.loop-cursor-test.false)) in
+    subst (λ l. IsDrawnTo sign c.args.layer (map meaning (before ++ (area ++ rest))) (map meaning (before ++ l)) c.loop-cursor.plane) ended.0 (s.drawn drawn)
 
 pub returns-clause-steps : goal.returns-clause-steps
 returns-clause-steps c =
@@ -116,7 +116,7 @@ returns-clause-steps c =
     let (before, area, rest, b, plain, ends, counted) = c.requires.known in
     let s = i.so_far before area rest b plain ends counted in
     let end : c.args.read.now.end ≡ length (spell before) + length (spell area) = omega (arith, ends, b.place) in
-    let at = at_end sign sign.defaults c.args.source.now.octets before area rest c.args.read.now.lines c.args.layer c.args.plane.now c.loop-cursor.cursor c.loop-cursor.plane s c.args.read.now.end end (omega (arith, c.loop-cursor-test.false)) in
+    let at = at_end sign c.args.source.now.octets before area rest c.args.read.now.lines c.args.layer c.args.plane.now c.loop-cursor.cursor c.loop-cursor.plane s c.args.read.now.end end (omega (arith, c.loop-cursor-test.false)) in
     subst (λ n. RisesBetween c.args.source.now c.loop-cursor.source 0 (2 * (n - c.args.cursor.at))) at i.steps
 
 pub returns-clause-fills : goal.returns-clause-fills
@@ -126,5 +126,5 @@ returns-clause-fills c =
     let (before, area, rest, b, plain, ends, counted) = c.requires.known in
     let s = i.so_far before area rest b plain ends counted in
     let end : c.args.read.now.end ≡ length (spell before) + length (spell area) = omega (arith, ends, b.place) in
-    let at = at_end sign sign.defaults c.args.source.now.octets before area rest c.args.read.now.lines c.args.layer c.args.plane.now c.loop-cursor.cursor c.loop-cursor.plane s c.args.read.now.end end (omega (arith, c.loop-cursor-test.false)) in
+    let at = at_end sign c.args.source.now.octets before area rest c.args.read.now.lines c.args.layer c.args.plane.now c.loop-cursor.cursor c.loop-cursor.plane s c.args.read.now.end end (omega (arith, c.loop-cursor-test.false)) in
     subst (λ n. IsFilledBy sign c.args.plane.now c.loop-cursor.plane (n - c.args.cursor.at)) at i.fills

@@ -9,9 +9,9 @@ use Rattle.multi_layout.proofs.draw.draw_area.Given as goal
 -- the area's items so far are drawn
 abbrev pub invariant-loop-cursor : goal.invariant-loop-cursor
 invariant-loop-cursor l = record {
-  so_far : (before area rest : List Item) → IsBetween l.sign l.sign.defaults l.initial.source.octets before (area ++ rest) l.initial.cursor → BeginsNoArea area → l.read.end ≡ l.initial.cursor.at + length (spell area)
-      → HasCounted (whole_area l.sign l.sign.defaults before (area ++ rest)) l.read.lines
-      → AreaSoFar l.sign l.sign.defaults l.initial.source.octets before area rest l.read.lines l.layer l.cursor l.initial.plane l.plane;
+  so_far : (before area rest : List Item) → IsBetween l.sign l.initial.source.octets before (area ++ rest) l.initial.cursor → BeginsNoArea area → l.read.end ≡ l.initial.cursor.at + length (spell area)
+      → HasCounted (whole_area l.sign before (area ++ rest)) l.read.lines
+      → AreaSoFar l.sign l.initial.source.octets before area rest l.read.lines l.layer l.cursor l.initial.plane l.plane;
   on : l.initial.cursor.at ≤ l.cursor.at;
   steps : RisesBetween l.initial.source l.source 0 (2 * (l.cursor.at - l.initial.cursor.at));
   fills : IsFilledBy l.sign l.initial.plane l.plane (l.cursor.at - l.initial.cursor.at);

@@ -17,8 +17,8 @@ pub loop-next-init : goal.loop-next-init
 loop-next-init c = record {
   so_far = λ before behind b.
       let (before', behind', b', begins) = c.requires.begins in
-      let same = one_place c.args.sign.now c.args.sign.now.defaults c.args.source.now.octets before' behind' before behind c.args.cursor b' b in
-      page_begins c.args.sign.now c.args.sign.now.defaults c.args.source.now.octets before behind c.args.layer c.args.cursor c.fill.new.self c.has.result b (subst (λ l. BeginsPage (map meaning l)) same begins) c.has.ensures.colour
+      let same = one_place c.args.sign.now c.args.source.now.octets before' behind' before behind c.args.cursor b' b in
+      page_begins c.args.sign.now c.args.source.now.octets before behind c.args.layer c.args.cursor c.fill.new.self c.has.result b (subst (λ l. BeginsPage (map meaning l)) same begins) c.has.ensures.colour
       (λ x y across down. c.fill.ensures.pixels x y (omega (arith, c.fill.ensures.width, across)) (omega (arith, c.fill.ensures.height, down)));
   on = omega arith;
   steps = (0, omega arith, omega arith, sym (charged-zero c.args.source.now));
@@ -33,7 +33,7 @@ read_area-read-requires-clause-begins c =
     let same0 : c.loop-next.source.octets ≡ octets = ap (λ (x : Counted). x.octets) i.steps.3 in
     let (before, behind, b, begins) = c.requires.begins in
     let s = i.so_far before behind b in
-    let b0 = subst (λ o. IsBetween sign sign.defaults o (before ++ s.so.done) s.so.left c.loop-next.cursor) (sym same0) s.so.between in
+    let b0 = subst (λ o. IsBetween sign o (before ++ s.so.done) s.so.left c.loop-next.cursor) (sym same0) s.so.between in
     (before ++ s.so.done, s.so.left, b0, s.begins)
 
 pub draw_area-cursor-requires-clause-known : goal.draw_area-cursor-requires-clause-known
@@ -44,17 +44,17 @@ draw_area-cursor-requires-clause-known c =
     let same0 : c.loop-next.source.octets ≡ octets = ap (λ (x : Counted). x.octets) i.steps.3 in
     let (before, behind, b, begins) = c.requires.begins in
     let s = i.so_far before behind b in
-    let b0 = subst (λ o. IsBetween sign sign.defaults o (before ++ s.so.done) s.so.left c.loop-next.cursor) (sym same0) s.so.between in
+    let b0 = subst (λ o. IsBetween sign o (before ++ s.so.done) s.so.left c.loop-next.cursor) (sym same0) s.so.between in
     let a = c.read_area-read.ensures.read (before ++ s.so.done) s.so.left b0 s.begins in
     let same1 : c.read_area-read.new.source.octets ≡ octets = ap (λ (x : Counted). x.octets) a.steps.3 ∙ same0 in
-    let b1 = subst (λ o. IsBetween sign sign.defaults o (before ++ s.so.done) s.so.left c.loop-next.cursor) (sym same1) s.so.between in (
+    let b1 = subst (λ o. IsBetween sign o (before ++ s.so.done) s.so.left c.loop-next.cursor) (sym same1) s.so.between in (
       before ++ s.so.done,
       a.area,
       a.rest,
-      subst (λ l. IsBetween sign sign.defaults c.read_area-read.new.source.octets (before ++ s.so.done) l c.loop-next.cursor) a.split b1,
+      subst (λ l. IsBetween sign c.read_area-read.new.source.octets (before ++ s.so.done) l c.loop-next.cursor) a.split b1,
       a.plain,
       a.end,
-      subst (λ l. Rattle.multi_layout.specs.Passes.HasCounted (Rattle.multi_layout.specs.Passes.whole_area sign sign.defaults (before ++ s.so.done) l) c.read_area-read.result.lines) a.split a.table,
+      subst (λ l. Rattle.multi_layout.specs.Passes.HasCounted (Rattle.multi_layout.specs.Passes.whole_area sign (before ++ s.so.done) l) c.read_area-read.result.lines) a.split a.table,
     )
 
 pub draw_area-cursor-requires-clause-low : goal.draw_area-cursor-requires-clause-low
@@ -65,7 +65,7 @@ draw_area-cursor-requires-clause-low c =
     let same0 : c.loop-next.source.octets ≡ octets = ap (λ (x : Counted). x.octets) i.steps.3 in
     let (before, behind, b, begins) = c.requires.begins in
     let s = i.so_far before behind b in
-    let b0 = subst (λ o. IsBetween sign sign.defaults o (before ++ s.so.done) s.so.left c.loop-next.cursor) (sym same0) s.so.between in
+    let b0 = subst (λ o. IsBetween sign o (before ++ s.so.done) s.so.left c.loop-next.cursor) (sym same0) s.so.between in
     let a = c.read_area-read.ensures.read (before ++ s.so.done) s.so.left b0 s.begins in
     let same1 : c.read_area-read.new.source.octets ≡ octets = ap (λ (x : Counted). x.octets) a.steps.3 ∙ same0 in
     a.low
@@ -78,15 +78,15 @@ next_item-requires c =
     let same0 : c.loop-next.source.octets ≡ octets = ap (λ (x : Counted). x.octets) i.steps.3 in
     let (before, behind, b, begins) = c.requires.begins in
     let s = i.so_far before behind b in
-    let b0 = subst (λ o. IsBetween sign sign.defaults o (before ++ s.so.done) s.so.left c.loop-next.cursor) (sym same0) s.so.between in
+    let b0 = subst (λ o. IsBetween sign o (before ++ s.so.done) s.so.left c.loop-next.cursor) (sym same0) s.so.between in
     let a = c.read_area-read.ensures.read (before ++ s.so.done) s.so.left b0 s.begins in
     let same1 : c.read_area-read.new.source.octets ≡ octets = ap (λ (x : Counted). x.octets) a.steps.3 ∙ same0 in
-    let r = round sign sign.defaults octets before behind c.args.layer c.loop-next.cursor c.loop-next.plane s c.read_area-read.result c.loop-next.source c.read_area-read.new.source a c.draw_area-cursor.result c.draw_area-cursor.new.plane
-    (λ earlier area rest x plain end table. subst (λ o. IsBetween sign sign.defaults o (earlier ++ area) rest c.draw_area-cursor.result) same1 (c.draw_area-cursor.ensures.passed earlier area rest (subst (λ o. IsBetween sign sign.defaults o earlier (area ++ rest) c.loop-next.cursor) (sym same1) x) plain end table))
-    (λ earlier area rest x plain end table. c.draw_area-cursor.ensures.drawn earlier area rest (subst (λ o. IsBetween sign sign.defaults o earlier (area ++ rest) c.loop-next.cursor) (sym same1) x) plain end table) in
+    let r = round sign octets before behind c.args.layer c.loop-next.cursor c.loop-next.plane s c.read_area-read.result c.loop-next.source c.read_area-read.new.source a c.draw_area-cursor.result c.draw_area-cursor.new.plane
+    (λ earlier area rest x plain end table. subst (λ o. IsBetween sign o (earlier ++ area) rest c.draw_area-cursor.result) same1 (c.draw_area-cursor.ensures.passed earlier area rest (subst (λ o. IsBetween sign o earlier (area ++ rest) c.loop-next.cursor) (sym same1) x) plain end table))
+    (λ earlier area rest x plain end table. c.draw_area-cursor.ensures.drawn earlier area rest (subst (λ o. IsBetween sign o earlier (area ++ rest) c.loop-next.cursor) (sym same1) x) plain end table) in
     let same2 : c.draw_area-cursor.new.source.octets ≡ octets = ap (λ (x : Counted). x.octets) c.draw_area-cursor.ensures.steps.3 ∙ same1 in
-    let b2 = subst (λ o. IsBetween sign sign.defaults o (before ++ r.so.done) r.so.left c.draw_area-cursor.result) (sym same2) r.so.between in
-    (sign, sign.defaults, (before ++ r.so.done, r.so.left, b2))
+    let b2 = subst (λ o. IsBetween sign o (before ++ r.so.done) r.so.left c.draw_area-cursor.result) (sym same2) r.so.between in
+    (sign, (before ++ r.so.done, r.so.left, b2))
 
 pub returns-in_default-clause-drawn : goal.returns-in_default-clause-drawn
 returns-in_default-clause-drawn c = λ before behind b.
@@ -95,16 +95,16 @@ returns-in_default-clause-drawn c = λ before behind b.
     let octets = c.args.source.now.octets in
     let same0 : c.loop-next.source.octets ≡ octets = ap (λ (x : Counted). x.octets) i.steps.3 in
     let s = i.so_far before behind b in
-    let b0 = subst (λ o. IsBetween sign sign.defaults o (before ++ s.so.done) s.so.left c.loop-next.cursor) (sym same0) s.so.between in
+    let b0 = subst (λ o. IsBetween sign o (before ++ s.so.done) s.so.left c.loop-next.cursor) (sym same0) s.so.between in
     let a = c.read_area-read.ensures.read (before ++ s.so.done) s.so.left b0 s.begins in
     let same1 : c.read_area-read.new.source.octets ≡ octets = ap (λ (x : Counted). x.octets) a.steps.3 ∙ same0 in
-    let r = round sign sign.defaults octets before behind c.args.layer c.loop-next.cursor c.loop-next.plane s c.read_area-read.result c.loop-next.source c.read_area-read.new.source a c.draw_area-cursor.result c.draw_area-cursor.new.plane
-    (λ earlier area rest x plain end table. subst (λ o. IsBetween sign sign.defaults o (earlier ++ area) rest c.draw_area-cursor.result) same1 (c.draw_area-cursor.ensures.passed earlier area rest (subst (λ o. IsBetween sign sign.defaults o earlier (area ++ rest) c.loop-next.cursor) (sym same1) x) plain end table))
-    (λ earlier area rest x plain end table. c.draw_area-cursor.ensures.drawn earlier area rest (subst (λ o. IsBetween sign sign.defaults o earlier (area ++ rest) c.loop-next.cursor) (sym same1) x) plain end table) in
+    let r = round sign octets before behind c.args.layer c.loop-next.cursor c.loop-next.plane s c.read_area-read.result c.loop-next.source c.read_area-read.new.source a c.draw_area-cursor.result c.draw_area-cursor.new.plane
+    (λ earlier area rest x plain end table. subst (λ o. IsBetween sign o (earlier ++ area) rest c.draw_area-cursor.result) same1 (c.draw_area-cursor.ensures.passed earlier area rest (subst (λ o. IsBetween sign o earlier (area ++ rest) c.loop-next.cursor) (sym same1) x) plain end table))
+    (λ earlier area rest x plain end table. c.draw_area-cursor.ensures.drawn earlier area rest (subst (λ o. IsBetween sign o earlier (area ++ rest) c.loop-next.cursor) (sym same1) x) plain end table) in
     let same2 : c.draw_area-cursor.new.source.octets ≡ octets = ap (λ (x : Counted). x.octets) c.draw_area-cursor.ensures.steps.3 ∙ same1 in
-    let b2 = subst (λ o. IsBetween sign sign.defaults o (before ++ r.so.done) r.so.left c.draw_area-cursor.result) (sym same2) r.so.between in
-    let none : r.so.left ≡ [] = c.in_default.ensures.first sign sign.defaults (before ++ r.so.done) r.so.left b2 in
-    page_shown sign sign.defaults octets before behind c.args.layer c.draw_area-cursor.result c.draw_area-cursor.new.plane r.so (subst (λ l. EndsPage (map meaning l)) (sym none) (inl refl)) c.args.cursor.state.pages b.state_is.pages
+    let b2 = subst (λ o. IsBetween sign o (before ++ r.so.done) r.so.left c.draw_area-cursor.result) (sym same2) r.so.between in
+    let none : r.so.left ≡ [] = c.in_default.ensures.first sign (before ++ r.so.done) r.so.left b2 in
+    page_shown sign octets before behind c.args.layer c.draw_area-cursor.result c.draw_area-cursor.new.plane r.so (subst (λ l. EndsPage (map meaning l)) (sym none) (inl refl)) c.args.cursor.state.pages b.state_is.pages
 
 pub returns-in_default-clause-passed : goal.returns-in_default-clause-passed
 returns-in_default-clause-passed c = λ before behind b.
@@ -113,16 +113,16 @@ returns-in_default-clause-passed c = λ before behind b.
     let octets = c.args.source.now.octets in
     let same0 : c.loop-next.source.octets ≡ octets = ap (λ (x : Counted). x.octets) i.steps.3 in
     let s = i.so_far before behind b in
-    let b0 = subst (λ o. IsBetween sign sign.defaults o (before ++ s.so.done) s.so.left c.loop-next.cursor) (sym same0) s.so.between in
+    let b0 = subst (λ o. IsBetween sign o (before ++ s.so.done) s.so.left c.loop-next.cursor) (sym same0) s.so.between in
     let a = c.read_area-read.ensures.read (before ++ s.so.done) s.so.left b0 s.begins in
     let same1 : c.read_area-read.new.source.octets ≡ octets = ap (λ (x : Counted). x.octets) a.steps.3 ∙ same0 in
-    let r = round sign sign.defaults octets before behind c.args.layer c.loop-next.cursor c.loop-next.plane s c.read_area-read.result c.loop-next.source c.read_area-read.new.source a c.draw_area-cursor.result c.draw_area-cursor.new.plane
-    (λ earlier area rest x plain end table. subst (λ o. IsBetween sign sign.defaults o (earlier ++ area) rest c.draw_area-cursor.result) same1 (c.draw_area-cursor.ensures.passed earlier area rest (subst (λ o. IsBetween sign sign.defaults o earlier (area ++ rest) c.loop-next.cursor) (sym same1) x) plain end table))
-    (λ earlier area rest x plain end table. c.draw_area-cursor.ensures.drawn earlier area rest (subst (λ o. IsBetween sign sign.defaults o earlier (area ++ rest) c.loop-next.cursor) (sym same1) x) plain end table) in
+    let r = round sign octets before behind c.args.layer c.loop-next.cursor c.loop-next.plane s c.read_area-read.result c.loop-next.source c.read_area-read.new.source a c.draw_area-cursor.result c.draw_area-cursor.new.plane
+    (λ earlier area rest x plain end table. subst (λ o. IsBetween sign o (earlier ++ area) rest c.draw_area-cursor.result) same1 (c.draw_area-cursor.ensures.passed earlier area rest (subst (λ o. IsBetween sign o earlier (area ++ rest) c.loop-next.cursor) (sym same1) x) plain end table))
+    (λ earlier area rest x plain end table. c.draw_area-cursor.ensures.drawn earlier area rest (subst (λ o. IsBetween sign o earlier (area ++ rest) c.loop-next.cursor) (sym same1) x) plain end table) in
     let same2 : c.draw_area-cursor.new.source.octets ≡ octets = ap (λ (x : Counted). x.octets) c.draw_area-cursor.ensures.steps.3 ∙ same1 in
-    let b2 = subst (λ o. IsBetween sign sign.defaults o (before ++ r.so.done) r.so.left c.draw_area-cursor.result) (sym same2) r.so.between in
-    let none : r.so.left ≡ [] = c.in_default.ensures.first sign sign.defaults (before ++ r.so.done) r.so.left b2 in
-    last_passed sign sign.defaults octets before behind c.args.layer c.draw_area-cursor.result c.draw_area-cursor.new.plane r.so c.args.cursor b.state_is.pages (omega (arith, i.on, r.on, r.at)) none
+    let b2 = subst (λ o. IsBetween sign o (before ++ r.so.done) r.so.left c.draw_area-cursor.result) (sym same2) r.so.between in
+    let none : r.so.left ≡ [] = c.in_default.ensures.first sign (before ++ r.so.done) r.so.left b2 in
+    last_passed sign octets before behind c.args.layer c.draw_area-cursor.result c.draw_area-cursor.new.plane r.so c.args.cursor b.state_is.pages (omega (arith, i.on, r.on, r.at)) none
 
 pub returns-in_default-clause-kept : goal.returns-in_default-clause-kept
 returns-in_default-clause-kept c =
@@ -132,14 +132,14 @@ returns-in_default-clause-kept c =
     let same0 : c.loop-next.source.octets ≡ octets = ap (λ (x : Counted). x.octets) i.steps.3 in
     let (before, behind, b, begins) = c.requires.begins in
     let s = i.so_far before behind b in
-    let b0 = subst (λ o. IsBetween sign sign.defaults o (before ++ s.so.done) s.so.left c.loop-next.cursor) (sym same0) s.so.between in
+    let b0 = subst (λ o. IsBetween sign o (before ++ s.so.done) s.so.left c.loop-next.cursor) (sym same0) s.so.between in
     let a = c.read_area-read.ensures.read (before ++ s.so.done) s.so.left b0 s.begins in
     let same1 : c.read_area-read.new.source.octets ≡ octets = ap (λ (x : Counted). x.octets) a.steps.3 ∙ same0 in
-    let r = round sign sign.defaults octets before behind c.args.layer c.loop-next.cursor c.loop-next.plane s c.read_area-read.result c.loop-next.source c.read_area-read.new.source a c.draw_area-cursor.result c.draw_area-cursor.new.plane
-    (λ earlier area rest x plain end table. subst (λ o. IsBetween sign sign.defaults o (earlier ++ area) rest c.draw_area-cursor.result) same1 (c.draw_area-cursor.ensures.passed earlier area rest (subst (λ o. IsBetween sign sign.defaults o earlier (area ++ rest) c.loop-next.cursor) (sym same1) x) plain end table))
-    (λ earlier area rest x plain end table. c.draw_area-cursor.ensures.drawn earlier area rest (subst (λ o. IsBetween sign sign.defaults o earlier (area ++ rest) c.loop-next.cursor) (sym same1) x) plain end table) in
+    let r = round sign octets before behind c.args.layer c.loop-next.cursor c.loop-next.plane s c.read_area-read.result c.loop-next.source c.read_area-read.new.source a c.draw_area-cursor.result c.draw_area-cursor.new.plane
+    (λ earlier area rest x plain end table. subst (λ o. IsBetween sign o (earlier ++ area) rest c.draw_area-cursor.result) same1 (c.draw_area-cursor.ensures.passed earlier area rest (subst (λ o. IsBetween sign o earlier (area ++ rest) c.loop-next.cursor) (sym same1) x) plain end table))
+    (λ earlier area rest x plain end table. c.draw_area-cursor.ensures.drawn earlier area rest (subst (λ o. IsBetween sign o earlier (area ++ rest) c.loop-next.cursor) (sym same1) x) plain end table) in
     let same2 : c.draw_area-cursor.new.source.octets ≡ octets = ap (λ (x : Counted). x.octets) c.draw_area-cursor.ensures.steps.3 ∙ same1 in
-    let b2 = subst (λ o. IsBetween sign sign.defaults o (before ++ r.so.done) r.so.left c.draw_area-cursor.result) (sym same2) r.so.between in
+    let b2 = subst (λ o. IsBetween sign o (before ++ r.so.done) r.so.left c.draw_area-cursor.result) (sym same2) r.so.between in
     ap (λ (x : Counted). x.octets) c.in_default.ensures.end_steps.3 ∙ same2
 
 pub returns-in_default-clause-steps : goal.returns-in_default-clause-steps
@@ -150,16 +150,16 @@ returns-in_default-clause-steps c =
     let same0 : c.loop-next.source.octets ≡ octets = ap (λ (x : Counted). x.octets) i.steps.3 in
     let (before, behind, b, begins) = c.requires.begins in
     let s = i.so_far before behind b in
-    let b0 = subst (λ o. IsBetween sign sign.defaults o (before ++ s.so.done) s.so.left c.loop-next.cursor) (sym same0) s.so.between in
+    let b0 = subst (λ o. IsBetween sign o (before ++ s.so.done) s.so.left c.loop-next.cursor) (sym same0) s.so.between in
     let a = c.read_area-read.ensures.read (before ++ s.so.done) s.so.left b0 s.begins in
     let same1 : c.read_area-read.new.source.octets ≡ octets = ap (λ (x : Counted). x.octets) a.steps.3 ∙ same0 in
-    let r = round sign sign.defaults octets before behind c.args.layer c.loop-next.cursor c.loop-next.plane s c.read_area-read.result c.loop-next.source c.read_area-read.new.source a c.draw_area-cursor.result c.draw_area-cursor.new.plane
-    (λ earlier area rest x plain end table. subst (λ o. IsBetween sign sign.defaults o (earlier ++ area) rest c.draw_area-cursor.result) same1 (c.draw_area-cursor.ensures.passed earlier area rest (subst (λ o. IsBetween sign sign.defaults o earlier (area ++ rest) c.loop-next.cursor) (sym same1) x) plain end table))
-    (λ earlier area rest x plain end table. c.draw_area-cursor.ensures.drawn earlier area rest (subst (λ o. IsBetween sign sign.defaults o earlier (area ++ rest) c.loop-next.cursor) (sym same1) x) plain end table) in
+    let r = round sign octets before behind c.args.layer c.loop-next.cursor c.loop-next.plane s c.read_area-read.result c.loop-next.source c.read_area-read.new.source a c.draw_area-cursor.result c.draw_area-cursor.new.plane
+    (λ earlier area rest x plain end table. subst (λ o. IsBetween sign o (earlier ++ area) rest c.draw_area-cursor.result) same1 (c.draw_area-cursor.ensures.passed earlier area rest (subst (λ o. IsBetween sign o earlier (area ++ rest) c.loop-next.cursor) (sym same1) x) plain end table))
+    (λ earlier area rest x plain end table. c.draw_area-cursor.ensures.drawn earlier area rest (subst (λ o. IsBetween sign o earlier (area ++ rest) c.loop-next.cursor) (sym same1) x) plain end table) in
     let same2 : c.draw_area-cursor.new.source.octets ≡ octets = ap (λ (x : Counted). x.octets) c.draw_area-cursor.ensures.steps.3 ∙ same1 in
-    let b2 = subst (λ o. IsBetween sign sign.defaults o (before ++ r.so.done) r.so.left c.draw_area-cursor.result) (sym same2) r.so.between in
-    let none : r.so.left ≡ [] = c.in_default.ensures.first sign sign.defaults (before ++ r.so.done) r.so.left b2 in
-    let pages : c.draw_area-cursor.result.state.pages ≡ c.args.cursor.state.pages = same_pages sign sign.defaults octets before behind c.args.layer c.draw_area-cursor.result c.draw_area-cursor.new.plane r.so c.args.cursor.state.pages b.state_is.pages in
+    let b2 = subst (λ o. IsBetween sign o (before ++ r.so.done) r.so.left c.draw_area-cursor.result) (sym same2) r.so.between in
+    let none : r.so.left ≡ [] = c.in_default.ensures.first sign (before ++ r.so.done) r.so.left b2 in
+    let pages : c.draw_area-cursor.result.state.pages ≡ c.args.cursor.state.pages = same_pages sign octets before behind c.args.layer c.draw_area-cursor.result c.draw_area-cursor.new.plane r.so c.args.cursor.state.pages b.state_is.pages in
     let all = string_end c.args.source.now c.loop-next.source c.read_area-read.new.source c.draw_area-cursor.new.source c.next_item.new.source c.args.cursor.at c.loop-next.cursor.at c.read_area-read.result.end r.so.left i.on r.on none i.steps r.steps c.draw_area-cursor.ensures.steps c.in_default.ensures.end_steps in
     subst (λ k. RisesBetween c.args.source.now c.next_item.new.source 0 (4 * (c.draw_area-cursor.result.at - c.args.cursor.at) + k)) (sym (if_same c.draw_area-cursor.result.state.pages c.args.cursor.state.pages 2 pages))
     (subst (λ n. RisesBetween c.args.source.now c.next_item.new.source 0 (4 * (n - c.args.cursor.at) + 2)) (sym r.at) all)
@@ -172,19 +172,19 @@ returns-in_default-clause-fills c =
     let same0 : c.loop-next.source.octets ≡ octets = ap (λ (x : Counted). x.octets) i.steps.3 in
     let (before, behind, b, begins) = c.requires.begins in
     let s = i.so_far before behind b in
-    let b0 = subst (λ o. IsBetween sign sign.defaults o (before ++ s.so.done) s.so.left c.loop-next.cursor) (sym same0) s.so.between in
+    let b0 = subst (λ o. IsBetween sign o (before ++ s.so.done) s.so.left c.loop-next.cursor) (sym same0) s.so.between in
     let a = c.read_area-read.ensures.read (before ++ s.so.done) s.so.left b0 s.begins in
     let same1 : c.read_area-read.new.source.octets ≡ octets = ap (λ (x : Counted). x.octets) a.steps.3 ∙ same0 in
-    let r = round sign sign.defaults octets before behind c.args.layer c.loop-next.cursor c.loop-next.plane s c.read_area-read.result c.loop-next.source c.read_area-read.new.source a c.draw_area-cursor.result c.draw_area-cursor.new.plane
-    (λ earlier area rest x plain end table. subst (λ o. IsBetween sign sign.defaults o (earlier ++ area) rest c.draw_area-cursor.result) same1 (c.draw_area-cursor.ensures.passed earlier area rest (subst (λ o. IsBetween sign sign.defaults o earlier (area ++ rest) c.loop-next.cursor) (sym same1) x) plain end table))
-    (λ earlier area rest x plain end table. c.draw_area-cursor.ensures.drawn earlier area rest (subst (λ o. IsBetween sign sign.defaults o earlier (area ++ rest) c.loop-next.cursor) (sym same1) x) plain end table) in
+    let r = round sign octets before behind c.args.layer c.loop-next.cursor c.loop-next.plane s c.read_area-read.result c.loop-next.source c.read_area-read.new.source a c.draw_area-cursor.result c.draw_area-cursor.new.plane
+    (λ earlier area rest x plain end table. subst (λ o. IsBetween sign o (earlier ++ area) rest c.draw_area-cursor.result) same1 (c.draw_area-cursor.ensures.passed earlier area rest (subst (λ o. IsBetween sign o earlier (area ++ rest) c.loop-next.cursor) (sym same1) x) plain end table))
+    (λ earlier area rest x plain end table. c.draw_area-cursor.ensures.drawn earlier area rest (subst (λ o. IsBetween sign o earlier (area ++ rest) c.loop-next.cursor) (sym same1) x) plain end table) in
     let same2 : c.draw_area-cursor.new.source.octets ≡ octets = ap (λ (x : Counted). x.octets) c.draw_area-cursor.ensures.steps.3 ∙ same1 in
-    let b2 = subst (λ o. IsBetween sign sign.defaults o (before ++ r.so.done) r.so.left c.draw_area-cursor.result) (sym same2) r.so.between in
-    let none : r.so.left ≡ [] = c.in_default.ensures.first sign sign.defaults (before ++ r.so.done) r.so.left b2 in
+    let b2 = subst (λ o. IsBetween sign o (before ++ r.so.done) r.so.left c.draw_area-cursor.result) (sym same2) r.so.between in
+    let none : r.so.left ≡ [] = c.in_default.ensures.first sign (before ++ r.so.done) r.so.left b2 in
     let count : octet_count c.args.plane.now ≡ plane_octets sign = ap (λ w. (w + 7) / 8 * c.args.plane.now.height) c.requires.size.0 ∙ ap (λ h. (sign.width + 7) / 8 * h) c.requires.size.1 in
     let first = first_filled sign c.args.plane.now c.fill.new.self (octet_count c.args.plane.now) (omega (arith, c.fill.ensures.steps)) (omega (arith, c.fill.ensures.steps)) count c.fill.ensures.width c.fill.ensures.height in
     let areas = more_filled sign c.args.plane.now c.fill.new.self c.draw_area-cursor.new.plane 0 _ first (filled_then sign c.fill.new.self c.loop-next.plane c.draw_area-cursor.new.plane (c.loop-next.cursor.at - c.args.cursor.at) (c.read_area-read.result.end - c.loop-next.cursor.at) i.filled c.draw_area-cursor.ensures.fills) in
-    let pages : c.draw_area-cursor.result.state.pages ≡ c.args.cursor.state.pages = same_pages sign sign.defaults octets before behind c.args.layer c.draw_area-cursor.result c.draw_area-cursor.new.plane r.so c.args.cursor.state.pages b.state_is.pages in
+    let pages : c.draw_area-cursor.result.state.pages ≡ c.args.cursor.state.pages = same_pages sign octets before behind c.args.layer c.draw_area-cursor.result c.draw_area-cursor.new.plane r.so c.args.cursor.state.pages b.state_is.pages in
     page_filled sign c.args.plane.now c.draw_area-cursor.new.plane c.args.cursor c.draw_area-cursor.result _ areas (omega (arith, i.on, r.on, r.at)) (omega (arith, if_same c.draw_area-cursor.result.state.pages c.args.cursor.state.pages 4 pages, i.on, r.on, r.at))
 
 pub pass-cursor-requires : goal.pass-cursor-requires
@@ -195,18 +195,18 @@ pass-cursor-requires c =
     let same0 : c.loop-next.source.octets ≡ octets = ap (λ (x : Counted). x.octets) i.steps.3 in
     let (before, behind, b, begins) = c.requires.begins in
     let s = i.so_far before behind b in
-    let b0 = subst (λ o. IsBetween sign sign.defaults o (before ++ s.so.done) s.so.left c.loop-next.cursor) (sym same0) s.so.between in
+    let b0 = subst (λ o. IsBetween sign o (before ++ s.so.done) s.so.left c.loop-next.cursor) (sym same0) s.so.between in
     let a = c.read_area-read.ensures.read (before ++ s.so.done) s.so.left b0 s.begins in
     let same1 : c.read_area-read.new.source.octets ≡ octets = ap (λ (x : Counted). x.octets) a.steps.3 ∙ same0 in
-    let r = round sign sign.defaults octets before behind c.args.layer c.loop-next.cursor c.loop-next.plane s c.read_area-read.result c.loop-next.source c.read_area-read.new.source a c.draw_area-cursor.result c.draw_area-cursor.new.plane
-    (λ earlier area rest x plain end table. subst (λ o. IsBetween sign sign.defaults o (earlier ++ area) rest c.draw_area-cursor.result) same1 (c.draw_area-cursor.ensures.passed earlier area rest (subst (λ o. IsBetween sign sign.defaults o earlier (area ++ rest) c.loop-next.cursor) (sym same1) x) plain end table))
-    (λ earlier area rest x plain end table. c.draw_area-cursor.ensures.drawn earlier area rest (subst (λ o. IsBetween sign sign.defaults o earlier (area ++ rest) c.loop-next.cursor) (sym same1) x) plain end table) in
+    let r = round sign octets before behind c.args.layer c.loop-next.cursor c.loop-next.plane s c.read_area-read.result c.loop-next.source c.read_area-read.new.source a c.draw_area-cursor.result c.draw_area-cursor.new.plane
+    (λ earlier area rest x plain end table. subst (λ o. IsBetween sign o (earlier ++ area) rest c.draw_area-cursor.result) same1 (c.draw_area-cursor.ensures.passed earlier area rest (subst (λ o. IsBetween sign o earlier (area ++ rest) c.loop-next.cursor) (sym same1) x) plain end table))
+    (λ earlier area rest x plain end table. c.draw_area-cursor.ensures.drawn earlier area rest (subst (λ o. IsBetween sign o earlier (area ++ rest) c.loop-next.cursor) (sym same1) x) plain end table) in
     let same2 : c.draw_area-cursor.new.source.octets ≡ octets = ap (λ (x : Counted). x.octets) c.draw_area-cursor.ensures.steps.3 ∙ same1 in
-    let b2 = subst (λ o. IsBetween sign sign.defaults o (before ++ r.so.done) r.so.left c.draw_area-cursor.result) (sym same2) r.so.between in
-    let (item, rest, is, taken) = c.in-Some.ensures.first sign sign.defaults (before ++ r.so.done) r.so.left b2 in
-    let b3 : IsBetween sign sign.defaults octets (before ++ r.so.done) (item ∷ rest) c.draw_area-cursor.result = subst (λ l. IsBetween sign sign.defaults octets (before ++ r.so.done) l c.draw_area-cursor.result) is r.so.between in
+    let b2 = subst (λ o. IsBetween sign o (before ++ r.so.done) r.so.left c.draw_area-cursor.result) (sym same2) r.so.between in
+    let (item, rest, is, taken) = c.in-Some.ensures.first sign (before ++ r.so.done) r.so.left b2 in
+    let b3 : IsBetween sign octets (before ++ r.so.done) (item ∷ rest) c.draw_area-cursor.result = subst (λ l. IsBetween sign octets (before ++ r.so.done) l c.draw_area-cursor.result) is r.so.between in
     let same3 : c.next_item.new.source.octets ≡ octets = ap (λ (x : Counted). x.octets) c.in-Some.ensures.steps.3 ∙ same2 in
-    let b4 = subst (λ o. IsBetween sign sign.defaults o (before ++ r.so.done) (item ∷ rest) c.draw_area-cursor.result) (sym same3) b3 in
+    let b4 = subst (λ o. IsBetween sign o (before ++ r.so.done) (item ∷ rest) c.draw_area-cursor.result) (sym same3) b3 in
     (before ++ r.so.done, rest, item, b4, taken)
 
 pub returns-then-ends_page-clause-drawn : goal.returns-then-ends_page-clause-drawn
@@ -216,20 +216,20 @@ returns-then-ends_page-clause-drawn c = λ before behind b.
     let octets = c.args.source.now.octets in
     let same0 : c.loop-next.source.octets ≡ octets = ap (λ (x : Counted). x.octets) i.steps.3 in
     let s = i.so_far before behind b in
-    let b0 = subst (λ o. IsBetween sign sign.defaults o (before ++ s.so.done) s.so.left c.loop-next.cursor) (sym same0) s.so.between in
+    let b0 = subst (λ o. IsBetween sign o (before ++ s.so.done) s.so.left c.loop-next.cursor) (sym same0) s.so.between in
     let a = c.read_area-read.ensures.read (before ++ s.so.done) s.so.left b0 s.begins in
     let same1 : c.read_area-read.new.source.octets ≡ octets = ap (λ (x : Counted). x.octets) a.steps.3 ∙ same0 in
-    let r = round sign sign.defaults octets before behind c.args.layer c.loop-next.cursor c.loop-next.plane s c.read_area-read.result c.loop-next.source c.read_area-read.new.source a c.draw_area-cursor.result c.draw_area-cursor.new.plane
-    (λ earlier area rest x plain end table. subst (λ o. IsBetween sign sign.defaults o (earlier ++ area) rest c.draw_area-cursor.result) same1 (c.draw_area-cursor.ensures.passed earlier area rest (subst (λ o. IsBetween sign sign.defaults o earlier (area ++ rest) c.loop-next.cursor) (sym same1) x) plain end table))
-    (λ earlier area rest x plain end table. c.draw_area-cursor.ensures.drawn earlier area rest (subst (λ o. IsBetween sign sign.defaults o earlier (area ++ rest) c.loop-next.cursor) (sym same1) x) plain end table) in
+    let r = round sign octets before behind c.args.layer c.loop-next.cursor c.loop-next.plane s c.read_area-read.result c.loop-next.source c.read_area-read.new.source a c.draw_area-cursor.result c.draw_area-cursor.new.plane
+    (λ earlier area rest x plain end table. subst (λ o. IsBetween sign o (earlier ++ area) rest c.draw_area-cursor.result) same1 (c.draw_area-cursor.ensures.passed earlier area rest (subst (λ o. IsBetween sign o earlier (area ++ rest) c.loop-next.cursor) (sym same1) x) plain end table))
+    (λ earlier area rest x plain end table. c.draw_area-cursor.ensures.drawn earlier area rest (subst (λ o. IsBetween sign o earlier (area ++ rest) c.loop-next.cursor) (sym same1) x) plain end table) in
     let same2 : c.draw_area-cursor.new.source.octets ≡ octets = ap (λ (x : Counted). x.octets) c.draw_area-cursor.ensures.steps.3 ∙ same1 in
-    let b2 = subst (λ o. IsBetween sign sign.defaults o (before ++ r.so.done) r.so.left c.draw_area-cursor.result) (sym same2) r.so.between in
-    let (item, rest, is, taken) = c.in-Some.ensures.first sign sign.defaults (before ++ r.so.done) r.so.left b2 in
-    let b3 : IsBetween sign sign.defaults octets (before ++ r.so.done) (item ∷ rest) c.draw_area-cursor.result = subst (λ l. IsBetween sign sign.defaults octets (before ++ r.so.done) l c.draw_area-cursor.result) is r.so.between in
+    let b2 = subst (λ o. IsBetween sign o (before ++ r.so.done) r.so.left c.draw_area-cursor.result) (sym same2) r.so.between in
+    let (item, rest, is, taken) = c.in-Some.ensures.first sign (before ++ r.so.done) r.so.left b2 in
+    let b3 : IsBetween sign octets (before ++ r.so.done) (item ∷ rest) c.draw_area-cursor.result = subst (λ l. IsBetween sign octets (before ++ r.so.done) l c.draw_area-cursor.result) is r.so.between in
     let same3 : c.next_item.new.source.octets ≡ octets = ap (λ (x : Counted). x.octets) c.in-Some.ensures.steps.3 ∙ same2 in
-    let b4 = subst (λ o. IsBetween sign sign.defaults o (before ++ r.so.done) (item ∷ rest) c.draw_area-cursor.result) (sym same3) b3 in
+    let b4 = subst (λ o. IsBetween sign o (before ++ r.so.done) (item ∷ rest) c.draw_area-cursor.result) (sym same3) b3 in
     let turns : is_new_page (meaning item) ≡ true = ap is_new_page taken.meant ∙ sym c.ends_page.ensures ∙ c.if-ends_page.true in
-    page_shown sign sign.defaults octets before behind c.args.layer c.draw_area-cursor.result c.draw_area-cursor.new.plane r.so (subst (λ l. EndsPage (map meaning l)) (sym is) (first_ends item rest turns)) c.args.cursor.state.pages b.state_is.pages
+    page_shown sign octets before behind c.args.layer c.draw_area-cursor.result c.draw_area-cursor.new.plane r.so (subst (λ l. EndsPage (map meaning l)) (sym is) (first_ends item rest turns)) c.args.cursor.state.pages b.state_is.pages
 
 pub returns-then-ends_page-clause-passed : goal.returns-then-ends_page-clause-passed
 returns-then-ends_page-clause-passed c = λ before behind b.
@@ -238,21 +238,21 @@ returns-then-ends_page-clause-passed c = λ before behind b.
     let octets = c.args.source.now.octets in
     let same0 : c.loop-next.source.octets ≡ octets = ap (λ (x : Counted). x.octets) i.steps.3 in
     let s = i.so_far before behind b in
-    let b0 = subst (λ o. IsBetween sign sign.defaults o (before ++ s.so.done) s.so.left c.loop-next.cursor) (sym same0) s.so.between in
+    let b0 = subst (λ o. IsBetween sign o (before ++ s.so.done) s.so.left c.loop-next.cursor) (sym same0) s.so.between in
     let a = c.read_area-read.ensures.read (before ++ s.so.done) s.so.left b0 s.begins in
     let same1 : c.read_area-read.new.source.octets ≡ octets = ap (λ (x : Counted). x.octets) a.steps.3 ∙ same0 in
-    let r = round sign sign.defaults octets before behind c.args.layer c.loop-next.cursor c.loop-next.plane s c.read_area-read.result c.loop-next.source c.read_area-read.new.source a c.draw_area-cursor.result c.draw_area-cursor.new.plane
-    (λ earlier area rest x plain end table. subst (λ o. IsBetween sign sign.defaults o (earlier ++ area) rest c.draw_area-cursor.result) same1 (c.draw_area-cursor.ensures.passed earlier area rest (subst (λ o. IsBetween sign sign.defaults o earlier (area ++ rest) c.loop-next.cursor) (sym same1) x) plain end table))
-    (λ earlier area rest x plain end table. c.draw_area-cursor.ensures.drawn earlier area rest (subst (λ o. IsBetween sign sign.defaults o earlier (area ++ rest) c.loop-next.cursor) (sym same1) x) plain end table) in
+    let r = round sign octets before behind c.args.layer c.loop-next.cursor c.loop-next.plane s c.read_area-read.result c.loop-next.source c.read_area-read.new.source a c.draw_area-cursor.result c.draw_area-cursor.new.plane
+    (λ earlier area rest x plain end table. subst (λ o. IsBetween sign o (earlier ++ area) rest c.draw_area-cursor.result) same1 (c.draw_area-cursor.ensures.passed earlier area rest (subst (λ o. IsBetween sign o earlier (area ++ rest) c.loop-next.cursor) (sym same1) x) plain end table))
+    (λ earlier area rest x plain end table. c.draw_area-cursor.ensures.drawn earlier area rest (subst (λ o. IsBetween sign o earlier (area ++ rest) c.loop-next.cursor) (sym same1) x) plain end table) in
     let same2 : c.draw_area-cursor.new.source.octets ≡ octets = ap (λ (x : Counted). x.octets) c.draw_area-cursor.ensures.steps.3 ∙ same1 in
-    let b2 = subst (λ o. IsBetween sign sign.defaults o (before ++ r.so.done) r.so.left c.draw_area-cursor.result) (sym same2) r.so.between in
-    let (item, rest, is, taken) = c.in-Some.ensures.first sign sign.defaults (before ++ r.so.done) r.so.left b2 in
-    let b3 : IsBetween sign sign.defaults octets (before ++ r.so.done) (item ∷ rest) c.draw_area-cursor.result = subst (λ l. IsBetween sign sign.defaults octets (before ++ r.so.done) l c.draw_area-cursor.result) is r.so.between in
+    let b2 = subst (λ o. IsBetween sign o (before ++ r.so.done) r.so.left c.draw_area-cursor.result) (sym same2) r.so.between in
+    let (item, rest, is, taken) = c.in-Some.ensures.first sign (before ++ r.so.done) r.so.left b2 in
+    let b3 : IsBetween sign octets (before ++ r.so.done) (item ∷ rest) c.draw_area-cursor.result = subst (λ l. IsBetween sign octets (before ++ r.so.done) l c.draw_area-cursor.result) is r.so.between in
     let same3 : c.next_item.new.source.octets ≡ octets = ap (λ (x : Counted). x.octets) c.in-Some.ensures.steps.3 ∙ same2 in
-    let b4 = subst (λ o. IsBetween sign sign.defaults o (before ++ r.so.done) (item ∷ rest) c.draw_area-cursor.result) (sym same3) b3 in
-    let b5 = subst (λ o. IsBetween sign sign.defaults o ((before ++ r.so.done) ++ item ∷ []) rest c.pass-cursor.result) same3 (c.pass-cursor.ensures.passed (before ++ r.so.done) rest item b4 taken) in
+    let b4 = subst (λ o. IsBetween sign o (before ++ r.so.done) (item ∷ rest) c.draw_area-cursor.result) (sym same3) b3 in
+    let b5 = subst (λ o. IsBetween sign o ((before ++ r.so.done) ++ item ∷ []) rest c.pass-cursor.result) same3 (c.pass-cursor.ensures.passed (before ++ r.so.done) rest item b4 taken) in
     let turns : is_new_page (meaning item) ≡ true = ap is_new_page taken.meant ∙ sym c.ends_page.ensures ∙ c.if-ends_page.true in
-    page_passed sign sign.defaults octets before behind c.args.layer c.draw_area-cursor.result c.draw_area-cursor.new.plane r.so item rest is c.pass-cursor.result b5 c.args.cursor b.state_is.pages (omega (arith, i.on, r.on, r.at, c.pass-cursor.ensures.at)) (new_page_is (meaning item) turns)
+    page_passed sign octets before behind c.args.layer c.draw_area-cursor.result c.draw_area-cursor.new.plane r.so item rest is c.pass-cursor.result b5 c.args.cursor b.state_is.pages (omega (arith, i.on, r.on, r.at, c.pass-cursor.ensures.at)) (new_page_is (meaning item) turns)
 
 pub returns-then-ends_page-clause-kept : goal.returns-then-ends_page-clause-kept
 returns-then-ends_page-clause-kept c =
@@ -262,14 +262,14 @@ returns-then-ends_page-clause-kept c =
     let same0 : c.loop-next.source.octets ≡ octets = ap (λ (x : Counted). x.octets) i.steps.3 in
     let (before, behind, b, begins) = c.requires.begins in
     let s = i.so_far before behind b in
-    let b0 = subst (λ o. IsBetween sign sign.defaults o (before ++ s.so.done) s.so.left c.loop-next.cursor) (sym same0) s.so.between in
+    let b0 = subst (λ o. IsBetween sign o (before ++ s.so.done) s.so.left c.loop-next.cursor) (sym same0) s.so.between in
     let a = c.read_area-read.ensures.read (before ++ s.so.done) s.so.left b0 s.begins in
     let same1 : c.read_area-read.new.source.octets ≡ octets = ap (λ (x : Counted). x.octets) a.steps.3 ∙ same0 in
-    let r = round sign sign.defaults octets before behind c.args.layer c.loop-next.cursor c.loop-next.plane s c.read_area-read.result c.loop-next.source c.read_area-read.new.source a c.draw_area-cursor.result c.draw_area-cursor.new.plane
-    (λ earlier area rest x plain end table. subst (λ o. IsBetween sign sign.defaults o (earlier ++ area) rest c.draw_area-cursor.result) same1 (c.draw_area-cursor.ensures.passed earlier area rest (subst (λ o. IsBetween sign sign.defaults o earlier (area ++ rest) c.loop-next.cursor) (sym same1) x) plain end table))
-    (λ earlier area rest x plain end table. c.draw_area-cursor.ensures.drawn earlier area rest (subst (λ o. IsBetween sign sign.defaults o earlier (area ++ rest) c.loop-next.cursor) (sym same1) x) plain end table) in
+    let r = round sign octets before behind c.args.layer c.loop-next.cursor c.loop-next.plane s c.read_area-read.result c.loop-next.source c.read_area-read.new.source a c.draw_area-cursor.result c.draw_area-cursor.new.plane
+    (λ earlier area rest x plain end table. subst (λ o. IsBetween sign o (earlier ++ area) rest c.draw_area-cursor.result) same1 (c.draw_area-cursor.ensures.passed earlier area rest (subst (λ o. IsBetween sign o earlier (area ++ rest) c.loop-next.cursor) (sym same1) x) plain end table))
+    (λ earlier area rest x plain end table. c.draw_area-cursor.ensures.drawn earlier area rest (subst (λ o. IsBetween sign o earlier (area ++ rest) c.loop-next.cursor) (sym same1) x) plain end table) in
     let same2 : c.draw_area-cursor.new.source.octets ≡ octets = ap (λ (x : Counted). x.octets) c.draw_area-cursor.ensures.steps.3 ∙ same1 in
-    let b2 = subst (λ o. IsBetween sign sign.defaults o (before ++ r.so.done) r.so.left c.draw_area-cursor.result) (sym same2) r.so.between in
+    let b2 = subst (λ o. IsBetween sign o (before ++ r.so.done) r.so.left c.draw_area-cursor.result) (sym same2) r.so.between in
     ap (λ (x : Counted). x.octets) c.pass-cursor.ensures.steps.3 ∙ ap (λ (x : Counted). x.octets) c.in-Some.ensures.steps.3 ∙ same2
 
 pub returns-then-ends_page-clause-steps : goal.returns-then-ends_page-clause-steps
@@ -280,18 +280,18 @@ returns-then-ends_page-clause-steps c =
     let same0 : c.loop-next.source.octets ≡ octets = ap (λ (x : Counted). x.octets) i.steps.3 in
     let (before, behind, b, begins) = c.requires.begins in
     let s = i.so_far before behind b in
-    let b0 = subst (λ o. IsBetween sign sign.defaults o (before ++ s.so.done) s.so.left c.loop-next.cursor) (sym same0) s.so.between in
+    let b0 = subst (λ o. IsBetween sign o (before ++ s.so.done) s.so.left c.loop-next.cursor) (sym same0) s.so.between in
     let a = c.read_area-read.ensures.read (before ++ s.so.done) s.so.left b0 s.begins in
     let same1 : c.read_area-read.new.source.octets ≡ octets = ap (λ (x : Counted). x.octets) a.steps.3 ∙ same0 in
-    let r = round sign sign.defaults octets before behind c.args.layer c.loop-next.cursor c.loop-next.plane s c.read_area-read.result c.loop-next.source c.read_area-read.new.source a c.draw_area-cursor.result c.draw_area-cursor.new.plane
-    (λ earlier area rest x plain end table. subst (λ o. IsBetween sign sign.defaults o (earlier ++ area) rest c.draw_area-cursor.result) same1 (c.draw_area-cursor.ensures.passed earlier area rest (subst (λ o. IsBetween sign sign.defaults o earlier (area ++ rest) c.loop-next.cursor) (sym same1) x) plain end table))
-    (λ earlier area rest x plain end table. c.draw_area-cursor.ensures.drawn earlier area rest (subst (λ o. IsBetween sign sign.defaults o earlier (area ++ rest) c.loop-next.cursor) (sym same1) x) plain end table) in
+    let r = round sign octets before behind c.args.layer c.loop-next.cursor c.loop-next.plane s c.read_area-read.result c.loop-next.source c.read_area-read.new.source a c.draw_area-cursor.result c.draw_area-cursor.new.plane
+    (λ earlier area rest x plain end table. subst (λ o. IsBetween sign o (earlier ++ area) rest c.draw_area-cursor.result) same1 (c.draw_area-cursor.ensures.passed earlier area rest (subst (λ o. IsBetween sign o earlier (area ++ rest) c.loop-next.cursor) (sym same1) x) plain end table))
+    (λ earlier area rest x plain end table. c.draw_area-cursor.ensures.drawn earlier area rest (subst (λ o. IsBetween sign o earlier (area ++ rest) c.loop-next.cursor) (sym same1) x) plain end table) in
     let same2 : c.draw_area-cursor.new.source.octets ≡ octets = ap (λ (x : Counted). x.octets) c.draw_area-cursor.ensures.steps.3 ∙ same1 in
-    let b2 = subst (λ o. IsBetween sign sign.defaults o (before ++ r.so.done) r.so.left c.draw_area-cursor.result) (sym same2) r.so.between in
-    let (item, rest, is, taken) = c.in-Some.ensures.first sign sign.defaults (before ++ r.so.done) r.so.left b2 in
-    let b3 : IsBetween sign sign.defaults octets (before ++ r.so.done) (item ∷ rest) c.draw_area-cursor.result = subst (λ l. IsBetween sign sign.defaults octets (before ++ r.so.done) l c.draw_area-cursor.result) is r.so.between in
+    let b2 = subst (λ o. IsBetween sign o (before ++ r.so.done) r.so.left c.draw_area-cursor.result) (sym same2) r.so.between in
+    let (item, rest, is, taken) = c.in-Some.ensures.first sign (before ++ r.so.done) r.so.left b2 in
+    let b3 : IsBetween sign octets (before ++ r.so.done) (item ∷ rest) c.draw_area-cursor.result = subst (λ l. IsBetween sign octets (before ++ r.so.done) l c.draw_area-cursor.result) is r.so.between in
     let same3 : c.next_item.new.source.octets ≡ octets = ap (λ (x : Counted). x.octets) c.in-Some.ensures.steps.3 ∙ same2 in
-    let b4 = subst (λ o. IsBetween sign sign.defaults o (before ++ r.so.done) (item ∷ rest) c.draw_area-cursor.result) (sym same3) b3 in
+    let b4 = subst (λ o. IsBetween sign o (before ++ r.so.done) (item ∷ rest) c.draw_area-cursor.result) (sym same3) b3 in
     let all = string_more c.args.source.now c.loop-next.source c.read_area-read.new.source c.draw_area-cursor.new.source c.next_item.new.source c.pass-cursor.new.source c.args.cursor.at c.loop-next.cursor.at c.read_area-read.result.end c.in-Some.next.len item rest r.so.left i.on r.on is taken.len i.steps r.steps c.draw_area-cursor.ensures.steps c.in-Some.ensures.steps c.pass-cursor.ensures.steps in
     let far : c.read_area-read.result.end + c.in-Some.next.len - c.args.cursor.at ≡ c.pass-cursor.result.at - c.args.cursor.at = omega (arith, r.at, c.pass-cursor.ensures.at) in
     rises_far c.args.source.now c.pass-cursor.new.source (c.read_area-read.result.end + c.in-Some.next.len - c.args.cursor.at) (c.pass-cursor.result.at - c.args.cursor.at) _ far all
@@ -304,18 +304,18 @@ returns-then-ends_page-clause-fills c =
     let same0 : c.loop-next.source.octets ≡ octets = ap (λ (x : Counted). x.octets) i.steps.3 in
     let (before, behind, b, begins) = c.requires.begins in
     let s = i.so_far before behind b in
-    let b0 = subst (λ o. IsBetween sign sign.defaults o (before ++ s.so.done) s.so.left c.loop-next.cursor) (sym same0) s.so.between in
+    let b0 = subst (λ o. IsBetween sign o (before ++ s.so.done) s.so.left c.loop-next.cursor) (sym same0) s.so.between in
     let a = c.read_area-read.ensures.read (before ++ s.so.done) s.so.left b0 s.begins in
     let same1 : c.read_area-read.new.source.octets ≡ octets = ap (λ (x : Counted). x.octets) a.steps.3 ∙ same0 in
-    let r = round sign sign.defaults octets before behind c.args.layer c.loop-next.cursor c.loop-next.plane s c.read_area-read.result c.loop-next.source c.read_area-read.new.source a c.draw_area-cursor.result c.draw_area-cursor.new.plane
-    (λ earlier area rest x plain end table. subst (λ o. IsBetween sign sign.defaults o (earlier ++ area) rest c.draw_area-cursor.result) same1 (c.draw_area-cursor.ensures.passed earlier area rest (subst (λ o. IsBetween sign sign.defaults o earlier (area ++ rest) c.loop-next.cursor) (sym same1) x) plain end table))
-    (λ earlier area rest x plain end table. c.draw_area-cursor.ensures.drawn earlier area rest (subst (λ o. IsBetween sign sign.defaults o earlier (area ++ rest) c.loop-next.cursor) (sym same1) x) plain end table) in
+    let r = round sign octets before behind c.args.layer c.loop-next.cursor c.loop-next.plane s c.read_area-read.result c.loop-next.source c.read_area-read.new.source a c.draw_area-cursor.result c.draw_area-cursor.new.plane
+    (λ earlier area rest x plain end table. subst (λ o. IsBetween sign o (earlier ++ area) rest c.draw_area-cursor.result) same1 (c.draw_area-cursor.ensures.passed earlier area rest (subst (λ o. IsBetween sign o earlier (area ++ rest) c.loop-next.cursor) (sym same1) x) plain end table))
+    (λ earlier area rest x plain end table. c.draw_area-cursor.ensures.drawn earlier area rest (subst (λ o. IsBetween sign o earlier (area ++ rest) c.loop-next.cursor) (sym same1) x) plain end table) in
     let same2 : c.draw_area-cursor.new.source.octets ≡ octets = ap (λ (x : Counted). x.octets) c.draw_area-cursor.ensures.steps.3 ∙ same1 in
-    let b2 = subst (λ o. IsBetween sign sign.defaults o (before ++ r.so.done) r.so.left c.draw_area-cursor.result) (sym same2) r.so.between in
-    let (item, rest, is, taken) = c.in-Some.ensures.first sign sign.defaults (before ++ r.so.done) r.so.left b2 in
-    let b3 : IsBetween sign sign.defaults octets (before ++ r.so.done) (item ∷ rest) c.draw_area-cursor.result = subst (λ l. IsBetween sign sign.defaults octets (before ++ r.so.done) l c.draw_area-cursor.result) is r.so.between in
+    let b2 = subst (λ o. IsBetween sign o (before ++ r.so.done) r.so.left c.draw_area-cursor.result) (sym same2) r.so.between in
+    let (item, rest, is, taken) = c.in-Some.ensures.first sign (before ++ r.so.done) r.so.left b2 in
+    let b3 : IsBetween sign octets (before ++ r.so.done) (item ∷ rest) c.draw_area-cursor.result = subst (λ l. IsBetween sign octets (before ++ r.so.done) l c.draw_area-cursor.result) is r.so.between in
     let same3 : c.next_item.new.source.octets ≡ octets = ap (λ (x : Counted). x.octets) c.in-Some.ensures.steps.3 ∙ same2 in
-    let b4 = subst (λ o. IsBetween sign sign.defaults o (before ++ r.so.done) (item ∷ rest) c.draw_area-cursor.result) (sym same3) b3 in
+    let b4 = subst (λ o. IsBetween sign o (before ++ r.so.done) (item ∷ rest) c.draw_area-cursor.result) (sym same3) b3 in
     let count : octet_count c.args.plane.now ≡ plane_octets sign = ap (λ w. (w + 7) / 8 * c.args.plane.now.height) c.requires.size.0 ∙ ap (λ h. (sign.width + 7) / 8 * h) c.requires.size.1 in
     let first = first_filled sign c.args.plane.now c.fill.new.self (octet_count c.args.plane.now) (omega (arith, c.fill.ensures.steps)) (omega (arith, c.fill.ensures.steps)) count c.fill.ensures.width c.fill.ensures.height in
     let areas = more_filled sign c.args.plane.now c.fill.new.self c.draw_area-cursor.new.plane 0 _ first (filled_then sign c.fill.new.self c.loop-next.plane c.draw_area-cursor.new.plane (c.loop-next.cursor.at - c.args.cursor.at) (c.read_area-read.result.end - c.loop-next.cursor.at) i.filled c.draw_area-cursor.ensures.fills) in
@@ -331,20 +331,20 @@ loop-next-smaller c =
     let same0 : c.loop-next.source.octets ≡ octets = ap (λ (x : Counted). x.octets) i.steps.3 in
     let (before, behind, b, begins) = c.requires.begins in
     let s = i.so_far before behind b in
-    let b0 = subst (λ o. IsBetween sign sign.defaults o (before ++ s.so.done) s.so.left c.loop-next.cursor) (sym same0) s.so.between in
+    let b0 = subst (λ o. IsBetween sign o (before ++ s.so.done) s.so.left c.loop-next.cursor) (sym same0) s.so.between in
     let a = c.read_area-read.ensures.read (before ++ s.so.done) s.so.left b0 s.begins in
     let same1 : c.read_area-read.new.source.octets ≡ octets = ap (λ (x : Counted). x.octets) a.steps.3 ∙ same0 in
-    let r = round sign sign.defaults octets before behind c.args.layer c.loop-next.cursor c.loop-next.plane s c.read_area-read.result c.loop-next.source c.read_area-read.new.source a c.draw_area-cursor.result c.draw_area-cursor.new.plane
-    (λ earlier area rest x plain end table. subst (λ o. IsBetween sign sign.defaults o (earlier ++ area) rest c.draw_area-cursor.result) same1 (c.draw_area-cursor.ensures.passed earlier area rest (subst (λ o. IsBetween sign sign.defaults o earlier (area ++ rest) c.loop-next.cursor) (sym same1) x) plain end table))
-    (λ earlier area rest x plain end table. c.draw_area-cursor.ensures.drawn earlier area rest (subst (λ o. IsBetween sign sign.defaults o earlier (area ++ rest) c.loop-next.cursor) (sym same1) x) plain end table) in
+    let r = round sign octets before behind c.args.layer c.loop-next.cursor c.loop-next.plane s c.read_area-read.result c.loop-next.source c.read_area-read.new.source a c.draw_area-cursor.result c.draw_area-cursor.new.plane
+    (λ earlier area rest x plain end table. subst (λ o. IsBetween sign o (earlier ++ area) rest c.draw_area-cursor.result) same1 (c.draw_area-cursor.ensures.passed earlier area rest (subst (λ o. IsBetween sign o earlier (area ++ rest) c.loop-next.cursor) (sym same1) x) plain end table))
+    (λ earlier area rest x plain end table. c.draw_area-cursor.ensures.drawn earlier area rest (subst (λ o. IsBetween sign o earlier (area ++ rest) c.loop-next.cursor) (sym same1) x) plain end table) in
     let same2 : c.draw_area-cursor.new.source.octets ≡ octets = ap (λ (x : Counted). x.octets) c.draw_area-cursor.ensures.steps.3 ∙ same1 in
-    let b2 = subst (λ o. IsBetween sign sign.defaults o (before ++ r.so.done) r.so.left c.draw_area-cursor.result) (sym same2) r.so.between in
-    let (item, rest, is, taken) = c.in-Some.ensures.first sign sign.defaults (before ++ r.so.done) r.so.left b2 in
-    let b3 : IsBetween sign sign.defaults octets (before ++ r.so.done) (item ∷ rest) c.draw_area-cursor.result = subst (λ l. IsBetween sign sign.defaults octets (before ++ r.so.done) l c.draw_area-cursor.result) is r.so.between in
+    let b2 = subst (λ o. IsBetween sign o (before ++ r.so.done) r.so.left c.draw_area-cursor.result) (sym same2) r.so.between in
+    let (item, rest, is, taken) = c.in-Some.ensures.first sign (before ++ r.so.done) r.so.left b2 in
+    let b3 : IsBetween sign octets (before ++ r.so.done) (item ∷ rest) c.draw_area-cursor.result = subst (λ l. IsBetween sign octets (before ++ r.so.done) l c.draw_area-cursor.result) is r.so.between in
     let same3 : c.next_item.new.source.octets ≡ octets = ap (λ (x : Counted). x.octets) c.in-Some.ensures.steps.3 ∙ same2 in
-    let b4 = subst (λ o. IsBetween sign sign.defaults o (before ++ r.so.done) (item ∷ rest) c.draw_area-cursor.result) (sym same3) b3 in
-    let b5 = subst (λ o. IsBetween sign sign.defaults o ((before ++ r.so.done) ++ item ∷ []) rest c.pass-cursor.result) same3 (c.pass-cursor.ensures.passed (before ++ r.so.done) rest item b4 taken) in
-    omega (arith, r.at, r.on, c.pass-cursor.ensures.at, taken.len, spelling_some item, Rattle.multi_layout.proofs.WalkLemmas.within sign sign.defaults octets ((before ++ r.so.done) ++ item ∷ []) rest c.pass-cursor.result b5)
+    let b4 = subst (λ o. IsBetween sign o (before ++ r.so.done) (item ∷ rest) c.draw_area-cursor.result) (sym same3) b3 in
+    let b5 = subst (λ o. IsBetween sign o ((before ++ r.so.done) ++ item ∷ []) rest c.pass-cursor.result) same3 (c.pass-cursor.ensures.passed (before ++ r.so.done) rest item b4 taken) in
+    omega (arith, r.at, r.on, c.pass-cursor.ensures.at, taken.len, spelling_some item, Rattle.multi_layout.proofs.WalkLemmas.within sign octets ((before ++ r.so.done) ++ item ∷ []) rest c.pass-cursor.result b5)
 
 pub loop-next-preserved : goal.loop-next-preserved
 loop-next-preserved c =
@@ -354,40 +354,40 @@ loop-next-preserved c =
     let same0 : c.loop-next.source.octets ≡ octets = ap (λ (x : Counted). x.octets) i.steps.3 in
     let (before, behind, b, begins) = c.requires.begins in
     let s = i.so_far before behind b in
-    let b0 = subst (λ o. IsBetween sign sign.defaults o (before ++ s.so.done) s.so.left c.loop-next.cursor) (sym same0) s.so.between in
+    let b0 = subst (λ o. IsBetween sign o (before ++ s.so.done) s.so.left c.loop-next.cursor) (sym same0) s.so.between in
     let a = c.read_area-read.ensures.read (before ++ s.so.done) s.so.left b0 s.begins in
     let same1 : c.read_area-read.new.source.octets ≡ octets = ap (λ (x : Counted). x.octets) a.steps.3 ∙ same0 in
-    let r = round sign sign.defaults octets before behind c.args.layer c.loop-next.cursor c.loop-next.plane s c.read_area-read.result c.loop-next.source c.read_area-read.new.source a c.draw_area-cursor.result c.draw_area-cursor.new.plane
-    (λ earlier area rest x plain end table. subst (λ o. IsBetween sign sign.defaults o (earlier ++ area) rest c.draw_area-cursor.result) same1 (c.draw_area-cursor.ensures.passed earlier area rest (subst (λ o. IsBetween sign sign.defaults o earlier (area ++ rest) c.loop-next.cursor) (sym same1) x) plain end table))
-    (λ earlier area rest x plain end table. c.draw_area-cursor.ensures.drawn earlier area rest (subst (λ o. IsBetween sign sign.defaults o earlier (area ++ rest) c.loop-next.cursor) (sym same1) x) plain end table) in
+    let r = round sign octets before behind c.args.layer c.loop-next.cursor c.loop-next.plane s c.read_area-read.result c.loop-next.source c.read_area-read.new.source a c.draw_area-cursor.result c.draw_area-cursor.new.plane
+    (λ earlier area rest x plain end table. subst (λ o. IsBetween sign o (earlier ++ area) rest c.draw_area-cursor.result) same1 (c.draw_area-cursor.ensures.passed earlier area rest (subst (λ o. IsBetween sign o earlier (area ++ rest) c.loop-next.cursor) (sym same1) x) plain end table))
+    (λ earlier area rest x plain end table. c.draw_area-cursor.ensures.drawn earlier area rest (subst (λ o. IsBetween sign o earlier (area ++ rest) c.loop-next.cursor) (sym same1) x) plain end table) in
     let same2 : c.draw_area-cursor.new.source.octets ≡ octets = ap (λ (x : Counted). x.octets) c.draw_area-cursor.ensures.steps.3 ∙ same1 in
-    let b2 = subst (λ o. IsBetween sign sign.defaults o (before ++ r.so.done) r.so.left c.draw_area-cursor.result) (sym same2) r.so.between in
-    let (item, rest, is, taken) = c.in-Some.ensures.first sign sign.defaults (before ++ r.so.done) r.so.left b2 in
-    let b3 : IsBetween sign sign.defaults octets (before ++ r.so.done) (item ∷ rest) c.draw_area-cursor.result = subst (λ l. IsBetween sign sign.defaults octets (before ++ r.so.done) l c.draw_area-cursor.result) is r.so.between in
+    let b2 = subst (λ o. IsBetween sign o (before ++ r.so.done) r.so.left c.draw_area-cursor.result) (sym same2) r.so.between in
+    let (item, rest, is, taken) = c.in-Some.ensures.first sign (before ++ r.so.done) r.so.left b2 in
+    let b3 : IsBetween sign octets (before ++ r.so.done) (item ∷ rest) c.draw_area-cursor.result = subst (λ l. IsBetween sign octets (before ++ r.so.done) l c.draw_area-cursor.result) is r.so.between in
     let same3 : c.next_item.new.source.octets ≡ octets = ap (λ (x : Counted). x.octets) c.in-Some.ensures.steps.3 ∙ same2 in
-    let b4 = subst (λ o. IsBetween sign sign.defaults o (before ++ r.so.done) (item ∷ rest) c.draw_area-cursor.result) (sym same3) b3 in
+    let b4 = subst (λ o. IsBetween sign o (before ++ r.so.done) (item ∷ rest) c.draw_area-cursor.result) (sym same3) b3 in
     let all = string_more c.args.source.now c.loop-next.source c.read_area-read.new.source c.draw_area-cursor.new.source c.next_item.new.source c.pass-cursor.new.source c.args.cursor.at c.loop-next.cursor.at c.read_area-read.result.end c.in-Some.next.len item rest r.so.left i.on r.on is taken.len i.steps r.steps c.draw_area-cursor.ensures.steps c.in-Some.ensures.steps c.pass-cursor.ensures.steps in
     let far : c.read_area-read.result.end + c.in-Some.next.len - c.args.cursor.at ≡ c.pass-cursor.result.at - c.args.cursor.at = omega (arith, r.at, c.pass-cursor.ensures.at) in
     record {
       so_far = λ before behind b.
           let s = i.so_far before behind b in
-          let b0 = subst (λ o. IsBetween sign sign.defaults o (before ++ s.so.done) s.so.left c.loop-next.cursor) (sym same0) s.so.between in
+          let b0 = subst (λ o. IsBetween sign o (before ++ s.so.done) s.so.left c.loop-next.cursor) (sym same0) s.so.between in
           let a = c.read_area-read.ensures.read (before ++ s.so.done) s.so.left b0 s.begins in
           let same1 : c.read_area-read.new.source.octets ≡ octets = ap (λ (x : Counted). x.octets) a.steps.3 ∙ same0 in
-          let r = round sign sign.defaults octets before behind c.args.layer c.loop-next.cursor c.loop-next.plane s c.read_area-read.result c.loop-next.source c.read_area-read.new.source a c.draw_area-cursor.result c.draw_area-cursor.new.plane
-          (λ earlier area rest x plain end table. subst (λ o. IsBetween sign sign.defaults o (earlier ++ area) rest c.draw_area-cursor.result) same1 (c.draw_area-cursor.ensures.passed earlier area rest (subst (λ o. IsBetween sign sign.defaults o earlier (area ++ rest) c.loop-next.cursor) (sym same1) x) plain end table))
-          (λ earlier area rest x plain end table. c.draw_area-cursor.ensures.drawn earlier area rest (subst (λ o. IsBetween sign sign.defaults o earlier (area ++ rest) c.loop-next.cursor) (sym same1) x) plain end table) in
+          let r = round sign octets before behind c.args.layer c.loop-next.cursor c.loop-next.plane s c.read_area-read.result c.loop-next.source c.read_area-read.new.source a c.draw_area-cursor.result c.draw_area-cursor.new.plane
+          (λ earlier area rest x plain end table. subst (λ o. IsBetween sign o (earlier ++ area) rest c.draw_area-cursor.result) same1 (c.draw_area-cursor.ensures.passed earlier area rest (subst (λ o. IsBetween sign o earlier (area ++ rest) c.loop-next.cursor) (sym same1) x) plain end table))
+          (λ earlier area rest x plain end table. c.draw_area-cursor.ensures.drawn earlier area rest (subst (λ o. IsBetween sign o earlier (area ++ rest) c.loop-next.cursor) (sym same1) x) plain end table) in
           let same2 : c.draw_area-cursor.new.source.octets ≡ octets = ap (λ (x : Counted). x.octets) c.draw_area-cursor.ensures.steps.3 ∙ same1 in
-          let b2 = subst (λ o. IsBetween sign sign.defaults o (before ++ r.so.done) r.so.left c.draw_area-cursor.result) (sym same2) r.so.between in
-          let (item, rest, is, taken) = c.in-Some.ensures.first sign sign.defaults (before ++ r.so.done) r.so.left b2 in
-          let b3 : IsBetween sign sign.defaults octets (before ++ r.so.done) (item ∷ rest) c.draw_area-cursor.result = subst (λ l. IsBetween sign sign.defaults octets (before ++ r.so.done) l c.draw_area-cursor.result) is r.so.between in
+          let b2 = subst (λ o. IsBetween sign o (before ++ r.so.done) r.so.left c.draw_area-cursor.result) (sym same2) r.so.between in
+          let (item, rest, is, taken) = c.in-Some.ensures.first sign (before ++ r.so.done) r.so.left b2 in
+          let b3 : IsBetween sign octets (before ++ r.so.done) (item ∷ rest) c.draw_area-cursor.result = subst (λ l. IsBetween sign octets (before ++ r.so.done) l c.draw_area-cursor.result) is r.so.between in
           let same3 : c.next_item.new.source.octets ≡ octets = ap (λ (x : Counted). x.octets) c.in-Some.ensures.steps.3 ∙ same2 in
-          let b4 = subst (λ o. IsBetween sign sign.defaults o (before ++ r.so.done) (item ∷ rest) c.draw_area-cursor.result) (sym same3) b3 in
-          let b5 = subst (λ o. IsBetween sign sign.defaults o ((before ++ r.so.done) ++ item ∷ []) rest c.pass-cursor.result) same3 (c.pass-cursor.ensures.passed (before ++ r.so.done) rest item b4 taken) in
+          let b4 = subst (λ o. IsBetween sign o (before ++ r.so.done) (item ∷ rest) c.draw_area-cursor.result) (sym same3) b3 in
+          let b5 = subst (λ o. IsBetween sign o ((before ++ r.so.done) ++ item ∷ []) rest c.pass-cursor.result) same3 (c.pass-cursor.ensures.passed (before ++ r.so.done) rest item b4 taken) in
           let turns : is_new_page (meaning item) ≡ false = ap is_new_page taken.meant ∙ sym c.ends_page.ensures ∙ c.if-ends_page.false in
           let starts = first_begins item rest (subst (λ l. EndsArea (map meaning l)) is r.ends) in
-          page_goes_on sign sign.defaults octets before behind c.args.layer c.draw_area-cursor.result c.draw_area-cursor.new.plane r.so item rest is c.pass-cursor.result b5 starts turns
-          (area_no_page sign.defaults (standing sign sign.defaults (map meaning (before ++ r.so.done))) (meaning item) starts turns);
+          page_goes_on sign octets before behind c.args.layer c.draw_area-cursor.result c.draw_area-cursor.new.plane r.so item rest is c.pass-cursor.result b5 starts turns
+          (area_no_page sign.defaults (standing sign (map meaning (before ++ r.so.done))) (meaning item) starts turns);
       on = omega (arith, i.on, r.on, r.at, c.pass-cursor.ensures.at);
       steps = subst (λ n. RisesBetween c.args.source.now c.pass-cursor.new.source 0 (4 * n)) far all;
       filled = filled_longer sign c.fill.new.self c.draw_area-cursor.new.plane _ (c.pass-cursor.result.at - c.args.cursor.at) (omega (arith, i.on, r.on, r.at, c.pass-cursor.ensures.at))

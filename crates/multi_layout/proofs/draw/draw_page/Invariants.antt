@@ -9,8 +9,8 @@ use Rattle.multi_layout.proofs.draw.draw_page.Given as goal
 -- the page's areas so far are drawn
 abbrev pub invariant-loop-next : goal.invariant-loop-next
 invariant-loop-next l = record {
-  so_far : (before behind : List Item) → IsBetween l.sign l.sign.defaults l.initial.source.octets before behind l.initial.cursor
-      → PageSoFar l.sign l.sign.defaults l.initial.source.octets before behind l.layer l.cursor l.plane;
+  so_far : (before behind : List Item) → IsBetween l.sign l.initial.source.octets before behind l.initial.cursor
+      → PageSoFar l.sign l.initial.source.octets before behind l.layer l.cursor l.plane;
   on : l.initial.cursor.at ≤ l.cursor.at;
   steps : RisesBetween l.initial.source l.source 0 (4 * (l.cursor.at - l.initial.cursor.at));
   filled : IsFilledBy l.sign l.initial.plane l.plane (l.cursor.at - l.initial.cursor.at);

@@ -8,7 +8,7 @@ invariant_of-result c =
     let accepted = c.in-Ok.ensures.accepted in
     let kept = sym c.judge.ensures.kept in
     let times : c.in-Ok.state.cycle + c.in-Ok.state.attributes.on + c.in-Ok.state.attributes.off ≡ c.in-Ok.state.cycle + c.from.result + c.from-in-Ok.result = omega (arith, c.from.ensures, c.from-in-Ok.ensures) in (
-      subst (λ (o : List ℕ). IsVerdict sign sign.defaults o (Accepted c.in-Ok.state.pages)) kept accepted.0,
-      subst (λ (n : ℕ). IsCycle sign sign.defaults c.judge.new.source.octets n) times (subst (λ (o : List ℕ). IsCycle sign sign.defaults o (c.in-Ok.state.cycle + c.in-Ok.state.attributes.on + c.in-Ok.state.attributes.off)) kept accepted.1),
+      subst (λ (o : List ℕ). IsVerdict sign o (Accepted c.in-Ok.state.pages)) kept accepted.0,
+      subst (λ (n : ℕ). IsCycle sign c.judge.new.source.octets n) times (subst (λ (o : List ℕ). IsCycle sign o (c.in-Ok.state.cycle + c.in-Ok.state.attributes.on + c.in-Ok.state.attributes.off)) kept accepted.1),
       subst (λ (o : List ℕ). length o < 2 ^ 32) kept c.requires.short,
     )

@@ -10,7 +10,7 @@ use Rattle.multi_layout.proofs.judge.judge.Goals as goal
 
 pub loop-token-init : goal.loop-token-init
 loop-token-init c = record {
-  so_far = nothing_read c.args.sign.now c.args.sign.now.defaults c.args.source.now.octets c.new-state.result c.new-state.ensures.start;
+  so_far = nothing_read c.args.sign.now c.args.source.now.octets c.new-state.result c.new-state.ensures.start;
   octets = refl;
   least = omega arith;
   most = omega (arith, c.requires.fresh);
@@ -20,8 +20,8 @@ pub returns-in-Ok-None-clause-accepted : goal.returns-in-Ok-None-clause-accepted
 returns-in-Ok-None-clause-accepted c =
     let i = c.loop-token.invariant in
     let end = sym ((rw c.in-Ok-None.field-0-is at c.in-Ok-None.ensures.end) ∙ ap length i.octets) in (
-      accepted_at_end c.args.sign.now c.args.sign.now.defaults c.args.source.now.octets c.loop-token.at c.loop-token.state i.so_far end,
-      cycle_at_end c.args.sign.now c.args.sign.now.defaults c.args.source.now.octets c.loop-token.at c.loop-token.state i.so_far end,
+      accepted_at_end c.args.sign.now c.args.source.now.octets c.loop-token.at c.loop-token.state i.so_far end,
+      cycle_at_end c.args.sign.now c.args.source.now.octets c.loop-token.at c.loop-token.state i.so_far end,
       i.so_far.state_is.short,
     )
 
@@ -30,7 +30,7 @@ returns-in-Err-clause-refused c =
     let i = c.loop-token.invariant in
     let before = rw i.octets at c.in-Err.ensures.fault.1 in
     let none = rw i.octets at c.in-Err.ensures.none_stands in
-    refused_at_bracket c.args.sign.now c.args.sign.now.defaults c.args.source.now.octets c.loop-token.at c.loop-token.state i.so_far before none
+    refused_at_bracket c.args.sign.now c.args.source.now.octets c.loop-token.at c.loop-token.state i.so_far before none
 
 pub returns-in-Err-judge_token-clause-refused : goal.returns-in-Err-judge_token-clause-refused
 returns-in-Err-judge_token-clause-refused c =
@@ -43,8 +43,8 @@ returns-in-Err-judge_token-clause-refused c =
     let token : IsTokenOf xs t = rw i.octets at found.1 in
     let same : c.next_token.new.source.octets ≡ xs = ap (λ (s : Counted). s.octets) stepped ∙ i.octets in
     let offends = c.in-Err-judge_token.ensures.judged (map meaning i.so_far.items) i.so_far.state_is in
-    refused_here sign sign.defaults xs c.loop-token.at c.loop-token.state i.so_far t found.0 token (code_of c.in-Err-judge_token.error)
-    (ap (λ o. offence sign sign.defaults (map meaning i.so_far.items) (meaning (item_of o t))) (sym same) ∙ offends)
+    refused_here sign xs c.loop-token.at c.loop-token.state i.so_far t found.0 token (code_of c.in-Err-judge_token.error)
+    (ap (λ o. offence sign (map meaning i.so_far.items) (meaning (item_of o t))) (sym same) ∙ offends)
 
 pub loop-token-preserved : goal.loop-token-preserved
 loop-token-preserved c =
@@ -64,9 +64,9 @@ loop-token-preserved c =
     let within = token.within in
     let few = k.2 in
     record {
-      so_far = read_more sign sign.defaults xs c.loop-token.at c.loop-token.state i.so_far t found.0 token c.in-Ok.next
-          (subst (λ (m : Meaning). offence sign sign.defaults (map meaning i.so_far.items) m ≡ None) item judged.0)
-          (subst (λ (m : Meaning). IsStateOf sign sign.defaults (map meaning i.so_far.items ++ m ∷ []) c.in-Ok.next) item judged.1);
+      so_far = read_more sign xs c.loop-token.at c.loop-token.state i.so_far t found.0 token c.in-Ok.next
+          (subst (λ (m : Meaning). offence sign (map meaning i.so_far.items) m ≡ None) item judged.0)
+          (subst (λ (m : Meaning). IsStateOf sign (map meaning i.so_far.items ++ m ∷ []) c.in-Ok.next) item judged.1);
       octets = ap (λ (s : Counted). s.octets) k.3 ∙ same;
       least = omega arith;
       most = omega arith;

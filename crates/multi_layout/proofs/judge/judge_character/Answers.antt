@@ -6,4 +6,4 @@ use Rattle.multi_layout.proofs.judge.judge_character.Goals as goal
 pub returns-in-None-clause-judged : goal.returns-in-None-clause-judged
 returns-in-None-clause-judged c = λ items st.
     let none : cell_in c.args.sign.now c.args.state.attributes.font.number c.args.number ≡ None = ap (cell_in c.args.sign.now c.args.state.attributes.font.number) (sym c.from.ensures) ∙ sym c.cell.ensures.cell ∙ c.in-None.is in
-    judged-undefined c.args.sign.now c.args.sign.now.defaults items c.args.state st c.args.number none
+    judged-undefined c.args.sign.now items c.args.state st c.args.number none

@@ -8,7 +8,7 @@ returns-in_default-clause-judged c = λ items st.
 
 pub returns-in_default-font-clause-judged : goal.returns-in_default-font-clause-judged
 returns-in_default-font-clause-judged c = λ items st.
-    rw c.in-Some.is (judged-no_font c.args.sign.now c.args.sign.now.defaults items c.in-Some.pick (sym c.font.ensures.font ∙ c.in_default-font.is))
+    rw c.in-Some.is (judged-no_font c.args.sign.now items c.in-Some.pick (sym c.font.ensures.font ∙ c.in_default-font.is))
 
 pub returns-then-agrees-clause-judged : goal.returns-then-agrees-clause-judged
 returns-then-agrees-clause-judged c = λ items st.
@@ -16,4 +16,4 @@ returns-then-agrees-clause-judged c = λ items st.
 
 pub returns-else-agrees-clause-judged : goal.returns-else-agrees-clause-judged
 returns-else-agrees-clause-judged c = λ items st.
-    rw c.in-Some.is (judged-version c.args.sign.now c.args.sign.now.defaults items c.in-Some.pick c.in-Some-font.font (sym c.font.ensures.font ∙ c.in-Some-font.is) (sym c.agrees.ensures ∙ c.if-agrees.false))
+    rw c.in-Some.is (judged-version c.args.sign.now items c.in-Some.pick c.in-Some-font.font (sym c.font.ensures.font ∙ c.in-Some-font.is) (sym c.agrees.ensures ∙ c.if-agrees.false))

@@ -1,6 +1,5 @@
-use Rattle.std.proofs.Common.{◌≡◌, sym, subst, arith}
+use Rattle.std.proofs.Common.{◌≡◌, sym, arith}
 use Rattle.multi_token.proofs.StepLemmas.{charged-zero}
-use Rattle.sign_font.specs.declared.parts.Defaults.{Defaults}
 use Rattle.multi_layout.specs.Address.{standing}
 use Rattle.multi_layout.specs.Meaning.{Does}
 use Rattle.multi_layout.specs.State.{attributes_of, standing_behind}
@@ -13,8 +12,8 @@ returns-in_default c =
     let simple = simple_of c.args.tag c.in_default.not-NewPage c.in_default.not-NewLine c.in_default.not-Font c.in_default.not-Rect in
     record {
       judged = λ items st.
-          let at = standing sign sign.defaults items in
-          let after = subst (λ (d : Defaults). c.behind.result ≡ attributes_of (standing_behind sign d at (Does c.args.tag))) c.defaults.ensures.defaults (c.behind.ensures sign at st.attributes simple) in
+          let at = standing sign items in
+          let after = c.behind.ensures sign at (sym c.defaults.ensures.defaults) st.attributes simple in
           judged-simple sign items c.args.state st c.defaults.ensures.sound c.behind.result c.args.tag simple c.requires.known after;
       steps = (0, omega arith, omega arith, sym (charged-zero c.args.source.now));
     }

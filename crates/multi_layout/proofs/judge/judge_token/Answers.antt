@@ -12,11 +12,11 @@ use Rattle.multi_layout.proofs.judge.judge_token.Goals as goal
 
 pub returns-in-Ok-clause-judged : goal.returns-in-Ok-clause-judged
 returns-in-Ok-clause-judged c =
-    subst (λ (m : Meaning). Judges c.args.sign.now c.args.sign.now.defaults c.args.state m c.judge_item.result) (sym c.in-Ok.ensures.read) c.judge_item.ensures.judged
+    subst (λ (m : Meaning). Judges c.args.sign.now c.args.state m c.judge_item.result) (sym c.in-Ok.ensures.read) c.judge_item.ensures.judged
 
 pub returns-in-Err-clause-judged : goal.returns-in-Err-clause-judged
 returns-in-Err-clause-judged c = λ items st.
-    ap (offence c.args.sign.now c.args.sign.now.defaults items) c.in-Err.ensures.fault ∙ offence-faulty c.args.sign.now c.args.sign.now.defaults items (code_of c.in-Err.error)
+    ap (offence c.args.sign.now items) c.in-Err.ensures.fault ∙ offence-faulty c.args.sign.now items (code_of c.in-Err.error)
 
 pub returns-in-Ok-clause-steps : goal.returns-in-Ok-clause-steps
 returns-in-Ok-clause-steps c =

@@ -11,9 +11,9 @@ unreachable-requires c =
     let octets = c.args.source.now.octets in
     let w = c.loop-cursor.invariant.way in
     let same : c.loop-cursor.source.octets ≡ octets = ap (λ (s : Counted). s.octets) c.loop-cursor.invariant.steps.3 in
-    let none = c.in_default.ensures.first sign sign.defaults w.before w.behind (rw same w.between) in
-    let all = subst (λ (l : List Item). IsBetween sign sign.defaults octets w.before l c.loop-cursor.cursor) none w.between in
-    not_the_end sign sign.defaults octets c.args.page w.before c.loop-cursor.cursor all c.loop-cursor-test.true c.requires.page
+    let none = c.in_default.ensures.first sign w.before w.behind (rw same w.between) in
+    let all = subst (λ (l : List Item). IsBetween sign octets w.before l c.loop-cursor.cursor) none w.between in
+    not_the_end sign octets c.args.page w.before c.loop-cursor.cursor all c.loop-cursor-test.true c.requires.page
 
 pub loop-cursor-smaller : goal.loop-cursor-smaller
 loop-cursor-smaller c =
@@ -22,7 +22,7 @@ loop-cursor-smaller c =
     let i = c.loop-cursor.invariant in
     let old = c.loop-cursor.cursor in
     let same : c.loop-cursor.source.octets ≡ start.octets = ap (λ (s : Counted). s.octets) i.steps.3 in
-    let first = c.in-Some.ensures.first sign sign.defaults i.way.before i.way.behind (rw same i.way.between) in
+    let first = c.in-Some.ensures.first sign i.way.before i.way.behind (rw same i.way.between) in
     let some = some_read sign c.args.page start c.loop-cursor.source c.next_item.new.source c.pass-cursor.new.source old c.pass-cursor.result c.in-Some.next i.steps c.in-Some.ensures.steps c.pass-cursor.ensures.at i.way first in
     let within = within_further sign c.args.page start c.loop-cursor.source c.next_item.new.source c.pass-cursor.new.source old c.pass-cursor.result c.in-Some.next i.steps c.in-Some.ensures.steps c.pass-cursor.ensures.at i.way first in
     omega (arith, c.pass-cursor.ensures.at, some, within)
@@ -34,7 +34,7 @@ loop-cursor-preserved c =
     let i = c.loop-cursor.invariant in
     let old = c.loop-cursor.cursor in
     let same : c.loop-cursor.source.octets ≡ start.octets = ap (λ (s : Counted). s.octets) i.steps.3 in
-    let first = c.in-Some.ensures.first sign sign.defaults i.way.before i.way.behind (rw same i.way.between) in
+    let first = c.in-Some.ensures.first sign i.way.before i.way.behind (rw same i.way.between) in
     let some = some_read sign c.args.page start c.loop-cursor.source c.next_item.new.source c.pass-cursor.new.source old c.pass-cursor.result c.in-Some.next i.steps c.in-Some.ensures.steps c.pass-cursor.ensures.at i.way first in
     record {
       way = way_further sign c.args.page start c.loop-cursor.source c.next_item.new.source c.pass-cursor.new.source old c.pass-cursor.result c.in-Some.next i.steps c.in-Some.ensures.steps c.pass-cursor.ensures.at i.way first

@@ -6,7 +6,7 @@ use Rattle.multi_layout.proofs.pages.page_start.Given as goal
 -- the page hasn't begun before the cursor, and each octet before it took at most two steps
 abbrev pub invariant-loop-cursor : goal.invariant-loop-cursor
 invariant-loop-cursor l = record {
-  way : IsOnTheWay l.sign l.sign.defaults l.initial.source.octets l.page l.cursor;
+  way : IsOnTheWay l.sign l.initial.source.octets l.page l.cursor;
   steps : RisesBetween l.initial.source l.source 0 (2 * l.cursor.at);
 }
 

@@ -11,7 +11,7 @@ pub loop-next-init : goal.loop-next-init
 loop-next-init c =
     let sign = c.args.sign.now in
     record {
-      so_far = λ before behind b begins. nothing_read sign sign.defaults c.args.source.now.octets before behind c.args.cursor c.new-lines.result b begins c.new-lines.ensures;
+      so_far = λ before behind b begins. nothing_read sign c.args.source.now.octets before behind c.args.cursor c.new-lines.result b begins c.new-lines.ensures;
       forward = omega arith;
       steps = (0, omega arith, omega arith, sym (charged-zero c.args.source.now));
     }
@@ -24,7 +24,7 @@ next_plain-requires c =
     let (before, behind, b, begins) = c.requires.begins in
     let so = i.so_far before behind b begins in
     let same : c.loop-next.source.octets ≡ octets = ap (λ (s : Counted). s.octets) i.steps.3 in
-    (sign, sign.defaults, (before ++ so.items, so.left, so_between so same))
+    (sign, (before ++ so.items, so.left, so_between so same))
 
 pub pass-cursor-requires : goal.pass-cursor-requires
 pass-cursor-requires c =
@@ -35,7 +35,7 @@ pass-cursor-requires c =
     let so = i.so_far before behind b begins in
     let same : c.loop-next.source.octets ≡ octets = ap (λ (s : Counted). s.octets) i.steps.3 in
     let same_2 : c.next_plain.new.source.octets ≡ octets = ap (λ (s : Counted). s.octets) c.in-Some.ensures.steps.3 ∙ same in
-    let (item, rest, first, read) = c.in-Some.ensures.first sign sign.defaults (before ++ so.items) so.left (so_between so same) in
+    let (item, rest, first, read) = c.in-Some.ensures.first sign (before ++ so.items) so.left (so_between so same) in
     (before ++ so.items, rest, item, so_first so same_2 item rest first, read)
 
 pub end_line-requires-clause-known : goal.end_line-requires-clause-known
@@ -52,7 +52,7 @@ end_line-requires-clause-room c =
     let so = i.so_far before behind b begins in
     let same : c.loop-next.source.octets ≡ octets = ap (λ (s : Counted). s.octets) i.steps.3 in
     let same_2 : c.next_plain.new.source.octets ≡ octets = ap (λ (s : Counted). s.octets) c.in-Some.ensures.steps.3 ∙ same in
-    let p = pass_on so c.in-Some.next c.pass-cursor.result same same_2 (c.in-Some.ensures.first sign sign.defaults) c.pass-cursor.ensures.passed in
+    let p = pass_on so c.in-Some.next c.pass-cursor.result same same_2 (c.in-Some.ensures.first sign) c.pass-cursor.ensures.passed in
     room_on so p (present_room c.requires.sound p.between)
 
 pub end_line-requires-clause-below : goal.end_line-requires-clause-below
@@ -64,7 +64,7 @@ end_line-requires-clause-below c =
     let so = i.so_far before behind b begins in
     let same : c.loop-next.source.octets ≡ octets = ap (λ (s : Counted). s.octets) i.steps.3 in
     let same_2 : c.next_plain.new.source.octets ≡ octets = ap (λ (s : Counted). s.octets) c.in-Some.ensures.steps.3 ∙ same in
-    let p = pass_on so c.in-Some.next c.pass-cursor.result same same_2 (c.in-Some.ensures.first sign sign.defaults) c.pass-cursor.ensures.passed in
+    let p = pass_on so c.in-Some.next c.pass-cursor.result same same_2 (c.in-Some.ensures.first sign) c.pass-cursor.ensures.passed in
     below_more (2 ^ 42) (2 ^ 43) c.pass-cursor.result.state.area (omega arith) (present_low p.between)
 
 pub loop-next-smaller : goal.loop-next-smaller
@@ -76,7 +76,7 @@ loop-next-smaller c =
     let so = i.so_far before behind b begins in
     let same : c.loop-next.source.octets ≡ octets = ap (λ (s : Counted). s.octets) i.steps.3 in
     let same_2 : c.next_plain.new.source.octets ≡ octets = ap (λ (s : Counted). s.octets) c.in-Some.ensures.steps.3 ∙ same in
-    let p = pass_on so c.in-Some.next c.pass-cursor.result same same_2 (c.in-Some.ensures.first sign sign.defaults) c.pass-cursor.ensures.passed in
+    let p = pass_on so c.in-Some.next c.pass-cursor.result same same_2 (c.in-Some.ensures.first sign) c.pass-cursor.ensures.passed in
     let on = so_advances so p c.pass-cursor.ensures.at in
     omega (arith, on)
 
@@ -88,7 +88,7 @@ loop-next-preserved c =
     let i = c.loop-next.invariant in
     let same : c.loop-next.source.octets ≡ octets = ap (λ (s : Counted). s.octets) i.steps.3 in
     let same_2 : c.next_plain.new.source.octets ≡ octets = ap (λ (s : Counted). s.octets) c.in-Some.ensures.steps.3 ∙ same in
-    let found = c.in-Some.ensures.first sign sign.defaults in
+    let found = c.in-Some.ensures.first sign in
     let (before, behind, b, begins) = c.requires.begins in
     let so = i.so_far before behind b begins in
     let p = pass_on so c.in-Some.next c.pass-cursor.result same same_2 found c.pass-cursor.ensures.passed in
@@ -99,7 +99,7 @@ loop-next-preserved c =
           let p = pass_on so c.in-Some.next c.pass-cursor.result same same_2 found c.pass-cursor.ensures.passed in
           let st = state_behind so p in
           read_on so p c.end_line.new.lines c.in-Some.ensures.plain
-          (c.end_line.ensures.ended sign sign.defaults (map meaning (before ++ so.items)) so.between.state_is st c.in-Some.ensures.plain so.ended) (c.end_line.ensures.low so.low);
+          (c.end_line.ensures.ended sign (map meaning (before ++ so.items)) so.between.state_is st c.in-Some.ensures.plain so.ended) (c.end_line.ensures.low so.low);
       forward = omega (arith, i.forward, on);
       steps = steps_on cursor.at c.args.source.now c.loop-next.source c.next_plain.new.source c.pass-cursor.new.source c.args.cursor.at c.pass-cursor.result.at c.in-Some.next.len
           i.forward c.pass-cursor.ensures.at on.0 i.steps c.in-Some.ensures.steps c.pass-cursor.ensures.steps;
@@ -119,7 +119,7 @@ end_area-requires-clause-room c =
     let so = c.loop-next.invariant.so_far before behind b begins in
     let ms = map meaning (before ++ so.items) in
     let room = present_room c.requires.sound so.between in
-    (present_area sign sign.defaults ms, present_placing sign sign.defaults ms, so.between.state_is.area, so.ended, room)
+    (present_area sign ms, present_placing sign ms, so.between.state_is.area, so.ended, room)
 
 pub returns : goal.returns
 returns c =
@@ -132,7 +132,7 @@ returns c =
       read = λ before behind b begins.
           let so = i.so_far before behind b begins in
           let ms = map meaning (before ++ so.items) in
-          let ends = c.in_default.ensures.ends sign sign.defaults (before ++ so.items) so.left (so_between so same) in
-          let counted = area_ended.counted (present_area sign sign.defaults ms) (present_placing sign sign.defaults ms) so.between.state_is.area so.ended in
+          let ends = c.in_default.ensures.ends sign (before ++ so.items) so.left (so_between so same) in
+          let counted = area_ended.counted (present_area sign ms) (present_placing sign ms) so.between.state_is.area so.ended in
           area_read so c.args.cursor _ c.args.source.now c.loop-next.source c.next_plain.new.source b.place ends.0 counted (area_ended.low so.low) refl i.steps ends.1;
     }

@@ -10,7 +10,7 @@ pub returns-in-Some-shown_in-clause-shown : goal.returns-in-Some-shown_in-clause
 returns-in-Some-shown_in-clause-shown c =
     let i = c.loop-next.invariant in
     let s = i.searched in
-    let first = (rw i.octets at c.in-Some.ensures.first) c.args.sign.now c.args.sign.now.defaults s.before s.behind s.between in
+    let first = (rw i.octets at c.in-Some.ensures.first) c.args.sign.now s.before s.behind s.between in
     let e = c.shown_in.ensures in
     shown_at_page s e.on e.off e.ended c.in-Some.next first (sym c.ends_page.ensures ∙ c.if-ends_page.true) c.in-Some-shown_in.is
 
@@ -19,7 +19,7 @@ returns-in-Some-shown_in-clause-steps c =
     let i = c.loop-next.invariant in
     let s = i.searched in
     let len = c.in-Some.next.len in
-    let first = (rw i.octets at c.in-Some.ensures.first) c.args.sign.now c.args.sign.now.defaults s.before s.behind s.between in
+    let first = (rw i.octets at c.in-Some.ensures.first) c.args.sign.now s.before s.behind s.between in
     let fits = next_fits s c.in-Some.next first in
     let k = rises_then c.args.source.now c.loop-next.source c.next_item.new.source 0 (2 * c.loop-next.cursor.at) 0 (2 * len - 1) i.steps c.in-Some.ensures.steps in
     (k.0, k.1, omega (arith, k.2, fits), k.3)
@@ -28,7 +28,7 @@ pub loop-next-smaller : goal.loop-next-smaller
 loop-next-smaller c =
     let i = c.loop-next.invariant in
     let s = i.searched in
-    let first = (rw i.octets at c.in-Some.ensures.first) c.args.sign.now c.args.sign.now.defaults s.before s.behind s.between in
+    let first = (rw i.octets at c.in-Some.ensures.first) c.args.sign.now s.before s.behind s.between in
     let fits = next_fits s c.in-Some.next first in
     omega (arith, fits, c.pass-cursor.ensures.at)
 
@@ -39,7 +39,7 @@ loop-next-preserved c =
     let next = c.in-Some.next in
     let cursor = c.loop-next.cursor in
     let pass = c.pass-cursor.ensures in
-    let first = (rw i.octets at c.in-Some.ensures.first) c.args.sign.now c.args.sign.now.defaults s.before s.behind s.between in
+    let first = (rw i.octets at c.in-Some.ensures.first) c.args.sign.now s.before s.behind s.between in
     let fits = next_fits s next first in
     let same : c.next_item.new.source.octets ≡ c.args.source.now.octets = ap (λ (s : Counted). s.octets) c.in-Some.ensures.steps.3 ∙ i.octets in
     let k = rises_then c.args.source.now c.loop-next.source c.next_item.new.source 0 (2 * cursor.at) 0 (2 * next.len - 1) i.steps c.in-Some.ensures.steps in
@@ -57,7 +57,7 @@ pub unreachable-requires : goal.unreachable-requires
 unreachable-requires c =
     let i = c.loop-next.invariant in
     let s = i.searched in
-    let end = (rw i.octets at c.in_default.ensures.first) c.args.sign.now c.args.sign.now.defaults s.before s.behind s.between in
+    let end = (rw i.octets at c.in_default.ensures.first) c.args.sign.now s.before s.behind s.between in
     let e = c.shown_in-2.ensures in
     never_over s e.on e.off e.ended end c.requires.within c.in-None.is
 
@@ -65,7 +65,7 @@ pub returns-clause-shown : goal.returns-clause-shown
 returns-clause-shown c =
     let i = c.loop-next.invariant in
     let s = i.searched in
-    let end = (rw i.octets at c.in_default.ensures.first) c.args.sign.now c.args.sign.now.defaults s.before s.behind s.between in
+    let end = (rw i.octets at c.in_default.ensures.first) c.args.sign.now s.before s.behind s.between in
     let e = c.shown_in-2.ensures in
     shown_at_end s e.on e.off e.ended end c.in-Some-shown_in-2.is
 

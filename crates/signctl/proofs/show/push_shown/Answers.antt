@@ -8,7 +8,7 @@ pub returns-in-Ok-clause-ok : goal.returns-in-Ok-clause-ok
 returns-in-Ok-clause-ok c =
     let (pages, accepted) = c.in-Ok.ensures.accepted in
     let octets = ap (λ (s : Counted). s.octets) c.new.ensures in
-    let frame = FrameLemmas.same_frame _ c.args.sign.now _ c.args.line.now c.args.colour c.args.clock c.in-Ok.ensures.kept.0 (c.in-Ok.ensures.kept.2 ∙ octets) in
+    let frame = FrameLemmas.same_frame _ c.args.sign.now _ c.args.line.now c.args.colour c.args.clock c.in-Ok.ensures.kept.0 (c.in-Ok.ensures.kept.1 ∙ octets) in
     let answer = FrameLemmas.answer_of_verdict c.args.sign.now c.args.line.now _ c.args.colour c.args.clock (Accepted pages) (omega arith) octets accepted in
     subst (λ l. OnOk c.push_frame.result (c.push_frame.new.text.items ≡ c.args.text.now.items ++ l)) (frame ∙ answer) c.push_frame.ensures.ok
 

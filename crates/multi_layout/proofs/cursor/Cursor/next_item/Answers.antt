@@ -11,35 +11,35 @@ use Rattle.multi_layout.proofs.WalkLemmas.{none_at_end, never_broken, never_faul
 use Rattle.multi_layout.proofs.cursor.Cursor.next_item.Goals as goal
 
 pub returns-in-Ok-None-clause-first : goal.returns-in-Ok-None-clause-first
-returns-in-Ok-None-clause-first c = λ sign defaults before behind b.
-    none_at_end sign defaults c.args.source.now.octets before behind c.args.self.now b (rw c.in-Ok-None.field-0-is at c.in-Ok-None.ensures.end)
+returns-in-Ok-None-clause-first c = λ sign before behind b.
+    none_at_end sign c.args.source.now.octets before behind c.args.self.now b (rw c.in-Ok-None.field-0-is at c.in-Ok-None.ensures.end)
 
 pub unreachable-requires : goal.unreachable-requires
 unreachable-requires c =
-    let (sign, defaults, (before, behind, b)) = c.requires in
-    never_broken sign defaults c.args.source.now.octets before behind c.args.self.now b c.in-Err.ensures.fault.1 c.in-Err.ensures.none_stands
+    let (sign, (before, behind, b)) = c.requires in
+    never_broken sign c.args.source.now.octets before behind c.args.self.now b c.in-Err.ensures.fault.1 c.in-Err.ensures.none_stands
 
 pub unreachable-requires-in-Err-read_item : goal.unreachable-requires-in-Err-read_item
 unreachable-requires-in-Err-read_item c =
-    let (sign, defaults, (before, behind, b)) = c.requires in
+    let (sign, (before, behind, b)) = c.requires in
     let octets = c.args.source.now.octets in
     let t = c.in-Ok-Some.token in
     let found = rw c.in-Ok-Some.field-0-is at c.in-Ok-Some.ensures.token in
     let stepped = rw c.in-Ok-Some.field-0-is at c.in-Ok-Some.ensures.token_steps in
     let same : c.next_token.new.source.octets ≡ octets = ap (λ (s : Counted). s.octets) stepped in
-    let (rest, is) = first_is sign defaults octets before behind c.args.self.now b t found.0 found.1 in
-    never_faulty sign defaults octets before rest (item_of octets t) c.args.self.now
-    (subst (λ (l : List Item). IsBetween sign defaults octets before l c.args.self.now) is b) (code_of c.in-Err-read_item.field-0)
+    let (rest, is) = first_is sign octets before behind c.args.self.now b t found.0 found.1 in
+    never_faulty sign octets before rest (item_of octets t) c.args.self.now
+    (subst (λ (l : List Item). IsBetween sign octets before l c.args.self.now) is b) (code_of c.in-Err-read_item.field-0)
     (ap (λ o. meaning (item_of o t)) (sym same) ∙ c.in-Err-read_item.ensures.fault)
 
 pub returns-clause-first : goal.returns-clause-first
-returns-clause-first c = λ sign defaults before behind b.
+returns-clause-first c = λ sign before behind b.
     let octets = c.args.source.now.octets in
     let t = c.in-Ok-Some.token in
     let found = rw c.in-Ok-Some.field-0-is at c.in-Ok-Some.ensures.token in
     let stepped = rw c.in-Ok-Some.field-0-is at c.in-Ok-Some.ensures.token_steps in
     let same : c.next_token.new.source.octets ≡ octets = ap (λ (s : Counted). s.octets) stepped in
-    let (rest, is) = first_is sign defaults octets before behind c.args.self.now b t found.0 found.1 in (
+    let (rest, is) = first_is sign octets before behind c.args.self.now b t found.0 found.1 in (
       item_of octets t,
       rest,
       is,

@@ -9,7 +9,7 @@ returns-then-page-pages c =
     let i = c.self.inside in
     let s = i.string in
     let u = c.self.invariant in
-    let count = (accepted_is s.sign s.defaults s.source.octets c.pages.result c.pages.ensures u.short).1 in
+    let count = (accepted_is s.sign s.source.octets c.pages.result c.pages.ensures u.short).1 in
     let last : i.next ≡ page_count s = omega (arith, count, u.next_most, c.if-page-pages.true) in
     ((refl, (λ _. tt), c.self.view_is), record { after = tt; page = rw (← c.self.view_is) last; size = tt })
 
@@ -18,7 +18,7 @@ draw_from-self-inside-requires-clause-begins c =
     let i = c.self.inside in
     let s = i.string in
     let u = c.self.invariant in
-    let count = (accepted_is s.sign s.defaults s.source.octets c.pages.result c.pages.ensures u.short).1 in
+    let count = (accepted_is s.sign s.source.octets c.pages.result c.pages.ensures u.short).1 in
     (u.begins (omega (arith, count, c.if-page-pages.false))).0
 
 pub invariant_of-self-2 : goal.invariant_of-self-2
@@ -27,9 +27,9 @@ invariant_of-self-2 c =
     let s = i.string in
     let u = c.self.invariant in
     let e = c.draw_from-self-inside.ensures in
-    let count = (accepted_is s.sign s.defaults s.source.octets c.pages.result c.pages.ensures u.short).1 in
+    let count = (accepted_is s.sign s.source.octets c.pages.result c.pages.ensures u.short).1 in
     let more : i.next < page_count s = omega (arith, count, c.if-page-pages.false) in
-    under_way_further _ i.cursor c.draw_from-self-inside.result u more e.turned c.draw_from-self-inside.new.self c.draw_from-self-inside.new.plane e.kept.0 e.kept.1 e.size e.steps e.fills
+    under_way_further _ i.cursor c.draw_from-self-inside.result u more e.turned c.draw_from-self-inside.new.self c.draw_from-self-inside.new.plane e.kept e.size e.steps e.fills
 
 pub returns : goal.returns
 returns c =
@@ -37,9 +37,9 @@ returns c =
     let s = i.string in
     let u = c.self.invariant in
     let e = c.draw_from-self-inside.ensures in
-    let count = (accepted_is s.sign s.defaults s.source.octets c.pages.result c.pages.ensures u.short).1 in
+    let count = (accepted_is s.sign s.source.octets c.pages.result c.pages.ensures u.short).1 in
     let more : i.next < page_count s = omega (arith, count, c.if-page-pages.false) in
-    let turns = turns_page _ i.cursor c.draw_from-self-inside.result u more e.turned c.draw_from-self-inside.new.self c.draw_from-self-inside.new.plane e.kept.0 e.kept.1 e.size e.steps e.fills in
+    let turns = turns_page _ i.cursor c.draw_from-self-inside.result u more e.turned c.draw_from-self-inside.new.self c.draw_from-self-inside.new.plane e.kept e.size e.steps e.fills in
     let page : i.cursor.state.pages - 1 ≡ i.next = omega (arith, (u.begins more).1) in
     let shows = rw page at e.drawn in
     let sized : IsSized c.draw_from-self-inside.new.plane s.sign = (e.size.0 ∙ u.size.0, e.size.1 ∙ u.size.1) in

@@ -9,4 +9,4 @@ returns-clause-shown c =
     let pages = c.args.pages in
     let turned = rw c.in-Some.is at c.next_page.follows.holds-at-none in
     let back : c.finish.result.1 ≡ c.in-Some.field-0.plane.now = ap (λ p. p.1) c.finish.ensures.given_back ∙ sym turned.1 in
-    subst (λ (plane : BitPlane). Shows plane (picture pages.string.sign pages.string.defaults pages.string.source.octets pages.next pages.phase pages.colour)) (sym back) c.in-Some.ensures.page.2
+    subst (λ (plane : BitPlane). Shows plane (picture pages.string.sign pages.string.source.octets pages.next pages.phase pages.colour)) (sym back) c.in-Some.ensures.page.2
