@@ -7,8 +7,9 @@ ghost use Rattle.multi_layout.specs.Attributes.{whole_sign};
 ghost use Rattle.multi_layout.specs.Meaning.{Does};
 
 use crate::line::Character;
+use crate::terms::Terms;
 use multi_tag::Tag;
-use sign_font::{Defaults, FontInfo, Sign};
+use sign_font::{Defaults, FontInfo};
 
 /// A flash: whether it begins with its off time, and its times in tenths of a second (NTCIP 1203 v03, MULTI
 /// tag 'fl').
@@ -50,7 +51,7 @@ pub(crate) struct Attributes {
 }
 
 /// The whole sign.
-pub(crate) fn whole_sign(sign: &Sign) -> Rectangle
+pub(crate) fn whole_sign(sign: &Terms<'_>) -> Rectangle
     ensures { result ≡ whole_sign sign.now }
 {
     Rectangle {

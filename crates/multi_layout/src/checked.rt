@@ -3,14 +3,14 @@
 ghost use Rattle.std.specs.Prelude.{◌≡◌};
 ghost use Rattle.multi_layout.specs.Verdict.{Accepted, IsVerdict, IsCycle};
 
+use crate::terms::Terms;
 use multi_token::Source;
-use sign_font::Sign;
 use std::marker::Model;
 
 /// A string that a sign accepts. Only `check` makes one.
 #[derive(Drop)]
 pub struct Checked<'a> {
-    pub(crate) sign: &'a Sign,
+    pub(crate) terms: Terms<'a>,
     pub(crate) source: Source<'a>,
     pub(crate) pages: u8,
     pub(crate) cycle: u32,
@@ -23,9 +23,9 @@ impl<'a> Model for Checked<'a> {
 
     ghost Value = { Judged };
 
-    ghost view = { λ c. record { sign = c.sign.now; source = c.source } };
+    ghost view = { λ c. record { sign = c.terms; source = c.source } };
 
-    ghost invariant = { λ c. IsVerdict c.sign.now c.source.octets (Accepted c.pages) × IsCycle c.sign.now c.source.octets c.cycle
+    ghost invariant = { λ c. IsVerdict c.terms c.source.octets (Accepted c.pages) × IsCycle c.terms c.source.octets c.cycle
         × (length c.source.octets < 2 ^ 32) };
 }
 

@@ -10,8 +10,9 @@ ghost use Rattle.multi_layout.specs.Walk.{IsAccepted, IsBefore, IsBetween, IsCur
 use crate::item::{Item, read_item};
 use crate::judge::{judge_cell, judge_item};
 use crate::state::State;
+use crate::terms::Terms;
 use multi_token::{Source, next_token};
-use sign_font::{Cell, Sign};
+use sign_font::Cell;
 
 /// A place between two items of an accepted string: the offset of the next, and the state behind those before it.
 #[derive(Clone, Copy, Debug, PartialEq, Eq)]
@@ -29,7 +30,7 @@ pub(crate) struct Next {
 
 impl Cursor {
     /// The cursor before the first item.
-    pub(crate) fn new(sign: &Sign) -> Cursor
+    pub(crate) fn new(sign: &Terms<'_>) -> Cursor
         ensures between { (octets : List ℕ) (items : List spelled.Item) → IsAccepted sign.now octets items
             → IsBetween sign.now octets [] items result }
         ensures sound { IsSound sign.now }
@@ -64,7 +65,7 @@ impl Cursor {
     }
 
     /// The cursor behind the next item, of which this was read.
-    pub(crate) fn pass(&self, sign: &Sign, source: &mut Source<'_>, next: Next) -> Cursor
+    pub(crate) fn pass(&self, sign: &Terms<'_>, source: &mut Source<'_>, next: Next) -> Cursor
         requires { IsBefore sign.now source.old.octets next self.now }
         ensures passed { (before rest : List spelled.Item) (item : spelled.Item) → IsBetween sign.now source.old.octets before (item ∷ rest) self.now
             → IsRead item next → IsBetween sign.now source.old.octets (before ++ item ∷ []) rest result }

@@ -19,14 +19,14 @@ use crate::item::Item;
 use crate::paint::{Layer, put_character};
 use crate::read::{AreaLines, read_area};
 use crate::table::LineTable;
+use crate::terms::Terms;
 use multi_tag::Tag;
 use multi_token::Source;
 use page_plane::Plane;
-use sign_font::Sign;
 
 /// Draws the page that begins at a cursor, and gives the cursor behind it.
 pub(crate) fn draw_page(
-    sign: &Sign,
+    sign: &Terms<'_>,
     source: &mut Source<'_>,
     cursor: Cursor,
     layer: Layer,
@@ -60,7 +60,7 @@ pub(crate) fn draw_page(
 
 /// Draws the items of an area from its start on, and gives the cursor behind them.
 fn draw_area(
-    sign: &Sign,
+    sign: &Terms<'_>,
     source: &mut Source<'_>,
     cursor: Cursor,
     read: &AreaLines,
@@ -95,7 +95,7 @@ fn draw_area(
 
 /// Draws what the next item puts, and gives the cursor behind it.
 fn draw_item(
-    sign: &Sign,
+    sign: &Terms<'_>,
     source: &mut Source<'_>,
     cursor: Cursor,
     next: Next,
@@ -136,7 +136,7 @@ fn draw_item(
 }
 
 /// Fills the plane where a tag sets the page's background.
-fn draw_tag(sign: &Sign, tag: Tag, layer: Layer, plane: &mut Plane)
+fn draw_tag(sign: &Terms<'_>, tag: Tag, layer: Layer, plane: &mut Plane)
     requires size { IsSized plane.old sign.now }
     ensures back { (given : Option ℕ) → tag ≡ Tag.Back given → Shows plane.new (λ column row. shown_colour sign.now (unwrap_or given sign.now.defaults.back) == layer.colour) }
     ensures quiet { IsQuiet tag → plane.new ≡ plane.old }

@@ -1,9 +1,10 @@
 //! The verdict on a string, in one reading from the left with running sums.
 
-ghost use Rattle.std.specs.Prelude.{◌≡◌, ℕ, ◌+◌, ◌-◌, ◌^◌, ◌<◌, ◌≤◌, ◌*◌, ◌==◌, if◌then◌else◌, length, IfOk, IfErr, IfSome, IfNone, OnOk, Some, true};
+ghost use Rattle.std.specs.Prelude.{◌≡◌, ℕ, ◌+◌, ◌-◌, ◌^◌, ◌<◌, ◌≤◌, ◌*◌, ◌==◌, if◌then◌else◌, length, IfOk, IfErr, IfSome, IfNone, OnOk, None, Some, true};
 ghost use Rattle.std.specs.Option.{option_map_or};
 ghost use Rattle.multi_token.specs.Counted.{charged, RisesBetween};
 ghost use Rattle.multi_token.specs.Tokens.{IsTokenOf, item_of};
+ghost use Rattle.sign_font.specs.Defaults.{default_fault, under};
 ghost use Rattle.sign_font.specs.Sign.{SignData, cell_in};
 ghost use Rattle.multi_layout.specs.Codes.{code_of};
 ghost use Rattle.multi_layout.specs.Limits.{check_limit};
@@ -18,9 +19,10 @@ use crate::checked::Checked;
 use crate::fault::{Fault, SyntaxError};
 use crate::item::{Item, read_item};
 use crate::state::State;
+use crate::terms::Terms;
 use multi_tag::{FontPick, Tag};
 use multi_token::{Source, Token, next_token};
-use sign_font::{Cell, Sign};
+use sign_font::{Cell, Defaults, Sign};
 
 /// The first error of a string, and the offset of its item.
 #[derive(Clone, Copy)]
@@ -29,12 +31,7 @@ struct Offence {
     at: usize,
 }
 
-/// Whether a sign accepts a string: each item is judged after those before it, and the first that offends
-/// gives the error and its offset.
-///
-/// The source has no steps yet and at most 4,294,967,295 octets. It comes back in either answer. For n
-/// octets its count is then at most 2n + 1, and at least n + 1 where the string is accepted, or one more
-/// than the offset of the error.
+/// Whether a sign accepts a string by its own defaults, as [`check_with`] says.
 pub fn check<'a>(sign: &'a Sign, source: Source<'a>) -> Result<Checked<'a>, Fault<'a>>
     requires fresh { source.steps ≡ 0 }
     requires short { length source.octets < 2 ^ 32 }
@@ -51,10 +48,43 @@ pub fn check<'a>(sign: &'a Sign, source: Source<'a>) -> Result<Checked<'a>, Faul
     ensures fault_steps { IfErr result (λ fault. (fault.at + 1 ≤ fault.source.steps)
         × (fault.source.steps ≤ check_limit (length source.entry.octets))) }
 {
+    check_with(sign, sign.defaults(), source)
+}
+
+/// Whether a sign accepts a string by these defaults, which it doesn't refuse: each item is judged after those
+/// before it, and the first that offends gives the error and its offset.
+///
+/// An absent value means these defaults, here and in every call of the [`Checked`].
+///
+/// The source has no steps yet and at most 4,294,967,295 octets. It comes back in either answer. For n
+/// octets its count is then at most 2n + 1, and at least n + 1 where the string is accepted, or one more
+/// than the offset of the error.
+pub fn check_with<'a>(
+    sign: &'a Sign,
+    defaults: Defaults,
+    source: Source<'a>,
+) -> Result<Checked<'a>, Fault<'a>>
+    requires taken { default_fault sign.now defaults ≡ None }
+    requires fresh { source.steps ≡ 0 }
+    requires short { length source.octets < 2 ^ 32 }
+    ensures accepted { IfOk result (λ checked. (pages : ℕ) × IsVerdict (under sign.now defaults) source.entry.octets (Accepted pages)) }
+    ensures refused { IfErr result (λ fault. IsVerdict (under sign.now defaults) source.entry.octets (Refused fault.code fault.at)) }
+
+    // what was handed in comes back
+    ensures kept { IfOk result (λ checked. (checked.sign ≡ under sign.now defaults) × (checked.source.octets ≡ source.entry.octets)) }
+    ensures given_back { IfErr result (λ fault. fault.source.octets ≡ source.entry.octets) }
+
+    // and the steps that were taken
+    ensures steps { IfOk result (λ checked. (length source.entry.octets + 1 ≤ checked.source.steps)
+        × (checked.source.steps ≤ check_limit (length source.entry.octets))) }
+    ensures fault_steps { IfErr result (λ fault. (fault.at + 1 ≤ fault.source.steps)
+        × (fault.source.steps ≤ check_limit (length source.entry.octets))) }
+{
+    let terms = Terms::new(sign, defaults);
     let mut source = source;
-    match judge(sign, &mut source) {
+    match judge(&terms, &mut source) {
         Ok(state) => Ok(Checked {
-            sign,
+            terms,
             source,
             pages: state.pages,
             cycle: state.cycle + u32::from(state.attributes.on) + u32::from(state.attributes.off),
@@ -68,7 +98,7 @@ pub fn check<'a>(sign: &'a Sign, source: Source<'a>) -> Result<Checked<'a>, Faul
 }
 
 /// The state behind the items of an accepted string, or the first offence.
-fn judge(sign: &Sign, source: &mut Source<'_>) -> Result<State, Offence>
+fn judge(sign: &Terms<'_>, source: &mut Source<'_>) -> Result<State, Offence>
     requires fresh { source.old.steps ≡ 0 }
     requires short { length source.old.octets < 2 ^ 32 }
     ensures accepted { IfOk result (λ state. IsVerdict sign.now source.old.octets (Accepted state.pages)
@@ -103,7 +133,7 @@ fn judge(sign: &Sign, source: &mut Source<'_>) -> Result<State, Offence>
 
 /// Judges the item of a token.
 fn judge_token(
-    sign: &Sign,
+    sign: &Terms<'_>,
     state: State,
     source: &mut Source<'_>,
     token: &Token,
@@ -121,7 +151,7 @@ fn judge_token(
 
 /// Judges an item that was read.
 pub(crate) fn judge_item(
-    sign: &Sign,
+    sign: &Terms<'_>,
     state: State,
     source: &mut Source<'_>,
     item: Item,
@@ -139,7 +169,7 @@ pub(crate) fn judge_item(
 
 /// Judges what a tag says.
 fn judge_tag(
-    sign: &Sign,
+    sign: &Terms<'_>,
     state: State,
     source: &mut Source<'_>,
     tag: Tag,
@@ -163,7 +193,7 @@ fn judge_tag(
 
 /// Judges a character: whether its font has a cell for it, and whether it may stand on its line and fits.
 fn judge_character(
-    sign: &Sign,
+    sign: &Terms<'_>,
     state: State,
     source: &mut Source<'_>,
     number: u8,
@@ -222,7 +252,7 @@ fn judge_break(state: State, gap: Option<u8>) -> Result<State, SyntaxError>
 }
 
 /// Judges a new page, which has the whole sign.
-fn judge_page(sign: &Sign, state: State) -> Result<State, SyntaxError>
+fn judge_page(sign: &Terms<'_>, state: State) -> Result<State, SyntaxError>
     requires { IsReady state }
     ensures judged { Judges sign.now state (Does Tag.NewPage) result }
 {
@@ -243,7 +273,7 @@ fn judge_page(sign: &Sign, state: State) -> Result<State, SyntaxError>
 
 /// Judges a font that a tag asks for, and the version that it must have; without a number it is the default.
 fn judge_font(
-    sign: &Sign,
+    sign: &Terms<'_>,
     state: State,
     source: &mut Source<'_>,
     pick: Option<FontPick>,
@@ -277,7 +307,7 @@ fn agrees(wanted: Option<u16>, version: u16) -> bool
 
 /// Judges a rectangle, whose upper left pixel is counted from 1.
 fn judge_rectangle(
-    sign: &Sign,
+    sign: &Terms<'_>,
     state: State,
     x: u32,
     y: u32,

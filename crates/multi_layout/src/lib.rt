@@ -23,11 +23,12 @@ mod place;
 mod read;
 mod state;
 mod table;
+mod terms;
 mod times;
 
 pub use checked::Checked;
 pub use fault::{Fault, SyntaxError};
-pub use judge::check;
+pub use judge::{check, check_with};
 pub use laws::{one_verdict, refusal_stands, smaller_fits};
 pub use pages::{PageView, Pages};
 pub use times::Shown;

@@ -17,9 +17,9 @@ use crate::checked::Checked;
 use crate::cursor::Cursor;
 use crate::draw::draw_page;
 use crate::paint::Layer;
+use crate::terms::Terms;
 use multi_token::Source;
 use page_plane::Plane;
-use sign_font::Sign;
 use std::marker::Model;
 
 /// One page, as the plane shows it until the next is asked for.
@@ -96,7 +96,7 @@ impl<'a> Checked<'a> {
         if page >= self.pages {
             return false;
         }
-        let cursor = page_start(self.sign, &mut self.source, page);
+        let cursor = page_start(&self.terms, &mut self.source, page);
         self.draw_from(cursor, Layer { phase, colour }, plane);
         true
     }
@@ -113,7 +113,7 @@ impl<'a> Checked<'a> {
         ensures steps { IsReadTwice self.old.source self.new.source cursor result }
         ensures fills { IsFilledFew self.old.sign plane.old plane.new cursor result }
     {
-        draw_page(self.sign, &mut self.source, cursor, layer, plane)
+        draw_page(&self.terms, &mut self.source, cursor, layer, plane)
     }
 
     /// Starts at page 0, to draw the plane of a colour of each page at a phase, as [`Checked::draw`] does. The plane has
@@ -131,7 +131,7 @@ impl<'a> Checked<'a> {
         } }
     {
         Pages {
-            cursor: Cursor::new(self.sign),
+            cursor: Cursor::new(&self.terms),
             layer: Layer { phase, colour },
             next: 0,
             string_started: self.source.steps(),
@@ -143,7 +143,7 @@ impl<'a> Checked<'a> {
 }
 
 /// The cursor where a page begins, read from the front of the string.
-fn page_start(sign: &Sign, source: &mut Source<'_>, page: u8) -> Cursor
+fn page_start(sign: &Terms<'_>, source: &mut Source<'_>, page: u8) -> Cursor
     requires accepted { IsAccepted sign.now source.old.octets (reading source.old.octets).items }
     requires page { page < pages_of (meanings source.old.octets) }
     ensures begins { IsPageStart sign.now source.old.octets result }

@@ -15,8 +15,9 @@ use crate::cell::put_cell;
 use crate::place::place_at;
 use crate::state::State;
 use crate::table::LineTable;
+use crate::terms::Terms;
 use page_plane::Plane;
-use sign_font::{Cell, Sign};
+use sign_font::Cell;
 
 /// What is drawn: the plane of a colour, at a phase of its page in tenths of a second.
 #[derive(Clone, Copy, Debug, PartialEq, Eq)]
@@ -27,7 +28,7 @@ pub(crate) struct Layer {
 
 impl Layer {
     /// Whether the pixels that a thing of this colour covers are in the plane.
-    pub(crate) fn has(&self, sign: &Sign, colour: u8) -> bool
+    pub(crate) fn has(&self, sign: &Terms<'_>, colour: u8) -> bool
         ensures colour { result ≡ (shown_colour sign.now colour == self.now.colour) }
         ensures sound { IsSound sign.now }
     {
@@ -62,7 +63,7 @@ impl Layer {
 /// Puts a character's cell at its place, if it is lit; `lines` are those of its area, and the state is the one
 /// before the character.
 pub(crate) fn put_character(
-    sign: &Sign,
+    sign: &Terms<'_>,
     state: &State,
     cell: &Cell<'_>,
     lines: &LineTable,

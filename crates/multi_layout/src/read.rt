@@ -20,8 +20,8 @@ use crate::cursor::{Cursor, Next};
 use crate::item::Item;
 use crate::state::State;
 use crate::table::{CountedLine, LineTable};
+use crate::terms::Terms;
 use multi_token::Source;
-use sign_font::Sign;
 
 /// What drawing an area needs: the table of its counted lines, and the offset behind its last item.
 #[derive(Drop)]
@@ -31,7 +31,7 @@ pub(crate) struct AreaLines {
 }
 
 /// Reads the area that begins at a cursor.
-pub(crate) fn read_area(sign: &Sign, source: &mut Source<'_>, cursor: Cursor) -> AreaLines
+pub(crate) fn read_area(sign: &Terms<'_>, source: &mut Source<'_>, cursor: Cursor) -> AreaLines
     requires sound { IsSound sign.now }
     requires begins { (before behind : List spelled.Item) × IsBetween sign.now source.old.octets before behind cursor
         × (present_area sign.now (map meaning before) ≡ []) }

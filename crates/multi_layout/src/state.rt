@@ -5,7 +5,8 @@ ghost use Rattle.sign_font.specs.Sound.{IsSound};
 
 use crate::area::Area;
 use crate::attributes::{Attributes, whole_sign};
-use sign_font::{FontInfo, Sign};
+use crate::terms::Terms;
+use sign_font::FontInfo;
 
 /// The running state behind some items of a string.
 #[derive(Clone, Copy, Debug, PartialEq, Eq)]
@@ -22,7 +23,7 @@ impl State {
     ghost use Rattle.multi_layout.specs.State.{IsStateOf};
 
     /// The state before the first item.
-    pub(crate) fn new(sign: &Sign) -> State
+    pub(crate) fn new(sign: &Terms<'_>) -> State
         ensures start { IsStateOf sign.now [] result }
         ensures sound { IsSound sign.now }
     {

@@ -1,3 +1,4 @@
+mod defaults;
 mod pictures;
 
 use crate::{Shown, check};

@@ -11,8 +11,8 @@ ghost use Rattle.multi_layout.specs.Walk.{IsAccepted};
 use crate::checked::Checked;
 use crate::cursor::Cursor;
 use crate::state::State;
+use crate::terms::Terms;
 use multi_token::Source;
-use sign_font::Sign;
 
 /// What a string shows at a clock (NTCIP 1203 v03, MULTI tag 'pt').
 #[derive(Clone, Copy, Debug, PartialEq, Eq)]
@@ -40,12 +40,12 @@ impl<'a> Checked<'a> {
                 phase: clock,
             };
         }
-        find_page(self.sign, &mut self.source, clock % u64::from(self.cycle))
+        find_page(&self.terms, &mut self.source, clock % u64::from(self.cycle))
     }
 }
 
 /// What an accepted string shows at a time of its cycle.
-fn find_page(sign: &Sign, source: &mut Source<'_>, time: u64) -> Shown
+fn find_page(sign: &Terms<'_>, source: &mut Source<'_>, time: u64) -> Shown
     requires accepted { IsAccepted sign.now source.old.octets (reading source.old.octets).items }
     requires within { time < cycle (page_times sign.now (meanings source.old.octets)) }
     ensures shown { result ≡ shown_within (page_times sign.now (meanings source.old.octets)) time }

@@ -12,7 +12,7 @@ use Rattle.sign_font.specs.Sign.{CellData, FontData, SignData}
 use Rattle.sign_font.specs.Limits.{is_within, is_font, is_cell, has_cells, is_clear_behind, first_fault, has_size, has_fonts, has_defaults, has_pages}
 use Rattle.sign_font.specs.Sound.{IsWithin, IsSoundCell, IsSoundFont, IsSound}
 
-passes : (low high number : ℕ) → IsWithin low high number → is_within low high number ≡ true
+pub passes : (low high number : ℕ) → IsWithin low high number → is_within low high number ≡ true
 passes low high number within = and_from _ _ (le-leb low number within.0) (le-leb number high within.1)
 
 is_clear : (octets : List ℕ) (pixels : ℕ) → ((place : ℕ) → pixels ≤ place → is_set octets place ≡ false) → is_clear_behind octets pixels ≡ true

@@ -1,4 +1,5 @@
 pub mod BitLemmas
+pub mod DefaultLemmas
 pub mod FaultLemmas
 pub mod FindLemmas
 pub mod KeptLemmas

@@ -15,7 +15,7 @@ use Rattle.sign_font.specs.Sign.{CellData, FontData, SignData, sized, cell_numbe
 use Rattle.sign_font.specs.Limits.{is_within, is_font, is_cell, has_cells, is_clear_behind, first_fault, has_size, has_fonts, has_defaults, has_pages}
 use Rattle.sign_font.specs.Sound.{IsWithin, IsSoundCell, IsSoundFont, IsSound, IsSoundSize}
 
-within : (low high number : ℕ) → is_within low high number ≡ true → IsWithin low high number
+pub within : (low high number : ℕ) → is_within low high number ≡ true → IsWithin low high number
 within low high number e =
     let parts = and_parts _ _ e in
     (leb-true low number parts.0, leb-true number high parts.1)

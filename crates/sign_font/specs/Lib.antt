@@ -1,4 +1,5 @@
 pub mod Cell
+pub mod Defaults
 pub mod Fault
 pub mod Kept
 pub mod Limits

@@ -1,11 +1,12 @@
 //! Why a sign is refused.
 
 ghost use Rattle.std.specs.Prelude.{◌≡◌};
+ghost use Rattle.sign_font.specs.Defaults.{default_code};
 ghost use Rattle.sign_font.specs.Fault.{code_of};
 
 use thiserror::Error;
 
-/// The first limit, in this order over the whole sign, that a sign is outside, or want of memory (own).
+/// The first limit, in this order over the whole sign, that a sign is outside, or refused memory (own).
 #[derive(Clone, Copy, Debug, PartialEq, Eq, Error)]
 pub enum SignFault {
     /// The width isn't 1 to 1,024 pixels, or the height isn't 1 to 128.
@@ -44,6 +45,30 @@ impl SignFault {
             SignFault::BadDefault => 4,
             SignFault::BadLimit => 5,
             SignFault::Memory => 6,
+        }
+    }
+}
+
+/// Why a sign refuses defaults, in this order (own).
+#[derive(Clone, Copy, Debug, PartialEq, Eq, Error)]
+pub enum DefaultFault {
+    /// The font's number is 0, or the line justification isn't 2 to 5, or the page justification isn't 2 to 4, or a
+    /// colour is above 9.
+    #[error("a default is outside its values")]
+    Value,
+    /// The sign has no font of that number.
+    #[error("the default font isn't defined")]
+    FontUnknown,
+}
+
+impl DefaultFault {
+    /// The number by which the refusal is known outside: 9 and 10 in the order above.
+    pub fn code(self) -> u8
+        ensures { result ≡ default_code self }
+    {
+        match self {
+            DefaultFault::Value => 9,
+            DefaultFault::FontUnknown => 10,
         }
     }
 }

@@ -16,7 +16,7 @@ mod sample;
 mod sign;
 
 pub use cell::Cell;
-pub use fault::SignFault;
+pub use fault::{DefaultFault, SignFault};
 pub use font::FontInfo;
 pub use parts::{CellPart, Defaults, FontPart, SignParts};
 pub use sample::sample_sign;

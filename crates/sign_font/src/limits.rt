@@ -131,7 +131,8 @@ fn is_defined(number: u8, fonts: &[FontPart]) -> bool
     fonts.iter().any(|font| font.number == number)
 }
 
-fn are_known(defaults: Defaults) -> bool
+/// Whether the justifications and the colours are those that a sign may have.
+pub(crate) fn are_known(defaults: Defaults) -> bool
     ensures { result ≡ are_known defaults }
 {
     (2..=5).contains(&defaults.line)

@@ -1,16 +1,17 @@
 //! A sign, which is made once and then only asked.
 
-ghost use Rattle.std.specs.Prelude.{◌≡◌, ℕ, ◌≤◌, All, Any, IfOk, IfErr, IfSome, OnOk, map, option_map};
+ghost use Rattle.std.specs.Prelude.{◌≡◌, ℕ, ◌≤◌, All, Any, IfOk, IfErr, IfSome, IfNone, OnOk, None, map, option_map};
 ghost use Rattle.std.specs.Option.{option_copied};
 ghost use Rattle.multi_token.specs.Counted.{charged};
 ghost use Rattle.sign_font.specs.Sign.{sign_of, font_of, font_numbered, info_of, cell_in, tallest};
+ghost use Rattle.sign_font.specs.Defaults.{default_fault, under};
 ghost use Rattle.sign_font.specs.Limits.{first_fault};
 ghost use Rattle.sign_font.specs.Sound.{IsSound, IsSoundFont, IsSoundSize, IsWithin};
 
 use crate::cell::Cell;
-use crate::fault::SignFault;
+use crate::fault::{DefaultFault, SignFault};
 use crate::font::{Font, FontInfo};
-use crate::limits::first_fault;
+use crate::limits::{are_known, first_fault};
 use crate::parts::{Defaults, FontPart, SignParts};
 use multi_token::Source;
 use std::alloc::{AllocError, Global};
@@ -132,6 +133,7 @@ impl Sign {
     /// What holds where a message says nothing.
     pub fn defaults(&self) -> Defaults
         ensures defaults { result ≡ self.now.defaults }
+        ensures taken { default_fault self.now self.now.defaults ≡ None }
         ensures sound { IsSound self.now }
     {
         self.defaults
@@ -143,7 +145,32 @@ impl Sign {
         ensures height { IsWithin 1 64 result.height }
         ensures sound { IsSound self.now }
     {
-        self.find_font(self.defaults.font).unwrap().info()
+        self.font_of(&self.defaults)
+    }
+
+    /// Why the sign refuses these defaults in place of its own, or `None` where it takes them: `Value` where one is
+    /// outside its values, and else `FontUnknown` where the sign hasn't the font.
+    pub fn refuses(&self, defaults: &Defaults) -> Option<DefaultFault>
+        ensures fault { result ≡ default_fault self.now defaults.now }
+        ensures sound { IfNone result (IsSound (under self.now defaults.now)) }
+    {
+        if defaults.font == 0 || !are_known(*defaults) {
+            Some(DefaultFault::Value)
+        } else if self.find_font(defaults.font).is_none() {
+            Some(DefaultFault::FontUnknown)
+        } else {
+            None
+        }
+    }
+
+    /// The font of defaults that the sign doesn't refuse.
+    pub fn font_of(&self, defaults: &Defaults) -> FontInfo
+        requires { default_fault self.now defaults.now ≡ None }
+        ensures font { option_map info_of (font_numbered self.now defaults.now.font) ≡ Some result }
+        ensures height { IsWithin 1 64 result.height }
+        ensures sound { IsSound (under self.now defaults.now) }
+    {
+        self.find_font(defaults.font).unwrap().info()
     }
 
     /// The height of the tallest font, in pixels: 1 to 64.

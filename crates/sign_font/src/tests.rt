@@ -1,5 +1,5 @@
 use crate::sample::sample_sign;
-use crate::{CellPart, FontInfo, FontPart, Sign, SignFault, SignParts};
+use crate::{CellPart, DefaultFault, Defaults, FontInfo, FontPart, Sign, SignFault, SignParts};
 use multi_token::Source;
 use std::alloc::{AllocError, Global};
 use std::test::Fail;
@@ -248,5 +248,59 @@ fn the_first_fault_is_answered(rt: HostRuntime) -> Result<(), Fail> {
         "a bad second font before a bad cell of the first"
     );
     assert_eq!(rt; SignFault::Memory.code(), 6);
+    Ok(())
+}
+
+#[test]
+fn defaults_are_refused_by_their_values_first(rt: HostRuntime) -> Result<(), Fail> {
+    let sign = Sign::new(rt.alloc(), sample_sign(rt.alloc())?)?;
+    let own = sign.defaults();
+    let rows = [
+        (own, 0),
+        (Defaults { font: 2, ..own }, 0),
+        (Defaults { font: 0, ..own }, 9),
+        (Defaults { font: 3, ..own }, 10),
+        (Defaults { line: 1, ..own }, 9),
+        (Defaults { line: 6, ..own }, 9),
+        (Defaults { page: 1, ..own }, 9),
+        (Defaults { page: 5, ..own }, 9),
+        (Defaults { fore: 10, ..own }, 9),
+        (Defaults { back: 10, ..own }, 9),
+        (
+            Defaults {
+                fore: 9,
+                back: 9,
+                line: 5,
+                page: 2,
+                ..own
+            },
+            0,
+        ),
+        (
+            Defaults {
+                font: 3,
+                line: 1,
+                ..own
+            },
+            9,
+        ),
+    ];
+    for (defaults, number) in rows {
+        let code = sign.refuses(&defaults).map_or(0, DefaultFault::code);
+        assert_eq!(rt; code, number, "{defaults:?}");
+    }
+    Ok(())
+}
+
+#[test]
+fn defaults_that_are_handed_in_name_their_own_font(rt: HostRuntime) -> Result<(), Fail> {
+    let sign = Sign::new(rt.alloc(), sample_sign(rt.alloc())?)?;
+    let large = Defaults {
+        font: 2,
+        ..sign.defaults()
+    };
+    assert!(rt; sign.refuses(&large).is_none());
+    assert_eq!(rt; sign.font_of(&large).number, 2);
+    assert_eq!(rt; sign.default_font().number, 1);
     Ok(())
 }

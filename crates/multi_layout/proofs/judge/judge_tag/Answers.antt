@@ -1,8 +1,6 @@
-use Rattle.std.proofs.Common.{◌≡◌, sym, arith}
+use Rattle.std.proofs.Common.{sym, arith}
 use Rattle.multi_token.proofs.StepLemmas.{charged-zero}
 use Rattle.multi_layout.specs.Address.{standing}
-use Rattle.multi_layout.specs.Meaning.{Does}
-use Rattle.multi_layout.specs.State.{attributes_of, standing_behind}
 use Rattle.multi_layout.proofs.TagLemmas.{judged-simple, simple_of}
 use Rattle.multi_layout.proofs.judge.judge_tag.Goals as goal
 

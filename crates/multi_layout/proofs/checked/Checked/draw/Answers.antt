@@ -8,18 +8,18 @@ use Rattle.multi_layout.proofs.checked.Checked.draw.Goals as goal
 pub returns-then-page-self-clause-exists : goal.returns-then-page-self-clause-exists
 returns-then-page-self-clause-exists c =
     let s = c.self.inside in
-    let count = (accepted_is s.sign.now s.source.octets s.pages c.self.invariant.0 c.self.invariant.2).1 in
+    let count = (accepted_is s.terms s.source.octets s.pages c.self.invariant.0 c.self.invariant.2).1 in
     rw (← c.self.view_is) (grind (arith, nat_tests))
 
 pub page_start-cursor-requires-clause-accepted : goal.page_start-cursor-requires-clause-accepted
 page_start-cursor-requires-clause-accepted c =
     let s = c.self.inside in
-    (accepted_is s.sign.now s.source.octets s.pages c.self.invariant.0 c.self.invariant.2).0
+    (accepted_is s.terms s.source.octets s.pages c.self.invariant.0 c.self.invariant.2).0
 
 pub page_start-cursor-requires-clause-page : goal.page_start-cursor-requires-clause-page
 page_start-cursor-requires-clause-page c =
     let s = c.self.inside in
-    omega (arith, (accepted_is s.sign.now s.source.octets s.pages c.self.invariant.0 c.self.invariant.2).1)
+    omega (arith, (accepted_is s.terms s.source.octets s.pages c.self.invariant.0 c.self.invariant.2).1)
 
 pub returns-clause-drawn : goal.returns-clause-drawn
 returns-clause-drawn c =
@@ -46,4 +46,4 @@ returns-clause-plane_steps c =
     let e = c.page_start-cursor.ensures in
     let same : c.page_start-cursor.new.source.octets ≡ s.source.octets = ap (λ (x : Counted). x.octets) e.steps.3 in
     let t = rw same at c.draw_from.ensures.turned in
-    rw (← c.self.view_is) (c.draw_from.ensures.fills.least, drawing_fills s.sign.now c.args.plane.now c.draw_from.new.plane c.page_start-cursor.result c.draw_from.result (length s.source.octets) c.draw_from.ensures.fills t.within)
+    rw (← c.self.view_is) (c.draw_from.ensures.fills.least, drawing_fills s.terms c.args.plane.now c.draw_from.new.plane c.page_start-cursor.result c.draw_from.result (length s.source.octets) c.draw_from.ensures.fills t.within)

@@ -7,7 +7,7 @@ invariant_of-self c = rw c.draw_page.ensures.kept c.self.invariant
 
 pub returns-clause-drawn : goal.returns-clause-drawn
 returns-clause-drawn c =
-    let sign = c.self.inside.sign.now in
+    let sign = c.self.inside.terms in
     let octets = c.self.inside.source.octets in
     let (before, behind, b, begins) = rw (← c.self.view_is) at c.requires.begins in
     rw (← c.self.view_is)
@@ -15,7 +15,7 @@ returns-clause-drawn c =
 
 pub returns-clause-turned : goal.returns-clause-turned
 returns-clause-turned c =
-    let sign = c.self.inside.sign.now in
+    let sign = c.self.inside.terms in
     let octets = c.self.inside.source.octets in
     let (before, behind, b, begins) = rw (← c.self.view_is) at c.requires.begins in
     rw (← c.self.view_is)

@@ -8,7 +8,7 @@ pub invariant_of-result : goal.invariant_of-result
 invariant_of-result c =
     let s = c.self.inside in
     let items = (reading s.source.octets).items in
-    let accepted = (accepted_is s.sign.now s.source.octets s.pages c.self.invariant.0 c.self.invariant.2).0 in
+    let accepted = (accepted_is s.terms s.source.octets s.pages c.self.invariant.0 c.self.invariant.2).0 in
     let size = rw (← c.self.view_is) at c.requires.size in
     rw (← c.self.view_is)
     (under_way_first _ c.new.result c.new.ensures.sound c.self.invariant.2 size refl c.steps.ensures c.steps-2.ensures items (c.new.ensures.between s.source.octets items accepted))

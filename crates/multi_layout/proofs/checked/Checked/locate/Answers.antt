@@ -12,26 +12,26 @@ returns-then-self-eq1-clause-shown c =
     let (verdict, together, short) = c.self.invariant in
     let seen = ap (λ (j : Judged). shown j.sign j.source.octets c.args.clock) c.self.view_is in
     elim c.then-self-eq1.branch [
-      | then-self-eq1-via-then-self-eq1 w ↦ sym (always_one s.sign.now s.source.octets s.pages s.cycle verdict together short c.args.clock w.if-self-eq1.true) ∙ seen
-      | then-self-eq1-via-else-self-eq1+then-self-eq0 w ↦ sym (always_none s.sign.now s.source.octets s.pages s.cycle verdict together short c.args.clock w.if-self-eq0.true) ∙ seen
+      | then-self-eq1-via-then-self-eq1 w ↦ sym (always_one s.terms s.source.octets s.pages s.cycle verdict together short c.args.clock w.if-self-eq1.true) ∙ seen
+      | then-self-eq1-via-else-self-eq1+then-self-eq0 w ↦ sym (always_none s.terms s.source.octets s.pages s.cycle verdict together short c.args.clock w.if-self-eq0.true) ∙ seen
     ]
 
 pub find_page-requires-clause-accepted : goal.find_page-requires-clause-accepted
 find_page-requires-clause-accepted c =
     let s = c.self.inside in
     let (verdict, together, short) = c.self.invariant in
-    (accepted_is s.sign.now s.source.octets s.pages verdict short).0
+    (accepted_is s.terms s.source.octets s.pages verdict short).0
 
 pub find_page-requires-clause-within : goal.find_page-requires-clause-within
 find_page-requires-clause-within c =
     let s = c.self.inside in
     let (verdict, together, short) = c.self.invariant in
-    rw c.from.ensures (below_cycle s.sign.now s.source.octets s.pages s.cycle verdict together short c.args.clock c.if-self-eq0.false)
+    rw c.from.ensures (below_cycle s.terms s.source.octets s.pages s.cycle verdict together short c.args.clock c.if-self-eq0.false)
 
 pub returns-clause-shown : goal.returns-clause-shown
 returns-clause-shown c =
     let s = c.self.inside in
     let (verdict, together, short) = c.self.invariant in
-    let turn = shown_in_turn s.sign.now s.source.octets s.pages s.cycle verdict together short c.args.clock c.if-self-eq1.false c.if-self-eq0.false in
+    let turn = shown_in_turn s.terms s.source.octets s.pages s.cycle verdict together short c.args.clock c.if-self-eq1.false c.if-self-eq0.false in
     let found = rw c.from.ensures at c.find_page.ensures.shown in
     found ∙ sym turn ∙ ap (λ (j : Judged). shown j.sign j.source.octets c.args.clock) c.self.view_is

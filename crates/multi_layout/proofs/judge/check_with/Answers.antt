@@ -1,10 +1,11 @@
 use Rattle.std.proofs.Common.{◌≡◌, ℕ, ◌+◌, ◌^◌, ◌<◌, List, length, sym, subst, arith}
+use Rattle.sign_font.specs.Sign.{SignData}
 use Rattle.multi_layout.specs.Verdict.{Accepted, IsCycle, IsVerdict}
-use Rattle.multi_layout.proofs.judge.check.Goals as goal
+use Rattle.multi_layout.proofs.judge.check_with.Goals as goal
 
 pub invariant_of-result : goal.invariant_of-result
 invariant_of-result c =
-    let sign = c.args.sign.now in
+    let sign = c.new-terms.result in
     let accepted = c.in-Ok.ensures.accepted in
     let kept = sym c.judge.ensures.kept in
     let times : c.in-Ok.state.cycle + c.in-Ok.state.attributes.on + c.in-Ok.state.attributes.off ≡ c.in-Ok.state.cycle + c.from.result + c.from-in-Ok.result = omega (arith, c.from.ensures, c.from-in-Ok.ensures) in (
@@ -12,3 +13,7 @@ invariant_of-result c =
       subst (λ (n : ℕ). IsCycle sign c.judge.new.source.octets n) times (subst (λ (o : List ℕ). IsCycle sign o (c.in-Ok.state.cycle + c.in-Ok.state.attributes.on + c.in-Ok.state.attributes.off)) kept accepted.1),
       subst (λ (o : List ℕ). length o < 2 ^ 32) kept c.requires.short,
     )
+
+pub returns-in-Ok-clause-accepted : goal.returns-in-Ok-clause-accepted
+returns-in-Ok-clause-accepted c =
+    (c.in-Ok.state.pages, subst (λ (s : SignData). IsVerdict s c.args.source.octets (Accepted c.in-Ok.state.pages)) c.new-terms.ensures c.in-Ok.ensures.accepted.0)
