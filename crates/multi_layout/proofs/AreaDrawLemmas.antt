@@ -8,7 +8,7 @@ use Rattle.multi_token.proofs.ReadingLemmas.{spelling_some}
 use Rattle.page_plane.specs.Plane.{BitPlane}
 use Rattle.sign_font.specs.Sign.{SignData, tallest}
 use Rattle.multi_layout.specs.declared.cursor.Cursor.{Cursor}
-use Rattle.multi_layout.specs.declared.cursor.Next.{Next}
+use Rattle.multi_layout.specs.declared.cursor.NextItem.{NextItem}
 use Rattle.multi_layout.specs.declared.paint.Layer.{Layer}
 use Rattle.multi_layout.specs.declared.table.LineTable.{LineTable}
 use Rattle.multi_layout.specs.Address.{spots, standing, in_area}
@@ -86,7 +86,7 @@ module _ (sign : SignData) (octets : List ℕ) (before area rest : List Item) (l
     at_end reached = omega (arith, reached, (area_ended reached).1.place, ends, ap length (spell-append before area), length-append (spell before) (spell area))
 
     -- the next item is the first that is left
-    pub area_next : cursor.at < end → (next : Next) → ((earlier behind : List Item) → IsBetween sign octets earlier behind cursor → IsFirst behind (Some next))
+    pub area_next : cursor.at < end → (next : NextItem) → ((earlier behind : List Item) → IsBetween sign octets earlier behind cursor → IsFirst behind (Some next))
         → (item : Item) × (more : List Item) × (s.left ≡ item ∷ more) × IsBetween sign octets (before ++ s.done) (item ∷ (more ++ rest)) cursor × IsRead item next
         × HasCounted (whole_area sign (before ++ s.done) (item ∷ (more ++ rest))) lines × (begins_area (meaning item) ≡ false)
     area_next before_end next first =

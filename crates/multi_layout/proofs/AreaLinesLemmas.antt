@@ -17,13 +17,13 @@ use Rattle.sign_font.specs.Sound.{IsSound}
 use Rattle.multi_layout.specs.declared.area.Group.{Group}
 use Rattle.multi_layout.specs.declared.attributes.Attributes.{Attributes}
 use Rattle.multi_layout.specs.declared.cursor.Cursor.{Cursor}
-use Rattle.multi_layout.specs.declared.cursor.Next.{Next}
+use Rattle.multi_layout.specs.declared.cursor.NextItem.{NextItem}
 use Rattle.multi_layout.specs.declared.read.AreaLines.{AreaLines}
 use Rattle.multi_layout.specs.declared.state.State.{State}
 use Rattle.multi_layout.specs.declared.table.CountedLine.{CountedLine}
 use Rattle.multi_layout.specs.declared.table.LineTable.{LineTable}
 use Rattle.multi_layout.specs.Address.{Spot, Standing, Glyph, Break, Cover, is_glyph, is_break, in_group, lines_of, spots, standing, in_area}
-use Rattle.multi_layout.specs.Item.{meant_by}
+use Rattle.multi_layout.specs.KnownItem.{meant_by}
 use Rattle.multi_layout.specs.Line.{height_of}
 use Rattle.multi_layout.specs.Meaning.{Meaning, Shows, Does, Faulty, EndsArea, begins_area, meaning}
 use Rattle.multi_layout.specs.Passes.{HasEnded, HasCounted, HasRoom, IsAreaRead, IsLow, BeginsNoArea, ends_line, first_steps, whole_area}
@@ -294,7 +294,7 @@ module _ (sign : SignData) (octets : List ℕ) where
 
   module _ (before behind : List Item) (cursor : Cursor) (lines : LineTable) (so : SoFar before behind cursor lines) where
     -- the next item was read, and the cursor went behind it
-    pub record Passed (next : Next) (new : Cursor) : Type 0 where
+    pub record Passed (next : NextItem) (new : Cursor) : Type 0 where
       pub item : Item
       pub rest : List Item
       pub first : so.left ≡ item ∷ rest
@@ -309,7 +309,7 @@ module _ {sign : SignData} {octets : List ℕ} {before behind : List Item} {curs
   pub so_first : {octets' : List ℕ} → octets' ≡ octets → (item : Item) (rest : List Item) → so.left ≡ item ∷ rest → IsBetween sign octets' (before ++ so.items) (item ∷ rest) cursor
   so_first {octets'} same item rest first = subst (λ l. IsBetween sign octets' (before ++ so.items) l cursor) first (so_between same)
 
-  pub pass_on : (next : Next) (new : Cursor) {octets' octets'' : List ℕ} → octets' ≡ octets → octets'' ≡ octets
+  pub pass_on : (next : NextItem) (new : Cursor) {octets' octets'' : List ℕ} → octets' ≡ octets → octets'' ≡ octets
       → ((before behind : List Item) → IsBetween sign octets' before behind cursor → IsFirst behind (Some next))
       → ((before rest : List Item) (item : Item) → IsBetween sign octets'' before (item ∷ rest) cursor → IsRead item next → IsBetween sign octets'' (before ++ item ∷ []) rest new)
       → Passed sign octets before behind cursor lines so next new
@@ -324,7 +324,7 @@ module _ {sign : SignData} {octets : List ℕ} {before behind : List Item} {curs
             (pass (before ++ so.items) rest item (so_first same' item rest first) read);
       }
 
-  module _ {next : Next} {new : Cursor} (p : Passed sign octets before behind cursor lines so next new) where
+  module _ {next : NextItem} {new : Cursor} (p : Passed sign octets before behind cursor lines so next new) where
     -- the cursor goes on, and not past the end
     pub so_advances : new.at ≡ cursor.at + next.len → (cursor.at < new.at) × (new.at ≤ length octets)
     so_advances at = (omega (arith, at, spelling_some p.item, p.read.len), within sign octets ((before ++ so.items) ++ p.item ∷ []) p.rest new p.between)

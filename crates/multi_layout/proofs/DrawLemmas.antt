@@ -170,7 +170,7 @@ back_or_quiet (Rect x y w h) = inr tt
 
 -- a tag that begins no area
 pub tag_drawn : (sign : SignData) (layer : Layer) (before rest : List Meaning) (tag : Tag) (old new : BitPlane) → begins_area (Does tag) ≡ false
-    → ((given : Option ℕ) → tag ≡ Back given → drawn.Shows new (λ column row. shown_colour sign (unwrap_or given sign.defaults.back) == layer.colour)) → (IsQuiet tag → new ≡ old)
+    → ((given : Option ℕ) → tag ≡ Back given → drawn.Lights new (λ column row. shown_colour sign (unwrap_or given sign.defaults.back) == layer.colour)) → (IsQuiet tag → new ≡ old)
     → IsDrawnTo sign layer (before ++ Does tag ∷ rest) before old → IsDrawnTo sign layer (before ++ Does tag ∷ rest) (before ++ Does tag ∷ []) new
 tag_drawn sign layer before rest tag old new plain back quiet drawn = of (back_or_quiet tag)
   where

@@ -9,12 +9,12 @@ use Rattle.multi_tag.specs.declared.tag.Tag.TheVariants.{NewPage}
 use Rattle.sign_font.specs.Sign.{SignData}
 use Rattle.multi_layout.specs.declared.attributes.Attributes.{Attributes}
 use Rattle.multi_layout.specs.declared.cursor.Cursor.{Cursor}
-use Rattle.multi_layout.specs.declared.cursor.Next.{Next}
+use Rattle.multi_layout.specs.declared.cursor.NextItem.{NextItem}
 use Rattle.multi_layout.specs.declared.state.State.{State}
 use Rattle.multi_layout.specs.declared.times.Shown.{Shown}
 use Rattle.multi_layout.specs.declared.times.Shown.TheVariants.{Page, Off}
 use Rattle.multi_layout.specs.Address.{standing}
-use Rattle.multi_layout.specs.Item.{meant_by}
+use Rattle.multi_layout.specs.KnownItem.{meant_by}
 use Rattle.multi_layout.specs.Meaning.{Meaning, Does, is_new_page, meaning, meanings}
 use Rattle.multi_layout.specs.State.{IsStateOf}
 use Rattle.multi_layout.specs.Times.{Times, cycle, ended_times, page_times, shown, shown_within, times_at}
@@ -103,7 +103,7 @@ module _ {sign : SignData} {octets : List ℕ} {time : ℕ} {cursor : Cursor} (s
       omega (arith, all, st.times, on_is sign passed cursor.state st time s.began, off_is sign passed cursor.state st time s.began)
 
   -- an item stands behind the cursor, of which this was read
-  module _ (item : Item) (rest : List Item) (is : s.behind ≡ item ∷ rest) (next : Next) (read : IsRead item next) where
+  module _ (item : Item) (rest : List Item) (is : s.behind ≡ item ∷ rest) (next : NextItem) (read : IsRead item next) where
     between_read : IsBetween sign octets s.before (item ∷ rest) cursor
     between_read = subst (λ (l : List Item). IsBetween sign octets s.before l cursor) is s.between
 
@@ -135,7 +135,7 @@ module _ {sign : SignData} {octets : List ℕ} {time : ℕ} {cursor : Cursor} (s
     fits = (omega (arith, read.len, room sign octets s.before rest item cursor between_read), omega (arith, read.len, spelling_some item))
 
   -- this was read of the next item
-  module _ (next : Next) (first : IsFirst s.behind (Some next)) where
+  module _ (next : NextItem) (first : IsFirst s.behind (Some next)) where
     -- it has an octet, and ends within the octets
     pub next_fits : (cursor.at + next.len ≤ length octets) × (1 ≤ next.len)
     next_fits = fits first.0 first.1 first.2 next first.3
@@ -167,7 +167,7 @@ module _ {sign : SignData} {octets : List ℕ} {time : ℕ} {cursor : Cursor} (s
     pub shown_at_end : s.behind ≡ [] → {shown : Shown} → answer ≡ Some shown → shown ≡ shown_within (page_times sign (meanings octets)) time
     shown_at_end end found = shown_by [] (times_end end) found
 
-    pub shown_at_page : (next : Next) → IsFirst s.behind (Some next) → is_new_page (meant_by next.item) ≡ true
+    pub shown_at_page : (next : NextItem) → IsFirst s.behind (Some next) → is_new_page (meant_by next.item) ≡ true
         → {shown : Shown} → answer ≡ Some shown → shown ≡ shown_within (page_times sign (meanings octets)) time
     shown_at_page next first new found =
         let (more, is) = times_page first.0 first.1 first.2 next first.3 new in

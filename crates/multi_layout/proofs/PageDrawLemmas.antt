@@ -143,7 +143,7 @@ module _ (sign : SignData) (octets : List ℕ) (before behind : List Item) (laye
         )
 
     -- the rest of the string covers nothing of the page where the page ends
-    pub page_shown : EndsPage (map meaning s.left) → (pages : ℕ) → pages ≡ pages_of (map meaning before) → drawn.Shows plane (λ column row. in_plane sign (map meaning (before ++ behind)) (pages - 1) layer.phase layer.colour column row)
+    pub page_shown : EndsPage (map meaning s.left) → (pages : ℕ) → pages ≡ pages_of (map meaning before) → drawn.Lights plane (λ column row. in_plane sign (map meaning (before ++ behind)) (pages - 1) layer.phase layer.colour column row)
     page_shown ends pages count = λ column row across down.
         let done = map meaning (before ++ s.done) in
         let all : map meaning (before ++ behind) ≡ done ++ map meaning s.left = ap (λ l. map meaning (before ++ l)) s.split ∙ ap (map meaning) (sym (append_assoc before s.done s.left)) ∙ map-append meaning (before ++ s.done) s.left in

@@ -20,9 +20,9 @@ use Rattle.page_plane.specs.Plane.{BitPlane}
 use Rattle.sign_font.specs.Sign.{FontData, SignData, largest, tallest}
 use Rattle.sign_font.specs.Sound.{IsSound, IsSoundFont}
 use Rattle.multi_layout.specs.declared.cursor.Cursor.{Cursor}
-use Rattle.multi_layout.specs.declared.cursor.Next.{Next}
+use Rattle.multi_layout.specs.declared.cursor.NextItem.{NextItem}
 use Rattle.multi_layout.specs.Drawn as drawn
-use Rattle.multi_layout.specs.Judged.{Judged}
+use Rattle.multi_layout.specs.CheckedData.{CheckedData}
 use Rattle.multi_layout.specs.Limits.{drawing_limit, plane_limit, plane_octets, reading_limit}
 use Rattle.multi_layout.specs.Meaning.{BeginsPage, Does, Meaning, is_new_page, meaning, meanings}
 use Rattle.multi_layout.specs.Pages.{IsSized, IsTurned, IsUnderWay, PagesState, TurnsPage, page_count}
@@ -83,7 +83,7 @@ turned sign octets before behind old new b p = record {
 
 -- what is drawn of its items is the picture of the string
 pub shows_picture : (plane : BitPlane) (sign : SignData) (octets : List ℕ) (items : List Item) (page phase colour : ℕ) → IsAccepted sign octets items
-    → drawn.Shows plane (λ column row. in_plane sign (map meaning items) page phase colour column row) → drawn.Shows plane (picture sign octets page phase colour)
+    → drawn.Lights plane (λ column row. in_plane sign (map meaning items) page phase colour column row) → drawn.Lights plane (picture sign octets page phase colour)
 shows_picture plane sign octets items page phase colour a shows =
     λ column row w h. shows column row w h ∙ ap (λ ms. in_plane sign ms page phase colour column row) (same_meanings sign octets items a)
 
@@ -123,7 +123,7 @@ module _ (sign : SignData) (octets : List ℕ) (page : ℕ) where
 
 -- ---- one step of the way: an item is read, and the cursor passes it
 
-module _ (sign : SignData) (page : ℕ) (start source read passed : Counted) (old new : Cursor) (next : Next) (steps : RisesBetween start source 0 (2 * old.at)) (reads : RisesBetween source read 0 (2 * next.len - 1)) (at : new.at ≡ old.at + next.len) where
+module _ (sign : SignData) (page : ℕ) (start source read passed : Counted) (old new : Cursor) (next : NextItem) (steps : RisesBetween start source 0 (2 * old.at)) (reads : RisesBetween source read 0 (2 * next.len - 1)) (at : new.at ≡ old.at + next.len) where
   source_same : source.octets ≡ start.octets
   source_same = ap (λ (s : Counted). s.octets) steps.3
 
@@ -207,7 +207,7 @@ drawing_fills sign plane plane' old cursor n f few =
 -- ---- the pages in turn
 
 -- what was judged is its parts
-judged_is : (a b : Judged) → a.sign ≡ b.sign → a.source ≡ b.source → a ≡ b
+judged_is : (a b : CheckedData) → a.sign ≡ b.sign → a.source ≡ b.source → a ≡ b
 judged_is a b p q = λ i. record { sign = p i; source = q i }
 
 -- at the start
@@ -260,7 +260,7 @@ module _ (old : PagesState) (cursor cursor' : Cursor) (u : IsUnderWay old cursor
   ]
 
   -- behind one more page
-  module _ (string : Judged) (plane : BitPlane) (sign_kept : string.sign ≡ old.string.sign) (size_kept : (plane.width ≡ old.plane.width) × (plane.height ≡ old.plane.height))
+  module _ (string : CheckedData) (plane : BitPlane) (sign_kept : string.sign ≡ old.string.sign) (size_kept : (plane.width ≡ old.plane.width) × (plane.height ≡ old.plane.height))
       (twice : IsReadTwice old.string.source string.source cursor cursor') (f : IsFilledFew old.string.sign old.plane plane cursor cursor') where
     abbrev pub moved : ℕ → PagesState
     moved k = record {

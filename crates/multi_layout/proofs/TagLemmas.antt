@@ -65,11 +65,11 @@ module _ (sign : SignData) (items : List Meaning) (state : State) (st : IsStateO
   abbrev pub After : Tag → Type 0
   After tag = attributes ≡ attributes_of (standing_behind sign (standing sign items) (Does tag))
 
-  abbrev pub Judged : Tag → Type 0
-  Judged tag = (offence sign items (Does tag) ≡ None) × IsStateOf sign (items ++ Does tag ∷ []) (record state { attributes = attributes })
+  abbrev pub CheckedData : Tag → Type 0
+  CheckedData tag = (offence sign items (Does tag) ≡ None) × IsStateOf sign (items ++ Does tag ∷ []) (record state { attributes = attributes })
 
   -- a simple tag: it doesn't offend, and the values in force change
-  pub judged-simple : (tag : Tag) → IsSimple tag → IsKnown tag → After tag → Judged tag
+  pub judged-simple : (tag : Tag) → IsSimple tag → IsKnown tag → After tag → CheckedData tag
   unfolding offence
   judged-simple NewPage s k is = absurd s
   judged-simple (NewLine gap) s k is = absurd s
@@ -123,7 +123,7 @@ module _ (sign : SignData) (items : List Meaning) (state : State) (st : IsStateO
 
   -- a font: the values in force have its numbers
   pub judged-font : (pick : Option FontPick) (font : FontData) → (standing_behind sign (standing sign items) (Does (Font pick))).font ≡ font → font_numbered sign font.number ≡ Some font
-      → attributes ≡ record state.attributes { font = info_of font } → offence sign items (Does (Font pick)) ≡ None → Judged (Font pick)
+      → attributes ≡ record state.attributes { font = info_of font } → offence sign items (Does (Font pick)) ≡ None → CheckedData (Font pick)
   judged-font pick font new own is fine =
       let x = Does (Font pick) in
       let after : attributes ≡ attributes_of (standing_behind sign (standing sign items) x) =
@@ -140,7 +140,7 @@ module _ (sign : SignData) (items : List Meaning) (state : State) (st : IsStateO
 -- the default font
 pub judged-default_font : (sign : SignData) (items : List Meaning) (state : State) (st : IsStateOf sign items state) (sound : IsSound sign) (info : FontInfo)
     → option_map info_of (font_numbered sign sign.defaults.font) ≡ Some info
-    → Judged sign items state st sound (record state.attributes { font = info }) (Font None)
+    → CheckedData sign items state st sound (record state.attributes { font = info }) (Font None)
 unfolding offence
 judged-default_font sign items state st sound info is =
     let (font, found, same) = font_of_info (font_numbered sign sign.defaults.font) info is in
@@ -173,7 +173,7 @@ judged-version sign items pick info is differs =
 -- the font that is asked for, in its version
 pub judged-picked : (sign : SignData) (items : List Meaning) (state : State) (st : IsStateOf sign items state) (sound : IsSound sign) (pick : FontPick) (info : FontInfo)
     → option_map info_of (font_numbered sign pick.number) ≡ Some info → option_map_or (λ v. v == info.version) pick.version true ≡ true
-    → Judged sign items state st sound (record state.attributes { font = info }) (Font (Some pick))
+    → CheckedData sign items state st sound (record state.attributes { font = info }) (Font (Some pick))
 judged-picked sign items state st sound pick info is agrees =
     let (font, found, same) = font_of_info (font_numbered sign pick.number) info is in
     let versions : font.version ≡ info.version = ap (λ (i : FontInfo). i.version) (sym same) in

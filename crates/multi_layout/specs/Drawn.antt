@@ -11,5 +11,5 @@ unfolding things_among
 has_colour sign page phase colour all some column row = shown_colour sign (colour_of sign.defaults (things_among phase all some) page column row) == colour
 
 -- the plane has lit the pixels of a test of column and row (own)
-abbrev pub Shows : BitPlane → (ℕ → ℕ → Bool) → Type 0
-Shows plane lit = (column row : ℕ) → column < plane.width → row < plane.height → is_lit plane column row ≡ lit column row
+abbrev pub Lights : BitPlane → (ℕ → ℕ → Bool) → Type 0
+Lights plane lit = (column row : ℕ) → column < plane.width → row < plane.height → is_lit plane column row ≡ lit column row

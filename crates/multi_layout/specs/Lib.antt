@@ -1,10 +1,10 @@
 pub mod Address
 pub mod Attributes
+pub mod CheckedData
 pub mod Codes
 pub mod Drawn
 pub mod Fit
-pub mod Item
-pub mod Judged
+pub mod KnownItem
 pub mod Lending
 pub mod Limits
 pub mod Line
@@ -16,8 +16,8 @@ pub mod Passes
 pub mod Picture
 pub mod Place
 pub mod State
-pub mod Table
 pub mod Sums
+pub mod Table
 pub mod Times
 pub mod Verdict
 pub mod Walk

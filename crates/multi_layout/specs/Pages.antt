@@ -5,7 +5,7 @@ use Rattle.page_plane.specs.Plane.{BitPlane}
 use Rattle.sign_font.specs.Sign.{SignData, tallest}
 use Rattle.sign_font.specs.Sound.{IsSound}
 use Rattle.multi_layout.specs.declared.cursor.Cursor.{Cursor}
-use Rattle.multi_layout.specs.Judged.{Judged}
+use Rattle.multi_layout.specs.CheckedData.{CheckedData}
 use Rattle.multi_layout.specs.Limits.{plane_limit, plane_octets, reading_limit}
 use Rattle.multi_layout.specs.Meaning.{meanings}
 use Rattle.multi_layout.specs.Paging.{IsPageStart}
@@ -13,7 +13,7 @@ use Rattle.multi_layout.specs.Verdict.{pages_of}
 
 -- the string and the plane as they are, what is drawn, the page that comes next, and both counts at the start (own)
 pub record PagesState : Type 0 where
-  pub string : Judged
+  pub string : CheckedData
   pub plane : BitPlane
   pub phase : ℕ
   pub colour : ℕ
@@ -22,7 +22,7 @@ pub record PagesState : Type 0 where
   pub plane_started : ℕ
 
 -- the number of pages of a string that was judged (own)
-abbrev pub page_count : Judged → ℕ
+abbrev pub page_count : CheckedData → ℕ
 page_count string = pages_of (meanings string.source.octets)
 
 -- the plane has the size of the sign (own)

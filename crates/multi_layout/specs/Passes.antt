@@ -12,7 +12,7 @@ use Rattle.multi_layout.specs.declared.paint.Layer.{Layer}
 use Rattle.multi_layout.specs.declared.read.AreaLines.{AreaLines}
 use Rattle.multi_layout.specs.declared.table.LineTable.{LineTable}
 use Rattle.multi_layout.specs.Address.{Spot, spots, standing, in_group, lines_of, in_area}
-use Rattle.multi_layout.specs.Drawn.{Shows, has_colour}
+use Rattle.multi_layout.specs.Drawn.{Lights, has_colour}
 use Rattle.multi_layout.specs.Limits.{plane_octets}
 use Rattle.multi_layout.specs.Meaning.{Meaning, Does, EndsArea, begins_area, meaning}
 use Rattle.multi_layout.specs.Sums.{ended_lines}
@@ -72,7 +72,7 @@ pub record IsAreaRead (sign : SignData) (before behind : List Item) (cursor : Cu
 -- the plane shows what these items put on their page, of all the items of the string (own)
 abbrev pub IsDrawnTo : SignData → Layer → List Meaning → List Meaning → BitPlane → Type 0
 IsDrawnTo sign layer items before plane =
-    Shows plane (has_colour sign (standing sign before).page layer.phase layer.colour (spots sign items) (spots sign before))
+    Lights plane (has_colour sign (standing sign before).page layer.phase layer.colour (spots sign items) (spots sign before))
 
 -- these octets of a page took at most these steps over the plane: a row for each row of each character, and a fill for each
 -- background, which has four octets (own)

@@ -4,8 +4,8 @@ use Rattle.std.specs.List.{All}
 use Rattle.multi_token.specs.Spelling.{Item, IsItem, spelling, spell}
 use Rattle.sign_font.specs.Sign.{SignData}
 use Rattle.multi_layout.specs.declared.cursor.Cursor.{Cursor}
-use Rattle.multi_layout.specs.declared.cursor.Next.{Next}
-use Rattle.multi_layout.specs.Item.{meant_by, IsKnownItem}
+use Rattle.multi_layout.specs.declared.cursor.NextItem.{NextItem}
+use Rattle.multi_layout.specs.KnownItem.{meant_by, IsKnownItem}
 use Rattle.multi_layout.specs.Meaning.{meaning}
 use Rattle.multi_layout.specs.State.{IsStateOf}
 use Rattle.multi_layout.specs.Verdict.{offences}
@@ -28,16 +28,16 @@ abbrev pub IsCursor : SignData → List ℕ → Cursor → Type 0
 IsCursor sign octets cursor = (before behind : List Item) × IsBetween sign octets before behind cursor
 
 -- this is read of an item (own)
-pub record IsRead (item : Item) (next : Next) : Type 0 where
+pub record IsRead (item : Item) (next : NextItem) : Type 0 where
   pub meant : meaning item ≡ meant_by next.item
   pub known : IsKnownItem next.item
   pub len : next.len ≡ length (spelling item)
 
 -- this is read of the first of these items, or there is none (own)
-abbrev pub IsFirst : List Item → Option Next → Type 0
+abbrev pub IsFirst : List Item → Option NextItem → Type 0
 IsFirst behind None = behind ≡ []
 IsFirst behind (Some next) = (item : Item) × (rest : List Item) × (behind ≡ item ∷ rest) × IsRead item next
 
 -- the cursor stands before an item of an accepted string, of which this is read (own)
-abbrev pub IsBefore : SignData → List ℕ → Next → Cursor → Type 0
+abbrev pub IsBefore : SignData → List ℕ → NextItem → Cursor → Type 0
 IsBefore sign octets next cursor = (before rest : List Item) × (item : Item) × IsBetween sign octets before (item ∷ rest) cursor × IsRead item next

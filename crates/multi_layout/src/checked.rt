@@ -18,10 +18,10 @@ pub struct Checked<'a> {
 
 impl<'a> Model for Checked<'a> {
     ghost use Rattle.std.specs.Prelude.{◌<◌, ◌^◌, length};
-    ghost use Rattle.multi_layout.specs.Judged.{Judged};
+    ghost use Rattle.multi_layout.specs.CheckedData.{CheckedData};
     ghost use Rattle.multi_layout.specs.Verdict.{Accepted, IsVerdict, IsCycle};
 
-    ghost Value = { Judged };
+    ghost Value = { CheckedData };
 
     ghost view = { λ c. record { sign = c.terms; source = c.source } };
 

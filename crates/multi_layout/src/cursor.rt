@@ -7,7 +7,7 @@ ghost use Rattle.sign_font.specs.Sign.{SignData, cell_in};
 ghost use Rattle.sign_font.specs.Sound.{IsSound};
 ghost use Rattle.multi_layout.specs.Walk.{IsAccepted, IsBefore, IsBetween, IsCursor, IsFirst, IsRead};
 
-use crate::item::{Item, read_item};
+use crate::item::{KnownItem, read_item};
 use crate::judge::{judge_cell, judge_item};
 use crate::state::State;
 use crate::terms::Terms;
@@ -23,8 +23,8 @@ pub(crate) struct Cursor {
 
 /// What is read of the next item: the item, and the number of its octets.
 #[derive(Clone, Copy, Debug, PartialEq, Eq)]
-pub(crate) struct Next {
-    pub(crate) item: Item,
+pub(crate) struct NextItem {
+    pub(crate) item: KnownItem,
     pub(crate) len: usize,
 }
 
@@ -42,7 +42,7 @@ impl Cursor {
     }
 
     /// Reads the next item, or `None` at the end.
-    pub(crate) fn next_item(&self, source: &mut Source<'_>) -> Option<Next>
+    pub(crate) fn next_item(&self, source: &mut Source<'_>) -> Option<NextItem>
         requires { (sign : SignData) × IsCursor sign source.old.octets self.now }
         ensures first { (sign : SignData) (before behind : List spelled.Item)
             → IsBetween sign source.old.octets before behind self.now → IsFirst behind result }
@@ -56,7 +56,7 @@ impl Cursor {
             Err(_) => unreachable!(),
         };
         match read_item(source, &token) {
-            Ok(item) => Some(Next {
+            Ok(item) => Some(NextItem {
                 item,
                 len: token.len,
             }),
@@ -65,7 +65,7 @@ impl Cursor {
     }
 
     /// The cursor behind the next item, of which this was read.
-    pub(crate) fn pass(&self, sign: &Terms<'_>, source: &mut Source<'_>, next: Next) -> Cursor
+    pub(crate) fn pass(&self, sign: &Terms<'_>, source: &mut Source<'_>, next: NextItem) -> Cursor
         requires { IsBefore sign.now source.old.octets next self.now }
         ensures passed { (before rest : List spelled.Item) (item : spelled.Item) → IsBetween sign.now source.old.octets before (item ∷ rest) self.now
             → IsRead item next → IsBetween sign.now source.old.octets (before ++ item ∷ []) rest result }
@@ -85,10 +85,10 @@ impl Cursor {
     /// The cursor behind the next item, a character of so many octets whose cell was found.
     pub(crate) fn pass_character(&self, number: u8, cell: &Cell<'_>, len: usize) -> Cursor
         requires { (sign : SignData) × (octets : List ℕ)
-            × IsBefore sign octets (record { item = Item.Character number; len = len }) self.now
+            × IsBefore sign octets (record { item = KnownItem.Char number; len = len }) self.now
             × (cell_in sign self.now.state.attributes.font.number number ≡ Some cell.now) }
         ensures passed { (sign : SignData) (octets : List ℕ) (before rest : List spelled.Item) (item : spelled.Item)
-            → IsBetween sign octets before (item ∷ rest) self.now → IsRead item (record { item = Item.Character number; len = len })
+            → IsBetween sign octets before (item ∷ rest) self.now → IsRead item (record { item = KnownItem.Char number; len = len })
             → cell_in sign self.now.state.attributes.font.number number ≡ Some cell.now
             → IsBetween sign octets (before ++ item ∷ []) rest result }
         ensures at { result.at ≡ self.now.at + len }

@@ -5,7 +5,7 @@ ghost use Rattle.std.specs.Option.{unwrap_or};
 ghost use Rattle.multi_token.specs.Counted.{RisesBetween};
 ghost use Rattle.multi_token.specs.Spelling as spelled;
 ghost use Rattle.sign_font.specs.Sound.{IsSound};
-ghost use Rattle.multi_layout.specs.Drawn.{Shows};
+ghost use Rattle.multi_layout.specs.Drawn.{Lights};
 ghost use Rattle.multi_layout.specs.Meaning.{begins_area, meaning};
 ghost use Rattle.multi_layout.specs.Pages.{IsSized};
 ghost use Rattle.multi_layout.specs.Paging.{IsFilledFew, IsPagePassed, IsPageStart, IsReadTwice};
@@ -14,8 +14,8 @@ ghost use Rattle.multi_layout.specs.Limits.{plane_octets};
 ghost use Rattle.multi_layout.specs.Picture.{in_plane, shown_colour};
 ghost use Rattle.multi_layout.specs.Walk.{IsBetween, IsRead};
 
-use crate::cursor::{Cursor, Next};
-use crate::item::Item;
+use crate::cursor::{Cursor, NextItem};
+use crate::item::KnownItem;
 use crate::paint::{Layer, put_character};
 use crate::read::{AreaLines, read_area};
 use crate::table::LineTable;
@@ -35,7 +35,7 @@ pub(crate) fn draw_page(
     requires begins { IsPageStart sign.now source.old.octets cursor }
     requires size { IsSized plane.old sign.now }
     ensures drawn { (before behind : List spelled.Item) → IsBetween sign.now source.old.octets before behind cursor
-        → Shows plane.new (λ column row. in_plane sign.now (map meaning (before ++ behind)) (cursor.state.pages - 1) layer.phase layer.colour column row) }
+        → Lights plane.new (λ column row. in_plane sign.now (map meaning (before ++ behind)) (cursor.state.pages - 1) layer.phase layer.colour column row) }
     ensures passed { (before behind : List spelled.Item) → IsBetween sign.now source.old.octets before behind cursor
         → IsPagePassed sign.now source.old.octets before behind cursor result }
     ensures size { (plane.new.width ≡ plane.old.width) × (plane.new.height ≡ plane.old.height) }
@@ -98,7 +98,7 @@ fn draw_item(
     sign: &Terms<'_>,
     source: &mut Source<'_>,
     cursor: Cursor,
-    next: Next,
+    next: NextItem,
     lines: &LineTable,
     layer: Layer,
     plane: &mut Plane,
@@ -119,7 +119,7 @@ fn draw_item(
     ensures fills { IsFilledBy sign.now plane.old plane.new next.len }
 {
     match next.item {
-        Item::Character(number) => {
+        KnownItem::Char(number) => {
             let font = cursor.state.attributes.font.number;
             let Some(cell) = sign.cell(source, font, u16::from(number)) else {
                 // Each character of an accepted string has a cell.
@@ -128,7 +128,7 @@ fn draw_item(
             put_character(sign, &cursor.state, &cell, lines, layer, plane);
             cursor.pass_character(number, &cell, next.len)
         }
-        Item::Tag(tag) => {
+        KnownItem::Tag(tag) => {
             draw_tag(sign, tag, layer, plane);
             cursor.pass(sign, source, next)
         }
@@ -138,7 +138,7 @@ fn draw_item(
 /// Fills the plane where a tag sets the page's background.
 fn draw_tag(sign: &Terms<'_>, tag: Tag, layer: Layer, plane: &mut Plane)
     requires size { IsSized plane.old sign.now }
-    ensures back { (given : Option ℕ) → tag ≡ Tag.Back given → Shows plane.new (λ column row. shown_colour sign.now (unwrap_or given sign.now.defaults.back) == layer.colour) }
+    ensures back { (given : Option ℕ) → tag ≡ Tag.Back given → Lights plane.new (λ column row. shown_colour sign.now (unwrap_or given sign.now.defaults.back) == layer.colour) }
     ensures quiet { IsQuiet tag → plane.new ≡ plane.old }
     ensures counted { plane.old.steps ≤ plane.new.steps }
     ensures steps { plane.new.steps ≤ plane.old.steps + plane_octets sign.now }

@@ -4,7 +4,7 @@ ghost use Rattle.std.specs.Prelude.{◌≡◌, ◌-◌, IfOk, IfErr};
 ghost use Rattle.multi_token.specs.Counted.{RisesBetween};
 ghost use Rattle.multi_token.specs.Tokens.{IsTokenOf, item_of};
 ghost use Rattle.multi_layout.specs.Codes.{code_of};
-ghost use Rattle.multi_layout.specs.Item.{IsKnownItem, meant_by};
+ghost use Rattle.multi_layout.specs.KnownItem.{IsKnownItem, meant_by};
 ghost use Rattle.multi_layout.specs.Meaning.{Faulty, begins_area, is_new_page, meaning};
 ghost use Rattle.multi_layout.specs.Passes.{ends_line};
 
@@ -14,36 +14,36 @@ use multi_token::{Kind, Source, Token};
 
 /// An item of a string: a character by its number, or what a tag says (NTCIP 1203 v03, MULTI).
 #[derive(Clone, Copy, Debug, PartialEq, Eq)]
-pub(crate) enum Item {
-    Character(u8),
+pub(crate) enum KnownItem {
+    Char(u8),
     Tag(Tag),
 }
 
-impl Item {
+impl KnownItem {
     /// Whether a page ends before the item.
     pub(crate) fn ends_page(self) -> bool
         ensures { result ≡ is_new_page (meant_by self) }
     {
-        matches!(self, Item::Tag(Tag::NewPage))
+        matches!(self, KnownItem::Tag(Tag::NewPage))
     }
 
     /// Whether an area begins behind the item.
     pub(crate) fn begins_area(self) -> bool
         ensures { result ≡ begins_area (meant_by self) }
     {
-        matches!(self, Item::Tag(Tag::NewPage | Tag::Rect { .. }))
+        matches!(self, KnownItem::Tag(Tag::NewPage | Tag::Rect { .. }))
     }
 
     /// Whether the item ends a line.
     pub(crate) fn ends_line(self) -> bool
         ensures { result ≡ ends_line (meant_by self) }
     {
-        matches!(self, Item::Tag(Tag::NewLine(_)))
+        matches!(self, KnownItem::Tag(Tag::NewLine(_)))
     }
 }
 
 /// The item of a token, or the tag's error.
-pub(crate) fn read_item(source: &mut Source<'_>, token: &Token) -> Result<Item, SyntaxError>
+pub(crate) fn read_item(source: &mut Source<'_>, token: &Token) -> Result<KnownItem, SyntaxError>
     requires { IsTokenOf source.old.octets token.now }
     ensures read { IfOk result (λ item. meaning (item_of source.old.octets token.now) ≡ meant_by item) }
     ensures known { IfOk result IsKnownItem }
@@ -51,9 +51,9 @@ pub(crate) fn read_item(source: &mut Source<'_>, token: &Token) -> Result<Item, 
     ensures steps { RisesBetween source.old source.new 0 (token.now.len - 1) }
 {
     match token.kind {
-        Kind::Char(number) => Ok(Item::Character(number)),
+        Kind::Char(number) => Ok(KnownItem::Char(number)),
         Kind::Tag => match read_tag(source, token) {
-            Ok(tag) => Ok(Item::Tag(tag)),
+            Ok(tag) => Ok(KnownItem::Tag(tag)),
             Err(TagFault::Unsupported) => Err(SyntaxError::UnsupportedTag),
             Err(TagFault::Value) => Err(SyntaxError::UnsupportedTagValue),
         },

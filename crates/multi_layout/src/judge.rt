@@ -9,7 +9,7 @@ ghost use Rattle.sign_font.specs.Sign.{SignData, cell_in};
 ghost use Rattle.multi_layout.specs.Codes.{code_of};
 ghost use Rattle.multi_layout.specs.Limits.{check_limit};
 ghost use Rattle.multi_layout.specs.Meaning.{Does, Faulty, Shows, meaning};
-ghost use Rattle.multi_layout.specs.Item.{IsKnownItem, meant_by};
+ghost use Rattle.multi_layout.specs.KnownItem.{IsKnownItem, meant_by};
 ghost use Rattle.multi_layout.specs.State.{IsKnown, IsReady, Judges};
 ghost use Rattle.multi_layout.specs.Verdict.{Accepted, IsCycle, IsVerdict, Refused};
 
@@ -17,7 +17,7 @@ use crate::area::Area;
 use crate::attributes::{Attributes, Rectangle, whole_sign};
 use crate::checked::Checked;
 use crate::fault::{Fault, SyntaxError};
-use crate::item::{Item, read_item};
+use crate::item::{KnownItem, read_item};
 use crate::state::State;
 use crate::terms::Terms;
 use multi_tag::{FontPick, Tag};
@@ -154,7 +154,7 @@ pub(crate) fn judge_item(
     sign: &Terms<'_>,
     state: State,
     source: &mut Source<'_>,
-    item: Item,
+    item: KnownItem,
 ) -> Result<State, SyntaxError>
     requires ready { IsReady state }
     requires known { IsKnownItem item }
@@ -162,8 +162,8 @@ pub(crate) fn judge_item(
     ensures steps { RisesBetween source.old source.new 0 1 }
 {
     match item {
-        Item::Character(number) => judge_character(sign, state, source, number),
-        Item::Tag(tag) => judge_tag(sign, state, source, tag),
+        KnownItem::Char(number) => judge_character(sign, state, source, number),
+        KnownItem::Tag(tag) => judge_tag(sign, state, source, tag),
     }
 }
 

@@ -4,7 +4,7 @@ ghost use Rattle.std.specs.Prelude.{◌≡◌, ◌+◌, ◌-◌, ◌*◌, ◌<�
 ghost use Rattle.std.specs.Borrow.{sem};
 ghost use Rattle.multi_token.specs.Counted.{RisesBetween};
 ghost use Rattle.multi_token.specs.Reading.{reading};
-ghost use Rattle.multi_layout.specs.Drawn.{Shows};
+ghost use Rattle.multi_layout.specs.Drawn.{Lights};
 ghost use Rattle.multi_layout.specs.Limits.{drawing_limit, plane_limit, reading_limit};
 ghost use Rattle.multi_layout.specs.Meaning.{meanings};
 ghost use Rattle.multi_layout.specs.Pages.{IsSized, IsTurned, page_count};
@@ -85,7 +85,7 @@ impl<'a> Checked<'a> {
     pub fn draw(&mut self, page: u8, phase: u64, colour: u8, plane: &mut Plane) -> bool
         requires size { IsSized plane.old self.old.sign }
         ensures exists { result ≡ nat_lt page (page_count self.old) }
-        ensures drawn { result ≡ true → Shows plane.new (picture self.old.sign self.old.source.octets page phase colour) }
+        ensures drawn { result ≡ true → Lights plane.new (picture self.old.sign self.old.source.octets page phase colour) }
         ensures undrawn { result ≡ false → (self.new ≡ self.old) × (plane.new ≡ plane.old) }
         ensures kept { self.new.sign ≡ self.old.sign }
         ensures size { (plane.new.width ≡ plane.old.width) × (plane.new.height ≡ plane.old.height) }
@@ -105,7 +105,7 @@ impl<'a> Checked<'a> {
     fn draw_from(&mut self, cursor: Cursor, layer: Layer, plane: &mut Plane) -> Cursor
         requires begins { IsPageStart self.old.sign self.old.source.octets cursor }
         requires size { IsSized plane.old self.old.sign }
-        ensures drawn { Shows plane.new
+        ensures drawn { Lights plane.new
             (picture self.old.sign self.old.source.octets (cursor.state.pages - 1) layer.phase layer.colour) }
         ensures turned { IsTurned self.old.sign self.old.source.octets cursor result }
         ensures kept { self.new.sign ≡ self.old.sign }
@@ -170,7 +170,7 @@ impl<'a> Pages<'a> {
         ensures* after { sem 𝓛 (TurnedAfter self.entry result) }
         ensures page { MatchOption result (self.old.next ≡ page_count self.old.string)
             (λ view. (self.old.next < page_count self.old.string) × (view.page ≡ self.old.next)
-            × Shows view.plane.now (picture self.old.string.sign self.old.string.source.octets self.old.next self.old.phase self.old.colour)) }
+            × Lights view.plane.now (picture self.old.string.sign self.old.string.source.octets self.old.next self.old.phase self.old.colour)) }
         ensures size { IfSome result (λ view. IsSized view.plane.now self.old.string.sign) }
     {
         let page = self.next;

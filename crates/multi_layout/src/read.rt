@@ -7,7 +7,7 @@ ghost use Rattle.multi_token.specs.Spelling as spelled;
 ghost use Rattle.sign_font.specs.Sign.{SignData};
 ghost use Rattle.sign_font.specs.Sound.{IsSound};
 ghost use Rattle.multi_layout.specs.Address.{Spot, lines_of};
-ghost use Rattle.multi_layout.specs.Item.{meant_by};
+ghost use Rattle.multi_layout.specs.KnownItem.{meant_by};
 ghost use Rattle.multi_layout.specs.Meaning.{Meaning, EndsArea, meaning, begins_area};
 ghost use Rattle.multi_layout.specs.Passes.{HasCounted, HasEnded, HasRoom, IsAreaRead, IsLow, ends_line, first_steps};
 ghost use Rattle.multi_layout.specs.State.{IsStateOf, present_area};
@@ -16,8 +16,8 @@ ghost use Rattle.multi_layout.specs.Table.{group_lines, table_of};
 ghost use Rattle.multi_layout.specs.Walk.{IsBetween, IsCursor, IsFirst};
 
 use crate::area::{Area, Group};
-use crate::cursor::{Cursor, Next};
-use crate::item::Item;
+use crate::cursor::{Cursor, NextItem};
+use crate::item::KnownItem;
 use crate::state::State;
 use crate::table::{CountedLine, LineTable};
 use crate::terms::Terms;
@@ -54,7 +54,7 @@ pub(crate) fn read_area(sign: &Terms<'_>, source: &mut Source<'_>, cursor: Curso
 }
 
 /// Reads the next item, or `None` where the area ends.
-fn next_plain(cursor: &Cursor, source: &mut Source<'_>) -> Option<Next>
+fn next_plain(cursor: &Cursor, source: &mut Source<'_>) -> Option<NextItem>
     requires { (sign : SignData) × IsCursor sign source.old.octets cursor.now }
     ensures first { IfSome result (λ next. (sign : SignData) (before behind : List spelled.Item)
         → IsBetween sign source.old.octets before behind cursor.now → IsFirst behind (Some next)) }
@@ -72,7 +72,7 @@ fn next_plain(cursor: &Cursor, source: &mut Source<'_>) -> Option<Next>
 }
 
 /// Puts the line that an item ended into the table; only an `nl` ends one.
-fn end_line(lines: &mut LineTable, item: Item, before: &State, after: &State)
+fn end_line(lines: &mut LineTable, item: KnownItem, before: &State, after: &State)
     requires known { (2 ≤ before.now.attributes.page_just) × (before.now.attributes.page_just ≤ 4) }
     requires room { ends_line (meant_by item) ≡ true → length (group_lines before.now.attributes.page_just lines.old) < 128 }
     requires below { IsBelow (2 ^ 43) after.now.area }

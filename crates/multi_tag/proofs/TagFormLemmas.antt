@@ -19,17 +19,17 @@ pub record IsRead {V : Type 0} (spells : Form V) (read : Reads V) : Type 0 where
   pub whole : (octets : List ℕ) (v : V) → spells octets v → read octets ≡ Some v
 
 -- nothing
-pub nothing_read : {V : Type 0} (value : V) → IsRead (form.nothing value) (reads.nothing value)
+pub nothing_read : {V : Type 0} (value : V) → IsRead (form.nothing value) (reads.read_nothing value)
 nothing_read {V} value = record {
   sound = sound;
   whole = whole;
 }
   where
-    sound : (octets : List ℕ) (v : V) → reads.nothing value octets ≡ Some v → form.nothing value octets v
+    sound : (octets : List ℕ) (v : V) → reads.read_nothing value octets ≡ Some v → form.nothing value octets v
     sound [] v e = (refl, sym (same_Some value v e))
     sound (c ∷ cs) v e = absurd (none-some v e)
 
-    whole : (octets : List ℕ) (v : V) → form.nothing value octets v → reads.nothing value octets ≡ Some v
+    whole : (octets : List ℕ) (v : V) → form.nothing value octets v → reads.read_nothing value octets ≡ Some v
     whole [] v (empty, is) = ap Some (sym is)
     whole (c ∷ cs) v (empty, is) = absurd cc
 
@@ -109,5 +109,5 @@ or_read {V} {a} {b} {f} {g} is also one = record {
     whole octets v (inr k) = second octets v (f octets) refl k
 
 -- d?
-pub optional_read : (low high : ℕ) → IsRead (form.d? low high) (reads.d? low high)
+pub optional_read : (low high : ℕ) → IsRead (form.d? low high) (reads.decimal? low high)
 optional_read low high = or_read (nothing_read None) (means_read Some (digits_read 10 5 low high)) (λ octets v w a b. absurd (b.1.least a.0))

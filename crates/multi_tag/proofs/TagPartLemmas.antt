@@ -14,7 +14,7 @@ use Rattle.multi_tag.specs.TagOf.{Reads, are_digits, parts}
 use Rattle.multi_tag.proofs.TagFormLemmas.{IsRead}
 
 -- behind an octet
-pub after_read : {V : Type 0} {spells : Form V} {read : Reads V} (octet : ℕ) → IsRead spells read → IsRead (form.after octet spells) (reads.after octet read)
+pub after_read : {V : Type 0} {spells : Form V} {read : Reads V} (octet : ℕ) → IsRead spells read → IsRead (form.after octet spells) (reads.read_after octet read)
 after_read {V} {spells} {read} octet is = record {
   sound = sound;
   whole = λ octets v (rest, same, f). rw (same, eq-eqb octet octet refl) (is.whole rest v f);
@@ -24,7 +24,7 @@ after_read {V} {spells} {read} octet is = record {
     begun first rest v true t e = (rest, ap (λ c. c ∷ rest) (eqb-true first octet t), is.sound rest v e)
     begun first rest v false t e = absurd (none-some v e)
 
-    sound : (octets : List ℕ) (v : V) → reads.after octet read octets ≡ Some v → form.after octet spells octets v
+    sound : (octets : List ℕ) (v : V) → reads.read_after octet read octets ≡ Some v → form.after octet spells octets v
     sound [] v e = absurd (none-some v e)
     sound (first ∷ rest) v e = begun first rest v (first == octet) refl e
 
@@ -55,7 +55,7 @@ module _ (octet : ℕ) where
       rw (ne_eqb c octet other, parts_at front rest none (All-tail (IsDigit 10) c front each)) refl
 
 -- two forms with an octet between them that is no digit, where the first is of digits
-pub between_read : {U V : Type 0} {a : Form U} {b : Form V} {f : Reads U} {g : Reads V} (octet : ℕ) → ¬ (IsDigit 10 octet) → ((octets : List ℕ) (u : U) → a octets u → All (IsDigit 10) octets) → IsRead a f → IsRead b g → IsRead (form.between octet a b) (reads.between octet f g)
+pub between_read : {U V : Type 0} {a : Form U} {b : Form V} {f : Reads U} {g : Reads V} (octet : ℕ) → ¬ (IsDigit 10 octet) → ((octets : List ℕ) (u : U) → a octets u → All (IsDigit 10) octets) → IsRead a f → IsRead b g → IsRead (form.between octet a b) (reads.read_between octet f g)
 between_read {U} {V} {a} {b} {f} {g} octet none digits is also = record {
   sound = λ octets v e. sound octets v (parts octet octets) refl e;
   whole = λ octets v (front, rest, same, k, l). rw (same, parts_at octet front rest none (digits front v.0 k), is.whole front v.0 k, also.whole rest v.1 l) refl;

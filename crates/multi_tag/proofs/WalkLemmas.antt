@@ -6,7 +6,7 @@ use Rattle.std.proofs.lemmas.List.{length-map}
 use Rattle.multi_token.specs.Counted.{Counted, charged, RisesBetween}
 use Rattle.multi_token.proofs.PlaceLemmas.{drop_read}
 use Rattle.multi_token.proofs.StepLemmas.{charged-charged}
-use Rattle.multi_tag.specs.declared.cursor.Cursor.{Cursor}
+use Rattle.multi_tag.specs.declared.body_place.BodyPlace.{BodyPlace}
 use Rattle.multi_tag.specs.Walk.{left, IsWithin, HasReadOn}
 
 -- the next octet, and what is left behind it
@@ -16,7 +16,7 @@ left_next source at end octet h e =
     rw (one, drop_read source.octets at octet e) refl
 
 -- nothing is left at the end alone
-pub at_end : (source : Counted) (cursor : Cursor) → IsWithin source cursor → left source cursor ≡ [] → cursor.at ≡ cursor.end
+pub at_end : (source : Counted) (cursor : BodyPlace) → IsWithin source cursor → left source cursor ≡ [] → cursor.at ≡ cursor.end
 at_end source cursor w e =
     let size : length (left source cursor) ≡ cursor.end - cursor.at = simp (length-map, length-take, length-drop) (let p = w.place in let q = w.body in omega arith) in
     let none : length (left source cursor) ≡ 0 = ap length e in
@@ -24,7 +24,7 @@ at_end source cursor w e =
     omega arith
 
 -- a walk, and a walk from there on
-pub walk_on : {a b d : Counted} {p q r : Cursor} → HasReadOn a b p q → HasReadOn b d q r → HasReadOn a d p r
+pub walk_on : {a b d : Counted} {p q r : BodyPlace} → HasReadOn a b p q → HasReadOn b d q r → HasReadOn a d p r
 walk_on {a} {b} {d} {p} {q} {r} f g =
     let f0 = f.forward in
     let g0 = g.forward in
@@ -37,5 +37,5 @@ walk_on {a} {b} {d} {p} {q} {r} f g =
     }
 
 -- so many steps at least and at most
-pub walk_rises : {a b : Counted} {p q : Cursor} (low high : ℕ) → HasReadOn a b p q → p.at + low ≤ q.at → q.at ≤ p.at + high → RisesBetween a b low high
+pub walk_rises : {a b : Counted} {p q : BodyPlace} (low high : ℕ) → HasReadOn a b p q → p.at + low ≤ q.at → q.at ≤ p.at + high → RisesBetween a b low high
 walk_rises {a} {b} {p} {q} low high w least most = (q.at - p.at, omega arith, omega arith, w.steps)

@@ -19,9 +19,9 @@ abbrev pub Reads : Type 0 → Type 0
 Reads V = List ℕ → Option V
 
 -- nothing stands there, and it is read as this value (own)
-abbrev pub nothing : {V : Type 0} → V → Reads V
-nothing value [] = Some value
-nothing value (_ ∷ _) = None
+abbrev pub read_nothing : {V : Type 0} → V → Reads V
+read_nothing value [] = Some value
+read_nothing value (_ ∷ _) = None
 
 -- the octets are one digit to so many, and the number that they write lies from low to high (own)
 abbrev pub are_digits : ℕ → ℕ → ℕ → ℕ → List ℕ → Bool
@@ -36,13 +36,13 @@ are_digits base most low high octets =
 abbrev pub digits : ℕ → ℕ → ℕ → ℕ → Reads ℕ
 digits base most low high octets = if are_digits base most low high octets then Some (number base octets) else None
 
--- d: 1 to 5 decimal digits, for a number from low to high (NTCIP 1203 v03, MULTI; how many digits is own)
-abbrev pub d : ℕ → ℕ → Reads ℕ
-d low high = digits 10 5 low high
+-- 1 to 5 decimal digits, for a number from low to high (NTCIP 1203 v03, MULTI; how many digits is own)
+abbrev pub decimal : ℕ → ℕ → Reads ℕ
+decimal low high = digits 10 5 low high
 
--- h: 1 to 4 hexadecimal digits (NTCIP 1203 v03, MULTI tag 'fo'; how many digits is own)
-abbrev pub h : Reads ℕ
-h = digits 16 4 0 65535
+-- 1 to 4 hexadecimal digits (NTCIP 1203 v03, MULTI tag 'fo'; how many digits is own)
+abbrev pub hexadecimal : Reads ℕ
+hexadecimal = digits 16 4 0 65535
 
 infixr 2 ◌or◌
 infix 3 ◌means◌
@@ -54,14 +54,14 @@ abbrev pub ◌means◌ : {U V : Type 0} → Reads U → (U → V) → Reads V
 abbrev pub ◌or◌ : {V : Type 0} → Reads V → Reads V → Reads V
 ◌or◌ first second octets = option_or (first octets) (second octets)
 
--- d?: a number from low to high, or none (NTCIP 1203 v03, MULTI; how many digits is own)
-abbrev pub d? : ℕ → ℕ → Reads (Option ℕ)
-d? low high = nothing None or d low high means Some
+-- a decimal number from low to high, or none (NTCIP 1203 v03, MULTI; how many digits is own)
+abbrev pub decimal? : ℕ → ℕ → Reads (Option ℕ)
+decimal? low high = read_nothing None or decimal low high means Some
 
 -- an octet, and then a form (own)
-abbrev pub after : {V : Type 0} → ℕ → Reads V → Reads V
-after octet form [] = None
-after octet form (first ∷ rest) = if first == octet then form rest else None
+abbrev pub read_after : {V : Type 0} → ℕ → Reads V → Reads V
+read_after octet form [] = None
+read_after octet form (first ∷ rest) = if first == octet then form rest else None
 
 -- the octets before the first of a kind, and those behind it, if one stands there (own)
 abbrev pub parts : ℕ → Reads (List ℕ × List ℕ)
@@ -72,35 +72,35 @@ parts octet (first ∷ rest) =
     else option_map (λ (front, behind). (first ∷ front, behind)) (parts octet rest)
 
 -- two forms with an octet between them, the first of its kind (own)
-abbrev pub between : {U V : Type 0} → ℕ → Reads U → Reads V → Reads (U × V)
-between octet first second octets =
+abbrev pub read_between : {U V : Type 0} → ℕ → Reads U → Reads V → Reads (U × V)
+read_between octet first second octets =
     option_and_then (λ (front, rest). option_zip (first front) (second rest)) (parts octet octets)
 
 -- what stands behind a name, in small letters, is read by the form of its row (NTCIP 1203 v03, MULTI; the ranges of 'nl', 'sc' and 'fl' are own)
 abbrev pub read_rest : Name → Reads Tag
-read_rest names.NewPage = nothing NewPage
-read_rest names.NewLine = d? 0 255 means NewLine
-read_rest names.LineJust = d? 2 5 means LineJust
-read_rest names.PageJust = d? 2 4 means PageJust
+read_rest names.NewPage = read_nothing NewPage
+read_rest names.NewLine = decimal? 0 255 means NewLine
+read_rest names.LineJust = decimal? 2 5 means LineJust
+read_rest names.PageJust = decimal? 2 4 means PageJust
 read_rest names.Font =
-    nothing (Font None)
-    or d 1 255 means (λ n. Font (Some (record { number = n; version = None })))
-    or between comma (d 1 255) h means (λ (n, v). Font (Some (record { number = n; version = Some v })))
-read_rest names.CharSpacing = d 0 255 means CharSpacing
-read_rest names.CharSpacingEnd = nothing CharSpacingEnd
+    read_nothing (Font None)
+    or decimal 1 255 means (λ n. Font (Some (record { number = n; version = None })))
+    or read_between comma (decimal 1 255) hexadecimal means (λ (n, v). Font (Some (record { number = n; version = Some v })))
+read_rest names.CharSpacing = decimal 0 255 means CharSpacing
+read_rest names.CharSpacingEnd = read_nothing CharSpacingEnd
 read_rest names.PageTime =
-    d? 0 255 means (λ on. PageTime on None)
-    or between letter_o (d? 0 255) (d? 0 255) means (λ (on, off). PageTime on off)
+    decimal? 0 255 means (λ on. PageTime on None)
+    or read_between letter_o (decimal? 0 255) (decimal? 0 255) means (λ (on, off). PageTime on off)
 read_rest names.Flash =
-    nothing (Flash false None None)
-    or after letter_t (d? 0 255) means (λ on. Flash false on None)
-    or after letter_t (between letter_o (d? 0 255) (d? 0 255)) means (λ (on, off). Flash false on off)
-    or after letter_o (d? 0 255) means (λ off. Flash true None off)
-    or after letter_o (between letter_t (d? 0 255) (d? 0 255)) means (λ (off, on). Flash true on off)
-read_rest names.FlashEnd = nothing FlashEnd
-read_rest names.Fore = d? 0 9 means Fore
-read_rest names.Back = d? 0 9 means Back
-read_rest names.Rect = between comma (d 0 99999) (between comma (d 0 99999) (between comma (d 0 99999) (d 0 99999))) means (λ (x, (y, (w, h))). Rect x y w h)
+    read_nothing (Flash false None None)
+    or read_after letter_t (decimal? 0 255) means (λ on. Flash false on None)
+    or read_after letter_t (read_between letter_o (decimal? 0 255) (decimal? 0 255)) means (λ (on, off). Flash false on off)
+    or read_after letter_o (decimal? 0 255) means (λ off. Flash true None off)
+    or read_after letter_o (read_between letter_t (decimal? 0 255) (decimal? 0 255)) means (λ (off, on). Flash true on off)
+read_rest names.FlashEnd = read_nothing FlashEnd
+read_rest names.Fore = decimal? 0 9 means Fore
+read_rest names.Back = decimal? 0 9 means Back
+read_rest names.Rect = read_between comma (decimal 0 99999) (read_between comma (decimal 0 99999) (read_between comma (decimal 0 99999) (decimal 0 99999))) means (λ (x, (y, (w, h))). Rect x y w h)
 
 -- the names of the table, in its order (own)
 abbrev pub listed : List Name

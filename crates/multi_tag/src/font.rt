@@ -7,13 +7,13 @@ ghost use Rattle.multi_tag.specs.Form.{h};
 ghost use Rattle.multi_tag.specs.Part.{IsValueIn};
 ghost use Rattle.multi_tag.specs.Walk.{IsWithin, HasReadOn, left};
 
-use crate::cursor::Cursor;
+use crate::body_place::BodyPlace;
 use crate::number::{in_range, read_numeral};
 use crate::tag::{FontPick, Tag};
 use multi_token::Source;
 
 /// A font, and the version behind a comma.
-pub fn read_font(source: &mut Source<'_>, cursor: &mut Cursor) -> Option<Tag>
+pub fn read_font(source: &mut Source<'_>, cursor: &mut BodyPlace) -> Option<Tag>
     requires { IsWithin source.old cursor.old }
     ensures value { IsValueIn (table names.Font).rest (left source.old cursor.old) result }
     ensures whole { OnSome result (left source.new cursor.new ≡ []) }
@@ -39,7 +39,7 @@ pub fn read_font(source: &mut Source<'_>, cursor: &mut Cursor) -> Option<Tag>
 }
 
 /// A font's version, if that is all that is left.
-fn read_version(source: &mut Source<'_>, cursor: &mut Cursor) -> Option<u16>
+fn read_version(source: &mut Source<'_>, cursor: &mut BodyPlace) -> Option<u16>
     requires { IsWithin source.old cursor.old }
     ensures value { IsValueIn h (left source.old cursor.old) result }
     ensures whole { OnSome result (left source.new cursor.new ≡ []) }

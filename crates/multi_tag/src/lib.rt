@@ -7,7 +7,7 @@
 //! [`read_tag`] gives the value of a tag of a counted source, or why it has none.
 #![tactic(auto)]
 
-mod cursor;
+mod body_place;
 mod font;
 mod laws;
 mod name;

@@ -4,7 +4,7 @@ ghost use Rattle.std.specs.Prelude.{◌≡◌, ◌≢◌, ◌<◌, [], ◌++◌,
 ghost use Rattle.multi_tag.specs.Body.{HasNameAtFront, table};
 ghost use Rattle.multi_tag.specs.Walk.{IsWithin, HasReadOn, left};
 
-use crate::cursor::Cursor;
+use crate::body_place::BodyPlace;
 use multi_token::Source;
 
 /// What the name of a tag says of it (NTCIP 1203 v03, MULTI).
@@ -26,7 +26,7 @@ pub enum Name {
 }
 
 /// The name that begins what is left of the body, or `None` where no listed name does.
-pub fn read_name(source: &mut Source<'_>, cursor: &mut Cursor) -> Option<Name>
+pub fn read_name(source: &mut Source<'_>, cursor: &mut BodyPlace) -> Option<Name>
     requires { IsWithin source.old cursor.old }
     ensures name { IfSome result (λ name.
         left source.old cursor.old ≡ (table name).name ++ left source.new cursor.new) }

@@ -5,7 +5,7 @@ ghost use Rattle.multi_tag.specs.Form.{d?};
 ghost use Rattle.multi_tag.specs.Walk.{IsWithin, HasReadOn, left};
 ghost use Rattle.multi_tag.specs.Part.{IsValueIn, IsCut, digit_of, in_range};
 
-use crate::cursor::Cursor;
+use crate::body_place::BodyPlace;
 use multi_token::Source;
 
 /// Digits at the front of what was left of a body: the number that they write, or `None` where there was
@@ -18,7 +18,12 @@ pub struct Numeral {
 
 /// Reads at most `most` digits of a base, and the octet behind them, which stops them even where it is
 /// another digit.
-pub fn read_numeral(source: &mut Source<'_>, cursor: &mut Cursor, base: u32, most: u32) -> Numeral
+pub fn read_numeral(
+    source: &mut Source<'_>,
+    cursor: &mut BodyPlace,
+    base: u32,
+    most: u32,
+) -> Numeral
     requires within { IsWithin source.old cursor.old }
     requires least { 2 ≤ base }
     requires base { base ≤ 16 }
@@ -64,7 +69,7 @@ pub fn in_range(number: Option<u32>, low: u8, high: u8) -> Option<Option<u8>>
 /// A number from `low` to `high`, or none, if that is all that is left.
 pub fn read_optional(
     source: &mut Source<'_>,
-    cursor: &mut Cursor,
+    cursor: &mut BodyPlace,
     low: u8,
     high: u8,
 ) -> Option<Option<u8>>

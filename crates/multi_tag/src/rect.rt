@@ -8,13 +8,13 @@ ghost use Rattle.multi_tag.specs.Octet.{comma};
 ghost use Rattle.multi_tag.specs.Part.{IsValueIn, IsPartBefore};
 ghost use Rattle.multi_tag.specs.Walk.{IsWithin, HasReadOn, left};
 
-use crate::cursor::Cursor;
+use crate::body_place::BodyPlace;
 use crate::number::read_numeral;
 use crate::tag::Tag;
 use multi_token::Source;
 
 /// Four numbers with commas between them.
-pub fn read_rect(source: &mut Source<'_>, cursor: &mut Cursor) -> Option<Tag>
+pub fn read_rect(source: &mut Source<'_>, cursor: &mut BodyPlace) -> Option<Tag>
     requires { IsWithin source.old cursor.old }
     ensures value { IsValueIn (table names.Rect).rest (left source.old cursor.old) result }
     ensures whole { OnSome result (left source.new cursor.new ≡ []) }
@@ -28,7 +28,7 @@ pub fn read_rect(source: &mut Source<'_>, cursor: &mut Cursor) -> Option<Tag>
 }
 
 /// A number, and the comma behind it.
-fn read_before_comma(source: &mut Source<'_>, cursor: &mut Cursor) -> Option<u32>
+fn read_before_comma(source: &mut Source<'_>, cursor: &mut BodyPlace) -> Option<u32>
     requires { IsWithin source.old cursor.old }
     ensures value { IsPartBefore comma (d 0 99999)
         (left source.old cursor.old) result (left source.new cursor.new) }
@@ -42,7 +42,7 @@ fn read_before_comma(source: &mut Source<'_>, cursor: &mut Cursor) -> Option<u32
 }
 
 /// A number, if that is all that is left.
-fn read_coordinate(source: &mut Source<'_>, cursor: &mut Cursor) -> Option<u32>
+fn read_coordinate(source: &mut Source<'_>, cursor: &mut BodyPlace) -> Option<u32>
     requires { IsWithin source.old cursor.old }
     ensures value { IsValueIn (d 0 99999) (left source.old cursor.old) result }
     ensures whole { OnSome result (left source.new cursor.new ≡ []) }

@@ -6,7 +6,7 @@ ghost use Rattle.multi_tag.specs.Form.{nothing};
 ghost use Rattle.multi_tag.specs.Part.{IsValueIn};
 ghost use Rattle.multi_tag.specs.Walk.{IsWithin, HasReadOn, left};
 
-use crate::cursor::Cursor;
+use crate::body_place::BodyPlace;
 use crate::font::read_font;
 use crate::name::Name;
 use crate::number::read_optional;
@@ -16,7 +16,7 @@ use crate::times::{read_flash, read_times};
 use multi_token::Source;
 
 /// The value of a tag of this name, from what is left of its body.
-pub fn read_rest(source: &mut Source<'_>, cursor: &mut Cursor, name: Name) -> Option<Tag>
+pub fn read_rest(source: &mut Source<'_>, cursor: &mut BodyPlace, name: Name) -> Option<Tag>
     requires { IsWithin source.old cursor.old }
     ensures value { IsValueIn (table name).rest (left source.old cursor.old) result }
     ensures whole { OnSome result (left source.new cursor.new ≡ []) }
@@ -43,7 +43,7 @@ pub fn read_rest(source: &mut Source<'_>, cursor: &mut Cursor, name: Name) -> Op
 }
 
 /// The tag, if nothing is left.
-fn read_nothing(source: &mut Source<'_>, cursor: &mut Cursor, tag: Tag) -> Option<Tag>
+fn read_nothing(source: &mut Source<'_>, cursor: &mut BodyPlace, tag: Tag) -> Option<Tag>
     requires { IsWithin source.old cursor.old }
     ensures value { IsValueIn (nothing tag) (left source.old cursor.old) result }
     ensures whole { OnSome result (left source.new cursor.new ≡ []) }

@@ -7,7 +7,7 @@ ghost use Rattle.multi_tag.specs.Number.{IsDigit};
 ghost use Rattle.multi_tag.specs.Part.{IsValueIn, times};
 ghost use Rattle.multi_tag.specs.Walk.{IsWithin, HasReadOn, left};
 
-use crate::cursor::Cursor;
+use crate::body_place::BodyPlace;
 use crate::number::{in_range, read_numeral, read_optional};
 use crate::tag::Tag;
 use multi_token::Source;
@@ -15,7 +15,7 @@ use multi_token::Source;
 /// One time, or two times with this letter between them.
 pub fn read_times(
     source: &mut Source<'_>,
-    cursor: &mut Cursor,
+    cursor: &mut BodyPlace,
     letter: u8,
 ) -> Option<(Option<u8>, Option<u8>)>
     requires within { IsWithin source.old cursor.old }
@@ -37,7 +37,7 @@ pub fn read_times(
 }
 
 /// The times of a flash: behind a 't' on first, behind an 'o' off first.
-pub fn read_flash(source: &mut Source<'_>, cursor: &mut Cursor) -> Option<Tag>
+pub fn read_flash(source: &mut Source<'_>, cursor: &mut BodyPlace) -> Option<Tag>
     requires { IsWithin source.old cursor.old }
     ensures value { IsValueIn (table names.Flash).rest (left source.old cursor.old) result }
     ensures whole { OnSome result (left source.new cursor.new ≡ []) }

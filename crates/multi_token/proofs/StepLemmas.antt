@@ -1,18 +1,15 @@
 -- Steps of a counted source.
 use Rattle.std.proofs.Common.{◌≡◌, ℕ, ◌<◌, ◌≤◌, ◌+◌, ◌-◌, ◌^◌, min, ap, ◌∙◌, arith}
+use Rattle.step_count.proofs.CountLemmas.{raised-raised, raised-zero}
 use Rattle.multi_token.specs.Counted.{Counted, charged, RisesBetween}
 
 -- steps after steps
 pub charged-charged : (s : Counted) (a b : ℕ) → charged (charged s a) b ≡ charged s (a + b)
-charged-charged s a b =
-    let e : s.steps + min a (2 ^ 64 - 1 - s.steps) + min b (2 ^ 64 - 1 - (s.steps + min a (2 ^ 64 - 1 - s.steps))) ≡ s.steps + min (a + b) (2 ^ 64 - 1 - s.steps) = omega arith in
-    ap (λ n. record { octets = s.octets; steps = n }) e
+charged-charged s a b = ap (λ n. record { octets = s.octets; steps = n }) (raised-raised s.steps a b)
 
 -- no steps change nothing
 pub charged-zero : (s : Counted) → charged s 0 ≡ s
-charged-zero s =
-    let e : s.steps + min 0 (2 ^ 64 - 1 - s.steps) ≡ s.steps = omega arith in
-    ap (λ n. record { octets = s.octets; steps = n }) e
+charged-zero s = ap (λ n. record { octets = s.octets; steps = n }) (raised-zero s.steps)
 
 -- one step, and then those of what was called
 pub rises_after_one : (a b d : Counted) (high : ℕ) → b ≡ charged a 1 → RisesBetween b d 0 high → RisesBetween a d 1 (high + 1)

@@ -4,6 +4,7 @@ ghost use Rattle.std.specs.Prelude.{◌≡◌, ◌^◌, ◌<◌, length, slice_g
 ghost use Rattle.multi_token.specs.Counted.{charged};
 
 use std::marker::Model;
+use step_count::raised;
 
 /// The octets of a string, and how many steps were taken over them (own).
 ///
@@ -60,6 +61,6 @@ impl<'a> Source<'a> {
     pub fn charge(&mut self, k: u64)
         ensures { self.new ≡ charged self.old k }
     {
-        self.steps = self.steps.saturating_add(k);
+        self.steps = raised(self.steps, k);
     }
 }

@@ -1,9 +1,8 @@
 -- Worked examples of the definitions.
 use Rattle.std.proofs.Common.{◌≡◌, ◌^◌, ◌-◌, true, false, [], ◌∷◌, refl}
 use Rattle.page_plane.specs.Plane.{is_lit, plane_of}
-use Rattle.page_plane.specs.Octets.{row_octets, is_bit_set, place_of}
+use Rattle.page_plane.specs.Octets.{row_octets, is_bit_set, bit_place}
 use Rattle.page_plane.specs.Put.{is_put}
-use Rattle.page_plane.specs.Steps.{charged}
 
 a_row_of_12_has_2_octets : row_octets 12 ≡ 2
 a_row_of_12_has_2_octets = refl
@@ -22,7 +21,7 @@ place_8_begins_the_second_octet : is_bit_set (0 ∷ 128 ∷ []) 8 ≡ true
 unfolding is_bit_set
 place_8_begins_the_second_octet = refl
 
-the_second_row_of_12_begins_at_place_16 : place_of 12 0 1 ≡ 16
+the_second_row_of_12_begins_at_place_16 : bit_place 12 0 1 ≡ 16
 the_second_row_of_12_begins_at_place_16 = refl
 
 bit_63_is_the_leftmost_pixel : is_put 6 2 3 (2 ^ 63) 6 2 ≡ true
@@ -40,9 +39,3 @@ bits_behind_the_width_put_nothing = refl
 no_pixel_is_lit_outside : is_lit (plane_of 2 2 0 (λ x y. true)) 2 0 ≡ false
 unfolding is_lit
 no_pixel_is_lit_outside = refl
-
-steps_add_up : charged 5 14 ≡ 19
-steps_add_up = refl
-
-a_count_stays_at_the_largest_number : charged (2 ^ 64 - 2) 14 ≡ 2 ^ 64 - 1
-a_count_stays_at_the_largest_number = refl

@@ -2,7 +2,7 @@
 use Rattle.std.proofs.Common.{◌≡◌, ◌≢◌, ℕ, ◌<◌, ◌≤◌, ◌+◌, ◌-◌, ◌*◌, false, refl, sym, ◌∙◌, inl, inr, arith}
 use Rattle.std.proofs.lemmas.Bool.{lt-ltb, le-ltb, le-leb, lt-leb, eq-eqb, ne_eqb, cases_lt, cases_eq, cases_order}
 use Rattle.std.proofs.Math.Nat.{mul-le-mul_right}
-use Rattle.page_plane.specs.Octets.{row_octets, place_of}
+use Rattle.page_plane.specs.Octets.{row_octets, bit_place}
 use Rattle.page_plane.specs.Put.{is_row_set, is_put}
 
 -- pixel j of the row comes to column x + j of row y
@@ -51,13 +51,13 @@ put_one_row x y z width bits column = rw (eq-eqb y y refl, eq-eqb z z refl) refl
 
 -- a row inside a plane, by places
 pub put_place : (w x y width bits column row : ℕ) → x + width ≤ w → column < 8 * row_octets w
-    → is_put (place_of w x y) 0 width bits (place_of w column row) 0 ≡ is_put x y width bits column row
+    → is_put (bit_place w x y) 0 width bits (bit_place w column row) 0 ≡ is_put x y width bits column row
 put_place w x y width bits column row inside within = elim (cases_order row y) [
   | inl same ↦ rw same (put_moved (8 * (y * row_octets w)) x 0 width bits column 0 ∙ put_one_row x 0 y width bits column)
   | inr (inl above) ↦
       let rows : (row + 1) * row_octets w ≤ y * row_octets w = mul-le-mul_right (row_octets w) (omega arith) in
-      put_left (place_of w x y) 0 width bits (place_of w column row) 0 (omega arith) ∙ sym (put_elsewhere x y width bits column row (λ e. absurd (omega arith)))
+      put_left (bit_place w x y) 0 width bits (bit_place w column row) 0 (omega arith) ∙ sym (put_elsewhere x y width bits column row (λ e. absurd (omega arith)))
   | inr (inr below) ↦
       let rows : (y + 1) * row_octets w ≤ row * row_octets w = mul-le-mul_right (row_octets w) (omega arith) in
-      put_right (place_of w x y) 0 width bits (place_of w column row) 0 (omega arith) ∙ sym (put_elsewhere x y width bits column row (λ e. absurd (omega arith)))
+      put_right (bit_place w x y) 0 width bits (bit_place w column row) 0 (omega arith) ∙ sym (put_elsewhere x y width bits column row (λ e. absurd (omega arith)))
 ]

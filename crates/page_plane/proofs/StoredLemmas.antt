@@ -5,21 +5,21 @@ use Rattle.std.proofs.lemmas.Nat.{mod-mul-add}
 use Rattle.std.proofs.lemmas.List.{length-replicate, length-take}
 use Rattle.std.proofs.Math.Nat.{mul-le-mul_right}
 use Rattle.page_plane.specs.Plane.{is_lit}
-use Rattle.page_plane.specs.Octets.{row_octets, is_bit_set, place_of, stored_plane, IsStored}
+use Rattle.page_plane.specs.Octets.{row_octets, is_bit_set, bit_place, stored_plane, IsStored}
 use Rattle.page_plane.specs.Put.{is_put}
 use Rattle.page_plane.proofs.PlaneLemmas.{lit_of, unlit_right, unlit_below}
 use Rattle.page_plane.proofs.PutLemmas.{put_place, put_right, put_elsewhere}
 use Rattle.page_plane.proofs.OctetLemmas.{IsFilledBelow, none_set, none_past, part_bit}
 
 -- a pixel's place is among the octets
-pub place_within : (width height x y : ℕ) (octets : List ℕ) → length octets ≡ row_octets width * height → x < 8 * row_octets width → y < height → place_of width x y < 8 * length octets
+pub place_within : (width height x y : ℕ) (octets : List ℕ) → length octets ≡ row_octets width * height → x < 8 * row_octets width → y < height → bit_place width x y < 8 * length octets
 place_within width height x y octets count h g =
     let rows : (y + 1) * row_octets width ≤ height * row_octets width = mul-le-mul_right (row_octets width) (omega arith) in
     omega arith
 
 -- a pixel that stands in the plane is the bit at its place
-pub stored_lit : (width height steps x y : ℕ) (octets : List ℕ) → x < width → y < height → is_lit (stored_plane width height steps octets) x y ≡ is_bit_set octets (place_of width x y)
-stored_lit width height steps x y octets h g = lit_of width height steps (λ x y. is_bit_set octets (place_of width x y)) x y h g
+pub stored_lit : (width height steps x y : ℕ) (octets : List ℕ) → x < width → y < height → is_lit (stored_plane width height steps octets) x y ≡ is_bit_set octets (bit_place width x y)
+stored_lit width height steps x y octets h g = lit_of width height steps (λ x y. is_bit_set octets (bit_place width x y)) x y h g
 
 -- OCTETS OF 0
 
@@ -28,13 +28,13 @@ stored_dark width height w h = record {
   width_range = w;
   height_range = h;
   count = length-replicate {A = ℕ} (row_octets width * height) 0;
-  spare = λ x y _ _ _. none_set (row_octets width * height) (place_of width x y);
+  spare = λ x y _ _ _. none_set (row_octets width * height) (bit_place width x y);
 }
 
 pub dark : (width height steps n x y : ℕ) → is_lit (stored_plane width height steps (replicate n 0)) x y ≡ false
 dark width height steps n x y = elim (cases_lt x width) [
   | inl h ↦ elim (cases_lt y height) [
-    | inl g ↦ stored_lit width height steps x y (replicate n 0) h g ∙ none_set n (place_of width x y)
+    | inl g ↦ stored_lit width height steps x y (replicate n 0) h g ∙ none_set n (bit_place width x y)
     | inr l ↦ unlit_below (stored_plane width height steps (replicate n 0)) x y l
   ]
   | inr l ↦ unlit_right (stored_plane width height steps (replicate n 0)) x y l
@@ -47,12 +47,12 @@ and_true true = refl
 and_true false = refl
 
 filled_bit : (width height x y : ℕ) (old new : List ℕ) (on : Bool) → IsStored width height old → IsFilledBelow new width on (8 * length old) → x < 8 * row_octets width → y < height
-    → is_bit_set new (place_of width x y) ≡ (on && nat_lt x width)
+    → is_bit_set new (bit_place width x y) ≡ (on && nat_lt x width)
 filled_bit width height x y old new on stored filled h g =
     let len = row_octets width in
-    let there : place_of width x y ≡ y * (8 * len) + x = omega arith in
-    let column : place_of width x y % (8 * len) ≡ x = ap (λ n. n % (8 * len)) there ∙ mod-mul-add y (8 * len) x h in
-    filled (place_of width x y) (place_within width height x y old stored.count h g) ∙ ap (λ n. on && nat_lt n width) column
+    let there : bit_place width x y ≡ y * (8 * len) + x = omega arith in
+    let column : bit_place width x y % (8 * len) ≡ x = ap (λ n. n % (8 * len)) there ∙ mod-mul-add y (8 * len) x h in
+    filled (bit_place width x y) (place_within width height x y old stored.count h g) ∙ ap (λ n. on && nat_lt n width) column
 
 pub stored_filled : (width height : ℕ) (old new : List ℕ) (on : Bool) → IsStored width height old → length new ≡ length old → IsFilledBelow new width on (8 * length old) → IsStored width height new
 stored_filled width height old new on stored size filled = record {
@@ -75,22 +75,22 @@ filled_lit width height steps x y old new on stored filled h g =
 abbrev pub IsPutAt : List ℕ → List ℕ → ℕ → ℕ → ℕ → Bool → Type 0
 IsPutAt old new place width bits on = (i : ℕ) → is_bit_set new i ≡ (if is_put place 0 width bits i 0 then on else is_bit_set old i)
 
-pub stored_put : (w h x y width bits : ℕ) (old new : List ℕ) (on : Bool) → IsStored w h old → length new ≡ length old → x + width ≤ w → IsPutAt old new (place_of w x y) width bits on → IsStored w h new
+pub stored_put : (w h x y width bits : ℕ) (old new : List ℕ) (on : Bool) → IsStored w h old → length new ≡ length old → x + width ≤ w → IsPutAt old new (bit_place w x y) width bits on → IsStored w h new
 stored_put w h x y width bits old new on stored size inside put = record {
   width_range = stored.width_range;
   height_range = stored.height_range;
   count = size ∙ stored.count;
   spare = λ column row past within below.
-      put (place_of w column row)
+      put (bit_place w column row)
       ∙ rw (put_place w x y width bits column row inside within, put_right x y width bits column row (omega arith)) (stored.spare column row past within below);
 }
 
-pub put_lit : (w h s t x y width bits column row : ℕ) (old new : List ℕ) (on : Bool) → x + width ≤ w → y < h → IsPutAt old new (place_of w x y) width bits on
+pub put_lit : (w h s t x y width bits column row : ℕ) (old new : List ℕ) (on : Bool) → x + width ≤ w → y < h → IsPutAt old new (bit_place w x y) width bits on
     → is_lit (stored_plane w h t new) column row ≡ (if is_put x y width bits column row then on else is_lit (stored_plane w h s old) column row)
 put_lit w h s t x y width bits column row old new on inside above put = elim (cases_lt column w) [
   | inl c ↦ elim (cases_lt row h) [
     | inl r ↦
-        stored_lit w h t column row new c r ∙ put (place_of w column row)
+        stored_lit w h t column row new c r ∙ put (bit_place w column row)
         ∙ rw (put_place w x y width bits column row inside (omega arith), stored_lit w h s column row old c r) refl
     | inr r ↦ rw (unlit_below (stored_plane w h t new) column row r, put_elsewhere x y width bits column row (λ e. absurd (omega arith))) (sym (unlit_below (stored_plane w h s old) column row r))
   ]

@@ -1,4 +1,3 @@
 pub mod Octets
 pub mod Plane
 pub mod Put
-pub mod Steps

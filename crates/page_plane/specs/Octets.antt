@@ -16,16 +16,16 @@ unfoldable pub is_bit_set : List ℕ → ℕ → Bool
 is_bit_set octets place = bit_at (slice_index octets (place / 8)) (7 - place % 8) == 1
 
 -- the place of a pixel in the octets of a plane of this width (own)
-abbrev pub place_of : ℕ → ℕ → ℕ → ℕ
-place_of width x y = 8 * (y * row_octets width) + x
+abbrev pub bit_place : ℕ → ℕ → ℕ → ℕ
+bit_place width x y = 8 * (y * row_octets width) + x
 
 -- the plane of this size and these steps that octets hold (own)
 abbrev pub stored_plane : ℕ → ℕ → ℕ → List ℕ → BitPlane
-stored_plane width height steps octets = plane_of width height steps (λ x y. is_bit_set octets (place_of width x y))
+stored_plane width height steps octets = plane_of width height steps (λ x y. is_bit_set octets (bit_place width x y))
 
 -- the octets are those of a plane of this size, and their spare bits are 0 (own)
 pub record IsStored (width height : ℕ) (octets : List ℕ) : Type 0 where
   pub width_range : (1 ≤ width) × (width ≤ 1024)
   pub height_range : (1 ≤ height) × (height ≤ 128)
   pub count : length octets ≡ row_octets width * height
-  pub spare : (x y : ℕ) → width ≤ x → x < 8 * row_octets width → y < height → is_bit_set octets (place_of width x y) ≡ false
+  pub spare : (x y : ℕ) → width ≤ x → x < 8 * row_octets width → y < height → is_bit_set octets (bit_place width x y) ≡ false

@@ -11,7 +11,6 @@ mod laws;
 mod memory;
 mod octets;
 mod plane;
-mod steps;
 
 pub use laws::a_plane_is_its_pixels;
 pub use memory::Memory;

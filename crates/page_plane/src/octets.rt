@@ -2,7 +2,7 @@
 
 ghost use Rattle.std.specs.Prelude.{◌≡◌, ℕ, ◌+◌, ◌-◌, ◌*◌, ◌/◌, ◌%◌, ◌<◌, ◌≤◌, ◌==◌, ◌&&◌, nat_lt, if◌then◌else◌, length};
 ghost use Rattle.std.specs.Int.{bit_at};
-ghost use Rattle.page_plane.specs.Octets.{row_octets, is_bit_set, place_of};
+ghost use Rattle.page_plane.specs.Octets.{row_octets, is_bit_set, bit_place};
 ghost use Rattle.page_plane.specs.Put.{is_row_set, is_put};
 
 /// The octets of a row of this width in pixels.
@@ -13,8 +13,8 @@ pub(crate) fn row_len(width: u16) -> usize
 }
 
 /// The place of a pixel in the octets of a plane of this width.
-pub(crate) fn place_at(width: u16, x: u16, y: u16) -> usize
-    ensures { result ≡ place_of width x y }
+pub(crate) fn bit_place(width: u16, x: u16, y: u16) -> usize
+    ensures { result ≡ bit_place width x y }
 {
     8 * (usize::from(y) * row_len(width)) + usize::from(x)
 }

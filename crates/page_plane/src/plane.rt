@@ -1,16 +1,16 @@
 //! A bit plane over its octets.
 
 ghost use Rattle.std.specs.Prelude.{◌≡◌, ℕ, ◌+◌, ◌<◌, ◌≤◌, false, if◌then◌else◌, length, IfOk};
-ghost use Rattle.page_plane.specs.Steps.{charged};
+ghost use Rattle.step_count.specs.Count.{raised};
 ghost use Rattle.page_plane.specs.Plane.{is_lit};
 ghost use Rattle.page_plane.specs.Octets.{row_octets, octet_count, is_bit_set};
 ghost use Rattle.page_plane.specs.Put.{is_put};
 
 use crate::memory::Memory;
-use crate::octets::{bit, fill_rows, place_at, put_bits, row_len};
-use crate::steps::raised;
+use crate::octets::{bit, bit_place, fill_rows, put_bits, row_len};
 use std::alloc::Global;
 use std::marker::Model;
+use step_count::raised;
 
 /// One bit plane of a page: pixels that are on or off, and how many steps were taken over them (own).
 ///
@@ -62,7 +62,7 @@ impl Plane {
         ensures pixels { (x y : ℕ) → x < self.old.width → y < self.old.height → is_lit self.new x y ≡ on }
         ensures width { self.new.width ≡ self.old.width }
         ensures height { self.new.height ≡ self.old.height }
-        ensures steps { self.new.steps ≡ charged self.old.steps (octet_count self.old) }
+        ensures steps { self.new.steps ≡ raised self.old.steps (octet_count self.old) }
     {
         self.steps = raised(self.steps, self.octets.len() as u64);
         fill_rows(&mut self.octets, self.width, on);
@@ -79,10 +79,10 @@ impl Plane {
             → is_lit self.new column row ≡ (if is_put x y width bits column row then on else is_lit self.old column row) }
         ensures width { self.new.width ≡ self.old.width }
         ensures height { self.new.height ≡ self.old.height }
-        ensures steps { self.new.steps ≡ charged self.old.steps 1 }
+        ensures steps { self.new.steps ≡ raised self.old.steps 1 }
     {
         self.steps = raised(self.steps, 1);
-        let place = place_at(self.width, x, y);
+        let place = bit_place(self.width, x, y);
         put_bits(&mut self.octets, place, width, bits, on);
     }
 
@@ -92,7 +92,7 @@ impl Plane {
         requires row { y < self.now.height }
         ensures { result ≡ is_lit self.now x y }
     {
-        let place = place_at(self.width, x, y);
+        let place = bit_place(self.width, x, y);
         bit(&self.octets, place)
     }
 

@@ -9,7 +9,7 @@ use Rattle.sign_font.specs.declared.parts.Defaults.{Defaults}
 use Rattle.sign_font.specs.Sign.{SignData}
 use Rattle.multi_layout.specs.declared.times.Shown.{Shown}
 use Rattle.multi_layout.specs.declared.times.Shown.TheVariants.{Page, Off}
-use Rattle.multi_layout.specs.Drawn.{Shows}
+use Rattle.multi_layout.specs.Drawn.{Lights}
 use Rattle.multi_layout.specs.Meaning.{meanings}
 use Rattle.multi_layout.specs.Pages.{IsSized}
 use Rattle.multi_layout.specs.Picture.{pixel_at}
@@ -73,7 +73,7 @@ rows_same lit other width height same =
 
 -- the head and the rows of a plane that shows what is shown are a frame
 pub frame_of : (old now : List ℕ) (sign : SignData) (octets : List ℕ) (clock colour : ℕ) (s : Shown) (plane : BitPlane)
-    → s ≡ shown sign octets clock → Shows plane (pixel_at sign (meanings octets) s colour) → IsSized plane sign → now ≡ old ++ head_text s
+    → s ≡ shown sign octets clock → Lights plane (pixel_at sign (meanings octets) s colour) → IsSized plane sign → now ≡ old ++ head_text s
     → now ++ rows_text (is_lit plane) plane.width plane.height ≡ old ++ frame_text sign octets colour (shown sign octets clock)
 frame_of old now sign octets clock colour s plane is shows sized written =
     let pixels = pixel_at sign (meanings octets) s colour in

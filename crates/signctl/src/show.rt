@@ -1,7 +1,7 @@
 //! The answers that show pages, as rows of characters.
 ghost use Rattle.std.specs.Prelude.{◌≡◌, ◌<◌, ◌++◌, ◌∷◌, [], OnOk, IfOk, IfErr, List, Option, Some, map};
 ghost use Rattle.page_plane.specs.Plane.{is_lit};
-ghost use Rattle.multi_layout.specs.Drawn.{Shows};
+ghost use Rattle.multi_layout.specs.Drawn.{Lights};
 ghost use Rattle.multi_layout.specs.Meaning.{meanings};
 ghost use Rattle.multi_layout.specs.Pages.{IsSized};
 ghost use Rattle.multi_layout.specs.Picture.{pixel_at};
@@ -114,7 +114,7 @@ fn push_head(text: &mut Vec<u8>, shown: Shown) -> Result<(), ToolFault>
 fn draw_shown(checked: &mut Checked<'_>, clock: u32, colour: u8, plane: &mut Plane) -> Shown
     requires size { IsSized plane.old checked.old.sign }
     ensures shown { result ≡ shown checked.old.sign checked.old.source.octets clock }
-    ensures drawn { Shows plane.new (pixel_at checked.old.sign (meanings checked.old.source.octets) result colour) }
+    ensures drawn { Lights plane.new (pixel_at checked.old.sign (meanings checked.old.source.octets) result colour) }
     ensures size { IsSized plane.new checked.old.sign }
 {
     let shown = checked.locate(u64::from(clock));

@@ -1,7 +1,7 @@
 //! Callers of the calls that lend a plane. They are proved and never run: what those calls promise is of use to a caller.
 
 ghost use Rattle.std.specs.Prelude.{◌≡◌, ◌+◌, ◌<◌};
-ghost use Rattle.multi_layout.specs.Drawn.{Shows};
+ghost use Rattle.multi_layout.specs.Drawn.{Lights};
 ghost use Rattle.multi_layout.specs.Pages.{page_count};
 ghost use Rattle.multi_layout.specs.Picture.{picture};
 
@@ -26,7 +26,7 @@ fn pass_over(pages: &mut Pages<'_>) -> u8
 fn end_with_next<'a>(pages: Pages<'a>) -> (Checked<'a>, Plane)
     requires { pages.next < page_count pages.string }
     ensures octets { result.0.source.octets ≡ pages.entry.string.source.octets }
-    ensures shown { Shows result.1 (picture pages.entry.string.sign pages.entry.string.source.octets pages.entry.next pages.entry.phase pages.entry.colour) }
+    ensures shown { Lights result.1 (picture pages.entry.string.sign pages.entry.string.source.octets pages.entry.next pages.entry.phase pages.entry.colour) }
 {
     let mut pages = pages;
     let Some(_) = pages.next_page() else {

@@ -1,5 +1,5 @@
 use Rattle.std.proofs.Common.{sym, ap, ◌∙◌}
-use Rattle.multi_layout.specs.Judged.{Judged}
+use Rattle.multi_layout.specs.CheckedData.{CheckedData}
 use Rattle.multi_layout.specs.Times.{shown}
 use Rattle.multi_layout.proofs.AcceptedLemmas.{accepted_is}
 use Rattle.multi_layout.proofs.LocateLemmas.{always_one, always_none, shown_in_turn, below_cycle}
@@ -10,7 +10,7 @@ pub returns-then-self-eq1-clause-shown : goal.returns-then-self-eq1-clause-shown
 returns-then-self-eq1-clause-shown c =
     let s = c.self.inside in
     let (verdict, together, short) = c.self.invariant in
-    let seen = ap (λ (j : Judged). shown j.sign j.source.octets c.args.clock) c.self.view_is in
+    let seen = ap (λ (j : CheckedData). shown j.sign j.source.octets c.args.clock) c.self.view_is in
     elim c.then-self-eq1.branch [
       | then-self-eq1-via-then-self-eq1 w ↦ sym (always_one s.terms s.source.octets s.pages s.cycle verdict together short c.args.clock w.if-self-eq1.true) ∙ seen
       | then-self-eq1-via-else-self-eq1+then-self-eq0 w ↦ sym (always_none s.terms s.source.octets s.pages s.cycle verdict together short c.args.clock w.if-self-eq0.true) ∙ seen
@@ -34,4 +34,4 @@ returns-clause-shown c =
     let (verdict, together, short) = c.self.invariant in
     let turn = shown_in_turn s.terms s.source.octets s.pages s.cycle verdict together short c.args.clock c.if-self-eq1.false c.if-self-eq0.false in
     let found = rw c.from.ensures at c.find_page.ensures.shown in
-    found ∙ sym turn ∙ ap (λ (j : Judged). shown j.sign j.source.octets c.args.clock) c.self.view_is
+    found ∙ sym turn ∙ ap (λ (j : CheckedData). shown j.sign j.source.octets c.args.clock) c.self.view_is

@@ -1,6 +1,6 @@
 use Rattle.std.proofs.Common.{◌∙◌, sym, arith}
 use Rattle.multi_tag.proofs.WalkLemmas.{left_next}
-use Rattle.multi_tag.proofs.cursor.Cursor.next.Goals as goal
+use Rattle.multi_tag.proofs.body_place.BodyPlace.next.Goals as goal
 
 pub returns-clause-octet : goal.returns-clause-octet
 returns-clause-octet c =

@@ -6,12 +6,12 @@ use multi_token::Source;
 
 /// The offset of the next octet of a body, and the offset of the body's end.
 #[derive(Clone, Copy, Debug, PartialEq, Eq)]
-pub struct Cursor {
+pub struct BodyPlace {
     pub at: usize,
     pub end: usize,
 }
 
-impl Cursor {
+impl BodyPlace {
     /// The next octet of the body, a letter as a small one, or `None` at the end, where nothing is read.
     pub fn next(&mut self, source: &mut Source<'_>) -> Option<u8>
         requires { IsWithin source.old self.old }
