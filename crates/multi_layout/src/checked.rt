@@ -37,14 +37,14 @@ impl<'a> Checked<'a> {
         self.pages
     }
 
-    /// The times of all pages together, in tenths of a second.
+    /// The cycle: the sum of the on times and off times of all pages, in tenths of a second.
     pub fn cycle(&self) -> u32
         ensures { IsCycle self.now.sign self.now.source.octets result }
     {
         self.cycle
     }
 
-    /// The number of steps that were taken over the string so far.
+    /// The number of steps that were taken over the string so far; `u64::MAX` means that many or more.
     pub fn steps(&self) -> u64
         ensures { result ≡ self.now.source.steps }
     {

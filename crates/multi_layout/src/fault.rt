@@ -14,7 +14,7 @@ pub enum SyntaxError {
     /// A tag whose value is in no listed form, or a rectangle that isn't inside the sign.
     #[error("unsupported tag value")]
     UnsupportedTagValue,
-    /// A line no longer fits its rectangle's width, or an area its height.
+    /// A line no longer fits the width of its rectangle, or an area no longer fits its height.
     #[error("text too big")]
     TextTooBig,
     /// The sign has no font of this number.
@@ -23,14 +23,14 @@ pub enum SyntaxError {
     /// The font in force has no cell for the character.
     #[error("character not defined")]
     CharacterNotDefined,
-    /// A page justification goes back within an area, a line justification goes back within a line, or full
-    /// stands beside another on a line.
+    /// A page justification goes back within an area, or a line justification goes back within a line, or a line has
+    /// full justification beside another one.
     #[error("tag conflict")]
     TagConflict,
     /// The tag `np` would begin a page past the sign's limit.
     #[error("too many pages")]
     TooManyPages,
-    /// The font has another version than the tag asks for.
+    /// The font doesn't have the version that the tag asks for.
     #[error("font version")]
     FontVersionId,
 }

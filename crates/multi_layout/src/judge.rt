@@ -31,7 +31,7 @@ struct Offence {
     at: usize,
 }
 
-/// Whether a sign accepts a string by its own defaults, as [`check_with`] says.
+/// Whether a sign accepts a string by the sign's own defaults. Everything else is as [`check_with`] says.
 pub fn check<'a>(sign: &'a Sign, source: Source<'a>) -> Result<Checked<'a>, Fault<'a>>
     requires fresh { source.steps ≡ 0 }
     requires short { length source.octets < 2 ^ 32 }
@@ -51,14 +51,14 @@ pub fn check<'a>(sign: &'a Sign, source: Source<'a>) -> Result<Checked<'a>, Faul
     check_with(sign, sign.defaults(), source)
 }
 
-/// Whether a sign accepts a string by these defaults, which it doesn't refuse: each item is judged after those
-/// before it, and the first that offends gives the error and its offset.
+/// Whether a sign accepts a string by these defaults, which the sign must not refuse. The items are judged from the left,
+/// and the first one that offends gives the error and its offset.
 ///
 /// An absent value means these defaults, here and in every call of the [`Checked`].
 ///
-/// The source has no steps yet and at most 4,294,967,295 octets. It comes back in either answer. For n
-/// octets its count is then at most 2n + 1, and at least n + 1 where the string is accepted, or one more
-/// than the offset of the error.
+/// The source must have no steps yet and at most 4,294,967,295 octets. Both answers give it back. For n octets its count is
+/// then at most 2n + 1. It is at least n + 1 if the string is accepted, and at least one more than the offset of the error
+/// if it is refused.
 pub fn check_with<'a>(
     sign: &'a Sign,
     defaults: Defaults,

@@ -3,13 +3,13 @@
 ghost use Rattle.multi_layout.specs.Fit.{SmallerFits};
 ghost use Rattle.multi_layout.specs.Verdict.{OneVerdict, RefusalStands};
 
-/// A law of the definitions: every string has a verdict, and no two.
+/// A law of the definitions: every string has exactly one verdict.
 pub fn one_verdict()
     ensures { OneVerdict }
 {}
 
-/// A law of the definitions: a refusal for an item stands for every string with the same octets up to the
-/// end of that item.
+/// A law of the definitions: if a string is refused for an item, so is every string with the same octets up to the end of
+/// that item.
 pub fn refusal_stands()
     ensures { RefusalStands }
 {}

@@ -1,9 +1,9 @@
 //! The verdict of a sign on a MULTI string, and the pages of a string that it accepts.
 //!
-//! [`check`] reads a string once from the left. Each item is judged after those before it by running sums of the present
-//! area, and the first that offends gives the error and its offset. A string without one is a [`Checked`], which tells
-//! the page at a clock and draws pages into a plane that the caller lends; each area is then read twice, for its lines
-//! and for its cells.
+//! [`check`] reads a string once, from the left. It keeps running sums of the present area, and judges each item by them.
+//! The first item that offends gives the error and its offset. If none does, the string is a [`Checked`]: it tells which
+//! page is shown at a clock, and draws pages into a plane that the caller lends. To draw an area it is read twice, first
+//! for its lines and then for its cells.
 #![tactic(auto)]
 
 mod area;

@@ -27,7 +27,7 @@ use std::marker::Model;
 pub struct PageView<'a> {
     /// The number of the page, from 0.
     pub page: u8,
-    /// Its plane.
+    /// The plane, with the pixels of that page.
     pub plane: &'a Plane,
 }
 
@@ -76,12 +76,13 @@ impl<'a> Model for Pages<'a> {
 impl<'a> Checked<'a> {
     ghost use Rattle.multi_layout.specs.Pages.{PagesState};
 
-    /// Draws the plane of a colour of a page at a phase: the pixels that have the colour then.
+    /// Draws one page in one colour at a phase: the plane gets the pixels of the page that have the colour then.
     ///
-    /// Pages count from 0, the phase is in tenths of a second since the page began, and a colour is 0 to 255.
-    /// False where there is no such page; then nothing changes. The plane has the sign's size. For n octets it takes
-    /// at most 4n + 2 steps over the string, and over the plane a row for each row of the tallest font, n times, and
-    /// n / 4 + 1 fills.
+    /// Pages are counted from 0. The phase is the time since the page began, in tenths of a second. A colour is 0 to 255. The
+    /// answer is false if there is no such page, and then nothing changes. The plane must have the sign's size.
+    ///
+    /// For a string of n octets this takes at most 4n + 2 steps over the string and R * n + B * (n / 4 + 1) over the plane.
+    /// R is the height of the tallest font, and B the number of octets of the plane.
     pub fn draw(&mut self, page: u8, phase: u64, colour: u8, plane: &mut Plane) -> bool
         requires size { IsSized plane.old self.old.sign }
         ensures exists { result ≡ nat_lt page (page_count self.old) }
@@ -116,8 +117,8 @@ impl<'a> Checked<'a> {
         draw_page(&self.terms, &mut self.source, cursor, layer, plane)
     }
 
-    /// Starts at page 0, to draw the plane of a colour of each page at a phase, as [`Checked::draw`] does. The plane has
-    /// the sign's size. No step is taken yet.
+    /// Takes the plane, to draw one page after another into it from page 0 on, each at this phase and in this colour as
+    /// [`Checked::draw`] does. The plane must have the sign's size. This takes no step.
     pub fn each_page(self, phase: u64, colour: u8, plane: Plane) -> Pages<'a>
         requires size { IsSized plane self.sign }
         ensures { result ≡ record {
@@ -164,8 +165,8 @@ fn page_start(sign: &Terms<'_>, source: &mut Source<'_>, page: u8) -> Cursor
 impl<'a> Pages<'a> {
     ghost use Rattle.multi_layout.specs.Lending.{TurnedAfter};
 
-    /// The next page, drawn, or `None` after the last; then nothing changes. The string is read on from where the page
-    /// before ended, so that all pages together take no more steps than [`Checked::draw`] may take for one.
+    /// Draws the next page and lends it. After the last page the answer is `None`, and nothing changes. Reading goes on
+    /// where the page before ended, so all pages together take no more steps than [`Checked::draw`] may take for one.
     pub fn next_page(&mut self) -> Option<PageView<'_>>
         ensures* after { sem 𝓛 (TurnedAfter self.entry result) }
         ensures page { MatchOption result (self.old.next ≡ page_count self.old.string)
@@ -187,7 +188,7 @@ impl<'a> Pages<'a> {
         })
     }
 
-    /// The number of steps over the string and over the plane since the start, of both counts as they stand.
+    /// How much the counts of the string and of the plane have risen since the start, added up.
     pub fn steps(&self) -> u64
         ensures risen { result ≡ (self.now.string.source.steps - self.now.string_started) + (self.now.plane.steps - self.now.plane_started) }
         ensures most { result ≤ drawing_limit self.now.string.sign (length self.now.string.source.octets) }
@@ -199,7 +200,7 @@ impl<'a> Pages<'a> {
         (self.string.steps() - self.string_started) + (self.plane.steps() - self.plane_started)
     }
 
-    /// The string and the plane, as they are.
+    /// Gives back the string and the plane, as they are.
     pub fn finish(self) -> (Checked<'a>, Plane)
         ensures given_back { result ≡ (self.entry.string, self.entry.plane) }
         ensures size { IsSized self.entry.plane self.entry.string.sign }

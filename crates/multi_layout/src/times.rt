@@ -19,16 +19,16 @@ use multi_token::Source;
 pub enum Shown {
     /// A page, counted from 0, and its phase: the tenths of a second since it began.
     Page { page: u8, phase: u64 },
-    /// No page: the off time of one.
+    /// Nothing: it is the off time of a page.
     Off,
 }
 
 impl<'a> Checked<'a> {
     /// What the string shows at a clock, in tenths of a second since it began to be shown.
     ///
-    /// One page, or a cycle of 0, always shows page 0 with the clock as its phase. Else each page in turn is
-    /// shown for its on time and then nothing for its off time, over and over: the clock counts modulo the
-    /// cycle. This takes at most 2n + 1 steps over a string of n octets.
+    /// A string with one page or a cycle of 0 always shows page 0, with the clock as its phase. Otherwise the clock is taken
+    /// modulo the cycle: each page in turn is shown for its on time, and then nothing for its off time, over and over. This
+    /// takes at most 2n + 1 steps over a string of n octets.
     pub fn locate(&mut self, clock: u64) -> Shown
         ensures shown { result ≡ shown self.old.sign self.old.source.octets clock }
         ensures kept { self.new.sign ≡ self.old.sign }

@@ -12,7 +12,7 @@ use crate::number::{in_range, read_numeral};
 use crate::tag::{FontPick, Tag};
 use multi_token::Source;
 
-/// A font, and the version behind a comma.
+/// A font, and its version after a comma.
 pub fn read_font(source: &mut Source<'_>, cursor: &mut BodyPlace) -> Option<Tag>
     requires { IsWithin source.old cursor.old }
     ensures value { IsValueIn (table names.Font).rest (left source.old cursor.old) result }

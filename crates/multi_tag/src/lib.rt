@@ -1,10 +1,10 @@
 //! The values of MULTI tags.
 //!
-//! A tag's body is the octets between its brackets. Its first two or three octets are its name, and the
-//! rest has one of the forms that the tag table lists for that name: nothing, or numbers with commas and
-//! letters between them. Letters count in either case.
+//! A tag's body is the octets between its brackets. It begins with the tag's name, which has two or three octets. The rest
+//! has one of the forms that the table of tags lists for that name: nothing, or numbers with commas and letters between
+//! them. Letters may be large or small.
 //!
-//! [`read_tag`] gives the value of a tag of a counted source, or why it has none.
+//! [`read_tag`] reads the body of a tag, and gives the tag's value or the fault that explains why it has none.
 #![tactic(auto)]
 
 mod body_place;

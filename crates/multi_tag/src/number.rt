@@ -16,8 +16,7 @@ pub struct Numeral {
     pub stop: Option<u8>,
 }
 
-/// Reads at most `most` digits of a base, and the octet behind them, which stops them even where it is
-/// another digit.
+/// Reads at most `most` digits of a base and the octet after them, which stops them even if it is another digit.
 pub fn read_numeral(
     source: &mut Source<'_>,
     cursor: &mut BodyPlace,

@@ -11,12 +11,12 @@ use crate::rest::read_rest;
 use crate::tag::{Tag, TagFault};
 use multi_token::{Source, Token};
 
-/// The value of a tag of this source, whose body stands between the token's first octet and its last.
+/// Reads the value of a tag, whose token was read from this source.
 ///
-/// It is [`TagFault::Unsupported`] where no listed name begins the body, and [`TagFault::Value`] where one
-/// does, but what stands behind it has none of the forms that are listed for it.
+/// The fault is [`TagFault::Unsupported`] if no name of the table begins the body, and [`TagFault::Value`] if one does but
+/// what follows the name has none of its forms, or a number is outside its range.
 ///
-/// Each octet of the body is read at most once, and nothing else is.
+/// Each octet of the body is read at most once, and no other octet is read.
 pub fn read_tag(source: &mut Source<'_>, token: &Token) -> Result<Tag, TagFault>
     requires { IsTagOf source.old.octets token.now }
     // what is read is in the table, and what is in the table is read

@@ -27,7 +27,7 @@ pub fn read_rect(source: &mut Source<'_>, cursor: &mut BodyPlace) -> Option<Tag>
     Some(Tag::Rect { x, y, w, h })
 }
 
-/// A number, and the comma behind it.
+/// A number, and the comma after it.
 fn read_before_comma(source: &mut Source<'_>, cursor: &mut BodyPlace) -> Option<u32>
     requires { IsWithin source.old cursor.old }
     ensures value { IsPartBefore comma (d 0 99999)

@@ -1,4 +1,4 @@
-//! What stands behind the name of a tag.
+//! What follows the name of a tag.
 
 ghost use Rattle.std.specs.Prelude.{◌≡◌, [], OnSome};
 ghost use Rattle.multi_tag.specs.Body.{table};

@@ -14,12 +14,12 @@ pub struct FontPick {
     pub version: Option<u16>,
 }
 
-/// The value of a tag (NTCIP 1203 v03, MULTI). An absent number stands for the sign's default.
+/// The value of a tag (NTCIP 1203 v03, MULTI). `None` in place of a number stands for the sign's default.
 #[derive(Clone, Copy, Debug, PartialEq, Eq)]
 pub enum Tag {
     /// A new page ('np').
     NewPage,
-    /// A new line, with the gap above it in pixels; `None` is the usual gap ('nl').
+    /// A new line, and the gap above it in pixels; `None` is the usual gap ('nl').
     NewLine(Option<u8>),
     /// Line justification: left 2, centre 3, right 4, full 5 ('jl').
     LineJust(Option<u8>),
@@ -31,12 +31,12 @@ pub enum Tag {
     CharSpacing(u8),
     /// The end of character spacing ('/sc').
     CharSpacingEnd,
-    /// How long a page is shown and then dark, in tenths of a second ('pt').
+    /// How long a page is shown, and how long the sign is dark after it, in tenths of a second ('pt').
     PageTime {
         on: Option<u8>,
         off: Option<u8>,
     },
-    /// Flashing, and how long it is on and off, in tenths of a second ('fl').
+    /// Flashing text, how long it is on and how long off, in tenths of a second, and which comes first ('fl').
     Flash {
         off_first: bool,
         on: Option<u8>,
@@ -61,10 +61,10 @@ pub enum Tag {
 /// Why a tag has no value.
 #[derive(Clone, Copy, Debug, PartialEq, Eq, Error)]
 pub enum TagFault {
-    /// No listed name begins the body.
+    /// No name of the table begins the body.
     #[error("unsupported tag")]
     Unsupported,
-    /// A listed name begins the body, but the rest has no listed form or a number is out of its range.
+    /// A name of the table begins the body, but the rest has none of its forms, or a number is outside its range.
     #[error("unsupported tag value")]
     Value,
 }

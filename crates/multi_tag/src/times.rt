@@ -36,7 +36,7 @@ pub fn read_times(
     }
 }
 
-/// The times of a flash: behind a 't' on first, behind an 'o' off first.
+/// The times of a flash: it is on first if they begin with a 't', and off first if they begin with an 'o'.
 pub fn read_flash(source: &mut Source<'_>, cursor: &mut BodyPlace) -> Option<Tag>
     requires { IsWithin source.old cursor.old }
     ensures value { IsValueIn (table names.Flash).rest (left source.old cursor.old) result }

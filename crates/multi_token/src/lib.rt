@@ -1,11 +1,11 @@
-//! The octets of a MULTI string behind a step counter, and the tokens that they spell.
+//! The octets of a MULTI string, each read of which is counted, and the tokens that they spell.
 //!
-//! A MULTI string is a list of octets. It spells items, which are characters and tags: an octet that is
-//! no bracket spells the character of its number, `[[` and `]]` spell the characters 91 and 93, and a tag
-//! is one or more octets without brackets between `[` and `]`.
+//! A MULTI string is a list of octets. It spells items, which are characters and tags. An octet that is no bracket
+//! spells the character of its number, `[[` and `]]` spell the characters 91 and 93, and a tag is one or more octets
+//! without brackets between `[` and `]`.
 //!
-//! [`Source`] gives out octets one counted read at a time, and there is no other way to them.
-//! [`next_token`] gives the one item that is spelled at a place.
+//! [`Source`] gives its octets one at a time, and counts each read. There is no other way to them. [`next_token`] gives the
+//! one item that is spelled at an offset.
 #![tactic(auto)]
 
 mod laws;

@@ -8,8 +8,8 @@ use step_count::raised;
 
 /// The octets of a string, and how many steps were taken over them (own).
 ///
-/// A step is one read of one octet, a read past the end too, or a step that was taken elsewhere and
-/// charged here. The count stays at `u64::MAX`. A source can't be cloned, so no step is lost.
+/// A step is one read of one octet, also a read past the end, or a step that was taken elsewhere and charged here. At
+/// `u64::MAX` the count stays as it is. A source can't be cloned, so no step is lost.
 #[derive(Drop)]
 pub struct Source<'a> {
     octets: &'a [u8],
@@ -32,7 +32,7 @@ impl<'a> Source<'a> {
         Source { octets, steps: 0 }
     }
 
-    /// The octet at an offset, or `None` from the end on. Either way it is one step.
+    /// The octet at an offset, or `None` at the end and past it. Either way this takes one step.
     pub fn read(&mut self, at: usize) -> Option<u8>
         ensures octet { result ≡ slice_get self.old.octets at }
         ensures step { self.new ≡ charged self.old 1 }
@@ -50,14 +50,14 @@ impl<'a> Source<'a> {
         self.octets.len()
     }
 
-    /// The number of steps so far, which never falls; `u64::MAX` may stand for more.
+    /// The number of steps so far. It never falls, and `u64::MAX` means that many or more.
     pub fn steps(&self) -> u64
         ensures { result ≡ self.now.steps }
     {
         self.steps
     }
 
-    /// Adds `k` steps, which were taken elsewhere over this string.
+    /// Adds `k` steps that were taken over this string elsewhere.
     pub fn charge(&mut self, k: u64)
         ensures { self.new ≡ charged self.old k }
     {

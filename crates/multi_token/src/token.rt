@@ -14,7 +14,7 @@ use thiserror::Error;
 pub enum Kind {
     /// A character, by its number: 0 to 255.
     Char(u8),
-    /// A tag. Its body stands between the token's first octet and its last.
+    /// A tag. Its body is the octets between the first octet of the token and the last.
     Tag,
 }
 
@@ -26,16 +26,16 @@ pub struct Token {
     pub kind: Kind,
 }
 
-/// A broken bracket: no item is spelled at this offset, which isn't the end.
+/// A broken bracket: at this offset, which is before the end, no item is spelled.
 #[derive(Clone, Copy, Debug, PartialEq, Eq, Error)]
 #[error("a broken bracket at octet {at}")]
 pub struct TokenFault {
     pub at: usize,
 }
 
-/// The token whose spelling stands at an offset, or `None` at the end.
+/// The token that is spelled at an offset, or `None` at the end. A broken bracket at the offset is a [`TokenFault`].
 ///
-/// It takes as many steps as the token has octets, one at the end, and at a broken bracket at least one
+/// Reading a token takes as many steps as it has octets, and the end takes one. A broken bracket takes at least one step,
 /// and at most one more than there are octets from there on.
 pub fn next_token(source: &mut Source<'_>, at: usize) -> Result<Option<Token>, TokenFault>
     requires { at ≤ length source.old.octets }

@@ -1,10 +1,10 @@
 //! One bit plane of a sign's page: a set of pixels of a fixed size, in one block of memory.
 //!
-//! A sign's driver sees octets. A row of `w` pixels has `(w + 7) / 8` of them and begins on an octet, its
-//! leftmost pixel in the highest bit; the spare bits of its last octet are 0.
+//! A sign's driver sees octets. Each row of `w` pixels begins on a new octet and has `(w + 7) / 8` octets. Its leftmost
+//! pixel is the highest bit of its first octet, and the spare bits of its last octet are 0.
 //!
-//! [`Plane`] is made once, with every pixel off. After that its pixels and its count of steps change, and its
-//! size and its memory never do.
+//! A [`Plane`] is made once, with every pixel off. After that its pixels and its count of steps change. Its size and its
+//! memory never do.
 #![tactic(auto)]
 
 mod laws;

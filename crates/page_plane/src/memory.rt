@@ -1,4 +1,4 @@
-//! Want of memory.
+//! Refused memory.
 
 use thiserror::Error;
 

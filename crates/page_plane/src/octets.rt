@@ -72,7 +72,7 @@ pub(crate) fn put_bits(octets: &mut [u8], place: usize, width: u8, bits: u64, on
     }
 }
 
-/// The first `width` bits of a row behind `shift` clear bits, from bit 127 on.
+/// `shift` clear bits and then the first `width` bits of a row, from bit 127 on.
 fn moved_row(bits: u64, width: u8, shift: u8) -> u128
     requires width { width ≤ 64 }
     requires shift { shift < 8 }
@@ -81,7 +81,7 @@ fn moved_row(bits: u64, width: u8, shift: u8) -> u128
     u128::from(first_bits(bits, width)) << (64 - shift)
 }
 
-/// The first `width` bits of a row, and clear bits behind them.
+/// The first `width` bits of a row, and then clear bits.
 fn first_bits(bits: u64, width: u8) -> u64
     requires { width ≤ 64 }
     ensures { (j : ℕ) → j < 64 → is_row_set result j ≡ (nat_lt j width && is_row_set bits j) }

@@ -14,7 +14,7 @@ use step_count::raised;
 
 /// One bit plane of a page: pixels that are on or off, and how many steps were taken over them (own).
 ///
-/// A step is one octet filled or one row put. The count stays at `u64::MAX`.
+/// A step is one octet filled or one row put. At `u64::MAX` the count stays as it is.
 #[derive(Drop)]
 pub struct Plane {
     width: u16,
@@ -36,7 +36,7 @@ impl Model for Plane {
 
 impl Plane {
     /// A plane of `w` by `h` pixels, `w` from 1 to 1,024 and `h` from 1 to 128, with every pixel off and no
-    /// step taken. `Memory` where its octets can't be had.
+    /// step taken. The answer is `Memory` if the memory for its octets was refused.
     pub fn new(alloc: Global, w: u16, h: u16) -> Result<Plane, Memory>
         requires width { (1 ≤ w) × (w ≤ 1024) }
         requires height { (1 ≤ h) × (h ≤ 128) }
@@ -68,9 +68,9 @@ impl Plane {
         fill_rows(&mut self.octets, self.width, on);
     }
 
-    /// Puts the first `width` pixels of a row at column `x` of row `y`, in one step: where a bit is set, from
-    /// bit 63 on for column `x`, the pixel becomes `on`, and every other pixel stays. The row lies inside the
-    /// plane, and a width of 0 changes no pixel.
+    /// Puts the first `width` pixels of a row at column `x` of row `y`, in one step. Bit 63 is for column `x`, bit 62 for the
+    /// next, and so on. If a bit is set, its pixel becomes `on`, and every other pixel stays. The row must lie inside the
+    /// plane. A width of 0, which is allowed, changes no pixel.
     pub fn put_row(&mut self, x: u16, y: u16, width: u8, bits: u64, on: bool)
         requires width { width ≤ 64 }
         requires column { x + width ≤ self.old.width }
@@ -86,7 +86,7 @@ impl Plane {
         put_bits(&mut self.octets, place, width, bits, on);
     }
 
-    /// Whether a pixel is on, which lies inside the plane.
+    /// Whether a pixel is on. It must lie inside the plane.
     pub fn pixel(&self, x: u16, y: u16) -> bool
         requires column { x < self.now.width }
         requires row { y < self.now.height }
@@ -96,8 +96,8 @@ impl Plane {
         bit(&self.octets, place)
     }
 
-    /// The octets of row `y`, which lies inside the plane: its leftmost pixel in the highest bit of the first,
-    /// and 0 in the spare bits of the last.
+    /// The octets of row `y`, which must lie inside the plane. The leftmost pixel is the highest bit of the first octet, and
+    /// the spare bits of the last octet are 0.
     pub fn row(&self, y: u16) -> &[u8]
         requires { y < self.now.height }
         ensures count { length result.now ≡ row_octets self.now.width }
@@ -125,7 +125,7 @@ impl Plane {
         self.height
     }
 
-    /// The number of steps so far, which never falls; `u64::MAX` may stand for more.
+    /// The number of steps so far. It never falls, and `u64::MAX` means that many or more.
     pub fn steps(&self) -> u64
         ensures { result ≡ self.now.steps }
     {

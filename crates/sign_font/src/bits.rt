@@ -5,7 +5,7 @@ ghost use Rattle.sign_font.specs.Cell.{is_set, AreRowsOf, IsWordOf};
 
 use std::alloc::{AllocError, Global};
 
-/// Whether the bit at a place is set; behind the last octet none is.
+/// Whether the bit at a place is set; past the last octet none is.
 pub(crate) fn is_set(octets: &[u8], place: usize) -> bool
     ensures { result ≡ is_set octets.now place }
 {

@@ -88,7 +88,7 @@ impl<'a> Cell<'a> {
         glyph.width
     }
 
-    /// The pixels of a row, counted from the top from 0, as one word: column `j` in bit `63 - j`, and no other bit.
+    /// The pixels of a row, counted from 0 at the top, as one word: bit `63 - j` is column `j`, and all other bits are 0.
     pub fn row(&self, r: u8) -> u64
         requires { r < self.now.height }
         ensures { IsRowOf self.now r result }
@@ -97,7 +97,7 @@ impl<'a> Cell<'a> {
         glyph.rows[r as usize]
     }
 
-    /// Whether a pixel is lit, by its column from the left and its row from the top, both counted from 0.
+    /// Whether a pixel is lit. Its column is counted from 0 at the left, and its row from 0 at the top.
     pub fn bit(&self, column: u8, row: u8) -> bool
         requires column { column < self.now.width }
         requires row { row < self.now.height }

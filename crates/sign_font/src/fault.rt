@@ -6,18 +6,18 @@ ghost use Rattle.sign_font.specs.Fault.{code_of};
 
 use thiserror::Error;
 
-/// The first limit, in this order over the whole sign, that a sign is outside, or refused memory (own).
+/// Why a sign is refused: the first limit that it is outside, in this order over the whole sign, or refused memory (own).
 #[derive(Clone, Copy, Debug, PartialEq, Eq, Error)]
 pub enum SignFault {
     /// The width isn't 1 to 1,024 pixels, or the height isn't 1 to 128.
     #[error("the sign's width or height is outside its limits")]
     BadSize,
-    /// There isn't 1 to 16 fonts, or a font's number is 0, or the numbers don't rise strictly, or a font's
-    /// height isn't 1 to 64 pixels.
+    /// There are fewer than 1 or more than 16 fonts, or a font's number is 0, or the numbers don't rise strictly, or a
+    /// font's height isn't 1 to 64 pixels.
     #[error("the number of fonts, or a font's number, order or height, is outside its limits")]
     BadFont,
     /// A font has more than 255 cells, or a cell's number isn't 1 to 255, or the numbers of a font's cells
-    /// don't rise strictly, or a cell's width isn't 1 to 64 pixels, or its octets aren't as many as its pixels
+    /// don't rise strictly, or a cell's width isn't 1 to 64 pixels, or a cell has more or fewer octets than its pixels
     /// need, or a spare bit is set.
     #[error("the number, order, width or bits of a cell are outside their limits")]
     BadCell,
@@ -25,16 +25,16 @@ pub enum SignFault {
     /// justification isn't 2 to 4, or a default colour is above 9.
     #[error("a default is outside its limits")]
     BadDefault,
-    /// The most pages of a message are 0.
+    /// The largest number of pages of a message is 0.
     #[error("a message has at least one page")]
     BadLimit,
-    /// Memory was wanted and refused. The sign is within its limits.
+    /// Memory was refused. The sign is within its limits.
     #[error("memory was refused")]
     Memory,
 }
 
 impl SignFault {
-    /// The number by which the fault is known outside: 1 to 6 in the order above.
+    /// The number of the fault, as the program says it: 1 to 6 in the order above.
     pub fn code(self) -> u8
         ensures { result ≡ code_of self }
     {

@@ -9,12 +9,12 @@ use crate::parts::FontPart;
 use std::alloc::{AllocError, Global};
 use std::marker::Model;
 
-/// What a font says of itself, without its cells (NTCIP 1203 v03, object fontTable).
+/// The values of a font, without its cells (NTCIP 1203 v03, object fontTable).
 #[derive(Clone, Copy, Debug, PartialEq, Eq)]
 pub struct FontInfo {
-    /// 1 to 255.
+    /// The font's number: 1 to 255.
     pub number: u8,
-    /// 0 where none is known (NTCIP 1203 v03, object fontVersionID).
+    /// The font's version; 0 if none is known (NTCIP 1203 v03, object fontVersionID).
     pub version: u16,
     /// Rows, in pixels: 1 to 64.
     pub height: u8,

@@ -1,9 +1,9 @@
-//! The sign and its fonts, which are made once and then only asked.
+//! The sign and its fonts, which are made once and never change.
 //!
-//! A sign is made from [`SignParts`], the numbers of a file that somebody wrote by hand. [`Sign::new`] refuses
-//! parts outside the limits by the first [`SignFault`], and an accepted [`Sign`] is exactly what was written.
+//! A sign is made from [`SignParts`], the numbers of a file that somebody wrote by hand. If they are outside a limit,
+//! [`Sign::new`] refuses them with the first [`SignFault`]. An accepted [`Sign`] is exactly what was written.
 //!
-//! Its fonts and their cells are reached by two counted probes alone, [`Sign::font`] and [`Sign::cell`].
+//! Only [`Sign::font`] and [`Sign::cell`] look up its fonts and their cells, and each call counts as one step.
 #![tactic(auto)]
 
 mod bits;

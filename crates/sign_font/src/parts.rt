@@ -7,16 +7,16 @@ pub struct SignParts {
     pub width: u16,
     /// Rows, in pixels: 1 to 128.
     pub height: u16,
-    /// Whether the colours are those of the classic scheme (NTCIP 1203 v03, object dmsColorScheme); else the
-    /// sign is monochrome.
+    /// Whether the colours are those of the classic scheme (NTCIP 1203 v03, object dmsColorScheme). If not, the sign is
+    /// monochrome.
     pub classic: bool,
-    /// The most pages of a message: 1 to 255 (NTCIP 1203 v03, object dmsMaxNumberPages).
+    /// The largest number of pages of a message: 1 to 255 (NTCIP 1203 v03, object dmsMaxNumberPages).
     pub max_pages: u8,
     /// Whether the sign has beacons.
     pub beacons: bool,
     /// Whether the sign has a pixel service.
     pub pixel_service: bool,
-    /// What holds where a message says nothing.
+    /// What holds unless a message says otherwise.
     pub defaults: Defaults,
     /// 1 to 16 fonts, whose numbers rise strictly.
     pub fonts: Vec<FontPart>,
@@ -25,9 +25,9 @@ pub struct SignParts {
 /// A font as it was written (NTCIP 1203 v03, object fontTable).
 #[derive(Debug, Drop)]
 pub struct FontPart {
-    /// 1 to 255.
+    /// The font's number: 1 to 255.
     pub number: u8,
-    /// Any number; 0 where none is known (NTCIP 1203 v03, object fontVersionID).
+    /// The font's version, any number; 0 if none is known (NTCIP 1203 v03, object fontVersionID).
     pub version: u16,
     /// Rows, in pixels: 1 to 64.
     pub height: u8,
@@ -51,7 +51,7 @@ pub struct CellPart {
     pub bits: Vec<u8>,
 }
 
-/// What holds where a message says nothing (NTCIP 1203 v03, group multiCfg).
+/// What holds unless a message says otherwise (NTCIP 1203 v03, group multiCfg).
 #[derive(Clone, Copy, Debug, PartialEq, Eq)]
 pub struct Defaults {
     /// The number of a font of the sign.
@@ -60,9 +60,9 @@ pub struct Defaults {
     pub line: u8,
     /// The page justification: 2 to 4.
     pub page: u8,
-    /// How long a page is shown, in tenths of a second; 0 is for ever.
+    /// How long a page is shown, in tenths of a second; 0 is not at all, unless the message has one page or a cycle of 0.
     pub page_on: u8,
-    /// How long the sign is dark behind a page, in tenths of a second; 0 is not at all.
+    /// How long the sign is dark after a page, in tenths of a second; 0 is not at all.
     pub page_off: u8,
     /// How long flashing text is shown, in tenths of a second.
     pub flash_on: u8,

@@ -1,4 +1,4 @@
-//! The sample sign, which a program has without a file and which tests make and change.
+//! The sample sign, which a program can make without a file and which tests make and change.
 
 ghost use Rattle.std.specs.Prelude.{◌≡◌, IfOk};
 ghost use Rattle.sign_font.specs.Sign.{cell_of, font_of, sign_of};

@@ -1,4 +1,4 @@
-//! A sign, which is made once and then only asked.
+//! A sign, which is made once and never changes.
 
 ghost use Rattle.std.specs.Prelude.{◌≡◌, ℕ, ◌≤◌, All, Any, IfOk, IfErr, IfSome, IfNone, OnOk, None, map, option_map};
 ghost use Rattle.std.specs.Option.{option_copied};
@@ -19,7 +19,7 @@ use std::marker::Model;
 
 /// A sign within its limits, with its fonts (own).
 ///
-/// Its fonts and their cells are reached by counted probes alone; everything else is free of steps.
+/// Only `font` and `cell` look up its fonts and their cells, and each call counts as one step. All other calls take no step.
 #[derive(Drop)]
 pub struct Sign {
     width: u16,
@@ -53,8 +53,8 @@ impl Model for Sign {
 }
 
 impl Sign {
-    /// Makes a sign of its parts, or answers the fault of the first limit, in their order over the whole sign,
-    /// that they are outside. `Memory` comes only where memory was refused, and only for parts without a fault.
+    /// Makes a sign from its parts. If they are outside a limit, the answer is the fault of the first such limit, in their
+    /// order over the whole sign. `Memory` comes only if memory was refused, and only for parts without another fault.
     pub fn new(alloc: Global, parts: SignParts) -> Result<Sign, SignFault>
         ensures accepted { IfOk result (λ sign. sign ≡ sign_of parts) }
         ensures sound { IfOk result IsSound }
@@ -98,7 +98,7 @@ impl Sign {
         self.height
     }
 
-    /// Whether the colours are those of the classic scheme; else the sign is monochrome.
+    /// Whether the colours are those of the classic scheme. If not, the sign is monochrome.
     pub fn classic(&self) -> bool
         ensures classic { result ≡ self.now.classic }
         ensures sound { IsSound self.now }
@@ -106,7 +106,7 @@ impl Sign {
         self.classic
     }
 
-    /// The most pages of a message: 1 to 255.
+    /// The largest number of pages of a message: 1 to 255.
     pub fn max_pages(&self) -> u8
         ensures max_pages { result ≡ self.now.max_pages }
         ensures sound { IsSound self.now }
@@ -130,7 +130,7 @@ impl Sign {
         self.pixel_service
     }
 
-    /// What holds where a message says nothing.
+    /// What holds unless a message says otherwise.
     pub fn defaults(&self) -> Defaults
         ensures defaults { result ≡ self.now.defaults }
         ensures taken { default_fault self.now self.now.defaults ≡ None }
@@ -187,7 +187,7 @@ impl Sign {
             .unwrap_or(0)
     }
 
-    /// The font of a number, if it is defined. Either way it is one step.
+    /// The font of a number, or `None` if the sign has none. Either way this takes one step.
     pub fn font(&self, source: &mut Source<'_>, number: u8) -> Option<FontInfo>
         ensures font { result ≡ option_map info_of (font_numbered self.now number) }
         ensures height { IfSome result (λ info. IsWithin 1 64 info.height) }
@@ -197,7 +197,7 @@ impl Sign {
         self.probe(source, number).map(|font| font.info())
     }
 
-    /// The cell of a number in the font of a number, if both are defined. Either way it is one step.
+    /// The cell of a number in the font of a number, or `None` if the sign lacks either. Either way this takes one step.
     pub fn cell(&self, source: &mut Source<'_>, font: u8, number: u16) -> Option<Cell<'_>>
         ensures cell { result ≡ cell_in self.now font number }
         ensures size { IfSome result IsSoundSize }

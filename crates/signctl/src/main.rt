@@ -1,28 +1,29 @@
 //! Checks the messages of a roadside message sign, and shows their pages.
 //!
-//! `signctl check` reads a sign file, a line `%%`, and lines from standard input; `signctl check --sample` reads lines
-//! alone, for the sample sign. A sign file is a TOML document that describes one sign. Each line behind it is a MULTI
-//! string for that sign, and gets one line on standard output, which is written when the line's end was read:
+//! `signctl check` reads a sign file, a line `%%`, and message lines from standard input. `signctl check --sample` reads
+//! message lines alone, for the sample sign. A sign file is a TOML document that describes one sign. Each message line is
+//! a MULTI string for that sign. It gets one line of answer on standard output, which is written as soon as the message
+//! line has ended:
 //!
 //! | Answer | Meaning |
 //! |---|---|
 //! | `ok P` | the sign accepts the string, which has P pages |
-//! | `error C A` | the sign refuses it with the error code C for what stands at the octet offset A |
+//! | `error C A` | the sign refuses it, with the error code C for the item at offset A, counted in octets from 0 |
 //! | `too long` | the string has more than 4,096 octets, and isn't judged |
 //!
-//! `signctl show` reads the same, and shows a page in place of `ok P`: that of the clock of `--clock`, in tenths of a
-//! second since the string began to be shown (0 to 4,294,967,295; 0 where none is given), in the colour of `--colour`
-//! (0 to 9; 1 where none is given). `page P phase F` says which page it is, counted from 0, and how long it was shown; in
-//! the off time of a page it is `off`. Then comes a line for each pixel row from the top, with `#` for a pixel of that
-//! colour and `.` for another; in an off time every pixel has colour 0.
+//! `signctl show` reads the same, and answers a page in place of `ok P`. `--clock` says which: it is the time in tenths of
+//! a second since the string began to be shown, 0 to 4,294,967,295, or 0 if it isn't given. `page P phase F` is page P,
+//! counted from 0, and F tenths of a second since that page began; in the off time of a page the line is `off` instead.
+//! Then comes a line for each pixel row from the top, with `#` for a pixel of one colour and `.` for a pixel of any other.
+//! `--colour` says which colour, 0 to 9, or 1 if it isn't given. In an off time every pixel has colour 0.
 //!
-//! A line ends with a line feed, and one carriage return before that is dropped. It has at most 8,300 octets
-//! besides, and an input has at most 16,777,216; the sign file's lines count too. The first fault ends the run, after
-//! the answers to the lines before it, and is said on standard error behind `signctl: `:
+//! A line ends with a line feed, and one carriage return before that is dropped. What is left has at most 8,300 octets.
+//! An input has at most 16,777,216 octets, with those of the sign file. The first fault ends the run, after the answers
+//! to the lines before it, and is said on standard error after `signctl: `:
 //!
 //! | Fault | When |
 //! |---|---|
-//! | `sign not read` | no line is `%%`, or what stands before the first is no sign file: no TOML document, a key is missing or of another kind, or its number is outside its type |
+//! | `sign not read` | no line is `%%`, or what stands before the first one is no sign file: it isn't TOML, or a key is missing, is of another kind, or has a number outside its type |
 //! | `sign fault N` | the sign is outside the limit N, from 1 to 5 (`sign_font::SignFault`) |
 //! | `line N: too long` | the line has too many octets |
 //! | `line N: bad line` | the input ends within the line |
@@ -55,7 +56,7 @@ use std::io::BufReader;
 use std::process::ExitCode;
 use std::{env, io};
 
-/// Runs the tool over the standard streams. Without memory for a buffer it asks the system for each octet.
+/// Runs the tool over the standard streams. If there is no memory for a buffer, it asks the system for each octet.
 fn run(rt: &HostRuntime, words: &[&str]) -> u8 {
     let alloc = rt.alloc();
     let mut output = rt.stdout();
@@ -66,8 +67,8 @@ fn run(rt: &HostRuntime, words: &[&str]) -> u8 {
     }
 }
 
-/// Runs the tool on the words of its command line. An `Err` is of the words: one is no text, or there is
-/// no memory for them.
+/// Runs the tool on the words of its command line. It is an `Err` if a word is no text, or if there is no memory for the
+/// words.
 fn run_words(rt: &HostRuntime) -> io::Result<u8> {
     let alloc = rt.alloc();
     let owned: Vec<String> = env::args(rt)?.collect(alloc)?;

@@ -12,12 +12,12 @@ const DONE: u8 = 0;
 /// The exit status of a run that ended with a fault (own).
 const FAULTED: u8 = 1;
 
-/// The exit status where the command line is refused (own).
+/// The exit status if the command line is refused (own).
 pub(crate) const REFUSED: u8 = 2;
 
-/// Answers a command line that asks for no run: help goes to the output, and what is refused to the errors.
+/// Answers a command line that asks for no run. Help is written to the output, and why it is refused to the errors.
 fn answer_words<W: Write, E: Write>(answer: Error, writer: &mut W, errors: &mut E) -> u8 {
-    // The status says the same where this text can't be written.
+    // The status says the same even if this text can't be written.
     if answer.use_stderr() {
         let _ = write!(errors, "{answer}");
         REFUSED
@@ -27,11 +27,11 @@ fn answer_words<W: Write, E: Write>(answer: Error, writer: &mut W, errors: &mut 
     }
 }
 
-/// Runs the tool as the words ask, of which the first is the program's name, and gives its exit status (own).
+/// Runs the tool as the words ask, and gives its exit status (own). The first word is the program's name.
 ///
-/// It is 0 after a run with no fault and after help, which is written to `writer`; 1 after a fault, which is
-/// said on `errors` behind `signctl: `; and 2 where the words are refused, which is said on `errors`, also
-/// where there is no memory to read them. What can't be written to `errors` is lost.
+/// The status is 0 after a run with no fault, and after help, which is written to `writer`. It is 1 after a fault, which is
+/// written to `errors` after `signctl: `. It is 2 if the words are refused, or if there is no memory to read them, and then
+/// `errors` gets the reason. What can't be written to `errors` is lost.
 pub fn main_with<R: Read, W: Write, E: Write>(
     alloc: Global,
     words: &[&str],

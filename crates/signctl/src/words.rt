@@ -8,11 +8,11 @@ use std::alloc::{AllocError, Global};
 #[derive(Clone, Copy)]
 pub(crate) struct Request {
     pub(crate) mode: Mode,
-    /// Whether the sample sign was named; else the input begins with a sign file.
+    /// Whether the sample sign was named. If not, the input begins with a sign file.
     pub(crate) sample: bool,
 }
 
-/// `--sample`, in place of a sign file.
+/// `--sample`, which stands in place of a sign file.
 fn sample_flag<'a>(alloc: Global) -> Arg<'a> {
     Arg::new(alloc, "sample")
         .long("sample")
@@ -29,7 +29,7 @@ fn check_command<'a>(alloc: Global) -> Result<Command<'a>, AllocError> {
         .arg(sample_flag(alloc))
 }
 
-/// `signctl show`, which takes what `check` takes, a colour and a clock.
+/// `signctl show`, which takes what `check` takes, and a colour and a clock.
 fn show_command<'a>(alloc: Global) -> Result<Command<'a>, AllocError> {
     let colour = Arg::new(alloc, "colour")
         .long("colour")
@@ -73,7 +73,7 @@ fn mode_of(matches: &ArgMatches<'_>) -> Mode {
     }
 }
 
-/// Reads the words, the program's name first. Help is an `Err` too, and so is want of memory.
+/// Reads the words, the program's name first. Help is an `Err` too, and so is refused memory.
 pub(crate) fn request_of<'a>(alloc: Global, words: &'a [&'a str]) -> Result<Request, Error> {
     let matches = command(alloc)?.try_get_matches_from(words)?;
     Ok(Request {
