@@ -1,9 +1,5 @@
-mod full_matrix;
 mod lending;
-mod pages;
-mod portable;
 mod show;
-mod show_signs;
 mod sign_file;
 
 use crate::fault::ToolFault;
