@@ -10,12 +10,12 @@ use Rattle.std.proofs.lemmas.Slice.Eq.{bytes_eq-Decides}
 use Rattle.sign_font.specs.Sign.{SignData}
 use Rattle.signctl.specs.declared.fault.ToolFault.{ToolFault}
 use Rattle.signctl.specs.declared.fault.ToolFault.TheVariants as faults
-use Rattle.signctl.specs.declared.lines.Next.TheVariants as next
+use Rattle.signctl.specs.declared.lines.NextLine.TheVariants as next
 use Rattle.signctl.specs.declared.tool.Mode.{Mode}
-use Rattle.signctl.specs.Lines.{Cut, cut, IsOneLine, is_mark, octets_of, parted, text_of}
+use Rattle.signctl.specs.Lines.{Cut, cut, input_limit, IsOneLine, is_mark, octets_of, parted, text_of}
 use Rattle.signctl.specs.Output.{Outcome, answered_on, behind_file, ended, fault_at_end, fault_unmarked, filed, first_long, outcome, outcome_of_file, output_of_whole, output_of_whole_file, unless_long}
 use Rattle.signctl.specs.Runs.{Fails, IsFront, IsWritten, Leads, outcome_on, output_on}
-use Rattle.signctl.specs.SignFile.{sign_of_octets}
+use Rattle.signctl.specs.FileSign.{sign_of_octets}
 use Rattle.signctl.specs.Streams.{TakesLine}
 use Rattle.signctl.specs.Tool.{answers_of, outcome_of, output_so_far}
 use Rattle.signctl.proofs.CutLemmas.{AreLines, octets_of-more, cut-line, cut-lines, cut-unfinished, take-past, nat_lt-past}
@@ -158,13 +158,13 @@ module _ (answers : SignData → AllAnswers) (lines : List (List ℕ)) (each : A
 -- a file so far: its lines and their octets, and how much may still come
 pub record Reading (input now : Option (List ℕ)) (number left : ℕ) (octets : List ℕ) (lines : List (List ℕ)) : Type 0 where
   pub takes : Consumes input now (octets_of lines)
-  pub limit : length (octets_of lines) + left ≡ 16777216
-  pub counted : number + left ≤ 16777217
+  pub limit : length (octets_of lines) + left ≡ input_limit
+  pub counted : number + left ≤ input_limit + 1
   pub number_is : number ≡ 1 + length lines
   pub octets_is : octets ≡ octets_of lines
   pub each : AreFileLines lines
 
-pub Reading-none : (input : Option (List ℕ)) (octets : List ℕ) → octets ≡ [] → Reading input input 1 16777216 octets []
+pub Reading-none : (input : Option (List ℕ)) (octets : List ℕ) → octets ≡ [] → Reading input input 1 input_limit octets []
 Reading-none input octets is = record {
   takes = Consumes-nil input;
   limit = refl;
@@ -193,7 +193,7 @@ module _ (input now new : Option (List ℕ)) (number left left' : ℕ) (octets l
       told input new (octets_of lines ++ more) (λ all. outcome_of mode false all ≡ record { output = []; fault = Some e })
       (Consumes-trans input now new (octets_of lines) more r.takes took)
       (λ ys. ap (outcome_of mode false) (append_assoc (octets_of lines) more ys)
-      ∙ outcome-lines (answers_of mode) lines left 16777216 (more ++ ys) r.each r.limit
+      ∙ outcome-lines (answers_of mode) lines left input_limit (more ++ ys) r.each r.limit
       ∙ is mode ys)
 
   -- the same where the reader is at its end
@@ -203,7 +203,7 @@ module _ (input now new : Option (List ℕ)) (number left left' : ℕ) (octets l
   whole_at_end more e took end is mode =
       Consumes-whole input new (octets_of lines ++ more) (λ all. outcome_of mode false all ≡ record { output = []; fault = Some e })
       (Consumes-trans input now new (octets_of lines) more r.takes took) end
-      (outcome-lines (answers_of mode) lines left 16777216 more r.each r.limit ∙ is mode)
+      (outcome-lines (answers_of mode) lines left input_limit more r.each r.limit ∙ is mode)
 
   pub fails_long : TakesLine now new left left' line (Ok next.TooLong) → Fails false input new (faults.LineTooLong number)
   fails_long t =
@@ -259,7 +259,7 @@ module _ (input now new : Option (List ℕ)) (number left left' : ℕ) (octets l
           place_is = (omega (arith, r.limit, length-append (octets_of lines) (line ++ 10 ∷ []), length-append line (10 ∷ [])), omega (arith, r.counted));
           whole = λ mode rest.
               ap (outcome_of mode false) (append_assoc (octets_of lines) (line ++ 10 ∷ []) rest)
-              ∙ outcome-lines (answers_of mode) lines left 16777216 ((line ++ 10 ∷ []) ++ rest) r.each r.limit
+              ∙ outcome-lines (answers_of mode) lines left input_limit ((line ++ 10 ∷ []) ++ rest) r.each r.limit
               ∙ behind-mark (answers_of mode) lines left line rest left' one (sym few) is
               ∙ outcome-sign mode (sign_of_octets (octets_of lines)) (length lines + 2) left' rest
               ∙ ap (λ n. outcome_on mode (sign_of_octets (octets_of lines)) (record { number = n; left = left' }) rest) number_is

@@ -2,7 +2,7 @@
 use Rattle.std.proofs.Common.{◌≡◌, ℕ, zero, suc, ◌+◌, ◌-◌, ◌%◌, ◌<◌, ◌≤◌, Bool, ◌||◌, ◌==◌, List, [], ◌∷◌, ◌++◌, length, map, Option, Some, None, refl, sym, ap, ◌∙◌, inl, inr, arith, append_assoc, append-nil}
 use Rattle.std.specs.List.{flat_map, find, range_with_len}
 use Rattle.std.specs.Option.{option_map_or}
-use Rattle.std.proofs.lemmas.Bool.{cases_Bool, cond-true, cond-false, le-ltb}
+use Rattle.std.proofs.lemmas.Bool.{cases_Bool, cond-true, cond-false}
 use Rattle.std.proofs.lemmas.List.FromFn.{map-range_with_len_more}
 use Rattle.page_plane.specs.Plane.{BitPlane, is_lit}
 use Rattle.sign_font.specs.declared.parts.Defaults.{Defaults}
@@ -14,10 +14,11 @@ use Rattle.multi_layout.specs.Meaning.{meanings}
 use Rattle.multi_layout.specs.Pages.{IsSized}
 use Rattle.multi_layout.specs.Picture.{pixel_at}
 use Rattle.multi_layout.specs.Times.{Times, begin, cycle, is_on, page_times, shown, shown_at, shown_within}
-use Rattle.multi_layout.specs.Verdict.{Verdict, IsVerdict, pages_of, verdict}
+use Rattle.multi_layout.specs.Verdict.{Accepted, pages_of}
 use Rattle.multi_layout.proofs.TimesLemmas.{shown_always, shown_modulo, times_count}
-use Rattle.multi_layout.proofs.VerdictLemmas.{one_verdict}
-use Rattle.signctl.specs.Frame.{frame_text, head_text, pixel_text, pixels_text, row_text, rows_text, show_answer, shown_text}
+use Rattle.signctl.specs.Frame.{frame_text, head_text, pixel_text, pixels_text, row_text, rows_text, show_answer}
+use Rattle.signctl.specs.Reply.{IsAccepted}
+use Rattle.signctl.proofs.ReplyLemmas.{answer_of_verdict}
 
 -- ROWS
 
@@ -86,19 +87,21 @@ frame_of old now sign octets clock colour s plane is shows sized written =
     ∙ ap (λ l. old ++ (head_text s ++ l)) rows
     ∙ ap (λ x. old ++ frame_text sign octets colour x) is
 
--- the answer to a line that isn't too long is that of the one verdict on it
-pub answer_of_verdict : (sign : SignData) (line octets : List ℕ) (colour clock : ℕ) (v : Verdict) → length line ≤ 4096 → octets ≡ line
-    → IsVerdict sign octets v → shown_text sign colour clock line v ≡ show_answer sign colour clock line
-answer_of_verdict sign line octets colour clock v short same is =
-    let one : v ≡ verdict sign line = (one_verdict sign octets v).0 is ∙ ap (verdict sign) same in
-    rw (le-ltb _ _ short) (ap (shown_text sign colour clock line) one)
-
 -- what a sign shows of an octet list is what an equal one shows of an equal list
-pub same_frame : (judge sign : SignData) (octets line : List ℕ) (colour clock : ℕ) → judge ≡ sign → octets ≡ line
+same_frame : (judge sign : SignData) (octets line : List ℕ) (colour clock : ℕ) → judge ≡ sign → octets ≡ line
     → frame_text judge octets colour (shown judge octets clock) ≡ frame_text sign line colour (shown sign line clock)
 same_frame judge sign octets line colour clock same_sign same_octets =
     ap (λ (s : SignData). frame_text s octets colour (shown s octets clock)) same_sign
     ∙ ap (λ l. frame_text sign l colour (shown sign l clock)) same_octets
+
+-- the frame of an accepted string answers its line
+pub answer_of_frame : (old now : List ℕ) (sign judge : SignData) (line octets : List ℕ) (colour clock : ℕ) → now ≡ old → IsAccepted sign line judge octets
+    → now ++ frame_text judge octets colour (shown judge octets clock) ≡ old ++ show_answer sign colour clock line
+answer_of_frame old now sign judge line octets colour clock same a =
+    let text = frame_text sign line colour (shown sign line clock) in
+    let answer : show_answer sign colour clock line ≡ text = answer_of_verdict (λ pages. text) sign line (Accepted a.pages) a.short a.accepted in
+    ap (λ l. l ++ frame_text judge octets colour (shown judge octets clock)) same
+    ∙ ap (λ l. old ++ l) (same_frame judge sign octets line colour clock a.same_sign a.same_octets ∙ sym answer)
 
 -- THE PAGE AT A CLOCK
 

@@ -1,15 +1,24 @@
 -- What a verdict says of the answer to a line.
-use Rattle.std.proofs.Common.{◌≡◌, ℕ, ◌≤◌, List, length, ap, ◌∙◌}
-use Rattle.std.proofs.lemmas.Bool.{le-ltb}
+use Rattle.std.proofs.Common.{◌≡◌, ℕ, ◌<◌, ◌≤◌, List, length, refl, sym, ap, ◌∙◌, subst}
+use Rattle.std.proofs.lemmas.Bool.{le-ltb, lt-ltb}
 use Rattle.sign_font.specs.Sign.{SignData}
-use Rattle.multi_layout.specs.Verdict.{Verdict, IsVerdict, verdict}
+use Rattle.multi_layout.specs.Verdict.{Verdict, Accepted, IsVerdict, verdict}
 use Rattle.multi_layout.proofs.VerdictLemmas.{one_verdict}
-use Rattle.signctl.specs.Reply.{check_answer, verdict_text}
+use Rattle.signctl.specs.Reply.{IsAccepted, answer_to, too_long_text, verdict_text}
 
--- The answer to a line that isn't too long is the text of the one verdict on its octets.
-pub answer_of_verdict : (sign judge : SignData) (line octets : List ℕ) (v : Verdict) → length line ≤ 4096
-    → judge ≡ sign → octets ≡ line → IsVerdict judge octets v → verdict_text v ≡ check_answer sign line
-answer_of_verdict sign judge line octets v short same_sign same_octets is =
-    let one : v ≡ verdict judge octets = (one_verdict judge octets v).0 is in
-    let here : verdict judge octets ≡ verdict sign line = ap (λ s. verdict s octets) same_sign ∙ ap (verdict sign) same_octets in
-    rw (le-ltb _ _ short) (ap verdict_text (one ∙ here))
+module _ (accepted : ℕ → List ℕ) (sign : SignData) (line : List ℕ) where
+  -- a line with too many octets isn't judged
+  pub answer_too_long : 4096 < length line → answer_to accepted sign line ≡ too_long_text
+  answer_too_long long = rw (lt-ltb _ _ long) refl
+
+  -- the answer to another line is that of the one verdict on it
+  pub answer_of_verdict : (v : Verdict) → length line ≤ 4096 → IsVerdict sign line v → answer_to accepted sign line ≡ verdict_text accepted v
+  answer_of_verdict v short is =
+      let one : verdict sign line ≡ v = sym ((one_verdict sign line v).0 is) in
+      rw (le-ltb _ _ short) (ap (verdict_text accepted) one)
+
+  -- the answer to an accepted string, whose number of pages is known
+  pub answer_accepted : (judge : SignData) (octets : List ℕ) (pages : ℕ) → IsAccepted sign line judge octets → IsVerdict judge octets (Accepted pages) → answer_to accepted sign line ≡ accepted pages
+  answer_accepted judge octets pages a is =
+      let on_line : IsVerdict judge line (Accepted pages) = subst (λ o. IsVerdict judge o (Accepted pages)) a.same_octets is in
+      answer_of_verdict (Accepted pages) a.short (subst (λ s. IsVerdict s line (Accepted pages)) a.same_sign on_line)

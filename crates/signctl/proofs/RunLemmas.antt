@@ -5,11 +5,13 @@ use Rattle.std.proofs.lemmas.Bool.{lt-ltb, le-ltb}
 use Rattle.std.proofs.lemmas.List.{length-append, take_all, take_at}
 use Rattle.std.specs.Io.KnownBytes.{Consumes, Appends, IsAtEnd}
 use Rattle.std.proofs.KnownBytes.{Consumes-trans, Consumes-whole, Appends-trans}
+use Rattle.signctl.specs.declared.answer.LineAnswer.{LineAnswer}
+use Rattle.signctl.specs.declared.answer.LineAnswer.TheVariants.{Text, BadLine}
 use Rattle.signctl.specs.declared.fault.ToolFault.{ToolFault}
 use Rattle.signctl.specs.declared.fault.ToolFault.TheVariants as faults
-use Rattle.signctl.specs.Lines.{Cut, cut, IsOneLine, octets_of, text_of}
+use Rattle.signctl.specs.Lines.{Cut, cut, input_limit, IsOneLine, octets_of, text_of}
 use Rattle.signctl.specs.Output.{Outcome, ended, after, answered, outcome, output_of_whole}
-use Rattle.signctl.specs.declared.lines.Next.TheVariants as next
+use Rattle.signctl.specs.declared.lines.NextLine.TheVariants as next
 use Rattle.signctl.specs.Streams.{TakesLine, WritesWhole}
 use Rattle.signctl.specs.Runs.{AnswersLine, IsFront, IsWritten, Runs}
 use Rattle.signctl.proofs.CutLemmas.{AreLines, AreLines-more, octets_of-more, cut-line, cut-lines, cut-unfinished, take-past, nat_lt-past}
@@ -133,7 +135,7 @@ pub record Going (first room : ℕ) (answers behind : AllAnswers) (input now out
   pub takes : Consumes input now taken
   pub writes : Appends output written sent
   pub limit : length taken + left ≡ room
-  pub counted : number + left ≤ 16777217
+  pub counted : number + left ≤ input_limit + 1
   pub progress : Progress first answers behind number taken sent lines
 
 -- ---- how a run ends
@@ -213,7 +215,7 @@ module _ (first room : ℕ) (answers behind : AllAnswers) (input now new output 
   ends_failing (faults.SignRefused n) t = let (seen, took, few, bad) = t in absurd (let wrong : faults.SignRefused n ≡ faults.Memory = bad in cc)
   ends_failing faults.BadSign t = let (seen, took, few, bad) = t in absurd (let wrong : faults.BadSign ≡ faults.Memory = bad in cc)
 
-  pub ends_bad : (next' : AllAnswers) (old text : List ℕ) → TakesLine now new left left' line (Ok next.Line) → AnswersLine behind next' (text_of line) old text (Ok false)
+  pub ends_bad : (next' : AllAnswers) (old text : List ℕ) → TakesLine now new left left' line (Ok next.Line) → AnswersLine behind next' (text_of line) old text (Ok BadLine)
       → Runs (outcome answers first room) (output_of_whole answers first) room input new output written (Some (faults.BadLine number))
   ends_bad next' old text t bad =
       let (took, one, few, short) = t in
@@ -226,7 +228,7 @@ module _ (first room : ℕ) (answers behind : AllAnswers) (input now new output 
 
   -- the line is answered and the answer written
   pub goes_on : (next' : AllAnswers) (written' : Option (List ℕ)) (text : List ℕ) → TakesLine now new left left' line (Ok next.Line)
-      → AnswersLine behind next' (text_of line) [] text (Ok true) → Appends written written' text
+      → AnswersLine behind next' (text_of line) [] text (Ok Text) → Appends written written' text
       → Going first room answers next' input new output written' (number + 1) left' (taken ++ (line ++ 10 ∷ [])) (sent ++ text) (lines ++ line ∷ [])
   goes_on next' written' text t says wrote =
       let (took, one, few, short) = t in
@@ -259,16 +261,16 @@ Runs-cut first room answers behind input new output written written' number left
     }
 
 -- an answer to a line that is known in other words
-pub same_answer : (before behind : AllAnswers) (line line' old old' new : List ℕ) (good good' : Bool) → line ≡ line' → old ≡ old' → good ≡ good'
-    → AnswersLine before behind line old new (Ok good) → AnswersLine before behind line' old' new (Ok good')
-same_answer before behind line line' old old' new good good' e f h a =
-    subst (λ l. AnswersLine before behind l old' new (Ok good')) e (subst (λ o. AnswersLine before behind line o new (Ok good')) f (subst (λ b. AnswersLine before behind line old new (Ok b)) h a))
+pub same_answer : (before behind : AllAnswers) (line line' old old' new : List ℕ) (answer answer' : LineAnswer) → line ≡ line' → old ≡ old' → answer ≡ answer'
+    → AnswersLine before behind line old new (Ok answer) → AnswersLine before behind line' old' new (Ok answer')
+same_answer before behind line line' old old' new answer answer' e f h a =
+    subst (λ l. AnswersLine before behind l old' new (Ok answer')) e (subst (λ o. AnswersLine before behind line o new (Ok answer')) f (subst (λ b. AnswersLine before behind line old new (Ok b)) h a))
 
 module _ (first room : ℕ) (answers behind : AllAnswers) (input now new output written : Option (List ℕ)) (number left left' : ℕ) (taken sent line : List ℕ) (lines : List (List ℕ))
     (go : Going first room answers behind input now output written number left taken sent lines) where
   -- the line is answered, and not all of the answer written
   pub ends_writing : (next' : AllAnswers) (written' : Option (List ℕ)) (text octets : List ℕ) (e : ToolFault) → TakesLine now new left left' line (Ok next.Line)
-      → AnswersLine behind next' (text_of line) [] text (Ok true) → octets ≡ text → WritesWhole written written' octets (Err e) → Runs (outcome answers first room) (output_of_whole answers first) room input new output written' (Some e)
+      → AnswersLine behind next' (text_of line) [] text (Ok Text) → octets ≡ text → WritesWhole written written' octets (Err e) → Runs (outcome answers first room) (output_of_whole answers first) room input new output written' (Some e)
   ends_writing next' written' text octets e t says same wrote =
       let (took, one, few, short) = t in
       let answer : (more : List (List ℕ)) → behind (text_of line ∷ more) ≡ Some text ∷ next' more = λ more. says.2 more ∙ ap (λ l. Some l ∷ next' more) (sym says.1) in

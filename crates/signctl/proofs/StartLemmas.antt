@@ -7,10 +7,11 @@ use Rattle.sign_font.specs.Sign.{SignData}
 use Rattle.sign_font.specs.Sample as signs
 use Rattle.signctl.specs.declared.fault.ToolFault.{ToolFault}
 use Rattle.signctl.specs.declared.fault.ToolFault.TheVariants as faults
-use Rattle.signctl.specs.declared.lines.Place.{Place}
+use Rattle.signctl.specs.declared.lines.LineStart.{LineStart}
 use Rattle.signctl.specs.declared.tool.Mode.{Mode}
 use Rattle.signctl.specs.declared.tool.Mode.TheVariants.{Show}
 use Rattle.signctl.specs.Frame.{Showing}
+use Rattle.signctl.specs.Lines.{input_limit}
 use Rattle.signctl.specs.Output.{Outcome, outcome, output_of_whole}
 use Rattle.signctl.specs.Runs.{Fails, IsFront, IsWritten, Leads, Runs, outcome_on, output_on}
 use Rattle.signctl.specs.Tool.{answers_of, outcome_of, output_so_far}
@@ -23,8 +24,8 @@ told_by (Some x) None bs P Q c h q = absurd c
 told_by (Some x) (Some y) bs P Q c h q = subst P (sym c) (h y q)
 
 -- the sample sign is there before anything is read
-pub leads_at_once : (sign : SignData) → sign ≡ signs.sample → Leads true [] (Ok sign) (record { number = 1; left = 16777216 })
-leads_at_once sign is = subst (λ s. Leads true [] (Ok s) (record { number = 1; left = 16777216 })) (sym is) record {
+pub leads_at_once : (sign : SignData) → sign ≡ signs.sample → Leads true [] (Ok sign) (record { number = 1; left = input_limit })
+leads_at_once sign is = subst (λ s. Leads true [] (Ok s) (record { number = 1; left = input_limit })) (sym is) record {
   place_is = (refl, omega arith);
   whole = λ mode rest. refl;
   so_far = λ mode rest. refl;
@@ -43,7 +44,7 @@ fails_at_once input e is = subst (Fails true input input) (sym is) record {
   written = λ mode. front_of_any mode true input;
 }
 
-module _ (sample : Bool) (input new : Option (List ℕ)) (taken : List ℕ) (sign : Result SignData ToolFault) (place : Place) (took : Consumes input new taken) (l : Leads sample taken sign place) where
+module _ (sample : Bool) (input new : Option (List ℕ)) (taken : List ℕ) (sign : Result SignData ToolFault) (place : LineStart) (took : Consumes input new taken) (l : Leads sample taken sign place) where
   -- there is no sign
   unsigned : (e : ToolFault) → sign ≡ Err e → (mode : Mode) → IfSome input (λ all. outcome_of mode sample all ≡ record { output = []; fault = Some e })
   unsigned e is mode =
@@ -74,7 +75,7 @@ module _ (sample : Bool) (input new : Option (List ℕ)) (taken : List ℕ) (sig
 
 -- a run that ends before its sign is there
 pub Runs-failed : (mode : Mode) (sample : Bool) (input new output : Option (List ℕ)) (e : ToolFault) → Fails sample input new e
-    → Runs (outcome_of mode sample) (output_so_far mode sample) 16777216 input new output output (Some e)
+    → Runs (outcome_of mode sample) (output_so_far mode sample) input_limit input new output output (Some e)
 Runs-failed mode sample input new output e f = record {
   taken = f.taken;
   sent = [];
@@ -84,7 +85,7 @@ Runs-failed mode sample input new output e f = record {
   written = f.written mode;
 }
 
-module _ (mode : Mode) (sample : Bool) (input now new output written : Option (List ℕ)) (taken : List ℕ) (sign : SignData) (place : Place) (took : Consumes input now taken) (l : Leads sample taken (Ok sign) place) where
+module _ (mode : Mode) (sample : Bool) (input now new output written : Option (List ℕ)) (taken : List ℕ) (sign : SignData) (place : LineStart) (took : Consumes input now taken) (l : Leads sample taken (Ok sign) place) where
   -- the outcome of the lines behind the sign
   outcomes : List ℕ → Outcome
   outcomes = outcome (answers_of mode sign) place.number place.left
@@ -118,7 +119,7 @@ module _ (mode : Mode) (sample : Bool) (input now new output written : Option (L
 
   -- a run on the lines behind the sign is one from the start
   pub Runs-behind : (fault : Option ToolFault) → Runs (outcome (answers_of mode sign) place.number place.left) (output_of_whole (answers_of mode sign) place.number) place.left now new output written fault
-      → Runs (outcome_of mode sample) (output_so_far mode sample) 16777216 input new output written fault
+      → Runs (outcome_of mode sample) (output_so_far mode sample) input_limit input new output written fault
   unfolding outcomes so_far
   Runs-behind fault r = record {
     taken = taken ++ r.taken;

@@ -1,5 +1,5 @@
 -- The texts of frames, which show pages.
-use Rattle.std.specs.Prelude.{ℕ, Bool, true, false, List, [], ◌∷◌, ◌++◌, map, length, nat_lt, if◌then◌else◌, codes, decimal}
+use Rattle.std.specs.Prelude.{ℕ, Bool, true, false, List, [], ◌∷◌, ◌++◌, map, codes, decimal}
 use Rattle.std.specs.List.{flat_map, range_with_len}
 use Rattle.sign_font.specs.Sign.{SignData}
 use Rattle.multi_layout.specs.declared.times.Shown.{Shown}
@@ -7,8 +7,7 @@ use Rattle.multi_layout.specs.declared.times.Shown.TheVariants.{Page, Off}
 use Rattle.multi_layout.specs.Meaning.{meanings}
 use Rattle.multi_layout.specs.Picture.{pixel_at}
 use Rattle.multi_layout.specs.Times.{shown}
-use Rattle.multi_layout.specs.Verdict.{Verdict, Accepted, Refused, verdict}
-use Rattle.signctl.specs.Reply.{too_long_text, verdict_text}
+use Rattle.signctl.specs.Reply.{answer_to}
 
 -- A pixel that is lit is `#`, octet 35, and another is `.`, octet 46 (own).
 abbrev pub pixel_text : Bool → ℕ
@@ -36,17 +35,10 @@ head_text Off = codes "off\n"
 abbrev pub frame_text : SignData → List ℕ → ℕ → Shown → List ℕ
 frame_text sign line colour shown = head_text shown ++ rows_text (pixel_at sign (meanings line) shown colour) sign.width sign.height
 
--- An accepted string is answered by its frame at a clock, and a refused one as the check does (own).
-abbrev pub shown_text : SignData → ℕ → ℕ → List ℕ → Verdict → List ℕ
-shown_text sign colour clock line (Accepted pages) = frame_text sign line colour (shown sign line clock)
-shown_text sign colour clock line (Refused code at) = verdict_text (Refused code at)
-
--- A string of at most 4,096 octets is answered by the sign's verdict on it, and an accepted one by its frame of this
--- colour at this clock, in tenths of a second (own).
+-- An accepted string is answered by its frame of this colour at this clock, in tenths of a second, and another as the
+-- check does (own).
 abbrev pub show_answer : SignData → ℕ → ℕ → List ℕ → List ℕ
-show_answer sign colour clock line =
-    if nat_lt 4096 (length line) then too_long_text
-    else shown_text sign colour clock line (verdict sign line)
+show_answer sign colour clock line = answer_to (λ pages. frame_text sign line colour (shown sign line clock)) sign line
 
 -- What lines are shown for: a sign, a colour, and a clock (own).
 pub record Showing : Type 0 where

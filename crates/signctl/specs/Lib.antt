@@ -1,5 +1,5 @@
 pub mod Lines
-pub mod SignFile
+pub mod FileSign
 pub mod Streams
 pub mod Output
 pub mod Reply

@@ -4,6 +4,10 @@ use Rattle.std.specs.List.{flat_map}
 use Rattle.std.specs.Str.{bytes_eq}
 use Rattle.std.specs.Io.BufRead.{strip_last}
 
+-- The most octets of an input that are taken as lines (own).
+abbrev pub input_limit : ℕ
+input_limit = 16777216
+
 -- An input is cut at its line feeds into the octets before each, and those behind the last (own).
 pub record Cut : Type 0 where
   pub whole : List (List ℕ)

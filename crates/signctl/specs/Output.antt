@@ -4,7 +4,7 @@ use Rattle.sign_font.specs.Sign.{SignData}
 use Rattle.signctl.specs.declared.fault.ToolFault.{ToolFault}
 use Rattle.signctl.specs.declared.fault.ToolFault.TheVariants.{LineTooLong, BadLine, InputTooLong, BadSign}
 use Rattle.signctl.specs.Lines.{cut, octets_of, parted, text_of}
-use Rattle.signctl.specs.SignFile.{sign_of_octets}
+use Rattle.signctl.specs.FileSign.{sign_of_octets}
 
 -- An input has an output, and ends well or with a fault (own).
 pub record Outcome : Type 0 where

@@ -1,23 +1,27 @@
 -- What a run over a reader and a writer does.
-use Rattle.std.specs.Prelude.{◌≡◌, ℕ, ◌+◌, ◌≤◌, Bool, true, false, List, [], ◌∷◌, ◌++◌, length, Option, None, Some, IfSome, Result, Ok, Err}
+use Rattle.std.specs.Prelude.{◌≡◌, ℕ, ◌+◌, ◌≤◌, Bool, false, List, [], ◌∷◌, ◌++◌, length, Option, None, Some, IfSome, Result, Ok, Err}
 use Rattle.std.specs.Io.KnownBytes.{Consumes, Appends}
+use Rattle.std.specs.declared.alloc.AllocError.{AllocError}
 use Rattle.sign_font.specs.Sign.{SignData}
+use Rattle.signctl.specs.declared.answer.LineAnswer.{LineAnswer}
+use Rattle.signctl.specs.declared.answer.LineAnswer.TheVariants.{Text, BadLine}
 use Rattle.signctl.specs.declared.fault.ToolFault.{ToolFault}
 use Rattle.signctl.specs.declared.fault.ToolFault.TheVariants.{Read, Write, Memory}
-use Rattle.signctl.specs.declared.lines.Place.{Place}
+use Rattle.signctl.specs.declared.lines.LineStart.{LineStart}
 use Rattle.signctl.specs.declared.start.FilePart.{FilePart}
 use Rattle.signctl.specs.declared.start.Start.{Start}
 use Rattle.signctl.specs.declared.tool.Mode.{Mode}
+use Rattle.signctl.specs.Lines.{input_limit}
 use Rattle.signctl.specs.Output.{Outcome, ended, outcome, output_of_whole}
-use Rattle.signctl.specs.SignFile.{sign_of_octets}
+use Rattle.signctl.specs.FileSign.{sign_of_octets}
 use Rattle.signctl.specs.Tool.{answers_of, outcome_of, output_so_far}
 
 -- The line's answer is appended, or the line is bad, or there is no memory; `behind` has the answers to all the
 -- lines that come after this one (own).
-abbrev pub AnswersLine : (List (List ℕ) → List (Option (List ℕ))) → (List (List ℕ) → List (Option (List ℕ))) → List ℕ → List ℕ → List ℕ → Result Bool ToolFault → Type 0
-AnswersLine before behind line old new (Ok true) = (text : List ℕ) × (new ≡ old ++ text) × ((lines : List (List ℕ)) → before (line ∷ lines) ≡ Some text ∷ behind lines)
-AnswersLine before behind line old new (Ok false) = (lines : List (List ℕ)) → (others : List (Option (List ℕ))) × (before (line ∷ lines) ≡ None ∷ others)
-AnswersLine before behind line old new (Err e) = e ≡ Memory
+abbrev pub AnswersLine : (List (List ℕ) → List (Option (List ℕ))) → (List (List ℕ) → List (Option (List ℕ))) → List ℕ → List ℕ → List ℕ → Result LineAnswer AllocError → Type 0
+AnswersLine before behind line old new (Ok Text) = (text : List ℕ) × (new ≡ old ++ text) × ((lines : List (List ℕ)) → before (line ∷ lines) ≡ Some text ∷ behind lines)
+AnswersLine before behind line old new (Ok BadLine) = (lines : List (List ℕ)) → (others : List (Option (List ℕ))) × (before (line ∷ lines) ≡ None ∷ others)
+AnswersLine before behind line old new (Err refused) = Unit {0}
 
 -- A run ends with no fault or with one (own).
 abbrev pub fault_of : Result (Unit {0}) ToolFault → Option ToolFault
@@ -50,22 +54,22 @@ pub record Runs (outcomes : List ℕ → Outcome) (so_far : List ℕ → List �
 
 -- What a place says of the octets before it: how many more may be taken as lines, and that lines are no more than
 -- octets (own).
-abbrev pub IsPlaceBehind : List ℕ → Place → Type 0
-IsPlaceBehind taken place = (length taken + place.left ≡ 16777216) × (place.number + place.left ≤ 16777217)
+abbrev pub IsLineStartAfter : List ℕ → LineStart → Type 0
+IsLineStartAfter taken place = (length taken + place.left ≡ input_limit) × (place.number + place.left ≤ input_limit + 1)
 
 -- The outcome of the lines behind a sign, if there is one (own).
-abbrev pub outcome_on : Mode → Result SignData ToolFault → Place → List ℕ → Outcome
+abbrev pub outcome_on : Mode → Result SignData ToolFault → LineStart → List ℕ → Outcome
 outcome_on mode (Err fault) place rest = ended (Some fault)
 outcome_on mode (Ok sign) place rest = outcome (answers_of mode sign) place.number place.left rest
 
 -- The output of the whole lines behind a sign, if there is one (own).
-abbrev pub output_on : Mode → Result SignData ToolFault → Place → List ℕ → List ℕ
+abbrev pub output_on : Mode → Result SignData ToolFault → LineStart → List ℕ → List ℕ
 output_on mode (Err fault) place rest = []
 output_on mode (Ok sign) place rest = output_of_whole (answers_of mode sign) place.number rest
 
 -- These octets lead to a place with this sign, or to the fault for which there is none, and write nothing (own).
-pub record Leads (sample : Bool) (taken : List ℕ) (sign : Result SignData ToolFault) (place : Place) : Type 0 where
-  pub place_is : IsPlaceBehind taken place
+pub record Leads (sample : Bool) (taken : List ℕ) (sign : Result SignData ToolFault) (place : LineStart) : Type 0 where
+  pub place_is : IsLineStartAfter taken place
   pub whole : (mode : Mode) (rest : List ℕ) → outcome_of mode sample (taken ++ rest) ≡ outcome_on mode sign place rest
   pub so_far : (mode : Mode) (rest : List ℕ) → output_so_far mode sample (taken ++ rest) ≡ output_on mode sign place rest
 
@@ -73,7 +77,7 @@ pub record Leads (sample : Bool) (taken : List ℕ) (sign : Result SignData Tool
 pub record Fails (sample : Bool) (input input' : Option (List ℕ)) (e : ToolFault) : Type 0 where
   pub taken : List ℕ
   pub takes : Consumes input input' taken
-  pub most : length taken ≤ 16777217
+  pub most : length taken ≤ input_limit + 1
   pub written : (mode : Mode) → IsWritten (outcome_of mode sample) (output_so_far mode sample) input taken [] (Some e)
 
 -- The octets of a sign file and the mark are taken (own).

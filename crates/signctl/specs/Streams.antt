@@ -3,8 +3,8 @@ use Rattle.std.specs.Prelude.{◌≡◌, ℕ, ◌+◌, ◌<◌, ◌≤◌, List,
 use Rattle.std.specs.Io.KnownBytes.{Consumes, Keeps, Appends, IsAtEnd}
 use Rattle.signctl.specs.declared.fault.ToolFault.{ToolFault}
 use Rattle.signctl.specs.declared.fault.ToolFault.TheVariants as faults
-use Rattle.signctl.specs.declared.lines.Next.{Next}
-use Rattle.signctl.specs.declared.lines.Next.TheVariants.{Line, TooLong, Unfinished, End, InputTooLong}
+use Rattle.signctl.specs.declared.lines.NextLine.{NextLine}
+use Rattle.signctl.specs.declared.lines.NextLine.TheVariants.{Line, TooLong, Unfinished, End, InputTooLong}
 use Rattle.signctl.specs.Lines.{IsOneLine, text_of}
 
 -- One octet is taken, or none at the end, or none where the reader fails (own).
@@ -20,7 +20,7 @@ FailsAfter taken faults.Memory = Unit {0}
 FailsAfter taken e = e ≡ faults.Memory
 
 -- This much is taken to find the next line, `line`, where `left` more octets may be taken as lines (own).
-abbrev pub TakesLine : Option (List ℕ) → Option (List ℕ) → ℕ → ℕ → List ℕ → Result Next ToolFault → Type 0
+abbrev pub TakesLine : Option (List ℕ) → Option (List ℕ) → ℕ → ℕ → List ℕ → Result NextLine ToolFault → Type 0
 TakesLine old new left left' line (Ok Line) =
     Consumes old new (line ++ 10 ∷ []) × IsOneLine line × (length line + 1 + left' ≡ left) × (length (text_of line) ≤ 8300)
 TakesLine old new left left' line (Ok TooLong) = (taken : List ℕ)

@@ -7,6 +7,7 @@ use Rattle.signctl.specs.declared.fault.ToolFault.TheVariants.{Read, Write, Memo
 use Rattle.signctl.specs.declared.tool.Mode.{Mode}
 use Rattle.signctl.specs.declared.tool.Mode.TheVariants.{Check, Show}
 use Rattle.signctl.specs.Frame.{show_answer}
+use Rattle.signctl.specs.Lines.{input_limit}
 use Rattle.signctl.specs.Output.{Outcome, outcome, outcome_of_file, output_of_whole, output_of_whole_file}
 use Rattle.signctl.specs.Reply.{check_answer}
 
@@ -17,8 +18,8 @@ answers_of (Show colour clock) sign lines = map (λ line. Some (show_answer sign
 
 -- The outcome of an input: with the sample sign it is lines alone, and else a sign file, the mark and lines (own).
 abbrev pub outcome_of : Mode → Bool → List ℕ → Outcome
-outcome_of mode true input = outcome (answers_of mode sample) 1 16777216 input
-outcome_of mode false input = outcome_of_file (answers_of mode) 16777216 input
+outcome_of mode true input = outcome (answers_of mode sample) 1 input_limit input
+outcome_of mode false input = outcome_of_file (answers_of mode) input_limit input
 
 -- The output of the whole lines of what was read, whatever comes behind them (own).
 abbrev pub output_so_far : Mode → Bool → List ℕ → List ℕ

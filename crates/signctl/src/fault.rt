@@ -1,5 +1,11 @@
 //! Why a run ends before the end of its input.
 
+ghost use Rattle.std.specs.Prelude.{◌≡◌};
+ghost use Rattle.signctl.specs.FileSign.{refusal, unread};
+
+use sign_file::FileFault;
+use sign_font::SignFault;
+use std::alloc::AllocError;
 use thiserror::Error;
 
 /// Why a run ended before the end of its input (own). Lines are counted from 1.
@@ -30,4 +36,39 @@ pub enum ToolFault {
     /// There was no memory for the sign or its file, the plane, a line or its answer.
     #[error("out of memory")]
     Memory,
+}
+
+impl From<AllocError> for ToolFault {
+    ghost use Rattle.std.specs.Prelude.{◌≡◌};
+    ghost use Rattle.signctl.specs.declared.fault.ToolFault.TheVariants.{Memory};
+
+    ghost from_gives = { λ _ fault. fault ≡ Memory };
+
+    fn from(_refused: AllocError) -> ToolFault {
+        ToolFault::Memory
+    }
+}
+
+impl From<FileFault> for ToolFault {
+    ghost from_gives = { λ fault e. e ≡ unread fault };
+
+    fn from(fault: FileFault) -> ToolFault {
+        match fault {
+            FileFault::Bad => ToolFault::BadSign,
+            FileFault::Memory => ToolFault::from(AllocError),
+        }
+    }
+}
+
+impl From<SignFault> for ToolFault {
+    ghost from_gives = { λ fault e. e ≡ refusal fault };
+
+    fn from(fault: SignFault) -> ToolFault {
+        match fault {
+            SignFault::Memory => ToolFault::from(AllocError),
+            fault => ToolFault::SignRefused {
+                number: fault.code(),
+            },
+        }
+    }
 }

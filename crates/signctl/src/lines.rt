@@ -18,7 +18,7 @@ const MAX_KEPT: usize = MAX_LINE + 1;
 
 /// Where in an input a run is, at the start of a line (own).
 #[derive(Clone, Copy)]
-pub(crate) struct Place {
+pub(crate) struct LineStart {
     /// The number of the line, counted from 1.
     pub(crate) number: u32,
     /// How many more octets are taken as lines.
@@ -26,14 +26,14 @@ pub(crate) struct Place {
 }
 
 /// The start of an input.
-pub(crate) const FIRST_PLACE: Place = Place {
+pub(crate) const FIRST_LINE: LineStart = LineStart {
     number: 1,
     left: MAX_INPUT,
 };
 
 /// What comes next in an input (own).
 #[derive(Clone, Copy, PartialEq, Eq)]
-pub(crate) enum Next {
+pub(crate) enum NextLine {
     /// A line.
     Line,
     /// A line with too many octets.
@@ -77,13 +77,13 @@ pub(crate) fn is_mark(line: &[u8]) -> bool
 
 /// Reads up to the end of a line, whose octets are then in `line`, with the carriage return.
 ///
-/// At most `left` octets are taken as lines, and one more is read where as many are there. At `Next::Line`
+/// At most `left` octets are taken as lines, and one more is read where as many are there. At `NextLine::Line`
 /// `left` falls by the octets of the line and its line feed. The errors are `Read` and `Memory`.
 pub(crate) fn next_line<R: Read>(
     reader: &mut R,
     line: &mut Vec<u8>,
     left: &mut u32,
-) -> Result<Next, ToolFault>
+) -> Result<NextLine, ToolFault>
     ensures taken { TakesLine (R.remaining reader.old) (R.remaining reader.new) left.old left.new line.new.items result }
 {
     line.clear();
@@ -91,14 +91,14 @@ pub(crate) fn next_line<R: Read>(
     let most = *left;
     for taken in 0..most {
         match next_octet(reader)? {
-            None if taken == 0 => return Ok(Next::End),
-            None => return Ok(Next::Unfinished),
+            None if taken == 0 => return Ok(NextLine::End),
+            None => return Ok(NextLine::Unfinished),
             Some(b'\n') => {
                 if is_cut || text_of(line).len() > MAX_LINE {
-                    return Ok(Next::TooLong);
+                    return Ok(NextLine::TooLong);
                 }
                 *left = most - taken - 1;
-                return Ok(Next::Line);
+                return Ok(NextLine::Line);
             }
             Some(octet) if line.len() < MAX_KEPT => {
                 push_octet(line, octet)?;
@@ -107,8 +107,8 @@ pub(crate) fn next_line<R: Read>(
         }
     }
     match next_octet(reader)? {
-        None if most == 0 => Ok(Next::End),
-        None => Ok(Next::Unfinished),
-        Some(_) => Ok(Next::InputTooLong),
+        None if most == 0 => Ok(NextLine::End),
+        None => Ok(NextLine::Unfinished),
+        Some(_) => Ok(NextLine::InputTooLong),
     }
 }

@@ -36,8 +36,9 @@
 #![tactic(auto)]
 
 mod answer;
+mod check;
 mod fault;
-mod keys;
+mod judge;
 mod lines;
 mod main_with;
 mod octets;
@@ -45,7 +46,6 @@ mod output;
 mod reply;
 mod sample;
 mod show;
-mod sign_file;
 mod start;
 #[cfg(test)]
 mod tests;

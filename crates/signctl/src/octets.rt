@@ -1,26 +1,18 @@
-//! Octets that are appended; want of memory is the fault of the run.
-ghost use Rattle.std.specs.Prelude.{◌≡◌, ◌++◌, ◌∷◌, [], OnOk, IfErr};
+//! Octets that are appended.
+ghost use Rattle.std.specs.Prelude.{◌≡◌, ◌++◌, ◌∷◌, [], OnOk};
 
-use crate::fault::ToolFault;
+use std::alloc::AllocError;
 
-/// Appends an octet. The error is `Memory`.
-pub(crate) fn push_octet(text: &mut Vec<u8>, octet: u8) -> Result<(), ToolFault>
-    ensures ok { OnOk result (text.new.items ≡ text.old.items ++ octet ∷ []) }
-    ensures err { IfErr result (λ e. e ≡ ToolFault.Memory) }
+/// Appends an octet.
+pub(crate) fn push_octet(text: &mut Vec<u8>, octet: u8) -> Result<(), AllocError>
+    ensures { OnOk result (text.new.items ≡ text.old.items ++ octet ∷ []) }
 {
-    match text.push(octet) {
-        Ok(()) => Ok(()),
-        Err(_) => Err(ToolFault::Memory),
-    }
+    Ok(text.push(octet)?)
 }
 
-/// Appends octets. The error is `Memory`.
-pub(crate) fn push_octets(text: &mut Vec<u8>, octets: &[u8]) -> Result<(), ToolFault>
-    ensures ok { OnOk result (text.new.items ≡ text.old.items ++ octets.now) }
-    ensures err { IfErr result (λ e. e ≡ ToolFault.Memory) }
+/// Appends octets.
+pub(crate) fn push_octets(text: &mut Vec<u8>, octets: &[u8]) -> Result<(), AllocError>
+    ensures { OnOk result (text.new.items ≡ text.old.items ++ octets.now) }
 {
-    match text.extend_from_slice(octets) {
-        Ok(()) => Ok(()),
-        Err(_) => Err(ToolFault::Memory),
-    }
+    text.extend_from_slice(octets)
 }

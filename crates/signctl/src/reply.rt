@@ -1,24 +1,21 @@
 //! The texts of answers.
-ghost use Rattle.std.specs.Prelude.{◌≡◌, ◌++◌, OnOk, IfErr, decimal};
-ghost use Rattle.multi_layout.specs.Verdict.{Accepted, Refused};
-ghost use Rattle.signctl.specs.Reply.{verdict_text, too_long_text};
+ghost use Rattle.std.specs.Prelude.{◌≡◌, ◌++◌, OnOk, decimal};
+ghost use Rattle.signctl.specs.Reply.{pages_text, refused_text, too_long_text};
 
-use crate::fault::ToolFault;
 use crate::octets::push_octets;
 use itoa::Buffer;
+use std::alloc::AllocError;
 
-/// Appends a number in decimal. The error is `Memory`.
-pub(crate) fn push_number(text: &mut Vec<u8>, number: u64) -> Result<(), ToolFault>
-    ensures ok { OnOk result (text.new.items ≡ text.old.items ++ decimal number) }
-    ensures err { IfErr result (λ e. e ≡ ToolFault.Memory) }
+/// Appends a number in decimal.
+pub(crate) fn push_number(text: &mut Vec<u8>, number: u64) -> Result<(), AllocError>
+    ensures { OnOk result (text.new.items ≡ text.old.items ++ decimal number) }
 {
     push_octets(text, Buffer::new().format(number).as_bytes())
 }
 
-/// Appends the answer to an accepted string of so many pages. The error is `Memory`.
-pub(crate) fn push_accepted(text: &mut Vec<u8>, pages: u8) -> Result<(), ToolFault>
-    ensures ok { OnOk result (text.new.items ≡ text.old.items ++ verdict_text (Accepted pages)) }
-    ensures err { IfErr result (λ e. e ≡ ToolFault.Memory) }
+/// Appends how many pages an accepted string has.
+pub(crate) fn push_pages(text: &mut Vec<u8>, pages: u8) -> Result<(), AllocError>
+    ensures { OnOk result (text.new.items ≡ text.old.items ++ pages_text pages) }
 {
     push_octets(text, b"ok ")?;
     push_number(text, u64::from(pages))?;
@@ -26,10 +23,8 @@ pub(crate) fn push_accepted(text: &mut Vec<u8>, pages: u8) -> Result<(), ToolFau
 }
 
 /// Appends the answer to a string that is refused with an error code for what stands at an octet offset.
-/// The error is `Memory`.
-pub(crate) fn push_refused(text: &mut Vec<u8>, code: u8, at: usize) -> Result<(), ToolFault>
-    ensures ok { OnOk result (text.new.items ≡ text.old.items ++ verdict_text (Refused code at)) }
-    ensures err { IfErr result (λ e. e ≡ ToolFault.Memory) }
+pub(crate) fn push_refused(text: &mut Vec<u8>, code: u8, at: usize) -> Result<(), AllocError>
+    ensures { OnOk result (text.new.items ≡ text.old.items ++ refused_text code at) }
 {
     push_octets(text, b"error ")?;
     push_number(text, u64::from(code))?;
@@ -38,10 +33,9 @@ pub(crate) fn push_refused(text: &mut Vec<u8>, code: u8, at: usize) -> Result<()
     push_octets(text, b"\n")
 }
 
-/// Appends the answer to a string with too many octets. The error is `Memory`.
-pub(crate) fn push_too_long(text: &mut Vec<u8>) -> Result<(), ToolFault>
-    ensures ok { OnOk result (text.new.items ≡ text.old.items ++ too_long_text) }
-    ensures err { IfErr result (λ e. e ≡ ToolFault.Memory) }
+/// Appends the answer to a string with too many octets.
+pub(crate) fn push_too_long(text: &mut Vec<u8>) -> Result<(), AllocError>
+    ensures { OnOk result (text.new.items ≡ text.old.items ++ too_long_text) }
 {
     push_octets(text, b"too long\n")
 }

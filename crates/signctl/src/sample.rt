@@ -1,23 +1,19 @@
 //! The sample sign, which the program has without a file.
 
-ghost use Rattle.std.specs.Prelude.{◌≡◌, IfOk, IfErr};
+ghost use Rattle.std.specs.Prelude.{◌≡◌, IfOk};
 ghost use Rattle.sign_font.specs.Sample.{sample};
 
-use crate::fault::ToolFault;
 use sign_font::{Sign, SignFault};
-use std::alloc::Global;
+use std::alloc::{AllocError, Global};
 
-/// The sample sign. It has no fault, so the error is `Memory`.
-pub(crate) fn sample_sign(alloc: Global) -> Result<Sign, ToolFault>
-    ensures ok { IfOk result (λ sign. sign ≡ sample) }
-    ensures err { IfErr result (λ e. e ≡ ToolFault.Memory) }
+/// The sample sign. It has no fault, so an error says that memory was refused.
+pub(crate) fn sample_sign(alloc: Global) -> Result<Sign, AllocError>
+    ensures { IfOk result (λ sign. sign ≡ sample) }
 {
-    let Ok(parts) = sign_font::sample_sign(alloc) else {
-        return Err(ToolFault::Memory);
-    };
+    let parts = sign_font::sample_sign(alloc)?;
     match Sign::new(alloc, parts) {
         Ok(sign) => Ok(sign),
-        Err(SignFault::Memory) => Err(ToolFault::Memory),
+        Err(SignFault::Memory) => Err(AllocError),
         Err(_) => unreachable!(),
     }
 }

@@ -1,5 +1,5 @@
 //! The answers that show pages, as rows of characters.
-ghost use Rattle.std.specs.Prelude.{◌≡◌, ◌<◌, ◌++◌, ◌∷◌, [], OnOk, IfOk, IfErr, List, Option, Some, map};
+ghost use Rattle.std.specs.Prelude.{◌≡◌, ◌<◌, ◌++◌, ◌∷◌, [], OnOk, IfOk, List, Option, Some, map};
 ghost use Rattle.page_plane.specs.Plane.{is_lit};
 ghost use Rattle.multi_layout.specs.Drawn.{Lights};
 ghost use Rattle.multi_layout.specs.Meaning.{meanings};
@@ -8,15 +8,14 @@ ghost use Rattle.multi_layout.specs.Picture.{pixel_at};
 ghost use Rattle.multi_layout.specs.Times.{shown};
 ghost use Rattle.signctl.specs.Frame.{frame_text, head_text, pixel_text, row_text, rows_text, show_answer};
 
-use crate::answer::{Answer, MAX_STRING};
-use crate::fault::ToolFault;
+use crate::answer::{Answer, LineAnswer};
+use crate::judge::judge_line;
 use crate::octets::{push_octet, push_octets};
-use crate::reply::{push_number, push_refused, push_too_long};
-use multi_layout::{Checked, Shown, check};
-use multi_token::Source;
+use crate::reply::push_number;
+use multi_layout::{Checked, Shown};
 use page_plane::Plane;
 use sign_font::Sign;
-use std::alloc::Global;
+use std::alloc::{AllocError, Global};
 use std::marker::Model;
 
 /// Answers each line by its verdict, and an accepted one by what the sign shows of it.
@@ -43,18 +42,17 @@ impl Model for Shower {
 }
 
 impl Shower {
-    /// With a plane of the sign's size. The error is `Memory`.
+    /// With a plane of the sign's size.
     pub(crate) fn new(
         alloc: Global,
         sign: Sign,
         colour: u8,
         clock: u32,
-    ) -> Result<Shower, ToolFault>
-        ensures ok { IfOk result (λ shower. shower ≡ record { sign = sign; colour = colour; clock = clock }) }
-        ensures err { IfErr result (λ e. e ≡ ToolFault.Memory) }
+    ) -> Result<Shower, AllocError>
+        ensures { IfOk result (λ shower. shower ≡ record { sign = sign; colour = colour; clock = clock }) }
     {
         let Ok(plane) = Plane::new(alloc, sign.width(), sign.height()) else {
-            return Err(ToolFault::Memory);
+            return Err(AllocError);
         };
         Ok(Shower {
             sign,
@@ -72,11 +70,10 @@ fn pixel_octet(lit: bool) -> u8
     if lit { b'#' } else { b'.' }
 }
 
-/// Appends a pixel row as a line. The error is `Memory`.
-fn push_row(text: &mut Vec<u8>, plane: &Plane, row: u16) -> Result<(), ToolFault>
+/// Appends a pixel row as a line.
+fn push_row(text: &mut Vec<u8>, plane: &Plane, row: u16) -> Result<(), AllocError>
     requires { row < plane.now.height }
-    ensures ok { OnOk result (text.new.items ≡ text.old.items ++ row_text (is_lit plane.now) plane.now.width row) }
-    ensures err { IfErr result (λ e. e ≡ ToolFault.Memory) }
+    ensures { OnOk result (text.new.items ≡ text.old.items ++ row_text (is_lit plane.now) plane.now.width row) }
 {
     for column in 0..plane.width() {
         push_octet(text, pixel_octet(plane.pixel(column, row)))?;
@@ -84,10 +81,9 @@ fn push_row(text: &mut Vec<u8>, plane: &Plane, row: u16) -> Result<(), ToolFault
     push_octet(text, b'\n')
 }
 
-/// Appends the pixel rows from the top. The error is `Memory`.
-fn push_rows(text: &mut Vec<u8>, plane: &Plane) -> Result<(), ToolFault>
-    ensures ok { OnOk result (text.new.items ≡ text.old.items ++ rows_text (is_lit plane.now) plane.now.width plane.now.height) }
-    ensures err { IfErr result (λ e. e ≡ ToolFault.Memory) }
+/// Appends the pixel rows from the top.
+fn push_rows(text: &mut Vec<u8>, plane: &Plane) -> Result<(), AllocError>
+    ensures { OnOk result (text.new.items ≡ text.old.items ++ rows_text (is_lit plane.now) plane.now.width plane.now.height) }
 {
     for row in 0..plane.height() {
         push_row(text, plane, row)?;
@@ -95,10 +91,9 @@ fn push_rows(text: &mut Vec<u8>, plane: &Plane) -> Result<(), ToolFault>
     Ok(())
 }
 
-/// Appends the first line of a frame. The error is `Memory`.
-fn push_head(text: &mut Vec<u8>, shown: Shown) -> Result<(), ToolFault>
-    ensures ok { OnOk result (text.new.items ≡ text.old.items ++ head_text shown) }
-    ensures err { IfErr result (λ e. e ≡ ToolFault.Memory) }
+/// Appends the first line of a frame.
+fn push_head(text: &mut Vec<u8>, shown: Shown) -> Result<(), AllocError>
+    ensures { OnOk result (text.new.items ≡ text.old.items ++ head_text shown) }
 {
     let Shown::Page { page, phase } = shown else {
         return push_octets(text, b"off\n");
@@ -130,18 +125,17 @@ fn draw_shown(checked: &mut Checked<'_>, clock: u32, colour: u8, plane: &mut Pla
     shown
 }
 
-/// Appends the frame of a string. The error is `Memory`.
+/// Appends the frame of a string.
 fn push_frame(
     text: &mut Vec<u8>,
     checked: &mut Checked<'_>,
     clock: u32,
     colour: u8,
     plane: &mut Plane,
-) -> Result<(), ToolFault>
+) -> Result<(), AllocError>
     requires size { IsSized plane.old checked.old.sign }
     ensures ok { OnOk result (text.new.items ≡ text.old.items
         ++ frame_text checked.old.sign checked.old.source.octets colour (shown checked.old.sign checked.old.source.octets clock)) }
-    ensures err { IfErr result (λ e. e ≡ ToolFault.Memory) }
     ensures size { IsSized plane.new checked.old.sign }
 {
     let shown = draw_shown(checked, clock, colour, plane);
@@ -149,7 +143,7 @@ fn push_frame(
     push_rows(text, plane)
 }
 
-/// Appends the answer to the line. The error is `Memory`.
+/// Appends the answer to the line.
 fn push_shown(
     sign: &Sign,
     clock: u32,
@@ -157,25 +151,21 @@ fn push_shown(
     line: &[u8],
     plane: &mut Plane,
     text: &mut Vec<u8>,
-) -> Result<(), ToolFault>
+) -> Result<(), AllocError>
     requires size { IsSized plane.old sign.now }
     ensures ok { OnOk result (text.new.items ≡ text.old.items ++ show_answer sign.now colour clock line.now) }
-    ensures err { IfErr result (λ e. e ≡ ToolFault.Memory) }
     ensures size { IsSized plane.new sign.now }
 {
-    if line.len() > MAX_STRING {
-        return push_too_long(text);
-    }
-    match check(sign, Source::new(line)) {
-        Ok(mut checked) => push_frame(text, &mut checked, clock, colour, plane),
-        Err(fault) => push_refused(text, fault.code, fault.at),
+    match judge_line(sign, line, text)? {
+        Some(mut checked) => push_frame(text, &mut checked, clock, colour, plane),
+        None => Ok(()),
     }
 }
 
 impl Answer for Shower {
     ghost answers = { λ s lines. map (λ line. Some (show_answer s.sign s.colour s.clock line)) lines };
 
-    fn answer(&mut self, line: &[u8], text: &mut Vec<u8>) -> Result<bool, ToolFault> {
+    fn answer(&mut self, line: &[u8], text: &mut Vec<u8>) -> Result<LineAnswer, AllocError> {
         push_shown(
             &self.sign,
             self.clock,
@@ -184,6 +174,6 @@ impl Answer for Shower {
             &mut self.plane,
             text,
         )?;
-        Ok(true)
+        Ok(LineAnswer::Text)
     }
 }

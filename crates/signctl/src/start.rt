@@ -2,16 +2,15 @@
 
 ghost use Rattle.std.specs.Prelude.{◌≡◌, ◌++◌, ◌⊎◌, ◌∷◌, [], OnOk, IfOk, IfErr, Ok, Err};
 ghost use Rattle.signctl.specs.Runs.{Starts, TakesFile};
-ghost use Rattle.signctl.specs.SignFile.{refusal, sign_of_octets};
+ghost use Rattle.signctl.specs.FileSign.{sign_of_octets};
 
 use crate::fault::ToolFault;
-use crate::keys::FileFault;
-use crate::lines::{FIRST_PLACE, Next, Place, is_mark, next_line};
+use crate::lines::{FIRST_LINE, LineStart, NextLine, is_mark, next_line};
 use crate::octets::{push_octet, push_octets};
 use crate::sample::sample_sign;
-use crate::sign_file::read_sign_file;
-use sign_font::{Sign, SignFault};
-use std::alloc::Global;
+use sign_file::read_sign_file;
+use sign_font::Sign;
+use std::alloc::{AllocError, Global};
 use std::io::Read;
 
 /// A run that has its sign (own).
@@ -19,7 +18,7 @@ use std::io::Read;
 pub(crate) struct Start {
     pub(crate) sign: Sign,
     /// Where the lines begin that are answered.
-    pub(crate) place: Place,
+    pub(crate) place: LineStart,
 }
 
 /// A sign file as it stands in an input (own).
@@ -28,13 +27,12 @@ struct FilePart {
     /// The octets before the mark.
     octets: Vec<u8>,
     /// Behind the mark.
-    place: Place,
+    place: LineStart,
 }
 
-/// Adds a line and its line feed. The error is `Memory`.
-fn push_line(file: &mut Vec<u8>, line: &[u8]) -> Result<(), ToolFault>
-    ensures ok { OnOk result (file.new.items ≡ file.old.items ++ (line.now ++ 10 ∷ [])) }
-    ensures err { IfErr result (λ e. e ≡ ToolFault.Memory) }
+/// Adds a line and its line feed.
+fn push_line(file: &mut Vec<u8>, line: &[u8]) -> Result<(), AllocError>
+    ensures { OnOk result (file.new.items ≡ file.old.items ++ (line.now ++ 10 ∷ [])) }
 {
     push_octets(file, line)?;
     push_octet(file, b'\n')
@@ -46,15 +44,15 @@ fn read_file<R: Read>(alloc: Global, reader: &mut R) -> Result<FilePart, ToolFau
 {
     let mut octets = Vec::new(alloc);
     let mut line = Vec::new(alloc);
-    let mut place = FIRST_PLACE;
+    let mut place = FIRST_LINE;
     loop {
         match next_line(reader, &mut line, &mut place.left)? {
-            Next::Line => {}
-            Next::TooLong => {
+            NextLine::Line => {}
+            NextLine::TooLong => {
                 return Err(ToolFault::LineTooLong { line: place.number });
             }
-            Next::Unfinished | Next::End => return Err(ToolFault::BadSign),
-            Next::InputTooLong => return Err(ToolFault::InputTooLong),
+            NextLine::Unfinished | NextLine::End => return Err(ToolFault::BadSign),
+            NextLine::InputTooLong => return Err(ToolFault::InputTooLong),
         }
         place.number += 1;
         if is_mark(&line) {
@@ -64,33 +62,14 @@ fn read_file<R: Read>(alloc: Global, reader: &mut R) -> Result<FilePart, ToolFau
     }
 }
 
-/// The fault of a run whose sign is refused.
-fn refusal(fault: SignFault) -> ToolFault
-    ensures { result ≡ refusal fault }
-{
-    match fault {
-        SignFault::Memory => ToolFault::Memory,
-        fault => ToolFault::SignRefused {
-            number: fault.code(),
-        },
-    }
-}
-
 /// The sign of a sign file's octets. The errors are `BadSign`, `SignRefused` and `Memory`.
-#[tactic(auto, unfolding(crate::specs::SignFile::sign_of_octets))]
+#[tactic(auto, unfolding(crate::specs::FileSign::sign_of_octets))]
 fn sign_of_octets(alloc: Global, octets: &[u8]) -> Result<Sign, ToolFault>
     ensures ok { IfOk result (λ sign. sign_of_octets octets.now ≡ Ok sign) }
     ensures err { IfErr result (λ e. (e ≡ ToolFault.Memory) ⊎ (sign_of_octets octets.now ≡ Err e)) }
 {
-    let file = match read_sign_file(alloc, octets) {
-        Ok(file) => file,
-        Err(FileFault::Bad) => return Err(ToolFault::BadSign),
-        Err(FileFault::Memory) => return Err(ToolFault::Memory),
-    };
-    match Sign::new(alloc, file.sign) {
-        Ok(sign) => Ok(sign),
-        Err(fault) => Err(refusal(fault)),
-    }
+    let file = read_sign_file(alloc, octets)?;
+    Ok(Sign::new(alloc, file.sign)?)
 }
 
 /// Reads what stands before the lines that are answered: with `sample` nothing, and else a sign file and the mark.
@@ -106,7 +85,7 @@ pub(crate) fn begin<R: Read>(
         let sign = sample_sign(alloc)?;
         return Ok(Start {
             sign,
-            place: FIRST_PLACE,
+            place: FIRST_LINE,
         });
     }
     let part = read_file(alloc, reader)?;

@@ -8,7 +8,6 @@ use crate::tool::{Mode, run_tool};
 use std::alloc::{AllocError, Global};
 use std::io;
 use std::io::{ErrorKind, Read, Write};
-use std::process::Abort;
 use std::test::Fail;
 
 /// A reader that gives one octet at a time, and fails where it has no more.
@@ -138,22 +137,6 @@ fn main_output(alloc: Global, words: &[&str], input: &[u8]) -> (u8, Vec<u8>, Vec
     (status, output, errors)
 }
 
-/// Each input is answered so by the sample sign, also where that comes from its file.
-fn check_rows(rt: &impl Abort, alloc: Global, rows: &[(&[u8], &[u8])]) -> Result<(), Fail> {
-    for &(input, want) in rows {
-        let (output, result) = check(alloc, input);
-        assert!(rt; output.as_slice() == want, "what is written at {input:?}");
-        assert!(rt; result == Ok(()), "the end at {input:?}");
-        let (output, result) = check_behind(alloc, sign_file::SAMPLE, input)?;
-        assert!(rt;
-            output.as_slice() == want,
-            "what is written behind a sign file at {input:?}"
-        );
-        assert!(rt; result == Ok(()), "the end behind a sign file at {input:?}");
-    }
-    Ok(())
-}
-
 #[test]
 fn a_line_ends_with_a_line_feed(rt: HostRuntime) {
     let bad = |line| Err(ToolFault::BadLine { line });
@@ -171,93 +154,6 @@ fn a_line_ends_with_a_line_feed(rt: HostRuntime) {
         assert!(rt; output.as_slice() == want, "what is written at {input:?}");
         assert!(rt; result == end, "the end at {input:?}");
     }
-}
-
-#[test]
-fn the_sample_sign_judges_items_pages_and_fonts(rt: HostRuntime) -> Result<(), Fail> {
-    let rows: [(&[u8], &[u8]); 23] = [
-        (b"A[np]A\n", b"ok 2\n"),
-        (b"A[np]A\r\n", b"ok 2\n"),
-        (b"\n", b"ok 1\n"),
-        (b"A[NP]\n", b"ok 2\n"),
-        (b"A[np]A[np]A\n", b"error 12 6\n"),
-        (b"[np]\n", b"ok 2\n"),
-        (b"[np][np]\n", b"error 12 4\n"),
-        (b"AAAA[np][np]\n", b"error 5 3\n"),
-        (b"A[np]A[np]AAAAA\n", b"error 12 6\n"),
-        (b"A]\n", b"error 3 1\n"),
-        (b"[nl\n", b"error 3 0\n"),
-        (b"[]\n", b"error 3 0\n"),
-        (b"[g1]\n", b"error 3 0\n"),
-        (b"[nlx]\n", b"error 4 0\n"),
-        (b"[[I]]\n", b"ok 1\n"),
-        (b"[[B\n", b"error 7 2\n"),
-        (b"[fo9]A\n", b"error 6 0\n"),
-        (b"[fo0]\n", b"error 4 0\n"),
-        (b"[fo1,0002]A\n", b"error 13 0\n"),
-        (b"[fo1,1a2B]A\n", b"ok 1\n"),
-        (b"[fo2]I\n", b"error 7 5\n"),
-        (b"[fo2]A[fo1]A\n", b"ok 1\n"),
-        (b"A]\n[np]\nA\n", b"error 3 1\nok 2\nok 1\n"),
-    ];
-    check_rows(&rt, rt.alloc(), &rows)
-}
-
-#[test]
-fn the_sample_sign_judges_lines_and_segments(rt: HostRuntime) -> Result<(), Fail> {
-    let rows: [(&[u8], &[u8]); 19] = [
-        (b"A\n", b"ok 1\n"),
-        (b"AAA\n", b"ok 1\n"),
-        (b"AAAI\n", b"error 5 3\n"),
-        (b"A[nl]A\n", b"ok 1\n"),
-        (b"A[nl]A[nl]\n", b"ok 1\n"),
-        (b"A[nl]A[nl]A\n", b"error 5 10\n"),
-        (b"[nl][nl]\n", b"ok 1\n"),
-        (b"[nl][nl][nl]\n", b"error 5 8\n"),
-        (b"A[nl0]A\n", b"ok 1\n"),
-        (b"A[nl2]A\n", b"error 5 6\n"),
-        (b"[jl4]A[jl2]A\n", b"error 11 11\n"),
-        (b"[jl4]A[nl][jl2]\n", b"ok 1\n"),
-        (b"[jp4]A[jp2]A\n", b"error 11 11\n"),
-        (b"[jl2]I[jl3]AA[jl4]I\n", b"ok 1\n"),
-        (b"[jl2]A[jl3]AA\n", b"error 5 12\n"),
-        (b"[jl5]AAA\n", b"ok 1\n"),
-        (b"[tr7,1,6,0]A\n", b"ok 1\n"),
-        (b"[tr7,1,6,0]AA\n", b"error 5 12\n"),
-        (b"[tr8,1,6,7]\n", b"error 4 0\n"),
-    ];
-    check_rows(&rt, rt.alloc(), &rows)
-}
-
-#[test]
-fn the_sample_sign_judges_spacings_groups_and_rectangles(rt: HostRuntime) -> Result<(), Fail> {
-    let rows: [(&[u8], &[u8]); 24] = [
-        (b"[sc0]AAAA\n", b"ok 1\n"),
-        (b"[sc0]AAAAA\n", b"error 5 9\n"),
-        (b"A[sc4]A\n", b"ok 1\n"),
-        (b"A[sc5]A[/sc]A\n", b"error 5 12\n"),
-        (b"[jp2]A[jp4]A\n", b"ok 1\n"),
-        (b"[jp2]A[jp3]A\n", b"error 5 11\n"),
-        (b"[jl2]A[jl5]A\n", b"error 11 11\n"),
-        (b"[jl5]A[jl5]A\n", b"ok 1\n"),
-        (b"[tr1,1,3,3]A[tr10,5,3,3]A\n", b"ok 1\n"),
-        (b"[tr13,1,0,0]\n", b"error 4 0\n"),
-        (b"[tr0,1,0,0]\n", b"error 4 0\n"),
-        (b"[tr1,1,2,0]A\n", b"error 5 11\n"),
-        (b"[tr1,1,3,3][np]A\n", b"ok 2\n"),
-        (b"[flt5o5]A[/fl]\n", b"ok 1\n"),
-        (b"[pt10o5]A[np]A\n", b"ok 2\n"),
-        (b"[cf3]A[pb1]\n", b"ok 1\n"),
-        (b"[pb1][cf3]A\n", b"ok 1\n"),
-        (b"[cf3]A\n", b"ok 1\n"),
-        (b"[flo5t5]A\n", b"ok 1\n"),
-        (b"[flt0o0]A\n", b"ok 1\n"),
-        (b"[pt0o0]A[np]A\n", b"ok 2\n"),
-        (b"[pt0o5]A[np]A\n", b"ok 2\n"),
-        (b"A[np]A[pt10]\n", b"ok 2\n"),
-        (b"[/sc][/fl]\n", b"ok 1\n"),
-    ];
-    check_rows(&rt, rt.alloc(), &rows)
 }
 
 #[test]
@@ -286,16 +182,6 @@ fn a_line_has_a_greatest_length(rt: HostRuntime) -> Result<(), Fail> {
         );
         assert!(rt; result == end, "the end at {letters} and {line_end:?}");
     }
-    Ok(())
-}
-
-#[test]
-fn a_long_line_of_brackets_is_refused_where_it_no_longer_fits(rt: HostRuntime) -> Result<(), Fail> {
-    let mut input = vec![in rt.alloc(); b'['; 4_096]?;
-    input.push(b'\n')?;
-    let (output, result) = check(rt.alloc(), &input);
-    assert!(rt; output.as_slice() == b"error 5 8\n".as_slice());
-    assert!(rt; result == Ok(()));
     Ok(())
 }
 

@@ -1,13 +1,15 @@
 //! A run of the tool: an answer for each line.
 ghost use Rattle.std.specs.Prelude.{◌≡◌, ◌+◌, ◌≤◌, ◌⊎◌, List, ℕ, Some, IfSome, length};
 ghost use Rattle.std.specs.Io.KnownBytes.{Appends, Consumes};
+ghost use Rattle.signctl.specs.Lines.{input_limit};
 ghost use Rattle.signctl.specs.Output.{outcome, output_of_whole};
 ghost use Rattle.signctl.specs.Runs.{IsFront, Runs, fault_of};
 ghost use Rattle.signctl.specs.Tool.{IsOfInput, answers_of, outcome_of, output_so_far};
 
-use crate::answer::{Answer, Checker};
+use crate::answer::{Answer, LineAnswer};
+use crate::check::Checker;
 use crate::fault::ToolFault;
-use crate::lines::{Next, Place, next_line, text_of};
+use crate::lines::{LineStart, NextLine, next_line, text_of};
 use crate::output::write_whole;
 use crate::show::Shower;
 use crate::start::{Start, begin};
@@ -33,11 +35,11 @@ pub enum Mode {
 fn answer_lines<A: Answer, R: Read, W: Write>(
     alloc: Global,
     answer: &mut A,
-    place: Place,
+    place: LineStart,
     reader: &mut R,
     writer: &mut W,
 ) -> Result<(), ToolFault>
-    requires { place.number + place.left ≤ 16777217 }
+    requires { place.number + place.left ≤ input_limit + 1 }
     ensures runs { Runs (outcome (A.answers answer.old) place.number place.left) (output_of_whole (A.answers answer.old) place.number) place.left
         (R.remaining reader.old) (R.remaining reader.new) (W.contents writer.old) (W.contents writer.new) (fault_of result) }
 {
@@ -47,15 +49,16 @@ fn answer_lines<A: Answer, R: Read, W: Write>(
     let mut number = place.number;
     loop {
         match next_line(reader, &mut line, &mut left)? {
-            Next::Line => {}
-            Next::TooLong => return Err(ToolFault::LineTooLong { line: number }),
-            Next::Unfinished => return Err(ToolFault::BadLine { line: number }),
-            Next::End => return Ok(()),
-            Next::InputTooLong => return Err(ToolFault::InputTooLong),
+            NextLine::Line => {}
+            NextLine::TooLong => return Err(ToolFault::LineTooLong { line: number }),
+            NextLine::Unfinished => return Err(ToolFault::BadLine { line: number }),
+            NextLine::End => return Ok(()),
+            NextLine::InputTooLong => return Err(ToolFault::InputTooLong),
         }
         text.clear();
-        if !answer.answer(text_of(&line), &mut text)? {
-            return Err(ToolFault::BadLine { line: number });
+        match answer.answer(text_of(&line), &mut text)? {
+            LineAnswer::Text => {}
+            LineAnswer::BadLine => return Err(ToolFault::BadLine { line: number }),
         }
         write_whole(writer, &text)?;
         number += 1;
@@ -70,7 +73,7 @@ fn run_on<R: Read, W: Write>(
     reader: &mut R,
     writer: &mut W,
 ) -> Result<(), ToolFault>
-    requires { start.place.number + start.place.left ≤ 16777217 }
+    requires { start.place.number + start.place.left ≤ input_limit + 1 }
     ensures { Runs (outcome (answers_of mode start.sign) start.place.number start.place.left) (output_of_whole (answers_of mode start.sign) start.place.number) start.place.left
         (R.remaining reader.old) (R.remaining reader.new) (W.contents writer.old) (W.contents writer.new) (fault_of result) }
 {
@@ -94,7 +97,7 @@ fn run<R: Read, W: Write>(
     reader: &mut R,
     writer: &mut W,
 ) -> Result<(), ToolFault>
-    ensures { Runs (outcome_of mode sample) (output_so_far mode sample) 16777216
+    ensures { Runs (outcome_of mode sample) (output_so_far mode sample) input_limit
         (R.remaining reader.old) (R.remaining reader.new) (W.contents writer.old) (W.contents writer.new) (fault_of result) }
 {
     let start = begin(alloc, sample, reader)?;
@@ -135,7 +138,7 @@ pub fn run_tool<R: Read, W: Write>(
 
     // No more is read than shows that an input is too long.
     ensures most { (taken : List ℕ) × Consumes (R.remaining reader.old) (R.remaining reader.new) taken
-        × (length taken ≤ 16777217) }
+        × (length taken ≤ input_limit + 1) }
 {
     run(alloc, mode, sample, reader, writer)
 }

@@ -56,7 +56,7 @@ returns-in_err-push_octet-in-Some g c =
     let p = err_from_is_err_and c.from_residual-in_err-push_octet-in-Some.result c.from_residual-in_err-push_octet-in-Some.ensures.1 in
     let (seen, s) = c.loop-taken.invariant.0 in
     let more = SeenLemmas.at_octet _ _ _ _ c.in-Some.is c.in_ok-next_octet.ensures.taken in
-    rw (p.1, p.2) (record { taken = SeenLemmas.fails_keeping _ _ _ _ _ _ _ seen s c.push_octet.new.text.items c.args.left.now _ _ (omega arith) c.in_err-push_octet-in-Some.ensures.err more })
+    rw (p.1, p.2) (record { taken = SeenLemmas.fails_keeping _ _ _ _ _ _ _ seen s c.push_octet.new.text.items c.args.left.now _ _ (omega arith) refl more })
 
 pub loop-taken-preserved : goal.loop-taken-preserved
 loop-taken-preserved g c =
@@ -65,7 +65,7 @@ loop-taken-preserved g c =
     let count : c.len.result ≡ length c.loop-taken.line.items = c.len.ensures ∙ c.loop-taken.line.ok.0 in (
       elim c.if-len-lt-MAX_KEPT.branch [
         | then-len-lt-MAX_KEPT+in_ok-push_octet-in-Some w ↦
-            rw (w.line-is, w.is_cut-is, w.in_ok-push_octet-in-Some.ensures.ok) (
+            rw (w.line-is, w.is_cut-is, w.in_ok-push_octet-in-Some.ensures) (
               seen ++ c.in-Some.octet ∷ [],
               SeenLemmas.Seen-kept 8301 _ _ _ _ _ _ _ seen s more c.in-Some.octet-test.1 (omega arith),
             )

@@ -8,5 +8,5 @@ pub loop-column-preserved : goal.loop-column-preserved
 loop-column-preserved c =
     let lit = is_lit c.args.plane.now in
     let octet = ap pixel_text (sym c.pixel.ensures) ∙ sym c.pixel_octet.ensures in
-    FrameLemmas.grown _ _ _ _ _ _ c.loop-column.invariant c.in_ok-push_octet.ensures.ok
+    FrameLemmas.grown _ _ _ _ _ _ c.loop-column.invariant c.in_ok-push_octet.ensures
     (FrameLemmas.pixels_more lit c.args.row c.loop-column.column ∙ ap (λ x. pixels_text lit c.args.row c.loop-column.column ++ x ∷ []) octet)

@@ -1,7 +1,7 @@
 use Rattle.std.proofs.Common.{subst, ◌⊎◌, Err, ◌≡◌}
 use Rattle.std.proofs.lemmas.Result.{err_from_is_err_and}
 use Rattle.signctl.specs.declared.fault.ToolFault.TheVariants as faults
-use Rattle.signctl.specs.SignFile.{sign_of_octets}
+use Rattle.signctl.specs.FileSign.{sign_of_octets}
 use Rattle.signctl.proofs.StartLemmas
 use Rattle.signctl.proofs.start.begin.Goals as goal
 

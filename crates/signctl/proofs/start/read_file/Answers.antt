@@ -1,4 +1,4 @@
-use Rattle.std.proofs.Common.{[], ◌∷◌, ◌++◌, ap, ◌∙◌, sym, inl, inr}
+use Rattle.std.proofs.Common.{[], ◌∷◌, ◌++◌, ap, ◌∙◌, sym, inl, inr, refl}
 use Rattle.std.proofs.lemmas.Result.{err_from_is_err_and}
 use Rattle.signctl.specs.Lines.{is_mark}
 use Rattle.signctl.proofs.FileLemmas
@@ -47,7 +47,7 @@ loop-line-preserved g c =
       lines ++ line ∷ [],
       FileLemmas.goes_on _ _ _ _ _ _ _ line lines r _ (rw c.in-Line.is at c.in_ok-next_line.ensures.taken)
           (ap is_mark (sym c.deref.ensures.value) ∙ sym c.is_mark.ensures ∙ c.if-is_mark.false)
-          (c.in_ok-push_line.ensures.ok ∙ ap (λ l. c.loop-line.octets.items ++ (l ++ 10 ∷ [])) c.deref-in-loop-line.ensures.value),
+          (c.in_ok-push_line.ensures ∙ ap (λ l. c.loop-line.octets.items ++ (l ++ 10 ∷ [])) c.deref-in-loop-line.ensures.value),
     )
 
 pub returns-in_err-push_line : goal.returns-in_err-push_line
@@ -55,5 +55,5 @@ returns-in_err-push_line g c =
     let p = err_from_is_err_and c.from_residual-in_err-push_line.result c.from_residual-in_err-push_line.ensures.1 in
     let (lines, r) = c.loop-line.invariant in
     rw (p.1, p.2) (record {
-      taken = FileLemmas.fails_keeping _ _ _ _ _ c.next_line.new.left _ c.next_line.new.line.items lines r _ (rw c.in-Line.is at c.in_ok-next_line.ensures.taken) c.in_err-push_line.ensures.err;
+      taken = FileLemmas.fails_keeping _ _ _ _ _ c.next_line.new.left _ c.next_line.new.line.items lines r _ (rw c.in-Line.is at c.in_ok-next_line.ensures.taken) refl;
     })

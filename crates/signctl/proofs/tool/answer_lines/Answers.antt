@@ -1,6 +1,7 @@
-use Rattle.std.proofs.Common.{[], ◌∷◌, ◌++◌, ap, ◌∙◌, arith, true, false}
+use Rattle.std.proofs.Common.{[], ◌∷◌, ◌++◌, ap, ◌∙◌, arith, refl}
 use Rattle.std.proofs.lemmas.Result.{err_from_is_err_and}
 use Rattle.std.proofs.KnownBytes.{Consumes-nil, Appends-nil}
+use Rattle.signctl.specs.declared.answer.LineAnswer.TheVariants.{Text, BadLine}
 use Rattle.signctl.specs.Lines.{text_of}
 use Rattle.signctl.proofs.RunLemmas
 use Rattle.signctl.proofs.tool.answer_lines.Goals as goal
@@ -49,21 +50,21 @@ pub returns-in_err-answer : goal.returns-in_err-answer
 returns-in_err-answer g c =
     let p = err_from_is_err_and c.from_residual-in_err-answer.result c.from_residual-in_err-answer.ensures.1 in
     let (taken, sent, lines, go) = c.loop-text.invariant in
-    rw (p.1, p.2) (record { runs = RunLemmas.ends_unanswered _ _ _ _ _ _ _ _ _ _ _ c.next_line.new.left _ _ c.next_line.new.line.items _ go _ (rw c.in-Line.is at c.in_ok-next_line.ensures.taken) c.in_err-answer.ensures.answered })
+    rw (p.1, p.2) (record { runs = RunLemmas.ends_unanswered _ _ _ _ _ _ _ _ _ _ _ c.next_line.new.left _ _ c.next_line.new.line.items _ go _ (rw c.in-Line.is at c.in_ok-next_line.ensures.taken) refl })
 
-pub returns-then-not-branch : goal.returns-then-not-branch
-returns-then-not-branch g c =
+pub returns-in-BadLine : goal.returns-in-BadLine
+returns-in-BadLine g c =
     let (taken, sent, lines, go) = c.loop-text.invariant in
-    let answer = RunLemmas.same_answer (g.A.Answer.answers c.loop-text.answer) (g.A.Answer.answers c.answer.new.self) _ (text_of c.next_line.new.line.items) _ [] c.answer.new.text.items _ false
-    (c.text_of.ensures.text ∙ ap text_of c.deref.ensures.value) c.clear.ensures.items c.if-not-branch.true c.in_ok-answer.ensures.answered in
+    let answer = RunLemmas.same_answer (g.A.Answer.answers c.loop-text.answer) (g.A.Answer.answers c.answer.new.self) _ (text_of c.next_line.new.line.items) _ [] c.answer.new.text.items _ BadLine
+    (c.text_of.ensures.text ∙ ap text_of c.deref.ensures.value) c.clear.ensures.items c.in-BadLine.is c.in_ok-answer.ensures.answered in
     record { runs = RunLemmas.ends_bad _ _ _ (g.A.Answer.answers c.loop-text.answer) _ _ _ _ _ _ _ c.next_line.new.left _ _ c.next_line.new.line.items _ go (g.A.Answer.answers c.answer.new.self) [] c.answer.new.text.items (rw c.in-Line.is at c.in_ok-next_line.ensures.taken) answer }
 
 pub returns-in_err-write_whole : goal.returns-in_err-write_whole
 returns-in_err-write_whole g c =
     let p = err_from_is_err_and c.from_residual-in_err-write_whole.result c.from_residual-in_err-write_whole.ensures.1 in
     let (taken, sent, lines, go) = c.loop-text.invariant in
-    let answer = RunLemmas.same_answer (g.A.Answer.answers c.loop-text.answer) (g.A.Answer.answers c.answer.new.self) _ (text_of c.next_line.new.line.items) _ [] c.answer.new.text.items _ true
-    (c.text_of.ensures.text ∙ ap text_of c.deref.ensures.value) c.clear.ensures.items c.if-not-branch.false c.in_ok-answer.ensures.answered in
+    let answer = RunLemmas.same_answer (g.A.Answer.answers c.loop-text.answer) (g.A.Answer.answers c.answer.new.self) _ (text_of c.next_line.new.line.items) _ [] c.answer.new.text.items _ Text
+    (c.text_of.ensures.text ∙ ap text_of c.deref.ensures.value) c.clear.ensures.items c.in-Text.is c.in_ok-answer.ensures.answered in
     rw (p.1, p.2) (record {
       runs = RunLemmas.ends_writing _ _ _ (g.A.Answer.answers c.loop-text.answer) _ _ _ _ _ _ _ c.next_line.new.left _ _ c.next_line.new.line.items _ go (g.A.Answer.answers c.answer.new.self) _ c.answer.new.text.items _ _
           (rw c.in-Line.is at c.in_ok-next_line.ensures.taken) answer c.deref-in-loop-text.ensures.value c.in_err-write_whole.ensures.written;
@@ -73,8 +74,8 @@ pub loop-text-preserved : goal.loop-text-preserved
 loop-text-preserved g c =
     let (taken, sent, lines, go) = c.loop-text.invariant in
     let line = c.next_line.new.line.items in
-    let answer = RunLemmas.same_answer (g.A.Answer.answers c.loop-text.answer) (g.A.Answer.answers c.answer.new.self) _ (text_of line) _ [] c.answer.new.text.items _ true
-    (c.text_of.ensures.text ∙ ap text_of c.deref.ensures.value) c.clear.ensures.items c.if-not-branch.false c.in_ok-answer.ensures.answered in (
+    let answer = RunLemmas.same_answer (g.A.Answer.answers c.loop-text.answer) (g.A.Answer.answers c.answer.new.self) _ (text_of line) _ [] c.answer.new.text.items _ Text
+    (c.text_of.ensures.text ∙ ap text_of c.deref.ensures.value) c.clear.ensures.items c.in-Text.is c.in_ok-answer.ensures.answered in (
       taken ++ (line ++ 10 ∷ []),
       sent ++ c.answer.new.text.items,
       lines ++ line ∷ [],

@@ -1,0 +1,4 @@
+pub mod Keys
+pub mod Permanent
+pub mod SignKeys
+pub mod SignFile

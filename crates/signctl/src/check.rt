@@ -1,0 +1,34 @@
+//! The answers that count pages.
+ghost use Rattle.std.specs.Prelude.{◌≡◌, ◌++◌, OnOk, Some, map};
+ghost use Rattle.signctl.specs.Reply.{check_answer};
+
+use crate::answer::{Answer, LineAnswer};
+use crate::judge::judge_line;
+use crate::reply::push_pages;
+use sign_font::Sign;
+use std::alloc::AllocError;
+
+/// Answers each string by the verdict on it, and an accepted one by the number of its pages.
+#[derive(Drop)]
+pub(crate) struct Checker {
+    pub(crate) sign: Sign,
+}
+
+/// Appends the answer to the line.
+fn push_verdict(sign: &Sign, line: &[u8], text: &mut Vec<u8>) -> Result<(), AllocError>
+    ensures { OnOk result (text.new.items ≡ text.old.items ++ check_answer sign.now line.now) }
+{
+    match judge_line(sign, line, text)? {
+        Some(checked) => push_pages(text, checked.pages()),
+        None => Ok(()),
+    }
+}
+
+impl Answer for Checker {
+    ghost answers = { λ s lines. map (λ line. Some (check_answer s.sign line)) lines };
+
+    fn answer(&mut self, line: &[u8], text: &mut Vec<u8>) -> Result<LineAnswer, AllocError> {
+        push_verdict(&self.sign, line, text)?;
+        Ok(LineAnswer::Text)
+    }
+}
