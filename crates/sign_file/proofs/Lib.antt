@@ -1,4 +1,4 @@
 pub mod EntryLemmas
 pub mod OnLiterals
 pub mod SignFileLemmas
-mod SignFileRows
+pub mod SignFileRows

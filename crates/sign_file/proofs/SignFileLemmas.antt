@@ -1,5 +1,5 @@
 -- What octets say of a sign file.
-use Rattle.std.proofs.Common.{◌≡◌, ℕ, false, List, None, Some, IsUtf8, ◌⊎◌, inl, inr}
+use Rattle.std.proofs.Common.{◌≡◌, ℕ, false, List, None, Some, IsUtf8, inl, inr}
 use Rattle.std.proofs.lemmas.Bool.{cases_Bool}
 use Rattle.std.proofs.lemmas.Str.{IsUtf8-from_is_utf8, is_utf8-from_IsUtf8}
 use Rattle.std.specs.Str.{is_utf8}

@@ -1,19 +1,19 @@
 -- Worked examples of sign files, computed.
-use Rattle.std.proofs.Common.{◌≡◌, ℕ, List, [], ◌∷◌, ◌++◌, Option, None, Some, false, refl, codes}
+use Rattle.std.proofs.Common.{◌≡◌, ℕ, List, [], ◌∷◌, ◌++◌, None, Some, false, refl, codes}
 use Rattle.sign_font.specs.Sign.{SignData}
-use Rattle.sign_file.specs.Permanent.{PermanentData}
+use Rattle.message_store.specs.Slot.{PermanentData}
 use Rattle.sign_file.specs.SignFile.{FileData, file_of_octets}
 use Rattle.sign_file.proofs.OnLiterals.{sign_file_on_literals}
 
 -- a sign file with this first line, these slots, this number and these bits of its one cell, and this last line
-abbrev a_file : List ℕ → List ℕ → List ℕ → List ℕ → List ℕ → List ℕ
+abbrev pub a_file : List ℕ → List ℕ → List ℕ → List ℕ → List ℕ → List ℕ
 a_file first slots number bits last =
     first ++ codes "\nheight = 7\nscheme = \"monochrome\"\nmax_pages = 2\nslots = " ++ slots
     ++ codes "\nbytes = 4\nmax_string = 64\ndefaults = { font = 1, line = 3, page = 3, page_on = 30, page_off = 0, flash_on = 5, flash_off = 5, fore = 1, back = 0 }"
     ++ codes "\nfont = [ { number = 1, height = 3, char_spacing = 1, line_spacing = 1, cell = [ { number = " ++ number ++ codes ", width = 3, bits = \"" ++ bits
     ++ codes "\" } ] } ]\n" ++ last
 
-its_sign : ℕ → SignData
+unfoldable pub its_sign : ℕ → SignData
 its_sign width = record {
   width = width;
   height = 7;

@@ -1,4 +1,3 @@
 pub mod Keys
-pub mod Permanent
 pub mod SignKeys
 pub mod SignFile

@@ -5,9 +5,10 @@ use Rattle.toml.specs.Data.{Members}
 use Rattle.toml.specs.Parse.{parse_document}
 use Rattle.sign_font.specs.Sign.{SignData, sign_of}
 use Rattle.sign_file.specs.declared.file.SignFile.{SignFile}
-use Rattle.sign_file.specs.declared.limits.StoreLimits.{StoreLimits}
+use Rattle.message_store.specs.declared.limits.StoreLimits.{StoreLimits}
+use Rattle.message_store.specs.Slot.{PermanentData}
+use Rattle.message_store.specs.Stored.{permanent_of}
 use Rattle.sign_file.specs.Keys.{◌>>=◌, list_at, number_at, number_or, text_at}
-use Rattle.sign_file.specs.Permanent.{PermanentData, permanent_of}
 use Rattle.sign_file.specs.SignKeys.{sign_of_table}
 
 -- A sign file has a sign, the limits of its message store, and permanent messages (own).

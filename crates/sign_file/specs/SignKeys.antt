@@ -1,5 +1,5 @@
 -- The keys of a sign, of its fonts and of its defaults.
-use Rattle.std.specs.Prelude.{Option, None, Some, codes}
+use Rattle.std.specs.Prelude.{Option, Some, codes}
 use Rattle.toml.specs.Data.{Members, get_member}
 use Rattle.sign_font.specs.Sign.{CellData, FontData, SignData}
 use Rattle.sign_font.specs.declared.parts.Defaults.{Defaults}

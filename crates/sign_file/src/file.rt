@@ -3,14 +3,14 @@
 ghost use Rattle.std.specs.Prelude.{◌≡◌};
 ghost use Rattle.toml.specs.View.{table_view};
 ghost use Rattle.sign_file.specs.Keys.{Gives};
-ghost use Rattle.sign_file.specs.Permanent.{PermanentData, permanent_of};
+ghost use Rattle.message_store.specs.Slot.{PermanentData};
+ghost use Rattle.message_store.specs.Stored.{permanent_of};
 ghost use Rattle.sign_file.specs.SignFile.{file_of, file_of_octets, file_of_table, limits_of_table, permanent_of_table};
 
 use crate::fault::FileFault;
 use crate::keys::{Entry, list_at, text_at, u8_or, u16_at, u32_at};
-use crate::limits::StoreLimits;
-use crate::permanent::Permanent;
 use crate::sign::parts_of;
+use message_store::{Permanent, StoreLimits};
 use sign_font::SignParts;
 use std::alloc::Global;
 use toml::Table;
@@ -81,7 +81,8 @@ fn file_of(alloc: Global, table: &Table) -> Result<SignFile, FileFault>
 /// Reads a sign file from its octets: a TOML document in UTF-8 with the keys of a sign, of the limits of its message
 /// store and of its permanent messages (own).
 ///
-/// Whether these are within their limits isn't judged here: [`sign_font::Sign::new`] says so of the sign.
+/// Whether these are within their limits isn't judged here: [`sign_font::Sign::new`] says so of the sign, and
+/// [`message_store::Store::new`] of the limits and the permanent messages.
 ///
 /// The error is `Bad` for octets that are no sign file, and `Memory` where memory was refused.
 #[tactic(auto, unfolding(crate::specs::SignFile::file_of_octets))]

@@ -1,4 +1,5 @@
-use crate::{FileFault, Permanent, SignFile, StoreLimits, read_sign_file};
+use crate::{FileFault, SignFile, read_sign_file};
+use message_store::{Permanent, StoreLimits};
 use sign_font::{CellPart, Defaults, FontPart};
 use std::alloc::Global;
 use std::process::Abort;

@@ -7,15 +7,15 @@ use Rattle.std.proofs.lemmas.Bool.{cases_Bool, lt-ltb, le-ltb}
 use Rattle.std.proofs.lemmas.List.{length-append, take_all, take_at}
 use Rattle.std.proofs.lemmas.List.Elements.{All-nil}
 use Rattle.std.proofs.lemmas.Slice.Eq.{bytes_eq-Decides}
-use Rattle.sign_font.specs.Sign.{SignData}
 use Rattle.signctl.specs.declared.fault.ToolFault.{ToolFault}
 use Rattle.signctl.specs.declared.fault.ToolFault.TheVariants as faults
 use Rattle.signctl.specs.declared.lines.NextLine.TheVariants as next
+use Rattle.signctl.specs.declared.setup.Setup.{Setup}
 use Rattle.signctl.specs.declared.tool.Mode.{Mode}
 use Rattle.signctl.specs.Lines.{Cut, cut, input_limit, IsOneLine, is_mark, octets_of, parted, text_of}
 use Rattle.signctl.specs.Output.{Outcome, answered_on, behind_file, ended, fault_at_end, fault_unmarked, filed, first_long, outcome, outcome_of_file, output_of_whole, output_of_whole_file, unless_long}
 use Rattle.signctl.specs.Runs.{Fails, IsFront, IsWritten, Leads, outcome_on, output_on}
-use Rattle.signctl.specs.FileSign.{sign_of_octets}
+use Rattle.signctl.specs.FileSetup.{setup_of_octets}
 use Rattle.signctl.specs.Streams.{TakesLine}
 use Rattle.signctl.specs.Tool.{answers_of, outcome_of, output_so_far}
 use Rattle.signctl.proofs.CutLemmas.{AreLines, octets_of-more, cut-line, cut-lines, cut-unfinished, take-past, nat_lt-past}
@@ -60,7 +60,7 @@ not_mark line long = elim (cases_Bool (is_mark line)) [
 
 -- ---- what comes behind them
 
-module _ (answers : SignData → AllAnswers) (lines : List (List ℕ)) (left : ℕ) where
+module _ (answers : Setup → AllAnswers) (lines : List (List ℕ)) (left : ℕ) where
   -- the outcome of these file lines and of the octets behind them
   behind : List ℕ → Outcome
   behind rest =
@@ -102,7 +102,7 @@ module _ (answers : SignData → AllAnswers) (lines : List (List ℕ)) (left : �
 
   behind-mark : (mark rest : List ℕ) (left' : ℕ) → IsOneLine mark → left ≡ length mark + 1 + left' → is_mark mark ≡ true
       → behind ((mark ++ 10 ∷ []) ++ rest)
-      ≡ answered_on answers (sign_of_octets (octets_of lines)) (length lines + 2) (cut (take left' rest)).whole (fault_at_end (nat_lt left' (length rest)) (cut (take left' rest)).rest)
+      ≡ answered_on answers (setup_of_octets (octets_of lines)) (length lines + 2) (cut (take left' rest)).whole (fault_at_end (nat_lt left' (length rest)) (cut (take left' rest)).rest)
   unfolding behind parted
   behind-mark mark rest left' one fits is =
       let regrouped : take left ((mark ++ 10 ∷ []) ++ rest) ≡ mark ++ 10 ∷ take left' rest =
@@ -112,26 +112,26 @@ module _ (answers : SignData → AllAnswers) (lines : List (List ℕ)) (left : �
       rw (regrouped, past, cut-line mark (take left' rest) one, is, append-nil lines) refl
 
 -- what is known of the lines behind the mark is what comes for a sign
-outcome-sign : (mode : Mode) (sign : Result SignData ToolFault) (number left : ℕ) (rest : List ℕ)
+outcome-sign : (mode : Mode) (sign : Result Setup ToolFault) (number left : ℕ) (rest : List ℕ)
     → answered_on (answers_of mode) sign number (cut (take left rest)).whole (fault_at_end (nat_lt left (length rest)) (cut (take left rest)).rest) ≡ outcome_on mode sign (record { number = number; left = left }) rest
 unfolding outcome
 outcome-sign mode (Err e) number left rest = refl
 outcome-sign mode (Ok sign) number left rest = refl
 
-output-sign : (mode : Mode) (sign : Result SignData ToolFault) (number left : ℕ) (rest : List ℕ)
+output-sign : (mode : Mode) (sign : Result Setup ToolFault) (number left : ℕ) (rest : List ℕ)
     → (answered_on (answers_of mode) sign number (cut rest).whole (λ n. None)).output ≡ output_on mode sign (record { number = number; left = left }) rest
 unfolding output_of_whole
 output-sign mode (Err e) number left rest = refl
 output-sign mode (Ok sign) number left rest = refl
 
-module _ (answers : SignData → AllAnswers) (lines : List (List ℕ)) (each : AreFileLines lines) where
+module _ (answers : Setup → AllAnswers) (lines : List (List ℕ)) (each : AreFileLines lines) where
   -- without a mark there is no sign, whatever comes behind
   filed-unmarked : (unmarked : ToolFault) (at_end : ℕ → Option ToolFault) → filed answers (lines ++ []) unmarked at_end ≡ ended (Some unmarked)
   unfolding filed parted
   filed-unmarked unmarked at_end = rw (parted-lines lines [] each, first_long-lines 1 lines [] each) refl
 
   filed-mark : (mark : List ℕ) (others : List (List ℕ)) (unmarked : ToolFault) (at_end : ℕ → Option ToolFault) → is_mark mark ≡ true
-      → filed answers (lines ++ mark ∷ others) unmarked at_end ≡ answered_on answers (sign_of_octets (octets_of lines)) (length lines + 2) others at_end
+      → filed answers (lines ++ mark ∷ others) unmarked at_end ≡ answered_on answers (setup_of_octets (octets_of lines)) (length lines + 2) others at_end
   unfolding filed parted
   filed-mark mark others unmarked at_end is = rw (parted-lines lines (mark ∷ others) each, is, first_long-lines 1 lines [] each, append-nil lines) refl
 
@@ -144,7 +144,7 @@ module _ (answers : SignData → AllAnswers) (lines : List (List ℕ)) (each : A
 
   so_far-mark : (mark rest : List ℕ) → IsOneLine mark → is_mark mark ≡ true
       → output_of_whole_file answers (octets_of lines ++ ((mark ++ 10 ∷ []) ++ rest))
-      ≡ (answered_on answers (sign_of_octets (octets_of lines)) (length lines + 2) (cut rest).whole (λ n. None)).output
+      ≡ (answered_on answers (setup_of_octets (octets_of lines)) (length lines + 2) (cut rest).whole (λ n. None)).output
   unfolding output_of_whole_file
   so_far-mark mark rest one is =
       let regrouped : (mark ++ 10 ∷ []) ++ rest ≡ mark ++ 10 ∷ rest = append_assoc mark (10 ∷ []) rest in
@@ -249,7 +249,7 @@ module _ (input now new : Option (List ℕ)) (number left left' : ℕ) (octets l
 
   -- the mark was read
   pub leads : TakesLine now new left left' line (Ok next.Line) → is_mark line ≡ true
-      → (taken : List ℕ) × Consumes input new taken × Leads false taken (sign_of_octets octets) (record { number = number + 1; left = left' })
+      → (taken : List ℕ) × Consumes input new taken × Leads false taken (setup_of_octets octets) (record { number = number + 1; left = left' })
   leads t is =
       let (took, one, few, short) = t in
       let number_is : length lines + 2 ≡ number + 1 = omega (arith, r.number_is) in (
@@ -261,15 +261,15 @@ module _ (input now new : Option (List ℕ)) (number left left' : ℕ) (octets l
               ap (outcome_of mode false) (append_assoc (octets_of lines) (line ++ 10 ∷ []) rest)
               ∙ outcome-lines (answers_of mode) lines left input_limit ((line ++ 10 ∷ []) ++ rest) r.each r.limit
               ∙ behind-mark (answers_of mode) lines left line rest left' one (sym few) is
-              ∙ outcome-sign mode (sign_of_octets (octets_of lines)) (length lines + 2) left' rest
-              ∙ ap (λ n. outcome_on mode (sign_of_octets (octets_of lines)) (record { number = n; left = left' }) rest) number_is
-              ∙ ap (λ o. outcome_on mode (sign_of_octets o) (record { number = number + 1; left = left' }) rest) (sym r.octets_is);
+              ∙ outcome-sign mode (setup_of_octets (octets_of lines)) (length lines + 2) left' rest
+              ∙ ap (λ n. outcome_on mode (setup_of_octets (octets_of lines)) (record { number = n; left = left' }) rest) number_is
+              ∙ ap (λ o. outcome_on mode (setup_of_octets o) (record { number = number + 1; left = left' }) rest) (sym r.octets_is);
           so_far = λ mode rest.
               ap (output_so_far mode false) (append_assoc (octets_of lines) (line ++ 10 ∷ []) rest)
               ∙ so_far-mark (answers_of mode) lines r.each line rest one is
-              ∙ output-sign mode (sign_of_octets (octets_of lines)) (length lines + 2) left' rest
-              ∙ ap (λ n. output_on mode (sign_of_octets (octets_of lines)) (record { number = n; left = left' }) rest) number_is
-              ∙ ap (λ o. output_on mode (sign_of_octets o) (record { number = number + 1; left = left' }) rest) (sym r.octets_is);
+              ∙ output-sign mode (setup_of_octets (octets_of lines)) (length lines + 2) left' rest
+              ∙ ap (λ n. output_on mode (setup_of_octets (octets_of lines)) (record { number = n; left = left' }) rest) number_is
+              ∙ ap (λ o. output_on mode (setup_of_octets o) (record { number = number + 1; left = left' }) rest) (sym r.octets_is);
         },
       )
 

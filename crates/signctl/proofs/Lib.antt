@@ -1,7 +1,7 @@
 pub mod CutLemmas
 pub mod FileLemmas
-mod FileSignRows
-pub mod FileSignLemmas
+mod FileSetupRows
+pub mod FileSetupLemmas
 pub mod FrameLemmas
 pub mod ReplyLemmas
 pub mod RunLemmas

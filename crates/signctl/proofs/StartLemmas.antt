@@ -1,19 +1,19 @@
 -- The start of a run: from what stands before the lines to the lines.
-use Rattle.std.proofs.Common.{◌≡◌, ◌⊎◌, inl, inr, ℕ, Bool, true, List, [], ◌++◌, Option, None, Some, IfSome, Result, Ok, Err, refl, sym, ap, ◌∙◌, subst, arith, append-nil}
+use Rattle.std.proofs.Common.{◌≡◌, ◌⊎◌, inl, inr, ℕ, Bool, true, List, [], ◌++◌, Option, None, Some, IfSome, Result, Ok, Err, refl, sym, ap, ◌∙◌, subst, arith, append-nil, ◌∷◌, map}
 use Rattle.std.specs.Io.KnownBytes.{Consumes}
 use Rattle.std.proofs.KnownBytes.{Consumes-nil, Consumes-trans, Appends-nil}
 use Rattle.std.proofs.lemmas.List.{length-append}
-use Rattle.sign_font.specs.Sign.{SignData}
-use Rattle.sign_font.specs.Sample as signs
 use Rattle.signctl.specs.declared.fault.ToolFault.{ToolFault}
 use Rattle.signctl.specs.declared.fault.ToolFault.TheVariants as faults
 use Rattle.signctl.specs.declared.lines.LineStart.{LineStart}
+use Rattle.signctl.specs.declared.setup.Setup.{Setup}
 use Rattle.signctl.specs.declared.tool.Mode.{Mode}
 use Rattle.signctl.specs.declared.tool.Mode.TheVariants.{Show}
-use Rattle.signctl.specs.Frame.{Showing}
+use Rattle.signctl.specs.Frame.{Showing, show_answer}
 use Rattle.signctl.specs.Lines.{input_limit}
 use Rattle.signctl.specs.Output.{Outcome, outcome, output_of_whole}
 use Rattle.signctl.specs.Runs.{Fails, IsFront, IsWritten, Leads, Runs, outcome_on, output_on}
+use Rattle.signctl.specs.SampleSetup.{sample_setup}
 use Rattle.signctl.specs.Tool.{answers_of, outcome_of, output_so_far}
 use Rattle.signctl.proofs.RunLemmas.{if_some_always, told}
 
@@ -24,8 +24,8 @@ told_by (Some x) None bs P Q c h q = absurd c
 told_by (Some x) (Some y) bs P Q c h q = subst P (sym c) (h y q)
 
 -- the sample sign is there before anything is read
-pub leads_at_once : (sign : SignData) → sign ≡ signs.sample → Leads true [] (Ok sign) (record { number = 1; left = input_limit })
-leads_at_once sign is = subst (λ s. Leads true [] (Ok s) (record { number = 1; left = input_limit })) (sym is) record {
+pub leads_at_once : (setup : Setup) → setup ≡ sample_setup → Leads true [] (Ok setup) (record { number = 1; left = input_limit })
+leads_at_once setup is = subst (λ s. Leads true [] (Ok s) (record { number = 1; left = input_limit })) (sym is) record {
   place_is = (refl, omega arith);
   whole = λ mode rest. refl;
   so_far = λ mode rest. refl;
@@ -44,7 +44,7 @@ fails_at_once input e is = subst (Fails true input input) (sym is) record {
   written = λ mode. front_of_any mode true input;
 }
 
-module _ (sample : Bool) (input new : Option (List ℕ)) (taken : List ℕ) (sign : Result SignData ToolFault) (place : LineStart) (took : Consumes input new taken) (l : Leads sample taken sign place) where
+module _ (sample : Bool) (input new : Option (List ℕ)) (taken : List ℕ) (sign : Result Setup ToolFault) (place : LineStart) (took : Consumes input new taken) (l : Leads sample taken sign place) where
   -- there is no sign
   unsigned : (e : ToolFault) → sign ≡ Err e → (mode : Mode) → IfSome input (λ all. outcome_of mode sample all ≡ record { output = []; fault = Some e })
   unsigned e is mode =
@@ -85,7 +85,7 @@ Runs-failed mode sample input new output e f = record {
   written = f.written mode;
 }
 
-module _ (mode : Mode) (sample : Bool) (input now new output written : Option (List ℕ)) (taken : List ℕ) (sign : SignData) (place : LineStart) (took : Consumes input now taken) (l : Leads sample taken (Ok sign) place) where
+module _ (mode : Mode) (sample : Bool) (input now new output written : Option (List ℕ)) (taken : List ℕ) (sign : Setup) (place : LineStart) (took : Consumes input now taken) (l : Leads sample taken (Ok sign) place) where
   -- the outcome of the lines behind the sign
   outcomes : List ℕ → Outcome
   outcomes = outcome (answers_of mode sign) place.number place.left
@@ -142,11 +142,15 @@ Runs-unread outcomes so_far limit input output e is = subst (λ f. Runs outcomes
   written = if_some_always input _ (λ octets. ((outcomes octets).output, refl));
 }
 
+-- the answers of what is shown (own)
+abbrev shown_answers : Showing → List (List ℕ) → List (Option (List ℕ))
+shown_answers s lines = map (λ line. Some (show_answer s.sign s.colour s.clock line)) lines
+
 -- a run that answers by what is shown is one of the mode that shows
-pub Runs-showing : (mode : Mode) (sign : SignData) (colour clock number left limit : ℕ) (shower : Showing) (input new output written : Option (List ℕ)) (fault : Option ToolFault)
-    → mode ≡ Show colour clock → shower ≡ record { sign = sign; colour = colour; clock = clock }
-    → Runs (outcome (answers_of (Show shower.colour shower.clock) shower.sign) number left) (output_of_whole (answers_of (Show shower.colour shower.clock) shower.sign) number) limit input new output written fault
-    → Runs (outcome (answers_of mode sign) number left) (output_of_whole (answers_of mode sign) number) limit input new output written fault
-Runs-showing mode sign colour clock number left limit shower input new output written fault shows is runs =
-    subst (λ m. Runs (outcome (answers_of m sign) number left) (output_of_whole (answers_of m sign) number) limit input new output written fault) (sym shows)
-    (subst (λ (s : Showing). Runs (outcome (answers_of (Show s.colour s.clock) s.sign) number left) (output_of_whole (answers_of (Show s.colour s.clock) s.sign) number) limit input new output written fault) is runs)
+pub Runs-showing : (mode : Mode) (setup : Setup) (colour clock number left limit : ℕ) (shower : Showing) (input new output written : Option (List ℕ)) (fault : Option ToolFault)
+    → mode ≡ Show colour clock → shower ≡ record { sign = setup.sign; colour = colour; clock = clock }
+    → Runs (outcome (shown_answers shower) number left) (output_of_whole (shown_answers shower) number) limit input new output written fault
+    → Runs (outcome (answers_of mode setup) number left) (output_of_whole (answers_of mode setup) number) limit input new output written fault
+Runs-showing mode setup colour clock number left limit shower input new output written fault shows is runs =
+    subst (λ m. Runs (outcome (answers_of m setup) number left) (output_of_whole (answers_of m setup) number) limit input new output written fault) (sym shows)
+    (subst (λ (s : Showing). Runs (outcome (shown_answers s) number left) (output_of_whole (shown_answers s) number) limit input new output written fault) is runs)

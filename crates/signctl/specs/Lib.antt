@@ -1,8 +1,9 @@
+pub mod FileSetup
+pub mod Frame
 pub mod Lines
-pub mod FileSign
-pub mod Streams
 pub mod Output
 pub mod Reply
-pub mod Frame
-pub mod Tool
 pub mod Runs
+pub mod SampleSetup
+pub mod Streams
+pub mod Tool

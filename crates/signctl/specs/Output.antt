@@ -1,10 +1,10 @@
 -- What is written for an input, and how it ends.
 use Rattle.std.specs.Prelude.{ℕ, ◌+◌, Bool, true, false, List, [], ◌∷◌, ◌++◌, length, take, map, nat_lt, if◌then◌else◌, Option, None, Some, Result, Ok, Err}
-use Rattle.sign_font.specs.Sign.{SignData}
 use Rattle.signctl.specs.declared.fault.ToolFault.{ToolFault}
 use Rattle.signctl.specs.declared.fault.ToolFault.TheVariants.{LineTooLong, BadLine, InputTooLong, BadSign}
 use Rattle.signctl.specs.Lines.{cut, octets_of, parted, text_of}
-use Rattle.signctl.specs.FileSign.{sign_of_octets}
+use Rattle.signctl.specs.FileSetup.{setup_of_octets}
+use Rattle.signctl.specs.declared.setup.Setup.{Setup}
 
 -- An input has an output, and ends well or with a fault (own).
 pub record Outcome : Type 0 where
@@ -69,19 +69,19 @@ abbrev pub unless_long : Option ℕ → Outcome → Outcome
 unless_long (Some number) others = ended (Some (LineTooLong number))
 unless_long None others = others
 
--- The lines behind a sign file, of which the first has this number, are answered for its sign, if it has one (own).
-abbrev pub answered_on : (SignData → List (List ℕ) → List (Option (List ℕ))) → Result SignData ToolFault → ℕ → List (List ℕ) → (ℕ → Option ToolFault) → Outcome
+-- The lines behind a sign file, of which the first has this number, are answered by what it sets up, if it does (own).
+abbrev pub answered_on : (Setup → List (List ℕ) → List (Option (List ℕ))) → Result Setup ToolFault → ℕ → List (List ℕ) → (ℕ → Option ToolFault) → Outcome
 answered_on answers (Err fault) number lines at_end = ended (Some fault)
-answered_on answers (Ok sign) number lines at_end = answered number lines (answers sign (map text_of lines)) at_end
+answered_on answers (Ok setup) number lines at_end = answered number lines (answers setup (map text_of lines)) at_end
 
 -- Without a mark an input has the fault `unmarked`; else its sign file's lines and the mark are counted, and the sign
 -- comes before the lines behind it (own).
-abbrev pub behind_file : (SignData → List (List ℕ) → List (Option (List ℕ))) → List (List ℕ) → Option (List (List ℕ)) → ToolFault → (ℕ → Option ToolFault) → Outcome
+abbrev pub behind_file : (Setup → List (List ℕ) → List (Option (List ℕ))) → List (List ℕ) → Option (List (List ℕ)) → ToolFault → (ℕ → Option ToolFault) → Outcome
 behind_file answers file None unmarked at_end = ended (Some unmarked)
-behind_file answers file (Some lines) unmarked at_end = answered_on answers (sign_of_octets (octets_of file)) (length file + 2) lines at_end
+behind_file answers file (Some lines) unmarked at_end = answered_on answers (setup_of_octets (octets_of file)) (length file + 2) lines at_end
 
 -- The outcome of these lines, which begin with a sign file, and of what comes behind the last (own).
-unfoldable pub filed : (SignData → List (List ℕ) → List (Option (List ℕ))) → List (List ℕ) → ToolFault → (ℕ → Option ToolFault) → Outcome
+unfoldable pub filed : (Setup → List (List ℕ) → List (Option (List ℕ))) → List (List ℕ) → ToolFault → (ℕ → Option ToolFault) → Outcome
 filed answers lines unmarked at_end =
     let parts = parted lines in
     unless_long (first_long 1 parts.file) (behind_file answers parts.file parts.behind unmarked at_end)
@@ -92,12 +92,12 @@ fault_unmarked true = InputTooLong
 fault_unmarked false = BadSign
 
 -- The outcome of an input that begins with a sign file, of which at most `limit` octets are taken as lines (own).
-unfoldable pub outcome_of_file : (SignData → List (List ℕ) → List (Option (List ℕ))) → ℕ → List ℕ → Outcome
+unfoldable pub outcome_of_file : (Setup → List (List ℕ) → List (Option (List ℕ))) → ℕ → List ℕ → Outcome
 outcome_of_file answers limit input =
     let parts = cut (take limit input) in
     let is_longer = nat_lt limit (length input) in
     filed answers parts.whole (fault_unmarked is_longer) (fault_at_end is_longer parts.rest)
 
 -- The output of the whole lines of what was read, which begin with a sign file, whatever comes behind them (own).
-unfoldable pub output_of_whole_file : (SignData → List (List ℕ) → List (Option (List ℕ))) → List ℕ → List ℕ
+unfoldable pub output_of_whole_file : (Setup → List (List ℕ) → List (Option (List ℕ))) → List ℕ → List ℕ
 output_of_whole_file answers octets = (filed answers (cut octets).whole BadSign (λ next. None)).output

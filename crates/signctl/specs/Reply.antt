@@ -20,7 +20,8 @@ verdict_text accepted (Refused code at) = refused_text code at
 abbrev pub answer_to : (ℕ → List ℕ) → SignData → List ℕ → List ℕ
 answer_to accepted sign line = if nat_lt 4096 (length line) then too_long_text else verdict_text accepted (verdict sign line)
 
--- The sign accepts the string of a line, which is then known as these octets, judged by this sign (own).
+-- The sign accepts the string of a line; `judge` and `octets` are the sign and the string that a judged string keeps
+-- (own).
 pub record IsAccepted (sign : SignData) (line : List ℕ) (judge : SignData) (octets : List ℕ) : Type 0 where
   pub short : length line ≤ 4096
   pub same_sign : judge ≡ sign

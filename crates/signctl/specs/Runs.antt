@@ -2,18 +2,18 @@
 use Rattle.std.specs.Prelude.{◌≡◌, ℕ, ◌+◌, ◌≤◌, Bool, false, List, [], ◌∷◌, ◌++◌, length, Option, None, Some, IfSome, Result, Ok, Err}
 use Rattle.std.specs.Io.KnownBytes.{Consumes, Appends}
 use Rattle.std.specs.declared.alloc.AllocError.{AllocError}
-use Rattle.sign_font.specs.Sign.{SignData}
 use Rattle.signctl.specs.declared.answer.LineAnswer.{LineAnswer}
 use Rattle.signctl.specs.declared.answer.LineAnswer.TheVariants.{Text, BadLine}
 use Rattle.signctl.specs.declared.fault.ToolFault.{ToolFault}
 use Rattle.signctl.specs.declared.fault.ToolFault.TheVariants.{Read, Write, Memory}
 use Rattle.signctl.specs.declared.lines.LineStart.{LineStart}
 use Rattle.signctl.specs.declared.start.FilePart.{FilePart}
+use Rattle.signctl.specs.declared.setup.Setup.{Setup}
 use Rattle.signctl.specs.declared.start.Start.{Start}
 use Rattle.signctl.specs.declared.tool.Mode.{Mode}
 use Rattle.signctl.specs.Lines.{input_limit}
 use Rattle.signctl.specs.Output.{Outcome, ended, outcome, output_of_whole}
-use Rattle.signctl.specs.FileSign.{sign_of_octets}
+use Rattle.signctl.specs.FileSetup.{setup_of_octets}
 use Rattle.signctl.specs.Tool.{answers_of, outcome_of, output_so_far}
 
 -- The line's answer is appended, or the line is bad, or there is no memory; `behind` has the answers to all the
@@ -58,20 +58,20 @@ abbrev pub IsLineStartAfter : List ℕ → LineStart → Type 0
 IsLineStartAfter taken place = (length taken + place.left ≡ input_limit) × (place.number + place.left ≤ input_limit + 1)
 
 -- The outcome of the lines behind a sign, if there is one (own).
-abbrev pub outcome_on : Mode → Result SignData ToolFault → LineStart → List ℕ → Outcome
+abbrev pub outcome_on : Mode → Result Setup ToolFault → LineStart → List ℕ → Outcome
 outcome_on mode (Err fault) place rest = ended (Some fault)
-outcome_on mode (Ok sign) place rest = outcome (answers_of mode sign) place.number place.left rest
+outcome_on mode (Ok setup) place rest = outcome (answers_of mode setup) place.number place.left rest
 
 -- The output of the whole lines behind a sign, if there is one (own).
-abbrev pub output_on : Mode → Result SignData ToolFault → LineStart → List ℕ → List ℕ
+abbrev pub output_on : Mode → Result Setup ToolFault → LineStart → List ℕ → List ℕ
 output_on mode (Err fault) place rest = []
-output_on mode (Ok sign) place rest = output_of_whole (answers_of mode sign) place.number rest
+output_on mode (Ok setup) place rest = output_of_whole (answers_of mode setup) place.number rest
 
 -- These octets lead to a place with this sign, or to the fault for which there is none, and write nothing (own).
-pub record Leads (sample : Bool) (taken : List ℕ) (sign : Result SignData ToolFault) (place : LineStart) : Type 0 where
+pub record Leads (sample : Bool) (taken : List ℕ) (setup : Result Setup ToolFault) (place : LineStart) : Type 0 where
   pub place_is : IsLineStartAfter taken place
-  pub whole : (mode : Mode) (rest : List ℕ) → outcome_of mode sample (taken ++ rest) ≡ outcome_on mode sign place rest
-  pub so_far : (mode : Mode) (rest : List ℕ) → output_so_far mode sample (taken ++ rest) ≡ output_on mode sign place rest
+  pub whole : (mode : Mode) (rest : List ℕ) → outcome_of mode sample (taken ++ rest) ≡ outcome_on mode setup place rest
+  pub so_far : (mode : Mode) (rest : List ℕ) → output_so_far mode sample (taken ++ rest) ≡ output_on mode setup place rest
 
 -- Before the sign is there, a run ends with a fault, and has written nothing (own).
 pub record Fails (sample : Bool) (input input' : Option (List ℕ)) (e : ToolFault) : Type 0 where
@@ -82,10 +82,10 @@ pub record Fails (sample : Bool) (input input' : Option (List ℕ)) (e : ToolFau
 
 -- The octets of a sign file and the mark are taken (own).
 abbrev pub TakesFile : Option (List ℕ) → Option (List ℕ) → Result FilePart ToolFault → Type 0
-TakesFile input input' (Ok part) = (taken : List ℕ) × Consumes input input' taken × Leads false taken (sign_of_octets part.octets.items) part.place
+TakesFile input input' (Ok part) = (taken : List ℕ) × Consumes input input' taken × Leads false taken (setup_of_octets part.octets.items) part.place
 TakesFile input input' (Err e) = Fails false input input' e
 
 -- What stands before the lines is taken, and there is a sign (own).
 abbrev pub Starts : Bool → Option (List ℕ) → Option (List ℕ) → Result Start ToolFault → Type 0
-Starts sample input input' (Ok start) = (taken : List ℕ) × Consumes input input' taken × Leads sample taken (Ok start.sign) start.place
+Starts sample input input' (Ok start) = (taken : List ℕ) × Consumes input input' taken × Leads sample taken (Ok start.setup) start.place
 Starts sample input input' (Err e) = Fails sample input input' e

@@ -1,7 +1,5 @@
 -- What the tool does for an input.
 use Rattle.std.specs.Prelude.{ℕ, Bool, true, false, List, Option, Some, map}
-use Rattle.sign_font.specs.Sample.{sample}
-use Rattle.sign_font.specs.Sign.{SignData}
 use Rattle.signctl.specs.declared.fault.ToolFault.{ToolFault}
 use Rattle.signctl.specs.declared.fault.ToolFault.TheVariants.{Read, Write, Memory}
 use Rattle.signctl.specs.declared.tool.Mode.{Mode}
@@ -10,20 +8,22 @@ use Rattle.signctl.specs.Frame.{show_answer}
 use Rattle.signctl.specs.Lines.{input_limit}
 use Rattle.signctl.specs.Output.{Outcome, outcome, outcome_of_file, output_of_whole, output_of_whole_file}
 use Rattle.signctl.specs.Reply.{check_answer}
+use Rattle.signctl.specs.SampleSetup.{sample_setup}
+use Rattle.signctl.specs.declared.setup.Setup.{Setup}
 
--- The answers to these lines for a sign, None at a bad line (own).
-abbrev pub answers_of : Mode → SignData → List (List ℕ) → List (Option (List ℕ))
-answers_of Check sign lines = map (λ line. Some (check_answer sign line)) lines
-answers_of (Show colour clock) sign lines = map (λ line. Some (show_answer sign colour clock line)) lines
+-- The answers to these lines by what a run stands on, None at a bad line (own).
+abbrev pub answers_of : Mode → Setup → List (List ℕ) → List (Option (List ℕ))
+answers_of Check setup lines = map (λ line. Some (check_answer setup.sign line)) lines
+answers_of (Show colour clock) setup lines = map (λ line. Some (show_answer setup.sign colour clock line)) lines
 
 -- The outcome of an input: with the sample sign it is lines alone, and else a sign file, the mark and lines (own).
 abbrev pub outcome_of : Mode → Bool → List ℕ → Outcome
-outcome_of mode true input = outcome (answers_of mode sample) 1 input_limit input
+outcome_of mode true input = outcome (answers_of mode sample_setup) 1 input_limit input
 outcome_of mode false input = outcome_of_file (answers_of mode) input_limit input
 
 -- The output of the whole lines of what was read, whatever comes behind them (own).
 abbrev pub output_so_far : Mode → Bool → List ℕ → List ℕ
-output_so_far mode true octets = output_of_whole (answers_of mode sample) 1 octets
+output_so_far mode true octets = output_of_whole (answers_of mode sample_setup) 1 octets
 output_so_far mode false octets = output_of_whole_file (answers_of mode) octets
 
 -- The end of a run comes from its input, and not from a reader, a writer or memory that failed (own).

@@ -1,11 +1,11 @@
-//! Who answers lines.
+//! What answers lines.
 ghost use Rattle.std.specs.Prelude.{List, ℕ, Option};
 ghost use Rattle.signctl.specs.Runs.{AnswersLine};
 
 use std::alloc::AllocError;
 
 /// What a line is answered by (own).
-#[derive(Clone, Copy, PartialEq, Eq)]
+#[derive(Clone, Copy)]
 pub(crate) enum LineAnswer {
     /// The text that was appended. It is empty where a line gets no reply.
     Text,

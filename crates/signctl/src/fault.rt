@@ -1,8 +1,9 @@
 //! Why a run ends before the end of its input.
 
 ghost use Rattle.std.specs.Prelude.{◌≡◌};
-ghost use Rattle.signctl.specs.FileSign.{refusal, unread};
+ghost use Rattle.signctl.specs.FileSetup.{refusal, unmade, unread};
 
+use message_store::StoreMade;
 use sign_file::FileFault;
 use sign_font::SignFault;
 use std::alloc::AllocError;
@@ -26,11 +27,12 @@ pub enum ToolFault {
     /// The input has more than 16,777,216 octets.
     #[error("input too long")]
     InputTooLong,
-    /// The input doesn't begin with a sign file and the line `%%`: no line is `%%`, or what stands before it is no
-    /// TOML document, or a key is missing, or of another kind, or its number is outside its type.
+    /// The input doesn't begin with a sign file and the line `%%`: no line is `%%`, or what stands before it isn't TOML,
+    /// or a key is missing, is of another kind, or has a number outside its type.
     #[error("sign not read")]
     BadSign,
-    /// The sign of the sign file is outside a limit, whose number is 1 to 5, as by `SignFault::code`.
+    /// The sign of the sign file is outside a limit, whose number is 1 to 5, as by `SignFault::code`, or its message store
+    /// is, which is 5 too.
     #[error("sign fault {number}")]
     SignRefused { number: u8 },
     /// There was no memory for the sign or its file, the plane, a line or its answer.
@@ -69,6 +71,17 @@ impl From<SignFault> for ToolFault {
             fault => ToolFault::SignRefused {
                 number: fault.code(),
             },
+        }
+    }
+}
+
+impl From<StoreMade> for ToolFault {
+    ghost from_gives = { λ fault e. e ≡ unmade fault };
+
+    fn from(fault: StoreMade) -> ToolFault {
+        match fault {
+            StoreMade::BadLimit => ToolFault::from(SignFault::BadLimit),
+            StoreMade::Memory => ToolFault::from(AllocError),
         }
     }
 }

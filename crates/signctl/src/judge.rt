@@ -8,7 +8,7 @@ use multi_token::Source;
 use sign_font::Sign;
 use std::alloc::AllocError;
 
-/// The most octets of a string that is judged (own).
+/// The most octets that a string may have to be judged (own).
 const MAX_STRING: usize = 4_096;
 
 /// The string of a line if the sign accepts it. If not, the answer to the line is appended: that the string is too

@@ -13,10 +13,10 @@ const MAX_INPUT: u32 = 16_777_216;
 /// The most octets of a line before its end (own).
 const MAX_LINE: usize = 8_300;
 
-/// The most octets that are kept of a line: those of the longest, and a carriage return.
+/// The most octets that are kept of a line: those of the longest line and a carriage return.
 const MAX_KEPT: usize = MAX_LINE + 1;
 
-/// Where in an input a run is, at the start of a line (own).
+/// Where a line begins in an input (own).
 #[derive(Clone, Copy)]
 pub(crate) struct LineStart {
     /// The number of the line, counted from 1.
@@ -38,7 +38,7 @@ pub(crate) enum NextLine {
     Line,
     /// A line with too many octets.
     TooLong,
-    /// Octets behind which the input ends without a line feed.
+    /// Octets after which the input ends, without a line feed.
     Unfinished,
     /// The end.
     End,
@@ -75,9 +75,9 @@ pub(crate) fn is_mark(line: &[u8]) -> bool
     text_of(line) == b"%%".as_slice()
 }
 
-/// Reads up to the end of a line, whose octets are then in `line`, with the carriage return.
+/// Reads up to the end of a line. Its octets are then in `line`, with the carriage return if it has one.
 ///
-/// At most `left` octets are taken as lines, and one more is read where as many are there. At `NextLine::Line`
+/// At most `left` octets are taken as lines. If all of them are present, one more is read to see whether the input goes on. At `NextLine::Line`
 /// `left` falls by the octets of the line and its line feed. The errors are `Read` and `Memory`.
 pub(crate) fn next_line<R: Read>(
     reader: &mut R,

@@ -24,7 +24,7 @@
 //! | Fault | When |
 //! |---|---|
 //! | `sign not read` | no line is `%%`, or what stands before the first one is no sign file: it isn't TOML, or a key is missing, is of another kind, or has a number outside its type |
-//! | `sign fault N` | the sign is outside the limit N, from 1 to 5 (`sign_font::SignFault`) |
+//! | `sign fault N` | the sign is outside the limit N, from 1 to 5 (`sign_font::SignFault`), or its message table is outside its limits, which is 5 |
 //! | `line N: too long` | the line has too many octets |
 //! | `line N: bad line` | the input ends within the line |
 //! | `input too long` | the input has too many octets |
@@ -44,7 +44,7 @@ mod main_with;
 mod octets;
 mod output;
 mod reply;
-mod sample;
+mod setup;
 mod show;
 mod start;
 #[cfg(test)]

@@ -4,7 +4,7 @@ ghost use Rattle.signctl.specs.Streams.{WritesWhole};
 use crate::fault::ToolFault;
 use std::io::Write;
 
-/// Writes all of the octets. After an `Err`, which is `Write`, the writer took some of them, from the front.
+/// Writes all octets. After an `Err`, which is `Write`, the writer has taken a beginning of them.
 pub(crate) fn write_whole<W: Write>(writer: &mut W, octets: &[u8]) -> Result<(), ToolFault>
     ensures written { WritesWhole (W.contents writer.old) (W.contents writer.new) octets.now result }
 {

@@ -2,22 +2,23 @@
 
 ghost use Rattle.std.specs.Prelude.{◌≡◌, ◌++◌, ◌⊎◌, ◌∷◌, [], OnOk, IfOk, IfErr, Ok, Err};
 ghost use Rattle.signctl.specs.Runs.{Starts, TakesFile};
-ghost use Rattle.signctl.specs.FileSign.{sign_of_octets};
+ghost use Rattle.signctl.specs.FileSetup.{setup_of_octets};
 
 use crate::fault::ToolFault;
 use crate::lines::{FIRST_LINE, LineStart, NextLine, is_mark, next_line};
 use crate::octets::{push_octet, push_octets};
-use crate::sample::sample_sign;
-use sign_file::read_sign_file;
+use crate::setup::{Setup, make_sample};
+use message_store::Store;
+use sign_file::{SignFile, read_sign_file};
 use sign_font::Sign;
 use std::alloc::{AllocError, Global};
 use std::io::Read;
 
-/// A run that has its sign (own).
+/// A run that has its sign and its message store (own).
 #[derive(Drop)]
 pub(crate) struct Start {
-    pub(crate) sign: Sign,
-    /// Where the lines begin that are answered.
+    pub(crate) setup: Setup,
+    /// Where the first line begins that is answered.
     pub(crate) place: LineStart,
 }
 
@@ -26,7 +27,7 @@ pub(crate) struct Start {
 struct FilePart {
     /// The octets before the mark.
     octets: Vec<u8>,
-    /// Behind the mark.
+    /// Where the line after the mark begins.
     place: LineStart,
 }
 
@@ -38,7 +39,7 @@ fn push_line(file: &mut Vec<u8>, line: &[u8]) -> Result<(), AllocError>
     push_octet(file, b'\n')
 }
 
-/// Reads the sign file and the mark behind it, from the start of an input.
+/// Reads the sign file and the mark after it, from the start of an input.
 fn read_file<R: Read>(alloc: Global, reader: &mut R) -> Result<FilePart, ToolFault>
     ensures taken { TakesFile (R.remaining reader.old) (R.remaining reader.new) result }
 {
@@ -62,17 +63,24 @@ fn read_file<R: Read>(alloc: Global, reader: &mut R) -> Result<FilePart, ToolFau
     }
 }
 
-/// The sign of a sign file's octets. The errors are `BadSign`, `SignRefused` and `Memory`.
-#[tactic(auto, unfolding(crate::specs::FileSign::sign_of_octets))]
-fn sign_of_octets(alloc: Global, octets: &[u8]) -> Result<Sign, ToolFault>
-    ensures ok { IfOk result (λ sign. sign_of_octets octets.now ≡ Ok sign) }
-    ensures err { IfErr result (λ e. (e ≡ ToolFault.Memory) ⊎ (sign_of_octets octets.now ≡ Err e)) }
+/// What a sign file's octets set up: the sign first, and then its store. The errors are `BadSign`, `SignRefused` and
+/// `Memory`.
+fn setup_of_octets(alloc: Global, octets: &[u8]) -> Result<Setup, ToolFault>
+    ensures ok { IfOk result (λ setup. setup_of_octets octets.now ≡ Ok setup) }
+    ensures err { IfErr result (λ e. (e ≡ ToolFault.Memory) ⊎ (setup_of_octets octets.now ≡ Err e)) }
 {
     let file = read_sign_file(alloc, octets)?;
-    Ok(Sign::new(alloc, file.sign)?)
+    let SignFile {
+        sign,
+        limits,
+        permanents,
+    } = file;
+    let sign = Sign::new(alloc, sign)?;
+    let store = Store::new(alloc, limits, permanents)?;
+    Ok(Setup { sign, store })
 }
 
-/// Reads what stands before the lines that are answered: with `sample` nothing, and else a sign file and the mark.
+/// Reads what stands before the lines that are answered: nothing with `sample`, and otherwise a sign file and the mark.
 /// The errors are `LineTooLong`, `InputTooLong`, `BadSign`, `SignRefused`, `Read` and `Memory`.
 pub(crate) fn begin<R: Read>(
     alloc: Global,
@@ -82,16 +90,16 @@ pub(crate) fn begin<R: Read>(
     ensures starts { Starts sample (R.remaining reader.old) (R.remaining reader.new) result }
 {
     if sample {
-        let sign = sample_sign(alloc)?;
+        let setup = make_sample(alloc)?;
         return Ok(Start {
-            sign,
+            setup,
             place: FIRST_LINE,
         });
     }
     let part = read_file(alloc, reader)?;
-    let sign = sign_of_octets(alloc, &part.octets)?;
+    let setup = setup_of_octets(alloc, &part.octets)?;
     Ok(Start {
-        sign,
+        setup,
         place: part.place,
     })
 }

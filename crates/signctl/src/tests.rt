@@ -1,6 +1,6 @@
 mod lending;
 mod show;
-mod sign_file;
+mod sign_files;
 
 use crate::fault::ToolFault;
 use crate::main_with::main_with;

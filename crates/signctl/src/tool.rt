@@ -11,6 +11,7 @@ use crate::check::Checker;
 use crate::fault::ToolFault;
 use crate::lines::{LineStart, NextLine, next_line, text_of};
 use crate::output::write_whole;
+use crate::setup::Setup;
 use crate::show::Shower;
 use crate::start::{Start, begin};
 use std::alloc::Global;
@@ -31,7 +32,7 @@ pub enum Mode {
     },
 }
 
-/// Answers each line from this place until a fault or the end. A line and its answer reuse memory.
+/// Answers the lines from this one on, up to a fault or the end. All lines and their answers share two buffers.
 fn answer_lines<A: Answer, R: Read, W: Write>(
     alloc: Global,
     answer: &mut A,
@@ -65,7 +66,7 @@ fn answer_lines<A: Answer, R: Read, W: Write>(
     }
 }
 
-/// Answers the lines behind a sign.
+/// Answers the lines by what was set up for them.
 fn run_on<R: Read, W: Write>(
     alloc: Global,
     mode: Mode,
@@ -74,22 +75,27 @@ fn run_on<R: Read, W: Write>(
     writer: &mut W,
 ) -> Result<(), ToolFault>
     requires { start.place.number + start.place.left ≤ input_limit + 1 }
-    ensures { Runs (outcome (answers_of mode start.sign) start.place.number start.place.left) (output_of_whole (answers_of mode start.sign) start.place.number) start.place.left
+    ensures { Runs (outcome (answers_of mode start.setup) start.place.number start.place.left) (output_of_whole (answers_of mode start.setup) start.place.number) start.place.left
         (R.remaining reader.old) (R.remaining reader.new) (W.contents writer.old) (W.contents writer.new) (fault_of result) }
 {
+    let Start { setup, place } = start;
+    let Setup {
+        sign,
+        store: _store,
+    } = setup;
     match mode {
         Mode::Check => {
-            let mut answer = Checker { sign: start.sign };
-            answer_lines(alloc, &mut answer, start.place, reader, writer)
+            let mut answer = Checker { sign };
+            answer_lines(alloc, &mut answer, place, reader, writer)
         }
         Mode::Show { colour, clock } => {
-            let mut answer = Shower::new(alloc, start.sign, colour, clock)?;
-            answer_lines(alloc, &mut answer, start.place, reader, writer)
+            let mut answer = Shower::new(alloc, sign, colour, clock)?;
+            answer_lines(alloc, &mut answer, place, reader, writer)
         }
     }
 }
 
-/// A run, from the start of its input.
+/// Runs the tool from the start of its input.
 fn run<R: Read, W: Write>(
     alloc: Global,
     mode: Mode,
@@ -104,15 +110,14 @@ fn run<R: Read, W: Write>(
     run_on(alloc, mode, start, reader, writer)
 }
 
-/// Reads an input to its end or to the first fault, and writes the answer to each line when its end was read
-/// (own).
+/// Reads an input up to its end or its first fault, and writes the answer to each line as soon as the line has ended (own).
 ///
-/// With `sample` the input is lines for the sample sign. Else it is a sign file, a line `%%`, and lines for the sign
-/// of that file; the lines of all of it are counted.
+/// With `sample` the input has only lines, for the sample sign. Otherwise it begins with a sign file and a line `%%`, and
+/// the lines after it are for the sign of that file. All lines are counted, those of the sign file too.
 ///
-/// At most 16,777,216 octets are taken as lines, and one more is read where as many are there. The faults are those of
-/// the input (`LineTooLong`, `BadLine`, `InputTooLong`), those of its sign (`BadSign`, `SignRefused`), before which
-/// nothing is written, and those from outside (`Read`, `Write`, `Memory`).
+/// At most 16,777,216 octets are taken as lines. If all of them are present, one more octet is read to see whether the
+/// input goes on. The faults are those of the input (`LineTooLong`, `BadLine`, `InputTooLong`), those of its sign file
+/// (`BadSign`, `SignRefused`), before which nothing is written, and those from outside (`Read`, `Write`, `Memory`).
 pub fn run_tool<R: Read, W: Write>(
     alloc: Global,
     mode: Mode,
@@ -120,7 +125,7 @@ pub fn run_tool<R: Read, W: Write>(
     reader: &mut R,
     writer: &mut W,
 ) -> Result<(), ToolFault>
-    // Where nothing outside fails, what is written is the whole output of the input, and the result is its fault.
+    // If nothing outside fails, what is written is the whole output of the input, and the result is its fault.
     ensures whole { IsOfInput (fault_of result) → IfSome (R.remaining reader.old) (λ input.
         Appends (W.contents writer.old) (W.contents writer.new) (outcome_of mode sample input).output
         × (fault_of result ≡ (outcome_of mode sample input).fault)) }
@@ -130,13 +135,13 @@ pub fn run_tool<R: Read, W: Write>(
         × Consumes (R.remaining reader.old) (R.remaining reader.new) taken
         × Appends (W.contents writer.old) (W.contents writer.new) (output_so_far mode sample taken) }
 
-    // After a failed write or want of memory it is a front of the output.
+    // After a failed write, or if memory was refused, what was written is a beginning of the output.
     ensures front { (fault_of result ≡ Some ToolFault.Write) ⊎ (fault_of result ≡ Some ToolFault.Memory) →
         IfSome (R.remaining reader.old) (λ input. (sent : List ℕ)
         × Appends (W.contents writer.old) (W.contents writer.new) sent
         × IsFront sent (outcome_of mode sample input).output) }
 
-    // No more is read than shows that an input is too long.
+    // No more is read than what shows that an input is too long.
     ensures most { (taken : List ℕ) × Consumes (R.remaining reader.old) (R.remaining reader.new) taken
         × (length taken ≤ input_limit + 1) }
 {

@@ -1,6 +1,6 @@
 //! `signctl show` on the sample sign: its words, its ends, and one plane for all lines.
 
-use super::{NarrowWriter, main_output, run_behind, sign_file};
+use super::{NarrowWriter, main_output, run_behind, sign_files};
 use crate::fault::ToolFault;
 use crate::tool::{Mode, run_tool};
 use std::test::Fail;
@@ -104,7 +104,7 @@ fn one_plane_serves_all_lines(rt: HostRuntime) -> Result<(), Fail> {
     for text in texts {
         want.extend_from_slice(text.as_bytes())?;
     }
-    let (output, result) = run_behind(alloc, mode, sign_file::SAMPLE, lines)?;
+    let (output, result) = run_behind(alloc, mode, sign_files::SAMPLE, lines)?;
     assert!(rt; output.as_slice() == want.as_slice(), "what is written");
     assert!(rt; result == Ok(()), "the end");
     Ok(())
@@ -181,7 +181,7 @@ fn a_command_line_says_the_colour_and_the_clock(rt: HostRuntime) -> Result<(), F
 #[test]
 fn a_command_line_reads_a_sign_file(rt: HostRuntime) -> Result<(), Fail> {
     let alloc = rt.alloc();
-    let mut input = sign_file::SAMPLE.as_bytes().to_vec(alloc)?;
+    let mut input = sign_files::SAMPLE.as_bytes().to_vec(alloc)?;
     input.extend_from_slice(b"%%\nA\n")?;
     let words = ["signctl", "show", "--colour", "0"];
     let (status, output, said) = main_output(alloc, &words, &input);

@@ -1,4 +1,4 @@
-use Rattle.std.proofs.Common.{◌≡◌, ◌++◌, arith, sym, ap, ◌∙◌, subst}
+use Rattle.std.proofs.Common.{◌++◌, arith, sym, ap, ◌∙◌, subst}
 use Rattle.multi_token.specs.Counted.{Counted}
 use Rattle.multi_layout.specs.Verdict.{Refused, IsVerdict}
 use Rattle.signctl.proofs.ReplyLemmas

@@ -10,4 +10,4 @@ returns-in_err-start g c =
 pub returns : goal.returns
 returns g c =
     let (taken, took, leads) = c.in_ok-start.ensures.starts in
-    StartLemmas.Runs-behind c.args.mode c.args.sample _ _ _ _ _ taken c.in_ok-start.start.sign c.in_ok-start.start.place took leads _ c.run_on.ensures
+    StartLemmas.Runs-behind c.args.mode c.args.sample _ _ _ _ _ taken c.in_ok-start.start.setup c.in_ok-start.start.place took leads _ c.run_on.ensures

@@ -1,0 +1,32 @@
+//! The message table of a sign: changeable messages within their number and their octets, and permanent ones.
+//!
+//! A [`Store`] is made once with its [`StoreLimits`] and its [`Permanent`] messages, and reserves then all memory
+//! that it ever takes: texts and owners stand one after the other in one pool of octets, and the gap of a text that
+//! is replaced is closed before the call returns. Each call changes one slot as it says and keeps every other, or is
+//! refused by the first [`StoreFault`] and changes nothing.
+//!
+//! A message is written in modifying, waits in validating, and [`Store::work`] judges the one with the lowest number.
+#![tactic(auto)]
+
+mod crc;
+mod fault;
+mod limits;
+mod message;
+mod parts;
+mod row;
+mod slot;
+mod store;
+mod texts;
+mod work;
+mod write;
+
+pub use crc::message_crc;
+pub use fault::{StoreFault, StoreMade};
+pub use limits::StoreLimits;
+pub use message::{MsgRef, Permanent};
+pub use row::Row;
+pub use store::Store;
+pub use work::Judged;
+
+#[cfg(test)]
+mod tests;
