@@ -170,6 +170,28 @@ fn the_pages_of_a_string_are_drawn_in_turn(rt: HostRuntime) -> Result<(), Fail> 
 }
 
 #[test]
+fn judging_locating_and_drawing_take_few_steps_together(rt: HostRuntime) -> Result<(), Fail> {
+    let sign = sign(rt.alloc())?;
+    let plane = Plane::new(rt.alloc(), sign.width(), sign.height())?;
+    let Ok(mut checked) = check(&sign, Source::new(b"A[np]A")) else {
+        panic!(rt; "the string is accepted");
+    };
+    checked.locate(30);
+    let found = checked.steps();
+    let mut pages = checked.each_page(0, 1, plane);
+    for page in 0..2 {
+        let Some(view) = pages.next_page() else {
+            panic!(rt; "page {page} is missing");
+        };
+        assert_eq!(rt; view.page, page);
+    }
+    assert!(rt; pages.next_page().is_none(), "there are two pages");
+    let together = found.saturating_add(pages.steps());
+    assert!(rt; together <= 110, "{together} steps together");
+    Ok(())
+}
+
+#[test]
 fn the_plane_stays_as_the_last_page_left_it(rt: HostRuntime) -> Result<(), Fail> {
     let sign = sign(rt.alloc())?;
     let plane = Plane::new(rt.alloc(), sign.width(), sign.height())?;

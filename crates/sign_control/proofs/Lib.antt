@@ -1,0 +1,5 @@
+pub mod BudgetLemmas
+pub mod CountLemmas
+pub mod FrameLemmas
+mod StepExamples
+pub mod StepLemmas

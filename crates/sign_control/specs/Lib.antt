@@ -1,0 +1,9 @@
+pub mod Code
+pub mod Activation
+pub mod State
+pub mod Time
+pub mod Step
+pub mod Counts
+pub mod Run
+pub mod Report
+pub mod Lending

@@ -1,0 +1,65 @@
+//! The drawing of what the display shows.
+
+ghost use Rattle.std.specs.Prelude.{◌≡◌, ◌+◌, ◌-◌, ◌≤◌, None, length};
+ghost use Rattle.multi_layout.specs.Drawn.{Lights};
+ghost use Rattle.multi_layout.specs.Limits.{frame_limit, plane_limit, reading_limit};
+ghost use Rattle.multi_layout.specs.Meaning.{meanings};
+ghost use Rattle.multi_layout.specs.Pages.{IsSized, page_count};
+ghost use Rattle.multi_layout.specs.Picture.{pixel_at};
+ghost use Rattle.multi_layout.specs.Times.{shown};
+ghost use Rattle.multi_token.specs.Counted.{RisesBetween};
+ghost use Rattle.sign_font.specs.Defaults.{default_fault, under};
+ghost use Rattle.sign_font.specs.Sound.{IsSound};
+ghost use Rattle.sign_control.specs.State.{IsAccepted, IsThere};
+
+use multi_layout::{Checked, Shown, check_with};
+use multi_token::Source;
+use page_plane::Plane;
+use sign_font::{Defaults, Sign};
+
+/// Draws what an accepted text shows at a clock, and counts the steps of this.
+pub(crate) fn draw_shown(
+    sign: &Sign,
+    defaults: Defaults,
+    text: &[u8],
+    clock: u64,
+    colour: u8,
+    plane: &mut Plane,
+) -> (Shown, u64)
+    requires sound { IsSound sign.now }
+    requires taken { default_fault sign.now defaults ≡ None }
+    requires accepted { IsAccepted (under sign.now defaults) text.now }
+    requires short { length text.now ≤ 4096 }
+    requires size { IsSized plane.old sign.now }
+    ensures shown { result.0 ≡ shown (under sign.now defaults) text.now clock }
+    ensures drawn { Lights plane.new (pixel_at (under sign.now defaults) (meanings text.now) result.0 colour) }
+    ensures size { (plane.new.width ≡ plane.old.width) × (plane.new.height ≡ plane.old.height) }
+    ensures least { length text.now + 1 + (plane.new.steps - plane.old.steps) ≤ result.1 }
+    ensures most { result.1 ≤ frame_limit sign.now (length text.now) }
+{
+    let Ok(mut checked) = check_with(sign, defaults, Source::new(text)) else {
+        unreachable!();
+    };
+    let before = plane.steps();
+    let shown = checked.locate(clock);
+    draw(&mut checked, shown, colour, plane);
+    (shown, checked.steps() + (plane.steps() - before))
+}
+
+/// Draws what is shown of a string: a page, or in an off time every pixel in colour 0.
+fn draw(checked: &mut Checked<'_>, shown: Shown, colour: u8, plane: &mut Plane)
+    requires size { IsSized plane.old checked.old.sign }
+    requires there { IsThere shown (page_count checked.old) }
+    ensures drawn { Lights plane.new (pixel_at checked.old.sign (meanings checked.old.source.octets) shown colour) }
+    ensures size { (plane.new.width ≡ plane.old.width) × (plane.new.height ≡ plane.old.height) }
+    ensures steps { RisesBetween checked.old.source checked.new.source 0 (reading_limit (length checked.old.source.octets)) }
+    ensures plane_steps { (plane.old.steps ≤ plane.new.steps)
+        × (plane.new.steps ≤ plane.old.steps + plane_limit checked.old.sign (length checked.old.source.octets)) }
+{
+    match shown {
+        Shown::Page { page, phase } => {
+            checked.draw(page, phase, colour, plane);
+        }
+        Shown::Off => plane.fill(colour == 0),
+    }
+}

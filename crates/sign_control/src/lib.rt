@@ -1,0 +1,28 @@
+//! What a sign shows: the activation of messages, their durations, and the frame of the display.
+//!
+//! A [`Controller`] is made once of a sign and its store, and takes then all memory that it ever takes. Each [`Command`]
+//! makes one step of its state and has one [`Reply`]. The display has its own copy of the message that was activated, so
+//! a message that is changed later is still shown as it was. [`Controller::frame`] draws one colour of it at its clock.
+//!
+//! Time is handed in, in tenths of a second: where nobody sends a `Tick`, the clock stands.
+#![tactic(auto)]
+
+mod activation;
+mod apply;
+mod code;
+mod command;
+mod controller;
+mod display;
+mod draw;
+mod frame;
+mod laws;
+mod report;
+
+pub use command::{Command, DefaultField, Reply};
+pub use controller::Controller;
+pub use frame::Frame;
+pub use laws::every_run_stays_within;
+pub use report::Report;
+
+#[cfg(test)]
+mod tests;
