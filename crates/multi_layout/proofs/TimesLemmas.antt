@@ -1,6 +1,7 @@
 -- The times of pages, and the page at a clock.
-use Rattle.std.proofs.Common.{◌≡◌, ℕ, zero, suc, ◌+◌, ◌-◌, ◌%◌, ◌<◌, ◌≤◌, Bool, true, false, ◌||◌, ◌==◌, cond, nat_le, length, take, get_or, List, [], ◌∷◌, ◌++◌, Option, Some, None, refl, ap, ◌∙◌, inl, inr, arith}
+use Rattle.std.proofs.Common.{◌≡◌, ℕ, zero, suc, ◌+◌, ◌-◌, ◌%◌, ◌<◌, ◌≤◌, Bool, true, false, ◌||◌, ◌==◌, cond, nat_le, length, take, get_or, List, [], ◌∷◌, ◌++◌, Option, Some, None, refl, sym, ap, ◌∙◌, inl, inr, arith}
 use Rattle.std.specs.List.{find, range_with_len, slice_get, count_by}
+use Rattle.std.specs.Option.{option_map_or}
 use Rattle.std.proofs.lemmas.Bool.{lt-ltb, le-ltb, le-leb, lt-leb, and_left, and_right, and_from, cases_Bool, cases_eq, cases_order, cond-true, cond-false}
 use Rattle.std.proofs.lemmas.List.{append_assoc, append-nil, length-append, take-take}
 use Rattle.std.proofs.lemmas.List.Sums.{sum_by-append, sum_by-cons, sum_by_push, sum_by_more, sum_by-take-le}
@@ -9,9 +10,10 @@ use Rattle.std.proofs.Math.Seq.{take-append_seam, get_or-append_seam}
 use Rattle.sign_font.specs.Sign.{SignData}
 use Rattle.multi_tag.specs.declared.tag.Tag.TheVariants.{NewPage}
 use Rattle.multi_layout.specs.Address.{standing}
-use Rattle.multi_layout.specs.Meaning.{Meaning, Does, is_new_page}
+use Rattle.multi_layout.specs.Meaning.{Meaning, Does, is_new_page, meanings}
 use Rattle.multi_layout.specs.declared.times.Shown.TheVariants.{Page, Off}
-use Rattle.multi_layout.specs.Times.{Times, begin, cycle, ended_times, is_on, page_times, shown_at, shown_within, times_at}
+use Rattle.multi_layout.specs.Times.{Times, begin, cycle, ended_times, is_on, page_times, shown, shown_at, shown_within, times_at}
+use Rattle.multi_layout.specs.Verdict.{pages_of}
 use Rattle.multi_layout.specs.Words.{some_after}
 use Rattle.multi_layout.proofs.WordLemmas.{some_after-append}
 
@@ -160,3 +162,45 @@ times_count sign items =
     let times = ended_times sign items in
     let last = times_at (standing sign items) in
     omega (arith, ap length (times_are_all sign items), length-append times (last ∷ []), ended_count sign items)
+
+-- THE PAGE AT A CLOCK IS A PAGE
+
+-- what is found in a range is below its end
+found_below : (p : ℕ → Bool) (a n k : ℕ) → find p (range_with_len a n) ≡ Some k → k < a + n
+found_below p a zero k is = absurd cc
+found_below p a (suc n) k is = elim (cases_Bool (p a)) [
+  | inl e ↦
+      let here : Some a ≡ Some k = sym (cond-true (p a) (Some a) (find p (range_with_len (a + 1) n)) e) ∙ is in
+      let same : a ≡ k = cc in
+      omega arith
+  | inr e ↦
+      let below : k < a + 1 + n = found_below p (a + 1) n k (sym (cond-false (p a) (Some a) (find p (range_with_len (a + 1) n)) e) ∙ is) in
+      omega arith
+]
+
+page_found : (pages : List Times) (time page phase : ℕ) (found : Option ℕ) → find (is_on pages time) (range_with_len 0 (length pages)) ≡ found
+    → option_map_or (λ k. Page k (time - begin pages k)) found Off ≡ Page page phase → page < length pages
+page_found pages time page phase None from is = absurd cc
+page_found pages time page phase (Some k) from is =
+    let same : k ≡ page = cc in
+    omega (arith, found_below (is_on pages time) 0 (length pages) k from)
+
+within_below : (pages : List Times) (time page phase : ℕ) → shown_within pages time ≡ Page page phase → page < length pages
+unfolding shown_within
+within_below pages time page phase is = page_found pages time page phase _ refl is
+
+at_below : (pages : List Times) (clock page phase : ℕ) → 0 < length pages → shown_at pages clock ≡ Page page phase → page < length pages
+at_below pages clock page phase some is = elim (cases_Bool ((length pages == 1) || (cycle pages == 0))) [
+  | inl e ↦
+      let first : Page 0 clock ≡ Page page phase = sym (shown_always pages clock e) ∙ is in
+      let same : 0 ≡ page = cc in
+      omega arith
+  | inr e ↦ within_below pages (clock % cycle pages) page phase (sym (shown_modulo pages clock e) ∙ is)
+]
+
+-- a page that is shown is one of the string's
+pub page_below : (sign : SignData) (octets : List ℕ) (clock page phase : ℕ) → shown sign octets clock ≡ Page page phase → page < pages_of (meanings octets)
+page_below sign octets clock page phase is =
+    let count = times_count sign (meanings octets) in
+    let below : page < length (page_times sign (meanings octets)) = at_below (page_times sign (meanings octets)) clock page phase (omega (arith, count)) is in
+    omega (arith, count)

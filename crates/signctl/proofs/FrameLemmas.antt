@@ -1,20 +1,16 @@
--- The rows of a frame, one after the other, and the page at a clock.
-use Rattle.std.proofs.Common.{◌≡◌, ℕ, zero, suc, ◌+◌, ◌-◌, ◌%◌, ◌<◌, Bool, ◌||◌, ◌==◌, List, [], ◌∷◌, ◌++◌, length, map, Option, Some, None, refl, sym, ap, ◌∙◌, inl, inr, arith, append_assoc, append-nil}
-use Rattle.std.specs.List.{flat_map, find, range_with_len}
-use Rattle.std.specs.Option.{option_map_or}
-use Rattle.std.proofs.lemmas.Bool.{cases_Bool, cond-true, cond-false}
+-- The rows of a frame, one after the other.
+use Rattle.std.proofs.Common.{◌≡◌, ℕ, zero, suc, ◌+◌, ◌<◌, Bool, List, [], ◌∷◌, ◌++◌, map, refl, sym, ap, ◌∙◌, arith, append_assoc, append-nil}
+use Rattle.std.specs.List.{flat_map, range_with_len}
 use Rattle.std.proofs.lemmas.List.FromFn.{map-range_with_len_more}
 use Rattle.page_plane.specs.Plane.{BitPlane, is_lit}
 use Rattle.sign_font.specs.Sign.{SignData}
 use Rattle.multi_layout.specs.declared.times.Shown.{Shown}
-use Rattle.multi_layout.specs.declared.times.Shown.TheVariants.{Page, Off}
 use Rattle.multi_layout.specs.Drawn.{Lights}
 use Rattle.multi_layout.specs.Meaning.{meanings}
 use Rattle.multi_layout.specs.Pages.{IsSized}
 use Rattle.multi_layout.specs.Picture.{pixel_at}
-use Rattle.multi_layout.specs.Times.{Times, begin, cycle, is_on, page_times, shown, shown_at, shown_within}
-use Rattle.multi_layout.specs.Verdict.{Accepted, pages_of}
-use Rattle.multi_layout.proofs.TimesLemmas.{shown_always, shown_modulo, times_count}
+use Rattle.multi_layout.specs.Times.{shown}
+use Rattle.multi_layout.specs.Verdict.{Accepted}
 use Rattle.signctl.specs.Frame.{frame_text, head_text, pixel_text, pixels_text, row_text, rows_text, show_answer}
 use Rattle.signctl.specs.Reply.{IsAccepted}
 use Rattle.signctl.proofs.ReplyLemmas.{answer_of_verdict}
@@ -101,45 +97,3 @@ answer_of_frame old now sign judge line octets colour clock same a =
     let answer : show_answer sign colour clock line ≡ text = answer_of_verdict (λ pages. text) sign line (Accepted a.pages) a.short a.accepted in
     ap (λ l. l ++ frame_text judge octets colour (shown judge octets clock)) same
     ∙ ap (λ l. old ++ l) (same_frame judge sign octets line colour clock a.same_sign a.same_octets ∙ sym answer)
-
--- THE PAGE AT A CLOCK
-
--- what is found in a range is below its end
-found_below : (p : ℕ → Bool) (a n k : ℕ) → find p (range_with_len a n) ≡ Some k → k < a + n
-found_below p a zero k is = absurd cc
-found_below p a (suc n) k is = elim (cases_Bool (p a)) [
-  | inl e ↦
-      let here : Some a ≡ Some k = sym (cond-true (p a) (Some a) (find p (range_with_len (a + 1) n)) e) ∙ is in
-      let same : a ≡ k = cc in
-      omega arith
-  | inr e ↦
-      let below : k < a + 1 + n = found_below p (a + 1) n k (sym (cond-false (p a) (Some a) (find p (range_with_len (a + 1) n)) e) ∙ is) in
-      omega arith
-]
-
-page_found : (pages : List Times) (time page phase : ℕ) (found : Option ℕ) → find (is_on pages time) (range_with_len 0 (length pages)) ≡ found
-    → option_map_or (λ k. Page k (time - begin pages k)) found Off ≡ Page page phase → page < length pages
-page_found pages time page phase None from is = absurd cc
-page_found pages time page phase (Some k) from is =
-    let same : k ≡ page = cc in
-    omega (arith, found_below (is_on pages time) 0 (length pages) k from)
-
-within_below : (pages : List Times) (time page phase : ℕ) → shown_within pages time ≡ Page page phase → page < length pages
-unfolding shown_within
-within_below pages time page phase is = page_found pages time page phase _ refl is
-
-at_below : (pages : List Times) (clock page phase : ℕ) → 0 < length pages → shown_at pages clock ≡ Page page phase → page < length pages
-at_below pages clock page phase some is = elim (cases_Bool ((length pages == 1) || (cycle pages == 0))) [
-  | inl e ↦
-      let first : Page 0 clock ≡ Page page phase = sym (shown_always pages clock e) ∙ is in
-      let same : 0 ≡ page = cc in
-      omega arith
-  | inr e ↦ within_below pages (clock % cycle pages) page phase (sym (shown_modulo pages clock e) ∙ is)
-]
-
--- a page that is shown is one of the string's
-pub page_below : (sign : SignData) (octets : List ℕ) (clock page phase : ℕ) → shown sign octets clock ≡ Page page phase → page < pages_of (meanings octets)
-page_below sign octets clock page phase is =
-    let count = times_count sign (meanings octets) in
-    let below : page < length (page_times sign (meanings octets)) = at_below (page_times sign (meanings octets)) clock page phase (omega (arith, count)) is in
-    omega (arith, count)
