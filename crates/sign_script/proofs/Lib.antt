@@ -1,0 +1,9 @@
+pub mod AskLemmas
+pub mod FieldsFound
+pub mod FieldsRead
+pub mod LengthLemmas
+pub mod NumberLemmas
+pub mod PartedLemmas
+pub mod PartsLemmas
+pub mod ScriptRows
+pub mod WordLemmas

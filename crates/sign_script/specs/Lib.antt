@@ -1,0 +1,4 @@
+pub mod Asks
+pub mod Fields
+pub mod Spelling
+pub mod Verbs

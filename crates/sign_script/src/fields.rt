@@ -1,0 +1,122 @@
+//! The fields of a line, which are parted by one space each.
+
+ghost use Rattle.std.specs.Prelude.{◌≡◌, ◌==◌, ◌≤◌, IfSome, position};
+ghost use Rattle.std.specs.Option.{option_copied};
+ghost use Rattle.sign_script.specs.Fields.{at_end, last_message, last_number, last_octets, message_value, next_field, next_message, next_number, number_of, parted, seen, text_of};
+
+use hex::FromHex;
+use message_store::MsgRef;
+use std::str;
+
+/// Where the first space of a text stands, counted from 0.
+fn first_space(text: &[u8]) -> Option<usize>
+    ensures { result ≡ position (λ octet. octet == 32) text.now }
+{
+    text.iter().position(|octet| *octet == b' ')
+}
+
+/// The first field of a text, and the text after the space that ends it, where one does.
+#[tactic(auto, using(crate::proofs::PartedLemmas::parted_some, crate::proofs::PartedLemmas::parted_none))]
+pub(crate) fn parted(text: &[u8]) -> (&[u8], Option<&[u8]>)
+    ensures field { result.0.now ≡ (parted text.now).field }
+    ensures rest { option_copied result.1 ≡ (parted text.now).rest }
+{
+    match first_space(text) {
+        Some(at) => (&text[..at], Some(&text[at + 1..])),
+        None => (text, None),
+    }
+}
+
+/// The number that 1 to 10 decimal digits write, where it is at most `most`.
+fn number_of(most: u32, digits: &[u8]) -> Option<u32>
+    ensures number { result ≡ number_of most digits.now }
+    ensures within { IfSome result (λ number. number ≤ most) }
+{
+    // `parse` takes a plus sign, and a line doesn't.
+    if digits.len() > 10 || digits.first() == Some(&b'+') {
+        return None;
+    }
+    let number = str::from_utf8(digits).ok()?.parse::<u32>().ok()?;
+    if number <= most { Some(number) } else { None }
+}
+
+/// The number that the next field is, at most `most`, and what is left after it.
+fn next_number(most: u32, rest: Option<&[u8]>) -> Option<(u32, Option<&[u8]>)>
+    ensures number { seen result ≡ next_number most (option_copied rest.entry) }
+    ensures within { IfSome result (λ found. found.0 ≤ most) }
+{
+    let (field, rest) = parted(rest?);
+    Some((number_of(most, field)?, rest))
+}
+
+/// What was read, where nothing is left after it.
+pub(crate) fn at_end<T: Drop>(read: T, rest: Option<&[u8]>) -> Option<T>
+    ensures { result ≡ at_end read (option_copied rest.entry) }
+{
+    match rest {
+        None => Some(read),
+        Some(_) => None,
+    }
+}
+
+/// The number that the last field is, at most `most`.
+pub(crate) fn last_number(most: u32, rest: Option<&[u8]>) -> Option<u32>
+    ensures number { result ≡ last_number most (option_copied rest.entry) }
+    ensures within { IfSome result (λ number. number ≤ most) }
+{
+    let (number, rest) = next_number(most, rest)?;
+    at_end(number, rest)
+}
+
+/// The octet that the last field is, 0 to 255.
+pub(crate) fn last_octet(rest: Option<&[u8]>) -> Option<u8>
+    ensures { result ≡ last_number 255 (option_copied rest.entry) }
+{
+    Some(last_number(255, rest)? as u8)
+}
+
+/// The message that the next two fields name, and what is left after them.
+pub(crate) fn next_message(rest: Option<&[u8]>) -> Option<(MsgRef, Option<&[u8]>)>
+    ensures { seen result ≡ next_message (option_copied rest.entry) }
+{
+    let (memory, rest) = next_number(255, rest)?;
+    let (number, rest) = next_number(65535, rest)?;
+    let message = MsgRef {
+        memory: memory as u8,
+        number: number as u16,
+    };
+    Some((message, rest))
+}
+
+/// The message that the last two fields name.
+pub(crate) fn last_message(rest: Option<&[u8]>) -> Option<MsgRef>
+    ensures { result ≡ last_message (option_copied rest.entry) }
+{
+    let (message, rest) = next_message(rest)?;
+    at_end(message, rest)
+}
+
+/// The message of the next two fields, and the number of the last one, 0 to 255.
+pub(crate) fn message_value(rest: Option<&[u8]>) -> Option<(MsgRef, u8)>
+    ensures { result ≡ message_value (option_copied rest.entry) }
+{
+    let (message, rest) = next_message(rest)?;
+    Some((message, last_octet(rest)?))
+}
+
+/// All that is left of a line is text; where nothing is left, the text is empty.
+pub(crate) fn text_of(rest: Option<&[u8]>) -> &[u8]
+    ensures { result.now ≡ text_of (option_copied rest.entry) }
+{
+    match rest {
+        None => &[],
+        Some(text) => text,
+    }
+}
+
+/// The `N` octets, in hexadecimal, that are all that is left of a line.
+pub(crate) fn last_octets<const N: usize>(rest: Option<&[u8]>) -> Option<[u8; N]>
+    ensures { result ≡ last_octets N (option_copied rest.entry) }
+{
+    <[u8; N]>::from_hex(rest?).ok()
+}

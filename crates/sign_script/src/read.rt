@@ -1,0 +1,146 @@
+//! Reading a line.
+
+ghost use Rattle.std.specs.Prelude.{◌≡◌, ◌*◌, ◌<◌, IfOk, length, option_map, vec_capacity};
+ghost use Rattle.std.specs.Option.{option_copied};
+ghost use Rattle.sign_script.specs.Asks.{IsPlain, ask_of, ask_of_line, ask_with, bare};
+ghost use Rattle.sign_script.specs.Fields.{Gives, message_octets, octets_of, text_of};
+ghost use Rattle.sign_script.specs.Spelling.{IsSpelled};
+ghost use Rattle.sign_script.specs.declared.ask.Ask.{Ask};
+
+use crate::ask::{Ask, LineFault};
+use crate::fields::{
+    at_end, last_message, last_number, last_octet, last_octets, message_value, next_message,
+    parted, text_of,
+};
+use crate::verb::{Verb, field_of};
+use message_store::MsgRef;
+use sign_control::Command;
+
+/// The octets of an even number of hexadecimal digits, in either case. They are put in `octets`.
+fn octets_of<'a>(digits: &[u8], octets: &'a mut Vec<u8>) -> Result<&'a [u8], LineFault>
+    ensures read { Gives (λ read. read.now) result (octets_of digits.now) }
+    ensures memory { result ≡ Err LineFault.Memory → 2 * vec_capacity octets.old < length digits.now }
+{
+    if octets.resize_with(digits.len() / 2, || 0).is_err() {
+        return Err(LineFault::Memory);
+    }
+    match hex::decode_to_slice(digits, octets) {
+        Ok(()) => Ok(octets),
+        Err(_) => Err(LineFault::Bad),
+    }
+}
+
+/// The message that the next two fields name, and the octets that the rest of the line writes in hexadecimal.
+fn message_octets<'a>(
+    rest: Option<&[u8]>,
+    octets: &'a mut Vec<u8>,
+) -> Result<(MsgRef, &'a [u8]), LineFault>
+    ensures read { Gives (λ read. (read.0, read.1.now)) result (message_octets (option_copied rest.entry)) }
+    ensures memory { result ≡ Err LineFault.Memory → 2 * vec_capacity octets.old < length (text_of (option_copied rest.entry)) }
+{
+    match next_message(rest) {
+        Some((message, rest)) => Ok((message, octets_of(text_of(rest), octets)?)),
+        None => Err(LineFault::Bad),
+    }
+}
+
+/// The default that a line sets.
+fn default_set(rest: Option<&[u8]>) -> Option<Ask<'static>>
+    ensures { result ≡ ask_with Verb.Default (option_copied rest.entry) }
+{
+    let (name, rest) = parted(rest?);
+    let field = field_of(name)?;
+    Some(Ask::Command(Command::SetDefault(field, last_octet(rest)?)))
+}
+
+/// What a verb and what is left of its line ask for, where no octets have to be kept.
+fn plain_ask(verb: Verb, rest: Option<&[u8]>) -> Option<Ask<'_>>
+    ensures { IsPlain verb → option_map bare result ≡ ask_with verb (option_copied rest.entry) }
+{
+    Some(match verb {
+        Verb::Request => {
+            let (message, code) = message_value(rest)?;
+            Ask::Command(Command::Request(message, code))
+        }
+        Verb::Multi => {
+            let (message, rest) = next_message(rest)?;
+            Ask::Command(Command::SetMulti(message, text_of(rest)))
+        }
+        Verb::Priority => {
+            let (message, value) = message_value(rest)?;
+            Ask::Command(Command::SetPriority(message, value))
+        }
+        Verb::Beacon => {
+            let (message, value) = message_value(rest)?;
+            Ask::Command(Command::SetBeacon(message, value))
+        }
+        Verb::Pixel => {
+            let (message, value) = message_value(rest)?;
+            Ask::Command(Command::SetPixelService(message, value))
+        }
+        Verb::Clear => at_end(Ask::Command(Command::Clear), rest)?,
+        Verb::Work => at_end(Ask::Command(Command::Work), rest)?,
+        Verb::Activate => Ask::Command(Command::Activate(last_octets(rest)?)),
+        Verb::End => Ask::Command(Command::SetEnd(last_octets(rest)?)),
+        Verb::Tick => Ask::Command(Command::Tick(last_number(u32::MAX, rest)?)),
+        Verb::Frame => Ask::Frame(last_octet(rest)?),
+        Verb::Row => Ask::Row(last_message(rest)?),
+        Verb::Report => at_end(Ask::Report, rest)?,
+        Verb::Default => default_set(rest)?,
+        Verb::Defaults => at_end(Ask::Defaults, rest)?,
+        Verb::MultiHex | Verb::Owner => return None,
+    })
+}
+
+/// What a verb and what is left of its line ask for.
+fn ask_with<'a>(
+    verb: Verb,
+    rest: Option<&'a [u8]>,
+    octets: &'a mut Vec<u8>,
+) -> Result<Ask<'a>, LineFault>
+    ensures asked { Gives bare result (ask_with verb (option_copied rest.entry)) }
+    ensures memory { result ≡ Err LineFault.Memory → 2 * vec_capacity octets.old < length (text_of (option_copied rest.entry)) }
+{
+    match verb {
+        Verb::MultiHex => {
+            let (message, text) = message_octets(rest, octets)?;
+            Ok(Ask::Command(Command::SetMulti(message, text)))
+        }
+        Verb::Owner => {
+            let (message, owner) = message_octets(rest, octets)?;
+            Ok(Ask::Command(Command::SetOwner(message, owner)))
+        }
+        _ => plain_ask(verb, rest).ok_or(LineFault::Bad),
+    }
+}
+
+/// What is asked for by the word and the rest of a line.
+#[tactic(auto, unfolding(crate::specs::Asks::ask_of_line))]
+fn ask_of_line<'a>(line: &'a [u8], octets: &'a mut Vec<u8>) -> Result<Ask<'a>, LineFault>
+    ensures asked { Gives bare result (ask_of_line line.now) }
+    ensures memory { result ≡ Err LineFault.Memory → 2 * vec_capacity octets.old < length line.now }
+{
+    let (word, rest) = parted(line);
+    match Verb::of(word) {
+        Some(verb) => ask_with(verb, rest, octets),
+        None => Err(LineFault::Bad),
+    }
+}
+
+/// Reads a line of a script, its octets without a line feed (own). `octets` is room for the octets that the line writes
+/// in hexadecimal; what stood there is lost.
+///
+/// The error `Bad` says that the line is none of the table of this crate. `Memory` says that memory was refused, and
+/// leaves open whether the line is one; it comes only if `octets` has room for less than half the octets of the line.
+#[tactic(auto, using(crate::proofs::AskLemmas::gives_spelled))]
+pub fn read_ask<'a>(line: &'a [u8], octets: &'a mut Vec<u8>) -> Result<Ask<'a>, LineFault>
+    ensures asked { Gives bare result (ask_of line.now) }
+    ensures spelled { IfOk result (λ ask. IsSpelled ask line.now) }
+    ensures bad { result ≡ Err LineFault.Bad → (ask : Ask) → IsSpelled ask line.now → ⊥ }
+    ensures memory { result ≡ Err LineFault.Memory → 2 * vec_capacity octets.old < length line.now }
+{
+    match line {
+        [] | [b'#', ..] => Ok(Ask::Nothing),
+        _ => ask_of_line(line, octets),
+    }
+}
