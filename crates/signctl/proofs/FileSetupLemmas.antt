@@ -1,5 +1,5 @@
 -- What a sign file's octets set up for a run.
-use Rattle.std.proofs.Common.{◌≡◌, ℕ, Bool, true, false, List, Option, None, Some, IfSome, Result, Ok, Err, ◌⊎◌, inl, inr, refl, ap}
+use Rattle.std.proofs.Common.{◌≡◌, ℕ, true, false, List, Option, None, Some, IfSome, Result, Ok, Err, ◌⊎◌, inl, inr, refl, ap}
 use Rattle.std.proofs.lemmas.Bool.{cases_Bool}
 use Rattle.sign_font.specs.Limits.{first_fault}
 use Rattle.sign_font.specs.Sign.{SignData}

@@ -5,6 +5,7 @@ pub mod FileSetupLemmas
 pub mod FrameLemmas
 pub mod ReplyLemmas
 pub mod RunLemmas
+pub mod ScriptLemmas
 pub mod SeenLemmas
 pub mod StartLemmas
 pub mod ToolLemmas

@@ -2,8 +2,10 @@ pub mod FileSetup
 pub mod Frame
 pub mod Lines
 pub mod Output
+pub mod Replies
 pub mod Reply
 pub mod Runs
 pub mod SampleSetup
+pub mod Script
 pub mod Streams
 pub mod Tool

@@ -1,13 +1,15 @@
 -- What the tool does for an input.
 use Rattle.std.specs.Prelude.{ℕ, Bool, true, false, List, Option, Some, map}
+use Rattle.sign_control.specs.State.{started}
 use Rattle.signctl.specs.declared.fault.ToolFault.{ToolFault}
 use Rattle.signctl.specs.declared.fault.ToolFault.TheVariants.{Read, Write, Memory}
 use Rattle.signctl.specs.declared.tool.Mode.{Mode}
-use Rattle.signctl.specs.declared.tool.Mode.TheVariants.{Check, Show}
+use Rattle.signctl.specs.declared.tool.Mode.TheVariants.{Check, Show, Run}
 use Rattle.signctl.specs.Frame.{show_answer}
 use Rattle.signctl.specs.Lines.{input_limit}
 use Rattle.signctl.specs.Output.{Outcome, outcome, outcome_of_file, output_of_whole, output_of_whole_file}
 use Rattle.signctl.specs.Reply.{check_answer}
+use Rattle.signctl.specs.Script.{replies}
 use Rattle.signctl.specs.SampleSetup.{sample_setup}
 use Rattle.signctl.specs.declared.setup.Setup.{Setup}
 
@@ -15,6 +17,7 @@ use Rattle.signctl.specs.declared.setup.Setup.{Setup}
 abbrev pub answers_of : Mode → Setup → List (List ℕ) → List (Option (List ℕ))
 answers_of Check setup lines = map (λ line. Some (check_answer setup.sign line)) lines
 answers_of (Show colour clock) setup lines = map (λ line. Some (show_answer setup.sign colour clock line)) lines
+answers_of Run setup lines = replies setup.sign (started setup.sign.defaults setup.store) lines
 
 -- The outcome of an input: with the sample sign it is lines alone, and else a sign file, the mark and lines (own).
 abbrev pub outcome_of : Mode → Bool → List ℕ → Outcome

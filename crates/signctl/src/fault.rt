@@ -21,7 +21,7 @@ pub enum ToolFault {
     /// The line has more than 8,300 octets before its end.
     #[error("line {line}: too long")]
     LineTooLong { line: u32 },
-    /// The input ends within the line.
+    /// The input ends within the line, or the line is none of a script where each line has to be one.
     #[error("line {line}: bad line")]
     BadLine { line: u32 },
     /// The input has more than 16,777,216 octets.
@@ -35,7 +35,7 @@ pub enum ToolFault {
     /// is, which is 5 too.
     #[error("sign fault {number}")]
     SignRefused { number: u8 },
-    /// There was no memory for the sign or its file, the plane, a line or its answer.
+    /// There was no memory for the sign or its file, the message store, the controller, the plane, a line or its answer.
     #[error("out of memory")]
     Memory,
 }

@@ -1,4 +1,4 @@
-//! Checks the messages of a roadside message sign, and shows their pages.
+//! Checks the messages of a roadside message sign, shows their pages, and runs the sign's controller.
 //!
 //! `signctl check` reads a sign file, a line `%%`, and message lines from standard input. `signctl check --sample` reads
 //! message lines alone, for the sample sign. A sign file is a TOML document that describes one sign. Each message line is
@@ -17,6 +17,10 @@
 //! Then comes a line for each pixel row from the top, with `#` for a pixel of one colour and `.` for a pixel of any other.
 //! `--colour` says which colour, 0 to 9, or 1 if it isn't given. In an off time every pixel has colour 0.
 //!
+//! `signctl run` reads a script in place of message lines: each line asks one thing of a controller of the sign, as
+//! `sign_script` says, and gets its reply. The controller is made once, and each line finds the state that the lines before
+//! it leave. An empty line and one that begins with `#` get no reply.
+//!
 //! A line ends with a line feed, and one carriage return before that is dropped. What is left has at most 8,300 octets.
 //! An input has at most 16,777,216 octets, with those of the sign file. The first fault ends the run, after the answers
 //! to the lines before it, and is said on standard error after `signctl: `:
@@ -26,7 +30,7 @@
 //! | `sign not read` | no line is `%%`, or what stands before the first one is no sign file: it isn't TOML, or a key is missing, is of another kind, or has a number outside its type |
 //! | `sign fault N` | the sign is outside the limit N, from 1 to 5 (`sign_font::SignFault`), or its message table is outside its limits, which is 5 |
 //! | `line N: too long` | the line has too many octets |
-//! | `line N: bad line` | the input ends within the line |
+//! | `line N: bad line` | the input ends within the line, or the line is none of a script |
 //! | `input too long` | the input has too many octets |
 //! | `read failed`, `write failed`, `out of memory` | what they say |
 //!
@@ -43,7 +47,9 @@ mod lines;
 mod main_with;
 mod octets;
 mod output;
+mod replies;
 mod reply;
+mod script;
 mod setup;
 mod show;
 mod start;

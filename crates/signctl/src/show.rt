@@ -82,7 +82,7 @@ fn push_row(text: &mut Vec<u8>, plane: &Plane, row: u16) -> Result<(), AllocErro
 }
 
 /// Appends the pixel rows from the top.
-fn push_rows(text: &mut Vec<u8>, plane: &Plane) -> Result<(), AllocError>
+pub(crate) fn push_rows(text: &mut Vec<u8>, plane: &Plane) -> Result<(), AllocError>
     ensures { OnOk result (text.new.items ≡ text.old.items ++ rows_text (is_lit plane.now) plane.now.width plane.now.height) }
 {
     for row in 0..plane.height() {
@@ -92,7 +92,7 @@ fn push_rows(text: &mut Vec<u8>, plane: &Plane) -> Result<(), AllocError>
 }
 
 /// Appends the first line of a frame.
-fn push_head(text: &mut Vec<u8>, shown: Shown) -> Result<(), AllocError>
+pub(crate) fn push_head(text: &mut Vec<u8>, shown: Shown) -> Result<(), AllocError>
     ensures { OnOk result (text.new.items ≡ text.old.items ++ head_text shown) }
 {
     let Shown::Page { page, phase } = shown else {

@@ -1,4 +1,5 @@
 mod lending;
+mod run;
 mod show;
 mod sign_files;
 
@@ -319,10 +320,11 @@ fn a_run_ends_with_its_status_and_text(rt: HostRuntime) {
 #[test]
 fn a_command_line_is_helped_or_refused(rt: HostRuntime) {
     let alloc = rt.alloc();
-    let rows: [(&[&str], u8); 24] = [
+    let rows: [(&[&str], u8); 25] = [
         (&["signctl", "--help"], 0),
         (&["signctl", "check", "--help"], 0),
         (&["signctl", "show", "--help"], 0),
+        (&["signctl", "run", "--help"], 0),
         (&["signctl", "help"], 0),
         (&[], 2),
         (&["signctl"], 2),
@@ -338,7 +340,7 @@ fn a_command_line_is_helped_or_refused(rt: HostRuntime) {
         (&["signctl", "show", "--clock", "-1"], 2),
         (&["signctl", "show", "--clock", "1", "--clock", "1"], 2),
         (&["signctl", "check", "--colour", "1"], 2),
-        (&["signctl", "run", "--sample"], 2),
+        (&["signctl", "run", "--colour", "1"], 2),
         (&["signctl", "check", "--other"], 2),
         (&["signctl", "--sample"], 2),
         (&["signctl", "check", "--sample", "word"], 2),

@@ -4,13 +4,16 @@ ghost use Rattle.std.specs.Io.KnownBytes.{Appends, Consumes};
 ghost use Rattle.signctl.specs.Lines.{input_limit};
 ghost use Rattle.signctl.specs.Output.{outcome, output_of_whole};
 ghost use Rattle.signctl.specs.Runs.{IsFront, Runs, fault_of};
+ghost use Rattle.signctl.specs.Script.{CarriesOn, RepliesAsRun};
 ghost use Rattle.signctl.specs.Tool.{IsOfInput, answers_of, outcome_of, output_so_far};
+ghost use Rattle.signctl.specs.declared.tool.Mode.TheVariants as mode;
 
 use crate::answer::{Answer, LineAnswer};
 use crate::check::Checker;
 use crate::fault::ToolFault;
 use crate::lines::{LineStart, NextLine, next_line, text_of};
 use crate::output::write_whole;
+use crate::script::Operator;
 use crate::setup::Setup;
 use crate::show::Shower;
 use crate::start::{Start, begin};
@@ -30,6 +33,8 @@ pub enum Mode {
         /// In tenths of a second since the string began to be shown.
         clock: u32,
     },
+    /// Each line is a line of a script, and the answer is the reply of one controller to all of them.
+    Run,
 }
 
 /// Answers the lines from this one on, up to a fault or the end. All lines and their answers share two buffers.
@@ -79,10 +84,7 @@ fn run_on<R: Read, W: Write>(
         (R.remaining reader.old) (R.remaining reader.new) (W.contents writer.old) (W.contents writer.new) (fault_of result) }
 {
     let Start { setup, place } = start;
-    let Setup {
-        sign,
-        store: _store,
-    } = setup;
+    let Setup { sign, store } = setup;
     match mode {
         Mode::Check => {
             let mut answer = Checker { sign };
@@ -90,6 +92,10 @@ fn run_on<R: Read, W: Write>(
         }
         Mode::Show { colour, clock } => {
             let mut answer = Shower::new(alloc, sign, colour, clock)?;
+            answer_lines(alloc, &mut answer, place, reader, writer)
+        }
+        Mode::Run => {
+            let mut answer = Operator::new(alloc, sign, store)?;
             answer_lines(alloc, &mut answer, place, reader, writer)
         }
     }
@@ -146,4 +152,39 @@ pub fn run_tool<R: Read, W: Write>(
         × (length taken ≤ input_limit + 1) }
 {
     run(alloc, mode, sample, reader, writer)
+}
+
+/// Runs a script: it is `run_tool` with `Mode::Run` (own).
+pub fn run_script<R: Read, W: Write>(
+    alloc: Global,
+    sample: bool,
+    reader: &mut R,
+    writer: &mut W,
+) -> Result<(), ToolFault>
+    // If nothing outside fails, what is written is the whole output of the script, and the result is its fault.
+    ensures whole { IsOfInput (fault_of result) → IfSome (R.remaining reader.old) (λ input.
+        Appends (W.contents writer.old) (W.contents writer.new) (outcome_of mode.Run sample input).output
+        × (fault_of result ≡ (outcome_of mode.Run sample input).fault)) }
+
+    // After a failed read it is the output of the whole lines that were read.
+    ensures read { fault_of result ≡ Some ToolFault.Read → (taken : List ℕ)
+        × Consumes (R.remaining reader.old) (R.remaining reader.new) taken
+        × Appends (W.contents writer.old) (W.contents writer.new) (output_so_far mode.Run sample taken) }
+
+    // After a failed write, or if memory was refused, what was written is a beginning of the output.
+    ensures front { (fault_of result ≡ Some ToolFault.Write) ⊎ (fault_of result ≡ Some ToolFault.Memory) →
+        IfSome (R.remaining reader.old) (λ input. (sent : List ℕ)
+        × Appends (W.contents writer.old) (W.contents writer.new) sent
+        × IsFront sent (outcome_of mode.Run sample input).output) }
+
+    // No more is read than what shows that an input is too long.
+    ensures most { (taken : List ℕ) × Consumes (R.remaining reader.old) (R.remaining reader.new) taken
+        × (length taken ≤ input_limit + 1) }
+
+    // The replies are those of one run of the controller over the commands that the lines spell, and what else is asked
+    // is told of the state that this run has at that line.
+    ensures commands { RepliesAsRun }
+    ensures state { CarriesOn }
+{
+    run_tool(alloc, Mode::Run, sample, reader, writer)
 }

@@ -16,7 +16,7 @@ pub(crate) struct Request {
 fn sample_flag<'a>(alloc: Global) -> Arg<'a> {
     Arg::new(alloc, "sample")
         .long("sample")
-        .help("Takes the sample sign: the input has no sign file, and is messages alone")
+        .help("Takes the sample sign: the input has no sign file")
         .action(ArgAction::SetTrue)
 }
 
@@ -52,13 +52,23 @@ fn show_command<'a>(alloc: Global) -> Result<Command<'a>, AllocError> {
         .arg(clock)
 }
 
+/// `signctl run`, which takes a script in place of messages.
+fn run_command<'a>(alloc: Global) -> Result<Command<'a>, AllocError> {
+    Command::new(alloc, "run")
+        .about(
+            "Reads a sign file, a line %% and a script, and writes the reply to each of its lines",
+        )
+        .arg(sample_flag(alloc))
+}
+
 /// The command line that the tool takes.
 fn command<'a>(alloc: Global) -> Result<Command<'a>, AllocError> {
     Command::new(alloc, "signctl")
-        .about("Checks and shows the messages of a roadside message sign")
+        .about("Checks and shows the messages of a roadside message sign, and runs its controller")
         .subcommand_required(true)
         .subcommand(check_command(alloc)?)?
-        .subcommand(show_command(alloc)?)
+        .subcommand(show_command(alloc)?)?
+        .subcommand(run_command(alloc)?)
 }
 
 /// What is done with each line.
@@ -69,6 +79,7 @@ fn mode_of(matches: &ArgMatches<'_>) -> Mode {
             colour: show.get_one("colour").unwrap_or(1),
             clock: show.get_one("clock").unwrap_or(0),
         },
+        None if matches.subcommand_matches("run").is_some() => Mode::Run,
         None => Mode::Check,
     }
 }

@@ -395,19 +395,29 @@ fn a_failed_read_of_a_sign_file_writes_nothing(rt: HostRuntime) -> Result<(), Fa
 #[test]
 fn a_fault_of_a_sign_file_has_its_status_and_text(rt: HostRuntime) -> Result<(), Fail> {
     let alloc = rt.alloc();
-    let rows: [(&str, &str, &[u8]); 3] = [
+    let rows: [(&str, &str, &[u8]); 4] = [
         ("width = 12", "width = 0", b"signctl: sign fault 1\n"),
         ("width = 12", "", b"signctl: sign not read\n"),
+        ("slots = 1", "slots = 0", b"signctl: sign fault 5\n"),
         ("bytes = 4", "bytes = 5", b""),
     ];
     for (old, new, said) in rows {
         let file = SMALL.replacen(alloc, old, new, 1)?;
         let mut input = file.as_str().as_bytes().to_vec(alloc)?;
         input.extend_from_slice(b"%%\n")?;
-        let (status, output, errors) = main_output(alloc, &["signctl", "check"], &input);
-        assert_eq!(rt; status, if said.is_empty() { 0 } else { 1 }, "with {new}");
-        assert!(rt; errors.as_slice() == said, "what is said with {new}");
-        assert!(rt; output.is_empty(), "what is written with {new}");
+        for mode in ["check", "show", "run"] {
+            let (status, output, errors) = main_output(alloc, &["signctl", mode], &input);
+            assert_eq!(rt;
+                status,
+                if said.is_empty() { 0 } else { 1 },
+                "{mode} with {new}"
+            );
+            assert!(rt;
+                errors.as_slice() == said,
+                "what is said by {mode} with {new}"
+            );
+            assert!(rt; output.is_empty(), "what is written by {mode} with {new}");
+        }
     }
     Ok(())
 }
