@@ -17,7 +17,7 @@ use Rattle.sign_control.specs.declared.command.Command.{Command}
 use Rattle.sign_control.specs.declared.command.Reply.{Reply}
 use Rattle.sign_control.specs.Activation.{CandidateData, text_of}
 use Rattle.sign_control.specs.Counts.{IsAdded, IsCountOf, IsJudgedIn, JudgedText, activated_text, candidate_text, least_steps, slot_text, text_judged, waiting_text}
-use Rattle.sign_control.specs.Run.{run, run_limit, text_limit}
+use Rattle.sign_control.specs.Run.{AreCountsOf, run, run_limit, text_limit}
 use Rattle.sign_control.specs.State.{StateData}
 use Rattle.sign_control.specs.Step.{step}
 
@@ -104,11 +104,19 @@ pub run-limit : (sign : SignData) (state : StateData) (commands : List Command) 
 run-limit sign state [] last = omega arith
 run-limit sign state (first ∷ commands) last = omega (arith, run-limit sign (step sign state first).state commands last)
 
+pub run-counts : (sign : SignData) (state : StateData) (commands : List Command) (last : Command) (old between new : ℕ) → AreCountsOf sign state commands old between
+    → IsCountOf (text_judged sign (run sign state commands).state last) between new → AreCountsOf sign state (commands ++ last ∷ []) old new
+run-counts sign state [] last old between new are is =
+    (new, subst (λ (n : ℕ). IsCountOf (text_judged sign state last) n new) are is, refl)
+run-counts sign state (first ∷ commands) last old between new (mid, one, are) is =
+    (mid, one, run-counts sign (step sign state first).state commands last mid between new are is)
+
 -- the first commands of a list are done
 pub record IsDone (sign : SignData) (state : StateData) (commands : List Command) (n started : ℕ) (now : StateData) (replies : List Reply) (steps : ℕ) : Type 0 where
   pub state_is : now ≡ (run sign state (take n commands)).state
   pub replies_are : replies ≡ (run sign state (take n commands)).replies
   pub steps_few : steps ≤ started + run_limit sign state (take n commands)
+  pub counts : AreCountsOf sign state (take n commands) started steps
 
 -- one more command is done
 pub next-run : (sign own : SignData) (state : StateData) (commands : List Command) (i started : ℕ) (command d : Command) (now new : StateData) (replies more : List Reply) (reply : Reply) (steps after : ℕ)
@@ -129,4 +137,8 @@ next-run sign own state commands i started command d now new replies more reply 
           ∙ ap (λ (l : List Reply). l ++ (step sign (run sign state (take i commands)).state command).reply ∷ []) done.replies_are
           ∙ sym (run-replies sign state (take i commands) command) ∙ ap (λ (l : List Command). (run sign state l).replies) (sym taken);
       steps_few = omega (arith, done.steps_few, count-le (text_judged own now command) steps after count, limit, limit', ap (λ (l : List Command). run_limit sign state l) taken);
+      counts = subst (λ (l : List Command). AreCountsOf sign state l started after) (sym taken)
+          (run-counts sign state (take i commands) command started steps after done.counts
+          (subst (λ (st : StateData). IsCountOf (text_judged sign st command) steps after) done.state_is
+          (subst (λ (s : SignData). IsCountOf (text_judged s now command) steps after) same count)));
     }

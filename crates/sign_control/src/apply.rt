@@ -2,7 +2,7 @@
 
 ghost use Rattle.std.specs.Prelude.{◌≡◌, ◌≤◌, ◌+◌, IfOk, OnOk, OnErr};
 ghost use Rattle.sign_control.specs.Counts.{IsCountOf, activation_text, following_text, text_judged, ticked_text};
-ghost use Rattle.sign_control.specs.Run.{StaysWithin, run, run_limit};
+ghost use Rattle.sign_control.specs.Run.{AreCountsOf, StaysWithin, run, run_limit};
 ghost use Rattle.sign_control.specs.Step.{activate_step, activated_registers, default_step, judged_registers, not_shown, reply_of, step, work_step};
 ghost use Rattle.sign_control.specs.Time.{end_step, passed, tick_step};
 ghost use Rattle.sign_control.specs.declared.command.Command.TheVariants as command;
@@ -246,10 +246,12 @@ impl Controller {
         ensures state { OnOk result (self.new.state ≡ (run self.old.sign self.old.state commands.now).state) }
         ensures refused { OnErr result (self.new ≡ self.old) }
         ensures kept { (self.new.sign ≡ self.old.sign) × (self.new.plane ≡ self.old.plane) }
+        ensures counts { OnOk result (AreCountsOf self.old.sign self.old.state commands.now self.old.steps self.new.steps) }
         ensures steps { self.new.steps ≤ self.old.steps + run_limit self.old.sign self.old.state commands.now }
         ensures within { StaysWithin self.old.sign self.old.state commands.now }
     {
-        let limits = self.store.limits();
+        // For the proof alone: the call says that the store is within its limits before the first command.
+        let _limits = self.store.limits();
         let Ok(mut replies) = Vec::with_capacity(alloc, commands.len()) else {
             return Err(Memory);
         };

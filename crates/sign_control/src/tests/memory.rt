@@ -1,8 +1,8 @@
 //! The memory that a controller takes.
 
 use super::{AT_FIRST, CURRENT, FIRST, SHOW_A, is_row};
-use crate::{Command, Controller, DefaultField};
-use message_store::{Store, StoreLimits};
+use crate::{Command, Controller, DefaultField, Reply};
+use message_store::{Store, StoreFault, StoreLimits};
 use sign_font::{Sign, sample_sign};
 use std::test::Fail;
 
@@ -21,7 +21,7 @@ fn only_making_and_a_run_take_memory(rt: HostRuntime) -> Result<(), Fail> {
     };
     let commands = [
         Command::Request(FIRST, 6),
-        Command::SetMulti(FIRST, b"AA"),
+        Command::SetMulti(FIRST, b"A"),
         Command::SetOwner(FIRST, b"me"),
         Command::Request(FIRST, 7),
     ];
@@ -30,15 +30,41 @@ fn only_making_and_a_run_take_memory(rt: HostRuntime) -> Result<(), Fail> {
         assert!(rt; is_row(&controller, CURRENT, b"", 1, 0), "blank 1 is shown");
         panic!(rt; "a run: Memory");
     }
-    for command in [
-        Command::Work,
-        Command::Activate(SHOW_A),
-        Command::Tick(5),
-        Command::SetEnd([7, 0, 2, 0, 0]),
-        Command::SetDefault(DefaultField::Fore, 2),
-        Command::Clear,
+    // For a minute, and then with no time at all: a text is shown, and a duration ends.
+    let minute = [0, 1, 0x80, 3, 0, 1, 0x9a, 0x66, 0x7f, 0, 0, 1];
+    let rows = [
+        (Command::Tick(5), Reply::Ticked),
+        (Command::Activate(SHOW_A), Reply::NotShown(4)),
+        (
+            Command::Request(FIRST, 9),
+            Reply::Refused(StoreFault::BadValue),
+        ),
+        (Command::Activate([0; 12]), Reply::NotShown(5)),
+        (Command::SetEnd([3, 0, 1, 0x9a, 0x66]), Reply::Done),
+        (Command::SetDefault(DefaultField::Fore, 2), Reply::Done),
+    ];
+    for (command, want) in rows {
+        assert!(rt; controller.apply(&command) == want, "{command:?}");
+        controller.frame(1);
+        controller.report();
+    }
+    let Reply::Worked { status: 4, .. } = controller.apply(&Command::Work) else {
+        panic!(rt; "the text is valid");
+    };
+    for (command, want) in [
+        (Command::Activate(minute), Reply::Shown),
+        (Command::Tick(599), Reply::Ticked),
+        (Command::Tick(6), Reply::Ended),
+        (Command::Activate(SHOW_A), Reply::Shown),
+        (Command::Clear, Reply::Done),
     ] {
-        controller.apply(&command);
+        assert!(rt; controller.apply(&command) == want, "{command:?}");
+        assert!(rt;
+            controller
+                .row(CURRENT)
+                .is_ok_and(|row| row.multi == b"A".as_slice()),
+            "{command:?}"
+        );
         controller.frame(1);
         controller.report();
     }
