@@ -1,5 +1,5 @@
 -- What a line of a script asks for.
-use Rattle.std.specs.Prelude.{ℕ, ◌==◌, List, [], ◌∷◌, if◌then◌else◌, Option, Some}
+use Rattle.std.specs.Prelude.{ℕ, ◌==◌, List, [], ◌∷◌, if◌then◌else◌, Option, Some, IsSomeAnd}
 use Rattle.std.specs.Borrow.{Bor}
 use Rattle.std.specs.Option.{option_map}
 use Rattle.sign_control.specs.declared.command.Command.{Command}
@@ -55,6 +55,10 @@ abbrev pub IsPlain : Verb → Type 0
 IsPlain verb.MultiHex = ⊥
 IsPlain verb.Owner = ⊥
 IsPlain v = Unit {0}
+
+-- a line whose word is that of a verb which needs room for octets (own)
+abbrev pub WritesHex : List ℕ → Type 0
+WritesHex line = IsSomeAnd (verb_of (parted line).field) (λ v. IsPlain v → ⊥)
 
 -- what is asked for by the word and the rest of a line (own)
 unfoldable pub ask_of_line : List ℕ → Option Ask

@@ -2,7 +2,7 @@
 
 ghost use Rattle.std.specs.Prelude.{◌≡◌, ◌*◌, ◌<◌, IfOk, length, option_map, vec_capacity};
 ghost use Rattle.std.specs.Option.{option_copied};
-ghost use Rattle.sign_script.specs.Asks.{IsPlain, ask_of, ask_of_line, ask_with, bare};
+ghost use Rattle.sign_script.specs.Asks.{IsPlain, WritesHex, ask_of, ask_of_line, ask_with, bare};
 ghost use Rattle.sign_script.specs.Fields.{Gives, message_octets, octets_of, text_of};
 ghost use Rattle.sign_script.specs.Spelling.{IsSpelled};
 ghost use Rattle.sign_script.specs.declared.ask.Ask.{Ask};
@@ -100,6 +100,7 @@ fn ask_with<'a>(
 ) -> Result<Ask<'a>, LineFault>
     ensures asked { Gives bare result (ask_with verb (option_copied rest.entry)) }
     ensures memory { result ≡ Err LineFault.Memory → 2 * vec_capacity octets.old < length (text_of (option_copied rest.entry)) }
+    ensures plain { result ≡ Err LineFault.Memory → IsPlain verb → ⊥ }
 {
     match verb {
         Verb::MultiHex => {
@@ -119,6 +120,7 @@ fn ask_with<'a>(
 fn ask_of_line<'a>(line: &'a [u8], octets: &'a mut Vec<u8>) -> Result<Ask<'a>, LineFault>
     ensures asked { Gives bare result (ask_of_line line.now) }
     ensures memory { result ≡ Err LineFault.Memory → 2 * vec_capacity octets.old < length line.now }
+    ensures plain { result ≡ Err LineFault.Memory → WritesHex line.now }
 {
     let (word, rest) = parted(line);
     match Verb::of(word) {
@@ -137,7 +139,7 @@ pub fn read_ask<'a>(line: &'a [u8], octets: &'a mut Vec<u8>) -> Result<Ask<'a>, 
     ensures asked { Gives bare result (ask_of line.now) }
     ensures spelled { IfOk result (λ ask. IsSpelled ask line.now) }
     ensures bad { result ≡ Err LineFault.Bad → (ask : Ask) → IsSpelled ask line.now → ⊥ }
-    ensures memory { result ≡ Err LineFault.Memory → 2 * vec_capacity octets.old < length line.now }
+    ensures memory { result ≡ Err LineFault.Memory → (2 * vec_capacity octets.old < length line.now) × WritesHex line.now }
 {
     match line {
         [] | [b'#', ..] => Ok(Ask::Nothing),

@@ -9,7 +9,7 @@ use Rattle.signctl.specs.declared.lines.LineStart.{LineStart}
 use Rattle.signctl.specs.declared.setup.Setup.{Setup}
 use Rattle.signctl.specs.declared.tool.Mode.{Mode}
 use Rattle.signctl.specs.declared.tool.Mode.TheVariants.{Show}
-use Rattle.signctl.specs.Frame.{Showing, show_answer}
+use Rattle.signctl.specs.Frame.{ShowerData, show_answer}
 use Rattle.signctl.specs.Lines.{input_limit}
 use Rattle.signctl.specs.Output.{Outcome, outcome, output_of_whole}
 use Rattle.signctl.specs.Runs.{Fails, IsFront, IsWritten, Leads, Runs, outcome_on, output_on}
@@ -143,14 +143,14 @@ Runs-unread outcomes so_far limit input output e is = subst (λ f. Runs outcomes
 }
 
 -- the answers of what is shown (own)
-abbrev shown_answers : Showing → List (List ℕ) → List (Option (List ℕ))
+abbrev shown_answers : ShowerData → List (List ℕ) → List (Option (List ℕ))
 shown_answers s lines = map (λ line. Some (show_answer s.sign s.colour s.clock line)) lines
 
 -- a run that answers by what is shown is one of the mode that shows
-pub Runs-showing : (mode : Mode) (setup : Setup) (colour clock number left limit : ℕ) (shower : Showing) (input new output written : Option (List ℕ)) (fault : Option ToolFault)
+pub Runs-showing : (mode : Mode) (setup : Setup) (colour clock number left limit : ℕ) (shower : ShowerData) (input new output written : Option (List ℕ)) (fault : Option ToolFault)
     → mode ≡ Show colour clock → shower ≡ record { sign = setup.sign; colour = colour; clock = clock }
     → Runs (outcome (shown_answers shower) number left) (output_of_whole (shown_answers shower) number) limit input new output written fault
     → Runs (outcome (answers_of mode setup) number left) (output_of_whole (answers_of mode setup) number) limit input new output written fault
 Runs-showing mode setup colour clock number left limit shower input new output written fault shows is runs =
     subst (λ m. Runs (outcome (answers_of m setup) number left) (output_of_whole (answers_of m setup) number) limit input new output written fault) (sym shows)
-    (subst (λ (s : Showing). Runs (outcome (shown_answers s) number left) (output_of_whole (shown_answers s) number) limit input new output written fault) is runs)
+    (subst (λ (s : ShowerData). Runs (outcome (shown_answers s) number left) (output_of_whole (shown_answers s) number) limit input new output written fault) is runs)

@@ -41,7 +41,7 @@ abbrev pub show_answer : SignData → ℕ → ℕ → List ℕ → List ℕ
 show_answer sign colour clock line = answer_to (λ pages. frame_text sign line colour (shown sign line clock)) sign line
 
 -- What lines are shown for: a sign, a colour, and a clock (own).
-pub record Showing : Type 0 where
+pub record ShowerData : Type 0 where
   pub sign : SignData
   pub colour : ℕ
   pub clock : ℕ

@@ -43,6 +43,7 @@ mod answer;
 mod check;
 mod fault;
 mod judge;
+mod laws;
 mod lines;
 mod main_with;
 mod octets;

@@ -32,9 +32,9 @@ pub(crate) struct Shower {
 
 impl Model for Shower {
     ghost use Rattle.multi_layout.specs.Pages.{IsSized};
-    ghost use Rattle.signctl.specs.Frame.{Showing};
+    ghost use Rattle.signctl.specs.Frame.{ShowerData};
 
-    ghost Value = { Showing };
+    ghost Value = { ShowerData };
 
     ghost view = { λ s. record { sign = s.sign; colour = s.colour; clock = s.clock } };
 

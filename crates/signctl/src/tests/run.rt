@@ -147,6 +147,11 @@ fn a_script_ends_at_its_first_fault(rt: HostRuntime) -> Result<(), Fail> {
         assert!(rt; output.as_slice() == want, "what is written at {input:?}");
         assert!(rt; result == end, "the end at {input:?}");
     }
+    let cut_off = b"request 3 1 6\nmulti 3 1 A";
+    let (status, output, errors) = main_output(alloc, &["signctl", "run", "--sample"], cut_off);
+    assert_eq!(rt; status, 1);
+    assert!(rt; output.as_slice() == b"done\n".as_slice());
+    assert!(rt; errors.as_slice() == b"signctl: line 2: bad line\n".as_slice());
     let mut comment = vec![in alloc; b'#'; 8_301]?;
     comment.push(b'\n')?;
     let (output, result) = run(alloc, &comment);
