@@ -1,18 +1,15 @@
 -- What the octets that were read make of the place where reading began.
-use Rattle.std.proofs.Common.{◌≡◌, ◌≢◌, ℕ, zero, suc, ◌<◌, ◌≤◌, ◌+◌, ◌-◌, ◌^◌, min, List, [], ◌∷◌, ◌++◌, length, get_or, drop, refl, sym, ap, ◌∙◌, arith, append_assoc, inl, inr, ◌⊎◌, Option, Some, None, Result, Ok, Err, length-take, length-drop}
-use Rattle.std.specs.Prelude.{slice_get, slice_range, IfSome, IfErr, OnErr}
+use Rattle.std.proofs.Common.{◌≡◌, ◌≢◌, ℕ, zero, suc, ◌<◌, ◌≤◌, ◌+◌, ◌-◌, ◌^◌, List, [], ◌∷◌, ◌++◌, length, get_or, drop, refl, sym, ap, ◌∙◌, arith, append_assoc, inl, inr, ◌⊎◌, Option, Some, None, length-take, length-drop}
+use Rattle.std.specs.Prelude.{slice_get, slice_range, IfSome}
 use Rattle.std.specs.List.{All}
 use Rattle.std.proofs.lemmas.List.{drop_more, take_more, get_or-drop, take-append-drop, drop-drop, length-append}
 use Rattle.std.proofs.lemmas.Option.{slice_get_within, get_or_from_slice_get, same_Some}
 use Rattle.std.proofs.lemmas.Bool.{eq-eqb, ne_eqb}
 use Rattle.std.proofs.lemmas.List.Elements.{All-nil, All-push}
 use Rattle.multi_token.specs.declared.token.Token.{Token}
-use Rattle.multi_token.specs.declared.token.TokenFault.{TokenFault}
 use Rattle.multi_token.specs.declared.token.Kind.TheVariants as kinds
-use Rattle.multi_token.specs.Counted.{Counted, charged, RisesBetween}
 use Rattle.multi_token.specs.Spelling.{Char, Tag, IsPlain, spelling, HasNoItem}
 use Rattle.multi_token.specs.Tokens.{IsTokenOf, IsTagOf, item_of, body_of}
-use Rattle.multi_token.proofs.StepLemmas.{rises_after_one}
 use Rattle.multi_token.proofs.SpellingLemmas.{IsStopped, one_plain_front, doubled, single, spelled_char}
 
 -- the list from a place on, where x stands at it
@@ -165,18 +162,6 @@ none_opened xs at end (Some c) e h p f b o k =
 -- what was found is one octet
 pub one_found : {o : Option ℕ} {a b : ℕ} → o ≡ Some a → o ≡ Some b → a ≡ b
 one_found {o} {a} {b} p q = same_Some a b (sym p ∙ q)
-
--- what a helper says of a fault, in the words of its caller, which has read one octet
-pub fault_within : (r : Result (Option Token) TokenFault) (a b d : Counted) (at : ℕ) → b ≡ charged a 1 → at < length a.octets → IfErr r (λ f. (f.at ≡ at) × HasNoItem (drop at b.octets) × RisesBetween b d 0 (length b.octets - at)) → IfErr r (λ f. (f.at ≡ at) × (at < length a.octets))
-fault_within (Ok o) a b d at e h p = tt
-fault_within (Err f) a b d at e h p = (p.0, h)
-
-pub fault_rises : (r : Result (Option Token) TokenFault) (a b d : Counted) (at : ℕ) → b ≡ charged a 1 → IfErr r (λ f. (f.at ≡ at) × HasNoItem (drop at b.octets) × RisesBetween b d 0 (length b.octets - at)) → OnErr r (RisesBetween a d 1 (length a.octets - at + 1))
-fault_rises (Ok o) a b d at e p = tt
-fault_rises (Err f) a b d at e p =
-    let same : length b.octets ≡ length a.octets = ap (λ s. length s.octets) e in
-    let r : RisesBetween b d 0 (length a.octets - at) = rw same at p.2 in
-    rises_after_one a b d (length a.octets - at) e r
 
 -- after the opening bracket of a tag stand its body and the closing bracket
 pub after_opening : (xs : List ℕ) (t : Token) → IsTagOf xs t → drop (t.at + 1) xs ≡ body_of xs t ++ 93 ∷ drop (t.at + t.len) xs

@@ -1,9 +1,9 @@
 -- The spellings of items: at most one stands at a place.
-use Rattle.std.proofs.Common.{◌≡◌, ◌≢◌, ℕ, List, [], ◌∷◌, ◌++◌, refl, sym, ap, ◌∙◌, append_assoc, append-nil, inl, inr, ◌⊎◌}
+use Rattle.std.proofs.Common.{◌≡◌, ℕ, List, [], ◌∷◌, ◌++◌, refl, sym, ap, ◌∙◌, append_assoc, append-nil, inl, inr, ◌⊎◌}
 use Rattle.std.specs.List.{All}
 use Rattle.std.proofs.lemmas.Bool.{eq-eqb, ne_eqb, cases_eq}
 use Rattle.std.proofs.lemmas.List.Elements.{All-head, All-tail}
-use Rattle.multi_token.specs.Spelling.{Item, Char, Tag, IsPlain, IsItem, spelling, spell, BeginsWith, HasNoItem, IsReading, NoSpellingBeginsAnother, OneReading}
+use Rattle.multi_token.specs.Spelling.{Item, Char, Tag, IsPlain, IsItem, spelling, spell, HasNoItem, NoSpellingBeginsAnother, OneReading}
 
 -- no plain octet stands first
 abbrev pub IsStopped : List ℕ → Type 0

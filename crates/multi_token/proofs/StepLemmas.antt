@@ -1,5 +1,5 @@
 -- Steps of a counted source.
-use Rattle.std.proofs.Common.{◌≡◌, ℕ, ◌<◌, ◌≤◌, ◌+◌, ◌-◌, ◌^◌, min, ap, ◌∙◌, arith}
+use Rattle.std.proofs.Common.{◌≡◌, ℕ, ◌+◌, ap, ◌∙◌, arith}
 use Rattle.step_count.proofs.CountLemmas.{raised-raised, raised-zero}
 use Rattle.multi_token.specs.Counted.{Counted, charged, RisesBetween}
 

@@ -5,7 +5,7 @@
 //! without brackets between `[` and `]`.
 //!
 //! [`Source`] gives its octets one at a time, and counts each read. There is no other way to them. [`next_token`] gives the
-//! one item that is spelled at an offset.
+//! one item that is spelled at an offset, and [`rest_of_token`] does so where its first octet was read already.
 #![tactic(auto)]
 
 mod laws;
@@ -14,7 +14,7 @@ mod token;
 
 pub use laws::{each_string_has_a_reading, no_spelling_begins_another, one_reading};
 pub use source::Source;
-pub use token::{Kind, Token, TokenFault, next_token};
+pub use token::{Kind, Token, TokenFault, next_token, rest_of_token};
 
 #[cfg(test)]
 mod tests;

@@ -1,7 +1,9 @@
 //! Octets that are reached by counted reads alone.
 
-ghost use Rattle.std.specs.Prelude.{◌≡◌, ◌^◌, ◌<◌, length, slice_get};
+ghost use Rattle.std.specs.Prelude.{◌≡◌, ◌+◌, ◌-◌, ◌^◌, ◌<◌, ◌≤◌, ◌⊎◌, length, slice_get, slice_range, IfSome};
+ghost use Rattle.std.specs.List.{All};
 ghost use Rattle.multi_token.specs.Counted.{charged};
+ghost use Rattle.multi_token.specs.Spelling.{IsPlain};
 
 use std::marker::Model;
 use step_count::raised;
@@ -39,8 +41,25 @@ impl<'a> Source<'a> {
         // a slice is no longer than this
         ensures room { length self.old.octets < 2 ^ 63 }
     {
-        self.charge(1);
+        // one step more, without a branch: reads are many
+        self.steps += u64::from(self.steps != u64::MAX);
         self.octets.get(at).copied()
+    }
+
+    /// Where the first bracket from an offset on stands, with that octet, or the end. This takes a step for each octet from
+    /// the offset to there, with that octet or the end.
+    pub(crate) fn find_bracket(&mut self, from: usize) -> (usize, Option<u8>)
+        requires start { from ≤ length self.old.octets }
+        requires room { length self.old.octets < 2 ^ 63 }
+        ensures range { (from ≤ result.0) × (result.0 ≤ length self.old.octets) }
+        ensures plain { All IsPlain (slice_range self.old.octets from result.0) }
+        ensures stop { result.1 ≡ slice_get self.old.octets result.0 }
+        ensures bracket { IfSome result.1 (λ octet. (octet ≡ 91) ⊎ (octet ≡ 93)) }
+        ensures steps { self.new ≡ charged self.old (result.0 - from + 1) }
+    {
+        let end = bracket_from(self.octets, from);
+        self.charge((end - from + 1) as u64);
+        (end, self.octets.get(end).copied())
     }
 
     /// The number of octets.
@@ -63,4 +82,18 @@ impl<'a> Source<'a> {
     {
         self.steps = raised(self.steps, k);
     }
+}
+
+/// The offset of the first bracket from an offset on, or of the end. Whoever calls this counts the octets that it looks at.
+fn bracket_from(octets: &[u8], from: usize) -> usize
+    requires start { from ≤ length octets.now }
+    ensures range { (from ≤ result) × (result ≤ length octets.now) }
+    ensures plain { All IsPlain (slice_range octets.now from result) }
+    ensures bracket { IfSome (slice_get octets.now result) (λ octet. (octet ≡ 91) ⊎ (octet ≡ 93)) }
+{
+    let mut end = from;
+    while end < octets.len() && octets[end] != b'[' && octets[end] != b']' {
+        end += 1;
+    }
+    end
 }

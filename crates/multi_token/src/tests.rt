@@ -1,4 +1,4 @@
-use crate::{Kind, Source, Token, TokenFault, next_token};
+use crate::{Kind, Source, Token, TokenFault, next_token, rest_of_token};
 
 /// The tokens of a string up to the end or a fault, as far as a table of four holds them, and the steps.
 fn tokens(octets: &[u8]) -> ([Option<Token>; 4], Result<usize, TokenFault>, u64) {
@@ -21,12 +21,22 @@ fn tokens(octets: &[u8]) -> ([Option<Token>; 4], Result<usize, TokenFault>, u64)
     (found, Ok(at), source.steps())
 }
 
+/// The first token, read on from its first octet, and the steps after that octet; `None` where there is no octet.
+fn behind_the_first(octets: &[u8]) -> (Option<Result<Token, TokenFault>>, u64) {
+    let mut source = Source::new(octets);
+    let Some(first) = source.read(0) else {
+        return (None, 0);
+    };
+    let found = rest_of_token(&mut source, 0, first);
+    (Some(found), source.steps() - 1)
+}
+
+fn token(at: usize, len: usize, kind: Kind) -> Token {
+    Token { at, len, kind }
+}
+
 fn char(at: usize, len: usize, number: u8) -> Option<Token> {
-    Some(Token {
-        at,
-        len,
-        kind: Kind::Char(number),
-    })
+    Some(token(at, len, Kind::Char(number)))
 }
 
 #[test]
@@ -66,6 +76,28 @@ fn a_broken_bracket_is_a_fault_at_its_octet(rt: HostRuntime) {
     for (octets, at) in rows {
         let (_, end, _) = tokens(octets);
         assert_eq!(rt; end, Err(TokenFault { at }), "at {octets:?}");
+    }
+}
+
+#[test]
+fn a_token_goes_on_behind_its_first_octet(rt: HostRuntime) {
+    let rows: [(&[u8], Token, u64); 6] = [
+        (b"A[np]", token(0, 1, Kind::Char(65)), 0),
+        (b"[[x", token(0, 2, Kind::Char(91)), 1),
+        (b"]]", token(0, 2, Kind::Char(93)), 1),
+        (b"[np]A", token(0, 4, Kind::Tag), 3),
+        (b"[tr1,1,0,0]", token(0, 11, Kind::Tag), 10),
+        (b"\xff", token(0, 1, Kind::Char(255)), 0),
+    ];
+    for (octets, token, steps) in rows {
+        let (found, taken) = behind_the_first(octets);
+        assert_eq!(rt; found, Some(Ok(token)), "at {octets:?}");
+        assert_eq!(rt; taken, steps, "at {octets:?}");
+    }
+    for octets in [b"]" as &[u8], b"][", b"[", b"[nl", b"[]"] {
+        let (found, taken) = behind_the_first(octets);
+        assert_eq!(rt; found, Some(Err(TokenFault { at: 0 })), "at {octets:?}");
+        assert!(rt; taken <= octets.len() as u64, "at {octets:?}");
     }
 }
 

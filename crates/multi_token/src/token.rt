@@ -1,6 +1,6 @@
 //! Tokens of a counted source.
 
-ghost use Rattle.std.specs.Prelude.{◌≡◌, ◌+◌, ◌-◌, ◌^◌, ◌<◌, ◌≤◌, ◌⊎◌, length, drop, slice_get, slice_range, IfOk, IfErr, IfSome, IfNone, OnErr, IsErr, IsSomeAnd, Ok, None};
+ghost use Rattle.std.specs.Prelude.{◌≡◌, ◌+◌, ◌-◌, ◌^◌, ◌<◌, ◌≤◌, ◌⊎◌, length, drop, slice_get, slice_range, IfOk, IfErr, IfSome, IfNone, OnErr, IsErr, Ok, None};
 ghost use Rattle.std.specs.List.{All};
 ghost use Rattle.multi_token.specs.Counted.{charged, RisesBetween};
 ghost use Rattle.multi_token.specs.Spelling.{IsPlain, HasNoItem};
@@ -56,49 +56,72 @@ pub fn next_token(source: &mut Source<'_>, at: usize) -> Result<Option<Token>, T
     let Some(first) = source.read(at) else {
         return Ok(None);
     };
+    match rest_of_token(source, at, first) {
+        Ok(token) => Ok(Some(token)),
+        Err(fault) => Err(fault),
+    }
+}
+
+/// The token at an offset whose octet was read already, and is `first`. A broken bracket there is a [`TokenFault`].
+///
+/// The first octet isn't read again: a token takes a step for each of its other octets, and a broken bracket at most as many
+/// steps as there are octets from there on.
+pub fn rest_of_token(source: &mut Source<'_>, at: usize, first: u8) -> Result<Token, TokenFault>
+    requires first { slice_get source.old.octets at ≡ Some first }
+    // whoever read the octet knows this of the source
+    requires room { length source.old.octets < 2 ^ 63 }
+    ensures token { IfOk result (λ t. (t.at ≡ at) × IsTokenOf source.old.octets t) }
+    ensures fault { IfErr result (λ f. f.at ≡ at) }
+    ensures none_stands { OnErr result (HasNoItem (drop at source.old.octets)) }
+    ensures at_none { HasNoItem (drop at source.old.octets) → IsErr result }
+
+    // the steps of a token and of a fault
+    ensures token_steps { IfOk result (λ t. source.new ≡ charged source.old (t.len - 1)) }
+    ensures fault_steps { OnErr result (RisesBetween source.old source.new 0 (length source.old.octets - at)) }
+{
     match first {
         b'[' => open_bracket(source, at),
         b']' => close_bracket(source, at),
-        number => Ok(Some(Token {
+        number => Ok(Token {
             at,
             len: 1,
             kind: Kind::Char(number),
-        })),
+        }),
     }
 }
 
 /// What begins with an opening bracket, which is read already.
-fn open_bracket(source: &mut Source<'_>, at: usize) -> Result<Option<Token>, TokenFault>
+fn open_bracket(source: &mut Source<'_>, at: usize) -> Result<Token, TokenFault>
     requires first { slice_get source.old.octets at ≡ Some 91 }
     requires room { length source.old.octets < 2 ^ 63 }
-    ensures token { IfOk result (λ o. IsSomeAnd o (λ t.
-        (t.at ≡ at) × IsTokenOf source.old.octets t × (source.new ≡ charged source.old (t.len - 1)))) }
+    ensures token { IfOk result (λ t.
+        (t.at ≡ at) × IsTokenOf source.old.octets t × (source.new ≡ charged source.old (t.len - 1))) }
     ensures fault { IfErr result (λ f.
         (f.at ≡ at) × HasNoItem (drop at source.old.octets) × RisesBetween source.old source.new 0 (length source.old.octets - at)) }
 {
-    let (end, bracket) = skip_plain(source, at + 1);
+    let (end, bracket) = source.find_bracket(at + 1);
     match bracket {
-        Some(b'[') if end == at + 1 => Ok(Some(doubled_bracket(at, b'['))),
-        Some(b']') if end > at + 1 => Ok(Some(Token {
+        Some(b'[') if end == at + 1 => Ok(doubled_bracket(at, b'[')),
+        Some(b']') if end > at + 1 => Ok(Token {
             at,
             len: end + 1 - at,
             kind: Kind::Tag,
-        })),
+        }),
         _ => Err(TokenFault { at }),
     }
 }
 
 /// What begins with a closing bracket, which is read already.
-fn close_bracket(source: &mut Source<'_>, at: usize) -> Result<Option<Token>, TokenFault>
+fn close_bracket(source: &mut Source<'_>, at: usize) -> Result<Token, TokenFault>
     requires first { slice_get source.old.octets at ≡ Some 93 }
     requires room { length source.old.octets < 2 ^ 63 }
-    ensures token { IfOk result (λ o. IsSomeAnd o (λ t.
-        (t.at ≡ at) × IsTokenOf source.old.octets t × (source.new ≡ charged source.old (t.len - 1)))) }
+    ensures token { IfOk result (λ t.
+        (t.at ≡ at) × IsTokenOf source.old.octets t × (source.new ≡ charged source.old (t.len - 1))) }
     ensures fault { IfErr result (λ f.
         (f.at ≡ at) × HasNoItem (drop at source.old.octets) × RisesBetween source.old source.new 0 (length source.old.octets - at)) }
 {
     if source.read(at + 1) == Some(b']') {
-        Ok(Some(doubled_bracket(at, b']')))
+        Ok(doubled_bracket(at, b']'))
     } else {
         Err(TokenFault { at })
     }
@@ -112,24 +135,5 @@ fn doubled_bracket(at: usize, bracket: u8) -> Token
         at,
         len: 2,
         kind: Kind::Char(bracket),
-    }
-}
-
-/// Where the first bracket from an offset on stands, with that octet, or the end.
-fn skip_plain(source: &mut Source<'_>, from: usize) -> (usize, Option<u8>)
-    requires start { from ≤ length source.old.octets }
-    requires room { length source.old.octets < 2 ^ 63 }
-    ensures range { (from ≤ result.0) × (result.0 ≤ length source.old.octets) }
-    ensures plain { All IsPlain (slice_range source.old.octets from result.0) }
-    ensures stop { result.1 ≡ slice_get source.old.octets result.0 }
-    ensures bracket { IfSome result.1 (λ octet. (octet ≡ 91) ⊎ (octet ≡ 93)) }
-    ensures steps { source.new ≡ charged source.old (result.0 - from + 1) }
-{
-    let mut end = from;
-    loop {
-        match source.read(end) {
-            Some(octet) if octet != b'[' && octet != b']' => end += 1,
-            stop => return (end, stop),
-        }
     }
 }
