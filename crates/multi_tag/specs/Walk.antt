@@ -1,5 +1,6 @@
 -- A walk over the body of a tag, one counted read for each octet.
-use Rattle.std.specs.Prelude.{◌≡◌, ℕ, ◌-◌, ◌≤◌, List, [], ◌∷◌, length, slice_range, Option, Some, None}
+use Rattle.std.specs.Prelude.{◌≡◌, ℕ, ◌-◌, ◌≤◌, List, [], ◌∷◌, length, slice_range, Option, Some, None, option_map}
+use Rattle.std.specs.Char.{to_ascii_lowercase}
 use Rattle.std.specs.Str.{str_to_ascii_lowercase}
 use Rattle.multi_token.specs.Counted.{Counted, charged}
 use Rattle.multi_tag.specs.declared.body_place.BodyPlace.{BodyPlace}
@@ -24,3 +25,7 @@ pub record HasReadOn (old new : Counted) (from to : BodyPlace) : Type 0 where
 abbrev pub IsNext : List ℕ → Option ℕ → List ℕ → Type 0
 IsNext octets None rest = (octets ≡ []) × (rest ≡ [])
 IsNext octets (Some octet) rest = octets ≡ octet ∷ rest
+
+-- the octet, if there is one, with a small letter for a capital one (own)
+abbrev pub small_letter : Option ℕ → Option ℕ
+small_letter = option_map to_ascii_lowercase

@@ -13,6 +13,7 @@ use crate::tag::{FontPick, Tag};
 use multi_token::Source;
 
 /// A font, and its version after a comma.
+#[inline(always)]
 pub fn read_font(source: &mut Source<'_>, cursor: &mut BodyPlace) -> Option<Tag>
     requires { IsWithin source.old cursor.old }
     ensures value { IsValueIn (table names.Font).rest (left source.old cursor.old) result }
@@ -39,6 +40,7 @@ pub fn read_font(source: &mut Source<'_>, cursor: &mut BodyPlace) -> Option<Tag>
 }
 
 /// A font's version, if that is all that is left.
+#[inline(always)]
 fn read_version(source: &mut Source<'_>, cursor: &mut BodyPlace) -> Option<u16>
     requires { IsWithin source.old cursor.old }
     ensures value { IsValueIn h (left source.old cursor.old) result }

@@ -26,6 +26,7 @@ pub enum Name {
 }
 
 /// The name that begins what is left of the body, or `None` where no listed name does.
+#[inline(always)]
 pub fn read_name(source: &mut Source<'_>, cursor: &mut BodyPlace) -> Option<Name>
     requires { IsWithin source.old cursor.old }
     ensures name { IfSome result (λ name.

@@ -16,7 +16,7 @@ use multi_token::{Source, Token};
 /// The fault is [`TagFault::Unsupported`] if no name of the table begins the body, and [`TagFault::Value`] if one does but
 /// what follows the name has none of its forms, or a number is outside its range.
 ///
-/// Each octet of the body is read at most once, and no other octet is read.
+/// It takes no more steps than the body has octets; a tag that is read takes exactly as many.
 pub fn read_tag(source: &mut Source<'_>, token: &Token) -> Result<Tag, TagFault>
     requires { IsTagOf source.old.octets token.now }
     // what is read is in the table, and what is in the table is read

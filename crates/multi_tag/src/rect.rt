@@ -14,6 +14,7 @@ use crate::tag::Tag;
 use multi_token::Source;
 
 /// Four numbers with commas between them.
+#[inline(always)]
 pub fn read_rect(source: &mut Source<'_>, cursor: &mut BodyPlace) -> Option<Tag>
     requires { IsWithin source.old cursor.old }
     ensures value { IsValueIn (table names.Rect).rest (left source.old cursor.old) result }
@@ -28,6 +29,7 @@ pub fn read_rect(source: &mut Source<'_>, cursor: &mut BodyPlace) -> Option<Tag>
 }
 
 /// A number, and the comma after it.
+#[inline(always)]
 fn read_before_comma(source: &mut Source<'_>, cursor: &mut BodyPlace) -> Option<u32>
     requires { IsWithin source.old cursor.old }
     ensures value { IsPartBefore comma (d 0 99999)
@@ -42,6 +44,7 @@ fn read_before_comma(source: &mut Source<'_>, cursor: &mut BodyPlace) -> Option<
 }
 
 /// A number, if that is all that is left.
+#[inline(always)]
 fn read_coordinate(source: &mut Source<'_>, cursor: &mut BodyPlace) -> Option<u32>
     requires { IsWithin source.old cursor.old }
     ensures value { IsValueIn (d 0 99999) (left source.old cursor.old) result }

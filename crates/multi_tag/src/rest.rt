@@ -16,6 +16,7 @@ use crate::times::{read_flash, read_times};
 use multi_token::Source;
 
 /// The value of a tag of this name, from what is left of its body.
+#[inline(always)]
 pub fn read_rest(source: &mut Source<'_>, cursor: &mut BodyPlace, name: Name) -> Option<Tag>
     requires { IsWithin source.old cursor.old }
     ensures value { IsValueIn (table name).rest (left source.old cursor.old) result }
@@ -43,6 +44,7 @@ pub fn read_rest(source: &mut Source<'_>, cursor: &mut BodyPlace, name: Name) ->
 }
 
 /// The tag, if nothing is left.
+#[inline(always)]
 fn read_nothing(source: &mut Source<'_>, cursor: &mut BodyPlace, tag: Tag) -> Option<Tag>
     requires { IsWithin source.old cursor.old }
     ensures value { IsValueIn (nothing tag) (left source.old cursor.old) result }

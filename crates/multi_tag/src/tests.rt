@@ -30,7 +30,7 @@ fn rect(x: u32, y: u32, w: u32, h: u32) -> Tag {
 
 #[test]
 fn listed_bodies_are_tags(rt: HostRuntime) {
-    let rows: [(&[u8], Tag); 44] = [
+    let rows: [(&[u8], Tag); 45] = [
         (b"[np]", Tag::NewPage),
         (b"[nl]", Tag::NewLine(None)),
         (b"[nl0]", Tag::NewLine(Some(0))),
@@ -48,6 +48,7 @@ fn listed_bodies_are_tags(rt: HostRuntime) {
         (b"[fo1,1a2B]", font(1, Some(6699))),
         (b"[fo2,0]", font(2, Some(0))),
         (b"[fo2,ffff]", font(2, Some(65535))),
+        (b"[fo2,aFfA]", font(2, Some(45050))),
         (b"[sc0]", Tag::CharSpacing(0)),
         (b"[sc255]", Tag::CharSpacing(255)),
         (b"[/SC]", Tag::CharSpacingEnd),
@@ -124,11 +125,13 @@ fn listed_bodies_are_tags(rt: HostRuntime) {
 
 #[test]
 fn a_name_with_another_rest_is_a_wrong_value(rt: HostRuntime) {
-    let rows: [&[u8]; 41] = [
+    let rows: [&[u8]; 45] = [
         b"[np1]",
         b"[nl256]",
         b"[nl123456]",
         b"[nl-1]",
+        b"[nl5/]",
+        b"[nl:]",
         b"[jl1]",
         b"[jl6]",
         b"[jp1]",
@@ -140,6 +143,8 @@ fn a_name_with_another_rest_is_a_wrong_value(rt: HostRuntime) {
         b"[fo1,]",
         b"[fo1,12345]",
         b"[fo1,g]",
+        b"[fo1,1G]",
+        b"[fo1,@]",
         b"[fo1,1,1]",
         b"[sc]",
         b"[sc256]",

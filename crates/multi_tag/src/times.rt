@@ -13,6 +13,7 @@ use crate::tag::Tag;
 use multi_token::Source;
 
 /// One time, or two times with this letter between them.
+#[inline(always)]
 pub fn read_times(
     source: &mut Source<'_>,
     cursor: &mut BodyPlace,
@@ -37,6 +38,7 @@ pub fn read_times(
 }
 
 /// The times of a flash: it is on first if they begin with a 't', and off first if they begin with an 'o'.
+#[inline(always)]
 pub fn read_flash(source: &mut Source<'_>, cursor: &mut BodyPlace) -> Option<Tag>
     requires { IsWithin source.old cursor.old }
     ensures value { IsValueIn (table names.Flash).rest (left source.old cursor.old) result }
