@@ -1,5 +1,5 @@
 -- Defaults that a sign takes in place of its own.
-use Rattle.std.proofs.Common.{◌≡◌, ℕ, ◌≤◌, ◌==◌, Bool, true, false, not, List, [], ◌∷◌, nat_le, Option, Some, None, refl, arith, inl, inr}
+use Rattle.std.proofs.Common.{◌≡◌, ℕ, ◌≤◌, ◌==◌, Bool, true, false, not, List, [], ◌∷◌, None, refl, arith, inl, inr}
 use Rattle.std.specs.Prelude.{find, option_map, is_some, All}
 use Rattle.std.proofs.lemmas.Bool.{and_parts, and_from, le-leb, leb-true, eqb-true, cases_Bool}
 use Rattle.std.proofs.lemmas.List.Elements.{All-head, All-tail}
@@ -10,7 +10,7 @@ use Rattle.sign_font.specs.Defaults.{under, are_values, default_fault}
 use Rattle.sign_font.specs.Sign.{FontData, SignData, font_numbered}
 use Rattle.sign_font.specs.Sound.{IsSound, IsSoundFont}
 use Rattle.sign_font.proofs.FaultLemmas.{passes}
-use Rattle.sign_font.proofs.SoundLemmas.{found_holds, within}
+use Rattle.sign_font.proofs.SoundLemmas.{within}
 
 -- no refusal, no limit that isn't kept
 kept : (a b : Bool) → option_map (λ (l : Bool × DefaultFault). l.1) (find (λ (l : Bool × DefaultFault). not l.0) ((a, Value) ∷ (b, FontUnknown) ∷ [])) ≡ None

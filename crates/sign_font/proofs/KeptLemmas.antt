@@ -1,27 +1,29 @@
 -- Cells as they are kept, at their font's height.
-use Rattle.std.proofs.Common.{◌≡◌, ℕ, ◌<◌, ◌==◌, true, List, [], ◌∷◌, ◌++◌, map, length, get_or, Option, Some, None, Ok, Err, refl, sym, ap, ◌∙◌}
-use Rattle.std.specs.Prelude.{find, option_map}
-use Rattle.std.specs.List.Sorted.{IsBinarySearchResult}
-use Rattle.std.specs.Ordering.{nat_cmp}
+use Rattle.std.proofs.Common.{◌≡◌, ℕ, zero, suc, arith, ◌==◌, List, [], ◌∷◌, ◌++◌, map, Option, Some, None, refl, sym, ap, ◌∙◌}
+use Rattle.std.specs.Prelude.{find, option_map, IfSome, All}
 use Rattle.std.proofs.lemmas.Simd.{map-map}
-use Rattle.std.proofs.lemmas.List.{map-append}
+use Rattle.std.proofs.lemmas.List.{length-map, map-append}
 use Rattle.sign_font.specs.declared.parts.CellPart.{CellPart}
 use Rattle.sign_font.specs.declared.font.FontInfo.{FontInfo}
 use Rattle.sign_font.specs.Cell.{SizedCell}
 use Rattle.sign_font.specs.Sign.{CellData, cell_of, unsized, sized, cell_numbered}
 use Rattle.sign_font.specs.Limits.{is_rising}
-use Rattle.sign_font.specs.Kept.{font_kept, IsFontKept}
-use Rattle.sign_font.proofs.FindLemmas.{find-map, found_there, found_nowhere}
+use Rattle.sign_font.specs.Kept.{AreNumbered, font_kept, IsFontKept}
+use Rattle.std.proofs.lemmas.List.Elements.{All-head, All-tail}
+use Rattle.sign_font.specs.Sound.{IsSoundCell, IsSoundFont}
+use Rattle.sign_font.proofs.FindLemmas.{find-map}
+use Rattle.sign_font.proofs.SoundLemmas.{found_holds}
 
 -- one more cell
 pub kept_more : (cells : List SizedCell) (parts : List CellPart) (cell : SizedCell) (part : CellPart) → map unsized cells ≡ map cell_of parts → unsized cell ≡ cell_of part
     → map unsized (cells ++ cell ∷ []) ≡ map cell_of (parts ++ part ∷ [])
 kept_more cells parts cell part made same = simp map-append (rw (made, same) refl)
 
-module _ (info : FontInfo) (cells : List SizedCell) (kept : IsFontKept info cells) (number : ℕ) where
-  rising : is_rising (map (λ (cell : SizedCell). cell.number) cells) ≡ true
-  rising = ap is_rising (sym (map-map (λ (cell : CellData). cell.number) unsized cells)) ∙ kept.sound.rising
+unsized_width : (found : Option SizedCell) → option_map (λ (cell : CellData). cell.width) (option_map unsized found) ≡ option_map (λ (cell : SizedCell). cell.width) found
+unsized_width None = refl
+unsized_width (Some cell) = refl
 
+module _ (info : FontInfo) (cells : List SizedCell) (kept : IsFontKept info cells) (number : ℕ) where
   -- what the font answers is what is found among the cells as they are kept
   answered : (found : Option SizedCell) → find (λ (cell : SizedCell). cell.number == number) cells ≡ found
       → option_map (sized (font_kept info cells)) (cell_numbered (font_kept info cells) number) ≡ option_map (sized (font_kept info cells)) (option_map unsized found)
@@ -31,13 +33,32 @@ module _ (info : FontInfo) (cells : List SizedCell) (kept : IsFontKept info cell
   resized : (cell : SizedCell) → cell.height ≡ info.height → sized (font_kept info cells) (unsized cell) ≡ cell
   resized cell e = ap (λ h. record { number = cell.number; width = cell.width; height = h; bits = cell.bits }) (sym e)
 
-  pub cell_there : (place : ℕ) (cell : SizedCell) → place < length cells → cell ≡ get_or cells place cell → IsBinarySearchResult (λ (x : SizedCell). nat_cmp x.number number) cells (Ok place)
-      → Some cell ≡ option_map (sized (font_kept info cells)) (cell_numbered (font_kept info cells) number)
-  cell_there place cell within is found =
-      let height : cell.height ≡ info.height = ap (λ (x : SizedCell). x.height) is ∙ kept.heights place cell within in
-      let there = found_there (λ (x : SizedCell). x.number) cells number rising place within found cell in
-      sym (answered (Some cell) (there ∙ ap Some (sym is)) ∙ ap Some (resized cell height))
+  resized_found : (found : Option SizedCell) → IfSome found (λ cell. cell.height ≡ info.height) → option_map (sized (font_kept info cells)) (option_map unsized found) ≡ found
+  resized_found None height = refl
+  resized_found (Some cell) height = ap Some (resized cell height)
 
-  pub cell_nowhere : (place : ℕ) → IsBinarySearchResult (λ (x : SizedCell). nat_cmp x.number number) cells (Err place)
-      → None ≡ option_map (sized (font_kept info cells)) (cell_numbered (font_kept info cells) number)
-  cell_nowhere place found = sym (answered None (found_nowhere (λ (x : SizedCell). x.number) cells number rising place found))
+  -- a cell that is found among those that are kept is the font's
+  pub cell_found : (found : Option SizedCell) → found ≡ find (λ (cell : SizedCell). cell.number == number) cells
+      → found ≡ option_map (sized (font_kept info cells)) (cell_numbered (font_kept info cells) number)
+  cell_found found is =
+      let height : IfSome found (λ cell. cell.height ≡ info.height) = rw is (found_holds (λ cell. cell.height ≡ info.height) (λ (cell : SizedCell). cell.number == number) cells kept.heights) in
+      sym (answered found (sym is) ∙ resized_found found height)
+
+  -- and has the width of the font's
+  pub width_found : option_map (λ (cell : SizedCell). cell.width) (find (λ (cell : SizedCell). cell.number == number) cells) ≡ option_map (λ (cell : CellData). cell.width) (cell_numbered (font_kept info cells) number)
+  width_found =
+      let found = find-map (λ (cell : CellData). cell.number == number) unsized cells in
+      sym (ap (option_map (λ (cell : CellData). cell.width)) found ∙ unsized_width (find (λ (cell : SizedCell). cell.number == number) cells))
+
+unmapped : (P : CellData → Type 0) (cells : List SizedCell) → All P (map unsized cells) → All (λ cell. P (unsized cell)) cells
+unmapped P [] all k d h = absurd (omega arith)
+unmapped P (cell ∷ cells) all zero d h = All-head P (unsized cell) (map unsized cells) all
+unmapped P (cell ∷ cells) all (suc k) d h = unmapped P cells (All-tail P (unsized cell) (map unsized cells) all) k d (omega arith)
+
+-- cells of a font within its limits have numbers that are octets and rise
+pub numbered : (info : FontInfo) (cells : List SizedCell) → IsSoundFont (font_kept info cells) → AreNumbered cells
+numbered info cells sound = record {
+  count = rw (← length-map cells unsized) sound.count;
+  octets = λ k d h. (unmapped (IsSoundCell info.height) cells sound.each k d h).number.1;
+  rising = ap is_rising (sym (map-map (λ (cell : CellData). cell.number) unsized cells)) ∙ sound.rising;
+}

@@ -4,6 +4,7 @@ pub mod FaultLemmas
 pub mod FindLemmas
 pub mod KeptLemmas
 pub mod LimitLemmas
+pub mod PlaceLemmas
 pub mod RisingLemmas
 pub mod SampleLemmas
 pub mod SoundLemmas

@@ -1,6 +1,6 @@
 -- A sign without a fault is within its limits.
-use Rattle.std.proofs.Common.{◌≡◌, ℕ, ◌+◌, ◌-◌, ◌*◌, ◌/◌, ◌<◌, ◌≤◌, ◌==◌, Bool, true, false, not, List, [], ◌∷◌, ◌++◌, length, map, get_or, Option, Some, None, refl, sym, subst, ◌∙◌, arith, inl, inr}
-use Rattle.std.specs.Prelude.{find, option_map, IfSome, All}
+use Rattle.std.proofs.Common.{◌≡◌, ℕ, ◌+◌, ◌-◌, ◌*◌, ◌/◌, ◌<◌, ◌≤◌, ◌==◌, Bool, true, false, not, List, [], ◌∷◌, ◌++◌, length, map, get_or, Option, Some, None, Bor, refl, sym, ap, subst, ◌∙◌, arith, inl, inr}
+use Rattle.std.specs.Prelude.{find, option_map, option_copied, unwrap_or, IfSome, All}
 use Rattle.std.specs.List.{list_all, range_with_len}
 use Rattle.std.proofs.lemmas.Bool.{and_parts, leb-true, eqb-true, not-true, cases_lt, cases_Bool}
 use Rattle.std.proofs.lemmas.List.Elements.{All-head, All-tail}
@@ -125,3 +125,26 @@ sized_sound font sound (Some found) cell = (cell.width, sound.height)
 pub cell_sized : (font : FontData) (number : ℕ) → IsSoundFont font → IfSome (option_map (sized font) (cell_numbered font number)) IsSoundSize
 cell_sized font number sound =
     sized_sound font sound (cell_numbered font number) (found_holds (IsSoundCell font.height) (λ cell. cell.number == number) font.cells sound.each)
+
+sound_width : (height : ℕ) (found : Option CellData) → IfSome found (IsSoundCell height) → IfSome (option_map (λ (cell : CellData). cell.width) found) (IsWithin 1 64)
+sound_width height None cell = tt
+sound_width height (Some found) cell = cell.width
+
+-- and of sound widths
+pub width_sound : (font : FontData) (number : ℕ) → IsSoundFont font → IfSome (option_map (λ (cell : CellData). cell.width) (cell_numbered font number)) (IsWithin 1 64)
+width_sound font number sound =
+    sound_width font.height (cell_numbered font number) (found_holds (IsSoundCell font.height) (λ cell. cell.number == number) font.cells sound.each)
+
+-- what holds of what is found holds of it where it is lent
+pub lent_holds : {X : Type 0} (P : X → Type 0) (lent : Option (Bor X)) (found : Option X) → option_copied lent ≡ found → IfSome found P → IfSome lent (λ x. P x.now)
+lent_holds P None found is holds = tt
+lent_holds P (Some x) found is holds = rw (← is) at holds
+
+-- a width table's 0 is for no cell
+pub no_width : (width : Option ℕ) → IfSome width (IsWithin 1 64) → unwrap_or width 0 ≡ 0 → None ≡ width
+no_width None sound is = refl
+no_width (Some width) sound is = absurd (omega (arith, sound.0))
+
+pub some_width : (width : Option ℕ) (result : ℕ) → result ≡ unwrap_or width 0 → (result ≡ 0 → ⊥) → Some result ≡ width
+some_width None result is some = absurd (some is)
+some_width (Some width) result is some = ap Some is

@@ -1,7 +1,8 @@
--- A font as it is kept: what it says of itself, and its cells at its height.
-use Rattle.std.specs.Prelude.{ℕ, ◌≡◌, List, map, All}
+-- A font as it is kept: what it says of itself, its cells at its height, and tables by which they are found.
+use Rattle.std.specs.Prelude.{ℕ, ◌<◌, ◌≤◌, ◌≡◌, ◌==◌, IsTrue, List, length, map, find, slice_get, slice_index, option_map, unwrap_or, All}
 use Rattle.sign_font.specs.declared.font.FontInfo.{FontInfo}
 use Rattle.sign_font.specs.Cell.{SizedCell}
+use Rattle.sign_font.specs.Limits.{is_rising}
 use Rattle.sign_font.specs.Sign.{FontData, unsized}
 use Rattle.sign_font.specs.Sound.{IsSoundFont}
 
@@ -24,3 +25,25 @@ AreAtHeight height cells = All (λ cell. cell.height ≡ height) cells
 pub record IsFontKept (info : FontInfo) (cells : List SizedCell) : Type 0 where
   pub heights : AreAtHeight info.height cells
   pub sound : IsSoundFont (font_kept info cells)
+
+-- at most 255 cells whose numbers are octets and rise (own)
+pub record AreNumbered (cells : List SizedCell) : Type 0 where
+  pub count : length cells ≤ 255
+  pub octets : All (λ cell. cell.number ≤ 255) cells
+  pub rising : IsTrue (is_rising (map (λ cell. cell.number) cells))
+
+-- by number below 256, the place of the first thing of that number, or a place where nothing stands (own)
+abbrev pub ArePlaces : {X : Type 0} → (X → ℕ) → List X → List ℕ → Type 0
+ArePlaces number_of things places =
+    (number : ℕ) → number < 256 → slice_get things (slice_index places number) ≡ find (λ thing. number_of thing == number) things
+
+-- by octet, the width of the cell of that number, or 0 (own)
+abbrev pub AreWidths : List SizedCell → List ℕ → Type 0
+AreWidths cells widths =
+    (octet : ℕ) → octet < 256 → slice_index widths octet ≡ unwrap_or (option_map (λ cell. cell.width) (find (λ cell. cell.number == octet) cells)) 0
+
+-- each cell's number is an octet, and the tables are those of these cells (own)
+pub record AreTables (cells : List SizedCell) (places widths : List ℕ) : Type 0 where
+  pub octets : All (λ cell. cell.number ≤ 255) cells
+  pub placed : ArePlaces (λ cell. cell.number) cells places
+  pub wide : AreWidths cells widths

@@ -1,6 +1,6 @@
 //! A character's cell, as a sign keeps it and as it is asked for.
 
-ghost use Rattle.std.specs.Prelude.{◌≡◌, ℕ, ◌<◌, ◌≤◌, length, IfOk};
+ghost use Rattle.std.specs.Prelude.{◌≡◌, ℕ, ◌<◌, ◌≤◌, length, slice_index, IfOk};
 ghost use Rattle.sign_font.specs.Cell.{is_lit, IsRowOf};
 
 use crate::bits::{is_set, rows_of};
@@ -56,6 +56,13 @@ impl Glyph {
     {
         self.number
     }
+
+    /// Columns, in pixels.
+    pub(crate) fn width(&self) -> u8
+        ensures { result ≡ self.now.width }
+    {
+        self.width
+    }
 }
 
 /// A character's cell in a font of a sign (NTCIP 1203 v03, object characterTable).
@@ -95,6 +102,15 @@ impl<'a> Cell<'a> {
     {
         let glyph = self.glyph;
         glyph.rows[r as usize]
+    }
+
+    /// All rows from the top, each as one word as `row` answers it.
+    pub fn rows(&self) -> &[u64]
+        ensures count { length result.now ≡ self.now.height }
+        ensures each { (r : ℕ) → r < self.now.height → IsRowOf self.now r (slice_index result.now r) }
+    {
+        let glyph = self.glyph;
+        &glyph.rows
     }
 
     /// Whether a pixel is lit. Its column is counted from 0 at the left, and its row from 0 at the top.

@@ -2,9 +2,10 @@
 
 ghost use Rattle.std.specs.Prelude.{◌≡◌, ℕ, IfOk, IfSome, option_map};
 ghost use Rattle.sign_font.specs.Sign.{font_of, info_of, cell_numbered, sized};
-ghost use Rattle.sign_font.specs.Sound.{IsSoundFont, IsSoundSize};
+ghost use Rattle.sign_font.specs.Sound.{IsSoundFont, IsSoundSize, IsWithin};
 
 use crate::cell::{Cell, Glyph};
+use crate::glyphs::Glyphs;
 use crate::parts::FontPart;
 use std::alloc::{AllocError, Global};
 use std::marker::Model;
@@ -28,7 +29,7 @@ pub struct FontInfo {
 #[derive(Drop)]
 pub(crate) struct Font {
     info: FontInfo,
-    glyphs: Vec<Glyph>,
+    glyphs: Glyphs,
 }
 
 impl Model for Font {
@@ -37,9 +38,9 @@ impl Model for Font {
 
     ghost Value = { FontData };
 
-    ghost view = { λ f. font_kept f.info f.glyphs.items };
+    ghost view = { λ f. font_kept f.info f.glyphs };
 
-    ghost invariant = { λ f. IsFontKept f.info f.glyphs.items };
+    ghost invariant = { λ f. IsFontKept f.info f.glyphs };
 }
 
 impl Font {
@@ -59,7 +60,10 @@ impl Font {
         for cell in part.cells {
             glyphs.push(Glyph::new(alloc, cell, info.height)?)?;
         }
-        Ok(Font { info, glyphs })
+        Ok(Font {
+            info,
+            glyphs: Glyphs::new(glyphs),
+        })
     }
 
     /// The font's number.
@@ -76,17 +80,23 @@ impl Font {
         self.info
     }
 
-    /// The cell of a number, found by halves.
+    /// The cell of a number.
     pub(crate) fn cell(&self, number: u16) -> Option<Cell<'_>>
         ensures cell { result ≡ option_map (sized self.now) (cell_numbered self.now number) }
         ensures size { IfSome result IsSoundSize }
     {
-        match self
-            .glyphs
-            .binary_search_by_key(&number, |glyph| glyph.number())
-        {
-            Ok(place) => Some(Cell::new(&self.glyphs[place])),
-            Err(_) => None,
+        match self.glyphs.find(number) {
+            Some(glyph) => Some(Cell::new(glyph)),
+            None => None,
         }
+    }
+
+    /// The width of the cell of an octet.
+    pub(crate) fn cell_width(&self, octet: u8) -> Option<u8>
+        ensures width { result ≡ option_map (λ cell. cell.width) (cell_numbered self.now octet) }
+        ensures size { IfSome result (IsWithin 1 64) }
+    {
+        let width = self.glyphs.width(octet);
+        if width == 0 { None } else { Some(width) }
     }
 }

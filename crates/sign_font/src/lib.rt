@@ -3,13 +3,16 @@
 //! A sign is made from [`SignParts`], the numbers of a file that somebody wrote by hand. If they are outside a limit,
 //! [`Sign::new`] refuses them with the first [`SignFault`]. An accepted [`Sign`] is exactly what was written.
 //!
-//! Only [`Sign::font`] and [`Sign::cell`] look up its fonts and their cells, and each call counts as one step.
+//! Only [`Sign::font`], [`Sign::cell`] and [`Sign::cell_width`] look up its fonts and their cells, and each call counts as
+//! one step.
 #![tactic(auto)]
 
 mod bits;
 mod cell;
 mod fault;
 mod font;
+mod fonts;
+mod glyphs;
 mod limits;
 mod parts;
 mod sample;

@@ -11,6 +11,7 @@ ghost use Rattle.sign_font.specs.Sound.{IsSound, IsSoundFont, IsSoundSize, IsWit
 use crate::cell::Cell;
 use crate::fault::{DefaultFault, SignFault};
 use crate::font::{Font, FontInfo};
+use crate::fonts::Fonts;
 use crate::limits::{are_known, first_fault};
 use crate::parts::{Defaults, FontPart, SignParts};
 use multi_token::Source;
@@ -19,7 +20,8 @@ use std::marker::Model;
 
 /// A sign within its limits, with its fonts (own).
 ///
-/// Only `font` and `cell` look up its fonts and their cells, and each call counts as one step. All other calls take no step.
+/// Only `font`, `cell` and `cell_width` look up its fonts and their cells, and each call counts as one step. All other calls
+/// take no step.
 #[derive(Drop)]
 pub struct Sign {
     width: u16,
@@ -29,7 +31,7 @@ pub struct Sign {
     beacons: bool,
     pixel_service: bool,
     defaults: Defaults,
-    fonts: Vec<Font>,
+    fonts: Fonts,
 }
 
 impl Model for Sign {
@@ -46,7 +48,7 @@ impl Model for Sign {
       beacons = s.beacons;
       pixel_service = s.pixel_service;
       defaults = s.defaults;
-      fonts = s.fonts.items;
+      fonts = s.fonts;
     } };
 
     ghost invariant = { λ s. IsSound (view s) };
@@ -78,7 +80,7 @@ impl Sign {
             beacons: parts.beacons,
             pixel_service: parts.pixel_service,
             defaults: parts.defaults,
-            fonts,
+            fonts: Fonts::new(fonts),
         })
     }
 
@@ -181,6 +183,7 @@ impl Sign {
         ensures sound { IsSound self.now }
     {
         self.fonts
+            .as_slice()
             .iter()
             .map(|font| font.info().height)
             .max()
@@ -207,6 +210,17 @@ impl Sign {
         self.probe(source, font)?.cell(number)
     }
 
+    /// The width in pixels of the cell of an octet in the font of a number: 1 to 64, or `None` if the sign lacks either. Either
+    /// way this takes one step.
+    pub fn cell_width(&self, source: &mut Source<'_>, font: u8, octet: u8) -> Option<u8>
+        ensures width { result ≡ option_map (λ cell. cell.width) (cell_in self.now font octet) }
+        ensures size { IfSome result (IsWithin 1 64) }
+        ensures step { source.new ≡ charged source.old 1 }
+        ensures sound { IsSound self.now }
+    {
+        self.probe(source, font)?.cell_width(octet)
+    }
+
     /// The font of a number, for one step.
     fn probe(&self, source: &mut Source<'_>, number: u8) -> Option<&Font>
         ensures font { option_copied result ≡ font_numbered self.now number }
@@ -223,7 +237,7 @@ impl Sign {
         ensures within { IfSome result (λ font. IsSoundFont font.now) }
         ensures sound { IsSound self.now }
     {
-        self.fonts.iter().find(|font| font.number() == number)
+        self.fonts.find(number)
     }
 }
 

@@ -67,6 +67,28 @@ fn with_cells(alloc: Global, last: u16) -> Result<SignParts, AllocError> {
     Ok(parts)
 }
 
+/// The sample with cells up to number 255 in its second font, each of one row with its first pixel lit, 1 to 64 pixels wide.
+fn with_widths(alloc: Global) -> Result<SignParts, AllocError> {
+    let mut parts = with_fonts(alloc, 3)?;
+    if let Some(font) = parts.fonts.get_mut(1) {
+        font.height = 1;
+        font.cells.clear();
+        for number in 1..256u16 {
+            let width = (number % 64) as u8 + 1;
+            let mut bits = Vec::from_elem(alloc, 0, (usize::from(width) + 7) / 8)?;
+            if let Some(first) = bits.first_mut() {
+                *first = 0x80;
+            }
+            font.cells.push(CellPart {
+                number,
+                width,
+                bits,
+            })?;
+        }
+    }
+    Ok(parts)
+}
+
 #[test]
 fn the_sample_says_what_was_written(rt: HostRuntime) -> Result<(), Fail> {
     let sign = Sign::new(rt.alloc(), sample_sign(rt.alloc())?)?;
@@ -131,6 +153,94 @@ fn the_cells_of_a_are_drawn_row_by_row(rt: HostRuntime) -> Result<(), Fail> {
         assert_eq!(rt; large.row(row), bits << 60, "row {row}");
     }
     assert!(rt; !large.bit(0, 0) && large.bit(1, 0) && large.bit(2, 0) && !large.bit(3, 0));
+    Ok(())
+}
+
+#[test]
+fn rows_are_those_of_the_cell_from_the_top(rt: HostRuntime) -> Result<(), Fail> {
+    let sign = Sign::new(rt.alloc(), sample_sign(rt.alloc())?)?;
+    let mut source = Source::new(b"A");
+    let small = sign.cell(&mut source, 1, 65).ok_or("no small A")?;
+    let large = sign.cell(&mut source, 2, 65).ok_or("no large A")?;
+    let rows = [0b010 << 61, 0b111 << 61, 0b101 << 61];
+    assert_eq!(rt; small.rows(), rows.as_slice());
+    let rows = [
+        0b0110 << 60,
+        0b1001 << 60,
+        0b1111 << 60,
+        0b1001 << 60,
+        0b1001 << 60,
+    ];
+    assert_eq!(rt; large.rows(), rows.as_slice());
+    Ok(())
+}
+
+#[test]
+fn each_octet_finds_its_own_cell_and_width_in_one_step(rt: HostRuntime) -> Result<(), Fail> {
+    let sign = Sign::new(rt.alloc(), with_widths(rt.alloc())?)?;
+    let mut source = Source::new(b"A");
+    for octet in 0..=255u8 {
+        let width = (octet != 0).then_some(octet % 64 + 1);
+        assert_eq!(rt;
+            sign.cell_width(&mut source, 2, octet),
+            width,
+            "octet {octet}"
+        );
+        let cell = sign.cell(&mut source, 2, u16::from(octet));
+        assert_eq!(rt;
+            cell.map(|cell| cell.width()),
+            width,
+            "the cell of octet {octet}"
+        );
+        assert_eq!(rt;
+            sign.cell_width(&mut source, 3, octet),
+            None,
+            "a font of none, octet {octet}"
+        );
+        assert!(rt;
+            sign.cell(&mut source, 3, u16::from(octet)).is_none(),
+            "octet {octet}"
+        );
+        assert_eq!(rt;
+            sign.cell_width(&mut source, 9, octet),
+            None,
+            "no font, octet {octet}"
+        );
+    }
+    assert_eq!(rt; source.steps(), 5 * 256);
+    for number in [256, 257, 321, 65535] {
+        assert!(rt;
+            sign.cell(&mut source, 2, number).is_none(),
+            "cell {number}"
+        );
+    }
+    assert_eq!(rt;
+        sign.cell_width(&mut source, 1, 65),
+        Some(3),
+        "of the first font"
+    );
+    Ok(())
+}
+
+#[test]
+fn each_number_finds_its_own_font(rt: HostRuntime) -> Result<(), Fail> {
+    let mut source = Source::new(b"A");
+    let sixteen = Sign::new(rt.alloc(), with_fonts(rt.alloc(), 16)?)?;
+    let mut parts = sample_sign(rt.alloc())?;
+    if let Some(font) = parts.fonts.last_mut() {
+        font.number = 255;
+    }
+    let ends = Sign::new(rt.alloc(), parts)?;
+    for number in 0..=255u8 {
+        let found = sixteen.font(&mut source, number).map(|font| font.number);
+        let known = (1..=16).contains(&number).then_some(number);
+        assert_eq!(rt; found, known, "font {number} of sixteen");
+        let found = ends.font(&mut source, number).map(|font| font.number);
+        let known = (number == 1 || number == 255).then_some(number);
+        assert_eq!(rt; found, known, "font {number} of 1 and 255");
+    }
+    assert_eq!(rt; ends.cell_width(&mut source, 255, 65), Some(4));
+    assert_eq!(rt; ends.cell_width(&mut source, 1, 65), Some(3));
     Ok(())
 }
 

@@ -1,10 +1,12 @@
-use Rattle.std.proofs.Common.{◌≡◌, ◌∷◌, [], ◌∙◌, ap, append_assoc, length, arith, refl}
+use Rattle.std.proofs.Common.{◌≡◌, ◌∷◌, [], ◌∙◌, ap, append_assoc, length, map, arith, refl, sym, subst}
 use Rattle.std.specs.Vec.Iter.{into_iter_items}
+use Rattle.std.proofs.lemmas.List.{append-nil, nil_from_length}
 use Rattle.std.proofs.lemmas.List.Elements.{All-push}
 use Rattle.sign_font.specs.Cell.{SizedCell}
-use Rattle.sign_font.specs.Sign.{cell_of}
-use Rattle.sign_font.specs.Sound.{IsSoundCell}
-use Rattle.sign_font.proofs.KeptLemmas.{kept_more}
+use Rattle.sign_font.specs.declared.font.FontInfo.{FontInfo}
+use Rattle.sign_font.specs.Sign.{cell_of, unsized}
+use Rattle.sign_font.specs.Sound.{IsSoundCell, IsSoundFont}
+use Rattle.sign_font.proofs.KeptLemmas.{kept_more, numbered}
 use Rattle.sign_font.proofs.SoundLemmas.{All-among}
 use Rattle.sign_font.proofs.font.Font.new.Goals as goal
 
@@ -29,3 +31,27 @@ loop-cell-preserved c =
           let short = ap length steps in
           omega arith;
     }
+
+pub new-requires-2 : goal.new-requires-2
+new-requires-2 c =
+    let at = c.loop-cell in
+    let part = c.args.part in
+    let none : into_iter_items at.cell-iterator ≡ [] = nil_from_length _ (omega (arith, at.invariant.len, c.in-None.ensures.steps.0)) in
+    let whole : at.yielded ≡ part.cells.items = sym (append-nil at.yielded) ∙ (rw none at at.invariant.so_far) ∙ c.into_iter-cell-iterator.ensures.into_iter_gives.0 in
+    let made : map cell_of part.cells.items ≡ map unsized at.glyphs.items = sym (at.invariant.made ∙ ap (map cell_of) whole) in
+    let info : FontInfo = record {
+      number = part.number;
+      version = part.version;
+      height = part.height;
+      char_spacing = part.char_spacing;
+      line_spacing = part.line_spacing;
+    } in
+    numbered info at.glyphs.items
+    (subst (λ cells. IsSoundFont (record {
+      number = part.number;
+      version = part.version;
+      height = part.height;
+      char_spacing = part.char_spacing;
+      line_spacing = part.line_spacing;
+      cells = cells;
+    })) made c.requires)
