@@ -6,14 +6,8 @@ use Rattle.std.proofs.lemmas.Nat.{shr-shr, shl_whole, shr_below, pow_pos}
 use Rattle.std.proofs.lemmas.Nat.Bits.{bit_at_ones, bit_at_and, bit_at_or, bit_at_not, bit_at-lt, bit_at_above, bit_at-zero, bit_at_cat_low, bit_at_cat_high, ones_shl, bit_at_mask_inside, bit_at_mask_below}
 use Rattle.page_plane.specs.Put.{is_row_set, is_put}
 
--- octet k of a filled row, where all of it lies in the row
-pub full_octet : (k j width : ℕ) → j < 8 → 8 * k + 8 ≤ width → (bit_at 255 (7 - j) == 1) ≡ nat_lt (8 * k + j) width
-full_octet k j width h e =
-    let one : bit_at 255 (7 - j) ≡ 1 = bit_at_ones 8 (7 - j) (omega arith) in
-    eq-eqb (bit_at 255 (7 - j)) 1 one ∙ sym (lt-ltb (8 * k + j) width (omega arith))
-
--- and where the row ends in it
-pub last_octet : (k j width : ℕ) → j < 8 → 8 * k < width → width < 8 * k + 8 → (bit_at (255 * 2 ^ (8 * k + 8 - width) % 256) (7 - j) == 1) ≡ nat_lt (8 * k + j) width
+-- an octet of a filled row in which the row ends
+last_octet : (k j width : ℕ) → j < 8 → 8 * k < width → width < 8 * k + 8 → (bit_at (255 * 2 ^ (8 * k + 8 - width) % 256) (7 - j) == 1) ≡ nat_lt (8 * k + j) width
 last_octet k j width h l g =
     let spare = 8 * k + 8 - width in
     let few : spare < 8 = omega arith in
@@ -26,6 +20,12 @@ last_octet k j width h l g =
           let none : bit_at (256 - 2 ^ spare) (7 - j) ≡ 0 = bit_at_mask_below spare 8 (7 - j) (omega arith) in
           rw mask (ne_eqb (bit_at (256 - 2 ^ spare) (7 - j)) 1 (λ one. absurd (omega arith)) ∙ sym (le-ltb (8 * k + j) width e))
     ]
+
+-- the last octet of rows of this many octets, which the width ends in
+pub end_octet : (len j width : ℕ) → j < 8 → 8 * (len - 1) < width → width < 8 * len → (bit_at (255 * 2 ^ (8 * len - width) % 256) (7 - j) == 1) ≡ nat_lt (8 * (len - 1) + j) width
+end_octet len j width h l g =
+    let same : 8 * (len - 1) + 8 ≡ 8 * len = omega arith in
+    subst (λ n. (bit_at (255 * 2 ^ (n - width) % 256) (7 - j) == 1) ≡ nat_lt (8 * (len - 1) + j) width) same (last_octet (len - 1) j width h l (omega arith))
 
 -- octet k of 128 bits
 pub octet_bit : (bits k j : ℕ) → k < 16 → j < 8 → bit_at (bit_and (bits / 2 ^ (120 - 8 * k)) 255) (7 - j) ≡ bit_at bits (127 - (8 * k + j))

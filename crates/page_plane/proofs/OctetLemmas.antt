@@ -1,13 +1,13 @@
 -- Bits of octets after a write, and in a part.
-use Rattle.std.proofs.Common.{◌≡◌, ◌≢◌, ℕ, ◌<◌, ◌≤◌, ◌+◌, ◌-◌, ◌*◌, ◌/◌, ◌%◌, Bool, false, ◌==◌, ◌&&◌, nat_lt, if◌then◌else◌, List, length, set, get_or, take, drop, replicate, refl, sym, ap, ◌∙◌, inl, inr, arith}
+use Rattle.std.proofs.Common.{◌≡◌, ◌≢◌, ℕ, ◌<◌, ◌≤◌, ◌+◌, ◌-◌, ◌*◌, ◌/◌, ◌%◌, Bool, true, false, ◌==◌, ◌&&◌, nat_lt, if◌then◌else◌, List, length, set, get_or, slice_index, take, drop, replicate, refl, sym, ap, ◌∙◌, inl, inr, arith}
 use Rattle.std.specs.Int.{bit_at}
-use Rattle.std.proofs.lemmas.Bool.{lt-ltb, le-ltb, cases_lt, cases_eq}
+use Rattle.std.proofs.lemmas.Bool.{lt-ltb, le-ltb, eq-eqb, cases_lt, cases_eq}
 use Rattle.std.proofs.lemmas.Nat.{mod-mul-add}
-use Rattle.std.proofs.lemmas.Nat.Bits.{bit_at-zero}
-use Rattle.std.proofs.lemmas.List.{get_or-set_same, get_or-set_other, get_or_past, get_or-take, get_or-drop, get_or-replicate, length-replicate}
-use Rattle.page_plane.specs.Octets.{row_octets, is_bit_set}
-use Rattle.page_plane.specs.Put.{is_put}
-use Rattle.page_plane.proofs.PutLemmas.{put_moved, put_left, put_right}
+use Rattle.std.proofs.lemmas.Nat.Bits.{bit_at-zero, bit_at_ones}
+use Rattle.std.proofs.lemmas.List.{get_or-set_same, get_or-set_other, get_or_past, get_or-take, get_or-drop, get_or-replicate, length-replicate, length-set}
+use Rattle.page_plane.specs.Octets.{row_octets, is_bit_set, bit_place}
+use Rattle.page_plane.specs.Put.{is_put, IsBlockPutAt}
+use Rattle.page_plane.proofs.PutLemmas.{put_moved, put_left, put_right, put_place, put_elsewhere, first_none, first_below, first_here, first_other}
 
 -- a write changes the bits of its octet alone
 pub set_here : (octets : List ℕ) (at octet place : ℕ) → at < length octets → place / 8 ≡ at → is_bit_set (set octets at octet) place ≡ (bit_at octet (7 - place % 8) == 1)
@@ -50,20 +50,50 @@ part_bit octets start len place h =
 abbrev pub IsFilledBelow : List ℕ → ℕ → Bool → ℕ → Type 0
 IsFilledBelow octets width on end = (place : ℕ) → place < end → is_bit_set octets place ≡ (on && nat_lt (place % (8 * row_octets width)) width)
 
--- one octet more
-pub filled_more : (octets : List ℕ) (k octet width : ℕ) (on : Bool) → k < length octets → 1 ≤ width
-    → ((j : ℕ) → j < 8 → (bit_at octet (7 - j) == 1) ≡ (on && nat_lt (8 * (k % row_octets width) + j) width))
-    → IsFilledBelow octets width on (8 * k) → IsFilledBelow (set octets k octet) width on (8 * (k + 1))
-filled_more octets k octet width on h w bits before place below = elim (cases_eq (place / 8) k) [
-  | inl e ↦
-      let len = row_octets width in
-      let j = place % 8 in
-      let some : 0 < len = omega arith in
-      let there : place ≡ k / len * (8 * len) + (8 * (k % len) + j) = omega arith in
-      let column : place % (8 * len) ≡ 8 * (k % len) + j = ap (λ n. n % (8 * len)) there ∙ mod-mul-add (k / len) (8 * len) (8 * (k % len) + j) (omega arith) in
-      set_here octets k octet place h e ∙ bits j (omega arith) ∙ ap (λ n. on && nat_lt n width) (sym column)
-  | inr n ↦ set_elsewhere octets k octet place n ∙ before place (omega arith)
-]
+-- octets of 255 have every bit set
+pub all_set : (n place : ℕ) → place < 8 * n → is_bit_set (replicate n 255) place ≡ true
+unfolding is_bit_set
+all_set n place h = rw (get_or-replicate {A = ℕ} n (place / 8) 255 0 (omega arith)) (eq-eqb (bit_at 255 (7 - place % 8)) 1 (bit_at_ones 8 (7 - place % 8) (omega arith)))
+
+-- the first rows are those of a filled plane, and all bits behind them are set
+abbrev pub AreEnded : List ℕ → ℕ → ℕ → Type 0
+AreEnded octets width y = (place : ℕ) → place < 8 * length octets
+    → is_bit_set octets place ≡ (if nat_lt place (y * (8 * row_octets width)) then nat_lt (place % (8 * row_octets width)) width else true)
+
+pub ended_none : (octets : List ℕ) (width : ℕ) → octets ≡ replicate (length octets) 255 → AreEnded octets width 0
+ended_none octets width full place h =
+    ap (λ (ns : List ℕ). is_bit_set ns place) full ∙ all_set (length octets) place h ∙ rw (le-ltb place (0 * (8 * row_octets width)) (omega arith)) refl
+
+-- one row more
+pub ended_more : (octets : List ℕ) (width y last : ℕ) → width < 8 * row_octets width → (y + 1) * row_octets width ≤ length octets
+    → ((j : ℕ) → j < 8 → (bit_at last (7 - j) == 1) ≡ nat_lt (8 * (row_octets width - 1) + j) width)
+    → AreEnded octets width y → AreEnded (set octets (y * row_octets width + (row_octets width - 1)) last) width (y + 1)
+ended_more octets width y last some room bits before place within =
+    let len = row_octets width in
+    let at = y * len + (len - 1) in
+    let inside : place < 8 * length octets = rw (length-set octets at last) at within in
+    elim (cases_eq (place / 8) at) [
+      | inl e ↦
+          let j = place % 8 in
+          let there : place ≡ y * (8 * len) + (8 * (len - 1) + j) = omega arith in
+          let column : place % (8 * len) ≡ 8 * (len - 1) + j = ap (λ n. n % (8 * len)) there ∙ mod-mul-add y (8 * len) (8 * (len - 1) + j) (omega arith) in
+          let done : place < (y + 1) * (8 * len) = omega arith in
+          set_here octets at last place (omega arith) e ∙ bits j (omega arith) ∙ rw (lt-ltb place ((y + 1) * (8 * len)) done, column) refl
+      | inr n ↦ set_elsewhere octets at last place n ∙ before place inside ∙ elim (cases_lt place (y * (8 * len))) [
+        | inl l ↦
+            let done : place < (y + 1) * (8 * len) = omega arith in
+            rw (lt-ltb place (y * (8 * len)) l, lt-ltb place ((y + 1) * (8 * len)) done) refl
+        | inr g ↦ elim (cases_lt place ((y + 1) * (8 * len))) [
+          | inl l ↦
+              let k = place - y * (8 * len) in
+              let there : place ≡ y * (8 * len) + k = omega arith in
+              let column : place % (8 * len) ≡ k = ap (λ m. m % (8 * len)) there ∙ mod-mul-add y (8 * len) k (omega arith) in
+              let early : k < width = elim (cases_lt k (8 * (len - 1))) [ inl s ↦ omega arith | inr t ↦ absurd (n (omega arith)) ] in
+              rw (le-ltb place (y * (8 * len)) g, lt-ltb place ((y + 1) * (8 * len)) l, column, lt-ltb k width early) refl
+          | inr m ↦ rw (le-ltb place (y * (8 * len)) g, le-ltb place ((y + 1) * (8 * len)) m) refl
+        ]
+      ]
+    ]
 
 -- ROWS THAT ARE PUT
 
@@ -72,10 +102,10 @@ abbrev pub IsPutBelow : List ℕ → List ℕ → ℕ → ℕ → ℕ → Bool �
 IsPutBelow old new place width bits on end = (i : ℕ)
     → is_bit_set new i ≡ (if nat_lt i end && is_put place 0 width bits i 0 then on else is_bit_set old i)
 
-pub put_none : (old : List ℕ) (place width bits : ℕ) (on : Bool) → IsPutBelow old old place width bits on (8 * (place / 8))
-put_none old place width bits on i = elim (cases_lt i (8 * (place / 8))) [
-  | inl h ↦ rw (lt-ltb i (8 * (place / 8)) h, put_left place 0 width bits i 0 (omega arith)) refl
-  | inr h ↦ rw (le-ltb i (8 * (place / 8)) h) refl
+pub put_none : (old : List ℕ) (first shift width bits : ℕ) (on : Bool) → IsPutBelow old old (8 * first + shift) width bits on (8 * first)
+put_none old first shift width bits on i = elim (cases_lt i (8 * first)) [
+  | inl h ↦ rw (lt-ltb i (8 * first) h, put_left (8 * first + shift) 0 width bits i 0 (omega arith)) refl
+  | inr h ↦ rw (le-ltb i (8 * first) h) refl
 ]
 
 -- one octet more
@@ -110,3 +140,25 @@ put_all old new place width bits end on h all i = all i ∙ elim (cases_lt i end
   | inl l ↦ rw (lt-ltb i end l) refl
   | inr g ↦ rw (le-ltb i end g, put_right place 0 width bits i 0 (omega arith)) refl
 ]
+
+-- ROWS ONE UNDER THE OTHER
+
+-- what a put row makes of the bits
+abbrev pub IsPutAt : List ℕ → List ℕ → ℕ → ℕ → ℕ → Bool → Type 0
+IsPutAt old new place width bits on = (i : ℕ) → is_bit_set new i ≡ (if is_put place 0 width bits i 0 then on else is_bit_set old i)
+
+pub block_none : (octets : List ℕ) (columns x y width : ℕ) (rows : List ℕ) (on : Bool) → IsBlockPutAt octets octets columns x y width rows 0 on
+block_none octets columns x y width rows on column row within = rw (first_none x y width rows column row) refl
+
+-- one row more
+pub block_more : (old now new : List ℕ) (columns x y width : ℕ) (rows : List ℕ) (count bits : ℕ) (on : Bool) → x + width ≤ columns → bits ≡ slice_index rows count
+    → IsPutAt now new (bit_place columns x (y + count)) width bits on
+    → IsBlockPutAt old now columns x y width rows count on → IsBlockPutAt old new columns x y width rows (count + 1) on
+block_more old now new columns x y width rows count bits on inside is put before column row within =
+    let place = bit_place columns column row in
+    put place ∙ rw (put_place columns x (y + count) width bits column row inside within) (elim (cases_eq row (y + count)) [
+      | inl e ↦
+          let kept : is_bit_set now place ≡ is_bit_set old place = before column row within ∙ rw (first_below x y width rows count column row (omega arith)) refl in
+          rw (kept, first_here x y width rows count column row e, is) refl
+      | inr n ↦ rw (put_elsewhere x (y + count) width bits column row n, first_other x y width rows count column row n) (before column row within)
+    ])

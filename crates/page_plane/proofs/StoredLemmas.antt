@@ -6,9 +6,9 @@ use Rattle.std.proofs.lemmas.List.{length-replicate, length-take}
 use Rattle.std.proofs.Math.Nat.{mul-le-mul_right}
 use Rattle.page_plane.specs.Plane.{is_lit}
 use Rattle.page_plane.specs.Octets.{row_octets, is_bit_set, bit_place, stored_plane, IsStored}
-use Rattle.page_plane.specs.Put.{is_put}
+use Rattle.page_plane.specs.Put.{is_block_put, IsBlockPutAt}
 use Rattle.page_plane.proofs.PlaneLemmas.{lit_of, unlit_right, unlit_below}
-use Rattle.page_plane.proofs.PutLemmas.{put_place, put_right, put_elsewhere}
+use Rattle.page_plane.proofs.PutLemmas.{first_below, first_right}
 use Rattle.page_plane.proofs.OctetLemmas.{IsFilledBelow, none_set, none_past, part_bit}
 
 -- a pixel's place is among the octets
@@ -71,30 +71,23 @@ filled_lit width height steps x y old new on stored filled h g =
 
 -- ROWS THAT ARE PUT
 
--- what a put row makes of the bits
-abbrev pub IsPutAt : List ℕ → List ℕ → ℕ → ℕ → ℕ → Bool → Type 0
-IsPutAt old new place width bits on = (i : ℕ) → is_bit_set new i ≡ (if is_put place 0 width bits i 0 then on else is_bit_set old i)
-
-pub stored_put : (w h x y width bits : ℕ) (old new : List ℕ) (on : Bool) → IsStored w h old → length new ≡ length old → x + width ≤ w → IsPutAt old new (bit_place w x y) width bits on → IsStored w h new
-stored_put w h x y width bits old new on stored size inside put = record {
+pub stored_put : (w h x y width : ℕ) (rows old new : List ℕ) (on : Bool) → IsStored w h old → length new ≡ length old → x + width ≤ w → IsBlockPutAt old new w x y width rows (length rows) on → IsStored w h new
+stored_put w h x y width rows old new on stored size inside put = record {
   width_range = stored.width_range;
   height_range = stored.height_range;
   count = size ∙ stored.count;
   spare = λ column row past within below.
-      put (bit_place w column row)
-      ∙ rw (put_place w x y width bits column row inside within, put_right x y width bits column row (omega arith)) (stored.spare column row past within below);
+      put column row within ∙ rw (first_right x y width rows (length rows) column row (omega arith)) (stored.spare column row past within below);
 }
 
-pub put_lit : (w h s t x y width bits column row : ℕ) (old new : List ℕ) (on : Bool) → x + width ≤ w → y < h → IsPutAt old new (bit_place w x y) width bits on
-    → is_lit (stored_plane w h t new) column row ≡ (if is_put x y width bits column row then on else is_lit (stored_plane w h s old) column row)
-put_lit w h s t x y width bits column row old new on inside above put = elim (cases_lt column w) [
+pub put_lit : (w h s t x y width column row : ℕ) (rows old new : List ℕ) (on : Bool) → x + width ≤ w → y + length rows ≤ h → IsBlockPutAt old new w x y width rows (length rows) on
+    → is_lit (stored_plane w h t new) column row ≡ (if is_block_put x y width rows column row then on else is_lit (stored_plane w h s old) column row)
+put_lit w h s t x y width column row rows old new on inside above put = elim (cases_lt column w) [
   | inl c ↦ elim (cases_lt row h) [
-    | inl r ↦
-        stored_lit w h t column row new c r ∙ put (bit_place w column row)
-        ∙ rw (put_place w x y width bits column row inside (omega arith), stored_lit w h s column row old c r) refl
-    | inr r ↦ rw (unlit_below (stored_plane w h t new) column row r, put_elsewhere x y width bits column row (λ e. absurd (omega arith))) (sym (unlit_below (stored_plane w h s old) column row r))
+    | inl r ↦ stored_lit w h t column row new c r ∙ put column row (omega arith) ∙ rw (stored_lit w h s column row old c r) refl
+    | inr r ↦ rw (unlit_below (stored_plane w h t new) column row r, first_below x y width rows (length rows) column row (omega arith)) (sym (unlit_below (stored_plane w h s old) column row r))
   ]
-  | inr c ↦ rw (unlit_right (stored_plane w h t new) column row c, put_right x y width bits column row (omega arith)) (sym (unlit_right (stored_plane w h s old) column row c))
+  | inr c ↦ rw (unlit_right (stored_plane w h t new) column row c, first_right x y width rows (length rows) column row (omega arith)) (sym (unlit_right (stored_plane w h s old) column row c))
 ]
 
 -- A ROW'S OCTETS

@@ -1,9 +1,9 @@
 //! Bits in octets: eight places an octet, from its highest bit on.
 
-ghost use Rattle.std.specs.Prelude.{◌≡◌, ℕ, ◌+◌, ◌-◌, ◌*◌, ◌/◌, ◌%◌, ◌<◌, ◌≤◌, ◌==◌, ◌&&◌, nat_lt, if◌then◌else◌, length};
+ghost use Rattle.std.specs.Prelude.{◌≡◌, ℕ, ◌+◌, ◌-◌, ◌*◌, ◌/◌, ◌%◌, ◌<◌, ◌≤◌, ◌==◌, ◌&&◌, nat_lt, if◌then◌else◌, length, replicate};
 ghost use Rattle.std.specs.Int.{bit_at};
 ghost use Rattle.page_plane.specs.Octets.{row_octets, is_bit_set, bit_place};
-ghost use Rattle.page_plane.specs.Put.{is_row_set, is_put};
+ghost use Rattle.page_plane.specs.Put.{is_row_set, is_put, IsBlockPutAt};
 
 /// The octets of a row of this width in pixels.
 pub(crate) fn row_len(width: u16) -> usize
@@ -28,43 +28,73 @@ pub(crate) fn bit(octets: &[u8], place: usize) -> bool
 }
 
 /// Fills rows of this width: every pixel, and no spare bit.
-pub(crate) fn fill_rows(octets: &mut [u8], width: u16, on: bool)
-    requires { 1 ≤ width }
+pub(crate) fn fill_rows(octets: &mut [u8], width: u16, height: u16, on: bool)
+    requires width { 1 ≤ width }
+    requires count { length octets.old ≡ row_octets width * height }
     ensures { (place : ℕ) → place < 8 * length octets.old
         → is_bit_set octets.new place ≡ (on && nat_lt (place % (8 * row_octets width)) width) }
 {
-    let len = row_len(width);
-    for (k, octet) in octets.iter_mut().enumerate() {
-        *octet = filled_octet(width, k % len, on);
-    }
-}
-
-/// Octet `k` of a filled row.
-fn filled_octet(width: u16, k: usize, on: bool) -> u8
-    requires { k < row_octets width }
-    ensures { (j : ℕ) → j < 8 → (bit_at result (7 - j) == 1) ≡ (on && nat_lt (8 * k + j) width) }
-{
-    if !on {
-        return 0;
-    }
-    let end = 8 * k + 8;
-    let width = usize::from(width);
-    if end <= width {
-        u8::MAX
+    if on {
+        octets.fill(u8::MAX);
+        if width % 8 != 0 {
+            end_rows(octets, width, height);
+        }
     } else {
-        u8::MAX << (end - width)
+        octets.fill(0);
     }
 }
 
-/// Sets the bits from a place on that stand under the set bits among the first `width` of a row, whose first
-/// bit is bit 63.
-pub(crate) fn put_bits(octets: &mut [u8], place: usize, width: u8, bits: u64, on: bool)
-    requires width { width ≤ 64 }
-    requires room { place + width ≤ 8 * length octets.old }
-    ensures { (i : ℕ) → is_bit_set octets.new i ≡ (if is_put place 0 width bits i 0 then on else is_bit_set octets.old i) }
+/// Clears the spare bits of rows of this width, all of whose bits are set.
+fn end_rows(octets: &mut [u8], width: u16, height: u16)
+    requires count { length octets.old ≡ row_octets width * height }
+    requires spare { width < 8 * row_octets width }
+    requires full { octets.old ≡ replicate (length octets.old) 255 }
+    ensures bits { (place : ℕ) → place < 8 * length octets.old
+        → is_bit_set octets.new place ≡ nat_lt (place % (8 * row_octets width)) width }
+    ensures len { length octets.new ≡ length octets.old }
 {
-    let first = place / 8;
-    let shift = (place % 8) as u8;
+    let len = row_len(width);
+    let last = u8::MAX << (8 * len - usize::from(width));
+    for y in 0..height {
+        octets[usize::from(y) * len + (len - 1)] = last;
+    }
+}
+
+/// Puts rows one under the other, the first at column `x` of row `y` of octets of this many columns.
+pub(crate) fn put_rows(
+    octets: &mut [u8],
+    columns: u16,
+    x: u16,
+    y: u16,
+    width: u8,
+    rows: &[u64],
+    on: bool,
+)
+    requires width { width ≤ 64 }
+    requires column { x + width ≤ columns }
+    requires room { row_octets columns * (y + length rows.now) ≤ length octets.old }
+    ensures pixels { IsBlockPutAt octets.old octets.new columns x y width rows.now (length rows.now) on }
+    ensures len { length octets.new ≡ length octets.old }
+{
+    let len = row_len(columns);
+    let shift = (x % 8) as u8;
+    let mut first = usize::from(y) * len + usize::from(x / 8);
+    for bits in rows {
+        put_bits(octets, first, shift, width, *bits, on);
+        first += len;
+    }
+}
+
+/// Sets the bits from bit `shift` of an octet on that stand under the set bits among the first `width` of a row, whose first
+/// bit is bit 63.
+fn put_bits(octets: &mut [u8], first: usize, shift: u8, width: u8, bits: u64, on: bool)
+    requires shift { shift < 8 }
+    requires width { width ≤ 64 }
+    requires room { 8 * first + shift + width ≤ 8 * length octets.old }
+    ensures bits { (i : ℕ)
+        → is_bit_set octets.new i ≡ (if is_put (8 * first + shift) 0 width bits i 0 then on else is_bit_set octets.old i) }
+    ensures len { length octets.new ≡ length octets.old }
+{
     let row = moved_row(bits, width, shift);
     let count = usize::from((shift + width + 7) / 8);
     for k in 0..count {

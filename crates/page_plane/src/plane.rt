@@ -4,10 +4,10 @@ ghost use Rattle.std.specs.Prelude.{◌≡◌, ℕ, ◌+◌, ◌<◌, ◌≤◌,
 ghost use Rattle.step_count.specs.Count.{raised};
 ghost use Rattle.page_plane.specs.Plane.{is_lit};
 ghost use Rattle.page_plane.specs.Octets.{row_octets, octet_count, is_bit_set};
-ghost use Rattle.page_plane.specs.Put.{is_put};
+ghost use Rattle.page_plane.specs.Put.{is_put, is_block_put};
 
 use crate::memory::Memory;
-use crate::octets::{bit, bit_place, fill_rows, put_bits, row_len};
+use crate::octets::{bit, bit_place, fill_rows, put_rows, row_len};
 use std::alloc::Global;
 use std::marker::Model;
 use step_count::raised;
@@ -65,7 +65,7 @@ impl Plane {
         ensures steps { self.new.steps ≡ raised self.old.steps (octet_count self.old) }
     {
         self.steps = raised(self.steps, self.octets.len() as u64);
-        fill_rows(&mut self.octets, self.width, on);
+        fill_rows(&mut self.octets, self.width, self.height, on);
     }
 
     /// Puts the first `width` pixels of a row at column `x` of row `y`, in one step. Bit 63 is for column `x`, bit 62 for the
@@ -81,9 +81,24 @@ impl Plane {
         ensures height { self.new.height ≡ self.old.height }
         ensures steps { self.new.steps ≡ raised self.old.steps 1 }
     {
-        self.steps = raised(self.steps, 1);
-        let place = bit_place(self.width, x, y);
-        put_bits(&mut self.octets, place, width, bits, on);
+        self.put_rows(x, y, width, &[bits], on);
+    }
+
+    /// Puts the first `width` pixels of each of these rows, the first at column `x` of row `y` and each other under the one
+    /// before, in one step a row. The bits of a row are those of `put_row`: if a bit is set, its pixel becomes `on`, and every
+    /// other pixel stays. All rows must lie inside the plane. No rows, and a width of 0, which are allowed, change no pixel.
+    pub fn put_rows(&mut self, x: u16, y: u16, width: u8, rows: &[u64], on: bool)
+        requires width { width ≤ 64 }
+        requires column { x + width ≤ self.old.width }
+        requires row { y + length rows.now ≤ self.old.height }
+        ensures pixels { (column row : ℕ)
+            → is_lit self.new column row ≡ (if is_block_put x y width rows.now column row then on else is_lit self.old column row) }
+        ensures width { self.new.width ≡ self.old.width }
+        ensures height { self.new.height ≡ self.old.height }
+        ensures steps { self.new.steps ≡ raised self.old.steps (length rows.now) }
+    {
+        self.steps = raised(self.steps, rows.len() as u64);
+        put_rows(&mut self.octets, self.width, x, y, width, rows, on);
     }
 
     /// Whether a pixel is on. It must lie inside the plane.

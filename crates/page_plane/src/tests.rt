@@ -116,6 +116,55 @@ fn rows_cross_the_edges_of_octets(rt: HostRuntime) {
 }
 
 #[test]
+fn rows_are_put_one_under_the_other(rt: HostRuntime) {
+    let mut plane = made(&rt, Plane::new(rt.alloc(), 20, 3));
+    let mut pixels = [false; 60];
+    let rows = [
+        0x9e37_79b9_7f4a_7c15,
+        0xf39c_c060_5ced_c834,
+        0x1082_276b_f3a2_7251,
+    ];
+    for x in 0..20u16 {
+        for width in 1..21 - x as u8 {
+            assert!(rt; plane.width() == 20 && plane.height() == 3);
+            let y = (x + u16::from(width)) % 3;
+            let on = width % 4 < 2;
+            let count = usize::from(3 - y);
+            plane.put_rows(x, y, width, &rows[..count], on);
+            for j in 0..count {
+                let at = (usize::from(y) + j) * 20 + usize::from(x);
+                put_plainly(&mut pixels, at, width, rows[j], on);
+            }
+            assert_pixels(&rt, &plane, &pixels, (x, width));
+        }
+    }
+    assert_eq!(rt; plane.steps(), 406, "one step a row");
+    assert!(rt; plane.width() == 20 && plane.height() == 3);
+    plane.put_rows(20, 3, 0, &[], true);
+    assert_pixels(&rt, &plane, &pixels, (20, 0));
+}
+
+#[test]
+fn a_filled_row_of_each_width_has_no_spare_bit(rt: HostRuntime) {
+    for width in 1..=33u16 {
+        let mut plane = made(&rt, Plane::new(rt.alloc(), width, 2));
+        plane.fill(true);
+        assert!(rt; plane.width() == width && plane.height() == 2);
+        for y in 0..2 {
+            let row = plane.row(y);
+            for x in 0..8 * row.len() {
+                let set = row[x / 8] >> (7 - x % 8) & 1 == 1;
+                assert_eq!(rt;
+                    set,
+                    x < usize::from(width),
+                    "bit {x} of row {y} of {width}"
+                );
+            }
+        }
+    }
+}
+
+#[test]
 fn the_largest_plane_is_filled_and_put_at_its_corners(rt: HostRuntime) {
     let mut plane = made(&rt, Plane::new(rt.alloc(), 1024, 128));
     plane.fill(true);
@@ -142,6 +191,18 @@ fn the_largest_plane_is_filled_and_put_at_its_corners(rt: HostRuntime) {
     }
     assert_eq!(rt; plane.row(1).len(), 128);
     assert_eq!(rt; plane.steps(), 16388);
+    plane.put_rows(960, 64, 64, &[ends; 64], false);
+    assert!(rt; plane.width() == 1024 && plane.height() == 128);
+    assert_eq!(rt; plane.steps(), 16452);
+    for y in 64..128 {
+        let row = plane.row(y);
+        assert_eq!(rt;
+            (row[119], row[120], row[127]),
+            (0xff, 0x7f, 0xfe),
+            "row {y}"
+        );
+    }
+    assert_eq!(rt; plane.row(63)[120], 0xff, "above the first row");
     plane.fill(false);
     assert!(rt; !plane.pixel(1023, 127));
 }
