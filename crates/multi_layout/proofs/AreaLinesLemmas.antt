@@ -40,7 +40,7 @@ use Rattle.multi_layout.proofs.PlaceLemmas.{ended_most}
 use Rattle.multi_layout.proofs.RoomLemmas as room_lemmas
 use Rattle.multi_layout.proofs.StandingLemmas.{standing_push}
 use Rattle.multi_layout.proofs.StateLemmas.{present_area-placing, present_area-nothing, present_area-cover}
-use Rattle.multi_layout.proofs.TableLemmas.{entry_of, open_entry, entry_is, table_length, ended_break, ended_glyph, table_break, lines_open, table_open, table_closed}
+use Rattle.multi_layout.proofs.TableLemmas.{open_entry, table_length, ended_break, ended_glyph, table_break, lines_open, table_open, table_closed}
 use Rattle.multi_layout.proofs.WalkLemmas.{few, within}
 use Rattle.multi_layout.proofs.WordLemmas.{left_nil, some_after-append}
 
@@ -90,9 +90,9 @@ module _ (spots : List Spot) (group : Group) (lines : List CountedLine) (sum : g
       omega (arith, ap length table, table_length (ended_lines spots), all, length_push (ended_lines spots) (after_last is_break spots))
 
   -- with it the table has all lines
-  pub group_counted : (line : CountedLine) (bottom : ℕ) → group.line.any ≡ true → line ≡ entry_of group.line group.line.full.count bottom → bottom ≡ height_of (lines_of spots) → lines ++ line ∷ [] ≡ table_of (lines_of spots)
+  pub group_counted : (line : CountedLine) (bottom : ℕ) → group.line.any ≡ true → line ≡ open_entry spots bottom → bottom ≡ height_of (lines_of spots) → lines ++ line ∷ [] ≡ table_of (lines_of spots)
   group_counted line bottom any is height =
-      let entry : line ≡ open_entry spots (height_of (lines_of spots)) = is ∙ entry_is spots group.line bottom (ap (λ (g : Group). g.line) sum) ∙ ap (open_entry spots) height in
+      let entry : line ≡ open_entry spots (height_of (lines_of spots)) = is ∙ ap (open_entry spots) height in
       ap (λ l. l ++ line ∷ []) table
       ∙ ap (λ (e : CountedLine). table_of (ended_lines spots) ++ e ∷ []) entry
       ∙ sym (table_open spots (any_is true any))
@@ -122,9 +122,9 @@ glyph_ended area s table glyph has just least most = has just least most ∙ ap 
 
 module _ (page_just : ℕ) (area : List Spot) (s : Spot) (breaks : is_break s ≡ true) (at : s.at.page_just ≡ page_just) (least : 2 ≤ page_just) (most : page_just ≤ 4) where
   -- an `nl` ends the open line of its group
-  break_ended : (before after : Group) (line : CountedLine) (old new : LineTable) → before ≡ group_sum (in_group page_just area) → after ≡ group_sum (in_group page_just (area ++ s ∷ []))
-      → line ≡ entry_of before.line before.line.full.count after.closed → Pushed page_just line old new → HasEnded area old → HasEnded (area ++ s ∷ []) new
-  break_ended before after line old new sum sum_after is pushed has just low high =
+  break_ended : (after : Group) (line : CountedLine) (old new : LineTable) → after ≡ group_sum (in_group page_just (area ++ s ∷ []))
+      → line ≡ open_entry (in_group page_just area) after.closed → Pushed page_just line old new → HasEnded area old → HasEnded (area ++ s ∷ []) new
+  break_ended after line old new sum_after is pushed has just low high =
       ⊎_elim (λ e. subst (λ j. group_lines j new ≡ table_of (ended_lines (in_group j (area ++ s ∷ [])))) (sym e) here) there (cases_eq just page_just)
     where
       here : group_lines page_just new ≡ table_of (ended_lines (in_group page_just (area ++ s ∷ [])))
@@ -132,7 +132,7 @@ module _ (page_just : ℕ) (area : List Spot) (s : Spot) (breaks : is_break s �
           let g = in_group page_just area in
           let own : in_group page_just (area ++ s ∷ []) ≡ g ++ s ∷ [] = own_group page_just area s at in
           let bottom : after.closed ≡ height_of (ended_lines (g ++ s ∷ [])) = ap (λ (g : Group). g.closed) sum_after ∙ ap (λ l. height_of (ended_lines l)) own in
-          let entry : line ≡ open_entry g (height_of (ended_lines (g ++ s ∷ []))) = is ∙ entry_is g before.line after.closed (ap (λ (g : Group). g.line) sum) ∙ ap (open_entry g) bottom in
+          let entry : line ≡ open_entry g (height_of (ended_lines (g ++ s ∷ []))) = is ∙ ap (open_entry g) bottom in
           pushed_own page_just line old new pushed least most
           ∙ ap (λ l. l ++ line ∷ []) (has page_just least most)
           ∙ ap (λ (e : CountedLine). table_of (ended_lines g) ++ e ∷ []) entry
@@ -182,18 +182,17 @@ module _ (sign : SignData) (items : List Meaning) where
     just_is = ap (λ (a : Attributes). a.page_just) st.attributes
 
     -- an item that ends a line ends the open line of the group in force
-    pub ended_more : (x : Meaning) → ends_line x ≡ true → (after : State) (own next : Group) (line : CountedLine) (old new : LineTable) → IsStateOf sign (items ++ x ∷ []) after
-        → ((area : List Spot) → before.area ≡ area_sum area → own ≡ group_sum (in_group before.attributes.page_just area))
+    pub ended_more : (x : Meaning) → ends_line x ≡ true → (after : State) (next : Group) (line : CountedLine) (old new : LineTable) → IsStateOf sign (items ++ x ∷ []) after
         → ((area : List Spot) → after.area ≡ area_sum area → next ≡ group_sum (in_group before.attributes.page_just area))
-        → line ≡ entry_of own.line own.line.full.count next.closed → Pushed before.attributes.page_just line old new
+        → ((area : List Spot) → before.area ≡ area_sum area → line ≡ open_entry (in_group before.attributes.page_just area) next.closed) → Pushed before.attributes.page_just line old new
         → HasEnded (present_area sign items) old → HasEnded (present_area sign (items ++ x ∷ [])) new
-    ended_more x ends after own next line old new st_after sum sum_after is pushed has =
+    ended_more x ends after next line old new st_after sum_after is pushed has =
         let (gap, same) = line_end x ends in
         let area = present_area sign items in
         let grown : present_area sign (items ++ x ∷ []) ≡ area ++ break_spot gap ∷ [] = ap (λ x. present_area sign (items ++ x ∷ [])) same ∙ area_break gap in
         subst (λ a. HasEnded a new) (sym grown)
-        (break_ended before.attributes.page_just area (break_spot gap) refl (sym just_is) st.page_just.0 st.page_just.1 own next line old new
-        (sum area st.area) (sum_after (area ++ break_spot gap ∷ []) (st_after.area ∙ ap area_sum grown)) is pushed has)
+        (break_ended before.attributes.page_just area (break_spot gap) refl (sym just_is) st.page_just.0 st.page_just.1 next line old new
+        (sum_after (area ++ break_spot gap ∷ []) (st_after.area ∙ ap area_sum grown)) (is area st.area) pushed has)
 
     -- before it there is room for that line
     pub ended_room : (x : Meaning) → ends_line x ≡ true → (table : LineTable) → HasEnded (present_area sign items) table → HasRoom (present_area sign (items ++ x ∷ []))

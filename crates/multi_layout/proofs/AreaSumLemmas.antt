@@ -1,16 +1,18 @@
 -- The sums of an area after one more placing item, and what is judged by them.
-use Rattle.std.proofs.Common.{◌≡◌, inl, inr, ℕ, max, Bool, true, false, not, ◌&&◌, ◌||◌, ◌==◌, List, [], ◌∷◌, ◌++◌, refl, sym, ap, ◌∙◌}
+use Rattle.std.proofs.Common.{◌≡◌, inl, inr, ℕ, ◌+◌, max, Bool, true, false, cond, not, ◌&&◌, ◌||◌, ◌==◌, List, [], ◌∷◌, ◌++◌, refl, sym, ap, ◌∙◌, arith}
 use Rattle.std.specs.Prelude.{nat_lt}
 use Rattle.std.specs.List.{list_any, after_last, All}
 use Rattle.std.proofs.Math.Bool.{or-false}
-use Rattle.std.proofs.lemmas.Bool.{or_cases, false≢true}
-use Rattle.std.proofs.lemmas.List.Elements.{All-push, All-weaker, filter_passes}
+use Rattle.std.proofs.lemmas.Bool.{or_cases, false≢true, ne_eqb}
+use Rattle.std.proofs.lemmas.List.{append-nil}
+use Rattle.std.proofs.lemmas.List.Elements.{All-push, All-weaker, filter-append, filter_passes}
 use Rattle.multi_layout.specs.declared.area.Area.{Area}
+use Rattle.multi_layout.specs.declared.area.Group.{Group}
 use Rattle.multi_layout.specs.Words.{largest}
 use Rattle.multi_layout.specs.Address.{Spot, is_glyph, is_break, area_of, in_group, line_before}
 use Rattle.multi_layout.specs.Fit.{line_fits, area_fits}
 use Rattle.multi_layout.specs.Offence.{goes_back, clashes, conflicts, too_big}
-use Rattle.multi_layout.specs.Sums.{group_sum, area_sum, IsPlacing}
+use Rattle.multi_layout.specs.Sums.{group_sum, area_sum, IsBelow, IsGroupBelow, IsPlacing}
 use Rattle.multi_layout.proofs.WordLemmas.{largest_push}
 use Rattle.multi_layout.proofs.CheckLemmas.{group_goes_back}
 use Rattle.multi_layout.proofs.GroupSumLemmas.{break_put, own_group, present_push}
@@ -23,6 +25,38 @@ area_with area s page_just page a r e most top middle bottom =
     let most' : r.most ≡ largest (λ (t : Spot). t.at.page_just) (area ++ s ∷ []) =
     most ∙ ap (λ (a : Area). max a.most page_just) e ∙ ap (max (area_sum area).most) (sym page) ∙ sym (largest_push (λ t. t.at.page_just) area s) in
     rw (← top, ← middle, ← bottom, ← most') refl
+
+-- a group after an item of another
+pub group_other : (just : ℕ) (area : List Spot) (s : Spot) → (s.at.page_just ≡ just → ⊥) → group_sum (in_group just area) ≡ group_sum (in_group just (area ++ s ∷ []))
+group_other just area s apart =
+    ap group_sum (sym (filter-append (λ t. t.at.page_just == just) area (s ∷ [])
+    ∙ ap (λ b. in_group just area ++ cond b (s ∷ []) []) (ne_eqb s.at.page_just just apart)
+    ∙ append-nil (in_group just area)))
+
+-- a group that is small is still so with room for one more item
+group_below : (k : ℕ) (group : Group) → IsGroupBelow k group → IsGroupBelow (k + 1024) group
+group_below k group below = record {
+  ended = omega (arith, below.ended);
+  closed = omega (arith, below.closed);
+  line = record {
+    left = omega (arith, below.line.left);
+    centre = omega (arith, below.line.centre);
+    right = omega (arith, below.line.right);
+    part = record { width = omega (arith, below.line.part.width); count = omega (arith, below.line.part.count) };
+    known = below.line.known;
+  };
+}
+
+-- an area is small where the group that grew is, and the others were
+module _ (k most : ℕ) (area : Area) (below : IsBelow k area) (group : Group) (grown : IsGroupBelow (k + 1024) group) where
+  pub top_grown : IsBelow (k + 1024) (record { most = most; top = group; middle = area.middle; bottom = area.bottom })
+  top_grown = record { top = grown; middle = group_below k area.middle below.middle; bottom = group_below k area.bottom below.bottom }
+
+  pub middle_grown : IsBelow (k + 1024) (record { most = most; top = area.top; middle = group; bottom = area.bottom })
+  middle_grown = record { top = group_below k area.top below.top; middle = grown; bottom = group_below k area.bottom below.bottom }
+
+  pub bottom_grown : IsBelow (k + 1024) (record { most = most; top = area.top; middle = area.middle; bottom = group })
+  bottom_grown = record { top = group_below k area.top below.top; middle = group_below k area.middle below.middle; bottom = grown }
 
 -- CONFLICTS
 
@@ -44,6 +78,18 @@ conflicts_break before s page_just most g page e =
     back before s page_just most page e
     ∙ sym (or-false goes)
     ∙ ap (λ b. goes || (b && list_any (clashes s) (line_before before s))) (sym g)
+
+-- a character that doesn't conflict clashes with none on the present line of its group
+pub no_clash : (before : List Spot) (s : Spot) (page_just : ℕ) → is_glyph s ≡ true → s.at.page_just ≡ page_just → conflicts before s ≡ false
+    → list_any (clashes s) (after_last is_break (in_group page_just (area_of s before))) ≡ false
+no_clash before s page_just g page none =
+    ap (λ n. list_any (clashes s) (after_last is_break (in_group n (area_of s before)))) (sym page)
+    ∙ ap (λ b. b && list_any (clashes s) (line_before before s)) (sym g)
+    ∙ or_right (list_any (goes_back s) (area_of s before)) (is_glyph s && list_any (clashes s) (line_before before s)) none
+  where
+    or_right : (a b : Bool) → (a || b) ≡ false → b ≡ false
+    or_right true b h = absurd (false≢true (sym h))
+    or_right false b h = h
 
 -- FIT
 

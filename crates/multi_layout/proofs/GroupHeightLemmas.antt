@@ -25,7 +25,7 @@ module _ (just : ℕ) (area : List Spot) (s : Spot) (given : Option ℕ) (info :
   pub group_break : (group : Group) (line : Line) (gap height spacing : ℕ) → group ≡ group_sum (in_group just area) → line ≡ line_sum []
       → gap ≡ option_map_or (λ ended. unwrap_or ended.gap (average ended.spacing spacing)) group.last 0
       → height ≡ cond group.line.any group.line.height info.height → spacing ≡ cond group.line.any group.line.spacing info.line_spacing
-      → ◌≡◌ {A = Group} (record { ended = group.ended + 1; closed = group.closed + gap + height; last = Some (record { gap = given; spacing = spacing }); line = line }) (group_sum (in_group just (area ++ s ∷ [])))
+      → ◌≡◌ {A = Group} (record { ended = group.ended + 1; closed = group.closed + (gap + height); last = Some (record { gap = given; spacing = spacing }); line = line }) (group_sum (in_group just (area ++ s ∷ [])))
   group_break group line gap height spacing e l g h n =
       let before = in_group just area in
       let c = cut is_break before in
@@ -42,14 +42,15 @@ module _ (just : ℕ) (area : List Spot) (s : Spot) (given : Option ℕ) (info :
       n ∙ ap (λ (g : Group). cond g.line.any g.line.spacing info.line_spacing) from
       ∙ ap (λ (f : FontInfo). cond (list_any is_glyph c.open') (line_spacing c.open') f.line_spacing) is.font
       ∙ sym (largest_break (λ t. t.at.font.line_spacing) c.open' s glyphs no_glyph) in
-      let total : group.closed + gap + height ≡ height_of (c.closed ++ more ∷ []) =
-      more_height c.closed more group gap height spacing (ap (λ (g : Group). g.closed) from) (ap (λ (g : Group). g.last) from) g spaced high in
+      let grouped : group.closed + (gap + height) ≡ group.closed + gap + height = omega arith in
+      let total : group.closed + (gap + height) ≡ height_of (c.closed ++ more ∷ []) =
+      grouped ∙ more_height c.closed more group gap height spacing (ap (λ (g : Group). g.closed) from) (ap (λ (g : Group). g.last) from) g spaced high in
       let last : ended given spacing ≡ option_map ended_sum (last_or None (c.closed ++ more ∷ [])) =
       ap (ended given) spaced
       ∙ ap (λ o. ended o (line_spacing more)) (sym (gap_of_break c.open' s given glyphs is.put))
       ∙ ap (option_map ended_sum) (sym (last_or_push None c.closed more)) in
       let counted : group.ended + 1 ≡ length (c.closed ++ more ∷ []) = omega (arith, ap (λ (g : Group). g.ended) from, length-append c.closed (more ∷ [])) in
-      same_group (group.ended + 1) (length (c.closed ++ more ∷ [])) (group.closed + gap + height) (height_of (c.closed ++ more ∷ [])) (ended given spacing) (option_map ended_sum (last_or None (c.closed ++ more ∷ []))) line (line_sum []) counted total last l
+      same_group (group.ended + 1) (length (c.closed ++ more ∷ [])) (group.closed + (gap + height)) (height_of (c.closed ++ more ∷ [])) (ended given spacing) (option_map ended_sum (last_or None (c.closed ++ more ∷ []))) line (line_sum []) counted total last l
       ∙ sym (sums_push before s true is_nl)
       ∙ ap group_sum (sym (own_group just area s own))
 

@@ -94,10 +94,11 @@ segment_more k m segment h b = record { width = omega (arith, b.width); count = 
 
 line_more : (k m : ℕ) (line : Line) → k ≤ m → IsLineBelow k line → IsLineBelow m line
 line_more k m line h b = record {
-  left = segment_more k m line.left h b.left;
-  centre = segment_more k m line.centre h b.centre;
-  right = segment_more k m line.right h b.right;
-  full = segment_more k m line.full h b.full;
+  left = omega (arith, b.left);
+  centre = omega (arith, b.centre);
+  right = omega (arith, b.right);
+  part = segment_more k m line.part h b.part;
+  known = b.known;
 }
 
 group_more : (k m : ℕ) (group : Group) → k ≤ m → IsGroupBelow k group → IsGroupBelow m group
@@ -155,6 +156,15 @@ case_5 a b p q = ap (λ c. cond {A = Option ℕ} c (Some 11) (cond b (Some 5) No
 
 case_none : (a b : Bool) → a ≡ false → b ≡ false → cond {A = Option ℕ} a (Some 11) (cond b (Some 5) None) ≡ None
 case_none a b p q = ap (λ c. cond {A = Option ℕ} c (Some 11) (cond b (Some 5) None)) p ∙ ap (λ c. cond {A = Option ℕ} c (Some 5) None) q
+
+-- a character that doesn't offend doesn't conflict
+pub no_conflict : (sign : SignData) (items : List Meaning) (number : ℕ) (cell : CellData) → cell_numbered (standing sign items).font number ≡ Some cell → offence sign items (Shows number) ≡ None
+    → conflicts (spots sign items) (record { at = standing sign items; put = Glyph cell }) ≡ false
+no_conflict sign items number cell found fine = none_first _ _ (sym (offence-character sign items number cell found) ∙ fine)
+  where
+    none_first : (a : Bool) (o : Option ℕ) → cond {A = Option ℕ} a (Some 11) o ≡ None → a ≡ false
+    none_first true o e = cc
+    none_first false o e = refl
 
 module _ (sign : SignData) (items : List Meaning) (state : State) (st : IsStateOf sign items state) where
   -- the font in force

@@ -1,10 +1,11 @@
 -- The sums of a line after one more character.
-use Rattle.std.proofs.Common.{◌≡◌, ℕ, ◌+◌, max, Bool, true, false, cond, ◌&&◌, ◌||◌, ◌==◌, List, [], ◌∷◌, ◌++◌, length, Option, Some, None, refl, sym, ap, ◌∙◌, arith, length-append}
+use Rattle.std.proofs.Common.{◌≡◌, ℕ, ◌+◌, ◌<◌, ◌≤◌, max, inl, inr, Bool, true, false, cond, ◌&&◌, ◌||◌, ◌==◌, List, [], ◌∷◌, ◌++◌, length, Option, Some, None, refl, sym, ap, ◌∙◌, arith, length-append}
 use Rattle.std.specs.Prelude.{nat_lt}
-use Rattle.std.specs.List.{filter, last_or, list_any, AllPass}
+use Rattle.std.specs.List.{filter, last_or, list_any, All, AllPass}
 use Rattle.std.specs.Option.{unwrap_or, option_map, option_map_or}
-use Rattle.std.proofs.lemmas.Bool.{eq-eqb}
-use Rattle.std.proofs.lemmas.List.Elements.{filter-append}
+use Rattle.std.proofs.lemmas.Bool.{false≢true, and_right, cases_lt, eq-eqb, le-ltb, lt-ltb, ne_eqb}
+use Rattle.std.proofs.lemmas.List.{append-nil}
+use Rattle.std.proofs.lemmas.List.Elements.{All-weaker, filter-append}
 use Rattle.std.proofs.lemmas.List.Folds.{list_any-append}
 use Rattle.multi_layout.specs.declared.line.Character.{Character}
 use Rattle.multi_layout.specs.declared.line.Segment.{Segment}
@@ -13,8 +14,9 @@ use Rattle.multi_layout.specs.Words.{largest}
 use Rattle.multi_layout.specs.Address.{Spot, is_glyph, segment}
 use Rattle.multi_layout.specs.Line.{average, bearers, line_height, line_spacing, char_gap, width_of}
 use Rattle.multi_layout.specs.Offence.{clashes}
-use Rattle.multi_layout.specs.Sums.{segment_sum, line_sum, IsCharacter}
-use Rattle.multi_layout.proofs.WordLemmas.{largest_push, last_or_push, gap_before}
+use Rattle.multi_layout.specs.Sums.{segment_sum, width_before, line_sum, line_sum_in, IsCharacter}
+use Rattle.multi_layout.proofs.WordLemmas.{largest_most, largest_push, last_or_push, gap_before}
+use Rattle.multi_layout.proofs.AreaLemmas.{filter_none}
 use Rattle.multi_layout.proofs.CheckLemmas.{any_largest}
 use Rattle.multi_layout.proofs.HeightLemmas.{bearers_glyphs}
 use Rattle.multi_layout.proofs.LayoutLemmas.{width_push}
@@ -37,7 +39,7 @@ passes s just g e = ap (λ b. b && (s.at.line_just == just)) g ∙ eq-eqb s.at.l
 -- a segment after one more character of its own
 module _ (just : ℕ) (line : List Spot) (s : Spot) (c : Character) (is : IsCharacter s c) (own : c.just ≡ just) where
   pub segment_own : (seg : Segment) (gap width : ℕ) → seg ≡ segment_sum just line → gap ≡ option_map_or (λ earlier. unwrap_or c.spacing (average earlier c.font.char_spacing)) seg.last 0 → width ≡ c.width
-      → ◌≡◌ {A = Segment} (record { width = seg.width + gap + width; count = seg.count + 1; last = Some c.font.char_spacing }) (segment_sum just (line ++ s ∷ []))
+      → ◌≡◌ {A = Segment} (record { width = seg.width + (gap + width); count = seg.count + 1; last = Some c.font.char_spacing }) (segment_sum just (line ++ s ∷ []))
   segment_own seg gap width e g w =
       let own_part = segment just line in
       let more : segment just (line ++ s ∷ []) ≡ own_part ++ s ∷ [] = filter_yes (λ t. is_glyph t && (t.at.line_just == just)) line s (passes s just is.glyph (sym is.just ∙ own)) in
@@ -47,8 +49,9 @@ module _ (just : ℕ) (line : List Spot) (s : Spot) (c : Character) (is : IsChar
       ∙ ap (λ o. option_map_or (λ earlier. unwrap_or o (average earlier c.font.char_spacing)) (segment_sum just line).last 0) is.spacing
       ∙ ap (λ n. option_map_or (λ earlier. unwrap_or s.at.spacing (average earlier n)) (segment_sum just line).last 0) spaced
       ∙ gap_if (last_or None own_part) s in
-      let wide : seg.width + gap + width ≡ width_of (segment just (line ++ s ∷ [])) =
-      ap (λ (seg : Segment). seg.width + gap + width) e
+      let grouped : seg.width + (gap + width) ≡ seg.width + gap + width = omega arith in
+      let wide : seg.width + (gap + width) ≡ width_of (segment just (line ++ s ∷ [])) =
+      grouped ∙ ap (λ (seg : Segment). seg.width + gap + width) e
       ∙ ap (λ n. width_of own_part + n + width) between
       ∙ ap (λ n. width_of own_part + gap_before char_gap own_part s + n) (w ∙ is.width)
       ∙ sym (width_push own_part s)
@@ -58,7 +61,16 @@ module _ (just : ℕ) (line : List Spot) (s : Spot) (c : Character) (is : IsChar
       ∙ ap (option_map (λ (t : Spot). t.at.font.char_spacing)) (sym (last_or_push None own_part s))
       ∙ ap (λ l. option_map (λ (t : Spot). t.at.font.char_spacing) (last_or None l)) (sym more) in
       let counted : seg.count + 1 ≡ length (segment just (line ++ s ∷ [])) = omega (arith, ap (λ (seg : Segment). seg.count) e, ap length more, length-append own_part (s ∷ [])) in
-      same_segment (seg.width + gap + width) (width_of (segment just (line ++ s ∷ []))) (seg.count + 1) (length (segment just (line ++ s ∷ []))) (Some c.font.char_spacing) (option_map (λ (t : Spot). t.at.font.char_spacing) (last_or None (segment just (line ++ s ∷ [])))) wide counted last
+      same_segment (seg.width + (gap + width)) (width_of (segment just (line ++ s ∷ []))) (seg.count + 1) (length (segment just (line ++ s ∷ []))) (Some c.font.char_spacing) (option_map (λ (t : Spot). t.at.font.char_spacing) (last_or None (segment just (line ++ s ∷ [])))) wide counted last
+
+-- a segment after a character of another
+pub segment_other : (just : ℕ) (line : List Spot) (s : Spot) → (s.at.line_just ≡ just → ⊥) → segment_sum just (line ++ s ∷ []) ≡ segment_sum just line
+segment_other just line s apart =
+    let same : segment just (line ++ s ∷ []) ≡ segment just line =
+    filter-append (λ t. is_glyph t && (t.at.line_just == just)) line (s ∷ [])
+    ∙ ap (λ b. segment just line ++ cond b (s ∷ []) []) (and_right (is_glyph s) (s.at.line_just == just) (ne_eqb s.at.line_just just apart))
+    ∙ append-nil (segment just line) in
+    ap (λ l. let g : Segment = record { width = width_of l; count = length l; last = option_map (λ t. t.at.font.char_spacing) (last_or None l) } in g) same
 
 -- the largest number of a line of characters, after one more
 largest_glyph : (f : Spot → ℕ) (line : List Spot) (s : Spot) → AllPass is_glyph line → is_glyph s ≡ true → largest f (bearers (line ++ s ∷ [])) ≡ max (largest f (bearers line)) (f s)
@@ -67,6 +79,10 @@ largest_glyph f line s h g =
     ∙ largest_push f line s
     ∙ ap (λ l. max (largest f l) (f s)) (sym (bearers_glyphs line h))
 
+cond_zero : (b : Bool) (n : ℕ) → n ≡ 0 → cond b n 0 ≡ 0
+cond_zero true n e = e
+cond_zero false n e = refl
+
 any_more : {X : Type 0} (p : X → Bool) (xs : List X) (x : X) → list_any p (xs ++ x ∷ []) ≡ (list_any p xs || p x)
 any_more p xs x = list_any-append p xs (x ∷ []) ∙ ap (λ b. list_any p xs || b) (Rattle.std.proofs.Math.Bool.or-false (p x))
 
@@ -74,15 +90,86 @@ or_true : (b : Bool) → (b || true) ≡ true
 or_true true = refl
 or_true false = refl
 
+-- no character of a line is in a segment behind the one with the largest justification
+pub segment_behind : (just : ℕ) (line : List Spot) → largest (λ (t : Spot). t.at.line_just) line < just → segment just line ≡ []
+segment_behind just line less =
+    filter_none (λ t. is_glyph t && (t.at.line_just == just)) line
+    (All-weaker (λ (t : Spot). t.at.line_just ≤ largest (λ (t : Spot). t.at.line_just) line) (λ t. (is_glyph t && (t.at.line_just == just)) ≡ false)
+    (λ t most. and_right (is_glyph t) (t.at.line_just == just) (ne_eqb t.at.line_just just (λ e. omega arith))) line (largest_most (λ t. t.at.line_just) line))
+
+-- a line whose present segment becomes a later one
+module _ (line : List Spot) (just : ℕ) (l : Line) (e : l ≡ line_sum line) (later : l.present < just) where
+  present_is : l.present ≡ largest (λ (t : Spot). t.at.line_just) line
+  present_is = ap (λ (l : Line). l.present) e
+
+  -- the width before the present segment of one that the line had not come to
+  none_behind : (j : ℕ) → l.present < j → width_of (segment j line) ≡ 0
+  none_behind j behind = ap width_of (segment_behind j line (omega (arith, present_is)))
+
+  -- the width of a segment that isn't the present one stays as it was kept
+  kept : (j : ℕ) (w : ℕ) → w ≡ width_before (largest (λ (t : Spot). t.at.line_just) line) j line → (l.present ≡ j → ⊥) → w ≡ width_before just j line
+  kept j w is other = elim (cases_lt j l.present) [
+    | inl before ↦ is ∙ ap (λ b. cond b (width_of (segment j line)) 0) (lt-ltb j (largest (λ (t : Spot). t.at.line_just) line) (omega (arith, present_is)) ∙ sym (lt-ltb j just (omega arith)))
+    | inr behind ↦
+        let none = none_behind j (omega (arith, other)) in
+        is ∙ ap (λ b. cond b (width_of (segment j line)) 0) (le-ltb j (largest (λ (t : Spot). t.at.line_just) line) (omega (arith, present_is))) ∙ sym (cond_zero (nat_lt j just) (width_of (segment j line)) none)
+  ]
+
+  pub left_kept : (l.present ≡ 2 → ⊥) → l.left ≡ width_before just 2 line
+  left_kept other = kept 2 l.left (ap (λ (l : Line). l.left) e) other
+
+  pub centre_kept : (l.present ≡ 3 → ⊥) → l.centre ≡ width_before just 3 line
+  centre_kept other = kept 3 l.centre (ap (λ (l : Line). l.centre) e) other
+
+  pub right_kept : (l.present ≡ 4 → ⊥) → l.right ≡ width_before just 4 line
+  right_kept other = kept 4 l.right (ap (λ (l : Line). l.right) e) other
+
+  -- the segment that was the present one is passed
+  pub width_passed : (j : ℕ) → l.present ≡ j → l.part.width ≡ width_before just j line
+  width_passed j is =
+      ap (λ (l : Line). l.part.width) e ∙ ap (λ n. width_of (segment n line)) (sym present_is ∙ is)
+      ∙ ap (λ b. cond b (width_of (segment j line)) 0) (sym (lt-ltb j just (omega (arith, is))))
+
+  -- the new segment has no character yet
+  pub part_begun : (part : Segment) → part ≡ segment_sum just [] → part ≡ segment_sum just line
+  part_begun part is =
+      is ∙ ap (λ (xs : List Spot). let g : Segment = record { width = width_of xs; count = length xs; last = option_map (λ t. t.at.font.char_spacing) (last_or None xs) } in g) (sym (segment_behind just line (omega (arith, present_is))))
+
+  -- the line then
+  pub line_turned : (left centre right : ℕ) (part : Segment) → left ≡ width_before just 2 line → centre ≡ width_before just 3 line → right ≡ width_before just 4 line → part ≡ segment_sum just []
+      → ◌≡◌ {A = Line} (record { present = just; left = left; centre = centre; right = right; part = part; has_parts = l.has_parts; height = l.height; spacing = l.spacing; any = l.any }) (line_sum_in just line)
+  line_turned left centre right part a b c begun =
+      let parts = ap (λ (l : Line). l.has_parts) e in
+      let height = ap (λ (l : Line). l.height) e in
+      let spacing = ap (λ (l : Line). l.spacing) e in
+      let any = ap (λ (l : Line). l.any) e in
+      rw (a, b, c, part_begun part begun, parts, height, spacing, any) refl
+
+-- a line that stays in its present segment
+pub line_stays : (line : List Spot) (just : ℕ) (l : Line) → l ≡ line_sum line → just ≤ l.present → l.present ≤ just → l ≡ line_sum_in just line
+line_stays line just l e low high =
+    let same : largest (λ (t : Spot). t.at.line_just) line ≡ just = omega (arith, ap (λ (l : Line). l.present) e) in
+    e ∙ ap (λ n. line_sum_in n line) same
+
 -- a line after one more character
-module _ (line : List Spot) (s : Spot) (c : Character) (glyphs : AllPass is_glyph line) (is : IsCharacter s c) where
-  pub line_with : (l r : Line) → l ≡ line_sum line
-      → r.left ≡ segment_sum 2 (line ++ s ∷ []) → r.centre ≡ segment_sum 3 (line ++ s ∷ []) → r.right ≡ segment_sum 4 (line ++ s ∷ []) → r.full ≡ segment_sum 5 (line ++ s ∷ [])
-      → r.most ≡ max l.most c.just → r.has_parts ≡ (l.has_parts || nat_lt c.just 5) → r.height ≡ max l.height c.font.height → r.spacing ≡ max l.spacing c.font.line_spacing → r.any ≡ true
+module _ (line : List Spot) (s : Spot) (c : Character) (glyphs : AllPass is_glyph line) (is : IsCharacter s c) (l : Line) (e : l ≡ line_sum line) (order : l.present ≤ c.just) where
+  present_more : largest (λ (t : Spot). t.at.line_just) (line ++ s ∷ []) ≡ c.just
+  present_more =
+      let most : l.present ≡ largest (λ (t : Spot). t.at.line_just) line = ap (λ (l : Line). l.present) e in
+      let more = largest_push (λ t. t.at.line_just) line s in
+      omega (arith, most, more, is.just)
+
+  width_other : (j : ℕ) → width_before c.just j line ≡ width_before c.just j (line ++ s ∷ [])
+  width_other j = elim (cases_lt j c.just) [
+    | inl less ↦ ap (λ (g : Segment). cond (nat_lt j c.just) g.width 0) (sym (segment_other j line s (λ h. omega (arith, is.just, h))))
+    | inr most ↦ rw (le-ltb j c.just most) refl
+  ]
+
+  pub line_with : (r : Line) → r.present ≡ c.just
+      → r.left ≡ width_before c.just 2 line → r.centre ≡ width_before c.just 3 line → r.right ≡ width_before c.just 4 line → r.part ≡ segment_sum c.just (line ++ s ∷ [])
+      → r.has_parts ≡ (l.has_parts || nat_lt c.just 5) → r.height ≡ max l.height c.font.height → r.spacing ≡ max l.spacing c.font.line_spacing → r.any ≡ true
       → r ≡ line_sum (line ++ s ∷ [])
-  line_with l r e left centre right full most parts height spacing any =
-      let most' : r.most ≡ largest (λ (t : Spot). t.at.line_just) (line ++ s ∷ []) =
-      most ∙ ap (λ (l : Line). max l.most c.just) e ∙ ap (max (line_sum line).most) is.just ∙ sym (largest_push (λ t. t.at.line_just) line s) in
+  line_with r present left centre right part parts height spacing any =
       let parts' : r.has_parts ≡ list_any (λ (t : Spot). nat_lt t.at.line_just 5) (line ++ s ∷ []) =
       parts ∙ ap (λ (l : Line). l.has_parts || nat_lt c.just 5) e ∙ ap (λ n. (line_sum line).has_parts || nat_lt n 5) is.just ∙ sym (any_more (λ t. nat_lt t.at.line_just 5) line s) in
       let height' : r.height ≡ line_height (line ++ s ∷ []) =
@@ -91,7 +178,9 @@ module _ (line : List Spot) (s : Spot) (c : Character) (glyphs : AllPass is_glyp
       spacing ∙ ap (λ (l : Line). max l.spacing c.font.line_spacing) e ∙ ap (λ f. max (line_spacing line) f.line_spacing) is.font ∙ sym (largest_glyph (λ t. t.at.font.line_spacing) line s glyphs is.glyph) in
       let any' : r.any ≡ list_any is_glyph (line ++ s ∷ []) =
       any ∙ sym (or_true (list_any is_glyph line)) ∙ ap (λ b. list_any is_glyph line || b) (sym is.glyph) ∙ sym (any_more is_glyph line s) in
-      rw (← left, ← centre, ← right, ← full, ← most', ← parts', ← height', ← spacing', ← any') refl
+      let whole : r ≡ line_sum_in c.just (line ++ s ∷ []) =
+      rw (← left ∙ width_other 2, ← centre ∙ width_other 3, ← right ∙ width_other 4, ← part, ← parts', ← height', ← spacing', ← any', ← present) refl in
+      whole ∙ ap (λ n. line_sum_in n (line ++ s ∷ [])) (sym present_more)
 
 -- a line clashes by its largest justification, or as one of its characters isn't full
 any_or : (n m : ℕ) (b : Bool) (line : List Spot) → list_any (λ (t : Spot). nat_lt n t.at.line_just || (b && nat_lt t.at.line_just m)) line ≡ (list_any (λ (t : Spot). nat_lt n t.at.line_just) line || (b && list_any (λ (t : Spot). nat_lt t.at.line_just m) line))
@@ -112,3 +201,38 @@ pub line_clashes : (line : List Spot) (s : Spot) → list_any (clashes s) line �
 line_clashes line s =
     any_or s.at.line_just 5 (s.at.line_just == 5) line
     ∙ ap (λ b. b || ((s.at.line_just == 5) && list_any (λ (t : Spot). nat_lt t.at.line_just 5) line)) (any_largest (λ t. t.at.line_just) s.at.line_just line)
+
+-- a character that clashes with none of its line isn't in a segment before the present one
+pub in_order : (line : List Spot) (s : Spot) (l : Line) → l ≡ line_sum line → list_any (clashes s) line ≡ false → l.present ≤ s.at.line_just
+in_order line s l e none =
+    let present : l.present ≡ largest (λ (t : Spot). t.at.line_just) line = ap (λ (l : Line). l.present) e in
+    let test : nat_lt s.at.line_just (largest (λ (t : Spot). t.at.line_just) line) ≡ false = or_left _ _ (sym (line_clashes line s) ∙ none) in
+    elim (cases_lt s.at.line_just l.present) [
+      | inl back ↦ absurd (false≢true (sym test ∙ lt-ltb s.at.line_just (largest (λ (t : Spot). t.at.line_just) line) (omega (arith, present))))
+      | inr on ↦ on
+    ]
+  where
+    or_left : (a b : Bool) → (a || b) ≡ false → a ≡ false
+    or_left true b h = absurd (false≢true (sym h))
+    or_left false b h = refl
+
+-- the width of a segment, by what is kept of the line
+module _ (line : List Spot) (l : Line) (e : l ≡ line_sum line) where
+  most_is : l.present ≡ largest (λ (t : Spot). t.at.line_just) line
+  most_is = ap (λ (l : Line). l.present) e
+
+  pub width_present : (just : ℕ) → just ≡ l.present → l.part.width ≡ width_of (segment just line)
+  width_present just own = ap (λ (l : Line). l.part.width) e ∙ ap (λ n. width_of (segment n line)) (sym (own ∙ most_is))
+
+  pub width_other_of : (just w : ℕ) → w ≡ width_before (largest (λ (t : Spot). t.at.line_just) line) just line → (just ≡ l.present → ⊥) → w ≡ width_of (segment just line)
+  width_other_of just w is other = elim (cases_lt just l.present) [
+    | inl before ↦ is ∙ ap (λ b. cond b (width_of (segment just line)) 0) (lt-ltb just (largest (λ (t : Spot). t.at.line_just) line) (omega (arith, most_is)))
+    | inr behind ↦ is ∙ ap (λ b. cond b (width_of (segment just line)) 0) (le-ltb just (largest (λ (t : Spot). t.at.line_just) line) (omega (arith, most_is)))
+        ∙ sym (ap width_of (segment_behind just line (omega (arith, most_is, other))))
+  ]
+
+  pub none_of_later : (just : ℕ) → l.present < just → segment just line ≡ []
+  none_of_later just later = segment_behind just line (omega (arith, most_is))
+
+  pub part_of_later : (just : ℕ) → l.present < just → (part : Segment) → part ≡ segment_sum just [] → part ≡ segment_sum just line
+  part_of_later just later part is = part_begun line just l e later part is

@@ -1,7 +1,7 @@
 -- A character that is put on a plane.
 use Rattle.std.proofs.Common.{◌≡◌, ℕ, ◌+◌, ◌-◌, ◌<◌, Bool, true, false, cond, ◌&&◌, ◌==◌, List, [], ◌∷◌, ◌++◌, length, Option, Some, None, refl, sym, ap, subst, ◌∙◌, arith}
 use Rattle.std.specs.Prelude.{nat_le, nat_lt}
-use Rattle.std.specs.List.{count_by, filter}
+use Rattle.std.specs.List.{count_by, filter, list_any}
 use Rattle.std.specs.Option.{option_map}
 use Rattle.std.proofs.lemmas.Bool.{eq-eqb}
 use Rattle.std.proofs.lemmas.Option.{same_Some}
@@ -14,7 +14,7 @@ use Rattle.multi_layout.specs.declared.paint.Layer.{Layer}
 use Rattle.multi_layout.specs.declared.place.Place.{Place}
 use Rattle.multi_layout.specs.declared.state.State.{State}
 use Rattle.multi_layout.specs.declared.table.LineTable.{LineTable}
-use Rattle.multi_layout.specs.Address.{standing, Glyph, Spot, spots, area_of, group_of, in_group, lines_of, is_glyph, is_break, in_area}
+use Rattle.multi_layout.specs.Address.{standing, Glyph, Spot, spots, area_of, group_of, in_group, line_before, lines_of, is_glyph, is_break, in_area}
 use Rattle.multi_layout.specs.Drawn.{has_colour}
 use Rattle.multi_layout.specs.Line.{glyph_width}
 use Rattle.multi_layout.specs.Meaning.{Meaning, Shows}
@@ -26,7 +26,9 @@ use Rattle.multi_layout.specs.Sums.{area_sum}
 use Rattle.multi_layout.specs.Table.{group_lines, table_of}
 use Rattle.multi_layout.proofs.CellLemmas.{covers}
 use Rattle.multi_layout.proofs.DrawnLemmas.{covered_glyph, area_with_glyph, same_page_behind}
-use Rattle.multi_layout.proofs.JudgedLemmas.{cell_of_font}
+use Rattle.multi_layout.specs.Offence.{clashes, offence}
+use Rattle.multi_layout.proofs.AreaSumLemmas.{no_clash}
+use Rattle.multi_layout.proofs.JudgedLemmas.{cell_of_font, no_conflict}
 use Rattle.multi_layout.proofs.PlaceLemmas.{line_is_there}
 
 -- a lit character covers this pixel
@@ -50,7 +52,8 @@ module _ (sign : SignData) (before : List Meaning) (state : State) (st : IsState
   module _ (rest : List Meaning) (layer : Layer) (lines : LineTable) (counted : HasCounted (in_area (standing sign before).area (spots sign (before ++ Shows number ∷ rest))) lines)
       (place : Place)
       (placed : (earlier all : List Spot) (spot : Spot) → is_glyph spot ≡ true → state.attributes ≡ attributes_of spot.at → glyph_width spot ≡ c.width → state.area ≡ area_sum (area_of spot earlier)
-      → group_lines state.attributes.page_just lines ≡ table_of (lines_of (group_of spot all)) → count_by is_break (group_of spot earlier) < length (lines_of (group_of spot all)) → place ≡ place_of earlier all spot) where
+      → group_lines state.attributes.page_just lines ≡ table_of (lines_of (group_of spot all)) → count_by is_break (group_of spot earlier) < length (lines_of (group_of spot all)) → list_any (clashes spot) (line_before earlier spot) ≡ false → place ≡ place_of earlier all spot)
+      (fine : offence sign before (Shows number) ≡ None) where
     -- the place is the character's
     place_is : (cell : CellData) → cell_numbered (standing sign before).font number ≡ Some cell → sized (standing sign before).font cell ≡ c
         → place ≡ place_of (spots sign before) (spots sign (before ++ Shows number ∷ rest)) (record { at = standing sign before; put = Glyph cell })
@@ -69,13 +72,14 @@ module _ (sign : SignData) (before : List Meaning) (state : State) (st : IsState
         placed (spots sign before) (spots sign (before ++ Shows number ∷ rest)) spot refl st.attributes (ap (λ (z : cells.SizedCell). z.width) is) st.area
         (counted state.attributes.page_just st.page_just.0 st.page_just.1 ∙ ap (λ n. table_of (lines_of (in_group n (in_area at.area (spots sign (before ++ Shows number ∷ rest)))))) page)
         (subst (λ g. count_by is_break (group_of spot (spots sign before)) < length (lines_of g)) (sym group) there)
+        (no_clash (spots sign before) spot at.page_just refl refl (no_conflict sign before number cell numbered fine))
 
     -- a character that is lit covers the pixels of its cell
-    pub lit_drawn : (old new : BitPlane) (on : Bool) (height : ℕ) → height ≡ state.attributes.font.height → is_lit_at layer.phase state.attributes.flash ≡ true → on ≡ (shown_colour sign state.attributes.fore == layer.colour)
+    pub lit_drawn : (old new : BitPlane) (on : Bool) → is_lit_at layer.phase state.attributes.flash ≡ true → on ≡ (shown_colour sign state.attributes.fore == layer.colour)
         → new.width ≡ old.width → new.height ≡ old.height
-        → ((x y : ℕ) → x < old.width → y < old.height → is_lit new x y ≡ cond (covers c place.column place.row height x y) on (is_lit old x y))
+        → ((x y : ℕ) → x < old.width → y < old.height → is_lit new x y ≡ cond (covers c place.column place.row x y) on (is_lit old x y))
         → IsDrawnTo sign layer (before ++ Shows number ∷ rest) before old → IsDrawnTo sign layer (before ++ Shows number ∷ rest) (before ++ Shows number ∷ []) new
-    lit_drawn old new on height high lit colour width tall pixels drawn = λ x y across down.
+    lit_drawn old new on lit colour width tall pixels drawn = λ x y across down.
         let at = standing sign before in
         let all = spots sign (before ++ Shows number ∷ rest) in
         let (cell, numbered, is) = glyph_found in
@@ -89,11 +93,10 @@ module _ (sign : SignData) (before : List Meaning) (state : State) (st : IsState
         let in_old : x < old.width = omega (arith, width, across) in
         let in_old' : y < old.height = omega (arith, tall, down) in
         pixels x y in_old in_old'
-        ∙ ap (λ (p : Place). cond (covers c p.column p.row height x y) on (is_lit old x y)) (place_is cell numbered is)
-        ∙ ap (λ h. cond (covers c here.column here.row h x y) on (is_lit old x y)) (high ∙ ap (λ (a : Attributes). a.font.height) st.attributes)
-        ∙ ap (λ (z : cells.SizedCell). cond (covers z here.column here.row at.font.height x y) on (is_lit old x y)) (sym is)
-        ∙ ap (λ o. cond (covers (sized at.font cell) here.column here.row at.font.height x y) o (is_lit old x y)) (colour ∙ ap (λ (a : Attributes). shown_colour sign a.fore == layer.colour) st.attributes)
-        ∙ ap (λ b. cond (covers (sized at.font cell) here.column here.row at.font.height x y) shown b) (drawn x y in_old in_old')
+        ∙ ap (λ (p : Place). cond (covers c p.column p.row x y) on (is_lit old x y)) (place_is cell numbered is)
+        ∙ ap (λ (z : cells.SizedCell). cond (covers z here.column here.row x y) on (is_lit old x y)) (sym is)
+        ∙ ap (λ o. cond (covers (sized at.font cell) here.column here.row x y) o (is_lit old x y)) (colour ∙ ap (λ (a : Attributes). shown_colour sign a.fore == layer.colour) st.attributes)
+        ∙ ap (λ b. cond (covers (sized at.font cell) here.column here.row x y) shown b) (drawn x y in_old in_old')
         ∙ ap (λ l. cond (lit_covers l (sized at.font cell) here.column here.row at.font.height x y) shown was) (sym flash)
         ∙ sym covered
         ∙ ap (λ p. has_colour sign p layer.phase layer.colour all (spots sign (before ++ Shows number ∷ [])) x y) (sym page)

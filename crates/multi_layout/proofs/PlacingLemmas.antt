@@ -1,6 +1,6 @@
 -- What a placing item makes of the state, from what the sums of the present area answer.
 use Rattle.std.proofs.Common.{◌≡◌, ℕ, ◌+◌, ◌*◌, Bool, true, false, not, List, [], ◌∷◌, ◌++◌, length, Option, Some, None, refl, sym, ap, ◌∙◌}
-use Rattle.std.specs.List.{All}
+use Rattle.std.specs.List.{All, after_last, list_any}
 use Rattle.multi_tag.specs.declared.tag.Tag.TheVariants.{NewLine}
 use Rattle.sign_font.specs.Cell.{SizedCell}
 use Rattle.sign_font.specs.Sign.{SignData, cell_in, info_of}
@@ -8,12 +8,12 @@ use Rattle.multi_layout.specs.declared.area.Area.{Area}
 use Rattle.multi_layout.specs.declared.attributes.Attributes.{Attributes}
 use Rattle.multi_layout.specs.declared.line.Character.{Character}
 use Rattle.multi_layout.specs.declared.state.State.{State}
-use Rattle.multi_layout.specs.Address.{Break, Glyph, Spot, area_of, is_break, is_glyph, spots, standing}
+use Rattle.multi_layout.specs.Address.{Break, Glyph, Spot, area_of, in_group, is_break, is_glyph, spots, standing}
 use Rattle.multi_layout.specs.Meaning.{Meaning, Shows, Does}
-use Rattle.multi_layout.specs.Offence.{conflicts, offence, too_big}
+use Rattle.multi_layout.specs.Offence.{clashes, conflicts, offence, too_big}
 use Rattle.multi_layout.specs.State.{IsStateOf, present_area}
 use Rattle.multi_layout.specs.Sums.{IsBelow, IsBreak, IsCharacter, IsPlacing, area_sum}
-use Rattle.multi_layout.proofs.AreaSumLemmas.{area_placing}
+use Rattle.multi_layout.proofs.AreaSumLemmas.{area_placing, no_clash}
 use Rattle.multi_layout.proofs.JudgedLemmas.{cell_found, character-conflict, character-too_big, character-fits, state-character, break-conflict, break-too_big, break-fits, state-break}
 
 -- what isn't refused, and what is
@@ -53,7 +53,8 @@ module _ (sign : SignData) (items : List Meaning) (state : State) (st : IsStateO
         (sym (answer (spots sign items) (record { at = standing sign items; put = Glyph cell }) st.area refl page_is line_is) ∙ is)
 
     module _ (character : Character) (area : Area) (just : character.just ≡ state.attributes.line_just) (spacing : character.spacing ≡ state.attributes.spacing) (wide : character.width ≡ c.width) (font : character.font ≡ state.attributes.font)
-        (sum : (xs : List Spot) (s : Spot) → All IsPlacing xs → state.area ≡ area_sum xs → IsCharacter s character → s.at.page_just ≡ state.attributes.page_just → area ≡ area_sum (xs ++ s ∷ []))
+        (sum : (xs : List Spot) (s : Spot) → All IsPlacing xs → state.area ≡ area_sum xs → IsCharacter s character → s.at.page_just ≡ state.attributes.page_just
+        → list_any (clashes s) (after_last is_break (in_group state.attributes.page_just xs)) ≡ false → area ≡ area_sum (xs ++ s ∷ []))
         (f : Bool)
         (fits : (before : List Spot) (s : Spot) → is_glyph s ≡ true → area ≡ area_sum (area_of s before ++ s ∷ []) → s.at.page_just ≡ state.attributes.page_just → s.at.rectangle.width ≡ state.attributes.rectangle.width → s.at.rectangle.height ≡ state.attributes.rectangle.height → f ≡ not (too_big before s)) where
       is_character : (cell : Rattle.sign_font.specs.Sign.CellData) → c.width ≡ cell.width → IsCharacter (record { at = standing sign items; put = Glyph cell }) character
@@ -70,7 +71,8 @@ module _ (sign : SignData) (items : List Meaning) (state : State) (st : IsStateO
           let (cell, found, width) = cell_found sign items state st number c some in
           let s : Spot = record { at = standing sign items; put = Glyph cell } in
           let before = spots sign items in
-          let grown = sum (present_area sign items) s placing st.area (is_character cell width) page_is in
+          let apart = no_clash before s state.attributes.page_just refl page_is (sym (answer before s st.area refl page_is line_is) ∙ is) in
+          let grown = sum (present_area sign items) s placing st.area (is_character cell width) page_is apart in
           character-too_big sign items state st number cell found (sym (answer before s st.area refl page_is line_is) ∙ is)
           (not_false f (too_big before s) (fits before s refl grown page_is width_is height_is) big)
 
@@ -80,7 +82,8 @@ module _ (sign : SignData) (items : List Meaning) (state : State) (st : IsStateO
           let (cell, found, width) = cell_found sign items state st number c some in
           let s : Spot = record { at = standing sign items; put = Glyph cell } in
           let before = spots sign items in
-          let grown = sum (present_area sign items) s placing st.area (is_character cell width) page_is in (
+          let apart = no_clash before s state.attributes.page_just refl page_is (sym (answer before s st.area refl page_is line_is) ∙ is) in
+          let grown = sum (present_area sign items) s placing st.area (is_character cell width) page_is apart in (
             character-fits sign items state st number cell found (sym (answer before s st.area refl page_is line_is) ∙ is)
                 (not_true f (too_big before s) (fits before s refl grown page_is width_is height_is) fine),
             state-character sign items state st number cell found area grown below,

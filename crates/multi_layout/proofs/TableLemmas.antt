@@ -12,7 +12,7 @@ use Rattle.multi_layout.specs.Words.{each_after}
 use Rattle.multi_layout.specs.Address.{Spot, is_glyph, is_break, segment, lines_of}
 use Rattle.multi_layout.specs.Line.{height_of, width_of}
 use Rattle.multi_layout.specs.Sums.{line_sum, ended_lines, IsPlacing}
-use Rattle.multi_layout.specs.Table.{counted_line, table_of}
+use Rattle.multi_layout.specs.Table.{counted_line, line_entry, table_of}
 use Rattle.multi_layout.proofs.WordLemmas.{each_after_push, last_or_push, push_ind}
 use Rattle.multi_layout.proofs.CutLemmas.{Cut, cut, cut_push, cut_behind_is}
 use Rattle.multi_layout.proofs.GroupHeightLemmas.{part_none, part_some}
@@ -109,24 +109,9 @@ ended_count g = ap length (ended_is is_break g) ∙ closed_count g
 
 -- ONE MORE ENTRY
 
--- the entry of a line of these sums whose bottom is known
-abbrev pub entry_of : Line → ℕ → ℕ → CountedLine
-entry_of sums characters bottom = record {
-  left = sums.left.width;
-  centre = sums.centre.width;
-  right = sums.right.width;
-  full = sums.full.width;
-  characters = characters;
-  bottom = bottom;
-}
-
 -- the entry of the open line of a group
 abbrev pub open_entry : List Spot → ℕ → CountedLine
-open_entry g bottom = entry_of (line_sum (after_last is_break g)) (length (segment 5 (after_last is_break g))) bottom
-
--- it is what is kept of the open line's sums
-pub entry_is : (g : List Spot) (line : Line) (bottom : ℕ) → line ≡ line_sum (after_last is_break g) → entry_of line line.full.count bottom ≡ open_entry g bottom
-entry_is g line bottom e = ap (λ (l : Line). entry_of l l.full.count bottom) e
+open_entry g bottom = line_entry (after_last is_break g) bottom
 
 no_glyph : (just : ℕ) (s : Spot) → is_glyph s ≡ false → (is_glyph s && (s.at.line_just == just)) ≡ false
 no_glyph just s n = ap (λ b. b && (s.at.line_just == just)) n
@@ -144,7 +129,7 @@ same_entry e f g h i = rw (e, f, g, h, i) refl
 
 -- an `nl` changes only the bottom of a line
 counted_break : (lines : List (List Spot)) (line : List Spot) (s : Spot) → is_glyph s ≡ false
-    → counted_line lines (line ++ s ∷ []) ≡ entry_of (line_sum line) (length (segment 5 line)) (height_of (lines ++ (line ++ s ∷ []) ∷ []))
+    → counted_line lines (line ++ s ∷ []) ≡ line_entry line (height_of (lines ++ (line ++ s ∷ []) ∷ []))
 counted_break lines line s n =
     let same = λ (just : ℕ). segment_no just line s n in
     same_entry (ap width_of (same 2)) (ap width_of (same 3)) (ap width_of (same 4)) (ap width_of (same 5)) (ap length (same 5))

@@ -1,9 +1,9 @@
 -- The words on lists, at one more item and at two lists.
-use Rattle.std.proofs.Common.{◌≡◌, ℕ, ◌+◌, ◌<◌, max, length, take, drop, get_or, List, [], ◌∷◌, ◌++◌, Option, Some, None, refl, sym, ap, subst, ◌∙◌, arith}
+use Rattle.std.proofs.Common.{◌≡◌, ℕ, ◌+◌, ◌<◌, ◌≤◌, max, length, take, drop, get_or, List, [], ◌∷◌, ◌++◌, Option, Some, None, refl, sym, ap, subst, ◌∙◌, arith}
 use Rattle.std.specs.List.{sum_by, filter_map, last_or, cons_option, All}
 use Rattle.std.specs.Option.{option_map, option_map_or}
 use Rattle.std.proofs.lemmas.List.{append_assoc, append-nil, take_more, drop_more, take-append-drop}
-use Rattle.std.proofs.lemmas.List.Elements.{filter_map-append, All-nil, All-cons, All-head, All-tail}
+use Rattle.std.proofs.lemmas.List.Elements.{filter_map-append, All-nil, All-cons, All-head, All-push, All-tail, All-weaker}
 use Rattle.std.proofs.lemmas.List.Sums.{sum_by_push, sum_by-append, fold_push}
 use Rattle.multi_layout.specs.Words.{each_after, some_after, successive, largest, extent}
 
@@ -96,6 +96,17 @@ push_ind_from P step (y ∷ ys) xs h = subst P (append_assoc xs (y ∷ []) ys) (
 
 pub push_ind : {X : Type 0} (P : List X → Type 0) → P [] → ((xs : List X) (x : X) → P xs → P (xs ++ x ∷ [])) → (xs : List X) → P xs
 push_ind P none step xs = push_ind_from P step xs [] none
+
+-- no value is more than the largest
+pub largest_most : {X : Type 0} (f : X → ℕ) (xs : List X) → All (λ x. f x ≤ largest f xs) xs
+largest_most {X} f = push_ind (λ xs. All (λ x. f x ≤ largest f xs) xs) (All-nil (λ x. f x ≤ 0)) step
+  where
+    step : (xs : List X) (x : X) → All (λ x. f x ≤ largest f xs) xs → All (λ y. f y ≤ largest f (xs ++ x ∷ [])) (xs ++ x ∷ [])
+    step xs x ih =
+        let more = largest_push f xs x in
+        All-push (λ y. f y ≤ largest f (xs ++ x ∷ [])) xs x
+        (All-weaker (λ y. f y ≤ largest f xs) (λ y. f y ≤ largest f (xs ++ x ∷ [])) (λ y h. omega (arith, h, more)) xs ih)
+        (omega (arith, more))
 
 pub All-split : {X : Type 0} (P : X → Type 0) (xs : List X) (x : X) → All P (xs ++ x ∷ []) → All P xs × P x
 All-split P [] x h = (All-nil P, All-head P x [] h)

@@ -72,14 +72,14 @@ pub record IsReady (state : State) : Type 0 where
   pub below : IsBelow (2 ^ 62) state.area
   pub short : state.cycle ≤ 510 * state.pages
 
--- one more item is judged: it doesn't offend and the new state is that of the items with it, or it offends by this error (own)
-abbrev pub IsJudged : SignData → List Meaning → Meaning → Result State SyntaxError → Type 0
-IsJudged sign items item (Ok state) = (offence sign items item ≡ None) × IsStateOf sign (items ++ item ∷ []) state
-IsJudged sign items item (Err error) = offence sign items item ≡ Some (code_of error)
+-- one more item is judged: it doesn't offend and the state is then that of the items with it, or it offends by this error (own)
+abbrev pub IsJudged : SignData → List Meaning → Meaning → Result (Unit {0}) SyntaxError → State → Type 0
+IsJudged sign items item (Ok done) state = (offence sign items item ≡ None) × IsStateOf sign (items ++ item ∷ []) state
+IsJudged sign items item (Err error) state = offence sign items item ≡ Some (code_of error)
 
--- whatever the items before are, if the state is theirs, the item is judged behind them (own)
-abbrev pub Judges : SignData → State → Meaning → Result State SyntaxError → Type 0
-Judges sign state item result = (items : List Meaning) → IsStateOf sign items state → IsJudged sign items item result
+-- whatever the items before are, if the old state is theirs, the item is judged behind them, and the new state is the one then (own)
+abbrev pub Judges : SignData → State → Meaning → Result (Unit {0}) SyntaxError → State → Type 0
+Judges sign old item result new = (items : List Meaning) → IsStateOf sign items old → IsJudged sign items item result new
 
 -- a tag that the layout of the sign has no part in: it begins nothing, places nothing, and asks for no font (own)
 abbrev pub IsSimple : Tag → Type 0

@@ -1,5 +1,5 @@
 -- The running sums of an area: what is kept of its items, in place of the items.
-use Rattle.std.specs.Prelude.{◌≡◌, ◌⊎◌, ℕ, ◌≤◌, true, nat_lt, List, length, Option, None}
+use Rattle.std.specs.Prelude.{◌≡◌, ◌⊎◌, ℕ, ◌≤◌, true, nat_lt, List, length, Option, None, if◌then◌else◌}
 use Rattle.std.specs.List.{filter, filter_map, last_or, list_any, after_last}
 use Rattle.std.specs.Option.{option_map}
 use Rattle.sign_font.specs.declared.font.FontInfo.{FontInfo}
@@ -22,20 +22,28 @@ segment_sum just line = record {
   last = option_map (λ t. t.at.font.char_spacing) (last_or None (segment just line));
 }
 
--- the sums of a line of characters: its four segments, the largest line justification, whether one of them isn't full, the
--- line's height and spacing, and whether there is one (own)
-abbrev pub line_sum : List Spot → Line
-line_sum line = record {
-  left = segment_sum 2 line;
-  centre = segment_sum 3 line;
-  right = segment_sum 4 line;
-  full = segment_sum 5 line;
-  most = largest (λ t. t.at.line_just) line;
+-- the width of a line's characters with a line justification before that of the present segment (own)
+abbrev pub width_before : ℕ → ℕ → List Spot → ℕ
+width_before present just line = if nat_lt just present then width_of (segment just line) else 0
+
+-- the sums of a line of characters whose present segment has this line justification: the widths of the segments before it,
+-- that segment, whether a character isn't full, the line's height and spacing, and whether there is a character (own)
+abbrev pub line_sum_in : ℕ → List Spot → Line
+line_sum_in present line = record {
+  present = present;
+  left = width_before present 2 line;
+  centre = width_before present 3 line;
+  right = width_before present 4 line;
+  part = segment_sum present line;
   has_parts = list_any (λ t. nat_lt t.at.line_just 5) line;
   height = line_height line;
   spacing = line_spacing line;
   any = list_any is_glyph line;
 }
+
+-- the sums of a line of characters, whose present segment is that with the largest line justification (own)
+abbrev pub line_sum : List Spot → Line
+line_sum line = line_sum_in (largest (λ t. t.at.line_just) line) line
 
 -- the lines of a group that an `nl` ends (own)
 abbrev pub ended_lines : List Spot → List (List Spot)
@@ -85,12 +93,13 @@ pub record IsSegmentBelow (k : ℕ) (segment : Segment) : Type 0 where
   pub width : segment.width ≤ k
   pub count : segment.count ≤ k
 
--- the numbers of a line's segments are at most k (own)
+-- the numbers of a line's segments are at most k, and the justification of the present one is none or a known one (own)
 pub record IsLineBelow (k : ℕ) (line : Line) : Type 0 where
-  pub left : IsSegmentBelow k line.left
-  pub centre : IsSegmentBelow k line.centre
-  pub right : IsSegmentBelow k line.right
-  pub full : IsSegmentBelow k line.full
+  pub left : line.left ≤ k
+  pub centre : line.centre ≤ k
+  pub right : line.right ≤ k
+  pub part : IsSegmentBelow k line.part
+  pub known : line.present ≤ 5
 
 -- the number and the height of a group's ended lines, and the numbers of its present line, are at most k (own)
 pub record IsGroupBelow (k : ℕ) (group : Group) : Type 0 where

@@ -7,17 +7,21 @@ use Rattle.multi_layout.specs.Line.{height_of, width_of, glyph_width}
 use Rattle.multi_layout.specs.Place.{start, spread}
 use Rattle.multi_layout.specs.Words.{each_after}
 
--- what is kept of a counted line behind others of its group: the widths of its segments, how many characters are full, and
--- the height of the group down to its bottom, in pixels (own)
-abbrev pub counted_line : List (List Spot) → List Spot → CountedLine
-counted_line before line = record {
+-- what is kept of a line whose group has this height down to the line's bottom: that height, the widths of the line's
+-- segments, and how many characters are full (own)
+abbrev pub line_entry : List Spot → ℕ → CountedLine
+line_entry line bottom = record {
   left = width_of (segment 2 line);
   centre = width_of (segment 3 line);
   right = width_of (segment 4 line);
   full = width_of (segment 5 line);
   characters = length (segment 5 line);
-  bottom = height_of (before ++ line ∷ []);
+  bottom = bottom;
 }
+
+-- what is kept of a counted line behind others of its group (own)
+abbrev pub counted_line : List (List Spot) → List Spot → CountedLine
+counted_line before line = line_entry line (height_of (before ++ line ∷ []))
 
 -- what is kept of the counted lines of a group (own)
 abbrev pub table_of : List (List Spot) → List CountedLine

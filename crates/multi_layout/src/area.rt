@@ -1,12 +1,12 @@
 //! The running sums of an area's groups.
 
 ghost use Rattle.std.specs.Prelude.{◌≡◌, ℕ, ◌+◌, ◌^◌, ◌≤◌, true, false, not, List, [], ◌∷◌, ◌++◌};
-ghost use Rattle.std.specs.List.{All};
+ghost use Rattle.std.specs.List.{All, after_last, list_any};
 ghost use Rattle.std.specs.Option.{option_map_or, unwrap_or};
 ghost use Rattle.multi_layout.specs.Address.{Spot, is_glyph, is_break, area_of, in_group, lines_of};
 ghost use Rattle.multi_layout.specs.Fit.{area_fits};
 ghost use Rattle.multi_layout.specs.Line.{average, height_of};
-ghost use Rattle.multi_layout.specs.Offence.{conflicts, too_big};
+ghost use Rattle.multi_layout.specs.Offence.{clashes, conflicts, too_big};
 ghost use Rattle.multi_layout.specs.Sums.{group_sum, area_sum, IsPlacing, IsCharacter, IsBreak, IsGroupBelow, IsBelow};
 
 use crate::line::{Character, Line, gap_or_average, parts_fit};
@@ -58,48 +58,31 @@ impl Group {
         }
     }
 
-    /// The group `just` of an area with one more character.
-    pub(crate) fn with_character(self, just: u8, page_just: u8, character: &Character) -> Group
-        requires below { IsGroupBelow (2 ^ 62) self }
-        ensures sum { (area : List Spot) (s : Spot) → All IsPlacing area → self ≡ group_sum (in_group just area)
-            → IsCharacter s character.now → s.at.page_just ≡ page_just → result ≡ group_sum (in_group just (area ++ s ∷ [])) }
-        ensures grows { (k : ℕ) → IsGroupBelow k self → IsGroupBelow (k + 1024) result }
+    /// Adds a character of this group.
+    pub(crate) fn add_character(&mut self, character: &Character)
+        requires known { character.now.just ≤ 5 }
+        requires below { IsGroupBelow (2 ^ 62) self.old }
+        ensures sum { (just : ℕ) (area : List Spot) (s : Spot) → All IsPlacing area → self.old ≡ group_sum (in_group just area)
+            → IsCharacter s character.now → s.at.page_just ≡ just → list_any (clashes s) (after_last is_break (in_group just area)) ≡ false
+            → self.new ≡ group_sum (in_group just (area ++ s ∷ [])) }
+        ensures grows { (k : ℕ) → IsGroupBelow k self.old → IsGroupBelow (k + 1024) self.new }
     {
-        if page_just != just {
-            return self;
-        }
-        Group {
-            ended: self.ended,
-            closed: self.closed,
-            last: self.last,
-            line: self.line.with_character(character),
-        }
+        self.line.add(character);
     }
 
-    /// The group `just` of an area with one more `nl`.
-    pub(crate) fn with_break(
-        self,
-        just: u8,
-        page_just: u8,
-        gap: Option<u8>,
-        font: &FontInfo,
-    ) -> Group
-        requires below { IsGroupBelow (2 ^ 62) self }
-        ensures sum { (area : List Spot) (s : Spot) → All IsPlacing area → self ≡ group_sum (in_group just area)
-            → IsBreak s gap font.now → s.at.page_just ≡ page_just → result ≡ group_sum (in_group just (area ++ s ∷ [])) }
-        ensures grows { (k : ℕ) → IsGroupBelow k self → IsGroupBelow (k + 1024) result }
+    /// Adds an `nl` of this group.
+    pub(crate) fn add_break(&mut self, gap: Option<u8>, font: &FontInfo)
+        requires below { IsGroupBelow (2 ^ 62) self.old }
+        ensures sum { (just : ℕ) (area : List Spot) (s : Spot) → All IsPlacing area → self.old ≡ group_sum (in_group just area)
+            → IsBreak s gap font.now → s.at.page_just ≡ just → self.new ≡ group_sum (in_group just (area ++ s ∷ [])) }
+        ensures grows { (k : ℕ) → IsGroupBelow k self.old → IsGroupBelow (k + 1024) self.new }
     {
-        if page_just != just {
-            return self;
-        }
         let height = self.line.ended_height(font);
         let spacing = self.line.ended_spacing(font);
-        Group {
-            ended: self.ended + 1,
-            closed: self.closed + u64::from(self.gap(spacing)) + u64::from(height),
-            last: Some(Ended { gap, spacing }),
-            line: Line::new(),
-        }
+        self.ended += 1;
+        self.closed += u64::from(self.gap(spacing)) + u64::from(height);
+        self.last = Some(Ended { gap, spacing });
+        self.line = Line::new();
     }
 
     /// The pixels between the last ended line and the present one with this spacing, 0 where none is ended.
@@ -142,46 +125,50 @@ impl Area {
         }
     }
 
-    /// The area with one more character, with this page justification in force.
-    pub(crate) fn with_character(self, page_just: u8, character: &Character) -> Area
-        requires below { IsBelow (2 ^ 62) self }
-        ensures sum { (area : List Spot) (s : Spot) → All IsPlacing area → self ≡ area_sum area
-            → IsCharacter s character.now → s.at.page_just ≡ page_just → result ≡ area_sum (area ++ s ∷ []) }
-        ensures grows { (k : ℕ) → IsBelow k self → IsBelow (k + 1024) result }
+    /// Adds a character, with this page justification in force.
+    pub(crate) fn add_character(&mut self, page_just: u8, character: &Character)
+        requires page_just { (2 ≤ page_just) × (page_just ≤ 4) }
+        requires known { character.now.just ≤ 5 }
+        requires below { IsBelow (2 ^ 62) self.old }
+        ensures sum { (area : List Spot) (s : Spot) → All IsPlacing area → self.old ≡ area_sum area
+            → IsCharacter s character.now → s.at.page_just ≡ page_just
+            → list_any (clashes s) (after_last is_break (in_group page_just area)) ≡ false → self.new ≡ area_sum (area ++ s ∷ []) }
+        ensures grows { (k : ℕ) → IsBelow k self.old → IsBelow (k + 1024) self.new }
     {
-        Area {
-            most: self.most.max(page_just),
-            top: self.top.with_character(2, page_just, character),
-            middle: self.middle.with_character(3, page_just, character),
-            bottom: self.bottom.with_character(4, page_just, character),
+        self.most = self.most.max(page_just);
+        match page_just {
+            2 => self.top.add_character(character),
+            3 => self.middle.add_character(character),
+            _ => self.bottom.add_character(character),
         }
     }
 
-    /// The area with one more `nl`, with this page justification and this font in force.
-    pub(crate) fn with_break(self, page_just: u8, gap: Option<u8>, font: &FontInfo) -> Area
-        requires below { IsBelow (2 ^ 62) self }
-        ensures sum { (area : List Spot) (s : Spot) → All IsPlacing area → self ≡ area_sum area
-            → IsBreak s gap font.now → s.at.page_just ≡ page_just → result ≡ area_sum (area ++ s ∷ []) }
-        ensures grows { (k : ℕ) → IsBelow k self → IsBelow (k + 1024) result }
+    /// Adds an `nl`, with this page justification and this font in force.
+    pub(crate) fn add_break(&mut self, page_just: u8, gap: Option<u8>, font: &FontInfo)
+        requires page_just { (2 ≤ page_just) × (page_just ≤ 4) }
+        requires below { IsBelow (2 ^ 62) self.old }
+        ensures sum { (area : List Spot) (s : Spot) → All IsPlacing area → self.old ≡ area_sum area
+            → IsBreak s gap font.now → s.at.page_just ≡ page_just → self.new ≡ area_sum (area ++ s ∷ []) }
+        ensures grows { (k : ℕ) → IsBelow k self.old → IsBelow (k + 1024) self.new }
     {
-        Area {
-            most: self.most.max(page_just),
-            top: self.top.with_break(2, page_just, gap, font),
-            middle: self.middle.with_break(3, page_just, gap, font),
-            bottom: self.bottom.with_break(4, page_just, gap, font),
+        self.most = self.most.max(page_just);
+        match page_just {
+            2 => self.top.add_break(gap, font),
+            3 => self.middle.add_break(gap, font),
+            _ => self.bottom.add_break(gap, font),
         }
     }
 
     /// The group with this page justification: top 2, middle 3, bottom 4.
-    pub(crate) fn group(&self, page_just: u8) -> Group
+    pub(crate) fn group(&self, page_just: u8) -> &Group
         requires known { (2 ≤ page_just) × (page_just ≤ 4) }
-        ensures sum { (area : List Spot) → self.now ≡ area_sum area → result ≡ group_sum (in_group page_just area) }
-        ensures below { (k : ℕ) → IsBelow k self.now → IsGroupBelow k result }
+        ensures sum { (area : List Spot) → self.now ≡ area_sum area → result.now ≡ group_sum (in_group page_just area) }
+        ensures below { (k : ℕ) → IsBelow k self.now → IsGroupBelow k result.now }
     {
         match page_just {
-            2 => self.top,
-            3 => self.middle,
-            _ => self.bottom,
+            2 => &self.top,
+            3 => &self.middle,
+            _ => &self.bottom,
         }
     }
 
@@ -191,7 +178,7 @@ impl Area {
         ensures { (before : List Spot) (s : Spot) → self.now ≡ area_sum (area_of s before) → is_glyph s ≡ true
             → s.at.page_just ≡ page_just → s.at.line_just ≡ just → result ≡ conflicts before s }
     {
-        let line = self.group(page_just).line;
+        let line = &self.group(page_just).line;
         (page_just < self.most) | line.clashes(just)
     }
 
@@ -212,7 +199,7 @@ impl Area {
             → s.at.page_just ≡ page_just → s.at.rectangle.width ≡ width → s.at.rectangle.height ≡ height
             → result ≡ not (too_big before s) }
     {
-        let line = self.group(page_just).line;
+        let line = &self.group(page_just).line;
         line.fits(width) & self.fits_height(height)
     }
 

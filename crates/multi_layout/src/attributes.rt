@@ -82,54 +82,31 @@ impl Attributes {
         }
     }
 
-    fn with_spacing(self, spacing: Option<u8>) -> Attributes
-        ensures { result ≡ record self { spacing = spacing } }
-    {
-        Attributes { spacing, ..self }
-    }
-
-    fn with_flash(self, flash: Option<FlashTimes>) -> Attributes
-        ensures { result ≡ record self { flash = flash } }
-    {
-        Attributes { flash, ..self }
-    }
-
-    /// The values in force behind a tag that begins nothing, places nothing and asks for no font.
-    pub(crate) fn behind(self, defaults: Defaults, tag: Tag) -> Attributes
-        ensures { (sign : SignData) (at : Standing) → sign.defaults ≡ defaults → self ≡ attributes_of at → IsSimple tag
-            → result ≡ attributes_of (standing_behind sign at (Does tag)) }
+    /// Puts the values in force behind a tag that begins nothing, places nothing and asks for no font.
+    pub(crate) fn set(&mut self, defaults: Defaults, tag: Tag)
+        ensures { (sign : SignData) (at : Standing) → sign.defaults ≡ defaults → self.old ≡ attributes_of at → IsSimple tag
+            → self.new ≡ attributes_of (standing_behind sign at (Does tag)) }
     {
         match tag {
-            Tag::LineJust(just) => Attributes {
-                line_just: just.unwrap_or(defaults.line),
-                ..self
-            },
-            Tag::PageJust(just) => Attributes {
-                page_just: just.unwrap_or(defaults.page),
-                ..self
-            },
-            Tag::CharSpacing(pixels) => self.with_spacing(Some(pixels)),
-            Tag::CharSpacingEnd => self.with_spacing(None),
-            Tag::PageTime { on, off } => Attributes {
-                on: on.unwrap_or(defaults.page_on),
-                off: off.unwrap_or(defaults.page_off),
-                ..self
-            },
-            Tag::Fore(colour) => Attributes {
-                fore: colour.unwrap_or(defaults.fore),
-                ..self
-            },
-            Tag::Back(colour) => Attributes {
-                back: colour.unwrap_or(defaults.back),
-                ..self
-            },
-            Tag::Flash { off_first, on, off } => self.with_flash(Some(FlashTimes {
-                off_first,
-                on: on.unwrap_or(defaults.flash_on),
-                off: off.unwrap_or(defaults.flash_off),
-            })),
-            Tag::FlashEnd => self.with_flash(None),
-            _ => self,
+            Tag::LineJust(just) => self.line_just = just.unwrap_or(defaults.line),
+            Tag::PageJust(just) => self.page_just = just.unwrap_or(defaults.page),
+            Tag::CharSpacing(pixels) => self.spacing = Some(pixels),
+            Tag::CharSpacingEnd => self.spacing = None,
+            Tag::PageTime { on, off } => {
+                self.on = on.unwrap_or(defaults.page_on);
+                self.off = off.unwrap_or(defaults.page_off);
+            }
+            Tag::Fore(colour) => self.fore = colour.unwrap_or(defaults.fore),
+            Tag::Back(colour) => self.back = colour.unwrap_or(defaults.back),
+            Tag::Flash { off_first, on, off } => {
+                self.flash = Some(FlashTimes {
+                    off_first,
+                    on: on.unwrap_or(defaults.flash_on),
+                    off: off.unwrap_or(defaults.flash_off),
+                });
+            }
+            Tag::FlashEnd => self.flash = None,
+            _ => {}
         }
     }
 }

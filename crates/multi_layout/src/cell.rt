@@ -1,6 +1,6 @@
 //! A cell of a font, put on a plane.
 
-ghost use Rattle.std.specs.Prelude.{◌≡◌, ℕ, ◌+◌, ◌-◌, ◌^◌, ◌<◌, ◌≤◌, ◌==◌, ◌&&◌, nat_le, nat_lt, if◌then◌else◌};
+ghost use Rattle.std.specs.Prelude.{◌≡◌, ℕ, ◌+◌, ◌-◌, ◌<◌, ◌≤◌, ◌&&◌, nat_le, nat_lt, if◌then◌else◌};
 ghost use Rattle.page_plane.specs.Plane.{is_lit};
 ghost use Rattle.sign_font.specs.Cell as cells;
 ghost use Rattle.sign_font.specs.Sound.{IsSoundSize};
@@ -11,46 +11,22 @@ use sign_font::Cell;
 /// Puts a cell's pixels on a plane, its upper left one at this column and row: where a bit of the cell is set
 /// the pixel becomes `on`, and every other stays. What would lie beside the plane is cut off. It takes at most
 /// one step for each row of the cell.
-pub(crate) fn put_cell(
-    cell: &Cell<'_>,
-    height: u8,
-    column: u64,
-    row: u64,
-    on: bool,
-    plane: &mut Plane,
-)
+pub(crate) fn put_cell(cell: &Cell<'_>, column: u64, row: u64, on: bool, plane: &mut Plane)
     requires size { IsSoundSize cell.now }
-    requires height { cell.now.height ≡ height }
-    requires row { row ≤ 2 ^ 62 }
     ensures pixels { (x y : ℕ) → x < plane.old.width → y < plane.old.height
-        → is_lit plane.new x y ≡ (if nat_le column x && nat_le row y && nat_lt y (row + height)
+        → is_lit plane.new x y ≡ (if nat_le column x && nat_le row y && nat_lt y (row + cell.now.height)
         && cells.is_lit cell.now (x - column) (y - row) then on else is_lit plane.old x y) }
     ensures width { plane.new.width ≡ plane.old.width }
     ensures height { plane.new.height ≡ plane.old.height }
     ensures counted { plane.old.steps ≤ plane.new.steps }
-    ensures steps { plane.new.steps ≤ plane.old.steps + height }
-{
-    for r in 0..height {
-        put_cell_row(cell, r, column, row + u64::from(r), on, plane);
-    }
-}
-
-/// Puts row `r` of a cell on a plane, its leftmost pixel at this column and row, in at most one step.
-fn put_cell_row(cell: &Cell<'_>, r: u8, column: u64, row: u64, on: bool, plane: &mut Plane)
-    requires width { cell.now.width ≤ 64 }
-    requires inside { r < cell.now.height }
-    ensures pixels { (x y : ℕ) → x < plane.old.width → y < plane.old.height
-        → is_lit plane.new x y ≡ (if (y == row) && nat_le column x && cells.is_lit cell.now (x - column) r
-        then on else is_lit plane.old x y) }
-    ensures width { plane.new.width ≡ plane.old.width }
-    ensures height { plane.new.height ≡ plane.old.height }
-    ensures counted { plane.old.steps ≤ plane.new.steps }
-    ensures steps { plane.new.steps ≤ plane.old.steps + 1 }
+    ensures steps { plane.new.steps ≤ plane.old.steps + cell.now.height }
 {
     let (columns, rows) = (u64::from(plane.width()), u64::from(plane.height()));
     if column >= columns || row >= rows {
         return;
     }
     let width = u64::from(cell.width()).min(columns - column) as u8;
-    plane.put_row(column as u16, row as u16, width, cell.row(r), on);
+    let all = cell.rows();
+    let height = all.len().min((rows - row) as usize);
+    plane.put_rows(column as u16, row as u16, width, &all[..height], on);
 }

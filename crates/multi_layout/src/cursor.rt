@@ -72,8 +72,9 @@ impl Cursor {
         ensures at { result.at ≡ self.now.at + next.len }
         ensures steps { RisesBetween source.old source.new 0 1 }
     {
-        match judge_item(sign, self.state, source, next.item) {
-            Ok(state) => Cursor {
+        let mut state = self.state;
+        match judge_item(sign, &mut state, source, next.item) {
+            Ok(()) => Cursor {
                 at: self.at + next.len,
                 state,
             },
@@ -93,8 +94,9 @@ impl Cursor {
             → IsBetween sign octets (before ++ item ∷ []) rest result }
         ensures at { result.at ≡ self.now.at + len }
     {
-        match judge_cell(self.state, number, cell) {
-            Ok(state) => Cursor {
+        let mut state = self.state;
+        match judge_cell(&mut state, number, cell) {
+            Ok(()) => Cursor {
                 at: self.at + len,
                 state,
             },

@@ -1,6 +1,6 @@
 //! The verdict on a string, in one reading from the left with running sums.
 
-ghost use Rattle.std.specs.Prelude.{◌≡◌, ℕ, ◌+◌, ◌-◌, ◌^◌, ◌<◌, ◌≤◌, ◌*◌, ◌==◌, if◌then◌else◌, length, IfOk, IfErr, IfSome, IfNone, OnOk, None, Some, true};
+ghost use Rattle.std.specs.Prelude.{◌≡◌, ℕ, ◌+◌, ◌-◌, ◌^◌, ◌<◌, ◌≤◌, ◌*◌, ◌==◌, if◌then◌else◌, [], length, IfOk, IfErr, IfSome, IfNone, OnOk, None, Some, true};
 ghost use Rattle.std.specs.Option.{option_map_or};
 ghost use Rattle.multi_token.specs.Counted.{charged, RisesBetween};
 ghost use Rattle.multi_token.specs.Tokens.{IsTokenOf, item_of};
@@ -10,11 +10,11 @@ ghost use Rattle.multi_layout.specs.Codes.{code_of};
 ghost use Rattle.multi_layout.specs.Limits.{check_limit};
 ghost use Rattle.multi_layout.specs.Meaning.{Does, Faulty, Shows, meaning};
 ghost use Rattle.multi_layout.specs.KnownItem.{IsKnownItem, meant_by};
-ghost use Rattle.multi_layout.specs.State.{IsKnown, IsReady, Judges};
+ghost use Rattle.multi_layout.specs.State.{IsKnown, IsReady, IsStateOf, Judges};
 ghost use Rattle.multi_layout.specs.Verdict.{Accepted, IsCycle, IsVerdict, Refused};
 
 use crate::area::Area;
-use crate::attributes::{Attributes, Rectangle, whole_sign};
+use crate::attributes::{Rectangle, whole_sign};
 use crate::checked::Checked;
 use crate::fault::{Fault, SyntaxError};
 use crate::item::{KnownItem, read_item};
@@ -82,12 +82,13 @@ pub fn check_with<'a>(
 {
     let terms = Terms::new(sign, defaults);
     let mut source = source;
-    match judge(&terms, &mut source) {
-        Ok(state) => Ok(Checked {
+    let mut state = State::new(&terms);
+    match judge(&terms, &mut state, &mut source) {
+        Ok(()) => Ok(Checked {
             terms,
             source,
             pages: state.pages,
-            cycle: state.cycle + u32::from(state.attributes.on) + u32::from(state.attributes.off),
+            cycle: state.whole_cycle(),
         }),
         Err(offence) => Err(Fault {
             code: offence.error.code(),
@@ -97,13 +98,14 @@ pub fn check_with<'a>(
     }
 }
 
-/// The state behind the items of an accepted string, or the first offence.
-fn judge(sign: &Terms<'_>, source: &mut Source<'_>) -> Result<State, Offence>
+/// Goes from the state before the first item to that behind the last of an accepted string, or to the first offence.
+fn judge(sign: &Terms<'_>, state: &mut State, source: &mut Source<'_>) -> Result<(), Offence>
+    requires start { IsStateOf sign.now [] state.old }
     requires fresh { source.old.steps ≡ 0 }
     requires short { length source.old.octets < 2 ^ 32 }
-    ensures accepted { IfOk result (λ state. IsVerdict sign.now source.old.octets (Accepted state.pages)
-        × IsCycle sign.now source.old.octets (state.cycle + state.attributes.on + state.attributes.off)
-        × (state.cycle ≤ 510 * state.pages)) }
+    ensures accepted { OnOk result (IsVerdict sign.now source.old.octets (Accepted state.new.pages)
+        × IsCycle sign.now source.old.octets (state.new.cycle + state.new.attributes.on + state.new.attributes.off)
+        × (state.new.cycle ≤ 510 * state.new.pages)) }
     ensures refused { IfErr result (λ offence. IsVerdict sign.now source.old.octets (Refused (code_of offence.error) offence.at)) }
     ensures kept { source.new.octets ≡ source.old.octets }
     ensures steps { OnOk result (length source.old.octets + 1 ≤ source.new.steps) }
@@ -111,11 +113,10 @@ fn judge(sign: &Terms<'_>, source: &mut Source<'_>) -> Result<State, Offence>
     ensures most { source.new.steps ≤ check_limit (length source.old.octets) }
 {
     let mut at = 0;
-    let mut state = State::new(sign);
     loop {
         let token = match next_token(source, at) {
             Ok(Some(token)) => token,
-            Ok(None) => return Ok(state),
+            Ok(None) => return Ok(()),
             Err(_) => {
                 return Err(Offence {
                     error: SyntaxError::UnsupportedTag,
@@ -124,23 +125,22 @@ fn judge(sign: &Terms<'_>, source: &mut Source<'_>) -> Result<State, Offence>
             }
         };
         match judge_token(sign, state, source, &token) {
-            Ok(next) => state = next,
+            Ok(()) => at += token.len,
             Err(error) => return Err(Offence { error, at }),
         }
-        at += token.len;
     }
 }
 
 /// Judges the item of a token.
 fn judge_token(
     sign: &Terms<'_>,
-    state: State,
+    state: &mut State,
     source: &mut Source<'_>,
     token: &Token,
-) -> Result<State, SyntaxError>
+) -> Result<(), SyntaxError>
     requires token { IsTokenOf source.old.octets token.now }
-    requires ready { IsReady state }
-    ensures judged { Judges sign.now state (meaning (item_of source.old.octets token.now)) result }
+    requires ready { IsReady state.old }
+    ensures judged { Judges sign.now state.old (meaning (item_of source.old.octets token.now)) result state.new }
     ensures steps { RisesBetween source.old source.new 0 token.now.len }
 {
     match read_item(source, token) {
@@ -152,13 +152,13 @@ fn judge_token(
 /// Judges an item that was read.
 pub(crate) fn judge_item(
     sign: &Terms<'_>,
-    state: State,
+    state: &mut State,
     source: &mut Source<'_>,
     item: KnownItem,
-) -> Result<State, SyntaxError>
-    requires ready { IsReady state }
+) -> Result<(), SyntaxError>
+    requires ready { IsReady state.old }
     requires known { IsKnownItem item }
-    ensures judged { Judges sign.now state (meant_by item) result }
+    ensures judged { Judges sign.now state.old (meant_by item) result state.new }
     ensures steps { RisesBetween source.old source.new 0 1 }
 {
     match item {
@@ -170,13 +170,13 @@ pub(crate) fn judge_item(
 /// Judges what a tag says.
 fn judge_tag(
     sign: &Terms<'_>,
-    state: State,
+    state: &mut State,
     source: &mut Source<'_>,
     tag: Tag,
-) -> Result<State, SyntaxError>
-    requires ready { IsReady state }
+) -> Result<(), SyntaxError>
+    requires ready { IsReady state.old }
     requires known { IsKnown tag }
-    ensures judged { Judges sign.now state (Does tag) result }
+    ensures judged { Judges sign.now state.old (Does tag) result state.new }
     ensures steps { RisesBetween source.old source.new 0 1 }
 {
     match tag {
@@ -184,22 +184,22 @@ fn judge_tag(
         Tag::NewLine(gap) => judge_break(state, gap),
         Tag::Font(pick) => judge_font(sign, state, source, pick),
         Tag::Rect { x, y, w, h } => judge_rectangle(sign, state, x, y, w, h),
-        _ => Ok(State {
-            attributes: state.attributes.behind(sign.defaults(), tag),
-            ..state
-        }),
+        _ => {
+            state.attributes.set(sign.defaults(), tag);
+            Ok(())
+        }
     }
 }
 
 /// Judges a character: whether its font has a cell for it, and whether it may stand on its line and fits.
 fn judge_character(
     sign: &Terms<'_>,
-    state: State,
+    state: &mut State,
     source: &mut Source<'_>,
     number: u8,
-) -> Result<State, SyntaxError>
-    requires { IsReady state }
-    ensures judged { Judges sign.now state (Shows number) result }
+) -> Result<(), SyntaxError>
+    requires { IsReady state.old }
+    ensures judged { Judges sign.now state.old (Shows number) result state.new }
     ensures step { source.new ≡ charged source.old 1 }
 {
     let font = state.attributes.font.number;
@@ -210,86 +210,84 @@ fn judge_character(
 }
 
 /// Judges a character whose cell was found.
-pub(crate) fn judge_cell(state: State, number: u8, cell: &Cell<'_>) -> Result<State, SyntaxError>
-    requires { IsReady state }
-    ensures judged { (sign : SignData) → cell_in sign state.attributes.font.number number ≡ Some cell.now
-        → Judges sign state (Shows number) result }
+pub(crate) fn judge_cell(state: &mut State, number: u8, cell: &Cell<'_>) -> Result<(), SyntaxError>
+    requires { IsReady state.old }
+    ensures judged { (sign : SignData) → cell_in sign state.old.attributes.font.number number ≡ Some cell.now
+        → Judges sign state.old (Shows number) result state.new }
 {
-    let attributes = state.attributes;
-    let character = attributes.character(cell.width());
+    let character = state.attributes.character(cell.width());
+    let page_just = state.attributes.page_just;
     if state
         .area
-        .conflicts_with_character(attributes.page_just, attributes.line_just)
+        .conflicts_with_character(page_just, state.attributes.line_just)
     {
         return Err(SyntaxError::TagConflict);
     }
-    let area = state.area.with_character(attributes.page_just, &character);
-    let Rectangle { width, height, .. } = attributes.rectangle;
-    if area.fits_with_character(attributes.page_just, width, height) {
-        Ok(State { area, ..state })
+    state.area.add_character(page_just, &character);
+    let Rectangle { width, height, .. } = state.attributes.rectangle;
+    if state.area.fits_with_character(page_just, width, height) {
+        Ok(())
     } else {
         Err(SyntaxError::TextTooBig)
     }
 }
 
 /// Judges the end of a line.
-fn judge_break(state: State, gap: Option<u8>) -> Result<State, SyntaxError>
-    requires { IsReady state }
-    ensures judged { (sign : SignData) → Judges sign state (Does (Tag.NewLine gap)) result }
+fn judge_break(state: &mut State, gap: Option<u8>) -> Result<(), SyntaxError>
+    requires { IsReady state.old }
+    ensures judged { (sign : SignData) → Judges sign state.old (Does (Tag.NewLine gap)) result state.new }
 {
-    let attributes = state.attributes;
-    if state.area.conflicts_with_break(attributes.page_just) {
+    let page_just = state.attributes.page_just;
+    if state.area.conflicts_with_break(page_just) {
         return Err(SyntaxError::TagConflict);
     }
-    let area = state
+    state.area.add_break(page_just, gap, &state.attributes.font);
+    if state
         .area
-        .with_break(attributes.page_just, gap, &attributes.font);
-    if area.fits_with_break(attributes.rectangle.height) {
-        Ok(State { area, ..state })
+        .fits_with_break(state.attributes.rectangle.height)
+    {
+        Ok(())
     } else {
         Err(SyntaxError::TextTooBig)
     }
 }
 
 /// Judges a new page, which has the whole sign.
-fn judge_page(sign: &Terms<'_>, state: State) -> Result<State, SyntaxError>
-    requires { IsReady state }
-    ensures judged { Judges sign.now state (Does Tag.NewPage) result }
+fn judge_page(sign: &Terms<'_>, state: &mut State) -> Result<(), SyntaxError>
+    requires { IsReady state.old }
+    ensures judged { Judges sign.now state.old (Does Tag.NewPage) result state.new }
 {
     if state.pages >= sign.max_pages() {
         return Err(SyntaxError::TooManyPages);
     }
-    let attributes = state.attributes;
-    Ok(State {
-        pages: state.pages + 1,
-        cycle: state.cycle + u32::from(attributes.on) + u32::from(attributes.off),
-        attributes: Attributes {
-            rectangle: whole_sign(sign),
-            ..attributes
-        },
-        area: Area::new(),
-    })
+    state.pages += 1;
+    state.cycle += u32::from(state.attributes.on) + u32::from(state.attributes.off);
+    state.attributes.rectangle = whole_sign(sign);
+    state.area = Area::new();
+    Ok(())
 }
 
 /// Judges a font that a tag asks for, and the version that it must have; without a number it is the default.
 fn judge_font(
     sign: &Terms<'_>,
-    state: State,
+    state: &mut State,
     source: &mut Source<'_>,
     pick: Option<FontPick>,
-) -> Result<State, SyntaxError>
-    requires { IsReady state }
-    ensures judged { Judges sign.now state (Does (Tag.Font pick)) result }
+) -> Result<(), SyntaxError>
+    requires { IsReady state.old }
+    ensures judged { Judges sign.now state.old (Does (Tag.Font pick)) result state.new }
     ensures steps { RisesBetween source.old source.new 0 1 }
 {
     let Some(pick) = pick else {
-        return Ok(state.with_font(sign.default_font()));
+        state.attributes.font = sign.default_font();
+        return Ok(());
     };
     let Some(font) = sign.font(source, pick.number) else {
         return Err(SyntaxError::FontNotDefined);
     };
     if agrees(pick.version, font.version) {
-        Ok(state.with_font(font))
+        state.attributes.font = font;
+        Ok(())
     } else {
         Err(SyntaxError::FontVersionId)
     }
@@ -308,14 +306,14 @@ fn agrees(wanted: Option<u16>, version: u16) -> bool
 /// Judges a rectangle, whose upper left pixel is counted from 1.
 fn judge_rectangle(
     sign: &Terms<'_>,
-    state: State,
+    state: &mut State,
     x: u32,
     y: u32,
     w: u32,
     h: u32,
-) -> Result<State, SyntaxError>
-    requires { IsReady state }
-    ensures judged { Judges sign.now state (Does (Tag.Rect x y w h)) result }
+) -> Result<(), SyntaxError>
+    requires { IsReady state.old }
+    ensures judged { Judges sign.now state.old (Does (Tag.Rect x y w h)) result state.new }
 {
     let Some((left, width)) = part_of(sign.width(), x, w) else {
         return Err(SyntaxError::UnsupportedTagValue);
@@ -323,19 +321,14 @@ fn judge_rectangle(
     let Some((top, height)) = part_of(sign.height(), y, h) else {
         return Err(SyntaxError::UnsupportedTagValue);
     };
-    Ok(State {
-        attributes: Attributes {
-            rectangle: Rectangle {
-                left,
-                top,
-                width,
-                height,
-            },
-            ..state.attributes
-        },
-        area: Area::new(),
-        ..state
-    })
+    state.attributes.rectangle = Rectangle {
+        left,
+        top,
+        width,
+        height,
+    };
+    state.area = Area::new();
+    Ok(())
 }
 
 /// A part of the sign's width or height, which begins at a pixel counted from 1: its first pixel, counted from

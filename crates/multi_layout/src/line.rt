@@ -1,13 +1,13 @@
 //! The running sums of a line's characters.
 
-ghost use Rattle.std.specs.Prelude.{◌≡◌, ℕ, ◌+◌, ◌^◌, ◌≤◌, if◌then◌else◌, List, [], ◌∷◌, ◌++◌};
+ghost use Rattle.std.specs.Prelude.{◌≡◌, ℕ, ◌+◌, ◌^◌, ◌≤◌, false, if◌then◌else◌, length, List, [], ◌∷◌, ◌++◌};
 ghost use Rattle.std.specs.List.{AllPass, list_any};
 ghost use Rattle.std.specs.Option.{option_map_or, unwrap_or};
-ghost use Rattle.multi_layout.specs.Address.{Spot, is_glyph};
+ghost use Rattle.multi_layout.specs.Address.{Spot, is_glyph, segment};
 ghost use Rattle.multi_layout.specs.Fit.{fit, line_fits};
-ghost use Rattle.multi_layout.specs.Line.{average};
+ghost use Rattle.multi_layout.specs.Line.{average, width_of};
 ghost use Rattle.multi_layout.specs.Offence.{clashes};
-ghost use Rattle.multi_layout.specs.Sums.{segment_sum, line_sum, IsCharacter, IsSegmentBelow, IsLineBelow};
+ghost use Rattle.multi_layout.specs.Sums.{segment_sum, line_sum, line_sum_in, IsCharacter, IsSegmentBelow, IsLineBelow};
 
 use sign_font::FontInfo;
 
@@ -35,16 +35,19 @@ pub(crate) struct Segment {
     pub(crate) last: Option<u8>,
 }
 
-/// The characters of a line.
+/// The characters of a line. Line justifications don't go back on a line, so only one segment grows, and of those before it
+/// only the widths are kept.
 #[derive(Clone, Copy, Debug, PartialEq, Eq)]
 pub(crate) struct Line {
-    pub(crate) left: Segment,
-    pub(crate) centre: Segment,
-    pub(crate) right: Segment,
-    pub(crate) full: Segment,
-    /// The largest line justification; 0 where there is no character.
-    pub(crate) most: u8,
-    /// Whether one isn't full.
+    /// The line justification of the present segment, the largest so far; 0 where there is no character.
+    pub(crate) present: u8,
+    /// The widths in pixels of the segments before the present one.
+    pub(crate) left: u64,
+    pub(crate) centre: u64,
+    pub(crate) right: u64,
+    /// The present segment.
+    pub(crate) part: Segment,
+    /// Whether a character isn't full.
     pub(crate) has_parts: bool,
     /// The height of the tallest font, in pixels; 0 where there is no character.
     pub(crate) height: u8,
@@ -67,21 +70,16 @@ impl Segment {
         }
     }
 
-    /// The segment `just` of the line with one more character.
-    pub(crate) fn with_character(self, just: u8, character: &Character) -> Segment
-        requires below { IsSegmentBelow (2 ^ 62) self }
-        ensures sum { (line : List Spot) (s : Spot) → IsCharacter s character.now → self ≡ segment_sum just line
-            → result ≡ segment_sum just (line ++ s ∷ []) }
-        ensures grows { (k : ℕ) → IsSegmentBelow k self → IsSegmentBelow (k + 1024) result }
+    /// Adds a character of this segment.
+    pub(crate) fn add(&mut self, character: &Character)
+        requires below { IsSegmentBelow (2 ^ 62) self.old }
+        ensures sum { (just : ℕ) (line : List Spot) (s : Spot) → IsCharacter s character.now → character.now.just ≡ just
+            → self.old ≡ segment_sum just line → self.new ≡ segment_sum just (line ++ s ∷ []) }
+        ensures grows { (k : ℕ) → IsSegmentBelow k self.old → IsSegmentBelow (k + 1024) self.new }
     {
-        if character.just != just {
-            return self;
-        }
-        Segment {
-            width: self.width + u64::from(self.gap(character)) + u64::from(character.width),
-            count: self.count + 1,
-            last: Some(character.font.char_spacing),
-        }
+        self.width += u64::from(self.gap(character)) + u64::from(character.width);
+        self.count += 1;
+        self.last = Some(character.font.char_spacing);
     }
 
     /// The pixels between the last character and one more, 0 where there is none yet.
@@ -106,13 +104,12 @@ impl Line {
         ensures sum { result ≡ line_sum [] }
         ensures below { IsLineBelow 0 result }
     {
-        let none = Segment::new();
         Line {
-            left: none,
-            centre: none,
-            right: none,
-            full: none,
-            most: 0,
+            present: 0,
+            left: 0,
+            centre: 0,
+            right: 0,
+            part: Segment::new(),
             has_parts: false,
             height: 0,
             spacing: 0,
@@ -120,37 +117,82 @@ impl Line {
         }
     }
 
-    /// The line with one more character.
-    pub(crate) fn with_character(self, character: &Character) -> Line
-        requires below { IsLineBelow (2 ^ 62) self }
-        ensures sum { (line : List Spot) (s : Spot) → AllPass is_glyph line → IsCharacter s character.now → self ≡ line_sum line
-            → result ≡ line_sum (line ++ s ∷ []) }
-        ensures grows { (k : ℕ) → IsLineBelow k self → IsLineBelow (k + 1024) result }
+    /// Adds a character, whose line justification isn't before that of an earlier one.
+    pub(crate) fn add(&mut self, character: &Character)
+        requires known { character.now.just ≤ 5 }
+        requires below { IsLineBelow (2 ^ 62) self.old }
+        ensures sum { (line : List Spot) (s : Spot) → AllPass is_glyph line → IsCharacter s character.now → self.old ≡ line_sum line
+            → list_any (clashes s) line ≡ false → self.new ≡ line_sum (line ++ s ∷ []) }
+        ensures grows { (k : ℕ) → IsLineBelow k self.old → IsLineBelow (k + 1024) self.new }
     {
-        Line {
-            left: self.left.with_character(2, character),
-            centre: self.centre.with_character(3, character),
-            right: self.right.with_character(4, character),
-            full: self.full.with_character(5, character),
-            most: self.most.max(character.just),
-            has_parts: self.has_parts | (character.just < 5),
-            height: self.height.max(character.font.height),
-            spacing: self.spacing.max(character.font.line_spacing),
-            any: true,
+        self.go_on(character.just);
+        self.part.add(character);
+        self.has_parts |= character.just < 5;
+        self.height = self.height.max(character.font.height);
+        self.spacing = self.spacing.max(character.font.line_spacing);
+        self.any = true;
+    }
+
+    /// Goes on to the segment with a line justification, which isn't before that of the present one.
+    fn go_on(&mut self, just: u8)
+        requires known { just ≤ 5 }
+        ensures sum { (line : List Spot) → self.old ≡ line_sum line → self.old.present ≤ just → self.new ≡ line_sum_in just line }
+        ensures others { (self.new.has_parts ≡ self.old.has_parts) × (self.new.height ≡ self.old.height) × (self.new.spacing ≡ self.old.spacing) }
+        ensures grows { (k : ℕ) → IsLineBelow k self.old → IsLineBelow k self.new }
+    {
+        if just <= self.present {
+            return;
+        }
+        let (before, width) = (self.present, self.part.width);
+        self.part = Segment::new();
+        self.present = just;
+        match before {
+            2 => self.left = width,
+            3 => self.centre = width,
+            4 => self.right = width,
+            _ => {}
         }
     }
 
-    /// The characters with this line justification: left 2, centre 3, right 4, full 5.
-    pub(crate) fn segment(&self, just: u8) -> Segment
-        requires known { (2 ≤ just) × (just ≤ 5) }
-        ensures sum { (line : List Spot) → self.now ≡ line_sum line → result ≡ segment_sum just line }
-        ensures below { (k : ℕ) → IsLineBelow k self.now → IsSegmentBelow k result }
+    /// The width of the characters with a line justification, in pixels: left 2, centre 3, right 4, full 5.
+    pub(crate) fn width(&self, just: u8) -> u64
+        requires known { self.now.present ≤ 5 }
+        requires just { (2 ≤ just) × (just ≤ 5) }
+        ensures sum { (line : List Spot) → self.now ≡ line_sum line → result ≡ width_of (segment just line) }
+        ensures below { (k : ℕ) → IsLineBelow k self.now → result ≤ k }
     {
+        if just == self.present {
+            return self.part.width;
+        }
         match just {
             2 => self.left,
             3 => self.centre,
             4 => self.right,
-            _ => self.full,
+            _ => 0,
+        }
+    }
+
+    /// The number of its full characters.
+    pub(crate) fn full_count(&self) -> u64
+        requires known { self.now.present ≤ 5 }
+        ensures sum { (line : List Spot) → self.now ≡ line_sum line → result ≡ length (segment 5 line) }
+    {
+        if self.present == 5 {
+            self.part.count
+        } else {
+            0
+        }
+    }
+
+    /// The segment that a character with this line justification joins, which isn't before the present one.
+    pub(crate) fn part_for(&self, just: u8) -> Segment
+        ensures sum { (line : List Spot) → self.now ≡ line_sum line → self.now.present ≤ just → result ≡ segment_sum just line }
+        ensures below { (k : ℕ) → IsLineBelow k self.now → IsSegmentBelow k result }
+    {
+        if just == self.present {
+            self.part
+        } else {
+            Segment::new()
         }
     }
 
@@ -178,7 +220,7 @@ impl Line {
         ensures { (line : List Spot) (s : Spot) → self.now ≡ line_sum line → s.at.line_just ≡ just
             → result ≡ list_any (clashes s) line }
     {
-        (just < self.most) | ((just == 5) & self.has_parts)
+        (just < self.present) | ((just == 5) & self.has_parts)
     }
 
     /// Whether the line fits a width in pixels.
@@ -187,8 +229,7 @@ impl Line {
         ensures { (line : List Spot) → self.now ≡ line_sum line → result ≡ line_fits width line }
     {
         let width = u64::from(width);
-        parts_fit(self.left.width, self.centre.width, self.right.width, width)
-            && self.full.width <= width
+        parts_fit(self.width(2), self.width(3), self.width(4), width) && self.width(5) <= width
     }
 }
 

@@ -1,10 +1,11 @@
 //! What a plane shows of a page: the pixels of one colour at one phase.
 
-ghost use Rattle.std.specs.Prelude.{◌≡◌, ℕ, ◌+◌, ◌^◌, ◌≤◌, ◌==◌, [], ◌∷◌, ◌++◌, List, Some};
+ghost use Rattle.std.specs.Prelude.{◌≡◌, ℕ, ◌+◌, ◌^◌, ◌≤◌, ◌==◌, [], ◌∷◌, ◌++◌, List, Some, None};
 ghost use Rattle.sign_font.specs.Sign.{cell_in};
 ghost use Rattle.sign_font.specs.Sound.{IsSound, IsSoundSize};
 ghost use Rattle.multi_layout.specs.Address.{spots, standing, in_area};
 ghost use Rattle.multi_layout.specs.Meaning.{Meaning, Shows};
+ghost use Rattle.multi_layout.specs.Offence.{offence};
 ghost use Rattle.multi_layout.specs.Passes.{HasCounted, IsDrawnTo, IsLow};
 ghost use Rattle.multi_layout.specs.Picture.{is_lit_at, shown_colour};
 ghost use Rattle.multi_layout.specs.State.{IsStateOf};
@@ -77,7 +78,7 @@ pub(crate) fn put_character(
     requires size { IsSoundSize cell.now }
     requires height { cell.now.height ≡ state.now.attributes.font.height }
     ensures drawn { (before rest : List Meaning) (number : ℕ) → IsStateOf sign.now before state.now
-        → cell_in sign.now state.now.attributes.font.number number ≡ Some cell.now
+        → cell_in sign.now state.now.attributes.font.number number ≡ Some cell.now → offence sign.now before (Shows number) ≡ None
         → HasCounted (in_area (standing sign.now before).area (spots sign.now (before ++ Shows number ∷ rest))) lines.now
         → IsDrawnTo sign.now layer (before ++ Shows number ∷ rest) before plane.old
         → IsDrawnTo sign.now layer (before ++ Shows number ∷ rest) (before ++ Shows number ∷ []) plane.new }
@@ -93,6 +94,5 @@ pub(crate) fn put_character(
     let lines = lines.group(attributes.page_just);
     let place = place_at(&attributes, &state.area, lines, cell.width());
     let on = layer.has(sign, attributes.fore);
-    let height = attributes.font.height;
-    put_cell(cell, height, place.column, place.row, on, plane);
+    put_cell(cell, place.column, place.row, on, plane);
 }

@@ -1,10 +1,11 @@
 //! Where each character of an accepted string stands (NTCIP 1203 v03, MULTI tags 'jl' and 'jp').
 
-ghost use Rattle.std.specs.Prelude.{◌≡◌, ℕ, ◌+◌, ◌-◌, ◌^◌, ◌<◌, ◌≤◌, ◌==◌, true, if◌then◌else◌, length, List, [], ◌∷◌, ◌++◌, Some, slice_get};
-ghost use Rattle.std.specs.List.{All, count_by};
+ghost use Rattle.std.specs.Prelude.{◌≡◌, ℕ, ◌+◌, ◌-◌, ◌^◌, ◌<◌, ◌≤◌, ◌==◌, true, false, if◌then◌else◌, length, List, [], ◌∷◌, ◌++◌, Some, slice_get};
+ghost use Rattle.std.specs.List.{All, count_by, list_any};
 ghost use Rattle.multi_layout.specs.declared.table.CountedLine.{CountedLine};
-ghost use Rattle.multi_layout.specs.Address.{Spot, is_glyph, is_break, area_of, group_of, lines_of, segment};
+ghost use Rattle.multi_layout.specs.Address.{Spot, is_glyph, is_break, area_of, group_of, line_before, lines_of, segment};
 ghost use Rattle.multi_layout.specs.Line.{glyph_width, width_of, height_of};
+ghost use Rattle.multi_layout.specs.Offence.{clashes};
 ghost use Rattle.multi_layout.specs.Place.{start, spread, place_of};
 ghost use Rattle.multi_layout.specs.State.{attributes_of};
 ghost use Rattle.multi_layout.specs.Sums.{segment_sum, line_sum, area_sum, IsSegmentBelow, IsLineBelow, IsBelow};
@@ -36,7 +37,8 @@ pub(crate) fn place_at(
     requires low { All (λ line. line.bottom ≤ 2 ^ 43) lines.now }
     ensures place { (before all : List Spot) (spot : Spot) → is_glyph spot ≡ true → attributes.now ≡ attributes_of spot.at
         → glyph_width spot ≡ width → area.now ≡ area_sum (area_of spot before) → lines.now ≡ table_of (lines_of (group_of spot all))
-        → count_by is_break (group_of spot before) < length (lines_of (group_of spot all)) → result ≡ place_of before all spot }
+        → count_by is_break (group_of spot before) < length (lines_of (group_of spot all)) → list_any (clashes spot) (line_before before spot) ≡ false
+        → result ≡ place_of before all spot }
     ensures low { (result.column ≤ 2 ^ 62) × (result.row ≤ 2 ^ 62) }
 {
     let group = area.group(attributes.page_just);
@@ -60,30 +62,31 @@ fn column_at(attributes: &Attributes, before: &Line, line: &CountedLine, width: 
     requires line_just { (2 ≤ attributes.now.line_just) × (attributes.now.line_just ≤ 5) }
     requires below { IsLineBelow (2 ^ 43) before.now }
     ensures column { (earlier : List Spot) (spot : Spot) → is_glyph spot ≡ true → attributes.now ≡ attributes_of spot.at
-        → glyph_width spot ≡ width → before.now ≡ line_sum earlier → result ≡ column_in line.now earlier spot }
+        → glyph_width spot ≡ width → before.now ≡ line_sum earlier → list_any (clashes spot) earlier ≡ false → result ≡ column_in line.now earlier spot }
     ensures low { result ≤ 2 ^ 62 }
 {
     let just = attributes.line_just;
-    let part = before.segment(just);
+    let part = before.part_for(just);
     let length = attributes.rectangle.width;
     let size = line.width(just);
     let spare = u64::from(length).saturating_sub(size);
     u64::from(attributes.rectangle.left)
         + start(just, length, size)
-        + columns_before(attributes, part, width)
+        + columns_before(attributes, &part, width)
         + moved(just, part.count, line.characters, spare)
 }
 
 /// The columns of a segment before one more character of this width.
-fn columns_before(attributes: &Attributes, part: Segment, width: u8) -> u64
-    requires below { IsSegmentBelow (2 ^ 43) part }
+fn columns_before(attributes: &Attributes, part: &Segment, width: u8) -> u64
+    requires below { IsSegmentBelow (2 ^ 43) part.now }
     ensures columns { (earlier : List Spot) (spot : Spot) → is_glyph spot ≡ true → attributes.now ≡ attributes_of spot.at
-        → glyph_width spot ≡ width → part ≡ segment_sum spot.at.line_just earlier
+        → glyph_width spot ≡ width → part.now ≡ segment_sum spot.at.line_just earlier
         → result ≡ width_of (segment spot.at.line_just earlier ++ spot ∷ []) - glyph_width spot }
     ensures low { result ≤ 2 ^ 43 + 1024 }
 {
     let character = attributes.character(width);
-    let part = part.with_character(attributes.line_just, &character);
+    let mut part = *part;
+    part.add(&character);
     part.width.saturating_sub(u64::from(width))
 }
 

@@ -75,7 +75,7 @@ fn next_plain(cursor: &Cursor, source: &mut Source<'_>) -> Option<NextItem>
 fn end_line(lines: &mut LineTable, item: KnownItem, before: &State, after: &State)
     requires known { (2 ≤ before.now.attributes.page_just) × (before.now.attributes.page_just ≤ 4) }
     requires room { ends_line (meant_by item) ≡ true → length (group_lines before.now.attributes.page_just lines.old) < 128 }
-    requires below { IsBelow (2 ^ 43) after.now.area }
+    requires below { IsBelow (2 ^ 43) before.now.area × IsBelow (2 ^ 43) after.now.area }
     ensures ended { (sign : SignData) (items : List Meaning) → IsStateOf sign items before.now
         → IsStateOf sign (items ++ meant_by item ∷ []) after.now → begins_area (meant_by item) ≡ false
         → HasEnded (present_area sign items) lines.old → HasEnded (present_area sign (items ++ meant_by item ∷ [])) lines.new }
@@ -85,9 +85,9 @@ fn end_line(lines: &mut LineTable, item: KnownItem, before: &State, after: &Stat
         return;
     }
     let page_just = before.attributes.page_just;
-    let line = before.area.group(page_just).line;
+    let line = &before.area.group(page_just).line;
     let bottom = after.area.group(page_just).closed;
-    lines.push(page_just, CountedLine::of(&line, bottom));
+    lines.push(page_just, CountedLine::of(line, bottom));
 }
 
 /// Puts the last line of each group into the table, if it has characters.
@@ -104,12 +104,12 @@ fn end_area(lines: &mut LineTable, area: &Area)
 }
 
 /// Puts the last line of a group into the table, if it has characters.
-fn end_group(lines: &mut LineTable, page_just: u8, group: Group)
+fn end_group(lines: &mut LineTable, page_just: u8, group: &Group)
     requires known { (2 ≤ page_just) × (page_just ≤ 4) }
-    requires below { IsGroupBelow (2 ^ 42) group }
-    requires room { (spots : List Spot) × All IsPlacing spots × (group ≡ group_sum spots)
+    requires below { IsGroupBelow (2 ^ 42) group.now }
+    requires room { (spots : List Spot) × All IsPlacing spots × (group.now ≡ group_sum spots)
         × (group_lines page_just lines.old ≡ table_of (ended_lines spots)) × (length (lines_of spots) ≤ 128) }
-    ensures counted { (spots : List Spot) → All IsPlacing spots → group ≡ group_sum spots
+    ensures counted { (spots : List Spot) → All IsPlacing spots → group.now ≡ group_sum spots
         → group_lines page_just lines.old ≡ table_of (ended_lines spots) → group_lines page_just lines.new ≡ table_of (lines_of spots) }
     ensures others { (just : ℕ) → 2 ≤ just → just ≤ 4 → just ≢ page_just → group_lines just lines.new ≡ group_lines just lines.old }
     ensures low { IsLow lines.old → IsLow lines.new }

@@ -1,12 +1,11 @@
 //! What is kept of the items that were read.
 
-ghost use Rattle.std.specs.Prelude.{◌≡◌, []};
+ghost use Rattle.std.specs.Prelude.{◌≡◌, ◌+◌, ◌*◌, ◌≤◌, []};
 ghost use Rattle.sign_font.specs.Sound.{IsSound};
 
 use crate::area::Area;
 use crate::attributes::{Attributes, whole_sign};
 use crate::terms::Terms;
-use sign_font::FontInfo;
 
 /// The running state behind some items of a string.
 #[derive(Clone, Copy, Debug, PartialEq, Eq)]
@@ -47,16 +46,11 @@ impl State {
         }
     }
 
-    /// The state with another font in force.
-    pub(crate) fn with_font(self, font: FontInfo) -> State
-        ensures { result ≡ record self { attributes = record self.attributes { font = font } } }
+    /// The times of all pages of a string that ends here, in tenths of a second.
+    pub(crate) fn whole_cycle(self) -> u32
+        requires short { self.cycle ≤ 510 * self.pages }
+        ensures { result ≡ self.cycle + self.attributes.on + self.attributes.off }
     {
-        State {
-            attributes: Attributes {
-                font,
-                ..self.attributes
-            },
-            ..self
-        }
+        self.cycle + u32::from(self.attributes.on) + u32::from(self.attributes.off)
     }
 }

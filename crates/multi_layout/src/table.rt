@@ -1,7 +1,9 @@
 //! The counted lines of an area, as drawing needs them.
 
 ghost use Rattle.std.specs.Prelude.{◌≡◌, ℕ, ◌<◌, ◌≤◌, ◌==◌, length, List, [], ◌∷◌, ◌++◌, if◌then◌else◌};
-ghost use Rattle.multi_layout.specs.Table.{width_in, group_lines};
+ghost use Rattle.multi_layout.specs.Address.{Spot};
+ghost use Rattle.multi_layout.specs.Sums.{line_sum};
+ghost use Rattle.multi_layout.specs.Table.{width_in, group_lines, line_entry};
 
 use crate::line::Line;
 use arrayvec::ArrayVec;
@@ -31,21 +33,16 @@ pub(crate) struct LineTable {
 impl CountedLine {
     /// What is kept of a line with this height of its group down to its bottom.
     pub(crate) fn of(line: &Line, bottom: u64) -> CountedLine
-        ensures { result ≡ record {
-          left = line.now.left.width;
-          centre = line.now.centre.width;
-          right = line.now.right.width;
-          full = line.now.full.width;
-          characters = line.now.full.count;
-          bottom = bottom;
-        } }
+        requires known { line.now.present ≤ 5 }
+        ensures entry { (spots : List Spot) → line.now ≡ line_sum spots → result ≡ line_entry spots bottom }
+        ensures bottom { result.bottom ≡ bottom }
     {
         CountedLine {
-            left: line.left.width,
-            centre: line.centre.width,
-            right: line.right.width,
-            full: line.full.width,
-            characters: line.full.count,
+            left: line.width(2),
+            centre: line.width(3),
+            right: line.width(4),
+            full: line.width(5),
+            characters: line.full_count(),
             bottom,
         }
     }

@@ -1,19 +1,12 @@
-use Rattle.std.proofs.Common.{arith}
+use Rattle.std.proofs.Common.{◌-◌, ◌∙◌, ap, cond, arith}
 use Rattle.page_plane.specs.Plane.{is_lit}
-use Rattle.multi_layout.proofs.CellLemmas.{covers_more}
+use Rattle.multi_layout.proofs.CellLemmas.{put_rows_of}
 use Rattle.multi_layout.proofs.cell.put_cell.Goals as goal
 
-pub loop-r-preserved : goal.loop-r-preserved
-loop-r-preserved c =
-    let i = c.loop-r.invariant in
-    record {
-      pixels = λ x y h g.
-          let before = i.pixels x y h g in
-          let row = c.put_cell_row.ensures.pixels x y (omega arith) (omega arith) in
-          let more = covers_more c.args.cell.now c.args.column c.args.row c.loop-r.r x y c.args.on (is_lit c.args.plane.now x y) in
-          cc;
-      width = omega arith;
-      height = omega arith;
-      counted = omega arith;
-      steps = omega arith;
-    }
+pub returns-clause-pixels : goal.returns-clause-pixels
+returns-clause-pixels c = λ x y h g.
+    let wide = c.args.plane.now.width - c.args.column in
+    let high = c.args.plane.now.height - c.args.row in
+    let put = put_rows_of c.args.cell.now c.rows-all.result.now c.args.column c.args.row wide high c.min-width.result c.min-height.result x y (omega arith)
+    c.rows-all.ensures.count c.rows-all.ensures.each (omega arith) (omega (arith, c.rows-all.ensures.count)) (omega arith) (omega arith) in
+    c.put_rows.ensures.pixels x y ∙ ap (λ b. cond b c.args.on (is_lit c.args.plane.now x y)) put

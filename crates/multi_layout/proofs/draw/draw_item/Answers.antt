@@ -49,7 +49,8 @@ returns-in-Some-clause-drawn c = λ before rest item b read plain counted drawn.
     let all = map_split before rest item (Shows c.in-Char.number) shows in
     let one = map_split before [] item (Shows c.in-Char.number) shows in
     let k = (standing sign (map meaning before)).area in
-    let put = c.put_character.ensures.drawn (map meaning before) (map meaning rest) c.in-Char.number b.state_is found
+    let fine = ap (offence sign (map meaning before)) (sym shows) ∙ never_offends sign c.args.source.now.octets before rest item c.args.cursor b in
+    let put = c.put_character.ensures.drawn (map meaning before) (map meaning rest) c.in-Char.number b.state_is found fine
     (subst (λ (ms : List Meaning). HasCounted (in_area k (spots sign ms)) c.args.lines.now) all counted)
     (subst (λ (ms : List Meaning). IsDrawnTo sign c.args.layer ms (map meaning before) c.args.plane.now) all drawn) in
     subst (λ (ms : List Meaning). IsDrawnTo sign c.args.layer ms (map meaning (before ++ item ∷ [])) c.put_character.new.plane) (sym all)

@@ -10,7 +10,7 @@ use Rattle.multi_layout.proofs.judge.judge.Goals as goal
 
 pub loop-token-init : goal.loop-token-init
 loop-token-init c = record {
-  so_far = nothing_read c.args.sign.now c.args.source.now.octets c.new-state.result c.new-state.ensures.start;
+  so_far = nothing_read c.args.sign.now c.args.source.now.octets c.args.state.now c.requires.start;
   octets = refl;
   least = omega arith;
   most = omega (arith, c.requires.fresh);
@@ -64,9 +64,9 @@ loop-token-preserved c =
     let within = token.within in
     let few = k.2 in
     record {
-      so_far = read_more sign xs c.loop-token.at c.loop-token.state i.so_far t found.0 token c.in-Ok.next
+      so_far = read_more sign xs c.loop-token.at c.loop-token.state i.so_far t found.0 token c.judge_token.new.state
           (subst (λ (m : Meaning). offence sign (map meaning i.so_far.items) m ≡ None) item judged.0)
-          (subst (λ (m : Meaning). IsStateOf sign (map meaning i.so_far.items ++ m ∷ []) c.in-Ok.next) item judged.1);
+          (subst (λ (m : Meaning). IsStateOf sign (map meaning i.so_far.items ++ m ∷ []) c.judge_token.new.state) item judged.1);
       octets = ap (λ (s : Counted). s.octets) k.3 ∙ same;
       least = omega arith;
       most = omega arith;

@@ -6,26 +6,26 @@ use Rattle.multi_layout.proofs.judge.judge_cell.Goals as goal
 pub returns-then-conflicts_with_character : goal.returns-then-conflicts_with_character
 returns-then-conflicts_with_character c = record {
   judged = λ sign some items st.
-      character-exit-conflict sign items c.args.state st c.args.number c.args.cell.now some c.conflicts_with_character.result c.conflicts_with_character.ensures c.if-conflicts_with_character.true;
+      character-exit-conflict sign items c.args.state.now st c.args.number c.args.cell.now some c.conflicts_with_character.result c.conflicts_with_character.ensures c.if-conflicts_with_character.true;
 }
 
 pub fits_with_character-requires-clause-below : goal.fits_with_character-requires-clause-below
-fits_with_character-requires-clause-below c = c.with_character-area.ensures.grows (2 ^ 62) c.requires.below
+fits_with_character-requires-clause-below c = c.add_character.ensures.grows (2 ^ 62) c.requires.below
 
 pub returns-then-fits_with_character : goal.returns-then-fits_with_character
 returns-then-fits_with_character c = record {
   judged = λ sign some items st.
-      character-exit-fits sign items c.args.state st c.args.number c.args.cell.now some c.conflicts_with_character.result c.conflicts_with_character.ensures
-      c.character-character.result c.with_character-area.result (ap (λ (k : Character). k.just) c.character-character.ensures) (ap (λ (k : Character). k.spacing) c.character-character.ensures)
-      (ap (λ (k : Character). k.width) c.character-character.ensures ∙ c.width.ensures) (ap (λ (k : Character). k.font) c.character-character.ensures) c.with_character-area.ensures.sum c.fits_with_character.result c.fits_with_character.ensures
-      c.if-conflicts_with_character.false c.if-fits_with_character.true (c.with_character-area.ensures.grows (1024 * length items) st.below);
+      character-exit-fits sign items c.args.state.now st c.args.number c.args.cell.now some c.conflicts_with_character.result c.conflicts_with_character.ensures
+      c.character-character.result c.add_character.new.self (ap (λ (k : Character). k.just) c.character-character.ensures) (ap (λ (k : Character). k.spacing) c.character-character.ensures)
+      (ap (λ (k : Character). k.width) c.character-character.ensures ∙ c.width.ensures) (ap (λ (k : Character). k.font) c.character-character.ensures) c.add_character.ensures.sum c.fits_with_character.result c.fits_with_character.ensures
+      c.if-conflicts_with_character.false c.if-fits_with_character.true (c.add_character.ensures.grows (1024 * length items) st.below);
 }
 
 pub returns-else-fits_with_character : goal.returns-else-fits_with_character
 returns-else-fits_with_character c = record {
   judged = λ sign some items st.
-      character-exit-too_big sign items c.args.state st c.args.number c.args.cell.now some c.conflicts_with_character.result c.conflicts_with_character.ensures
-      c.character-character.result c.with_character-area.result (ap (λ (k : Character). k.just) c.character-character.ensures) (ap (λ (k : Character). k.spacing) c.character-character.ensures)
-      (ap (λ (k : Character). k.width) c.character-character.ensures ∙ c.width.ensures) (ap (λ (k : Character). k.font) c.character-character.ensures) c.with_character-area.ensures.sum c.fits_with_character.result c.fits_with_character.ensures
+      character-exit-too_big sign items c.args.state.now st c.args.number c.args.cell.now some c.conflicts_with_character.result c.conflicts_with_character.ensures
+      c.character-character.result c.add_character.new.self (ap (λ (k : Character). k.just) c.character-character.ensures) (ap (λ (k : Character). k.spacing) c.character-character.ensures)
+      (ap (λ (k : Character). k.width) c.character-character.ensures ∙ c.width.ensures) (ap (λ (k : Character). k.font) c.character-character.ensures) c.add_character.ensures.sum c.fits_with_character.result c.fits_with_character.ensures
       c.if-conflicts_with_character.false c.if-fits_with_character.false;
 }

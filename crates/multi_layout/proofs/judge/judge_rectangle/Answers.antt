@@ -10,7 +10,7 @@ returns-in_default c = record {
   judged = λ items st.
       let sign = c.args.sign.now in
       let none = rw c.width.ensures.width at c.in_default.ensures.outside in
-      judged-rectangle sign items c.args.state st c.args.x c.args.y c.args.w c.args.h
+      judged-rectangle sign items c.args.state.now st c.args.x c.args.y c.args.w c.args.h
       ∙ ap (λ b. cond {A = Option ℕ} b None (Some 4)) (outside_across sign c.args.x c.args.y c.args.w c.args.h none);
 }
 
@@ -19,7 +19,7 @@ returns-in_default-part_of c = record {
   judged = λ items st.
       let sign = c.args.sign.now in
       let none = rw c.height.ensures.height at c.in_default-part_of.ensures.outside in
-      judged-rectangle sign items c.args.state st c.args.x c.args.y c.args.w c.args.h
+      judged-rectangle sign items c.args.state.now st c.args.x c.args.y c.args.w c.args.h
       ∙ ap (λ b. cond {A = Option ℕ} b None (Some 4)) (outside_down sign c.args.x c.args.y c.args.w c.args.h none);
 }
 
@@ -34,9 +34,9 @@ returns c = record {
       let wide = across.4 in
       let top = down.3 in
       let high = down.4 in (
-        judged-rectangle sign items c.args.state st c.args.x c.args.y c.args.w c.args.h ∙ ap (λ b. cond {A = Option ℕ} b None (Some 4)) fine,
-        state-rectangle sign items c.args.state _ c.args.x c.args.y c.args.w c.args.h st refl refl
+        judged-rectangle sign items c.args.state.now st c.args.x c.args.y c.args.w c.args.h ∙ ap (λ b. cond {A = Option ℕ} b None (Some 4)) fine,
+        state-rectangle sign items c.args.state.now _ c.args.x c.args.y c.args.w c.args.h st refl refl
             (rw (left, wide, top, high) (ap (λ (a : Attributes). let b : Attributes = record a { rectangle = rectangle sign c.args.x c.args.y c.args.w c.args.h } in b) st.attributes))
-            c.new.ensures.sum c.requires.line_just c.requires.page_just c.new.ensures.below,
+            c.new-state.ensures.sum c.requires.line_just c.requires.page_just c.new-state.ensures.below,
       );
 }

@@ -11,7 +11,7 @@ returns-in_default c =
     record {
       judged = λ items st.
           let at = standing sign items in
-          let after = c.behind.ensures sign at (sym c.defaults.ensures.defaults) st.attributes simple in
-          judged-simple sign items c.args.state st c.defaults.ensures.sound c.behind.result c.args.tag simple c.requires.known after;
+          let after = c.set.ensures sign at (sym c.defaults.ensures.defaults) st.attributes simple in
+          judged-simple sign items c.args.state.now st c.defaults.ensures.sound c.set.new.self c.args.tag simple c.requires.known after;
       steps = (0, omega arith, omega arith, sym (charged-zero c.args.source.now));
     }

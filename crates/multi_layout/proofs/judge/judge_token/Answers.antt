@@ -12,7 +12,7 @@ use Rattle.multi_layout.proofs.judge.judge_token.Goals as goal
 
 pub returns-in-Ok-clause-judged : goal.returns-in-Ok-clause-judged
 returns-in-Ok-clause-judged c =
-    subst (λ (m : Meaning). Judges c.args.sign.now c.args.state m c.judge_item.result) (sym c.in-Ok.ensures.read) c.judge_item.ensures.judged
+    subst (λ (m : Meaning). Judges c.args.sign.now c.args.state.now m c.judge_item.result c.judge_item.new.state) (sym c.in-Ok.ensures.read) c.judge_item.ensures.judged
 
 pub returns-in-Err-clause-judged : goal.returns-in-Err-clause-judged
 returns-in-Err-clause-judged c = λ items st.

@@ -13,10 +13,10 @@ pub row_at-requires : goal.row_at-requires
 row_at-requires c = record { low = c.line_at-line.ensures.low (2 ^ 43) c.requires.low }
 
 pub returns-clause-place : goal.returns-clause-place
-returns-clause-place c before all spot glyph at width area lines there =
-    let sum : c.group-group.result ≡ group_sum (group_of spot before) =
+returns-clause-place c before all spot glyph at width area lines there apart =
+    let sum : c.group-group.result.now ≡ group_sum (group_of spot before) =
     c.group-group.ensures.sum (area_of spot before) area ∙ ap (λ (a : Attributes). group_sum (in_group a.page_just (area_of spot before))) at in
-    place_from before all spot c.args.attributes.now c.group-group.result c.args.lines.now c.line_at-line.result c.column_at.result c.row_at.result c.height.result
+    place_from before all spot c.args.attributes.now c.group-group.result.now c.args.lines.now c.line_at-line.result c.column_at.result c.row_at.result c.height.result
     at c.requires.line_just sum lines there c.line_at-line.ensures.line
-    (c.column_at.ensures.column (line_before before spot) spot glyph at width (ap (λ (g : Group). g.line) sum))
+    (c.column_at.ensures.column (line_before before spot) spot glyph at width (ap (λ (g : Group). g.line) sum) apart)
     (c.height.ensures (lines_of (group_of spot all)) lines) c.row_at.ensures.row

@@ -65,7 +65,7 @@ end_line-requires-clause-below c =
     let same : c.loop-next.source.octets ≡ octets = ap (λ (s : Counted). s.octets) i.steps.3 in
     let same_2 : c.next_plain.new.source.octets ≡ octets = ap (λ (s : Counted). s.octets) c.in-Some.ensures.steps.3 ∙ same in
     let p = pass_on so c.in-Some.next c.pass-cursor.result same same_2 (c.in-Some.ensures.first sign) c.pass-cursor.ensures.passed in
-    below_more (2 ^ 42) (2 ^ 43) c.pass-cursor.result.state.area (omega arith) (present_low p.between)
+    (below_more (2 ^ 42) (2 ^ 43) c.loop-next.cursor.state.area (omega arith) (present_low so.between), below_more (2 ^ 42) (2 ^ 43) c.pass-cursor.result.state.area (omega arith) (present_low p.between))
 
 pub loop-next-smaller : goal.loop-next-smaller
 loop-next-smaller c =

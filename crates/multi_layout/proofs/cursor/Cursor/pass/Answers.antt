@@ -25,4 +25,4 @@ returns-clause-passed c = λ before rest item b read.
     let sign = c.args.sign.now in
     let judged = c.in-Ok.ensures.judged (map meaning before) b.state_is in
     between_more sign c.args.source.now.octets before rest item c.args.self.now b _ (ap (λ n. c.args.self.now.at + n) read.len)
-    (subst (λ (m : Meaning). IsStateOf sign (map meaning before ++ m ∷ []) c.in-Ok.state) (sym read.meant) judged.1)
+    (subst (λ (m : Meaning). IsStateOf sign (map meaning before ++ m ∷ []) c.judge_item.new.state) (sym read.meant) judged.1)

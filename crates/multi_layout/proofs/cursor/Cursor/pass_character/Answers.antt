@@ -25,4 +25,4 @@ pub returns-clause-passed : goal.returns-clause-passed
 returns-clause-passed c = λ sign octets before rest item b read found.
     let judged = c.in-Ok.ensures.judged sign found (map meaning before) b.state_is in
     between_more sign octets before rest item c.args.self.now b _ (ap (λ n. c.args.self.now.at + n) read.len)
-    (subst (λ (m : Meaning). IsStateOf sign (map meaning before ++ m ∷ []) c.in-Ok.state) (sym read.meant) judged.1)
+    (subst (λ (m : Meaning). IsStateOf sign (map meaning before ++ m ∷ []) c.judge_cell.new.state) (sym read.meant) judged.1)

@@ -2,4 +2,4 @@ use Rattle.std.proofs.Common.{refl}
 use Rattle.multi_layout.proofs.line.Line.new.Goals as goal
 
 pub returns-clause-sum : goal.returns-clause-sum
-returns-clause-sum c = rw (c.new-none.ensures.sum 0) refl
+returns-clause-sum c = rw (c.new.ensures.sum 0) refl

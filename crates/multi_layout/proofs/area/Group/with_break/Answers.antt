@@ -1,8 +1,0 @@
-use Rattle.std.proofs.Common.{◌∙◌}
-use Rattle.multi_layout.proofs.GroupHeightLemmas.{group_break}
-use Rattle.multi_layout.proofs.area.Group.with_break.Goals as goal
-
-pub returns-clause-sum : goal.returns-clause-sum
-returns-clause-sum c area s placing e is page =
-    group_break c.args.just area s c.args.gap c.args.font.now placing (page ∙ c.if-page_just-just.false) is c.args.self c.new.result c.from.result c.from-2.result c.ended_spacing-spacing.result e c.new.ensures.sum
-    (c.from.ensures ∙ c.gap.ensures) (c.from-2.ensures ∙ c.ended_height-height.ensures) c.ended_spacing-spacing.ensures
