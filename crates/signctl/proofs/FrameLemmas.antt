@@ -1,7 +1,10 @@
 -- The rows of a frame, one after the other.
-use Rattle.std.proofs.Common.{◌≡◌, ℕ, zero, suc, ◌+◌, ◌<◌, Bool, List, [], ◌∷◌, ◌++◌, map, refl, sym, ap, ◌∙◌, arith, append_assoc, append-nil}
+use Rattle.std.proofs.Common.{◌≡◌, ℕ, zero, suc, ◌+◌, ◌-◌, ◌*◌, ◌/◌, ◌%◌, ◌<◌, ◌==◌, Bool, List, [], ◌∷◌, ◌++◌, get_or, length, map, take, refl, sym, ap, ◌∙◌, arith, append_assoc, append-nil}
+use Rattle.std.specs.Int.{bit_at}
 use Rattle.std.specs.List.{flat_map, range_with_len}
-use Rattle.std.proofs.lemmas.List.FromFn.{map-range_with_len_more}
+use Rattle.std.proofs.lemmas.List.FromFn.{take-map-range_with_len}
+use Rattle.std.proofs.Math.Seq.{take-append-add}
+use Rattle.page_plane.specs.Octets.{is_bit_set}
 use Rattle.page_plane.specs.Plane.{BitPlane, is_lit}
 use Rattle.sign_font.specs.Sign.{SignData}
 use Rattle.multi_layout.specs.declared.times.Shown.{Shown}
@@ -41,9 +44,50 @@ flat_map_more f a (suc n) j is =
     ap (λ l. f a ++ l) (flat_map_more f (a + 1) n j (omega (arith, is)))
     ∙ sym (append_assoc (f a) (flat_map f (range_with_len (a + 1) n)) (f j))
 
--- one more pixel comes behind those left of it
-pub pixels_more : (lit : ℕ → ℕ → Bool) (row column : ℕ) → pixels_text lit row (column + 1) ≡ pixels_text lit row column ++ pixel_text (lit column row) ∷ []
-pixels_more lit row column = map-range_with_len_more (λ k. pixel_text (lit k row)) 0 column column (omega arith)
+-- functions that agree on two ranges have the same values there
+map_moved : (f g : ℕ → ℕ) (a b n : ℕ) → ((i j k : ℕ) → k < n → i ≡ a + k → j ≡ b + k → f i ≡ g j) → map f (range_with_len a n) ≡ map g (range_with_len b n)
+map_moved f g a b zero same = refl
+map_moved f g a b (suc n) same =
+    ap (λ x. x ∷ map f (range_with_len (a + 1) n)) (same a b 0 (omega arith) (omega arith) (omega arith))
+    ∙ ap (λ l. g b ∷ l) (map_moved f g (a + 1) (b + 1) n (λ i j k below at to. same i j (k + 1) (omega arith) (omega arith) (omega arith)))
+
+-- the values on a range are those on its front and those behind it
+map_parts : (f : ℕ → ℕ) (a b n m : ℕ) → b ≡ a + n → map f (range_with_len a (n + m)) ≡ map f (range_with_len a n) ++ map f (range_with_len b m)
+map_parts f a b zero m is =
+    ap (λ k. map f (range_with_len a k)) (let none : 0 + m ≡ m = omega arith in none)
+    ∙ ap (λ i. map f (range_with_len i m)) (let same : a ≡ b = omega (arith, is) in same)
+map_parts f a b (suc n) m is =
+    ap (λ k. map f (range_with_len a k)) (let next : suc n + m ≡ suc (n + m) = omega arith in next)
+    ∙ ap (λ l. f a ∷ l) (map_parts f (a + 1) b n m (omega (arith, is)))
+
+-- the first pixels of the octets of a row, from the left
+abbrev pub bits_text : List ℕ → ℕ → List ℕ
+bits_text octets count = map (λ place. pixel_text (is_bit_set octets place)) (range_with_len 0 count)
+
+-- the bit at a place is one of the octet that stands there
+bit_of : (octets : List ℕ) (k octet place j : ℕ) → place / 8 ≡ k → place % 8 ≡ j → octet ≡ get_or octets k 0 → is_bit_set octets place ≡ (bit_at octet (7 - j) == 1)
+unfolding is_bit_set
+bit_of octets k octet place j at rest is = rw (at, rest, is) refl
+
+-- an octet has eight more pixels
+pub bits_more : (octets : List ℕ) (k octet : ℕ) → octet ≡ get_or octets k 0
+    → bits_text octets (8 * (k + 1)) ≡ bits_text octets (8 * k) ++ map (λ j. pixel_text (bit_at octet (7 - j) == 1)) (range_with_len 0 8)
+bits_more octets k octet is =
+    let f : ℕ → ℕ = λ place. pixel_text (is_bit_set octets place) in
+    let next : 8 * (k + 1) ≡ 8 * k + 8 = omega arith in
+    ap (bits_text octets) next ∙ map_parts f 0 (8 * k) (8 * k) 8 (omega arith)
+    ∙ ap (λ l. bits_text octets (8 * k) ++ l) (map_moved f (λ j. pixel_text (bit_at octet (7 - j) == 1)) (8 * k) 0 8 (λ i j n below at to.
+    ap pixel_text (bit_of octets k octet i j (omega arith) (omega arith) is)))
+
+-- the octets of a row begin with its pixels
+pub row_of_bits : (lit : ℕ → ℕ → Bool) (octets text now : List ℕ) (width row k end : ℕ) → k ≡ (width + 7) / 8 → ((x : ℕ) → x < width → is_bit_set octets x ≡ lit x row)
+    → now ≡ text ++ bits_text octets (8 * k) → end ≡ length text + width → take end now ≡ text ++ pixels_text lit row width
+row_of_bits lit octets text now width row k end count same so_far is =
+    let f : ℕ → ℕ = λ place. pixel_text (is_bit_set octets place) in
+    ap (λ n. take n now) is ∙ ap (take (length text + width)) so_far
+    ∙ take-append-add text (bits_text octets (8 * k)) width
+    ∙ ap (λ l. text ++ l) (take-map-range_with_len f 0 (8 * k) width (omega (arith, count))
+    ∙ map_same f (λ column. pixel_text (lit column row)) 0 width (λ x below. ap pixel_text (same x (omega arith))))
 
 -- no row is written at first
 pub rows_none : (lit : ℕ → ℕ → Bool) (width : ℕ) → rows_text lit width 0 ≡ []

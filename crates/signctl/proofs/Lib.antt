@@ -1,3 +1,5 @@
+pub mod AnsweringLemmas
+pub mod BlockLemmas
 pub mod CutLemmas
 pub mod FileLemmas
 mod FileSetupRows

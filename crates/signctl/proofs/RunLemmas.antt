@@ -143,7 +143,7 @@ pub record Going (first room : ℕ) (answers behind : AllAnswers) (input now out
 module _ (first room : ℕ) (answers behind : AllAnswers) (input now new output written : Option (List ℕ)) (number left left' : ℕ) (taken sent line : List ℕ) (lines : List (List ℕ))
     (go : Going first room answers behind input now output written number left taken sent lines) where
   -- the run ends with this fault, whatever stands behind what was taken last
-  ends : (more : List ℕ) (fault : Option ToolFault) → Consumes now new more → length more ≤ left + 1
+  pub ends : (more : List ℕ) (fault : Option ToolFault) → Consumes now new more → length more ≤ left + 1
       → IsWritten (outcome answers first room) (output_of_whole answers first) input (taken ++ more) sent fault → Runs (outcome answers first room) (output_of_whole answers first) room input new output written fault
   ends more fault took few is = record {
     taken = taken ++ more;
@@ -155,7 +155,7 @@ module _ (first room : ℕ) (answers behind : AllAnswers) (input now new output 
   }
 
   -- the whole outcome, from that of what was taken last and stands behind it
-  whole : (more : List ℕ) (fault : Option ToolFault) → Consumes now new more
+  pub whole : (more : List ℕ) (fault : Option ToolFault) → Consumes now new more
       → ((ys : List ℕ) → outcome behind number left (more ++ ys) ≡ ended fault)
       → IfSome input (λ octets. outcome answers first room octets ≡ record { output = sent; fault = fault })
   whole more fault took is =
@@ -219,7 +219,7 @@ module _ (first room : ℕ) (answers behind : AllAnswers) (input now new output 
       → Runs (outcome answers first room) (output_of_whole answers first) room input new output written (Some (faults.BadLine number))
   ends_bad next' old text t bad =
       let (took, one, few, short) = t in
-      ends (line ++ 10 ∷ []) _ took (omega (arith, length-append line (10 ∷ []))) (whole (line ++ 10 ∷ []) _ took (λ ys. outcome-bad behind number left line ys left' one (sym few) short bad))
+      ends (line ++ 10 ∷ []) _ took (omega (arith, length-append line (10 ∷ []))) (whole (line ++ 10 ∷ []) _ took (λ ys. outcome-bad behind number left line ys left' one (sym few) short bad.1))
 
   pub ends_unanswered : (e : ToolFault) → TakesLine now new left left' line (Ok next.Line) → e ≡ faults.Memory → Runs (outcome answers first room) (output_of_whole answers first) room input new output written (Some e)
   ends_unanswered e t is =

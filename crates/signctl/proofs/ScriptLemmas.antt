@@ -41,7 +41,7 @@ answers_line sign state next line old new (Some a) (Ok Text) asks answers = (
   λ lines. replies_told sign state line a lines asks ∙ ap (λ (s : StateData). Some ((told sign state a).text) ∷ replies sign s lines) (sym answers.1),
 )
 answers_line sign state next line old new None (Ok Text) asks answers = absurd answers
-answers_line sign state next line old new asked (Ok BadLine) asks answers = λ lines. ([], replies_bad sign state line lines (asks ∙ answers))
+answers_line sign state next line old new asked (Ok BadLine) asks answers = (answers.1, λ lines. ([], replies_bad sign state line lines (asks ∙ answers.0)))
 answers_line sign state next line old new asked (Err refused) asks answers = tt
 
 -- a run that answers by the replies of a controller that was just made is one of the mode that runs scripts

@@ -1,3 +1,4 @@
+pub mod Blocks
 pub mod FileSetup
 pub mod Frame
 pub mod Lines

@@ -16,11 +16,11 @@ use Rattle.signctl.specs.Output.{Outcome, ended, outcome, output_of_whole}
 use Rattle.signctl.specs.FileSetup.{setup_of_octets}
 use Rattle.signctl.specs.Tool.{answers_of, outcome_of, output_so_far}
 
--- The line's answer is appended, or the line is bad, or there is no memory; `behind` has the answers to all the
+-- The line's answer is appended, or the line is bad and nothing is, or there is no memory; `behind` has the answers to all the
 -- lines that come after this one (own).
 abbrev pub AnswersLine : (List (List ℕ) → List (Option (List ℕ))) → (List (List ℕ) → List (Option (List ℕ))) → List ℕ → List ℕ → List ℕ → Result LineAnswer AllocError → Type 0
 AnswersLine before behind line old new (Ok Text) = (text : List ℕ) × (new ≡ old ++ text) × ((lines : List (List ℕ)) → before (line ∷ lines) ≡ Some text ∷ behind lines)
-AnswersLine before behind line old new (Ok BadLine) = (lines : List (List ℕ)) → (others : List (Option (List ℕ))) × (before (line ∷ lines) ≡ None ∷ others)
+AnswersLine before behind line old new (Ok BadLine) = (new ≡ old) × ((lines : List (List ℕ)) → (others : List (Option (List ℕ))) × (before (line ∷ lines) ≡ None ∷ others))
 AnswersLine before behind line old new (Err refused) = Unit {0}
 
 -- A run ends with no fault or with one (own).

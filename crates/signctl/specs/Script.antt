@@ -55,11 +55,11 @@ replies sign state [] = []
 replies sign state (line ∷ lines) = replied (option_map (told sign state) (ask_of line)) (λ next. replies sign next lines)
 
 -- What is asked for is answered: the reply is appended, and the state is the one that it leaves. A line that asks for
--- none of these things is bad (own).
+-- none of these things is bad, and appends nothing (own).
 abbrev pub AnswersAsk : SignData → StateData → Option Ask → List ℕ → List ℕ → StateData → Result LineAnswer AllocError → Type 0
 AnswersAsk sign state asked old new next (Ok Text) =
     IsSomeAnd asked (λ a. (new ≡ old ++ (told sign state a).text) × (next ≡ (told sign state a).state))
-AnswersAsk sign state asked old new next (Ok BadLine) = asked ≡ None
+AnswersAsk sign state asked old new next (Ok BadLine) = (asked ≡ None) × (new ≡ old)
 AnswersAsk sign state asked old new next (Err refused) = Unit {0}
 
 -- The command that a line spells, if it spells one (own).

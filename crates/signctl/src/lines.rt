@@ -1,4 +1,4 @@
-//! The lines of an input, read an octet at a time.
+//! The lines of an input, and how one is read an octet at a time.
 ghost use Rattle.std.specs.Prelude.{◌≡◌};
 ghost use Rattle.signctl.specs.Lines.{is_mark, text_of};
 ghost use Rattle.signctl.specs.Streams.{TakesOctet, TakesLine};
@@ -11,10 +11,10 @@ use std::io::Read;
 const MAX_INPUT: u32 = 16_777_216;
 
 /// The most octets of a line before its end (own).
-const MAX_LINE: usize = 8_300;
+pub(crate) const MAX_LINE: usize = 8_300;
 
 /// The most octets that are kept of a line: those of the longest line and a carriage return.
-const MAX_KEPT: usize = MAX_LINE + 1;
+pub(crate) const MAX_KEPT: usize = MAX_LINE + 1;
 
 /// Where a line begins in an input (own).
 #[derive(Clone, Copy)]

@@ -2,8 +2,8 @@
 //!
 //! `signctl check` reads a sign file, a line `%%`, and message lines from standard input. `signctl check --sample` reads
 //! message lines alone, for the sample sign. A sign file is a TOML document that describes one sign. Each message line is
-//! a MULTI string for that sign. It gets one line of answer on standard output, which is written as soon as the message
-//! line has ended:
+//! a MULTI string for that sign. It gets one line of answer on standard output, which is written before more is read than
+//! the block of octets in which the message line has ended:
 //!
 //! | Answer | Meaning |
 //! |---|---|
@@ -40,14 +40,17 @@
 #![tactic(auto)]
 
 mod answer;
+mod block;
 mod check;
 mod fault;
+mod first;
 mod judge;
 mod laws;
 mod lines;
 mod main_with;
 mod octets;
 mod output;
+mod refill;
 mod replies;
 mod reply;
 mod script;
@@ -63,7 +66,8 @@ use std::io::BufReader;
 use std::process::ExitCode;
 use std::{env, io};
 
-/// Runs the tool over the standard streams. If there is no memory for a buffer, it asks the system for each octet.
+/// Runs the tool over the standard streams. If there is no memory for a buffer, it asks the system for each octet of a sign
+/// file.
 fn run(rt: &HostRuntime, words: &[&str]) -> u8 {
     let alloc = rt.alloc();
     let mut output = rt.stdout();

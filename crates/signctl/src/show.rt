@@ -1,5 +1,7 @@
 //! The answers that show pages, as rows of characters.
-ghost use Rattle.std.specs.Prelude.{◌≡◌, ◌<◌, ◌++◌, ◌∷◌, [], OnOk, IfOk, List, Option, Some, map};
+ghost use Rattle.std.specs.Prelude.{◌≡◌, ◌<◌, ◌-◌, ◌==◌, ◌++◌, ◌∷◌, [], OnOk, IfOk, List, Option, Some, map};
+ghost use Rattle.std.specs.Int.{bit_at};
+ghost use Rattle.std.specs.List.{range_with_len};
 ghost use Rattle.page_plane.specs.Plane.{is_lit};
 ghost use Rattle.multi_layout.specs.Drawn.{Lights};
 ghost use Rattle.multi_layout.specs.Meaning.{meanings};
@@ -70,14 +72,41 @@ fn pixel_octet(lit: bool) -> u8
     if lit { b'#' } else { b'.' }
 }
 
-/// Appends a pixel row as a line.
+/// How the pixel of a bit is written.
+fn bit_octet(octet: u8, bit: u8) -> u8
+    requires { bit < 8 }
+    ensures { result ≡ pixel_text (bit_at octet bit == 1) }
+{
+    pixel_octet(octet >> bit & 1 == 1)
+}
+
+/// How the eight pixels of an octet are written, from its highest bit on.
+fn octet_pixels(octet: u8) -> [u8; 8]
+    ensures { result ≡ map (λ j. pixel_text (bit_at octet (7 - j) == 1)) (range_with_len 0 8) }
+{
+    [
+        bit_octet(octet, 7),
+        bit_octet(octet, 6),
+        bit_octet(octet, 5),
+        bit_octet(octet, 4),
+        bit_octet(octet, 3),
+        bit_octet(octet, 2),
+        bit_octet(octet, 1),
+        bit_octet(octet, 0),
+    ]
+}
+
+/// Appends a pixel row as a line. The pixels are written by octets, and what the last octet has more than the row is cut.
 fn push_row(text: &mut Vec<u8>, plane: &Plane, row: u16) -> Result<(), AllocError>
     requires { row < plane.now.height }
     ensures { OnOk result (text.new.items ≡ text.old.items ++ row_text (is_lit plane.now) plane.now.width row) }
 {
-    for column in 0..plane.width() {
-        push_octet(text, pixel_octet(plane.pixel(column, row)))?;
+    let end = text.len() + usize::from(plane.width());
+    let octets = plane.row(row);
+    for octet in octets {
+        push_octets(text, &octet_pixels(*octet))?;
     }
+    text.truncate(end);
     push_octet(text, b'\n')
 }
 

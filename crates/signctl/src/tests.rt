@@ -96,6 +96,39 @@ impl Write for NarrowWriter {
     }
 }
 
+/// A reader that gives as many octets as it is asked for, and counts its reads.
+#[derive(Drop)]
+struct WideReader<'a> {
+    octets: &'a [u8],
+    reads: usize,
+}
+
+impl Read for WideReader<'_> {
+    fn read(&mut self, buf: &mut [u8]) -> io::Result<usize> {
+        self.reads = self.reads.saturating_add(1);
+        self.octets.read(buf)
+    }
+}
+
+/// A writer that counts its writes and their octets.
+#[derive(Drop)]
+struct WriteCounter {
+    octets: usize,
+    writes: usize,
+}
+
+impl Write for WriteCounter {
+    fn write(&mut self, buf: &[u8]) -> io::Result<usize> {
+        self.octets = self.octets.saturating_add(buf.len());
+        self.writes = self.writes.saturating_add(1);
+        Ok(buf.len())
+    }
+
+    fn flush(&mut self) -> io::Result<()> {
+        Ok(())
+    }
+}
+
 /// What a run on the sample sign writes for this input, and how it ends.
 fn check(alloc: Global, input: &[u8]) -> (Vec<u8>, Result<(), ToolFault>) {
     let mut reader = input;
@@ -244,7 +277,7 @@ fn a_failed_write_ends_the_run(rt: HostRuntime) {
     let want = b"ok 1\nok 1\n";
     for fails in [false, true] {
         for room in 0..want.len() + 1 {
-            let mut reader = b"A\nI\n".as_slice();
+            let mut reader = FailingReader(b"A\nI\n");
             let mut writer = NarrowWriter {
                 taken: Vec::new(alloc),
                 room,
@@ -252,20 +285,57 @@ fn a_failed_write_ends_the_run(rt: HostRuntime) {
             };
             let result = run_tool(alloc, Mode::Check, true, &mut reader, &mut writer);
             let end = if room < want.len() {
-                Err(ToolFault::Write)
+                ToolFault::Write
             } else {
-                Ok(())
+                ToolFault::Read
             };
-            assert!(rt; result == end, "the end after {room}");
+            assert!(rt; result == Err(end), "the end after {room}");
             assert!(rt;
                 writer.taken.as_slice() == &want[..room],
                 "what is written after {room}"
             );
-            // The second line isn't read before the first is answered.
+            // Nothing of the second line is read before the first is answered.
             let left = if room < 5 { 2 } else { 0 };
-            assert!(rt; reader.len() == left, "what isn't read after {room}");
+            assert!(rt; reader.0.len() == left, "what isn't read after {room}");
         }
     }
+}
+
+#[test]
+fn the_answers_to_a_block_are_written_together(rt: HostRuntime) -> Result<(), Fail> {
+    let alloc = rt.alloc();
+    // The line, how many lines, the reads, the writes, and the octets that are written.
+    let rows: [(&[u8], usize, usize, usize, usize); 5] = [
+        (b"", 0, 1, 0, 0),
+        (b"A\n", 1, 2, 1, 5),
+        (b"A\r\n", 1_000, 2, 1, 5_000),
+        (b"\n", 16_384, 2, 1, 81_920),
+        (b"\n", 163_840, 11, 10, 819_200),
+    ];
+    for (line, lines, reads, writes, written) in rows {
+        let mut input = Vec::new(alloc);
+        for _ in 0..lines {
+            input.extend_from_slice(line)?;
+        }
+        let mut reader = WideReader {
+            octets: &input,
+            reads: 0,
+        };
+        let mut writer = WriteCounter {
+            octets: 0,
+            writes: 0,
+        };
+        let result = run_tool(alloc, Mode::Check, true, &mut reader, &mut writer);
+        assert!(rt; result == Ok(()), "the end at {lines} of {line:?}");
+        assert_eq!(rt; reader.reads, reads, "the reads at {lines} of {line:?}");
+        assert_eq!(rt; writer.writes, writes, "the writes at {lines} of {line:?}");
+        assert_eq!(rt;
+            writer.octets,
+            written,
+            "what is written at {lines} of {line:?}"
+        );
+    }
+    Ok(())
 }
 
 #[test]

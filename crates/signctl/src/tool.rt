@@ -7,11 +7,14 @@ ghost use Rattle.signctl.specs.Runs.{IsFront, Runs, fault_of};
 ghost use Rattle.signctl.specs.Tool.{IsOfInput, answers_of, outcome_of, output_so_far};
 ghost use Rattle.signctl.specs.declared.tool.Mode.TheVariants as mode;
 
-use crate::answer::{Answer, LineAnswer};
+use crate::answer::Answer;
+use crate::block::Block;
 use crate::check::Checker;
 use crate::fault::ToolFault;
-use crate::lines::{LineStart, NextLine, next_line, text_of};
-use crate::output::write_whole;
+use crate::first::{FirstLine, answer_first};
+use crate::lines::LineStart;
+use crate::output::write_ready;
+use crate::refill::read_on;
 use crate::script::Operator;
 use crate::setup::Setup;
 use crate::show::Shower;
@@ -36,7 +39,10 @@ pub enum Mode {
     Run,
 }
 
-/// Answers the lines from this one on, up to a fault or the end. All lines and their answers share two buffers.
+/// Answers the lines from this one on, up to a fault or the end.
+///
+/// What is read is kept in a block, and each line is answered where it stands there. The answers to the lines of a block
+/// are written together before more is read, or as soon as they have 98,304 octets.
 fn answer_lines<A: Answer, R: Read, W: Write>(
     alloc: Global,
     answer: &mut A,
@@ -48,25 +54,30 @@ fn answer_lines<A: Answer, R: Read, W: Write>(
     ensures runs { Runs (outcome (A.answers answer.old) place.number place.left) (output_of_whole (A.answers answer.old) place.number) place.left
         (R.remaining reader.old) (R.remaining reader.new) (W.contents writer.old) (W.contents writer.new) (fault_of result) }
 {
-    let mut line = Vec::new(alloc);
-    let mut text = Vec::new(alloc);
-    let mut left = place.left;
-    let mut number = place.number;
+    let mut block = Block::new();
+    let mut ready = Vec::new(alloc);
+    let mut place = place;
+    let mut seen = 0;
     loop {
-        match next_line(reader, &mut line, &mut left)? {
-            NextLine::Line => {}
-            NextLine::TooLong => return Err(ToolFault::LineTooLong { line: number }),
-            NextLine::Unfinished => return Err(ToolFault::BadLine { line: number }),
-            NextLine::End => return Ok(()),
-            NextLine::InputTooLong => return Err(ToolFault::InputTooLong),
+        let octets = block.first(place.left as usize);
+        let first = answer_first(answer, octets, seen, &mut ready)?;
+        write_ready(writer, &mut ready, first)?;
+        match first {
+            FirstLine::Answered(count) => {
+                block.pass(count);
+                place.left -= count as u32;
+                place.number += 1;
+                seen = 0;
+            }
+            FirstLine::Open => {
+                seen = block.len();
+                if !read_on(alloc, reader, &mut block, place)? {
+                    return Ok(());
+                }
+            }
+            FirstLine::TooLong => return Err(ToolFault::LineTooLong { line: place.number }),
+            FirstLine::Bad => return Err(ToolFault::BadLine { line: place.number }),
         }
-        text.clear();
-        match answer.answer(text_of(&line), &mut text)? {
-            LineAnswer::Text => {}
-            LineAnswer::BadLine => return Err(ToolFault::BadLine { line: number }),
-        }
-        write_whole(writer, &text)?;
-        number += 1;
     }
 }
 
@@ -115,7 +126,8 @@ fn run<R: Read, W: Write>(
     run_on(alloc, mode, start, reader, writer)
 }
 
-/// Reads an input up to its end or its first fault, and writes the answer to each line as soon as the line has ended (own).
+/// Reads an input up to its end or its first fault, and answers its lines (own). The answer to each line is written before
+/// more is read than the block of octets in which the line has ended.
 ///
 /// With `sample` the input has only lines, for the sample sign. Otherwise it begins with a sign file and a line `%%`, and
 /// the lines after it are for the sign of that file. All lines are counted, those of the sign file too.

@@ -1,7 +1,6 @@
-use Rattle.std.proofs.Common.{◌≡◌, ◌++◌}
-use Rattle.page_plane.specs.Plane.{is_lit}
-use Rattle.signctl.specs.Frame.{pixels_text}
+use Rattle.std.proofs.Common.{◌≡◌, ◌*◌, ◌++◌}
+use Rattle.signctl.proofs.FrameLemmas.{bits_text}
 use Rattle.signctl.proofs.show.push_row.Given as goal
 
-abbrev pub invariant-loop-column : goal.invariant-loop-column
-invariant-loop-column l = l.text.items ≡ l.fn.text.items ++ pixels_text (is_lit l.plane) l.row l.column
+abbrev pub invariant-loop-octet : goal.invariant-loop-octet
+invariant-loop-octet l = l.text.items ≡ l.fn.text.items ++ bits_text l.octets (8 * l.octet-index)

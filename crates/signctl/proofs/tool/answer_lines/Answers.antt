@@ -1,84 +1,68 @@
-use Rattle.std.proofs.Common.{[], ◌∷◌, ◌++◌, ap, ◌∙◌, arith, refl}
+use Rattle.std.proofs.Common.{◌≡◌, [], ◌∷◌, ◌++◌, true, false, refl, rules}
 use Rattle.std.proofs.lemmas.Result.{err_from_is_err_and}
-use Rattle.std.proofs.KnownBytes.{Consumes-nil, Appends-nil}
-use Rattle.signctl.specs.declared.answer.LineAnswer.TheVariants.{Text, BadLine}
-use Rattle.signctl.specs.Lines.{text_of}
-use Rattle.signctl.proofs.RunLemmas
+use Rattle.signctl.proofs.AnsweringLemmas
 use Rattle.signctl.proofs.tool.answer_lines.Goals as goal
 
-pub loop-text-init : goal.loop-text-init
-loop-text-init g c = (
-  [],
-  [],
-  [],
-  record {
-    takes = Consumes-nil _;
-    writes = Appends-nil _;
-    limit = omega arith;
-    counted = omega arith;
-    progress = RunLemmas.Progress-none _ _;
-  },
-)
+pub loop-ready-init : goal.loop-ready-init
+loop-ready-init g c =
+    ([], [], [], AnsweringLemmas.begins _ _ _ _ _ c.new-block.result c.new-ready.result.items c.new-block.ensures c.new-ready.ensures.items c.requires)
 
-pub returns-in_err-next_line : goal.returns-in_err-next_line
-returns-in_err-next_line g c =
+pub returns-in_err-first : goal.returns-in_err-first
+returns-in_err-first g c =
     let p = err_from_is_err_and c.from_residual.result c.from_residual.ensures.1 in
-    let (taken, sent, lines, go) = c.loop-text.invariant in
-    rw (p.1, p.2) (record { runs = RunLemmas.ends_failing _ _ _ _ _ _ _ _ _ _ _ c.next_line.new.left _ _ c.next_line.new.line.items _ go _ c.in_err-next_line.ensures.taken })
+    let (taken, gone, lines, go) = c.loop-ready.invariant in
+    rw (p.1, p.2) (record { runs = AnsweringLemmas.ends_refused _ _ _ _ _ _ _ _ _ _ _ _ _ _ _ _ go _ refl })
+
+pub returns-in_err-write_ready : goal.returns-in_err-write_ready
+returns-in_err-write_ready g c =
+    let p = err_from_is_err_and c.from_residual-in_err-write_ready.result c.from_residual-in_err-write_ready.ensures.1 in
+    let (taken, gone, lines, go) = c.loop-ready.invariant in
+    rw (p.1, p.2) (record { runs = AnsweringLemmas.ends_writing _ _ _ _ _ _ _ _ _ _ _ _ _ _ _ _ go (g.A.Answer.answers c.answer_first.new.answer) c.in_ok-first.first c.answer_first.new.text.items c.write_ready.new.ready.items _ _ (AnsweringLemmas.first_is (g.A.Answer.answers c.loop-ready.answer) (g.A.Answer.answers c.answer_first.new.answer) c.first-octets.result.now _ c.loop-ready.ready.items c.answer_first.new.text.items c.in_ok-first.first _ c.first-octets.ensures refl c.in_ok-first.ensures.first) c.in_err-write_ready.ensures.written })
+
+pub loop-ready-preserved-in-Answered : goal.loop-ready-preserved-in-Answered
+loop-ready-preserved-in-Answered g c =
+    let (taken, gone, lines, go) = c.loop-ready.invariant in
+    let a = AnsweringLemmas.first_is (g.A.Answer.answers c.loop-ready.answer) (g.A.Answer.answers c.answer_first.new.answer) c.first-octets.result.now _ c.loop-ready.ready.items c.answer_first.new.text.items c.in_ok-first.first _ c.first-octets.ensures c.in-Answered.is c.in_ok-first.ensures.first in
+    let w = AnsweringLemmas.written_is _ _ c.in_ok-first.first _ c.answer_first.new.text.items c.write_ready.new.ready.items c.in-Answered.is c.in_ok-write_ready.ensures.written in
+    (taken ++ (a.0 ++ 10 ∷ []), gone ++ w.0, lines ++ a.0 ∷ [], rw c.pass.ensures (AnsweringLemmas.goes_on _ _ _ _ _ _ _ _ _ _ _ _ _ _ _ _ go (g.A.Answer.answers c.answer_first.new.answer) c.in-Answered.count c.answer_first.new.text.items c.write_ready.new.ready.items _ a w))
+
+pub returns-in_err-read_on-in-Open : goal.returns-in_err-read_on-in-Open
+returns-in_err-read_on-in-Open g c =
+    let p = err_from_is_err_and c.from_residual-in_err-read_on-in-Open.result c.from_residual-in_err-read_on-in-Open.ensures.1 in
+    let (taken, gone, lines, go) = c.loop-ready.invariant in
+    let a = AnsweringLemmas.first_is (g.A.Answer.answers c.loop-ready.answer) (g.A.Answer.answers c.answer_first.new.answer) c.first-octets.result.now _ c.loop-ready.ready.items c.answer_first.new.text.items c.in_ok-first.first _ c.first-octets.ensures c.in-Open.is c.in_ok-first.ensures.first in
+    let w = AnsweringLemmas.written_is _ _ c.in_ok-first.first _ c.answer_first.new.text.items c.write_ready.new.ready.items c.in-Open.is c.in_ok-write_ready.ensures.written in
+    let paused = AnsweringLemmas.paused _ _ _ _ _ _ _ _ _ _ _ _ _ _ _ _ go (g.A.Answer.answers c.answer_first.new.answer) c.answer_first.new.text.items c.write_ready.new.ready.items _ a w in
+    rw (p.1, p.2) (record { runs = AnsweringLemmas.ends_with _ _ _ _ _ _ _ _ _ _ _ _ _ _ _ _ paused _ _ w.3 c.in_err-read_on-in-Open.ensures.on })
+
+pub returns-then-not-branch : goal.returns-then-not-branch
+returns-then-not-branch g c =
+    let (taken, gone, lines, go) = c.loop-ready.invariant in
+    let a = AnsweringLemmas.first_is (g.A.Answer.answers c.loop-ready.answer) (g.A.Answer.answers c.answer_first.new.answer) c.first-octets.result.now _ c.loop-ready.ready.items c.answer_first.new.text.items c.in_ok-first.first _ c.first-octets.ensures c.in-Open.is c.in_ok-first.ensures.first in
+    let w = AnsweringLemmas.written_is _ _ c.in_ok-first.first _ c.answer_first.new.text.items c.write_ready.new.ready.items c.in-Open.is c.in_ok-write_ready.ensures.written in
+    let paused = AnsweringLemmas.paused _ _ _ _ _ _ _ _ _ _ _ _ _ _ _ _ go (g.A.Answer.answers c.answer_first.new.answer) c.answer_first.new.text.items c.write_ready.new.ready.items _ a w in
+    let none : c.in_ok-read_on-in-Open.field-0 ≡ false = search rules in
+    record { runs = AnsweringLemmas.ends_at_end _ _ _ _ _ _ _ _ _ _ _ _ _ _ _ _ paused _ w.3 (rw none at c.in_ok-read_on-in-Open.ensures.on) }
+
+pub loop-ready-preserved : goal.loop-ready-preserved
+loop-ready-preserved g c =
+    let (taken, gone, lines, go) = c.loop-ready.invariant in
+    let a = AnsweringLemmas.first_is (g.A.Answer.answers c.loop-ready.answer) (g.A.Answer.answers c.answer_first.new.answer) c.first-octets.result.now _ c.loop-ready.ready.items c.answer_first.new.text.items c.in_ok-first.first _ c.first-octets.ensures c.in-Open.is c.in_ok-first.ensures.first in
+    let w = AnsweringLemmas.written_is _ _ c.in_ok-first.first _ c.answer_first.new.text.items c.write_ready.new.ready.items c.in-Open.is c.in_ok-write_ready.ensures.written in
+    let paused = AnsweringLemmas.paused _ _ _ _ _ _ _ _ _ _ _ _ _ _ _ _ go (g.A.Answer.answers c.answer_first.new.answer) c.answer_first.new.text.items c.write_ready.new.ready.items _ a w in
+    let more : c.in_ok-read_on-in-Open.field-0 ≡ true = search rules in
+    (taken, gone ++ w.0, lines, AnsweringLemmas.read_more _ _ _ _ _ _ _ _ _ _ _ _ _ _ _ _ paused _ _ _ a.0 c.len-seen.ensures.value (rw more at c.in_ok-read_on-in-Open.ensures.on))
 
 pub returns-in-TooLong : goal.returns-in-TooLong
 returns-in-TooLong g c =
-    let (taken, sent, lines, go) = c.loop-text.invariant in
-    record { runs = RunLemmas.ends_too_long _ _ _ _ _ _ _ _ _ _ _ c.next_line.new.left _ _ c.next_line.new.line.items _ go (rw c.in-TooLong.is at c.in_ok-next_line.ensures.taken) }
+    let (taken, gone, lines, go) = c.loop-ready.invariant in
+    let a = AnsweringLemmas.first_is (g.A.Answer.answers c.loop-ready.answer) (g.A.Answer.answers c.answer_first.new.answer) c.first-octets.result.now _ c.loop-ready.ready.items c.answer_first.new.text.items c.in_ok-first.first _ c.first-octets.ensures c.in-TooLong.is c.in_ok-first.ensures.first in
+    let w = AnsweringLemmas.written_is _ _ c.in_ok-first.first _ c.answer_first.new.text.items c.write_ready.new.ready.items c.in-TooLong.is c.in_ok-write_ready.ensures.written in
+    record { runs = AnsweringLemmas.stops_long _ _ _ _ _ _ _ _ _ _ _ _ _ _ _ _ go (g.A.Answer.answers c.answer_first.new.answer) c.answer_first.new.text.items c.write_ready.new.ready.items _ a w }
 
-pub returns-in-Unfinished : goal.returns-in-Unfinished
-returns-in-Unfinished g c =
-    let (taken, sent, lines, go) = c.loop-text.invariant in
-    record { runs = RunLemmas.ends_unfinished _ _ _ _ _ _ _ _ _ _ _ c.next_line.new.left _ _ c.next_line.new.line.items _ go (rw c.in-Unfinished.is at c.in_ok-next_line.ensures.taken) }
-
-pub returns-in-End : goal.returns-in-End
-returns-in-End g c =
-    let (taken, sent, lines, go) = c.loop-text.invariant in
-    record { runs = RunLemmas.ends_well _ _ _ _ _ _ _ _ _ _ _ c.next_line.new.left _ _ c.next_line.new.line.items _ go (rw c.in-End.is at c.in_ok-next_line.ensures.taken) }
-
-pub returns-in-InputTooLong : goal.returns-in-InputTooLong
-returns-in-InputTooLong g c =
-    let (taken, sent, lines, go) = c.loop-text.invariant in
-    record { runs = RunLemmas.ends_past _ _ _ _ _ _ _ _ _ _ _ c.next_line.new.left _ _ c.next_line.new.line.items _ go (rw c.in-InputTooLong.is at c.in_ok-next_line.ensures.taken) }
-
-pub returns-in_err-answer : goal.returns-in_err-answer
-returns-in_err-answer g c =
-    let p = err_from_is_err_and c.from_residual-in_err-answer.result c.from_residual-in_err-answer.ensures.1 in
-    let (taken, sent, lines, go) = c.loop-text.invariant in
-    rw (p.1, p.2) (record { runs = RunLemmas.ends_unanswered _ _ _ _ _ _ _ _ _ _ _ c.next_line.new.left _ _ c.next_line.new.line.items _ go _ (rw c.in-Line.is at c.in_ok-next_line.ensures.taken) refl })
-
-pub returns-in-BadLine : goal.returns-in-BadLine
-returns-in-BadLine g c =
-    let (taken, sent, lines, go) = c.loop-text.invariant in
-    let answer = RunLemmas.same_answer (g.A.Answer.answers c.loop-text.answer) (g.A.Answer.answers c.answer.new.self) _ (text_of c.next_line.new.line.items) _ [] c.answer.new.text.items _ BadLine
-    (c.text_of.ensures.text ∙ ap text_of c.deref.ensures.value) c.clear.ensures.items c.in-BadLine.is c.in_ok-answer.ensures.answered in
-    record { runs = RunLemmas.ends_bad _ _ _ (g.A.Answer.answers c.loop-text.answer) _ _ _ _ _ _ _ c.next_line.new.left _ _ c.next_line.new.line.items _ go (g.A.Answer.answers c.answer.new.self) [] c.answer.new.text.items (rw c.in-Line.is at c.in_ok-next_line.ensures.taken) answer }
-
-pub returns-in_err-write_whole : goal.returns-in_err-write_whole
-returns-in_err-write_whole g c =
-    let p = err_from_is_err_and c.from_residual-in_err-write_whole.result c.from_residual-in_err-write_whole.ensures.1 in
-    let (taken, sent, lines, go) = c.loop-text.invariant in
-    let answer = RunLemmas.same_answer (g.A.Answer.answers c.loop-text.answer) (g.A.Answer.answers c.answer.new.self) _ (text_of c.next_line.new.line.items) _ [] c.answer.new.text.items _ Text
-    (c.text_of.ensures.text ∙ ap text_of c.deref.ensures.value) c.clear.ensures.items c.in-Text.is c.in_ok-answer.ensures.answered in
-    rw (p.1, p.2) (record {
-      runs = RunLemmas.ends_writing _ _ _ (g.A.Answer.answers c.loop-text.answer) _ _ _ _ _ _ _ c.next_line.new.left _ _ c.next_line.new.line.items _ go (g.A.Answer.answers c.answer.new.self) _ c.answer.new.text.items _ _
-          (rw c.in-Line.is at c.in_ok-next_line.ensures.taken) answer c.deref-in-loop-text.ensures.value c.in_err-write_whole.ensures.written;
-    })
-
-pub loop-text-preserved : goal.loop-text-preserved
-loop-text-preserved g c =
-    let (taken, sent, lines, go) = c.loop-text.invariant in
-    let line = c.next_line.new.line.items in
-    let answer = RunLemmas.same_answer (g.A.Answer.answers c.loop-text.answer) (g.A.Answer.answers c.answer.new.self) _ (text_of line) _ [] c.answer.new.text.items _ Text
-    (c.text_of.ensures.text ∙ ap text_of c.deref.ensures.value) c.clear.ensures.items c.in-Text.is c.in_ok-answer.ensures.answered in (
-      taken ++ (line ++ 10 ∷ []),
-      sent ++ c.answer.new.text.items,
-      lines ++ line ∷ [],
-      RunLemmas.goes_on _ _ _ (g.A.Answer.answers c.loop-text.answer) _ _ _ _ _ _ _ _ _ _ line _ go (g.A.Answer.answers c.answer.new.self) _ c.answer.new.text.items
-          (rw c.in-Line.is at c.in_ok-next_line.ensures.taken) answer (rw c.deref-in-loop-text.ensures.value at c.in_ok-write_whole.ensures.written),
-    )
+pub returns-in-Bad : goal.returns-in-Bad
+returns-in-Bad g c =
+    let (taken, gone, lines, go) = c.loop-ready.invariant in
+    let a = AnsweringLemmas.first_is (g.A.Answer.answers c.loop-ready.answer) (g.A.Answer.answers c.answer_first.new.answer) c.first-octets.result.now _ c.loop-ready.ready.items c.answer_first.new.text.items c.in_ok-first.first _ c.first-octets.ensures c.in-Bad.is c.in_ok-first.ensures.first in
+    let w = AnsweringLemmas.written_is _ _ c.in_ok-first.first _ c.answer_first.new.text.items c.write_ready.new.ready.items c.in-Bad.is c.in_ok-write_ready.ensures.written in
+    record { runs = AnsweringLemmas.stops_bad _ _ _ _ _ _ _ _ _ _ _ _ _ _ _ _ go (g.A.Answer.answers c.answer_first.new.answer) c.answer_first.new.text.items c.write_ready.new.ready.items _ a w }
