@@ -1,9 +1,10 @@
 -- The rows of a frame, one after the other.
-use Rattle.std.proofs.Common.{◌≡◌, ℕ, zero, suc, ◌+◌, ◌-◌, ◌*◌, ◌/◌, ◌%◌, ◌<◌, ◌==◌, Bool, List, [], ◌∷◌, ◌++◌, get_or, length, map, take, refl, sym, ap, ◌∙◌, arith, append_assoc, append-nil}
+use Rattle.std.proofs.Common.{◌≡◌, ℕ, zero, suc, ◌+◌, ◌-◌, ◌*◌, ◌/◌, ◌%◌, ◌<◌, ◌==◌, Bool, List, [], ◌∷◌, ◌++◌, get_or, length, map, take, drop, slice_set, refl, sym, ap, ◌∙◌, arith, append_assoc, append-nil}
 use Rattle.std.specs.Int.{bit_at}
 use Rattle.std.specs.List.{flat_map, range_with_len}
-use Rattle.std.proofs.lemmas.List.FromFn.{take-map-range_with_len}
-use Rattle.std.proofs.Math.Seq.{take-append-add}
+use Rattle.std.proofs.lemmas.Grind.{flat_map-append}
+use Rattle.std.proofs.lemmas.List.{take_more_set, take-append-drop, take-append-le}
+use Rattle.std.proofs.lemmas.List.FromFn.{length-map-range_with_len, take-map-range_with_len}
 use Rattle.page_plane.specs.Octets.{is_bit_set}
 use Rattle.page_plane.specs.Plane.{BitPlane, is_lit}
 use Rattle.sign_font.specs.Sign.{SignData}
@@ -79,15 +80,30 @@ bits_more octets k octet is =
     ∙ ap (λ l. bits_text octets (8 * k) ++ l) (map_moved f (λ j. pixel_text (bit_at octet (7 - j) == 1)) (8 * k) 0 8 (λ i j n below at to.
     ap pixel_text (bit_of octets k octet i j (omega arith) (omega arith) is)))
 
+-- an octet has eight more pixels, which are written behind those of the octets before it
+pub pixels_more : (rows : List (List ℕ)) (octets eight : List ℕ) (k octet : ℕ) → k < length rows → octet ≡ get_or octets k 0
+    → eight ≡ map (λ j. pixel_text (bit_at octet (7 - j) == 1)) (range_with_len 0 8)
+    → flat_map (λ x. x) (take k rows) ≡ bits_text octets (8 * k)
+    → flat_map (λ x. x) (take (k + 1) (slice_set rows k eight)) ≡ bits_text octets (8 * (k + 1))
+pixels_more rows octets eight k octet below at is so_far =
+    ap (flat_map (λ x. x)) (take_more_set rows k eight below)
+    ∙ flat_map-append (λ x. x) (take k rows) (eight ∷ [])
+    ∙ ap (λ l. l ++ (eight ++ [])) so_far
+    ∙ ap (λ l. bits_text octets (8 * k) ++ l) (append-nil eight ∙ is)
+    ∙ sym (bits_more octets k octet at)
+
 -- the octets of a row begin with its pixels
-pub row_of_bits : (lit : ℕ → ℕ → Bool) (octets text now : List ℕ) (width row k end : ℕ) → k ≡ (width + 7) / 8 → ((x : ℕ) → x < width → is_bit_set octets x ≡ lit x row)
-    → now ≡ text ++ bits_text octets (8 * k) → end ≡ length text + width → take end now ≡ text ++ pixels_text lit row width
-row_of_bits lit octets text now width row k end count same so_far is =
+pub row_of_pixels : (lit : ℕ → ℕ → Bool) (rows : List (List ℕ)) (octets all : List ℕ) (width row n : ℕ) → n ≡ (width + 7) / 8
+    → ((x : ℕ) → x < width → is_bit_set octets x ≡ lit x row) → all ≡ flat_map (λ x. x) rows
+    → flat_map (λ x. x) (take n rows) ≡ bits_text octets (8 * n) → take width all ≡ pixels_text lit row width
+row_of_pixels lit rows octets all width row n count same is written =
     let f : ℕ → ℕ = λ place. pixel_text (is_bit_set octets place) in
-    ap (λ n. take n now) is ∙ ap (take (length text + width)) so_far
-    ∙ take-append-add text (bits_text octets (8 * k)) width
-    ∙ ap (λ l. text ++ l) (take-map-range_with_len f 0 (8 * k) width (omega (arith, count))
-    ∙ map_same f (λ column. pixel_text (lit column row)) 0 width (λ x below. ap pixel_text (same x (omega arith))))
+    let size : length (bits_text octets (8 * n)) ≡ 8 * n = length-map-range_with_len f 0 (8 * n) in
+    ap (take width) (is ∙ ap (flat_map (λ x. x)) (sym (take-append-drop n rows)) ∙ flat_map-append (λ x. x) (take n rows) (drop n rows)
+    ∙ ap (λ l. l ++ flat_map (λ x. x) (drop n rows)) written)
+    ∙ take-append-le width (bits_text octets (8 * n)) (flat_map (λ x. x) (drop n rows)) (omega (arith, size, count))
+    ∙ take-map-range_with_len f 0 (8 * n) width (omega (arith, count))
+    ∙ map_same f (λ column. pixel_text (lit column row)) 0 width (λ x below. ap pixel_text (same x (omega arith)))
 
 -- no row is written at first
 pub rows_none : (lit : ℕ → ℕ → Bool) (width : ℕ) → rows_text lit width 0 ≡ []

@@ -50,6 +50,7 @@ mod lines;
 mod main_with;
 mod octets;
 mod output;
+mod pixels;
 mod refill;
 mod replies;
 mod reply;

@@ -13,6 +13,7 @@ ghost use Rattle.signctl.specs.Frame.{frame_text, head_text, pixel_text, row_tex
 use crate::answer::{Answer, LineAnswer};
 use crate::judge::judge_line;
 use crate::octets::{push_octet, push_octets};
+use crate::pixels::write_pixels;
 use crate::reply::push_number;
 use multi_layout::{Checked, Shown};
 use page_plane::Plane;
@@ -65,48 +66,18 @@ impl Shower {
     }
 }
 
-/// How a pixel is written.
-fn pixel_octet(lit: bool) -> u8
-    ensures { result ≡ pixel_text lit }
-{
-    if lit { b'#' } else { b'.' }
-}
+/// The most octets of a row of pixels.
+const MAX_ROW: usize = 128;
 
-/// How the pixel of a bit is written.
-fn bit_octet(octet: u8, bit: u8) -> u8
-    requires { bit < 8 }
-    ensures { result ≡ pixel_text (bit_at octet bit == 1) }
-{
-    pixel_octet(octet >> bit & 1 == 1)
-}
-
-/// How the eight pixels of an octet are written, from its highest bit on.
-fn octet_pixels(octet: u8) -> [u8; 8]
-    ensures { result ≡ map (λ j. pixel_text (bit_at octet (7 - j) == 1)) (range_with_len 0 8) }
-{
-    [
-        bit_octet(octet, 7),
-        bit_octet(octet, 6),
-        bit_octet(octet, 5),
-        bit_octet(octet, 4),
-        bit_octet(octet, 3),
-        bit_octet(octet, 2),
-        bit_octet(octet, 1),
-        bit_octet(octet, 0),
-    ]
-}
-
-/// Appends a pixel row as a line. The pixels are written by octets, and what the last octet has more than the row is cut.
+/// Appends a pixel row as a line.
 fn push_row(text: &mut Vec<u8>, plane: &Plane, row: u16) -> Result<(), AllocError>
     requires { row < plane.now.height }
     ensures { OnOk result (text.new.items ≡ text.old.items ++ row_text (is_lit plane.now) plane.now.width row) }
 {
-    let end = text.len() + usize::from(plane.width());
-    let octets = plane.row(row);
-    for octet in octets {
-        push_octets(text, &octet_pixels(*octet))?;
-    }
-    text.truncate(end);
+    let width = usize::from(plane.width());
+    let mut pixels = [[0; 8]; MAX_ROW];
+    write_pixels(&mut pixels, plane.row(row));
+    push_octets(text, &pixels.as_flattened()[..width])?;
     push_octet(text, b'\n')
 }
 
