@@ -40,9 +40,9 @@ AnswersFirst before behind octets old new (Ok Bad) = (line others : List ℕ) ×
     × (length (text_of line) ≤ 8300) × AnswersLine before behind (text_of line) old new (Ok line_answer.BadLine)
 AnswersFirst before behind octets old new (Err refused) = Unit {0}
 
--- After an answered line answers may be kept, and otherwise none is (own).
+-- After an answered line fewer than 98,304 octets of answers may be kept, and otherwise none is (own).
 abbrev pub IsKeptAfter : FirstLine → List ℕ → Type 0
-IsKeptAfter (Answered count) ready = Unit {0}
+IsKeptAfter (Answered count) ready = length ready < 98304
 IsKeptAfter first ready = ready ≡ []
 
 -- A front of the answers that are ready is written, and the others are kept; a writer that fails has taken some (own).

@@ -6,7 +6,7 @@ ghost use Rattle.page_plane.specs.Octets.{is_bit_set};
 ghost use Rattle.signctl.specs.Frame.{pixel_text};
 
 /// How the eight pixels of each octet are written, from its highest bit on.
-const OCTET_PIXELS: [[u8; 8]; 256] = [
+const OCTET_PIXELS: &[[u8; 8]; 256] = &[
     *b"........",
     *b".......#",
     *b"......#.",
