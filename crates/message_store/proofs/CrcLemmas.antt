@@ -1,4 +1,4 @@
--- Four bits at a time by a table are four bits one after the other.
+-- Eight bits at a time by a table are eight bits one after the other.
 use Rattle.std.proofs.Common.{◌≡◌, ℕ, zero, suc, ◌+◌, ◌*◌, ◌/◌, ◌%◌, ◌^◌, ◌<◌, ◌⊎◌, inl, inr, refl, sym, ap, ◌∙◌, arith, bit_xor}
 use Rattle.std.proofs.lemmas.Nat.{xor_comm, xor_shr, xor_mod, xor_block}
 use Rattle.std.proofs.lemmas.Nat.Bits.{bit_at_xor, same_from_bits, bit_at-zero}
@@ -71,17 +71,24 @@ high h =
     ∙ ap (λ x. bit_step x) (even-step (h * 4) (h * 2) (omega arith))
     ∙ even-step (h * 2) h (omega arith)
 
-parts : (r : ℕ) → r ≡ bit_xor (r / 16 * 16) (r % 16)
+high-eight : (h : ℕ) → four_steps (four_steps (h * 256)) ≡ h
+high-eight h = ap (λ x. four_steps (four_steps x)) (let e : h * 256 ≡ h * 16 * 16 = omega arith in e) ∙ ap four_steps (high (h * 16)) ∙ high h
+
+parts : (r : ℕ) → r ≡ bit_xor (r / 256 * 256) (r % 256)
 parts r =
-    let low4 : r % 16 < 2 ^ 4 = omega arith in
+    let low8 : r % 256 < 2 ^ 8 = omega arith in
     sym (
-    ap (λ x. bit_xor x (r % 16)) (let e : r / 16 * 16 ≡ r / 16 * 2 ^ 4 + 0 = omega arith in e)
-    ∙ ap (λ x. bit_xor (r / 16 * 2 ^ 4 + 0) x) (let e : r % 16 ≡ 0 * 2 ^ 4 + r % 16 = omega arith in e)
-    ∙ xor_block 4 (r / 16) 0 0 (r % 16) (omega arith) low4
-    ∙ ap (λ x. x * 2 ^ 4 + bit_xor 0 (r % 16)) (xor_none (r / 16))
-    ∙ ap (λ x. r / 16 * 2 ^ 4 + x) (xor_comm 0 (r % 16) ∙ xor_none (r % 16))
+    ap (λ x. bit_xor x (r % 256)) (let e : r / 256 * 256 ≡ r / 256 * 2 ^ 8 + 0 = omega arith in e)
+    ∙ ap (λ x. bit_xor (r / 256 * 2 ^ 8 + 0) x) (let e : r % 256 ≡ 0 * 2 ^ 8 + r % 256 = omega arith in e)
+    ∙ xor_block 8 (r / 256) 0 0 (r % 256) (omega arith) low8
+    ∙ ap (λ x. x * 2 ^ 8 + bit_xor 0 (r % 256)) (xor_none (r / 256))
+    ∙ ap (λ x. r / 256 * 2 ^ 8 + x) (xor_comm 0 (r % 256) ∙ xor_none (r % 256))
     ∙ omega arith)
 
--- four bits of the register are its upper bits, combined with what four bits make of its lowest four
-pub four-is : (r : ℕ) → four_steps r ≡ bit_xor (r / 16) (four_steps (r % 16))
-four-is r = ap four_steps (parts r) ∙ four-linear (r / 16 * 16) (r % 16) ∙ ap (λ x. bit_xor x (four_steps (r % 16))) (high (r / 16))
+-- eight bits of the register are its upper bits, combined with what eight bits make of its lowest eight
+pub eight-is : (r : ℕ) → four_steps (four_steps r) ≡ bit_xor (r / 256) (four_steps (four_steps (r % 256)))
+eight-is r =
+    ap (λ x. four_steps (four_steps x)) (parts r)
+    ∙ ap four_steps (four-linear (r / 256 * 256) (r % 256))
+    ∙ four-linear (four_steps (r / 256 * 256)) (four_steps (r % 256))
+    ∙ ap (λ x. bit_xor x (four_steps (four_steps (r % 256)))) (high-eight (r / 256))

@@ -1,43 +1,59 @@
 //! Texts that stand one after the other in one pool of octets, which is reserved once.
 
-ghost use Rattle.std.specs.Prelude.{◌≡◌, ◌+◌, ◌^◌, ◌<◌, ◌≤◌, ◌++◌, [], take, drop, length, sum, replicate, slice_set, slice_index, slice_index_or, IfOk};
+ghost use Rattle.std.specs.Prelude.{◌≡◌, ◌+◌, ◌<◌, ◌≤◌, ◌++◌, [], map, take, drop, length, replicate, slice_set, slice_index_or, IfOk};
 ghost use Rattle.std.specs.Vec.{vec_capacity};
-ghost use Rattle.message_store.specs.Pool.{Pool, cut, used};
+ghost use Rattle.message_store.specs.Pool.{ArePlaced, Pool, moved, moved_start, span_at, text_in, used};
 
 use std::alloc::{AllocError, Global};
 use std::marker::Model;
 
-/// Texts, one after the other in one pool of octets (own).
+/// Where a text stands in the pool: its first octet, counted from 0, and how many octets it has.
+#[derive(Clone, Copy)]
+pub(crate) struct Span {
+    start: usize,
+    len: usize,
+}
+
+/// The place of no text.
+const NO_SPAN: Span = Span { start: 0, len: 0 };
+
+/// Texts, one after the other in one pool of octets (own). They stand in any order, and leave no gap.
 #[derive(Drop)]
 pub(crate) struct Texts {
-    lens: Vec<u16>,
+    spans: Vec<Span>,
     octets: Vec<u8>,
     room: usize,
 }
 
 impl Model for Texts {
-    ghost use Rattle.std.specs.Prelude.{◌≡◌, ◌≤◌, ◌<◌, ◌^◌, length, sum};
+    ghost use Rattle.std.specs.Prelude.{◌≤◌, length, map};
     ghost use Rattle.std.specs.Vec.{vec_capacity};
-    ghost use Rattle.message_store.specs.Pool.{Pool, cut};
+    ghost use Rattle.message_store.specs.Pool.{ArePlaced, Pool, text_in};
 
     ghost Value = { Pool };
 
-    ghost view = { λ t. record { texts = cut t.lens.items t.octets.items; room = t.room } };
+    ghost view = { λ t. record { texts = map (text_in t.octets.items) t.spans.items; room = t.room } };
 
-    ghost invariant = { λ t. (sum t.lens.items ≡ length t.octets.items) × (length t.octets.items ≤ t.room) × (t.room ≤ vec_capacity t.octets) };
+    ghost invariant = { λ t. ArePlaced t.spans.items (length t.octets.items) × (length t.octets.items ≤ t.room) × (t.room ≤ vec_capacity t.octets) };
 }
 
-/// Where the text of an index begins.
-fn start_of(lens: &[u16], index: usize) -> usize
-    requires index { index ≤ length lens.now }
-    requires room { sum lens.now < 2 ^ 64 }
-    ensures start { result ≡ sum (take index lens.now) }
+/// Where a text begins after a gap of `len` octets before `end` was closed.
+fn moved_start(end: usize, len: usize, start: usize) -> usize
+    requires { len ≤ end }
+    ensures { result ≡ moved_start end len start }
 {
-    let mut start = 0;
-    for len in &lens[..index] {
-        start += usize::from(*len);
+    if end <= start { start - len } else { start }
+}
+
+/// Moves the places of texts up where a gap of `len` octets before `end` was closed.
+fn move_up(spans: &mut [Span], end: usize, len: usize)
+    requires { len ≤ end }
+    ensures { spans.new ≡ map (moved end len) spans.old }
+{
+    for index in 0..spans.len() {
+        let span = &mut spans[index];
+        span.start = moved_start(end, len, span.start);
     }
-    start
 }
 
 /// Takes out the `len` octets from `start` on. What is behind them moves up.
@@ -48,19 +64,6 @@ fn close_gap(octets: &mut Vec<u8>, start: usize, len: usize)
 {
     octets.slice_mut(start..).rotate_left(len);
     octets.truncate(octets.len() - len);
-}
-
-/// Puts a text in at `start`, within the memory that is there. What is behind it moves down.
-fn put_in(octets: &mut Vec<u8>, start: usize, text: &[u8])
-    requires within { start ≤ length octets.old.items }
-    requires room { length octets.old.items + length text.now ≤ vec_capacity octets.old }
-    ensures items { octets.new.items ≡ take start octets.old.items ++ (text.now ++ drop start octets.old.items) }
-    ensures capacity { vec_capacity octets.old ≤ vec_capacity octets.new }
-{
-    let Ok(()) = octets.extend_from_slice(text) else {
-        unreachable!();
-    };
-    octets.slice_mut(start..).rotate_right(text.len());
 }
 
 /// Puts a text where another of the same length stood from `start` on.
@@ -74,38 +77,78 @@ fn put_over(octets: &mut Vec<u8>, start: usize, text: &[u8])
         .copy_from_slice(text);
 }
 
-/// The text of an index.
-#[tactic(auto, using(crate::proofs::PoolLemmas::pool))]
-fn text_at<'a>(lens: &[u16], octets: &'a [u8], index: usize) -> &'a [u8]
-    requires index { index < length lens.now }
-    requires all { sum lens.now ≡ length octets.now }
-    ensures { result.now ≡ slice_index_or (cut lens.now octets.now) index [] }
+/// Takes a text out of the pool. Those behind it move up.
+fn take_out(spans: &mut Vec<Span>, octets: &mut Vec<u8>, span: Span)
+    requires within { span.start + span.len ≤ length octets.old.items }
+    ensures spans { spans.new.items ≡ map (moved (span.start + span.len) span.len) spans.old.items }
+    ensures items { octets.new.items ≡ take span.start octets.old.items ++ drop (span.start + span.len) octets.old.items }
+    ensures capacity { vec_capacity octets.new ≡ vec_capacity octets.old }
 {
-    let start = start_of(lens, index);
-    let len = usize::from(lens[index]);
+    if span.len == 0 {
+        return;
+    }
+    move_up(spans, span.start + span.len, span.len);
+    close_gap(octets, span.start, span.len);
+}
+
+/// Puts a text in behind the others, within the memory that is there, and answers its place.
+fn put_in(octets: &mut Vec<u8>, text: &[u8]) -> Span
+    requires room { length octets.old.items + length text.now ≤ vec_capacity octets.old }
+    ensures place { result ≡ record { start = length octets.old.items; len = length text.now } }
+    ensures items { octets.new.items ≡ octets.old.items ++ text.now }
+    ensures capacity { vec_capacity octets.old ≤ vec_capacity octets.new }
+{
+    let start = octets.len();
+    let Ok(()) = octets.extend_from_slice(text) else {
+        unreachable!();
+    };
+    Span {
+        start,
+        len: text.len(),
+    }
+}
+
+/// The text of an index.
+fn text_at<'a>(spans: &[Span], octets: &'a [u8], index: usize) -> &'a [u8]
+    requires index { index < length spans.now }
+    requires placed { ArePlaced spans.now (length octets.now) }
+    ensures { result.now ≡ slice_index_or (map (text_in octets.now) spans.now) index [] }
+{
+    let Span { start, len } = spans[index];
     &octets[start..start + len]
 }
 
-/// Replaces the text of an index, within the memory that is there.
-fn replace_at(lens: &mut Vec<u16>, octets: &mut Vec<u8>, index: usize, text: &[u8])
-    requires index { index < length lens.old.items }
-    requires all { sum lens.old.items ≡ length octets.old.items }
-    requires short { length text.now < 2 ^ 16 }
-    requires room { length octets.old.items + length text.now ≤ vec_capacity octets.old + slice_index lens.old.items index }
-    ensures texts { cut lens.new.items octets.new.items ≡ slice_set (cut lens.old.items octets.old.items) index text.now }
-    ensures all { sum lens.new.items ≡ length octets.new.items }
-    ensures count { length octets.new.items + slice_index lens.old.items index ≡ length octets.old.items + length text.now }
+/// Replaces a text that is empty or has another length, within the memory that is there.
+fn replace_whole(spans: &mut Vec<Span>, octets: &mut Vec<u8>, index: usize, text: &[u8])
+    requires index { index < length spans.old.items }
+    requires placed { ArePlaced spans.old.items (length octets.old.items) }
+    requires room { length octets.old.items + length text.now ≤ vec_capacity octets.old + (span_at spans.old.items index).len }
+    ensures texts { map (text_in octets.new.items) spans.new.items ≡ slice_set (map (text_in octets.old.items) spans.old.items) index text.now }
+    ensures placed { ArePlaced spans.new.items (length octets.new.items) }
+    ensures count { length octets.new.items + (span_at spans.old.items index).len ≡ length octets.old.items + length text.now }
     ensures capacity { vec_capacity octets.old ≤ vec_capacity octets.new }
 {
-    let start = start_of(lens, index);
-    let len = usize::from(lens[index]);
+    let span = spans[index];
+    take_out(spans, octets, span);
+    spans[index] = put_in(octets, text);
+}
+
+/// Replaces the text of an index, within the memory that is there.
+fn replace_at(spans: &mut Vec<Span>, octets: &mut Vec<u8>, index: usize, text: &[u8])
+    requires index { index < length spans.old.items }
+    requires placed { ArePlaced spans.old.items (length octets.old.items) }
+    requires room { length octets.old.items + length text.now ≤ vec_capacity octets.old + (span_at spans.old.items index).len }
+    ensures texts { map (text_in octets.new.items) spans.new.items ≡ slice_set (map (text_in octets.old.items) spans.old.items) index text.now }
+    ensures placed { ArePlaced spans.new.items (length octets.new.items) }
+    ensures count { length octets.new.items + (span_at spans.old.items index).len ≡ length octets.old.items + length text.now }
+    ensures capacity { vec_capacity octets.old ≤ vec_capacity octets.new }
+{
+    let Span { start, len } = spans[index];
     if len == text.len() {
         put_over(octets, start, text);
-        return;
+    } else {
+        replace_whole(spans, octets, index, text);
     }
-    close_gap(octets, start, len);
-    put_in(octets, start, text);
-    lens[index] = text.len() as u16;
 }
 
 impl Texts {
@@ -114,7 +157,7 @@ impl Texts {
         ensures { IfOk result (λ pool. pool ≡ record { texts = replicate count []; room = room }) }
     {
         Ok(Texts {
-            lens: Vec::from_elem(alloc, 0u16, count)?,
+            spans: Vec::from_elem(alloc, NO_SPAN, count)?,
             octets: Vec::with_capacity(alloc, room)?,
             room,
         })
@@ -133,24 +176,23 @@ impl Texts {
         requires { index < length self.now.texts }
         ensures { result.now ≡ slice_index_or self.now.texts index [] }
     {
-        text_at(&self.lens, &self.octets, index)
+        text_at(&self.spans, &self.octets, index)
     }
 
     /// Makes every text empty.
     pub(crate) fn clear(&mut self)
         ensures { self.new ≡ record self.old { texts = replicate (length self.old.texts) [] } }
     {
-        self.lens.fill(0);
+        self.spans.fill(NO_SPAN);
         self.octets.clear();
     }
 
     /// Replaces a text. Every other one is kept.
     pub(crate) fn replace(&mut self, index: usize, text: &[u8])
         requires index { index < length self.old.texts }
-        requires short { length text.now < 2 ^ 16 }
         requires room { used self.old + length text.now ≤ self.old.room + length (slice_index_or self.old.texts index []) }
         ensures { self.new ≡ record self.old { texts = slice_set self.old.texts index text.now } }
     {
-        replace_at(&mut self.lens, &mut self.octets, index, text);
+        replace_at(&mut self.spans, &mut self.octets, index, text);
     }
 }
