@@ -1,5 +1,5 @@
 //! The answers that show pages, as rows of characters.
-ghost use Rattle.std.specs.Prelude.{◌≡◌, ◌<◌, ◌-◌, ◌==◌, ◌++◌, ◌∷◌, [], OnOk, IfOk, List, Option, Some, map};
+ghost use Rattle.std.specs.Prelude.{◌≡◌, ◌<◌, ◌-◌, ◌==◌, ◌++◌, ◌∷◌, [], OnOk, IfOk, List, Option, Some, length, map};
 ghost use Rattle.std.specs.Int.{bit_at};
 ghost use Rattle.std.specs.List.{range_with_len};
 ghost use Rattle.page_plane.specs.Plane.{is_lit};
@@ -69,14 +69,20 @@ impl Shower {
 /// The most octets of a row of pixels.
 const MAX_ROW: usize = 128;
 
-/// Appends a pixel row as a line.
-fn push_row(text: &mut Vec<u8>, plane: &Plane, row: u16) -> Result<(), AllocError>
-    requires { row < plane.now.height }
-    ensures { OnOk result (text.new.items ≡ text.old.items ++ row_text (is_lit plane.now) plane.now.width row) }
+/// Appends a pixel row as a line. Its pixels are written in `pixels` first.
+fn push_row(
+    text: &mut Vec<u8>,
+    pixels: &mut [[u8; 8]],
+    plane: &Plane,
+    row: u16,
+) -> Result<(), AllocError>
+    requires row { row < plane.now.height }
+    requires room { length pixels.old ≡ 128 }
+    ensures row { OnOk result (text.new.items ≡ text.old.items ++ row_text (is_lit plane.now) plane.now.width row) }
+    ensures room { length pixels.new ≡ 128 }
 {
     let width = usize::from(plane.width());
-    let mut pixels = [[0; 8]; MAX_ROW];
-    write_pixels(&mut pixels, plane.row(row));
+    write_pixels(pixels, plane.row(row));
     push_octets(text, &pixels.as_flattened()[..width])?;
     push_octet(text, b'\n')
 }
@@ -85,8 +91,9 @@ fn push_row(text: &mut Vec<u8>, plane: &Plane, row: u16) -> Result<(), AllocErro
 pub(crate) fn push_rows(text: &mut Vec<u8>, plane: &Plane) -> Result<(), AllocError>
     ensures { OnOk result (text.new.items ≡ text.old.items ++ rows_text (is_lit plane.now) plane.now.width plane.now.height) }
 {
+    let mut pixels = [[0; 8]; MAX_ROW];
     for row in 0..plane.height() {
-        push_row(text, plane, row)?;
+        push_row(text, &mut pixels, plane, row)?;
     }
     Ok(())
 }

@@ -7,8 +7,8 @@ use Rattle.signctl.proofs.show.push_row.Goals as goal
 pub write_pixels-requires : goal.write_pixels-requires
 write_pixels-requires c = record { room = omega (arith, c.row.ensures.count, c.width.ensures.value, c.width.ensures.range) }
 
-pub returns : goal.returns
-returns c =
+pub returns-clause-row : goal.returns-clause-row
+returns-clause-row c =
     let old = c.args.text.now.items in
     let width = c.args.plane.now.width in
     let pixels = FrameLemmas.row_of_pixels (is_lit c.args.plane.now) c.write_pixels.new.pixels c.row.result.now c.as_flattened.result.now width c.args.row _ c.row.ensures.count c.row.ensures.pixels c.as_flattened.ensures.value c.write_pixels.ensures.written in

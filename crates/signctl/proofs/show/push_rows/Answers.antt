@@ -10,4 +10,4 @@ loop-row-init c =
 
 pub loop-row-preserved : goal.loop-row-preserved
 loop-row-preserved c =
-    FrameLemmas.grown _ _ _ _ _ _ c.loop-row.invariant c.in_ok-push_row.ensures (FrameLemmas.rows_more (is_lit c.args.plane.now) c.args.plane.now.width c.loop-row.row)
+    FrameLemmas.grown _ _ _ _ _ _ c.loop-row.invariant c.in_ok-push_row.ensures.row (FrameLemmas.rows_more (is_lit c.args.plane.now) c.args.plane.now.width c.loop-row.row)
