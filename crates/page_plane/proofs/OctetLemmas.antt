@@ -1,13 +1,13 @@
 -- Bits of octets after a write, and in a part.
 use Rattle.std.proofs.Common.{◌≡◌, ◌≢◌, ℕ, ◌<◌, ◌≤◌, ◌+◌, ◌-◌, ◌*◌, ◌/◌, ◌%◌, Bool, true, false, ◌==◌, ◌&&◌, nat_lt, if◌then◌else◌, List, length, set, get_or, slice_index, take, drop, replicate, refl, sym, ap, ◌∙◌, inl, inr, arith}
 use Rattle.std.specs.Int.{bit_at}
-use Rattle.std.proofs.lemmas.Bool.{lt-ltb, le-ltb, eq-eqb, cases_lt, cases_eq}
-use Rattle.std.proofs.lemmas.Nat.{mod-mul-add}
+use Rattle.std.proofs.lemmas.Bool.{and_right, lt-ltb, le-ltb, eq-eqb, ne_eqb, cases_lt, cases_eq}
+use Rattle.std.proofs.lemmas.Nat.{mod-mul-add, div-mul-add}
 use Rattle.std.proofs.lemmas.Nat.Bits.{bit_at-zero, bit_at_ones}
 use Rattle.std.proofs.lemmas.List.{get_or-set_same, get_or-set_other, get_or_past, get_or-take, get_or-drop, get_or-replicate, length-replicate, length-set}
 use Rattle.page_plane.specs.Octets.{row_octets, is_bit_set, bit_place}
-use Rattle.page_plane.specs.Put.{is_put, IsBlockPutAt}
-use Rattle.page_plane.proofs.PutLemmas.{put_moved, put_left, put_right, put_place, put_elsewhere, first_none, first_below, first_here, first_other}
+use Rattle.page_plane.specs.Put.{is_put, is_first_put, IsBlockPutAt, IsStripPutAt}
+use Rattle.page_plane.proofs.PutLemmas.{put_one_row, first_left, first_right, first_none, first_below, first_here, first_other}
 
 -- a write changes the bits of its octet alone
 pub set_here : (octets : List ℕ) (at octet place : ℕ) → at < length octets → place / 8 ≡ at → is_bit_set (set octets at octet) place ≡ (bit_at octet (7 - place % 8) == 1)
@@ -95,70 +95,76 @@ ended_more octets width y last some room bits before place within =
       ]
     ]
 
--- ROWS THAT ARE PUT
+-- ROWS THAT ARE PUT, ONE OCTET OF EACH ROW OF OCTETS AFTER THE OTHER
 
--- the bits of the first places are those under the row, and all others are as before
-abbrev pub IsPutBelow : List ℕ → List ℕ → ℕ → ℕ → ℕ → Bool → ℕ → Type 0
-IsPutBelow old new place width bits on end = (i : ℕ)
-    → is_bit_set new i ≡ (if nat_lt i end && is_put place 0 width bits i 0 then on else is_bit_set old i)
-
-pub put_none : (old : List ℕ) (first shift width bits : ℕ) (on : Bool) → IsPutBelow old old (8 * first + shift) width bits on (8 * first)
-put_none old first shift width bits on i = elim (cases_lt i (8 * first)) [
-  | inl h ↦ rw (lt-ltb i (8 * first) h, put_left (8 * first + shift) 0 width bits i 0 (omega arith)) refl
-  | inr h ↦ rw (le-ltb i (8 * first) h) refl
-]
-
--- one octet more
-pub put_more : (old now : List ℕ) (first shift k place width bits row part was octet : ℕ) (on : Bool)
-    → place ≡ 8 * first + shift → first + k < length now → k < 16
-    → was ≡ get_or now (first + k) 0
-    → ((i : ℕ) → i < 128 → (bit_at row (127 - i) == 1) ≡ is_put shift 0 width bits i 0)
-    → ((j : ℕ) → j < 8 → bit_at part (7 - j) ≡ bit_at row (127 - (8 * k + j)))
-    → ((i : ℕ) → i < 8 → (bit_at octet i == 1) ≡ (if bit_at part i == 1 then on else bit_at was i == 1))
-    → IsPutBelow old now place width bits on (8 * (first + k))
-    → IsPutBelow old (set now (first + k) octet) place width bits on (8 * (first + (k + 1)))
-put_more old now first shift k place width bits row part was octet on at h few read rows parts painted before i = elim (cases_eq (i / 8) (first + k)) [
-  | inl e ↦
-      let j = i % 8 in
-      let there : i ≡ 8 * first + (8 * k + j) = omega arith in
-      let under : (bit_at part (7 - j) == 1) ≡ is_put place 0 width bits i 0 =
-      ap (λ b. b == 1) (parts j (omega arith)) ∙ rows (8 * k + j) (omega arith)
-      ∙ sym (put_moved (8 * first) shift 0 width bits (8 * k + j) 0) ∙ ap (λ p. is_put p 0 width bits (8 * first + (8 * k + j)) 0) (sym at) ∙ ap (λ c. is_put place 0 width bits c 0) (sym there) in
-      let kept : (bit_at was (7 - j) == 1) ≡ is_bit_set old i =
-      sym (bit_of now (first + k) was i e read) ∙ (before i ∙ rw (le-ltb i (8 * (first + k)) (omega arith)) refl) in
-      set_here now (first + k) octet i h e ∙ (painted (7 - j) (omega arith) ∙ rw (under, kept, lt-ltb i (8 * (first + (k + 1))) (omega arith)) refl)
-  | inr n ↦ set_elsewhere now (first + k) octet i n ∙ (before i ∙ elim (cases_lt i (8 * (first + k))) [
-    | inl l ↦ rw (lt-ltb i (8 * (first + k)) l, lt-ltb i (8 * (first + (k + 1))) (omega arith)) refl
-    | inr g ↦ rw (le-ltb i (8 * (first + k)) g, le-ltb i (8 * (first + (k + 1))) (omega arith)) refl
-  ])
-]
-
--- past the row nothing is put
-pub put_all : (old new : List ℕ) (place width bits end : ℕ) (on : Bool) → place + width ≤ end → IsPutBelow old new place width bits on end
-    → (i : ℕ) → is_bit_set new i ≡ (if is_put place 0 width bits i 0 then on else is_bit_set old i)
-put_all old new place width bits end on h all i = all i ∙ elim (cases_lt i end) [
-  | inl l ↦ rw (lt-ltb i end l) refl
-  | inr g ↦ rw (le-ltb i end g, put_right place 0 width bits i 0 (omega arith)) refl
-]
-
--- ROWS ONE UNDER THE OTHER
-
--- what a put row makes of the bits
-abbrev pub IsPutAt : List ℕ → List ℕ → ℕ → ℕ → ℕ → Bool → Type 0
-IsPutAt old new place width bits on = (i : ℕ) → is_bit_set new i ≡ (if is_put place 0 width bits i 0 then on else is_bit_set old i)
-
-pub block_none : (octets : List ℕ) (columns x y width : ℕ) (rows : List ℕ) (on : Bool) → IsBlockPutAt octets octets columns x y width rows 0 on
-block_none octets columns x y width rows on column row within = rw (first_none x y width rows column row) refl
+pub strip_none : (octets : List ℕ) (columns strip x y width : ℕ) (rows : List ℕ) (on : Bool) → IsStripPutAt octets octets columns strip x y width rows 0 on
+strip_none octets columns strip x y width rows on column row within = rw (and_right (column / 8 == strip) (is_first_put x y width rows 0 column row) (first_none x y width rows column row)) refl
 
 -- one row more
-pub block_more : (old now new : List ℕ) (columns x y width : ℕ) (rows : List ℕ) (count bits : ℕ) (on : Bool) → x + width ≤ columns → bits ≡ slice_index rows count
-    → IsPutAt now new (bit_place columns x (y + count)) width bits on
-    → IsBlockPutAt old now columns x y width rows count on → IsBlockPutAt old new columns x y width rows (count + 1) on
-block_more old now new columns x y width rows count bits on inside is put before column row within =
+pub strip_more : (old now : List ℕ) (columns strip x y width : ℕ) (rows : List ℕ) (count at bits part was octet : ℕ) (on : Bool)
+    → strip < row_octets columns → at ≡ (y + count) * row_octets columns + strip → at < length now
+    → bits ≡ slice_index rows count → was ≡ get_or now at 0
+    → ((j : ℕ) → j < 8 → (bit_at part (7 - j) == 1) ≡ is_put x 0 width bits (8 * strip + j) 0)
+    → ((i : ℕ) → i < 8 → (bit_at octet i == 1) ≡ (if bit_at part i == 1 then on else bit_at was i == 1))
+    → IsStripPutAt old now columns strip x y width rows count on → IsStripPutAt old (set now at octet) columns strip x y width rows (count + 1) on
+strip_more old now columns strip x y width rows count at bits part was octet on inside here h is read parts painted before column row within =
+    let len = row_octets columns in
     let place = bit_place columns column row in
-    put place ∙ rw (put_place columns x (y + count) width bits column row inside within) (elim (cases_eq row (y + count)) [
+    let of : place / 8 ≡ row * len + column / 8 = omega arith in
+    elim (cases_eq (place / 8) at) [
       | inl e ↦
-          let kept : is_bit_set now place ≡ is_bit_set old place = before column row within ∙ rw (first_below x y width rows count column row (omega arith)) refl in
-          rw (kept, first_here x y width rows count column row e, is) refl
-      | inr n ↦ rw (put_elsewhere x (y + count) width bits column row n, first_other x y width rows count column row n) (before column row within)
-    ])
+          let same : row * len + column / 8 ≡ (y + count) * len + strip = omega arith in
+          let at_row : row ≡ y + count = sym (div-mul-add row len (column / 8) (omega arith)) ∙ ap (λ n. n / len) same ∙ div-mul-add (y + count) len strip inside in
+          let at_strip : column / 8 ≡ strip = sym (mod-mul-add row len (column / 8) (omega arith)) ∙ ap (λ n. n % len) same ∙ mod-mul-add (y + count) len strip inside in
+          let j = place % 8 in
+          let there : 8 * strip + j ≡ column = omega arith in
+          let under : (bit_at part (7 - j) == 1) ≡ is_first_put x y width rows (count + 1) column row =
+          parts j (omega arith) ∙ ap (λ c. is_put x 0 width bits c 0) there ∙ put_one_row x 0 (y + count) width bits column
+          ∙ ap (λ b. is_put x (y + count) width b column (y + count)) is ∙ ap (λ r. is_put x (y + count) width (slice_index rows count) column r) (sym at_row)
+          ∙ sym (first_here x y width rows count column row at_row) in
+          let kept : (bit_at was (7 - j) == 1) ≡ is_bit_set old place =
+          sym (bit_of now at was place e read) ∙ (before column row within ∙ rw (first_below x y width rows count column row (omega arith), and_right (column / 8 == strip) false refl) refl) in
+          set_here now at octet place h e ∙ (painted (7 - j) (omega arith) ∙ rw (under, kept, eq-eqb (column / 8) strip at_strip) refl)
+      | inr n ↦ set_elsewhere now at octet place n ∙ (before column row within ∙ elim (cases_eq (column / 8) strip) [
+        | inl c ↦
+            let other : row ≢ y + count = λ e. n (of ∙ rw (e, c) (sym here)) in
+            rw (first_other x y width rows count column row other) refl
+        | inr c ↦ rw (ne_eqb (column / 8) strip c) refl
+      ])
+    ]
+
+-- the bits of the first columns are those under the rows, and all others are as before
+abbrev pub IsPutLeftOf : List ℕ → List ℕ → ℕ → ℕ → ℕ → ℕ → List ℕ → Bool → ℕ → Type 0
+IsPutLeftOf old new columns x y width rows on end = (column row : ℕ) → column < 8 * row_octets columns
+    → is_bit_set new (bit_place columns column row)
+    ≡ (if nat_lt column end && is_first_put x y width rows (length rows) column row then on else is_bit_set old (bit_place columns column row))
+
+pub left_none : (octets : List ℕ) (columns x y width : ℕ) (rows : List ℕ) (on : Bool) (end : ℕ) → end ≤ x → IsPutLeftOf octets octets columns x y width rows on end
+left_none octets columns x y width rows on end h column row within = elim (cases_lt column end) [
+  | inl l ↦ rw (first_left x y width rows (length rows) column row (omega arith), and_right (nat_lt column end) false refl) refl
+  | inr g ↦ rw (le-ltb column end g) refl
+]
+
+-- one octet of each row of octets more
+pub left_more : (old now new : List ℕ) (columns strip x y width : ℕ) (rows : List ℕ) (on : Bool)
+    → IsStripPutAt now new columns strip x y width rows (length rows) on
+    → IsPutLeftOf old now columns x y width rows on (8 * strip) → IsPutLeftOf old new columns x y width rows on (8 * (strip + 1))
+left_more old now new columns strip x y width rows on put before column row within =
+    put column row within ∙ elim (cases_eq (column / 8) strip) [
+      | inl e ↦
+          let kept : is_bit_set now (bit_place columns column row) ≡ is_bit_set old (bit_place columns column row) =
+          before column row within ∙ rw (le-ltb column (8 * strip) (omega arith)) refl in
+          rw (eq-eqb (column / 8) strip e, lt-ltb column (8 * (strip + 1)) (omega arith), kept) refl
+      | inr n ↦ rw (ne_eqb (column / 8) strip n) (before column row within ∙ elim (cases_lt column (8 * strip)) [
+        | inl l ↦ rw (lt-ltb column (8 * strip) l, lt-ltb column (8 * (strip + 1)) (omega arith)) refl
+        | inr g ↦ rw (le-ltb column (8 * strip) g, le-ltb column (8 * (strip + 1)) (omega arith)) refl
+      ])
+    ]
+
+-- to the right of the rows nothing is put
+pub left_all : (old new : List ℕ) (columns x y width : ℕ) (rows : List ℕ) (on : Bool) (end : ℕ) → x + width ≤ end
+    → IsPutLeftOf old new columns x y width rows on end → IsBlockPutAt old new columns x y width rows (length rows) on
+left_all old new columns x y width rows on end h all column row within = all column row within ∙ elim (cases_lt column end) [
+  | inl l ↦ rw (lt-ltb column end l) refl
+  | inr g ↦ rw (le-ltb column end g, first_right x y width rows (length rows) column row (omega arith)) refl
+]

@@ -1,8 +1,6 @@
 -- Where the pixels of a row come to.
-use Rattle.std.proofs.Common.{List, [], ◌∷◌, slice_index, ◌≡◌, ◌≢◌, ℕ, ◌<◌, ◌≤◌, ◌+◌, ◌-◌, ◌*◌, false, refl, sym, ◌∙◌, inl, inr, arith}
-use Rattle.std.proofs.lemmas.Bool.{and_right, lt-ltb, le-ltb, le-leb, lt-leb, eq-eqb, ne_eqb, cases_lt, cases_eq, cases_order}
-use Rattle.std.proofs.Math.Nat.{mul-le-mul_right}
-use Rattle.page_plane.specs.Octets.{row_octets, bit_place}
+use Rattle.std.proofs.Common.{List, [], ◌∷◌, slice_index, ◌≡◌, ◌≢◌, ℕ, ◌<◌, ◌≤◌, ◌+◌, ◌-◌, false, refl, sym, ◌∙◌, inl, inr, arith}
+use Rattle.std.proofs.lemmas.Bool.{and_right, lt-ltb, le-ltb, le-leb, lt-leb, eq-eqb, ne_eqb, cases_lt, cases_eq}
 use Rattle.page_plane.specs.Put.{is_row_set, is_put, is_first_put, is_block_put}
 
 -- pixel j of the row comes to column x + j of row y
@@ -31,43 +29,21 @@ put_right x y width bits column row h = elim (cases_eq row y) [
   | inr n ↦ rw (ne_eqb row y n) refl
 ]
 
--- the same, so many columns on
-pub put_moved : (n x y width bits column row : ℕ) → is_put (n + x) y width bits (n + column) row ≡ is_put x y width bits column row
-unfolding is_put
-put_moved n x y width bits column row =
-    let there : n + column - (n + x) ≡ column - x = omega arith in
-    elim (cases_lt column x) [
-      | inl h ↦ put_left (n + x) y width bits (n + column) row (omega arith) ∙ sym (put_left x y width bits column row h)
-      | inr h ↦ elim (cases_lt column (x + width)) [
-        | inl l ↦ rw (le-leb x column h, le-leb (n + x) (n + column) (omega arith), lt-ltb column (x + width) l, lt-ltb (n + column) (n + x + width) (omega arith), there) refl
-        | inr r ↦ put_right (n + x) y width bits (n + column) row (omega arith) ∙ sym (put_right x y width bits column row r)
-      ]
-    ]
-
 -- the row number doesn't matter where both are one
 pub put_one_row : (x y z width bits column : ℕ) → is_put x y width bits column y ≡ is_put x z width bits column z
 unfolding is_put
 put_one_row x y z width bits column = rw (eq-eqb y y refl, eq-eqb z z refl) refl
 
--- a row inside a plane, by places
-pub put_place : (w x y width bits column row : ℕ) → x + width ≤ w → column < 8 * row_octets w
-    → is_put (bit_place w x y) 0 width bits (bit_place w column row) 0 ≡ is_put x y width bits column row
-put_place w x y width bits column row inside within = elim (cases_order row y) [
-  | inl same ↦ rw same (put_moved (8 * (y * row_octets w)) x 0 width bits column 0 ∙ put_one_row x 0 y width bits column)
-  | inr (inl above) ↦
-      let rows : (row + 1) * row_octets w ≤ y * row_octets w = mul-le-mul_right (row_octets w) (omega arith) in
-      put_left (bit_place w x y) 0 width bits (bit_place w column row) 0 (omega arith) ∙ sym (put_elsewhere x y width bits column row (λ e. absurd (omega arith)))
-  | inr (inr below) ↦
-      let rows : (y + 1) * row_octets w ≤ row * row_octets w = mul-le-mul_right (row_octets w) (omega arith) in
-      put_right (bit_place w x y) 0 width bits (bit_place w column row) 0 (omega arith) ∙ sym (put_elsewhere x y width bits column row (λ e. absurd (omega arith)))
-]
-
 -- ROWS ONE UNDER THE OTHER
 
--- nothing comes past the last of the first rows, or to the right of their last pixels
+-- nothing comes past the last of the first rows, to the left of column x, or to the right of their last pixels
 pub first_below : (x y width : ℕ) (rows : List ℕ) (count column row : ℕ) → y + count ≤ row → is_first_put x y width rows count column row ≡ false
 unfolding is_first_put
 first_below x y width rows count column row h = rw (le-leb y row (omega arith), le-ltb row (y + count) h) refl
+
+pub first_left : (x y width : ℕ) (rows : List ℕ) (count column row : ℕ) → column < x → is_first_put x y width rows count column row ≡ false
+unfolding is_first_put
+first_left x y width rows count column row h = and_right _ _ (and_right _ _ (put_left x row width (slice_index rows (row - y)) column row h))
 
 pub first_right : (x y width : ℕ) (rows : List ℕ) (count column row : ℕ) → x + width ≤ column → is_first_put x y width rows count column row ≡ false
 unfolding is_first_put

@@ -1,5 +1,5 @@
 -- Rows of up to 64 pixels that are put into a plane, alone or one under the other.
-use Rattle.std.specs.Prelude.{◌≡◌, ◌<◌, ℕ, ◌+◌, ◌-◌, ◌*◌, Bool, if◌then◌else◌, ◌&&◌, ◌==◌, nat_lt, nat_le, List, length, slice_index}
+use Rattle.std.specs.Prelude.{◌≡◌, ◌<◌, ℕ, ◌+◌, ◌-◌, ◌*◌, ◌/◌, Bool, if◌then◌else◌, ◌&&◌, ◌==◌, nat_lt, nat_le, List, length, slice_index}
 use Rattle.std.specs.Int.{bit_at}
 use Rattle.page_plane.specs.Octets.{row_octets, is_bit_set, bit_place}
 
@@ -27,3 +27,10 @@ is_block_put x y width rows column row = is_first_put x y width rows (length row
 abbrev pub IsBlockPutAt : List ℕ → List ℕ → ℕ → ℕ → ℕ → ℕ → List ℕ → ℕ → Bool → Type 0
 IsBlockPutAt old new columns x y width rows count on = (column row : ℕ) → column < 8 * row_octets columns
     → is_bit_set new (bit_place columns column row) ≡ (if is_first_put x y width rows count column row then on else is_bit_set old (bit_place columns column row))
+
+-- the bits of this octet of each row of octets under the set pixels of the first of these rows are on, and all others are as
+-- before (own)
+abbrev pub IsStripPutAt : List ℕ → List ℕ → ℕ → ℕ → ℕ → ℕ → ℕ → List ℕ → ℕ → Bool → Type 0
+IsStripPutAt old new columns strip x y width rows count on = (column row : ℕ) → column < 8 * row_octets columns
+    → is_bit_set new (bit_place columns column row)
+    ≡ (if (column / 8 == strip) && is_first_put x y width rows count column row then on else is_bit_set old (bit_place columns column row))

@@ -1,9 +1,9 @@
 //! Bits in octets: eight places an octet, from its highest bit on.
 
-ghost use Rattle.std.specs.Prelude.{◌≡◌, ℕ, ◌+◌, ◌-◌, ◌*◌, ◌/◌, ◌%◌, ◌<◌, ◌≤◌, ◌==◌, ◌&&◌, nat_lt, if◌then◌else◌, length, replicate};
+ghost use Rattle.std.specs.Prelude.{◌≡◌, ℕ, ◌+◌, ◌-◌, ◌*◌, ◌/◌, ◌%◌, ◌<◌, ◌≤◌, ◌==◌, ◌&&◌, min, nat_le, nat_lt, if◌then◌else◌, length, replicate};
 ghost use Rattle.std.specs.Int.{bit_at};
 ghost use Rattle.page_plane.specs.Octets.{row_octets, is_bit_set, bit_place};
-ghost use Rattle.page_plane.specs.Put.{is_row_set, is_put, IsBlockPutAt};
+ghost use Rattle.page_plane.specs.Put.{IsBlockPutAt, IsStripPutAt};
 
 /// The octets of a row of this width in pixels.
 pub(crate) fn row_len(width: u16) -> usize
@@ -76,59 +76,64 @@ pub(crate) fn put_rows(
     ensures pixels { IsBlockPutAt octets.old octets.new columns x y width rows.now (length rows.now) on }
     ensures len { length octets.new ≡ length octets.old }
 {
-    let len = row_len(columns);
-    let shift = (x % 8) as u8;
-    let mut first = usize::from(y) * len + usize::from(x / 8);
-    for bits in rows {
-        put_bits(octets, first, shift, width, *bits, on);
-        first += len;
+    let first = usize::from(x) / 8;
+    let end = (usize::from(x) + usize::from(width) + 7) / 8;
+    for strip in first..end {
+        put_strip(octets, columns, x, y, width, rows, on, strip);
     }
 }
 
-/// Sets the bits from bit `shift` of an octet on that stand under the set bits among the first `width` of a row, whose first
-/// bit is bit 63.
-fn put_bits(octets: &mut [u8], first: usize, shift: u8, width: u8, bits: u64, on: bool)
-    requires shift { shift < 8 }
+/// Puts what comes of these rows to octet `strip` of each row of octets. Some of their columns must stand there. What turns and
+/// masks a row for this octet is worked out once for all rows.
+fn put_strip(
+    octets: &mut [u8],
+    columns: u16,
+    x: u16,
+    y: u16,
+    width: u8,
+    rows: &[u64],
+    on: bool,
+    strip: usize,
+)
     requires width { width ≤ 64 }
-    requires room { 8 * first + shift + width ≤ 8 * length octets.old }
-    ensures bits { (i : ℕ)
-        → is_bit_set octets.new i ≡ (if is_put (8 * first + shift) 0 width bits i 0 then on else is_bit_set octets.old i) }
+    requires column { x + width ≤ columns }
+    requires room { row_octets columns * (y + length rows.now) ≤ length octets.old }
+    requires left { 8 * strip < x + width }
+    requires right { x < 8 * strip + 8 }
+    ensures pixels { IsStripPutAt octets.old octets.new columns strip x y width rows.now (length rows.now) on }
     ensures len { length octets.new ≡ length octets.old }
 {
-    let row = moved_row(bits, width, shift);
-    let count = usize::from((shift + width + 7) / 8);
-    for k in 0..count {
-        octets[first + k] = painted(octets[first + k], octet_of(row, k), on);
+    let len = row_len(columns);
+    let turn = (8 * strip + 8 - usize::from(x)) as u32;
+    let mask = strip_mask(x, width, strip);
+    let mut at = usize::from(y) * len + strip;
+    for bits in rows {
+        octets[at] = painted(octets[at], part_of(*bits, turn, mask), on);
+        at += len;
     }
 }
 
-/// `shift` clear bits and then the first `width` bits of a row, from bit 127 on.
-fn moved_row(bits: u64, width: u8, shift: u8) -> u128
-    requires width { width ≤ 64 }
-    requires shift { shift < 8 }
-    ensures { (i : ℕ) → i < 128 → (bit_at result (127 - i) == 1) ≡ is_put shift 0 width bits i 0 }
+/// The bits of octet `strip` of a row of octets that lie under a row of this width at column `x`.
+fn strip_mask(x: u16, width: u8, strip: usize) -> u8
+    requires left { 8 * strip < x + width }
+    requires right { x < 8 * strip + 8 }
+    ensures { (j : ℕ) → j < 8 → (bit_at result (7 - j) == 1) ≡ (nat_le x (8 * strip + j) && nat_lt (8 * strip + j) (x + width)) }
 {
-    u128::from(first_bits(bits, width)) << (64 - shift)
+    let start = usize::from(x);
+    let before = start.saturating_sub(8 * strip);
+    let after = (8 * strip + 8).saturating_sub(start + usize::from(width));
+    u8::MAX >> before & u8::MAX << after
 }
 
-/// The first `width` bits of a row, and then clear bits.
-fn first_bits(bits: u64, width: u8) -> u64
-    requires { width ≤ 64 }
-    ensures { (j : ℕ) → j < 64 → is_row_set result j ≡ (nat_lt j width && is_row_set bits j) }
+/// The lowest octet of a row that is turned to the left, under a mask. Its highest bit is for pixel `turn - 8` of the row, and
+/// each bit below for the next one's. The mask hides the bits for which the row has no pixel.
+fn part_of(bits: u64, turn: u32, mask: u8) -> u8
+    requires { turn < 72 }
+    ensures shown { (j : ℕ) → j < 8 → 8 ≤ turn + j → turn + j < 72
+        → bit_at result (7 - j) ≡ min (bit_at mask (7 - j)) (bit_at bits (71 - (turn + j))) }
+    ensures hidden { (j : ℕ) → j < 8 → bit_at mask (7 - j) ≡ 0 → bit_at result (7 - j) ≡ 0 }
 {
-    if width == 0 {
-        return 0;
-    }
-    let past = 64 - width;
-    bits >> past << past
-}
-
-/// Octet `k` of 128 bits, from bit 127 on.
-fn octet_of(bits: u128, k: usize) -> u8
-    requires { k < 16 }
-    ensures { (j : ℕ) → j < 8 → bit_at result (7 - j) ≡ bit_at bits (127 - (8 * k + j)) }
-{
-    (bits >> (120 - 8 * k) & 0xff) as u8
+    (bits.rotate_left(turn) & 0xff) as u8 & mask
 }
 
 /// An octet with the set bits of `part` made `on`, and the others kept.

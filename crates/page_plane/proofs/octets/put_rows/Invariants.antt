@@ -1,10 +1,9 @@
-use Rattle.std.proofs.Common.{◌≡◌, ◌+◌, ◌*◌, ◌/◌, length}
-use Rattle.page_plane.specs.Put.{IsBlockPutAt}
+use Rattle.std.proofs.Common.{◌≡◌, ◌*◌, length}
+use Rattle.page_plane.proofs.OctetLemmas.{IsPutLeftOf}
 use Rattle.page_plane.proofs.octets.put_rows.Given as goal
 
-abbrev pub invariant-loop-bits : goal.invariant-loop-bits
-invariant-loop-bits l = record {
+abbrev pub invariant-loop-strip : goal.invariant-loop-strip
+invariant-loop-strip l = record {
   size : length l.octets ≡ length l.initial.octets;
-  at : l.first ≡ (l.y + l.bits-index) * l.len + l.x / 8;
-  put : IsBlockPutAt l.initial.octets l.octets l.columns l.x l.y l.width l.rows l.bits-index l.on;
+  put : IsPutLeftOf l.initial.octets l.octets l.columns l.x l.y l.width l.rows l.on (8 * l.strip);
 }
