@@ -27,17 +27,20 @@ use Rattle.multi_layout.specs.KnownItem.{meant_by}
 use Rattle.multi_layout.specs.Line.{height_of}
 use Rattle.multi_layout.specs.Meaning.{Meaning, Shows, Does, Faulty, EndsArea, begins_area, meaning}
 use Rattle.multi_layout.specs.Passes.{HasEnded, HasCounted, HasRoom, IsAreaRead, IsLow, BeginsNoArea, ends_line, first_steps, whole_area}
+use Rattle.multi_layout.specs.Run.{kept_group, kept_height}
 use Rattle.multi_layout.specs.State.{IsStateOf, present_area}
 use Rattle.multi_layout.specs.Sums.{IsBelow, IsPlacing, area_sum, group_sum, ended_lines}
-use Rattle.multi_layout.specs.Table.{group_lines, table_of}
+use Rattle.multi_layout.specs.Table.{IsNarrowArea, group_lines, table_of}
 use Rattle.multi_layout.specs.Verdict.{fault_at, offences}
 use Rattle.multi_layout.specs.Walk.{IsBetween, IsFirst, IsRead}
 use Rattle.multi_layout.proofs.AreaSumLemmas.{area_placing}
 use Rattle.multi_layout.proofs.DrawnLemmas.{area_ends}
-use Rattle.multi_layout.proofs.GroupSumLemmas.{own_group}
+use Rattle.multi_layout.proofs.GroupSumLemmas.{own_group, placing_group}
 use Rattle.multi_layout.proofs.JudgedLemmas.{below_more}
+use Rattle.multi_layout.proofs.NarrowLemmas.{narrow_area}
 use Rattle.multi_layout.proofs.PlaceLemmas.{ended_most}
 use Rattle.multi_layout.proofs.RoomLemmas as room_lemmas
+use Rattle.multi_layout.proofs.RunLemmas.{kept_group_is, kept_height_is}
 use Rattle.multi_layout.proofs.StandingLemmas.{standing_push}
 use Rattle.multi_layout.proofs.StateLemmas.{present_area-placing, present_area-nothing, present_area-cover}
 use Rattle.multi_layout.proofs.TableLemmas.{open_entry, table_length, ended_break, ended_glyph, table_break, lines_open, table_open, table_closed}
@@ -235,6 +238,14 @@ module _ (sign : SignData) (items : List Meaning) where
 
 -- AN ACCEPTED STRING
 
+-- a group is at least as high as its ended lines
+closed_most : (group : Group) → group.closed ≤ kept_height group
+closed_most group = by_any group.line.any refl
+  where
+    by_any : (b : Bool) → group.line.any ≡ b → group.closed ≤ kept_height group
+    by_any true some = rw some (omega arith)
+    by_any false none = rw none (omega arith)
+
 -- what the present area has is placing items
 pub present_placing : (sign : SignData) (items : List Meaning) → All IsPlacing (present_area sign items)
 present_placing sign items = area_placing (spots sign items) (record { at = standing sign items; put = Break None })
@@ -245,6 +256,33 @@ pub present_room : {sign : SignData} {octets : List ℕ} {before behind : List I
 present_room {sign} {octets} {before} {behind} {cursor} sound b =
     let none : offences sign before ≡ [] = left_nil (offences sign before) _ (sym (some_after-append (fault_at sign) before behind) ∙ b.accepted.none) in
     room_lemmas.room sign sound sound.font before none
+
+-- its present lines are narrow, and its groups not high
+pub present_narrow : {sign : SignData} {octets : List ℕ} {before behind : List Item} {cursor : Cursor} → IsSound sign → IsBetween sign octets before behind cursor
+    → IsNarrowArea (present_area sign (map meaning before))
+present_narrow {sign} {octets} {before} {behind} {cursor} sound b =
+    narrow_area sign sound before (left_nil (offences sign before) _ (sym (some_after-append (fault_at sign) before behind) ∙ b.accepted.none))
+
+-- so its ended lines aren't high
+pub closed_low : {sign : SignData} {octets : List ℕ} {before behind : List Item} {cursor : Cursor} → IsSound sign → IsBetween sign octets before behind cursor → (just : ℕ) → 2 ≤ just → just ≤ 4
+    → (kept_group just cursor.state.area).closed ≤ 1024
+closed_low {sign} {octets} {before} {behind} {cursor} sound b just low high =
+    let spots = present_area sign (map meaning before) in
+    let group = kept_group just cursor.state.area in
+    let sum = kept_group_is spots cursor.state.area just b.state_is.area low high in
+    let is = kept_height_is (in_group just spots) group (placing_group just spots (present_placing sign (map meaning before))) sum in
+    let tall = (present_narrow sound b just low high).1 in
+    let most : group.closed ≤ kept_height group = closed_most group in
+    omega (arith, most, is, tall)
+
+-- so has the area behind one more item
+pub room_behind : {sign : SignData} {octets : List ℕ} {before rest : List Item} {item : Item} {cursor : Cursor} → IsSound sign → IsBetween sign octets before (item ∷ rest) cursor
+    → HasRoom (present_area sign (map meaning (before ++ item ∷ [])))
+room_behind {sign} {octets} {before} {rest} {item} {cursor} sound b =
+    let all : (before ++ item ∷ []) ++ rest ≡ before ++ item ∷ rest = append_assoc before (item ∷ []) rest in
+    let none : offences sign (before ++ item ∷ []) ≡ [] =
+    left_nil (offences sign (before ++ item ∷ [])) _ (sym (some_after-append (fault_at sign) (before ++ item ∷ []) rest) ∙ ap (offences sign) all ∙ b.accepted.none) in
+    room_lemmas.room sign sound sound.font (before ++ item ∷ []) none
 
 -- the sums are small
 pub present_low : {sign : SignData} {octets : List ℕ} {before behind : List Item} {cursor : Cursor} → IsBetween sign octets before behind cursor → IsBelow (2 ^ 42) cursor.state.area
@@ -323,6 +361,17 @@ module _ {sign : SignData} {octets : List ℕ} {before behind : List Item} {curs
             (pass (before ++ so.items) rest item (so_first same' item rest first) read);
       }
 
+  -- if the next item ends a line, there is room for it
+  pub room_next : {octets' : List ℕ} → IsSound sign → octets' ≡ octets → (next : NextItem) → ((before behind : List Item) → IsBetween sign octets' before behind cursor → IsFirst behind (Some next))
+      → ends_line (meant_by next.item) ≡ true → length (group_lines cursor.state.attributes.page_just lines) < 128
+  room_next sound same next found ends =
+      let (item, rest, first, read) = found (before ++ so.items) so.left (so_between same) in
+      let room = room_behind sound (so_first same item rest first) in
+      let grown : map meaning ((before ++ so.items) ++ item ∷ []) ≡ map meaning (before ++ so.items) ++ meant_by next.item ∷ [] =
+      map-append meaning (before ++ so.items) (item ∷ []) ∙ ap (λ m. map meaning (before ++ so.items) ++ m ∷ []) read.meant in
+      ended_room sign (map meaning (before ++ so.items)) cursor.state so.between.state_is (meant_by next.item) ends lines so.ended
+      (subst (λ ms. HasRoom (present_area sign ms)) grown room)
+
   module _ {next : NextItem} {new : Cursor} (p : Passed sign octets before behind cursor lines so next new) where
     -- the cursor goes on, and not past the end
     pub so_advances : new.at ≡ cursor.at + next.len → (cursor.at < new.at) × (new.at ≤ length octets)
@@ -334,12 +383,6 @@ module _ {sign : SignData} {octets : List ℕ} {before behind : List Item} {curs
     -- the state behind the item
     pub state_behind : IsStateOf sign (map meaning (before ++ so.items) ++ meant_by next.item ∷ []) new.state
     state_behind = subst (λ ms. IsStateOf sign ms new.state) grown p.between.state_is
-
-    -- if the item ends a line, there is room for it
-    pub room_on : HasRoom (present_area sign (map meaning ((before ++ so.items) ++ p.item ∷ []))) → ends_line (meant_by next.item) ≡ true → length (group_lines cursor.state.attributes.page_just lines) < 128
-    room_on room ends =
-        ended_room sign (map meaning (before ++ so.items)) cursor.state so.between.state_is (meant_by next.item) ends lines so.ended
-        (subst (λ ms. HasRoom (present_area sign ms)) grown room)
 
     -- one more item
     pub read_on : (lines' : LineTable) → begins_area (meant_by next.item) ≡ false

@@ -16,7 +16,7 @@ module _ {X : Type 0} (p : X → Bool) where
       let same : length (xs ++ x ∷ []) - (1 + n) ≡ length xs - n = omega (arith, length-append xs (x ∷ [])) in
       ap (λ k. drop k (xs ++ x ∷ [])) same ∙ drop-append-le (length xs - n) xs (x ∷ []) (omega arith)
 
-  after_last_push : (xs : List X) (x : X) → after_last p (xs ++ x ∷ []) ≡ cond (p x) [] (after_last p xs ++ x ∷ [])
+  pub after_last_push : (xs : List X) (x : X) → after_last p (xs ++ x ∷ []) ≡ cond (p x) [] (after_last p xs ++ x ∷ [])
   after_last_push xs x =
       ap (λ l. drop (length (xs ++ x ∷ []) - prefix_len (λ x. not (p x)) l) (xs ++ x ∷ [])) (reverse-append xs (x ∷ []))
       ∙ after_if (p x) xs x (suffix_len (λ x. not (p x)) xs) (suffix_len-le-length (λ x. not (p x)) xs)

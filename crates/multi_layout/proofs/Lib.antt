@@ -18,6 +18,7 @@ pub mod LayoutLemmas
 pub mod LineSumLemmas
 pub mod LocateLemmas
 pub mod MeaningLemmas
+pub mod NarrowLemmas
 pub mod OffenceLemmas
 pub mod PageDrawLemmas
 pub mod PagesLemmas
@@ -29,6 +30,8 @@ pub mod PlaceLemmas
 pub mod PlacingLemmas
 pub mod ReadLemmas
 pub mod RoomLemmas
+pub mod RunLemmas
+pub mod RunReadLemmas
 pub mod StandingLemmas
 pub mod StateLemmas
 pub mod TableLemmas

@@ -1,7 +1,7 @@
 -- The sums of a line after one more character.
 use Rattle.std.proofs.Common.{◌≡◌, ℕ, ◌+◌, ◌<◌, ◌≤◌, max, inl, inr, Bool, true, false, cond, ◌&&◌, ◌||◌, ◌==◌, List, [], ◌∷◌, ◌++◌, length, Option, Some, None, refl, sym, ap, ◌∙◌, arith, length-append}
 use Rattle.std.specs.Prelude.{nat_lt}
-use Rattle.std.specs.List.{filter, last_or, list_any, All, AllPass}
+use Rattle.std.specs.List.{filter, last_or, list_any, AllPass}
 use Rattle.std.specs.Option.{unwrap_or, option_map, option_map_or}
 use Rattle.std.proofs.lemmas.Bool.{false≢true, and_right, cases_lt, eq-eqb, le-ltb, lt-ltb, ne_eqb}
 use Rattle.std.proofs.lemmas.List.{append-nil}

@@ -106,7 +106,7 @@ line_high line h =
     let from : Filled High (bearers line) = bearers_if (list_any is_glyph line) line refl h in
     largest_some (λ t. t.at.font.height) (bearers line) from.some from.each
 
-sum_least : {X : Type 0} (f : X → ℕ) (xs : List X) → All (λ x. 1 ≤ f x) xs → length xs ≤ sum_by f xs
+pub sum_least : {X : Type 0} (f : X → ℕ) (xs : List X) → All (λ x. 1 ≤ f x) xs → length xs ≤ sum_by f xs
 sum_least f [] all = omega arith
 sum_least f (x ∷ xs) all = omega (arith, sum_by-cons f x xs, All-head (λ x. 1 ≤ f x) x xs all, sum_least f xs (All-tail (λ x. 1 ≤ f x) x xs all))
 
@@ -122,11 +122,11 @@ lines_most g all =
 pub ended_most : (g : List Spot) → length (ended_lines g) ≤ length (lines_of g)
 ended_most g = rw (length-filter (list_any is_break) (lines_of g)) (count_by-le-length (list_any is_break) (lines_of g))
 
-fit_each : (a b c height : ℕ) → fit a b c height ≡ true → a + b + c ≤ height
+pub fit_each : (a b c height : ℕ) → fit a b c height ≡ true → a + b + c ≤ height
 fit_each a b c height h = grind (arith, nat_tests)
 
 -- what holds of the line justifications left, centre, right and full
-each_just : (P : ℕ → Type 0) → P 2 → P 3 → P 4 → P 5 → (just : ℕ) → 2 ≤ just → just ≤ 5 → P just
+pub each_just : (P : ℕ → Type 0) → P 2 → P 3 → P 4 → P 5 → (just : ℕ) → 2 ≤ just → just ≤ 5 → P just
 each_just P p2 p3 p4 p5 just low high = ⊎_elim (λ e. subst P (sym e) p2) not_left (cases_eq just 2)
   where
     not_right : (just ≡ 2 → ⊥) → (just ≡ 3 → ⊥) → (just ≡ 4 → ⊥) → P just
@@ -138,7 +138,7 @@ each_just P p2 p3 p4 p5 just low high = ⊎_elim (λ e. subst P (sym e) p2) not_
     not_left : (just ≡ 2 → ⊥) → P just
     not_left n2 = ⊎_elim (λ e. subst P (sym e) p3) (not_centre n2) (cases_eq just 3)
 
-part_most : (f : ℕ → ℕ) (just height : ℕ) → 2 ≤ just → just ≤ 4 → f 2 + f 3 + f 4 ≤ height → f just ≤ height
+pub part_most : (f : ℕ → ℕ) (just height : ℕ) → 2 ≤ just → just ≤ 4 → f 2 + f 3 + f 4 ≤ height → f just ≤ height
 part_most f just height low high room =
     each_just (λ just. just ≤ 4 → f just ≤ height) (λ _. omega arith) (λ _. omega arith) (λ _. omega arith) (λ h. absurd (omega arith)) just low (omega arith) high
 

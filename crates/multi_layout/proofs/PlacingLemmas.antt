@@ -1,5 +1,5 @@
 -- What a placing item makes of the state, from what the sums of the present area answer.
-use Rattle.std.proofs.Common.{◌≡◌, ℕ, ◌+◌, ◌*◌, Bool, true, false, not, List, [], ◌∷◌, ◌++◌, length, Option, Some, None, refl, sym, ap, ◌∙◌}
+use Rattle.std.proofs.Common.{◌≡◌, ℕ, ◌+◌, ◌*◌, Bool, true, false, cond, not, List, [], ◌∷◌, ◌++◌, length, Option, Some, None, refl, sym, ap, ◌∙◌}
 use Rattle.std.specs.List.{All, after_last, list_any}
 use Rattle.multi_tag.specs.declared.tag.Tag.TheVariants.{NewLine}
 use Rattle.sign_font.specs.Cell.{SizedCell}
@@ -15,6 +15,7 @@ use Rattle.multi_layout.specs.State.{IsStateOf, present_area}
 use Rattle.multi_layout.specs.Sums.{IsBelow, IsBreak, IsCharacter, IsPlacing, area_sum}
 use Rattle.multi_layout.proofs.AreaSumLemmas.{area_placing, no_clash}
 use Rattle.multi_layout.proofs.JudgedLemmas.{cell_found, character-conflict, character-too_big, character-fits, state-character, break-conflict, break-too_big, break-fits, state-break}
+use Rattle.multi_layout.proofs.OffenceLemmas.{offence-character}
 
 -- what isn't refused, and what is
 not_true : (f b : Bool) → f ≡ not b → f ≡ true → b ≡ false
@@ -24,6 +25,11 @@ not_true f false e t = refl
 not_false : (f b : Bool) → f ≡ not b → f ≡ false → b ≡ true
 not_false f true e t = refl
 not_false f false e t = absurd (let wrong : true ≡ false = sym e ∙ t in cc)
+
+-- without an error there is no conflict
+no_conflict : (conflict big : Bool) → ◌≡◌ {A = Option ℕ} (cond conflict (Some 11) (cond big (Some 5) None)) None → conflict ≡ false
+no_conflict true big e = absurd (cc)
+no_conflict false big e = refl
 
 module _ (sign : SignData) (items : List Meaning) (state : State) (st : IsStateOf sign items state) where
   placing : All IsPlacing (present_area sign items)
@@ -44,6 +50,32 @@ module _ (sign : SignData) (items : List Meaning) (state : State) (st : IsStateO
   font_is : state.attributes.font ≡ info_of (standing sign items).font
   font_is = ap (λ (a : Attributes). a.font) st.attributes
 
+  is_character : (c : SizedCell) (character : Character) → character.just ≡ state.attributes.line_just → character.spacing ≡ state.attributes.spacing → character.width ≡ c.width → character.font ≡ state.attributes.font
+      → (cell : Rattle.sign_font.specs.Sign.CellData) → c.width ≡ cell.width → IsCharacter (record { at = standing sign items; put = Glyph cell }) character
+  is_character c character just spacing wide font cell width = record {
+    glyph = refl;
+    just = just ∙ sym line_is;
+    spacing = spacing ∙ ap (λ (a : Attributes). a.spacing) st.attributes;
+    width = wide ∙ width;
+    font = font ∙ font_is;
+  }
+
+  -- a character that doesn't offend
+  pub character-accepted : (number : ℕ) (c : SizedCell) → cell_in sign state.attributes.font.number number ≡ Some c
+      → (character : Character) → character.just ≡ state.attributes.line_just → character.spacing ≡ state.attributes.spacing → character.width ≡ c.width → character.font ≡ state.attributes.font
+      → (area : Area)
+      → ((xs : List Spot) (s : Spot) → All IsPlacing xs → state.area ≡ area_sum xs → IsCharacter s character → s.at.page_just ≡ state.attributes.page_just
+      → list_any (clashes s) (after_last is_break (in_group state.attributes.page_just xs)) ≡ false → area ≡ area_sum (xs ++ s ∷ []))
+      → IsBelow (1024 * length items + 1024) area → offence sign items (Shows number) ≡ None → IsStateOf sign (items ++ Shows number ∷ []) (record state { area = area })
+  character-accepted number c some character just spacing wide font area sum below fine =
+      let (cell, found, width) = cell_found sign items state st number c some in
+      let s : Spot = record { at = standing sign items; put = Glyph cell } in
+      let before = spots sign items in
+      let free = no_conflict (conflicts before s) (too_big before s) (sym (offence-character sign items number cell found) ∙ fine) in
+      let apart = no_clash before s state.attributes.page_just refl page_is free in
+      let grown = sum (present_area sign items) s placing st.area (is_character c character just spacing wide font cell width) page_is apart in
+      state-character sign items state st number cell found area grown below
+
   module _ (number : ℕ) (c : SizedCell) (some : cell_in sign state.attributes.font.number number ≡ Some c) (r : Bool)
       (answer : (before : List Spot) (s : Spot) → state.area ≡ area_sum (area_of s before) → is_glyph s ≡ true → s.at.page_just ≡ state.attributes.page_just → s.at.line_just ≡ state.attributes.line_just → r ≡ conflicts before s) where
     pub character-exit-conflict : r ≡ true → offence sign items (Shows number) ≡ Some 11
@@ -57,22 +89,13 @@ module _ (sign : SignData) (items : List Meaning) (state : State) (st : IsStateO
         → list_any (clashes s) (after_last is_break (in_group state.attributes.page_just xs)) ≡ false → area ≡ area_sum (xs ++ s ∷ []))
         (f : Bool)
         (fits : (before : List Spot) (s : Spot) → is_glyph s ≡ true → area ≡ area_sum (area_of s before ++ s ∷ []) → s.at.page_just ≡ state.attributes.page_just → s.at.rectangle.width ≡ state.attributes.rectangle.width → s.at.rectangle.height ≡ state.attributes.rectangle.height → f ≡ not (too_big before s)) where
-      is_character : (cell : Rattle.sign_font.specs.Sign.CellData) → c.width ≡ cell.width → IsCharacter (record { at = standing sign items; put = Glyph cell }) character
-      is_character cell width = record {
-        glyph = refl;
-        just = just ∙ sym line_is;
-        spacing = spacing ∙ ap (λ (a : Attributes). a.spacing) st.attributes;
-        width = wide ∙ width;
-        font = font ∙ font_is;
-      }
-
       pub character-exit-too_big : r ≡ false → f ≡ false → offence sign items (Shows number) ≡ Some 5
       character-exit-too_big is big =
           let (cell, found, width) = cell_found sign items state st number c some in
           let s : Spot = record { at = standing sign items; put = Glyph cell } in
           let before = spots sign items in
           let apart = no_clash before s state.attributes.page_just refl page_is (sym (answer before s st.area refl page_is line_is) ∙ is) in
-          let grown = sum (present_area sign items) s placing st.area (is_character cell width) page_is apart in
+          let grown = sum (present_area sign items) s placing st.area (is_character c character just spacing wide font cell width) page_is apart in
           character-too_big sign items state st number cell found (sym (answer before s st.area refl page_is line_is) ∙ is)
           (not_false f (too_big before s) (fits before s refl grown page_is width_is height_is) big)
 
@@ -83,7 +106,7 @@ module _ (sign : SignData) (items : List Meaning) (state : State) (st : IsStateO
           let s : Spot = record { at = standing sign items; put = Glyph cell } in
           let before = spots sign items in
           let apart = no_clash before s state.attributes.page_just refl page_is (sym (answer before s st.area refl page_is line_is) ∙ is) in
-          let grown = sum (present_area sign items) s placing st.area (is_character cell width) page_is apart in (
+          let grown = sum (present_area sign items) s placing st.area (is_character c character just spacing wide font cell width) page_is apart in (
             character-fits sign items state st number cell found (sym (answer before s st.area refl page_is line_is) ∙ is)
                 (not_true f (too_big before s) (fits before s refl grown page_is width_is height_is) fine),
             state-character sign items state st number cell found area grown below,

@@ -1,6 +1,8 @@
 -- The verdict, from the items read so far and their state.
-use Rattle.std.proofs.Common.{◌≡◌, ℕ, ◌+◌, ◌^◌, ◌<◌, ◌≤◌, List, [], ◌∷◌, ◌++◌, length, drop, map, Some, None, refl, sym, ap, subst, ◌∙◌, arith, append_assoc, append-nil}
+use Rattle.std.proofs.Common.{◌≡◌, ℕ, ◌+◌, ◌^◌, ◌<◌, ◌≤◌, List, [], ◌∷◌, ◌++◌, length, drop, map, slice_get, inl, inr, Some, None, refl, sym, ap, subst, ◌∙◌, arith, append_assoc, append-nil}
 use Rattle.std.specs.List.{All}
+use Rattle.std.proofs.lemmas.Bool.{cases_lt}
+use Rattle.std.proofs.lemmas.Option.{slice_get-get_or}
 use Rattle.std.proofs.lemmas.List.{length-append, length-drop, drop_all, map-append}
 use Rattle.std.proofs.lemmas.List.Concat.{flat_map-append}
 use Rattle.std.proofs.lemmas.List.Elements.{All-push, All-nil}
@@ -15,23 +17,20 @@ use Rattle.multi_layout.specs.declared.state.State.{State}
 use Rattle.multi_layout.specs.Address.{standing}
 use Rattle.multi_layout.specs.Meaning.{meaning}
 use Rattle.multi_layout.specs.Offence.{offence}
+use Rattle.multi_layout.specs.Progress.{ReadSoFar}
 use Rattle.multi_layout.specs.State.{IsReady, IsStateOf}
 use Rattle.multi_layout.specs.Times.{Times, cycle, ended_times, page_times, times_at}
-use Rattle.multi_layout.specs.Verdict.{Accepted, IsCycle, IsVerdict, Refused, broken, of_first, offences, pages_of, verdict, verdict_on}
+use Rattle.multi_layout.specs.Verdict.{Accepted, IsCycle, IsVerdict, Refused, broken, of_first, pages_of, verdict, verdict_on}
 use Rattle.multi_layout.proofs.JudgedLemmas.{ready}
 use Rattle.multi_layout.proofs.WalkLemmas.{length-meanings}
 use Rattle.multi_layout.proofs.VerdictLemmas.{offences_push, one_verdict, refusal_stands}
 
--- the items before an offset, none of which offends, and their state
-pub record ReadSoFar (sign : SignData) (octets : List ℕ) (at : ℕ) (state : State) : Type 0 where
-  pub items : List Item
-  pub each : All IsItem items
-  pub front : octets ≡ spell items ++ drop at octets
-  pub place : at ≡ length (spell items)
-  pub within : at ≤ length octets
-  pub none : offences sign items ≡ []
-  pub state_is : IsStateOf sign (map meaning items) state
-  pub few : length items ≤ at
+-- where no octet stands is the end
+pub at_end : (octets : List ℕ) (at : ℕ) → at ≤ length octets → slice_get octets at ≡ None → length octets ≡ at
+at_end octets at within none = elim (cases_lt at (length octets)) [
+  | inl before ↦ absurd (let some = slice_get-get_or octets at 0 before in cc)
+  | inr past ↦ omega arith
+]
 
 pub nothing_read : (sign : SignData) (octets : List ℕ) (state : State) → IsStateOf sign [] state → ReadSoFar sign octets 0 state
 nothing_read sign octets state st = record { items = []; each = All-nil IsItem; front = refl; place = refl; within = omega arith; none = refl; state_is = st; few = omega arith }

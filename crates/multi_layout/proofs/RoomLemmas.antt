@@ -10,13 +10,15 @@ use Rattle.std.proofs.lemmas.List.{map-append}
 use Rattle.std.proofs.lemmas.List.Elements.{All-nil, All-cons, All-head, All-tail, All-append, All-filter, All-weaker}
 use Rattle.multi_tag.specs.declared.tag.Tag.TheVariants.{NewPage, NewLine, LineJust, PageJust, Font, CharSpacing, CharSpacingEnd, PageTime, Flash, FlashEnd, Fore, Back, Rect}
 use Rattle.multi_token.specs.Spelling.{Item, spell}
+use Rattle.sign_font.specs.declared.parts.Defaults.{Defaults}
 use Rattle.sign_font.specs.Sign.{SignData, CellData, FontData, font_numbered, cell_numbered}
-use Rattle.sign_font.specs.Sound.{IsSound, IsSoundFont}
+use Rattle.sign_font.specs.Sound.{IsSound, IsSoundCell, IsSoundFont}
 use Rattle.multi_layout.specs.declared.attributes.Rectangle.{Rectangle}
 use Rattle.multi_layout.specs.Meaning.{Meaning, Shows, Does, Faulty, meaning, begins_area}
 use Rattle.multi_layout.specs.Attributes.{default_font, given_font, given_rectangle, is_inside, rectangle, whole_sign}
 use Rattle.multi_layout.specs.Address.{Standing, standing, Put, Glyph, Break, Cover, Spot, put_at, spot_at, spots, is_glyph, is_break, in_group, lines_of, line_before}
 use Rattle.multi_layout.specs.Fit.{area_fits, line_fits}
+use Rattle.multi_layout.specs.Line.{glyph_width}
 use Rattle.multi_layout.specs.Offence.{conflicts, offence, too_big}
 use Rattle.multi_layout.specs.State.{present_area}
 use Rattle.multi_layout.specs.Sums.{ended_lines}
@@ -153,24 +155,50 @@ found_each P p (x ∷ xs) all = elim (cases_Bool (p x)) [
   | inr there ↦ rw there (found_each P p xs (All-tail P x xs all))
 ]
 
--- a font of at least one pixel
-abbrev HighFont : FontData → Type 0
-HighFont font = 1 ≤ font.height
+-- a cell of at least one column
+abbrev IsWideCell : CellData → Type 0
+IsWideCell cell = 1 ≤ cell.width
 
--- what is put in a font of at least one pixel
+-- a font of at least one row, whose cells have at least one column
+abbrev HighFont : FontData → Type 0
+HighFont font = (1 ≤ font.height) × All IsWideCell font.cells
+
+-- what is put in a font of at least one row is, if it is a character, at least one column wide
 abbrev High : Spot → Type 0
-High s = 1 ≤ s.at.font.height
+High s = (1 ≤ s.at.font.height) × (is_glyph s ≡ true → 1 ≤ glyph_width s)
 
 high_numbered : (sign : SignData) (number : ℕ) → IsSound sign → IfSome (font_numbered sign number) HighFont
 high_numbered sign number sound =
-    found_each HighFont (λ font. font.number == number) sign.fonts (All-weaker IsSoundFont HighFont (λ font s. s.height.0) sign.fonts sound.each)
+    found_each HighFont (λ font. font.number == number) sign.fonts (All-weaker IsSoundFont HighFont (λ font s. (s.height.0, All-weaker (IsSoundCell font.height) IsWideCell (λ cell k. k.width.0) font.cells s.each)) sign.fonts sound.each)
 
 high_default : (o : Option FontData) (font : FontData) → IsSome o → IfSome o HighFont → HighFont (unwrap_or o font)
 high_default None font some high = absurd (false≢true some)
 high_default (Some found) font some high = high
 
--- what is put where the font in force is high
-high_spot : (here : Standing) (o : Option Put) → HighFont here.font → All High (cons_option (option_map (λ p. let s : Spot = record { at = here; put = p } in s) o) [])
+-- what an item puts where the font in force is high
+high_put : (defaults : Defaults) (here : Standing) (x : Meaning) → HighFont here.font → IfSome (put_at defaults here x) (λ put. let spot : Spot = record { at = here; put = put } in High spot)
+high_put defaults here (Shows number) high = mapped (cell_numbered here.font number) (found_each IsWideCell (λ cell. cell.number == number) here.font.cells high.1)
+  where
+    mapped : (o : Option CellData) → IfSome o IsWideCell → IfSome (option_map Glyph o) (λ put. let spot : Spot = record { at = here; put = put } in High spot)
+    mapped None wide = tt
+    mapped (Some cell) wide = (high.0, λ glyph. wide)
+high_put defaults here (Does NewPage) high = (high.0, λ glyph. absurd (false≢true glyph))
+high_put defaults here (Does (NewLine gap)) high = (high.0, λ glyph. absurd (false≢true glyph))
+high_put defaults here (Does (Back colour)) high = (high.0, λ glyph. absurd (false≢true glyph))
+high_put defaults here (Does (LineJust just)) high = tt
+high_put defaults here (Does (PageJust just)) high = tt
+high_put defaults here (Does (Font pick)) high = tt
+high_put defaults here (Does (CharSpacing pixels)) high = tt
+high_put defaults here (Does CharSpacingEnd) high = tt
+high_put defaults here (Does (PageTime on off)) high = tt
+high_put defaults here (Does (Flash off_first on off)) high = tt
+high_put defaults here (Does FlashEnd) high = tt
+high_put defaults here (Does (Fore colour)) high = tt
+high_put defaults here (Does (Rect x y w h)) high = tt
+high_put defaults here (Faulty code) high = tt
+
+high_spot : (here : Standing) (o : Option Put) → IfSome o (λ put. let spot : Spot = record { at = here; put = put } in High spot)
+    → All High (cons_option (option_map (λ p. let s : Spot = record { at = here; put = p } in s) o) [])
 high_spot here None high = All-nil High
 high_spot here (Some put) high = All-cons High (record { at = here; put = put }) [] high (All-nil High)
 
@@ -212,28 +240,24 @@ module _ (sign : SignData) (sound : IsSound sign) (some : IsSome (font_numbered 
       record {
         font = subst (λ (s : Standing). HighFont s.font) (sym (standing_push sign before x)) (in_force_by HighFont (given_font sign x) here.font (given_high x) old.font);
         each = subst (All High) (sym (spots_push sign before x))
-            (All-append High (spots sign before) (cons_option (spot_at sign.defaults here x) []) old.each (high_spot here (put_at sign.defaults here x) old.font));
+            (All-append High (spots sign before) (cons_option (spot_at sign.defaults here x) []) old.each (high_spot here (put_at sign.defaults here x) (high_put sign.defaults here x old.font)));
       }
 
-  -- whatever the items are, all that they put is put in a font of at least one pixel
-  pub fonts_high : (items : List Meaning) → All (λ (s : Spot). 1 ≤ s.at.font.height) (spots sign items)
-  fonts_high items = (push_ind (IsHigh sign) first_high next_high items).each
-
-  -- and so are the placing items of the present area
-  pub area_high : (items : List Meaning) → All (λ (s : Spot). 1 ≤ s.at.font.height) (present_area sign items)
-  area_high items =
+  -- whatever the items are, all that they put is high
+  area_high_all : (items : List Meaning) → All High (present_area sign items)
+  area_high_all items =
       let area = (standing sign items).area in
-      All-filter (λ t. (is_glyph t || is_break t) && (t.at.area == area)) High (spots sign items) (fonts_high items)
+      All-filter (λ t. (is_glyph t || is_break t) && (t.at.area == area)) High (spots sign items) (push_ind (IsHigh sign) first_high next_high items).each
+
+  -- the placing items of the present area are put in fonts of at least one row
+  pub area_high : (items : List Meaning) → All (λ (s : Spot). 1 ≤ s.at.font.height) (present_area sign items)
+  area_high items = All-weaker High (λ (s : Spot). 1 ≤ s.at.font.height) (λ s h. h.0) (present_area sign items) (area_high_all items)
+
+  -- and its characters are at least one column wide
+  pub area_wide : (items : List Meaning) → All (λ (s : Spot). is_glyph s ≡ true → 1 ≤ glyph_width s) (present_area sign items)
+  area_wide items = All-weaker High (λ (s : Spot). is_glyph s ≡ true → 1 ≤ glyph_width s) (λ s h. h.1) (present_area sign items) (area_high_all items)
 
 -- ---- the present area
-
--- an area without items fits
-fits_none : (height : ℕ) → area_fits height [] ≡ true
-fits_none height = ap (λ b. b && true) (le-leb 0 height (omega arith))
-
--- the area of these items fits the rectangle in force
-abbrev Fits : SignData → List Meaning → Type 0
-Fits sign items = area_fits (standing sign items).rectangle.height (present_area sign items) ≡ true
 
 -- a placing item that doesn't offend isn't too big
 not_big : (a b : Bool) → cond {A = Option ℕ} a (Some 11) (cond b (Some 5) None) ≡ None → b ≡ false
@@ -241,19 +265,21 @@ not_big true b e = cc
 not_big false true e = cc
 not_big false false e = refl
 
--- where an item isn't too big, its area fits
-fits_where : (a b : Bool) → (a || not b) ≡ false → b ≡ true
-fits_where true b e = absurd (false≢true (sym e))
-fits_where false true e = refl
-fits_where false false e = absurd (false≢true (sym e))
-
 none≢some : (n : ℕ) → Some n ≡ None → ⊥
 none≢some n e = cc
 
-module _ (sign : SignData) where
-  first_fits : Fits sign []
+-- what holds of an empty area in each rectangle, and stays where a placing item joins that isn't too big, holds of the present
+-- area of an accepted string
+module _ (sign : SignData) (P : Rectangle → List Spot → Type 0) (first : (r : Rectangle) → P r [])
+    (joins : (before : List Meaning) (put : Put) → let spot : Spot = record { at = standing sign before; put = put } in
+    (is_glyph spot || is_break spot) ≡ true → too_big (spots sign before) spot ≡ false → P spot.at.rectangle (present_area sign before) → P spot.at.rectangle (present_area sign before ++ spot ∷ [])) where
+  -- it holds of the area of these items in the rectangle in force
+  abbrev Holds : List Meaning → Type 0
+  Holds items = P (standing sign items).rectangle (present_area sign items)
+
+  first_holds : Holds []
   unfolding standing spots
-  first_fits = fits_none sign.height
+  first_holds = first (whole_sign sign)
 
   module _ (before : List Meaning) (x : Meaning) where
     -- an item that gives no rectangle leaves it
@@ -261,74 +287,93 @@ module _ (sign : SignData) where
     same_rectangle gives = ap (λ (s : Standing). s.rectangle) (standing_push sign before x) ∙ ap (λ o. unwrap_or o (standing sign before).rectangle) gives
 
     -- an area that begins is empty
-    fits_new : begins_area x ≡ true → Fits sign (before ++ x ∷ [])
-    fits_new begins =
-        let height = (standing sign (before ++ x ∷ [])).rectangle.height in
-        ap (area_fits height) (present_area-new sign before x begins) ∙ fits_none height
+    holds_new : begins_area x ≡ true → Holds (before ++ x ∷ [])
+    holds_new begins =
+        let r = (standing sign (before ++ x ∷ [])).rectangle in
+        subst (P r) (sym (present_area-new sign before x begins)) (first r)
 
     -- the area behind the item, by what it is and by the rectangle before the item
-    fits_by : (area : List Spot) → given_rectangle sign x ≡ None → present_area sign (before ++ x ∷ []) ≡ area → area_fits (standing sign before).rectangle.height area ≡ true → Fits sign (before ++ x ∷ [])
-    fits_by area gives is fits =
-        ap (λ (r : Rectangle). area_fits r.height (present_area sign (before ++ x ∷ []))) (same_rectangle gives)
-        ∙ ap (area_fits (standing sign before).rectangle.height) is
-        ∙ fits
+    holds_by : (area : List Spot) → given_rectangle sign x ≡ None → present_area sign (before ++ x ∷ []) ≡ area → P (standing sign before).rectangle area → Holds (before ++ x ∷ [])
+    holds_by area gives is holds =
+        subst (λ (r : Rectangle). P r (present_area sign (before ++ x ∷ []))) (sym (same_rectangle gives))
+        (subst (P (standing sign before).rectangle) (sym is) holds)
 
     -- an item that begins no area and puts nothing leaves it
-    fits_same : given_rectangle sign x ≡ None → begins_area x ≡ false → put_at sign.defaults (standing sign before) x ≡ None → Fits sign before → Fits sign (before ++ x ∷ [])
-    fits_same gives stays puts old = fits_by (present_area sign before) gives (present_area-nothing sign before x stays puts) old
+    holds_same : given_rectangle sign x ≡ None → begins_area x ≡ false → put_at sign.defaults (standing sign before) x ≡ None → Holds before → Holds (before ++ x ∷ [])
+    holds_same gives stays puts old = holds_by (present_area sign before) gives (present_area-nothing sign before x stays puts) old
 
     -- a placing item joins it
-    fits_placing : (put : Put) → let spot : Spot = record { at = standing sign before; put = put } in
+    holds_placing : (put : Put) → let spot : Spot = record { at = standing sign before; put = put } in
         given_rectangle sign x ≡ None → begins_area x ≡ false → put_at sign.defaults (standing sign before) x ≡ Some put → (is_glyph spot || is_break spot) ≡ true
-        → too_big (spots sign before) spot ≡ false → Fits sign (before ++ x ∷ [])
-    fits_placing put gives stays puts placing small =
+        → too_big (spots sign before) spot ≡ false → Holds before → Holds (before ++ x ∷ [])
+    holds_placing put gives stays puts placing small old =
         let spot : Spot = record { at = standing sign before; put = put } in
-        let area = present_area sign before ++ spot ∷ [] in
-        fits_by area gives (present_area-placing sign before x put stays puts placing)
-        (fits_where (is_glyph spot && not (line_fits spot.at.rectangle.width (line_before (spots sign before) spot ++ spot ∷ []))) (area_fits spot.at.rectangle.height area) small)
+        holds_by (present_area sign before ++ spot ∷ []) gives (present_area-placing sign before x put stays puts placing) (joins before put placing small old)
 
   module _ (before : List Meaning) where
-    fits_character : (number : ℕ) (o : Option CellData) → cell_numbered (standing sign before).font number ≡ o → offence sign before (Shows number) ≡ None → Fits sign (before ++ Shows number ∷ [])
-    fits_character number None found none = absurd (none≢some 7 (sym (offence-undefined sign before number found) ∙ none))
-    fits_character number (Some cell) found none =
+    holds_character : (number : ℕ) (o : Option CellData) → cell_numbered (standing sign before).font number ≡ o → offence sign before (Shows number) ≡ None → Holds before → Holds (before ++ Shows number ∷ [])
+    holds_character number None found none old = absurd (none≢some 7 (sym (offence-undefined sign before number found) ∙ none))
+    holds_character number (Some cell) found none old =
         let spot : Spot = record { at = standing sign before; put = Glyph cell } in
         let spots_before = spots sign before in
-        fits_placing before (Shows number) (Glyph cell) refl refl (ap (option_map Glyph) found) refl
-        (not_big (conflicts spots_before spot) (too_big spots_before spot) (sym (offence-character sign before number cell found) ∙ none))
+        holds_placing before (Shows number) (Glyph cell) refl refl (ap (option_map Glyph) found) refl
+        (not_big (conflicts spots_before spot) (too_big spots_before spot) (sym (offence-character sign before number cell found) ∙ none)) old
 
-    fits_break : (gap : Option ℕ) → offence sign before (Does (NewLine gap)) ≡ None → Fits sign (before ++ Does (NewLine gap) ∷ [])
-    fits_break gap none =
+    holds_break : (gap : Option ℕ) → offence sign before (Does (NewLine gap)) ≡ None → Holds before → Holds (before ++ Does (NewLine gap) ∷ [])
+    holds_break gap none old =
         let spot : Spot = record { at = standing sign before; put = Break gap } in
         let spots_before = spots sign before in
-        fits_placing before (Does (NewLine gap)) (Break gap) refl refl refl refl
-        (not_big (conflicts spots_before spot) (too_big spots_before spot) (sym (offence-break sign before gap) ∙ none))
+        holds_placing before (Does (NewLine gap)) (Break gap) refl refl refl refl
+        (not_big (conflicts spots_before spot) (too_big spots_before spot) (sym (offence-break sign before gap) ∙ none)) old
 
-    fits_cover : (colour : Option ℕ) → Fits sign before → Fits sign (before ++ Does (Back colour) ∷ [])
-    fits_cover colour old =
+    holds_cover : (colour : Option ℕ) → Holds before → Holds (before ++ Does (Back colour) ∷ [])
+    holds_cover colour old =
         let here = standing sign before in
-        fits_by before (Does (Back colour)) (present_area sign before) refl (present_area-cover sign before (Does (Back colour)) (Cover here.page (unwrap_or colour sign.defaults.back)) refl refl refl) old
+        holds_by before (Does (Back colour)) (present_area sign before) refl (present_area-cover sign before (Does (Back colour)) (Cover here.page (unwrap_or colour sign.defaults.back)) refl refl refl) old
 
-  -- the present area fits behind one more item that doesn't offend
-  next_fits : (before : List Meaning) (x : Meaning) → offence sign before x ≡ None → Fits sign before → Fits sign (before ++ x ∷ [])
-  next_fits before (Shows number) none old = fits_character before number (cell_numbered (standing sign before).font number) refl none
-  next_fits before (Does (NewLine gap)) none old = fits_break before gap none
-  next_fits before (Does NewPage) none old = fits_new before (Does NewPage) refl
-  next_fits before (Does (Rect x y w h)) none old = fits_new before (Does (Rect x y w h)) refl
-  next_fits before (Does (Back colour)) none old = fits_cover before colour old
-  next_fits before (Does (LineJust just)) none old = fits_same before (Does (LineJust just)) refl refl refl old
-  next_fits before (Does (PageJust just)) none old = fits_same before (Does (PageJust just)) refl refl refl old
-  next_fits before (Does (Font pick)) none old = fits_same before (Does (Font pick)) refl refl refl old
-  next_fits before (Does (CharSpacing pixels)) none old = fits_same before (Does (CharSpacing pixels)) refl refl refl old
-  next_fits before (Does CharSpacingEnd) none old = fits_same before (Does CharSpacingEnd) refl refl refl old
-  next_fits before (Does (PageTime on off)) none old = fits_same before (Does (PageTime on off)) refl refl refl old
-  next_fits before (Does (Flash off_first on off)) none old = fits_same before (Does (Flash off_first on off)) refl refl refl old
-  next_fits before (Does FlashEnd) none old = fits_same before (Does FlashEnd) refl refl refl old
-  next_fits before (Does (Fore colour)) none old = fits_same before (Does (Fore colour)) refl refl refl old
-  next_fits before (Faulty code) none old = fits_same before (Faulty code) refl refl refl old
+  -- it holds behind one more item that doesn't offend
+  next_holds : (before : List Meaning) (x : Meaning) → offence sign before x ≡ None → Holds before → Holds (before ++ x ∷ [])
+  next_holds before (Shows number) none old = holds_character before number (cell_numbered (standing sign before).font number) refl none old
+  next_holds before (Does (NewLine gap)) none old = holds_break before gap none old
+  next_holds before (Does NewPage) none old = holds_new before (Does NewPage) refl
+  next_holds before (Does (Rect x y w h)) none old = holds_new before (Does (Rect x y w h)) refl
+  next_holds before (Does (Back colour)) none old = holds_cover before colour old
+  next_holds before (Does (LineJust just)) none old = holds_same before (Does (LineJust just)) refl refl refl old
+  next_holds before (Does (PageJust just)) none old = holds_same before (Does (PageJust just)) refl refl refl old
+  next_holds before (Does (Font pick)) none old = holds_same before (Does (Font pick)) refl refl refl old
+  next_holds before (Does (CharSpacing pixels)) none old = holds_same before (Does (CharSpacing pixels)) refl refl refl old
+  next_holds before (Does CharSpacingEnd) none old = holds_same before (Does CharSpacingEnd) refl refl refl old
+  next_holds before (Does (PageTime on off)) none old = holds_same before (Does (PageTime on off)) refl refl refl old
+  next_holds before (Does (Flash off_first on off)) none old = holds_same before (Does (Flash off_first on off)) refl refl refl old
+  next_holds before (Does FlashEnd) none old = holds_same before (Does FlashEnd) refl refl refl old
+  next_holds before (Does (Fore colour)) none old = holds_same before (Does (Fore colour)) refl refl refl old
+  next_holds before (Faulty code) none old = holds_same before (Faulty code) refl refl refl old
 
-  -- behind the items of an accepted string the present area fits the rectangle in force
-  pub area_fits_always : (items : List Item) → offences sign items ≡ [] → area_fits (standing sign (map meaning items)).rectangle.height (present_area sign (map meaning items)) ≡ true
-  area_fits_always = accepted_ind sign (Fits sign) first_fits next_fits
+  pub holds_always : (items : List Item) → offences sign items ≡ [] → P (standing sign (map meaning items)).rectangle (present_area sign (map meaning items))
+  holds_always = accepted_ind sign Holds first_holds next_holds
+
+-- an area without items fits
+fits_none : (height : ℕ) → area_fits height [] ≡ true
+fits_none height = ap (λ b. b && true) (le-leb 0 height (omega arith))
+
+-- where an item isn't too big, its area fits
+fits_where : (a b : Bool) → (a || not b) ≡ false → b ≡ true
+fits_where true b e = absurd (false≢true (sym e))
+fits_where false true e = refl
+fits_where false false e = absurd (false≢true (sym e))
+
+-- and if it is a character, so does its line
+line_where : (a b : Bool) → (not a || b) ≡ false → a ≡ true
+line_where true b e = refl
+line_where false b e = absurd (false≢true (sym e))
+
+-- behind the items of an accepted string the present area fits the rectangle in force
+pub area_fits_always : (sign : SignData) (items : List Item) → offences sign items ≡ [] → area_fits (standing sign (map meaning items)).rectangle.height (present_area sign (map meaning items)) ≡ true
+area_fits_always sign =
+    holds_always sign (λ r area. area_fits r.height area ≡ true) (λ r. fits_none r.height)
+    (λ before put placing small old.
+    let spot : Spot = record { at = standing sign before; put = put } in
+    fits_where (is_glyph spot && not (line_fits spot.at.rectangle.width (line_before (spots sign before) spot ++ spot ∷ []))) (area_fits spot.at.rectangle.height (present_area sign before ++ spot ∷ [])) small)
 
 -- ---- room for the lines of a group
 

@@ -6,12 +6,11 @@ use Rattle.std.specs.Option.{option_map_or}
 use Rattle.std.proofs.lemmas.List.{append-nil, take_more, length_push}
 use Rattle.std.proofs.lemmas.List.Elements.{filter-append}
 use Rattle.std.proofs.lemmas.List.Sums.{sum_by_push}
-use Rattle.multi_layout.specs.declared.line.Line.{Line}
 use Rattle.multi_layout.specs.declared.table.CountedLine.{CountedLine}
 use Rattle.multi_layout.specs.Words.{each_after}
 use Rattle.multi_layout.specs.Address.{Spot, is_glyph, is_break, segment, lines_of}
 use Rattle.multi_layout.specs.Line.{height_of, width_of}
-use Rattle.multi_layout.specs.Sums.{line_sum, ended_lines, IsPlacing}
+use Rattle.multi_layout.specs.Sums.{ended_lines, IsPlacing}
 use Rattle.multi_layout.specs.Table.{counted_line, line_entry, table_of}
 use Rattle.multi_layout.proofs.WordLemmas.{each_after_push, last_or_push, push_ind}
 use Rattle.multi_layout.proofs.CutLemmas.{Cut, cut, cut_push, cut_behind_is}

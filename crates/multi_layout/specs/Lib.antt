@@ -15,6 +15,8 @@ pub mod Paging
 pub mod Passes
 pub mod Picture
 pub mod Place
+pub mod Progress
+pub mod Run
 pub mod State
 pub mod Sums
 pub mod Table

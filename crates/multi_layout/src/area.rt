@@ -4,9 +4,10 @@ ghost use Rattle.std.specs.Prelude.{◌≡◌, ℕ, ◌+◌, ◌^◌, ◌≤◌,
 ghost use Rattle.std.specs.List.{All, after_last, list_any};
 ghost use Rattle.std.specs.Option.{option_map_or, unwrap_or};
 ghost use Rattle.multi_layout.specs.Address.{Spot, is_glyph, is_break, area_of, in_group, lines_of};
-ghost use Rattle.multi_layout.specs.Fit.{area_fits};
+ghost use Rattle.multi_layout.specs.Fit.{area_fits, fit};
 ghost use Rattle.multi_layout.specs.Line.{average, height_of};
 ghost use Rattle.multi_layout.specs.Offence.{clashes, conflicts, too_big};
+ghost use Rattle.multi_layout.specs.Run.{kept_group, kept_height, lengthened_area};
 ghost use Rattle.multi_layout.specs.Sums.{group_sum, area_sum, IsPlacing, IsCharacter, IsBreak, IsGroupBelow, IsBelow};
 
 use crate::line::{Character, Line, gap_or_average, parts_fit};
@@ -101,6 +102,7 @@ impl Group {
         requires below { self.closed ≤ 2 ^ 62 + 1024 }
         ensures sum { (group : List Spot) → All IsPlacing group → self ≡ group_sum group
             → result ≡ height_of (lines_of group) }
+        ensures kept { result ≡ kept_height self }
         ensures below { result ≤ self.closed + 1024 }
     {
         if !self.line.any {
@@ -163,6 +165,7 @@ impl Area {
     pub(crate) fn group(&self, page_just: u8) -> &Group
         requires known { (2 ≤ page_just) × (page_just ≤ 4) }
         ensures sum { (area : List Spot) → self.now ≡ area_sum area → result.now ≡ group_sum (in_group page_just area) }
+        ensures kept { result.now ≡ kept_group page_just self.now }
         ensures below { (k : ℕ) → IsBelow k self.now → IsGroupBelow k result.now }
     {
         match page_just {
@@ -212,11 +215,23 @@ impl Area {
         self.fits_height(height)
     }
 
+    /// Gives the present segment of the group with this page justification this width and number of characters.
+    pub(crate) fn lengthen(&mut self, page_just: u8, width: u64, count: u64)
+        ensures { self.new ≡ lengthened_area page_just width count self.old }
+    {
+        match page_just {
+            2 => self.top.line.lengthen(width, count),
+            3 => self.middle.line.lengthen(width, count),
+            _ => self.bottom.line.lengthen(width, count),
+        }
+    }
+
     /// Whether the groups stand apart within a height in pixels.
-    fn fits_height(&self, height: u16) -> bool
+    pub(crate) fn fits_height(&self, height: u16) -> bool
         requires below { IsBelow (2 ^ 62 + 1024) self.now }
-        ensures { (area : List Spot) → All IsPlacing area → self.now ≡ area_sum area
+        ensures sum { (area : List Spot) → All IsPlacing area → self.now ≡ area_sum area
             → result ≡ area_fits height area }
+        ensures kept { result ≡ fit (kept_height self.now.top) (kept_height self.now.middle) (kept_height self.now.bottom) height }
     {
         parts_fit(
             self.top.height(),

@@ -3,16 +3,17 @@
 ghost use Rattle.std.specs.Prelude.{◌≡◌, ℕ, ◌+◌, ◌-◌, ◌*◌, ◌<◌, ◌^◌, [], ◌∷◌, ◌++◌, List, Some, IfSome, IfNone, length};
 ghost use Rattle.multi_token.specs.Counted.{RisesBetween};
 ghost use Rattle.multi_token.specs.Spelling as spelled;
+ghost use Rattle.sign_font.specs.Cell.{SizedCell};
 ghost use Rattle.sign_font.specs.Sign.{SignData, cell_in};
 ghost use Rattle.sign_font.specs.Sound.{IsSound};
 ghost use Rattle.multi_layout.specs.Walk.{IsAccepted, IsBefore, IsBetween, IsCursor, IsFirst, IsRead};
 
 use crate::item::{KnownItem, read_item};
-use crate::judge::{judge_cell, judge_item};
+use crate::judge::judge_tag;
 use crate::state::State;
 use crate::terms::Terms;
+use multi_tag::Tag;
 use multi_token::{Source, next_token};
-use sign_font::Cell;
 
 /// A place between two items of an accepted string: the offset of the next, and the state behind those before it.
 #[derive(Clone, Copy, Debug, PartialEq, Eq)]
@@ -64,44 +65,53 @@ impl Cursor {
         }
     }
 
-    /// The cursor behind the next item, of which this was read.
-    pub(crate) fn pass(&self, sign: &Terms<'_>, source: &mut Source<'_>, next: NextItem) -> Cursor
-        requires { IsBefore sign.now source.old.octets next self.now }
-        ensures passed { (before rest : List spelled.Item) (item : spelled.Item) → IsBetween sign.now source.old.octets before (item ∷ rest) self.now
-            → IsRead item next → IsBetween sign.now source.old.octets (before ++ item ∷ []) rest result }
-        ensures at { result.at ≡ self.now.at + next.len }
+    /// Goes behind the next item, of which this was read.
+    pub(crate) fn pass(&mut self, sign: &Terms<'_>, source: &mut Source<'_>, next: NextItem)
+        requires { IsBefore sign.now source.old.octets next self.old }
+        ensures passed { (before rest : List spelled.Item) (item : spelled.Item) → IsBetween sign.now source.old.octets before (item ∷ rest) self.old
+            → IsRead item next → IsBetween sign.now source.old.octets (before ++ item ∷ []) rest self.new }
+        ensures at { self.new.at ≡ self.old.at + next.len }
         ensures steps { RisesBetween source.old source.new 0 1 }
     {
-        let mut state = self.state;
-        match judge_item(sign, &mut state, source, next.item) {
-            Ok(()) => Cursor {
-                at: self.at + next.len,
-                state,
-            },
+        match next.item {
+            KnownItem::Char(number) => {
+                let font = self.state.attributes.font.number;
+                let Some(width) = sign.cell_width(source, font, number) else {
+                    // Each character of an accepted string has a cell.
+                    unreachable!();
+                };
+                self.pass_character(number, width, next.len);
+            }
+            KnownItem::Tag(tag) => self.pass_tag(sign, source, tag, next.len),
+        }
+    }
+
+    /// Goes behind the next item, a tag of so many octets.
+    fn pass_tag(&mut self, sign: &Terms<'_>, source: &mut Source<'_>, tag: Tag, len: usize)
+        requires { IsBefore sign.now source.old.octets (record { item = KnownItem.Tag tag; len = len }) self.old }
+        ensures passed { (before rest : List spelled.Item) (item : spelled.Item) → IsBetween sign.now source.old.octets before (item ∷ rest) self.old
+            → IsRead item (record { item = KnownItem.Tag tag; len = len }) → IsBetween sign.now source.old.octets (before ++ item ∷ []) rest self.new }
+        ensures at { self.new.at ≡ self.old.at + len }
+        ensures steps { RisesBetween source.old source.new 0 1 }
+    {
+        match judge_tag(sign, &mut self.state, source, tag) {
+            Ok(()) => self.at += len,
             // No item of an accepted string offends.
             Err(_) => unreachable!(),
         }
     }
 
-    /// The cursor behind the next item, a character of so many octets whose cell was found.
-    pub(crate) fn pass_character(&self, number: u8, cell: &Cell<'_>, len: usize) -> Cursor
+    /// Goes behind the next item, a character of so many octets whose cell has this width in pixels.
+    pub(crate) fn pass_character(&mut self, number: u8, width: u8, len: usize)
         requires { (sign : SignData) × (octets : List ℕ)
-            × IsBefore sign octets (record { item = KnownItem.Char number; len = len }) self.now
-            × (cell_in sign self.now.state.attributes.font.number number ≡ Some cell.now) }
-        ensures passed { (sign : SignData) (octets : List ℕ) (before rest : List spelled.Item) (item : spelled.Item)
-            → IsBetween sign octets before (item ∷ rest) self.now → IsRead item (record { item = KnownItem.Char number; len = len })
-            → cell_in sign self.now.state.attributes.font.number number ≡ Some cell.now
-            → IsBetween sign octets (before ++ item ∷ []) rest result }
-        ensures at { result.at ≡ self.now.at + len }
+            × IsBefore sign octets (record { item = KnownItem.Char number; len = len }) self.old }
+        ensures passed { (sign : SignData) (octets : List ℕ) (before rest : List spelled.Item) (item : spelled.Item) (cell : SizedCell)
+            → IsBetween sign octets before (item ∷ rest) self.old → IsRead item (record { item = KnownItem.Char number; len = len })
+            → cell_in sign self.old.state.attributes.font.number number ≡ Some cell → width ≡ cell.width
+            → IsBetween sign octets (before ++ item ∷ []) rest self.new }
+        ensures at { self.new.at ≡ self.old.at + len }
     {
-        let mut state = self.state;
-        match judge_cell(&mut state, number, cell) {
-            Ok(()) => Cursor {
-                at: self.at + len,
-                state,
-            },
-            // No item of an accepted string offends.
-            Err(_) => unreachable!(),
-        }
+        self.state.pass_character(width);
+        self.at += len;
     }
 }

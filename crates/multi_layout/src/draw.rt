@@ -45,76 +45,75 @@ pub(crate) fn draw_page(
 {
     plane.fill(layer.has(sign, cursor.state.attributes.back));
     let mut cursor = cursor;
+    let mut read = AreaLines::new();
     loop {
-        let read = read_area(sign, source, cursor);
-        cursor = draw_area(sign, source, cursor, &read, layer, plane);
+        read_area(sign, source, cursor, &mut read);
+        draw_area(sign, source, &mut cursor, &read, layer, plane);
         let Some(next) = cursor.next_item(source) else {
             return cursor;
         };
-        cursor = cursor.pass(sign, source, next);
+        cursor.pass(sign, source, next);
         if next.item.ends_page() {
             return cursor;
         }
     }
 }
 
-/// Draws the items of an area from its start on, and gives the cursor behind them.
+/// Draws the items of an area from its start on, and goes behind them.
 fn draw_area(
     sign: &Terms<'_>,
     source: &mut Source<'_>,
-    cursor: Cursor,
+    cursor: &mut Cursor,
     read: &AreaLines,
     layer: Layer,
     plane: &mut Plane,
-) -> Cursor
+)
     requires sound { IsSound sign.now }
-    requires known { (before area rest : List spelled.Item) × IsBetween sign.now source.old.octets before (area ++ rest) cursor
-        × BeginsNoArea area × (read.now.end ≡ cursor.at + length (spelled.spell area)) × HasCounted (whole_area sign.now before (area ++ rest)) read.now.lines }
+    requires known { (before area rest : List spelled.Item) × IsBetween sign.now source.old.octets before (area ++ rest) cursor.old
+        × BeginsNoArea area × (read.now.end ≡ cursor.old.at + length (spelled.spell area)) × HasCounted (whole_area sign.now before (area ++ rest)) read.now.lines }
     requires low { IsLow read.now.lines }
     requires size { IsSized plane.old sign.now }
-    ensures passed { (before area rest : List spelled.Item) → IsBetween sign.now source.old.octets before (area ++ rest) cursor
-        → BeginsNoArea area → read.now.end ≡ cursor.at + length (spelled.spell area) → HasCounted (whole_area sign.now before (area ++ rest)) read.now.lines
-        → IsBetween sign.now source.old.octets (before ++ area) rest result }
-    ensures drawn { (before area rest : List spelled.Item) → IsBetween sign.now source.old.octets before (area ++ rest) cursor
-        → BeginsNoArea area → read.now.end ≡ cursor.at + length (spelled.spell area) → HasCounted (whole_area sign.now before (area ++ rest)) read.now.lines
+    ensures passed { (before area rest : List spelled.Item) → IsBetween sign.now source.old.octets before (area ++ rest) cursor.old
+        → BeginsNoArea area → read.now.end ≡ cursor.old.at + length (spelled.spell area) → HasCounted (whole_area sign.now before (area ++ rest)) read.now.lines
+        → IsBetween sign.now source.old.octets (before ++ area) rest cursor.new }
+    ensures drawn { (before area rest : List spelled.Item) → IsBetween sign.now source.old.octets before (area ++ rest) cursor.old
+        → BeginsNoArea area → read.now.end ≡ cursor.old.at + length (spelled.spell area) → HasCounted (whole_area sign.now before (area ++ rest)) read.now.lines
         → IsDrawnTo sign.now layer (map meaning (before ++ (area ++ rest))) (map meaning before) plane.old
         → IsDrawnTo sign.now layer (map meaning (before ++ (area ++ rest))) (map meaning (before ++ area)) plane.new }
-    ensures steps { RisesBetween source.old source.new 0 (2 * (read.now.end - cursor.at)) }
-    ensures fills { IsFilledBy sign.now plane.old plane.new (read.now.end - cursor.at) }
+    ensures steps { RisesBetween source.old source.new 0 (2 * (read.now.end - cursor.old.at)) }
+    ensures fills { IsFilledBy sign.now plane.old plane.new (read.now.end - cursor.old.at) }
 {
-    let mut cursor = cursor;
     while cursor.at < read.end {
         let Some(next) = cursor.next_item(source) else {
             // The area goes on.
             unreachable!();
         };
-        cursor = draw_item(sign, source, cursor, next, &read.lines, layer, plane);
+        draw_item(sign, source, cursor, next, &read.lines, layer, plane);
     }
-    cursor
 }
 
-/// Draws what the next item puts, and gives the cursor behind it.
+/// Draws what the next item puts, and goes behind it.
 fn draw_item(
     sign: &Terms<'_>,
     source: &mut Source<'_>,
-    cursor: Cursor,
+    cursor: &mut Cursor,
     next: NextItem,
     lines: &LineTable,
     layer: Layer,
     plane: &mut Plane,
-) -> Cursor
+)
     requires sound { IsSound sign.now }
-    requires known { (before rest : List spelled.Item) × (item : spelled.Item) × IsBetween sign.now source.old.octets before (item ∷ rest) cursor
+    requires known { (before rest : List spelled.Item) × (item : spelled.Item) × IsBetween sign.now source.old.octets before (item ∷ rest) cursor.old
         × IsRead item next × HasCounted (whole_area sign.now before (item ∷ rest)) lines.now }
     requires low { IsLow lines.now }
     requires size { IsSized plane.old sign.now }
-    ensures passed { (before rest : List spelled.Item) (item : spelled.Item) → IsBetween sign.now source.old.octets before (item ∷ rest) cursor
-        → IsRead item next → IsBetween sign.now source.old.octets (before ++ item ∷ []) rest result }
-    ensures drawn { (before rest : List spelled.Item) (item : spelled.Item) → IsBetween sign.now source.old.octets before (item ∷ rest) cursor
+    ensures passed { (before rest : List spelled.Item) (item : spelled.Item) → IsBetween sign.now source.old.octets before (item ∷ rest) cursor.old
+        → IsRead item next → IsBetween sign.now source.old.octets (before ++ item ∷ []) rest cursor.new }
+    ensures drawn { (before rest : List spelled.Item) (item : spelled.Item) → IsBetween sign.now source.old.octets before (item ∷ rest) cursor.old
         → IsRead item next → begins_area (meaning item) ≡ false → HasCounted (whole_area sign.now before (item ∷ rest)) lines.now
         → IsDrawnTo sign.now layer (map meaning (before ++ item ∷ rest)) (map meaning before) plane.old
         → IsDrawnTo sign.now layer (map meaning (before ++ item ∷ rest)) (map meaning (before ++ item ∷ [])) plane.new }
-    ensures at { result.at ≡ cursor.at + next.len }
+    ensures at { cursor.new.at ≡ cursor.old.at + next.len }
     ensures steps { RisesBetween source.old source.new 0 1 }
     ensures fills { IsFilledBy sign.now plane.old plane.new next.len }
 {
@@ -126,11 +125,11 @@ fn draw_item(
                 unreachable!();
             };
             put_character(sign, &cursor.state, &cell, lines, layer, plane);
-            cursor.pass_character(number, &cell, next.len)
+            cursor.pass_character(number, cell.width(), next.len);
         }
         KnownItem::Tag(tag) => {
             draw_tag(sign, tag, layer, plane);
-            cursor.pass(sign, source, next)
+            cursor.pass(sign, source, next);
         }
     }
 }

@@ -24,115 +24,8 @@ use multi_tag::{FontPick, Tag};
 use multi_token::{Source, Token, next_token};
 use sign_font::{Cell, Defaults, Sign};
 
-/// The first error of a string, and the offset of its item.
-#[derive(Clone, Copy)]
-struct Offence {
-    error: SyntaxError,
-    at: usize,
-}
-
-/// Whether a sign accepts a string by the sign's own defaults. Everything else is as [`check_with`] says.
-pub fn check<'a>(sign: &'a Sign, source: Source<'a>) -> Result<Checked<'a>, Fault<'a>>
-    requires fresh { source.steps ≡ 0 }
-    requires short { length source.octets < 2 ^ 32 }
-    ensures accepted { IfOk result (λ checked. (pages : ℕ) × IsVerdict sign.now source.entry.octets (Accepted pages)) }
-    ensures refused { IfErr result (λ fault. IsVerdict sign.now source.entry.octets (Refused fault.code fault.at)) }
-
-    // what was handed in comes back
-    ensures kept { IfOk result (λ checked. (checked.sign ≡ sign.now) × (checked.source.octets ≡ source.entry.octets)) }
-    ensures given_back { IfErr result (λ fault. fault.source.octets ≡ source.entry.octets) }
-
-    // and the steps that were taken
-    ensures steps { IfOk result (λ checked. (length source.entry.octets + 1 ≤ checked.source.steps)
-        × (checked.source.steps ≤ check_limit (length source.entry.octets))) }
-    ensures fault_steps { IfErr result (λ fault. (fault.at + 1 ≤ fault.source.steps)
-        × (fault.source.steps ≤ check_limit (length source.entry.octets))) }
-{
-    check_with(sign, sign.defaults(), source)
-}
-
-/// Whether a sign accepts a string by these defaults, which the sign must not refuse. The items are judged from the left,
-/// and the first one that offends gives the error and its offset.
-///
-/// An absent value means these defaults, here and in every call of the [`Checked`].
-///
-/// The source must have no steps yet and at most 4,294,967,295 octets. Both answers give it back. For n octets its count is
-/// then at most 2n + 1. It is at least n + 1 if the string is accepted, and at least one more than the offset of the error
-/// if it is refused.
-pub fn check_with<'a>(
-    sign: &'a Sign,
-    defaults: Defaults,
-    source: Source<'a>,
-) -> Result<Checked<'a>, Fault<'a>>
-    requires taken { default_fault sign.now defaults ≡ None }
-    requires fresh { source.steps ≡ 0 }
-    requires short { length source.octets < 2 ^ 32 }
-    ensures accepted { IfOk result (λ checked. (pages : ℕ) × IsVerdict (under sign.now defaults) source.entry.octets (Accepted pages)) }
-    ensures refused { IfErr result (λ fault. IsVerdict (under sign.now defaults) source.entry.octets (Refused fault.code fault.at)) }
-
-    // what was handed in comes back
-    ensures kept { IfOk result (λ checked. (checked.sign ≡ under sign.now defaults) × (checked.source.octets ≡ source.entry.octets)) }
-    ensures given_back { IfErr result (λ fault. fault.source.octets ≡ source.entry.octets) }
-
-    // and the steps that were taken
-    ensures steps { IfOk result (λ checked. (length source.entry.octets + 1 ≤ checked.source.steps)
-        × (checked.source.steps ≤ check_limit (length source.entry.octets))) }
-    ensures fault_steps { IfErr result (λ fault. (fault.at + 1 ≤ fault.source.steps)
-        × (fault.source.steps ≤ check_limit (length source.entry.octets))) }
-{
-    let terms = Terms::new(sign, defaults);
-    let mut source = source;
-    let mut state = State::new(&terms);
-    match judge(&terms, &mut state, &mut source) {
-        Ok(()) => Ok(Checked {
-            terms,
-            source,
-            pages: state.pages,
-            cycle: state.whole_cycle(),
-        }),
-        Err(offence) => Err(Fault {
-            code: offence.error.code(),
-            at: offence.at,
-            source,
-        }),
-    }
-}
-
-/// Goes from the state before the first item to that behind the last of an accepted string, or to the first offence.
-fn judge(sign: &Terms<'_>, state: &mut State, source: &mut Source<'_>) -> Result<(), Offence>
-    requires start { IsStateOf sign.now [] state.old }
-    requires fresh { source.old.steps ≡ 0 }
-    requires short { length source.old.octets < 2 ^ 32 }
-    ensures accepted { OnOk result (IsVerdict sign.now source.old.octets (Accepted state.new.pages)
-        × IsCycle sign.now source.old.octets (state.new.cycle + state.new.attributes.on + state.new.attributes.off)
-        × (state.new.cycle ≤ 510 * state.new.pages)) }
-    ensures refused { IfErr result (λ offence. IsVerdict sign.now source.old.octets (Refused (code_of offence.error) offence.at)) }
-    ensures kept { source.new.octets ≡ source.old.octets }
-    ensures steps { OnOk result (length source.old.octets + 1 ≤ source.new.steps) }
-    ensures fault_steps { IfErr result (λ offence. offence.at + 1 ≤ source.new.steps) }
-    ensures most { source.new.steps ≤ check_limit (length source.old.octets) }
-{
-    let mut at = 0;
-    loop {
-        let token = match next_token(source, at) {
-            Ok(Some(token)) => token,
-            Ok(None) => return Ok(()),
-            Err(_) => {
-                return Err(Offence {
-                    error: SyntaxError::UnsupportedTag,
-                    at,
-                });
-            }
-        };
-        match judge_token(sign, state, source, &token) {
-            Ok(()) => at += token.len,
-            Err(error) => return Err(Offence { error, at }),
-        }
-    }
-}
-
 /// Judges the item of a token.
-fn judge_token(
+pub(crate) fn judge_token(
     sign: &Terms<'_>,
     state: &mut State,
     source: &mut Source<'_>,
@@ -150,7 +43,7 @@ fn judge_token(
 }
 
 /// Judges an item that was read.
-pub(crate) fn judge_item(
+fn judge_item(
     sign: &Terms<'_>,
     state: &mut State,
     source: &mut Source<'_>,
@@ -168,7 +61,7 @@ pub(crate) fn judge_item(
 }
 
 /// Judges what a tag says.
-fn judge_tag(
+pub(crate) fn judge_tag(
     sign: &Terms<'_>,
     state: &mut State,
     source: &mut Source<'_>,
@@ -210,12 +103,11 @@ fn judge_character(
 }
 
 /// Judges a character whose cell was found.
-pub(crate) fn judge_cell(state: &mut State, number: u8, cell: &Cell<'_>) -> Result<(), SyntaxError>
+fn judge_cell(state: &mut State, number: u8, cell: &Cell<'_>) -> Result<(), SyntaxError>
     requires { IsReady state.old }
     ensures judged { (sign : SignData) → cell_in sign state.old.attributes.font.number number ≡ Some cell.now
         → Judges sign state.old (Shows number) result state.new }
 {
-    let character = state.attributes.character(cell.width());
     let page_just = state.attributes.page_just;
     if state
         .area
@@ -223,6 +115,7 @@ pub(crate) fn judge_cell(state: &mut State, number: u8, cell: &Cell<'_>) -> Resu
     {
         return Err(SyntaxError::TagConflict);
     }
+    let character = state.attributes.character(cell.width());
     state.area.add_character(page_just, &character);
     let Rectangle { width, height, .. } = state.attributes.rectangle;
     if state.area.fits_with_character(page_just, width, height) {

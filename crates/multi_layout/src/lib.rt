@@ -21,17 +21,19 @@ mod pages;
 mod paint;
 mod place;
 mod read;
+mod run;
 mod state;
 mod table;
 mod terms;
 mod times;
+mod verdict;
 
 pub use checked::Checked;
 pub use fault::{Fault, SyntaxError};
-pub use judge::{check, check_with};
 pub use laws::{one_verdict, refusal_stands, smaller_fits};
 pub use pages::{PageView, Pages};
 pub use times::Shown;
+pub use verdict::{check, check_with};
 
 #[cfg(test)]
 mod tests;

@@ -1,12 +1,13 @@
 //! The running sums of a line's characters.
 
-ghost use Rattle.std.specs.Prelude.{◌≡◌, ℕ, ◌+◌, ◌^◌, ◌≤◌, false, if◌then◌else◌, length, List, [], ◌∷◌, ◌++◌};
+ghost use Rattle.std.specs.Prelude.{◌≡◌, ℕ, ◌+◌, ◌^◌, ◌≤◌, true, false, nat_le, nat_lt, if◌then◌else◌, length, Some, List, [], ◌∷◌, ◌++◌};
 ghost use Rattle.std.specs.List.{AllPass, list_any};
 ghost use Rattle.std.specs.Option.{option_map_or, unwrap_or};
 ghost use Rattle.multi_layout.specs.Address.{Spot, is_glyph, segment};
 ghost use Rattle.multi_layout.specs.Fit.{fit, line_fits};
 ghost use Rattle.multi_layout.specs.Line.{average, width_of};
 ghost use Rattle.multi_layout.specs.Offence.{clashes};
+ghost use Rattle.multi_layout.specs.Run.{kept_fits, kept_width, lengthened_line};
 ghost use Rattle.multi_layout.specs.Sums.{segment_sum, line_sum, line_sum_in, IsCharacter, IsSegmentBelow, IsLineBelow};
 
 use sign_font::FontInfo;
@@ -159,6 +160,7 @@ impl Line {
         requires known { self.now.present ≤ 5 }
         requires just { (2 ≤ just) × (just ≤ 5) }
         ensures sum { (line : List Spot) → self.now ≡ line_sum line → result ≡ width_of (segment just line) }
+        ensures kept { result ≡ kept_width just self.now }
         ensures below { (k : ℕ) → IsLineBelow k self.now → result ≤ k }
     {
         if just == self.present {
@@ -196,6 +198,48 @@ impl Line {
         }
     }
 
+    /// Whether a character with this line justification and font, and with the character spacing of the last one, changes
+    /// nothing of the line but the present segment's width and count.
+    pub(crate) fn takes_more(&self, just: u8, font: &FontInfo) -> bool
+        ensures { result ≡ true → (self.now.present ≡ just) × (self.now.has_parts ≡ nat_lt just 5) × (self.now.any ≡ true)
+            × (font.now.height ≤ self.now.height) × (font.now.line_spacing ≤ self.now.spacing) × (self.now.part.last ≡ Some font.now.char_spacing) }
+    {
+        self.present == just
+            && self.has_parts == (just < 5)
+            && self.any
+            && font.height <= self.height
+            && font.line_spacing <= self.spacing
+            && self.part.last == Some(font.char_spacing)
+    }
+
+    /// The most pixels that the present segment may have within a width, into which the line fits as it is.
+    pub(crate) fn room(&self, width: u16) -> u64
+        requires known { (2 ≤ self.now.present) × (self.now.present ≤ 5) }
+        requires below { IsLineBelow (2 ^ 62) self.now }
+        requires fits { kept_fits width self.now ≡ true }
+        ensures { (line : List Spot) (pixels count : ℕ) → self.now ≡ line_sum line → 1 ≤ pixels
+            → kept_fits width (lengthened_line pixels count self.now) ≡ nat_le pixels result }
+    {
+        let width = u64::from(width);
+        match self.present {
+            3 => width.saturating_sub(2 * self.left),
+            4 if self.centre == 0 => width.saturating_sub(self.left),
+            4 => {
+                let rest = width.saturating_sub(self.centre);
+                rest - rest / 2
+            }
+            _ => width,
+        }
+    }
+
+    /// Gives the present segment this width and number of characters.
+    pub(crate) fn lengthen(&mut self, width: u64, count: u64)
+        ensures { self.new ≡ lengthened_line width count self.old }
+    {
+        self.part.width = width;
+        self.part.count = count;
+    }
+
     /// The height of the line that an `nl` ends with this font in force.
     pub(crate) fn ended_height(&self, font: &FontInfo) -> u8
         ensures { result ≡ if self.now.any then self.now.height else font.now.height }
@@ -226,7 +270,8 @@ impl Line {
     /// Whether the line fits a width in pixels.
     pub(crate) fn fits(&self, width: u16) -> bool
         requires below { IsLineBelow (2 ^ 62 + 1024) self.now }
-        ensures { (line : List Spot) → self.now ≡ line_sum line → result ≡ line_fits width line }
+        ensures sum { (line : List Spot) → self.now ≡ line_sum line → result ≡ line_fits width line }
+        ensures kept { result ≡ kept_fits width self.now }
     {
         let width = u64::from(width);
         parts_fit(self.width(2), self.width(3), self.width(4), width) && self.width(5) <= width

@@ -157,7 +157,7 @@ fn page_start(sign: &Terms<'_>, source: &mut Source<'_>, page: u8) -> Cursor
         let Some(next) = cursor.next_item(source) else {
             unreachable!();
         };
-        cursor = cursor.pass(sign, source, next);
+        cursor.pass(sign, source, next);
     }
     cursor
 }

@@ -45,7 +45,7 @@ pub(crate) fn place_at(
     let line = line_at(lines, group.ended);
     Place {
         column: column_at(attributes, &group.line, &line, width),
-        row: row_at(attributes, height(lines), line.bottom),
+        row: row_at(attributes, height(lines), u64::from(line.bottom)),
     }
 }
 
@@ -73,7 +73,7 @@ fn column_at(attributes: &Attributes, before: &Line, line: &CountedLine, width: 
     u64::from(attributes.rectangle.left)
         + start(just, length, size)
         + columns_before(attributes, &part, width)
-        + moved(just, part.count, line.characters, spare)
+        + moved(just, part.count, u64::from(line.characters), spare)
 }
 
 /// The columns of a segment before one more character of this width.
@@ -107,7 +107,7 @@ fn height(lines: &[CountedLine]) -> u64
     ensures { (group : List (List Spot)) → lines.now ≡ table_of group → result ≡ height_of group }
 {
     match lines.last() {
-        Some(line) => line.bottom,
+        Some(line) => u64::from(line.bottom),
         None => 0,
     }
 }

@@ -1,6 +1,6 @@
 //! What is kept of the items that were read.
 
-ghost use Rattle.std.specs.Prelude.{◌≡◌, ◌+◌, ◌*◌, ◌≤◌, []};
+ghost use Rattle.std.specs.Prelude.{◌≡◌, ℕ, ◌+◌, ◌*◌, ◌≤◌, []};
 ghost use Rattle.sign_font.specs.Sound.{IsSound};
 
 use crate::area::Area;
@@ -19,7 +19,12 @@ pub(crate) struct State {
 }
 
 impl State {
-    ghost use Rattle.multi_layout.specs.State.{IsStateOf};
+    ghost use Rattle.std.specs.Prelude.{List, ◌∷◌, ◌++◌, Some, None};
+    ghost use Rattle.sign_font.specs.Cell.{SizedCell};
+    ghost use Rattle.sign_font.specs.Sign.{SignData, cell_in};
+    ghost use Rattle.multi_layout.specs.Meaning.{Meaning, Shows};
+    ghost use Rattle.multi_layout.specs.Offence.{offence};
+    ghost use Rattle.multi_layout.specs.State.{IsReady, IsStateOf};
 
     /// The state before the first item.
     pub(crate) fn new(sign: &Terms<'_>) -> State
@@ -44,6 +49,18 @@ impl State {
             },
             area: Area::new(),
         }
+    }
+
+    /// Goes behind a character of an accepted string, whose cell has this width in pixels.
+    pub(crate) fn pass_character(&mut self, width: u8)
+        requires ready { IsReady self.old }
+        ensures passed { (sign : SignData) (items : List Meaning) (number : ℕ) (cell : SizedCell) → IsStateOf sign items self.old
+            → cell_in sign self.old.attributes.font.number number ≡ Some cell → width ≡ cell.width → offence sign items (Shows number) ≡ None
+            → IsStateOf sign (items ++ Shows number ∷ []) self.new }
+    {
+        let character = self.attributes.character(width);
+        let page_just = self.attributes.page_just;
+        self.area.add_character(page_just, &character);
     }
 
     /// The times of all pages of a string that ends here, in tenths of a second.

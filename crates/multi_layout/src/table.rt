@@ -3,7 +3,7 @@
 ghost use Rattle.std.specs.Prelude.{◌≡◌, ℕ, ◌<◌, ◌≤◌, ◌==◌, length, List, [], ◌∷◌, ◌++◌, if◌then◌else◌};
 ghost use Rattle.multi_layout.specs.Address.{Spot};
 ghost use Rattle.multi_layout.specs.Sums.{line_sum};
-ghost use Rattle.multi_layout.specs.Table.{width_in, group_lines, line_entry};
+ghost use Rattle.multi_layout.specs.Table.{IsNarrow, width_in, group_lines, line_entry};
 
 use crate::line::Line;
 use arrayvec::ArrayVec;
@@ -12,14 +12,14 @@ use arrayvec::ArrayVec;
 #[derive(Clone, Copy, Debug, PartialEq, Eq, Default)]
 pub(crate) struct CountedLine {
     /// The widths of its segments.
-    pub(crate) left: u64,
-    pub(crate) centre: u64,
-    pub(crate) right: u64,
-    pub(crate) full: u64,
+    pub(crate) left: u16,
+    pub(crate) centre: u16,
+    pub(crate) right: u16,
+    pub(crate) full: u16,
     /// How many characters its full segment has.
-    pub(crate) characters: u64,
+    pub(crate) characters: u16,
     /// The height of its group down to its bottom.
-    pub(crate) bottom: u64,
+    pub(crate) bottom: u16,
 }
 
 /// The counted lines of an area: those of the top, the middle and the bottom group.
@@ -34,16 +34,18 @@ impl CountedLine {
     /// What is kept of a line with this height of its group down to its bottom.
     pub(crate) fn of(line: &Line, bottom: u64) -> CountedLine
         requires known { line.now.present ≤ 5 }
+        requires narrow { (spots : List Spot) × (line.now ≡ line_sum spots) × IsNarrow spots }
+        requires low { bottom ≤ 1024 }
         ensures entry { (spots : List Spot) → line.now ≡ line_sum spots → result ≡ line_entry spots bottom }
         ensures bottom { result.bottom ≡ bottom }
     {
         CountedLine {
-            left: line.width(2),
-            centre: line.width(3),
-            right: line.width(4),
-            full: line.width(5),
-            characters: line.full_count(),
-            bottom,
+            left: line.width(2) as u16,
+            centre: line.width(3) as u16,
+            right: line.width(4) as u16,
+            full: line.width(5) as u16,
+            characters: line.full_count() as u16,
+            bottom: bottom as u16,
         }
     }
 
@@ -52,10 +54,10 @@ impl CountedLine {
         ensures { result ≡ width_in just self.now }
     {
         match just {
-            2 => self.left,
-            3 => self.centre,
-            4 => self.right,
-            _ => self.full,
+            2 => u64::from(self.left),
+            3 => u64::from(self.centre),
+            4 => u64::from(self.right),
+            _ => u64::from(self.full),
         }
     }
 }
@@ -70,6 +72,15 @@ impl LineTable {
             middle: ArrayVec::new(),
             bottom: ArrayVec::new(),
         }
+    }
+
+    /// Takes all lines out.
+    pub(crate) fn clear(&mut self)
+        ensures { (just : ℕ) → group_lines just self.new ≡ [] }
+    {
+        self.top.clear();
+        self.middle.clear();
+        self.bottom.clear();
     }
 
     /// Puts a line behind those of the group with this page justification: top 2, middle 3, bottom 4.

@@ -114,4 +114,14 @@ impl<'a> Terms<'a> {
     {
         self.sign.cell(source, font, number)
     }
+
+    /// The width in pixels of the cell of an octet in the font of a number, if both are defined. Either way it is one step.
+    pub(crate) fn cell_width(&self, source: &mut Source<'_>, font: u8, octet: u8) -> Option<u8>
+        ensures width { result ≡ option_map (λ cell. cell.width) (cell_in self.now font octet) }
+        ensures size { IfSome result (IsWithin 1 64) }
+        ensures step { source.new ≡ charged source.old 1 }
+        ensures sound { IsSound self.now }
+    {
+        self.sign.cell_width(source, font, octet)
+    }
 }

@@ -11,7 +11,7 @@ use Rattle.multi_layout.proofs.draw.draw_area.Goals as goal
 
 pub loop-cursor-init : goal.loop-cursor-init
 loop-cursor-init c = record {
-  so_far = λ before area rest b plain ends counted. area_begins c.args.sign.now c.args.source.now.octets before area rest c.args.read.now.lines c.args.layer c.args.plane.now c.args.cursor b plain counted;
+  so_far = λ before area rest b plain ends counted. area_begins c.args.sign.now c.args.source.now.octets before area rest c.args.read.now.lines c.args.layer c.args.plane.now c.args.cursor.now b plain counted;
   on = omega arith;
   steps = (0, omega arith, omega arith, sym (charged-zero c.args.source.now));
   fills = subst (IsFilledBy c.args.sign.now c.args.plane.now c.args.plane.now) (omega arith) (filled_none c.args.sign.now c.args.plane.now);
@@ -37,8 +37,8 @@ unreachable-requires c =
     none_first sign c.args.source.now.octets before area rest c.args.read.now.lines c.args.layer c.args.plane.now c.loop-cursor.cursor c.loop-cursor.plane s c.args.read.now.end end c.loop-cursor-test.true
     (c.in_default.ensures.first sign (before ++ s.done) (s.left ++ rest) (subst (λ o. IsBetween sign o (before ++ s.done) (s.left ++ rest) c.loop-cursor.cursor) (sym same) s.between))
 
-pub draw_item-cursor-requires-clause-known : goal.draw_item-cursor-requires-clause-known
-draw_item-cursor-requires-clause-known c =
+pub draw_item-requires-clause-known : goal.draw_item-requires-clause-known
+draw_item-requires-clause-known c =
     let i = c.loop-cursor.invariant in
     let sign = c.args.sign.now in
     let (before, area, rest, b, plain, ends, counted) = c.requires.known in
@@ -60,7 +60,7 @@ loop-cursor-smaller c =
     let end : c.args.read.now.end ≡ length (spell before) + length (spell area) = omega (arith, ends, b.place) in
     let (item, more, is, here, read, table, quiet) = area_next sign c.args.source.now.octets before area rest c.args.read.now.lines c.args.layer c.args.plane.now c.loop-cursor.cursor c.loop-cursor.plane s c.args.read.now.end end c.loop-cursor-test.true c.in-Some.next
     (λ earlier behind x. c.in-Some.ensures.first sign earlier behind (subst (λ o. IsBetween sign o earlier behind c.loop-cursor.cursor) (sym same) x)) in
-    omega (arith, c.loop-cursor-test.true, c.draw_item-cursor.ensures.at, read.len, spelling_some item)
+    omega (arith, c.loop-cursor-test.true, c.draw_item.ensures.at, read.len, spelling_some item)
 
 pub loop-cursor-preserved : goal.loop-cursor-preserved
 loop-cursor-preserved c =
@@ -68,7 +68,7 @@ loop-cursor-preserved c =
     let sign = c.args.sign.now in
     let octets = c.args.source.now.octets in
     let next = c.in-Some.next in
-    let at = c.draw_item-cursor.ensures.at in
+    let at = c.draw_item.ensures.at in
     let same : c.loop-cursor.source.octets ≡ octets = ap (λ (x : Counted). x.octets) i.steps.3 in
     let read_same : c.next_item.new.source.octets ≡ octets = ap (λ (x : Counted). x.octets) c.in-Some.ensures.steps.3 ∙ same in
     let (before', area', rest', b', plain', ends', counted') = c.requires.known in
@@ -77,22 +77,22 @@ loop-cursor-preserved c =
     let first = λ (earlier behind : List Item) (x : IsBetween sign octets earlier behind c.loop-cursor.cursor). c.in-Some.ensures.first sign earlier behind (subst (λ o. IsBetween sign o earlier behind c.loop-cursor.cursor) (sym same) x) in
     let some = area_next sign octets before' area' rest' c.args.read.now.lines c.args.layer c.args.plane.now c.loop-cursor.cursor c.loop-cursor.plane s' c.args.read.now.end end' c.loop-cursor-test.true next first in
     let long : 1 ≤ next.len = omega (arith, some.4.len, spelling_some some.0) in
-    let both = rises_then c.args.source.now c.loop-cursor.source c.next_item.new.source 0 (2 * (c.loop-cursor.cursor.at - c.args.cursor.at)) 0 (2 * next.len - 1) i.steps c.in-Some.ensures.steps in
-    let all = rises_then c.args.source.now c.next_item.new.source c.draw_item-cursor.new.source 0 (2 * (c.loop-cursor.cursor.at - c.args.cursor.at) + (2 * next.len - 1)) 0 1 both c.draw_item-cursor.ensures.steps in
-    let steps : 2 * (c.loop-cursor.cursor.at - c.args.cursor.at) + (2 * next.len - 1) + 1 ≡ 2 * (c.draw_item-cursor.result.at - c.args.cursor.at) = omega (arith, at, i.on, long) in
-    let gone : (c.loop-cursor.cursor.at - c.args.cursor.at) + next.len ≡ c.draw_item-cursor.result.at - c.args.cursor.at = omega (arith, at, i.on) in
+    let both = rises_then c.args.source.now c.loop-cursor.source c.next_item.new.source 0 (2 * (c.loop-cursor.cursor.at - c.args.cursor.now.at)) 0 (2 * next.len - 1) i.steps c.in-Some.ensures.steps in
+    let all = rises_then c.args.source.now c.next_item.new.source c.draw_item.new.source 0 (2 * (c.loop-cursor.cursor.at - c.args.cursor.now.at) + (2 * next.len - 1)) 0 1 both c.draw_item.ensures.steps in
+    let steps : 2 * (c.loop-cursor.cursor.at - c.args.cursor.now.at) + (2 * next.len - 1) + 1 ≡ 2 * (c.draw_item.new.cursor.at - c.args.cursor.now.at) = omega (arith, at, i.on, long) in
+    let gone : (c.loop-cursor.cursor.at - c.args.cursor.now.at) + next.len ≡ c.draw_item.new.cursor.at - c.args.cursor.now.at = omega (arith, at, i.on) in
     record {
       so_far = λ before area rest b plain ends counted.
           let s = i.so_far before area rest b plain ends counted in
           let end : c.args.read.now.end ≡ length (spell before) + length (spell area) = omega (arith, ends, b.place) in
           let (item, more, is, here, read, table, quiet) = area_next sign octets before area rest c.args.read.now.lines c.args.layer c.args.plane.now c.loop-cursor.cursor c.loop-cursor.plane s c.args.read.now.end end c.loop-cursor-test.true next first in
           let here' = subst (λ o. IsBetween sign o (before ++ s.done) (item ∷ (more ++ rest)) c.loop-cursor.cursor) (sym read_same) here in
-          let passed = subst (λ o. IsBetween sign o ((before ++ s.done) ++ item ∷ []) (more ++ rest) c.draw_item-cursor.result) read_same (c.draw_item-cursor.ensures.passed (before ++ s.done) (more ++ rest) item here' read) in
-          area_more sign octets before area rest c.args.read.now.lines c.args.layer c.args.plane.now c.loop-cursor.cursor c.loop-cursor.plane s c.args.read.now.end end item more is c.draw_item-cursor.result c.draw_item-cursor.new.plane passed
-          (c.draw_item-cursor.ensures.drawn (before ++ s.done) (more ++ rest) item here' read quiet table);
+          let passed = subst (λ o. IsBetween sign o ((before ++ s.done) ++ item ∷ []) (more ++ rest) c.draw_item.new.cursor) read_same (c.draw_item.ensures.passed (before ++ s.done) (more ++ rest) item here' read) in
+          area_more sign octets before area rest c.args.read.now.lines c.args.layer c.args.plane.now c.loop-cursor.cursor c.loop-cursor.plane s c.args.read.now.end end item more is c.draw_item.new.cursor c.draw_item.new.plane passed
+          (c.draw_item.ensures.drawn (before ++ s.done) (more ++ rest) item here' read quiet table);
       on = omega (arith, at, i.on);
-      steps = subst (RisesBetween c.args.source.now c.draw_item-cursor.new.source 0) steps all;
-      fills = subst (IsFilledBy sign c.args.plane.now c.draw_item-cursor.new.plane) gone (filled_then sign c.args.plane.now c.loop-cursor.plane c.draw_item-cursor.new.plane (c.loop-cursor.cursor.at - c.args.cursor.at) next.len i.fills c.draw_item-cursor.ensures.fills);
+      steps = subst (RisesBetween c.args.source.now c.draw_item.new.source 0) steps all;
+      fills = subst (IsFilledBy sign c.args.plane.now c.draw_item.new.plane) gone (filled_then sign c.args.plane.now c.loop-cursor.plane c.draw_item.new.plane (c.loop-cursor.cursor.at - c.args.cursor.now.at) next.len i.fills c.draw_item.ensures.fills);
     }
 
 pub returns-clause-passed : goal.returns-clause-passed
@@ -117,7 +117,7 @@ returns-clause-steps c =
     let s = i.so_far before area rest b plain ends counted in
     let end : c.args.read.now.end ≡ length (spell before) + length (spell area) = omega (arith, ends, b.place) in
     let at = at_end sign c.args.source.now.octets before area rest c.args.read.now.lines c.args.layer c.args.plane.now c.loop-cursor.cursor c.loop-cursor.plane s c.args.read.now.end end (omega (arith, c.loop-cursor-test.false)) in
-    subst (λ n. RisesBetween c.args.source.now c.loop-cursor.source 0 (2 * (n - c.args.cursor.at))) at i.steps
+    subst (λ n. RisesBetween c.args.source.now c.loop-cursor.source 0 (2 * (n - c.args.cursor.now.at))) at i.steps
 
 pub returns-clause-fills : goal.returns-clause-fills
 returns-clause-fills c =
@@ -127,4 +127,4 @@ returns-clause-fills c =
     let s = i.so_far before area rest b plain ends counted in
     let end : c.args.read.now.end ≡ length (spell before) + length (spell area) = omega (arith, ends, b.place) in
     let at = at_end sign c.args.source.now.octets before area rest c.args.read.now.lines c.args.layer c.args.plane.now c.loop-cursor.cursor c.loop-cursor.plane s c.args.read.now.end end (omega (arith, c.loop-cursor-test.false)) in
-    subst (λ n. IsFilledBy sign c.args.plane.now c.loop-cursor.plane (n - c.args.cursor.at)) at i.fills
+    subst (λ n. IsFilledBy sign c.args.plane.now c.loop-cursor.plane (n - c.args.cursor.now.at)) at i.fills

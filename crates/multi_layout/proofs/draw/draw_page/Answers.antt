@@ -25,8 +25,8 @@ loop-next-init c = record {
   filled = subst (IsFilledBy c.args.sign.now c.fill.new.self c.fill.new.self) (omega arith) (filled_none c.args.sign.now c.fill.new.self);
 }
 
-pub read_area-read-requires-clause-begins : goal.read_area-read-requires-clause-begins
-read_area-read-requires-clause-begins c =
+pub read_area-requires-clause-begins : goal.read_area-requires-clause-begins
+read_area-requires-clause-begins c =
     let i = c.loop-next.invariant in
     let sign = c.args.sign.now in
     let octets = c.args.source.now.octets in
@@ -36,8 +36,8 @@ read_area-read-requires-clause-begins c =
     let b0 = subst (λ o. IsBetween sign o (before ++ s.so.done) s.so.left c.loop-next.cursor) (sym same0) s.so.between in
     (before ++ s.so.done, s.so.left, b0, s.begins)
 
-pub draw_area-cursor-requires-clause-known : goal.draw_area-cursor-requires-clause-known
-draw_area-cursor-requires-clause-known c =
+pub draw_area-requires-clause-known : goal.draw_area-requires-clause-known
+draw_area-requires-clause-known c =
     let i = c.loop-next.invariant in
     let sign = c.args.sign.now in
     let octets = c.args.source.now.octets in
@@ -45,20 +45,20 @@ draw_area-cursor-requires-clause-known c =
     let (before, behind, b, begins) = c.requires.begins in
     let s = i.so_far before behind b in
     let b0 = subst (λ o. IsBetween sign o (before ++ s.so.done) s.so.left c.loop-next.cursor) (sym same0) s.so.between in
-    let a = c.read_area-read.ensures.read (before ++ s.so.done) s.so.left b0 s.begins in
-    let same1 : c.read_area-read.new.source.octets ≡ octets = ap (λ (x : Counted). x.octets) a.steps.3 ∙ same0 in
+    let a = c.read_area.ensures.read (before ++ s.so.done) s.so.left b0 s.begins in
+    let same1 : c.read_area.new.source.octets ≡ octets = ap (λ (x : Counted). x.octets) a.steps.3 ∙ same0 in
     let b1 = subst (λ o. IsBetween sign o (before ++ s.so.done) s.so.left c.loop-next.cursor) (sym same1) s.so.between in (
       before ++ s.so.done,
       a.area,
       a.rest,
-      subst (λ l. IsBetween sign c.read_area-read.new.source.octets (before ++ s.so.done) l c.loop-next.cursor) a.split b1,
+      subst (λ l. IsBetween sign c.read_area.new.source.octets (before ++ s.so.done) l c.loop-next.cursor) a.split b1,
       a.plain,
       a.end,
-      subst (λ l. Rattle.multi_layout.specs.Passes.HasCounted (Rattle.multi_layout.specs.Passes.whole_area sign (before ++ s.so.done) l) c.read_area-read.result.lines) a.split a.table,
+      subst (λ l. Rattle.multi_layout.specs.Passes.HasCounted (Rattle.multi_layout.specs.Passes.whole_area sign (before ++ s.so.done) l) c.read_area.new.read.lines) a.split a.table,
     )
 
-pub draw_area-cursor-requires-clause-low : goal.draw_area-cursor-requires-clause-low
-draw_area-cursor-requires-clause-low c =
+pub draw_area-requires-clause-low : goal.draw_area-requires-clause-low
+draw_area-requires-clause-low c =
     let i = c.loop-next.invariant in
     let sign = c.args.sign.now in
     let octets = c.args.source.now.octets in
@@ -66,8 +66,8 @@ draw_area-cursor-requires-clause-low c =
     let (before, behind, b, begins) = c.requires.begins in
     let s = i.so_far before behind b in
     let b0 = subst (λ o. IsBetween sign o (before ++ s.so.done) s.so.left c.loop-next.cursor) (sym same0) s.so.between in
-    let a = c.read_area-read.ensures.read (before ++ s.so.done) s.so.left b0 s.begins in
-    let same1 : c.read_area-read.new.source.octets ≡ octets = ap (λ (x : Counted). x.octets) a.steps.3 ∙ same0 in
+    let a = c.read_area.ensures.read (before ++ s.so.done) s.so.left b0 s.begins in
+    let same1 : c.read_area.new.source.octets ≡ octets = ap (λ (x : Counted). x.octets) a.steps.3 ∙ same0 in
     a.low
 
 pub next_item-requires : goal.next_item-requires
@@ -79,13 +79,13 @@ next_item-requires c =
     let (before, behind, b, begins) = c.requires.begins in
     let s = i.so_far before behind b in
     let b0 = subst (λ o. IsBetween sign o (before ++ s.so.done) s.so.left c.loop-next.cursor) (sym same0) s.so.between in
-    let a = c.read_area-read.ensures.read (before ++ s.so.done) s.so.left b0 s.begins in
-    let same1 : c.read_area-read.new.source.octets ≡ octets = ap (λ (x : Counted). x.octets) a.steps.3 ∙ same0 in
-    let r = round sign octets before behind c.args.layer c.loop-next.cursor c.loop-next.plane s c.read_area-read.result c.loop-next.source c.read_area-read.new.source a c.draw_area-cursor.result c.draw_area-cursor.new.plane
-    (λ earlier area rest x plain end table. subst (λ o. IsBetween sign o (earlier ++ area) rest c.draw_area-cursor.result) same1 (c.draw_area-cursor.ensures.passed earlier area rest (subst (λ o. IsBetween sign o earlier (area ++ rest) c.loop-next.cursor) (sym same1) x) plain end table))
-    (λ earlier area rest x plain end table. c.draw_area-cursor.ensures.drawn earlier area rest (subst (λ o. IsBetween sign o earlier (area ++ rest) c.loop-next.cursor) (sym same1) x) plain end table) in
-    let same2 : c.draw_area-cursor.new.source.octets ≡ octets = ap (λ (x : Counted). x.octets) c.draw_area-cursor.ensures.steps.3 ∙ same1 in
-    let b2 = subst (λ o. IsBetween sign o (before ++ r.so.done) r.so.left c.draw_area-cursor.result) (sym same2) r.so.between in
+    let a = c.read_area.ensures.read (before ++ s.so.done) s.so.left b0 s.begins in
+    let same1 : c.read_area.new.source.octets ≡ octets = ap (λ (x : Counted). x.octets) a.steps.3 ∙ same0 in
+    let r = round sign octets before behind c.args.layer c.loop-next.cursor c.loop-next.plane s c.read_area.new.read c.loop-next.source c.read_area.new.source a c.draw_area.new.cursor c.draw_area.new.plane
+    (λ earlier area rest x plain end table. subst (λ o. IsBetween sign o (earlier ++ area) rest c.draw_area.new.cursor) same1 (c.draw_area.ensures.passed earlier area rest (subst (λ o. IsBetween sign o earlier (area ++ rest) c.loop-next.cursor) (sym same1) x) plain end table))
+    (λ earlier area rest x plain end table. c.draw_area.ensures.drawn earlier area rest (subst (λ o. IsBetween sign o earlier (area ++ rest) c.loop-next.cursor) (sym same1) x) plain end table) in
+    let same2 : c.draw_area.new.source.octets ≡ octets = ap (λ (x : Counted). x.octets) c.draw_area.ensures.steps.3 ∙ same1 in
+    let b2 = subst (λ o. IsBetween sign o (before ++ r.so.done) r.so.left c.draw_area.new.cursor) (sym same2) r.so.between in
     (sign, (before ++ r.so.done, r.so.left, b2))
 
 pub returns-in_default-clause-drawn : goal.returns-in_default-clause-drawn
@@ -96,15 +96,15 @@ returns-in_default-clause-drawn c = λ before behind b.
     let same0 : c.loop-next.source.octets ≡ octets = ap (λ (x : Counted). x.octets) i.steps.3 in
     let s = i.so_far before behind b in
     let b0 = subst (λ o. IsBetween sign o (before ++ s.so.done) s.so.left c.loop-next.cursor) (sym same0) s.so.between in
-    let a = c.read_area-read.ensures.read (before ++ s.so.done) s.so.left b0 s.begins in
-    let same1 : c.read_area-read.new.source.octets ≡ octets = ap (λ (x : Counted). x.octets) a.steps.3 ∙ same0 in
-    let r = round sign octets before behind c.args.layer c.loop-next.cursor c.loop-next.plane s c.read_area-read.result c.loop-next.source c.read_area-read.new.source a c.draw_area-cursor.result c.draw_area-cursor.new.plane
-    (λ earlier area rest x plain end table. subst (λ o. IsBetween sign o (earlier ++ area) rest c.draw_area-cursor.result) same1 (c.draw_area-cursor.ensures.passed earlier area rest (subst (λ o. IsBetween sign o earlier (area ++ rest) c.loop-next.cursor) (sym same1) x) plain end table))
-    (λ earlier area rest x plain end table. c.draw_area-cursor.ensures.drawn earlier area rest (subst (λ o. IsBetween sign o earlier (area ++ rest) c.loop-next.cursor) (sym same1) x) plain end table) in
-    let same2 : c.draw_area-cursor.new.source.octets ≡ octets = ap (λ (x : Counted). x.octets) c.draw_area-cursor.ensures.steps.3 ∙ same1 in
-    let b2 = subst (λ o. IsBetween sign o (before ++ r.so.done) r.so.left c.draw_area-cursor.result) (sym same2) r.so.between in
+    let a = c.read_area.ensures.read (before ++ s.so.done) s.so.left b0 s.begins in
+    let same1 : c.read_area.new.source.octets ≡ octets = ap (λ (x : Counted). x.octets) a.steps.3 ∙ same0 in
+    let r = round sign octets before behind c.args.layer c.loop-next.cursor c.loop-next.plane s c.read_area.new.read c.loop-next.source c.read_area.new.source a c.draw_area.new.cursor c.draw_area.new.plane
+    (λ earlier area rest x plain end table. subst (λ o. IsBetween sign o (earlier ++ area) rest c.draw_area.new.cursor) same1 (c.draw_area.ensures.passed earlier area rest (subst (λ o. IsBetween sign o earlier (area ++ rest) c.loop-next.cursor) (sym same1) x) plain end table))
+    (λ earlier area rest x plain end table. c.draw_area.ensures.drawn earlier area rest (subst (λ o. IsBetween sign o earlier (area ++ rest) c.loop-next.cursor) (sym same1) x) plain end table) in
+    let same2 : c.draw_area.new.source.octets ≡ octets = ap (λ (x : Counted). x.octets) c.draw_area.ensures.steps.3 ∙ same1 in
+    let b2 = subst (λ o. IsBetween sign o (before ++ r.so.done) r.so.left c.draw_area.new.cursor) (sym same2) r.so.between in
     let none : r.so.left ≡ [] = c.in_default.ensures.first sign (before ++ r.so.done) r.so.left b2 in
-    page_shown sign octets before behind c.args.layer c.draw_area-cursor.result c.draw_area-cursor.new.plane r.so (subst (λ l. EndsPage (map meaning l)) (sym none) (inl refl)) c.args.cursor.state.pages b.state_is.pages
+    page_shown sign octets before behind c.args.layer c.draw_area.new.cursor c.draw_area.new.plane r.so (subst (λ l. EndsPage (map meaning l)) (sym none) (inl refl)) c.args.cursor.state.pages b.state_is.pages
 
 pub returns-in_default-clause-passed : goal.returns-in_default-clause-passed
 returns-in_default-clause-passed c = λ before behind b.
@@ -114,15 +114,15 @@ returns-in_default-clause-passed c = λ before behind b.
     let same0 : c.loop-next.source.octets ≡ octets = ap (λ (x : Counted). x.octets) i.steps.3 in
     let s = i.so_far before behind b in
     let b0 = subst (λ o. IsBetween sign o (before ++ s.so.done) s.so.left c.loop-next.cursor) (sym same0) s.so.between in
-    let a = c.read_area-read.ensures.read (before ++ s.so.done) s.so.left b0 s.begins in
-    let same1 : c.read_area-read.new.source.octets ≡ octets = ap (λ (x : Counted). x.octets) a.steps.3 ∙ same0 in
-    let r = round sign octets before behind c.args.layer c.loop-next.cursor c.loop-next.plane s c.read_area-read.result c.loop-next.source c.read_area-read.new.source a c.draw_area-cursor.result c.draw_area-cursor.new.plane
-    (λ earlier area rest x plain end table. subst (λ o. IsBetween sign o (earlier ++ area) rest c.draw_area-cursor.result) same1 (c.draw_area-cursor.ensures.passed earlier area rest (subst (λ o. IsBetween sign o earlier (area ++ rest) c.loop-next.cursor) (sym same1) x) plain end table))
-    (λ earlier area rest x plain end table. c.draw_area-cursor.ensures.drawn earlier area rest (subst (λ o. IsBetween sign o earlier (area ++ rest) c.loop-next.cursor) (sym same1) x) plain end table) in
-    let same2 : c.draw_area-cursor.new.source.octets ≡ octets = ap (λ (x : Counted). x.octets) c.draw_area-cursor.ensures.steps.3 ∙ same1 in
-    let b2 = subst (λ o. IsBetween sign o (before ++ r.so.done) r.so.left c.draw_area-cursor.result) (sym same2) r.so.between in
+    let a = c.read_area.ensures.read (before ++ s.so.done) s.so.left b0 s.begins in
+    let same1 : c.read_area.new.source.octets ≡ octets = ap (λ (x : Counted). x.octets) a.steps.3 ∙ same0 in
+    let r = round sign octets before behind c.args.layer c.loop-next.cursor c.loop-next.plane s c.read_area.new.read c.loop-next.source c.read_area.new.source a c.draw_area.new.cursor c.draw_area.new.plane
+    (λ earlier area rest x plain end table. subst (λ o. IsBetween sign o (earlier ++ area) rest c.draw_area.new.cursor) same1 (c.draw_area.ensures.passed earlier area rest (subst (λ o. IsBetween sign o earlier (area ++ rest) c.loop-next.cursor) (sym same1) x) plain end table))
+    (λ earlier area rest x plain end table. c.draw_area.ensures.drawn earlier area rest (subst (λ o. IsBetween sign o earlier (area ++ rest) c.loop-next.cursor) (sym same1) x) plain end table) in
+    let same2 : c.draw_area.new.source.octets ≡ octets = ap (λ (x : Counted). x.octets) c.draw_area.ensures.steps.3 ∙ same1 in
+    let b2 = subst (λ o. IsBetween sign o (before ++ r.so.done) r.so.left c.draw_area.new.cursor) (sym same2) r.so.between in
     let none : r.so.left ≡ [] = c.in_default.ensures.first sign (before ++ r.so.done) r.so.left b2 in
-    last_passed sign octets before behind c.args.layer c.draw_area-cursor.result c.draw_area-cursor.new.plane r.so c.args.cursor b.state_is.pages (omega (arith, i.on, r.on, r.at)) none
+    last_passed sign octets before behind c.args.layer c.draw_area.new.cursor c.draw_area.new.plane r.so c.args.cursor b.state_is.pages (omega (arith, i.on, r.on, r.at)) none
 
 pub returns-in_default-clause-kept : goal.returns-in_default-clause-kept
 returns-in_default-clause-kept c =
@@ -133,13 +133,13 @@ returns-in_default-clause-kept c =
     let (before, behind, b, begins) = c.requires.begins in
     let s = i.so_far before behind b in
     let b0 = subst (λ o. IsBetween sign o (before ++ s.so.done) s.so.left c.loop-next.cursor) (sym same0) s.so.between in
-    let a = c.read_area-read.ensures.read (before ++ s.so.done) s.so.left b0 s.begins in
-    let same1 : c.read_area-read.new.source.octets ≡ octets = ap (λ (x : Counted). x.octets) a.steps.3 ∙ same0 in
-    let r = round sign octets before behind c.args.layer c.loop-next.cursor c.loop-next.plane s c.read_area-read.result c.loop-next.source c.read_area-read.new.source a c.draw_area-cursor.result c.draw_area-cursor.new.plane
-    (λ earlier area rest x plain end table. subst (λ o. IsBetween sign o (earlier ++ area) rest c.draw_area-cursor.result) same1 (c.draw_area-cursor.ensures.passed earlier area rest (subst (λ o. IsBetween sign o earlier (area ++ rest) c.loop-next.cursor) (sym same1) x) plain end table))
-    (λ earlier area rest x plain end table. c.draw_area-cursor.ensures.drawn earlier area rest (subst (λ o. IsBetween sign o earlier (area ++ rest) c.loop-next.cursor) (sym same1) x) plain end table) in
-    let same2 : c.draw_area-cursor.new.source.octets ≡ octets = ap (λ (x : Counted). x.octets) c.draw_area-cursor.ensures.steps.3 ∙ same1 in
-    let b2 = subst (λ o. IsBetween sign o (before ++ r.so.done) r.so.left c.draw_area-cursor.result) (sym same2) r.so.between in
+    let a = c.read_area.ensures.read (before ++ s.so.done) s.so.left b0 s.begins in
+    let same1 : c.read_area.new.source.octets ≡ octets = ap (λ (x : Counted). x.octets) a.steps.3 ∙ same0 in
+    let r = round sign octets before behind c.args.layer c.loop-next.cursor c.loop-next.plane s c.read_area.new.read c.loop-next.source c.read_area.new.source a c.draw_area.new.cursor c.draw_area.new.plane
+    (λ earlier area rest x plain end table. subst (λ o. IsBetween sign o (earlier ++ area) rest c.draw_area.new.cursor) same1 (c.draw_area.ensures.passed earlier area rest (subst (λ o. IsBetween sign o earlier (area ++ rest) c.loop-next.cursor) (sym same1) x) plain end table))
+    (λ earlier area rest x plain end table. c.draw_area.ensures.drawn earlier area rest (subst (λ o. IsBetween sign o earlier (area ++ rest) c.loop-next.cursor) (sym same1) x) plain end table) in
+    let same2 : c.draw_area.new.source.octets ≡ octets = ap (λ (x : Counted). x.octets) c.draw_area.ensures.steps.3 ∙ same1 in
+    let b2 = subst (λ o. IsBetween sign o (before ++ r.so.done) r.so.left c.draw_area.new.cursor) (sym same2) r.so.between in
     ap (λ (x : Counted). x.octets) c.in_default.ensures.end_steps.3 ∙ same2
 
 pub returns-in_default-clause-steps : goal.returns-in_default-clause-steps
@@ -151,17 +151,17 @@ returns-in_default-clause-steps c =
     let (before, behind, b, begins) = c.requires.begins in
     let s = i.so_far before behind b in
     let b0 = subst (λ o. IsBetween sign o (before ++ s.so.done) s.so.left c.loop-next.cursor) (sym same0) s.so.between in
-    let a = c.read_area-read.ensures.read (before ++ s.so.done) s.so.left b0 s.begins in
-    let same1 : c.read_area-read.new.source.octets ≡ octets = ap (λ (x : Counted). x.octets) a.steps.3 ∙ same0 in
-    let r = round sign octets before behind c.args.layer c.loop-next.cursor c.loop-next.plane s c.read_area-read.result c.loop-next.source c.read_area-read.new.source a c.draw_area-cursor.result c.draw_area-cursor.new.plane
-    (λ earlier area rest x plain end table. subst (λ o. IsBetween sign o (earlier ++ area) rest c.draw_area-cursor.result) same1 (c.draw_area-cursor.ensures.passed earlier area rest (subst (λ o. IsBetween sign o earlier (area ++ rest) c.loop-next.cursor) (sym same1) x) plain end table))
-    (λ earlier area rest x plain end table. c.draw_area-cursor.ensures.drawn earlier area rest (subst (λ o. IsBetween sign o earlier (area ++ rest) c.loop-next.cursor) (sym same1) x) plain end table) in
-    let same2 : c.draw_area-cursor.new.source.octets ≡ octets = ap (λ (x : Counted). x.octets) c.draw_area-cursor.ensures.steps.3 ∙ same1 in
-    let b2 = subst (λ o. IsBetween sign o (before ++ r.so.done) r.so.left c.draw_area-cursor.result) (sym same2) r.so.between in
+    let a = c.read_area.ensures.read (before ++ s.so.done) s.so.left b0 s.begins in
+    let same1 : c.read_area.new.source.octets ≡ octets = ap (λ (x : Counted). x.octets) a.steps.3 ∙ same0 in
+    let r = round sign octets before behind c.args.layer c.loop-next.cursor c.loop-next.plane s c.read_area.new.read c.loop-next.source c.read_area.new.source a c.draw_area.new.cursor c.draw_area.new.plane
+    (λ earlier area rest x plain end table. subst (λ o. IsBetween sign o (earlier ++ area) rest c.draw_area.new.cursor) same1 (c.draw_area.ensures.passed earlier area rest (subst (λ o. IsBetween sign o earlier (area ++ rest) c.loop-next.cursor) (sym same1) x) plain end table))
+    (λ earlier area rest x plain end table. c.draw_area.ensures.drawn earlier area rest (subst (λ o. IsBetween sign o earlier (area ++ rest) c.loop-next.cursor) (sym same1) x) plain end table) in
+    let same2 : c.draw_area.new.source.octets ≡ octets = ap (λ (x : Counted). x.octets) c.draw_area.ensures.steps.3 ∙ same1 in
+    let b2 = subst (λ o. IsBetween sign o (before ++ r.so.done) r.so.left c.draw_area.new.cursor) (sym same2) r.so.between in
     let none : r.so.left ≡ [] = c.in_default.ensures.first sign (before ++ r.so.done) r.so.left b2 in
-    let pages : c.draw_area-cursor.result.state.pages ≡ c.args.cursor.state.pages = same_pages sign octets before behind c.args.layer c.draw_area-cursor.result c.draw_area-cursor.new.plane r.so c.args.cursor.state.pages b.state_is.pages in
-    let all = string_end c.args.source.now c.loop-next.source c.read_area-read.new.source c.draw_area-cursor.new.source c.next_item.new.source c.args.cursor.at c.loop-next.cursor.at c.read_area-read.result.end r.so.left i.on r.on none i.steps r.steps c.draw_area-cursor.ensures.steps c.in_default.ensures.end_steps in
-    subst (λ k. RisesBetween c.args.source.now c.next_item.new.source 0 (4 * (c.draw_area-cursor.result.at - c.args.cursor.at) + k)) (sym (if_same c.draw_area-cursor.result.state.pages c.args.cursor.state.pages 2 pages))
+    let pages : c.draw_area.new.cursor.state.pages ≡ c.args.cursor.state.pages = same_pages sign octets before behind c.args.layer c.draw_area.new.cursor c.draw_area.new.plane r.so c.args.cursor.state.pages b.state_is.pages in
+    let all = string_end c.args.source.now c.loop-next.source c.read_area.new.source c.draw_area.new.source c.next_item.new.source c.args.cursor.at c.loop-next.cursor.at c.read_area.new.read.end r.so.left i.on r.on none i.steps r.steps c.draw_area.ensures.steps c.in_default.ensures.end_steps in
+    subst (λ k. RisesBetween c.args.source.now c.next_item.new.source 0 (4 * (c.draw_area.new.cursor.at - c.args.cursor.at) + k)) (sym (if_same c.draw_area.new.cursor.state.pages c.args.cursor.state.pages 2 pages))
     (subst (λ n. RisesBetween c.args.source.now c.next_item.new.source 0 (4 * (n - c.args.cursor.at) + 2)) (sym r.at) all)
 
 pub returns-in_default-clause-fills : goal.returns-in_default-clause-fills
@@ -173,22 +173,22 @@ returns-in_default-clause-fills c =
     let (before, behind, b, begins) = c.requires.begins in
     let s = i.so_far before behind b in
     let b0 = subst (λ o. IsBetween sign o (before ++ s.so.done) s.so.left c.loop-next.cursor) (sym same0) s.so.between in
-    let a = c.read_area-read.ensures.read (before ++ s.so.done) s.so.left b0 s.begins in
-    let same1 : c.read_area-read.new.source.octets ≡ octets = ap (λ (x : Counted). x.octets) a.steps.3 ∙ same0 in
-    let r = round sign octets before behind c.args.layer c.loop-next.cursor c.loop-next.plane s c.read_area-read.result c.loop-next.source c.read_area-read.new.source a c.draw_area-cursor.result c.draw_area-cursor.new.plane
-    (λ earlier area rest x plain end table. subst (λ o. IsBetween sign o (earlier ++ area) rest c.draw_area-cursor.result) same1 (c.draw_area-cursor.ensures.passed earlier area rest (subst (λ o. IsBetween sign o earlier (area ++ rest) c.loop-next.cursor) (sym same1) x) plain end table))
-    (λ earlier area rest x plain end table. c.draw_area-cursor.ensures.drawn earlier area rest (subst (λ o. IsBetween sign o earlier (area ++ rest) c.loop-next.cursor) (sym same1) x) plain end table) in
-    let same2 : c.draw_area-cursor.new.source.octets ≡ octets = ap (λ (x : Counted). x.octets) c.draw_area-cursor.ensures.steps.3 ∙ same1 in
-    let b2 = subst (λ o. IsBetween sign o (before ++ r.so.done) r.so.left c.draw_area-cursor.result) (sym same2) r.so.between in
+    let a = c.read_area.ensures.read (before ++ s.so.done) s.so.left b0 s.begins in
+    let same1 : c.read_area.new.source.octets ≡ octets = ap (λ (x : Counted). x.octets) a.steps.3 ∙ same0 in
+    let r = round sign octets before behind c.args.layer c.loop-next.cursor c.loop-next.plane s c.read_area.new.read c.loop-next.source c.read_area.new.source a c.draw_area.new.cursor c.draw_area.new.plane
+    (λ earlier area rest x plain end table. subst (λ o. IsBetween sign o (earlier ++ area) rest c.draw_area.new.cursor) same1 (c.draw_area.ensures.passed earlier area rest (subst (λ o. IsBetween sign o earlier (area ++ rest) c.loop-next.cursor) (sym same1) x) plain end table))
+    (λ earlier area rest x plain end table. c.draw_area.ensures.drawn earlier area rest (subst (λ o. IsBetween sign o earlier (area ++ rest) c.loop-next.cursor) (sym same1) x) plain end table) in
+    let same2 : c.draw_area.new.source.octets ≡ octets = ap (λ (x : Counted). x.octets) c.draw_area.ensures.steps.3 ∙ same1 in
+    let b2 = subst (λ o. IsBetween sign o (before ++ r.so.done) r.so.left c.draw_area.new.cursor) (sym same2) r.so.between in
     let none : r.so.left ≡ [] = c.in_default.ensures.first sign (before ++ r.so.done) r.so.left b2 in
     let count : octet_count c.args.plane.now ≡ plane_octets sign = ap (λ w. (w + 7) / 8 * c.args.plane.now.height) c.requires.size.0 ∙ ap (λ h. (sign.width + 7) / 8 * h) c.requires.size.1 in
     let first = first_filled sign c.args.plane.now c.fill.new.self (octet_count c.args.plane.now) (omega (arith, c.fill.ensures.steps)) (omega (arith, c.fill.ensures.steps)) count c.fill.ensures.width c.fill.ensures.height in
-    let areas = more_filled sign c.args.plane.now c.fill.new.self c.draw_area-cursor.new.plane 0 _ first (filled_then sign c.fill.new.self c.loop-next.plane c.draw_area-cursor.new.plane (c.loop-next.cursor.at - c.args.cursor.at) (c.read_area-read.result.end - c.loop-next.cursor.at) i.filled c.draw_area-cursor.ensures.fills) in
-    let pages : c.draw_area-cursor.result.state.pages ≡ c.args.cursor.state.pages = same_pages sign octets before behind c.args.layer c.draw_area-cursor.result c.draw_area-cursor.new.plane r.so c.args.cursor.state.pages b.state_is.pages in
-    page_filled sign c.args.plane.now c.draw_area-cursor.new.plane c.args.cursor c.draw_area-cursor.result _ areas (omega (arith, i.on, r.on, r.at)) (omega (arith, if_same c.draw_area-cursor.result.state.pages c.args.cursor.state.pages 4 pages, i.on, r.on, r.at))
+    let areas = more_filled sign c.args.plane.now c.fill.new.self c.draw_area.new.plane 0 _ first (filled_then sign c.fill.new.self c.loop-next.plane c.draw_area.new.plane (c.loop-next.cursor.at - c.args.cursor.at) (c.read_area.new.read.end - c.loop-next.cursor.at) i.filled c.draw_area.ensures.fills) in
+    let pages : c.draw_area.new.cursor.state.pages ≡ c.args.cursor.state.pages = same_pages sign octets before behind c.args.layer c.draw_area.new.cursor c.draw_area.new.plane r.so c.args.cursor.state.pages b.state_is.pages in
+    page_filled sign c.args.plane.now c.draw_area.new.plane c.args.cursor c.draw_area.new.cursor _ areas (omega (arith, i.on, r.on, r.at)) (omega (arith, if_same c.draw_area.new.cursor.state.pages c.args.cursor.state.pages 4 pages, i.on, r.on, r.at))
 
-pub pass-cursor-requires : goal.pass-cursor-requires
-pass-cursor-requires c =
+pub pass-requires : goal.pass-requires
+pass-requires c =
     let i = c.loop-next.invariant in
     let sign = c.args.sign.now in
     let octets = c.args.source.now.octets in
@@ -196,17 +196,17 @@ pass-cursor-requires c =
     let (before, behind, b, begins) = c.requires.begins in
     let s = i.so_far before behind b in
     let b0 = subst (λ o. IsBetween sign o (before ++ s.so.done) s.so.left c.loop-next.cursor) (sym same0) s.so.between in
-    let a = c.read_area-read.ensures.read (before ++ s.so.done) s.so.left b0 s.begins in
-    let same1 : c.read_area-read.new.source.octets ≡ octets = ap (λ (x : Counted). x.octets) a.steps.3 ∙ same0 in
-    let r = round sign octets before behind c.args.layer c.loop-next.cursor c.loop-next.plane s c.read_area-read.result c.loop-next.source c.read_area-read.new.source a c.draw_area-cursor.result c.draw_area-cursor.new.plane
-    (λ earlier area rest x plain end table. subst (λ o. IsBetween sign o (earlier ++ area) rest c.draw_area-cursor.result) same1 (c.draw_area-cursor.ensures.passed earlier area rest (subst (λ o. IsBetween sign o earlier (area ++ rest) c.loop-next.cursor) (sym same1) x) plain end table))
-    (λ earlier area rest x plain end table. c.draw_area-cursor.ensures.drawn earlier area rest (subst (λ o. IsBetween sign o earlier (area ++ rest) c.loop-next.cursor) (sym same1) x) plain end table) in
-    let same2 : c.draw_area-cursor.new.source.octets ≡ octets = ap (λ (x : Counted). x.octets) c.draw_area-cursor.ensures.steps.3 ∙ same1 in
-    let b2 = subst (λ o. IsBetween sign o (before ++ r.so.done) r.so.left c.draw_area-cursor.result) (sym same2) r.so.between in
+    let a = c.read_area.ensures.read (before ++ s.so.done) s.so.left b0 s.begins in
+    let same1 : c.read_area.new.source.octets ≡ octets = ap (λ (x : Counted). x.octets) a.steps.3 ∙ same0 in
+    let r = round sign octets before behind c.args.layer c.loop-next.cursor c.loop-next.plane s c.read_area.new.read c.loop-next.source c.read_area.new.source a c.draw_area.new.cursor c.draw_area.new.plane
+    (λ earlier area rest x plain end table. subst (λ o. IsBetween sign o (earlier ++ area) rest c.draw_area.new.cursor) same1 (c.draw_area.ensures.passed earlier area rest (subst (λ o. IsBetween sign o earlier (area ++ rest) c.loop-next.cursor) (sym same1) x) plain end table))
+    (λ earlier area rest x plain end table. c.draw_area.ensures.drawn earlier area rest (subst (λ o. IsBetween sign o earlier (area ++ rest) c.loop-next.cursor) (sym same1) x) plain end table) in
+    let same2 : c.draw_area.new.source.octets ≡ octets = ap (λ (x : Counted). x.octets) c.draw_area.ensures.steps.3 ∙ same1 in
+    let b2 = subst (λ o. IsBetween sign o (before ++ r.so.done) r.so.left c.draw_area.new.cursor) (sym same2) r.so.between in
     let (item, rest, is, taken) = c.in-Some.ensures.first sign (before ++ r.so.done) r.so.left b2 in
-    let b3 : IsBetween sign octets (before ++ r.so.done) (item ∷ rest) c.draw_area-cursor.result = subst (λ l. IsBetween sign octets (before ++ r.so.done) l c.draw_area-cursor.result) is r.so.between in
+    let b3 : IsBetween sign octets (before ++ r.so.done) (item ∷ rest) c.draw_area.new.cursor = subst (λ l. IsBetween sign octets (before ++ r.so.done) l c.draw_area.new.cursor) is r.so.between in
     let same3 : c.next_item.new.source.octets ≡ octets = ap (λ (x : Counted). x.octets) c.in-Some.ensures.steps.3 ∙ same2 in
-    let b4 = subst (λ o. IsBetween sign o (before ++ r.so.done) (item ∷ rest) c.draw_area-cursor.result) (sym same3) b3 in
+    let b4 = subst (λ o. IsBetween sign o (before ++ r.so.done) (item ∷ rest) c.draw_area.new.cursor) (sym same3) b3 in
     (before ++ r.so.done, rest, item, b4, taken)
 
 pub returns-then-ends_page-clause-drawn : goal.returns-then-ends_page-clause-drawn
@@ -217,19 +217,19 @@ returns-then-ends_page-clause-drawn c = λ before behind b.
     let same0 : c.loop-next.source.octets ≡ octets = ap (λ (x : Counted). x.octets) i.steps.3 in
     let s = i.so_far before behind b in
     let b0 = subst (λ o. IsBetween sign o (before ++ s.so.done) s.so.left c.loop-next.cursor) (sym same0) s.so.between in
-    let a = c.read_area-read.ensures.read (before ++ s.so.done) s.so.left b0 s.begins in
-    let same1 : c.read_area-read.new.source.octets ≡ octets = ap (λ (x : Counted). x.octets) a.steps.3 ∙ same0 in
-    let r = round sign octets before behind c.args.layer c.loop-next.cursor c.loop-next.plane s c.read_area-read.result c.loop-next.source c.read_area-read.new.source a c.draw_area-cursor.result c.draw_area-cursor.new.plane
-    (λ earlier area rest x plain end table. subst (λ o. IsBetween sign o (earlier ++ area) rest c.draw_area-cursor.result) same1 (c.draw_area-cursor.ensures.passed earlier area rest (subst (λ o. IsBetween sign o earlier (area ++ rest) c.loop-next.cursor) (sym same1) x) plain end table))
-    (λ earlier area rest x plain end table. c.draw_area-cursor.ensures.drawn earlier area rest (subst (λ o. IsBetween sign o earlier (area ++ rest) c.loop-next.cursor) (sym same1) x) plain end table) in
-    let same2 : c.draw_area-cursor.new.source.octets ≡ octets = ap (λ (x : Counted). x.octets) c.draw_area-cursor.ensures.steps.3 ∙ same1 in
-    let b2 = subst (λ o. IsBetween sign o (before ++ r.so.done) r.so.left c.draw_area-cursor.result) (sym same2) r.so.between in
+    let a = c.read_area.ensures.read (before ++ s.so.done) s.so.left b0 s.begins in
+    let same1 : c.read_area.new.source.octets ≡ octets = ap (λ (x : Counted). x.octets) a.steps.3 ∙ same0 in
+    let r = round sign octets before behind c.args.layer c.loop-next.cursor c.loop-next.plane s c.read_area.new.read c.loop-next.source c.read_area.new.source a c.draw_area.new.cursor c.draw_area.new.plane
+    (λ earlier area rest x plain end table. subst (λ o. IsBetween sign o (earlier ++ area) rest c.draw_area.new.cursor) same1 (c.draw_area.ensures.passed earlier area rest (subst (λ o. IsBetween sign o earlier (area ++ rest) c.loop-next.cursor) (sym same1) x) plain end table))
+    (λ earlier area rest x plain end table. c.draw_area.ensures.drawn earlier area rest (subst (λ o. IsBetween sign o earlier (area ++ rest) c.loop-next.cursor) (sym same1) x) plain end table) in
+    let same2 : c.draw_area.new.source.octets ≡ octets = ap (λ (x : Counted). x.octets) c.draw_area.ensures.steps.3 ∙ same1 in
+    let b2 = subst (λ o. IsBetween sign o (before ++ r.so.done) r.so.left c.draw_area.new.cursor) (sym same2) r.so.between in
     let (item, rest, is, taken) = c.in-Some.ensures.first sign (before ++ r.so.done) r.so.left b2 in
-    let b3 : IsBetween sign octets (before ++ r.so.done) (item ∷ rest) c.draw_area-cursor.result = subst (λ l. IsBetween sign octets (before ++ r.so.done) l c.draw_area-cursor.result) is r.so.between in
+    let b3 : IsBetween sign octets (before ++ r.so.done) (item ∷ rest) c.draw_area.new.cursor = subst (λ l. IsBetween sign octets (before ++ r.so.done) l c.draw_area.new.cursor) is r.so.between in
     let same3 : c.next_item.new.source.octets ≡ octets = ap (λ (x : Counted). x.octets) c.in-Some.ensures.steps.3 ∙ same2 in
-    let b4 = subst (λ o. IsBetween sign o (before ++ r.so.done) (item ∷ rest) c.draw_area-cursor.result) (sym same3) b3 in
+    let b4 = subst (λ o. IsBetween sign o (before ++ r.so.done) (item ∷ rest) c.draw_area.new.cursor) (sym same3) b3 in
     let turns : is_new_page (meaning item) ≡ true = ap is_new_page taken.meant ∙ sym c.ends_page.ensures ∙ c.if-ends_page.true in
-    page_shown sign octets before behind c.args.layer c.draw_area-cursor.result c.draw_area-cursor.new.plane r.so (subst (λ l. EndsPage (map meaning l)) (sym is) (first_ends item rest turns)) c.args.cursor.state.pages b.state_is.pages
+    page_shown sign octets before behind c.args.layer c.draw_area.new.cursor c.draw_area.new.plane r.so (subst (λ l. EndsPage (map meaning l)) (sym is) (first_ends item rest turns)) c.args.cursor.state.pages b.state_is.pages
 
 pub returns-then-ends_page-clause-passed : goal.returns-then-ends_page-clause-passed
 returns-then-ends_page-clause-passed c = λ before behind b.
@@ -239,20 +239,20 @@ returns-then-ends_page-clause-passed c = λ before behind b.
     let same0 : c.loop-next.source.octets ≡ octets = ap (λ (x : Counted). x.octets) i.steps.3 in
     let s = i.so_far before behind b in
     let b0 = subst (λ o. IsBetween sign o (before ++ s.so.done) s.so.left c.loop-next.cursor) (sym same0) s.so.between in
-    let a = c.read_area-read.ensures.read (before ++ s.so.done) s.so.left b0 s.begins in
-    let same1 : c.read_area-read.new.source.octets ≡ octets = ap (λ (x : Counted). x.octets) a.steps.3 ∙ same0 in
-    let r = round sign octets before behind c.args.layer c.loop-next.cursor c.loop-next.plane s c.read_area-read.result c.loop-next.source c.read_area-read.new.source a c.draw_area-cursor.result c.draw_area-cursor.new.plane
-    (λ earlier area rest x plain end table. subst (λ o. IsBetween sign o (earlier ++ area) rest c.draw_area-cursor.result) same1 (c.draw_area-cursor.ensures.passed earlier area rest (subst (λ o. IsBetween sign o earlier (area ++ rest) c.loop-next.cursor) (sym same1) x) plain end table))
-    (λ earlier area rest x plain end table. c.draw_area-cursor.ensures.drawn earlier area rest (subst (λ o. IsBetween sign o earlier (area ++ rest) c.loop-next.cursor) (sym same1) x) plain end table) in
-    let same2 : c.draw_area-cursor.new.source.octets ≡ octets = ap (λ (x : Counted). x.octets) c.draw_area-cursor.ensures.steps.3 ∙ same1 in
-    let b2 = subst (λ o. IsBetween sign o (before ++ r.so.done) r.so.left c.draw_area-cursor.result) (sym same2) r.so.between in
+    let a = c.read_area.ensures.read (before ++ s.so.done) s.so.left b0 s.begins in
+    let same1 : c.read_area.new.source.octets ≡ octets = ap (λ (x : Counted). x.octets) a.steps.3 ∙ same0 in
+    let r = round sign octets before behind c.args.layer c.loop-next.cursor c.loop-next.plane s c.read_area.new.read c.loop-next.source c.read_area.new.source a c.draw_area.new.cursor c.draw_area.new.plane
+    (λ earlier area rest x plain end table. subst (λ o. IsBetween sign o (earlier ++ area) rest c.draw_area.new.cursor) same1 (c.draw_area.ensures.passed earlier area rest (subst (λ o. IsBetween sign o earlier (area ++ rest) c.loop-next.cursor) (sym same1) x) plain end table))
+    (λ earlier area rest x plain end table. c.draw_area.ensures.drawn earlier area rest (subst (λ o. IsBetween sign o earlier (area ++ rest) c.loop-next.cursor) (sym same1) x) plain end table) in
+    let same2 : c.draw_area.new.source.octets ≡ octets = ap (λ (x : Counted). x.octets) c.draw_area.ensures.steps.3 ∙ same1 in
+    let b2 = subst (λ o. IsBetween sign o (before ++ r.so.done) r.so.left c.draw_area.new.cursor) (sym same2) r.so.between in
     let (item, rest, is, taken) = c.in-Some.ensures.first sign (before ++ r.so.done) r.so.left b2 in
-    let b3 : IsBetween sign octets (before ++ r.so.done) (item ∷ rest) c.draw_area-cursor.result = subst (λ l. IsBetween sign octets (before ++ r.so.done) l c.draw_area-cursor.result) is r.so.between in
+    let b3 : IsBetween sign octets (before ++ r.so.done) (item ∷ rest) c.draw_area.new.cursor = subst (λ l. IsBetween sign octets (before ++ r.so.done) l c.draw_area.new.cursor) is r.so.between in
     let same3 : c.next_item.new.source.octets ≡ octets = ap (λ (x : Counted). x.octets) c.in-Some.ensures.steps.3 ∙ same2 in
-    let b4 = subst (λ o. IsBetween sign o (before ++ r.so.done) (item ∷ rest) c.draw_area-cursor.result) (sym same3) b3 in
-    let b5 = subst (λ o. IsBetween sign o ((before ++ r.so.done) ++ item ∷ []) rest c.pass-cursor.result) same3 (c.pass-cursor.ensures.passed (before ++ r.so.done) rest item b4 taken) in
+    let b4 = subst (λ o. IsBetween sign o (before ++ r.so.done) (item ∷ rest) c.draw_area.new.cursor) (sym same3) b3 in
+    let b5 = subst (λ o. IsBetween sign o ((before ++ r.so.done) ++ item ∷ []) rest c.pass.new.self) same3 (c.pass.ensures.passed (before ++ r.so.done) rest item b4 taken) in
     let turns : is_new_page (meaning item) ≡ true = ap is_new_page taken.meant ∙ sym c.ends_page.ensures ∙ c.if-ends_page.true in
-    page_passed sign octets before behind c.args.layer c.draw_area-cursor.result c.draw_area-cursor.new.plane r.so item rest is c.pass-cursor.result b5 c.args.cursor b.state_is.pages (omega (arith, i.on, r.on, r.at, c.pass-cursor.ensures.at)) (new_page_is (meaning item) turns)
+    page_passed sign octets before behind c.args.layer c.draw_area.new.cursor c.draw_area.new.plane r.so item rest is c.pass.new.self b5 c.args.cursor b.state_is.pages (omega (arith, i.on, r.on, r.at, c.pass.ensures.at)) (new_page_is (meaning item) turns)
 
 pub returns-then-ends_page-clause-kept : goal.returns-then-ends_page-clause-kept
 returns-then-ends_page-clause-kept c =
@@ -263,14 +263,14 @@ returns-then-ends_page-clause-kept c =
     let (before, behind, b, begins) = c.requires.begins in
     let s = i.so_far before behind b in
     let b0 = subst (λ o. IsBetween sign o (before ++ s.so.done) s.so.left c.loop-next.cursor) (sym same0) s.so.between in
-    let a = c.read_area-read.ensures.read (before ++ s.so.done) s.so.left b0 s.begins in
-    let same1 : c.read_area-read.new.source.octets ≡ octets = ap (λ (x : Counted). x.octets) a.steps.3 ∙ same0 in
-    let r = round sign octets before behind c.args.layer c.loop-next.cursor c.loop-next.plane s c.read_area-read.result c.loop-next.source c.read_area-read.new.source a c.draw_area-cursor.result c.draw_area-cursor.new.plane
-    (λ earlier area rest x plain end table. subst (λ o. IsBetween sign o (earlier ++ area) rest c.draw_area-cursor.result) same1 (c.draw_area-cursor.ensures.passed earlier area rest (subst (λ o. IsBetween sign o earlier (area ++ rest) c.loop-next.cursor) (sym same1) x) plain end table))
-    (λ earlier area rest x plain end table. c.draw_area-cursor.ensures.drawn earlier area rest (subst (λ o. IsBetween sign o earlier (area ++ rest) c.loop-next.cursor) (sym same1) x) plain end table) in
-    let same2 : c.draw_area-cursor.new.source.octets ≡ octets = ap (λ (x : Counted). x.octets) c.draw_area-cursor.ensures.steps.3 ∙ same1 in
-    let b2 = subst (λ o. IsBetween sign o (before ++ r.so.done) r.so.left c.draw_area-cursor.result) (sym same2) r.so.between in
-    ap (λ (x : Counted). x.octets) c.pass-cursor.ensures.steps.3 ∙ ap (λ (x : Counted). x.octets) c.in-Some.ensures.steps.3 ∙ same2
+    let a = c.read_area.ensures.read (before ++ s.so.done) s.so.left b0 s.begins in
+    let same1 : c.read_area.new.source.octets ≡ octets = ap (λ (x : Counted). x.octets) a.steps.3 ∙ same0 in
+    let r = round sign octets before behind c.args.layer c.loop-next.cursor c.loop-next.plane s c.read_area.new.read c.loop-next.source c.read_area.new.source a c.draw_area.new.cursor c.draw_area.new.plane
+    (λ earlier area rest x plain end table. subst (λ o. IsBetween sign o (earlier ++ area) rest c.draw_area.new.cursor) same1 (c.draw_area.ensures.passed earlier area rest (subst (λ o. IsBetween sign o earlier (area ++ rest) c.loop-next.cursor) (sym same1) x) plain end table))
+    (λ earlier area rest x plain end table. c.draw_area.ensures.drawn earlier area rest (subst (λ o. IsBetween sign o earlier (area ++ rest) c.loop-next.cursor) (sym same1) x) plain end table) in
+    let same2 : c.draw_area.new.source.octets ≡ octets = ap (λ (x : Counted). x.octets) c.draw_area.ensures.steps.3 ∙ same1 in
+    let b2 = subst (λ o. IsBetween sign o (before ++ r.so.done) r.so.left c.draw_area.new.cursor) (sym same2) r.so.between in
+    ap (λ (x : Counted). x.octets) c.pass.ensures.steps.3 ∙ ap (λ (x : Counted). x.octets) c.in-Some.ensures.steps.3 ∙ same2
 
 pub returns-then-ends_page-clause-steps : goal.returns-then-ends_page-clause-steps
 returns-then-ends_page-clause-steps c =
@@ -281,20 +281,20 @@ returns-then-ends_page-clause-steps c =
     let (before, behind, b, begins) = c.requires.begins in
     let s = i.so_far before behind b in
     let b0 = subst (λ o. IsBetween sign o (before ++ s.so.done) s.so.left c.loop-next.cursor) (sym same0) s.so.between in
-    let a = c.read_area-read.ensures.read (before ++ s.so.done) s.so.left b0 s.begins in
-    let same1 : c.read_area-read.new.source.octets ≡ octets = ap (λ (x : Counted). x.octets) a.steps.3 ∙ same0 in
-    let r = round sign octets before behind c.args.layer c.loop-next.cursor c.loop-next.plane s c.read_area-read.result c.loop-next.source c.read_area-read.new.source a c.draw_area-cursor.result c.draw_area-cursor.new.plane
-    (λ earlier area rest x plain end table. subst (λ o. IsBetween sign o (earlier ++ area) rest c.draw_area-cursor.result) same1 (c.draw_area-cursor.ensures.passed earlier area rest (subst (λ o. IsBetween sign o earlier (area ++ rest) c.loop-next.cursor) (sym same1) x) plain end table))
-    (λ earlier area rest x plain end table. c.draw_area-cursor.ensures.drawn earlier area rest (subst (λ o. IsBetween sign o earlier (area ++ rest) c.loop-next.cursor) (sym same1) x) plain end table) in
-    let same2 : c.draw_area-cursor.new.source.octets ≡ octets = ap (λ (x : Counted). x.octets) c.draw_area-cursor.ensures.steps.3 ∙ same1 in
-    let b2 = subst (λ o. IsBetween sign o (before ++ r.so.done) r.so.left c.draw_area-cursor.result) (sym same2) r.so.between in
+    let a = c.read_area.ensures.read (before ++ s.so.done) s.so.left b0 s.begins in
+    let same1 : c.read_area.new.source.octets ≡ octets = ap (λ (x : Counted). x.octets) a.steps.3 ∙ same0 in
+    let r = round sign octets before behind c.args.layer c.loop-next.cursor c.loop-next.plane s c.read_area.new.read c.loop-next.source c.read_area.new.source a c.draw_area.new.cursor c.draw_area.new.plane
+    (λ earlier area rest x plain end table. subst (λ o. IsBetween sign o (earlier ++ area) rest c.draw_area.new.cursor) same1 (c.draw_area.ensures.passed earlier area rest (subst (λ o. IsBetween sign o earlier (area ++ rest) c.loop-next.cursor) (sym same1) x) plain end table))
+    (λ earlier area rest x plain end table. c.draw_area.ensures.drawn earlier area rest (subst (λ o. IsBetween sign o earlier (area ++ rest) c.loop-next.cursor) (sym same1) x) plain end table) in
+    let same2 : c.draw_area.new.source.octets ≡ octets = ap (λ (x : Counted). x.octets) c.draw_area.ensures.steps.3 ∙ same1 in
+    let b2 = subst (λ o. IsBetween sign o (before ++ r.so.done) r.so.left c.draw_area.new.cursor) (sym same2) r.so.between in
     let (item, rest, is, taken) = c.in-Some.ensures.first sign (before ++ r.so.done) r.so.left b2 in
-    let b3 : IsBetween sign octets (before ++ r.so.done) (item ∷ rest) c.draw_area-cursor.result = subst (λ l. IsBetween sign octets (before ++ r.so.done) l c.draw_area-cursor.result) is r.so.between in
+    let b3 : IsBetween sign octets (before ++ r.so.done) (item ∷ rest) c.draw_area.new.cursor = subst (λ l. IsBetween sign octets (before ++ r.so.done) l c.draw_area.new.cursor) is r.so.between in
     let same3 : c.next_item.new.source.octets ≡ octets = ap (λ (x : Counted). x.octets) c.in-Some.ensures.steps.3 ∙ same2 in
-    let b4 = subst (λ o. IsBetween sign o (before ++ r.so.done) (item ∷ rest) c.draw_area-cursor.result) (sym same3) b3 in
-    let all = string_more c.args.source.now c.loop-next.source c.read_area-read.new.source c.draw_area-cursor.new.source c.next_item.new.source c.pass-cursor.new.source c.args.cursor.at c.loop-next.cursor.at c.read_area-read.result.end c.in-Some.next.len item rest r.so.left i.on r.on is taken.len i.steps r.steps c.draw_area-cursor.ensures.steps c.in-Some.ensures.steps c.pass-cursor.ensures.steps in
-    let far : c.read_area-read.result.end + c.in-Some.next.len - c.args.cursor.at ≡ c.pass-cursor.result.at - c.args.cursor.at = omega (arith, r.at, c.pass-cursor.ensures.at) in
-    rises_far c.args.source.now c.pass-cursor.new.source (c.read_area-read.result.end + c.in-Some.next.len - c.args.cursor.at) (c.pass-cursor.result.at - c.args.cursor.at) _ far all
+    let b4 = subst (λ o. IsBetween sign o (before ++ r.so.done) (item ∷ rest) c.draw_area.new.cursor) (sym same3) b3 in
+    let all = string_more c.args.source.now c.loop-next.source c.read_area.new.source c.draw_area.new.source c.next_item.new.source c.pass.new.source c.args.cursor.at c.loop-next.cursor.at c.read_area.new.read.end c.in-Some.next.len item rest r.so.left i.on r.on is taken.len i.steps r.steps c.draw_area.ensures.steps c.in-Some.ensures.steps c.pass.ensures.steps in
+    let far : c.read_area.new.read.end + c.in-Some.next.len - c.args.cursor.at ≡ c.pass.new.self.at - c.args.cursor.at = omega (arith, r.at, c.pass.ensures.at) in
+    rises_far c.args.source.now c.pass.new.source (c.read_area.new.read.end + c.in-Some.next.len - c.args.cursor.at) (c.pass.new.self.at - c.args.cursor.at) _ far all
 
 pub returns-then-ends_page-clause-fills : goal.returns-then-ends_page-clause-fills
 returns-then-ends_page-clause-fills c =
@@ -305,23 +305,23 @@ returns-then-ends_page-clause-fills c =
     let (before, behind, b, begins) = c.requires.begins in
     let s = i.so_far before behind b in
     let b0 = subst (λ o. IsBetween sign o (before ++ s.so.done) s.so.left c.loop-next.cursor) (sym same0) s.so.between in
-    let a = c.read_area-read.ensures.read (before ++ s.so.done) s.so.left b0 s.begins in
-    let same1 : c.read_area-read.new.source.octets ≡ octets = ap (λ (x : Counted). x.octets) a.steps.3 ∙ same0 in
-    let r = round sign octets before behind c.args.layer c.loop-next.cursor c.loop-next.plane s c.read_area-read.result c.loop-next.source c.read_area-read.new.source a c.draw_area-cursor.result c.draw_area-cursor.new.plane
-    (λ earlier area rest x plain end table. subst (λ o. IsBetween sign o (earlier ++ area) rest c.draw_area-cursor.result) same1 (c.draw_area-cursor.ensures.passed earlier area rest (subst (λ o. IsBetween sign o earlier (area ++ rest) c.loop-next.cursor) (sym same1) x) plain end table))
-    (λ earlier area rest x plain end table. c.draw_area-cursor.ensures.drawn earlier area rest (subst (λ o. IsBetween sign o earlier (area ++ rest) c.loop-next.cursor) (sym same1) x) plain end table) in
-    let same2 : c.draw_area-cursor.new.source.octets ≡ octets = ap (λ (x : Counted). x.octets) c.draw_area-cursor.ensures.steps.3 ∙ same1 in
-    let b2 = subst (λ o. IsBetween sign o (before ++ r.so.done) r.so.left c.draw_area-cursor.result) (sym same2) r.so.between in
+    let a = c.read_area.ensures.read (before ++ s.so.done) s.so.left b0 s.begins in
+    let same1 : c.read_area.new.source.octets ≡ octets = ap (λ (x : Counted). x.octets) a.steps.3 ∙ same0 in
+    let r = round sign octets before behind c.args.layer c.loop-next.cursor c.loop-next.plane s c.read_area.new.read c.loop-next.source c.read_area.new.source a c.draw_area.new.cursor c.draw_area.new.plane
+    (λ earlier area rest x plain end table. subst (λ o. IsBetween sign o (earlier ++ area) rest c.draw_area.new.cursor) same1 (c.draw_area.ensures.passed earlier area rest (subst (λ o. IsBetween sign o earlier (area ++ rest) c.loop-next.cursor) (sym same1) x) plain end table))
+    (λ earlier area rest x plain end table. c.draw_area.ensures.drawn earlier area rest (subst (λ o. IsBetween sign o earlier (area ++ rest) c.loop-next.cursor) (sym same1) x) plain end table) in
+    let same2 : c.draw_area.new.source.octets ≡ octets = ap (λ (x : Counted). x.octets) c.draw_area.ensures.steps.3 ∙ same1 in
+    let b2 = subst (λ o. IsBetween sign o (before ++ r.so.done) r.so.left c.draw_area.new.cursor) (sym same2) r.so.between in
     let (item, rest, is, taken) = c.in-Some.ensures.first sign (before ++ r.so.done) r.so.left b2 in
-    let b3 : IsBetween sign octets (before ++ r.so.done) (item ∷ rest) c.draw_area-cursor.result = subst (λ l. IsBetween sign octets (before ++ r.so.done) l c.draw_area-cursor.result) is r.so.between in
+    let b3 : IsBetween sign octets (before ++ r.so.done) (item ∷ rest) c.draw_area.new.cursor = subst (λ l. IsBetween sign octets (before ++ r.so.done) l c.draw_area.new.cursor) is r.so.between in
     let same3 : c.next_item.new.source.octets ≡ octets = ap (λ (x : Counted). x.octets) c.in-Some.ensures.steps.3 ∙ same2 in
-    let b4 = subst (λ o. IsBetween sign o (before ++ r.so.done) (item ∷ rest) c.draw_area-cursor.result) (sym same3) b3 in
+    let b4 = subst (λ o. IsBetween sign o (before ++ r.so.done) (item ∷ rest) c.draw_area.new.cursor) (sym same3) b3 in
     let count : octet_count c.args.plane.now ≡ plane_octets sign = ap (λ w. (w + 7) / 8 * c.args.plane.now.height) c.requires.size.0 ∙ ap (λ h. (sign.width + 7) / 8 * h) c.requires.size.1 in
     let first = first_filled sign c.args.plane.now c.fill.new.self (octet_count c.args.plane.now) (omega (arith, c.fill.ensures.steps)) (omega (arith, c.fill.ensures.steps)) count c.fill.ensures.width c.fill.ensures.height in
-    let areas = more_filled sign c.args.plane.now c.fill.new.self c.draw_area-cursor.new.plane 0 _ first (filled_then sign c.fill.new.self c.loop-next.plane c.draw_area-cursor.new.plane (c.loop-next.cursor.at - c.args.cursor.at) (c.read_area-read.result.end - c.loop-next.cursor.at) i.filled c.draw_area-cursor.ensures.fills) in
+    let areas = more_filled sign c.args.plane.now c.fill.new.self c.draw_area.new.plane 0 _ first (filled_then sign c.fill.new.self c.loop-next.plane c.draw_area.new.plane (c.loop-next.cursor.at - c.args.cursor.at) (c.read_area.new.read.end - c.loop-next.cursor.at) i.filled c.draw_area.ensures.fills) in
     let turns : is_new_page (meaning item) ≡ true = ap is_new_page taken.meant ∙ sym c.ends_page.ensures ∙ c.if-ends_page.true in
     let four = four_octets item _ (new_page_is (meaning item) turns) in
-    page_filled sign c.args.plane.now c.draw_area-cursor.new.plane c.args.cursor c.pass-cursor.result _ areas (omega (arith, i.on, r.on, r.at, c.pass-cursor.ensures.at)) (no_less _ (c.pass-cursor.result.at - c.args.cursor.at) _ (omega (arith, i.on, r.on, r.at, c.pass-cursor.ensures.at, taken.len, four)))
+    page_filled sign c.args.plane.now c.draw_area.new.plane c.args.cursor c.pass.new.self _ areas (omega (arith, i.on, r.on, r.at, c.pass.ensures.at)) (no_less _ (c.pass.new.self.at - c.args.cursor.at) _ (omega (arith, i.on, r.on, r.at, c.pass.ensures.at, taken.len, four)))
 
 pub loop-next-smaller : goal.loop-next-smaller
 loop-next-smaller c =
@@ -332,19 +332,19 @@ loop-next-smaller c =
     let (before, behind, b, begins) = c.requires.begins in
     let s = i.so_far before behind b in
     let b0 = subst (λ o. IsBetween sign o (before ++ s.so.done) s.so.left c.loop-next.cursor) (sym same0) s.so.between in
-    let a = c.read_area-read.ensures.read (before ++ s.so.done) s.so.left b0 s.begins in
-    let same1 : c.read_area-read.new.source.octets ≡ octets = ap (λ (x : Counted). x.octets) a.steps.3 ∙ same0 in
-    let r = round sign octets before behind c.args.layer c.loop-next.cursor c.loop-next.plane s c.read_area-read.result c.loop-next.source c.read_area-read.new.source a c.draw_area-cursor.result c.draw_area-cursor.new.plane
-    (λ earlier area rest x plain end table. subst (λ o. IsBetween sign o (earlier ++ area) rest c.draw_area-cursor.result) same1 (c.draw_area-cursor.ensures.passed earlier area rest (subst (λ o. IsBetween sign o earlier (area ++ rest) c.loop-next.cursor) (sym same1) x) plain end table))
-    (λ earlier area rest x plain end table. c.draw_area-cursor.ensures.drawn earlier area rest (subst (λ o. IsBetween sign o earlier (area ++ rest) c.loop-next.cursor) (sym same1) x) plain end table) in
-    let same2 : c.draw_area-cursor.new.source.octets ≡ octets = ap (λ (x : Counted). x.octets) c.draw_area-cursor.ensures.steps.3 ∙ same1 in
-    let b2 = subst (λ o. IsBetween sign o (before ++ r.so.done) r.so.left c.draw_area-cursor.result) (sym same2) r.so.between in
+    let a = c.read_area.ensures.read (before ++ s.so.done) s.so.left b0 s.begins in
+    let same1 : c.read_area.new.source.octets ≡ octets = ap (λ (x : Counted). x.octets) a.steps.3 ∙ same0 in
+    let r = round sign octets before behind c.args.layer c.loop-next.cursor c.loop-next.plane s c.read_area.new.read c.loop-next.source c.read_area.new.source a c.draw_area.new.cursor c.draw_area.new.plane
+    (λ earlier area rest x plain end table. subst (λ o. IsBetween sign o (earlier ++ area) rest c.draw_area.new.cursor) same1 (c.draw_area.ensures.passed earlier area rest (subst (λ o. IsBetween sign o earlier (area ++ rest) c.loop-next.cursor) (sym same1) x) plain end table))
+    (λ earlier area rest x plain end table. c.draw_area.ensures.drawn earlier area rest (subst (λ o. IsBetween sign o earlier (area ++ rest) c.loop-next.cursor) (sym same1) x) plain end table) in
+    let same2 : c.draw_area.new.source.octets ≡ octets = ap (λ (x : Counted). x.octets) c.draw_area.ensures.steps.3 ∙ same1 in
+    let b2 = subst (λ o. IsBetween sign o (before ++ r.so.done) r.so.left c.draw_area.new.cursor) (sym same2) r.so.between in
     let (item, rest, is, taken) = c.in-Some.ensures.first sign (before ++ r.so.done) r.so.left b2 in
-    let b3 : IsBetween sign octets (before ++ r.so.done) (item ∷ rest) c.draw_area-cursor.result = subst (λ l. IsBetween sign octets (before ++ r.so.done) l c.draw_area-cursor.result) is r.so.between in
+    let b3 : IsBetween sign octets (before ++ r.so.done) (item ∷ rest) c.draw_area.new.cursor = subst (λ l. IsBetween sign octets (before ++ r.so.done) l c.draw_area.new.cursor) is r.so.between in
     let same3 : c.next_item.new.source.octets ≡ octets = ap (λ (x : Counted). x.octets) c.in-Some.ensures.steps.3 ∙ same2 in
-    let b4 = subst (λ o. IsBetween sign o (before ++ r.so.done) (item ∷ rest) c.draw_area-cursor.result) (sym same3) b3 in
-    let b5 = subst (λ o. IsBetween sign o ((before ++ r.so.done) ++ item ∷ []) rest c.pass-cursor.result) same3 (c.pass-cursor.ensures.passed (before ++ r.so.done) rest item b4 taken) in
-    omega (arith, r.at, r.on, c.pass-cursor.ensures.at, taken.len, spelling_some item, Rattle.multi_layout.proofs.WalkLemmas.within sign octets ((before ++ r.so.done) ++ item ∷ []) rest c.pass-cursor.result b5)
+    let b4 = subst (λ o. IsBetween sign o (before ++ r.so.done) (item ∷ rest) c.draw_area.new.cursor) (sym same3) b3 in
+    let b5 = subst (λ o. IsBetween sign o ((before ++ r.so.done) ++ item ∷ []) rest c.pass.new.self) same3 (c.pass.ensures.passed (before ++ r.so.done) rest item b4 taken) in
+    omega (arith, r.at, r.on, c.pass.ensures.at, taken.len, spelling_some item, Rattle.multi_layout.proofs.WalkLemmas.within sign octets ((before ++ r.so.done) ++ item ∷ []) rest c.pass.new.self b5)
 
 pub loop-next-preserved : goal.loop-next-preserved
 loop-next-preserved c =
@@ -355,41 +355,41 @@ loop-next-preserved c =
     let (before, behind, b, begins) = c.requires.begins in
     let s = i.so_far before behind b in
     let b0 = subst (λ o. IsBetween sign o (before ++ s.so.done) s.so.left c.loop-next.cursor) (sym same0) s.so.between in
-    let a = c.read_area-read.ensures.read (before ++ s.so.done) s.so.left b0 s.begins in
-    let same1 : c.read_area-read.new.source.octets ≡ octets = ap (λ (x : Counted). x.octets) a.steps.3 ∙ same0 in
-    let r = round sign octets before behind c.args.layer c.loop-next.cursor c.loop-next.plane s c.read_area-read.result c.loop-next.source c.read_area-read.new.source a c.draw_area-cursor.result c.draw_area-cursor.new.plane
-    (λ earlier area rest x plain end table. subst (λ o. IsBetween sign o (earlier ++ area) rest c.draw_area-cursor.result) same1 (c.draw_area-cursor.ensures.passed earlier area rest (subst (λ o. IsBetween sign o earlier (area ++ rest) c.loop-next.cursor) (sym same1) x) plain end table))
-    (λ earlier area rest x plain end table. c.draw_area-cursor.ensures.drawn earlier area rest (subst (λ o. IsBetween sign o earlier (area ++ rest) c.loop-next.cursor) (sym same1) x) plain end table) in
-    let same2 : c.draw_area-cursor.new.source.octets ≡ octets = ap (λ (x : Counted). x.octets) c.draw_area-cursor.ensures.steps.3 ∙ same1 in
-    let b2 = subst (λ o. IsBetween sign o (before ++ r.so.done) r.so.left c.draw_area-cursor.result) (sym same2) r.so.between in
+    let a = c.read_area.ensures.read (before ++ s.so.done) s.so.left b0 s.begins in
+    let same1 : c.read_area.new.source.octets ≡ octets = ap (λ (x : Counted). x.octets) a.steps.3 ∙ same0 in
+    let r = round sign octets before behind c.args.layer c.loop-next.cursor c.loop-next.plane s c.read_area.new.read c.loop-next.source c.read_area.new.source a c.draw_area.new.cursor c.draw_area.new.plane
+    (λ earlier area rest x plain end table. subst (λ o. IsBetween sign o (earlier ++ area) rest c.draw_area.new.cursor) same1 (c.draw_area.ensures.passed earlier area rest (subst (λ o. IsBetween sign o earlier (area ++ rest) c.loop-next.cursor) (sym same1) x) plain end table))
+    (λ earlier area rest x plain end table. c.draw_area.ensures.drawn earlier area rest (subst (λ o. IsBetween sign o earlier (area ++ rest) c.loop-next.cursor) (sym same1) x) plain end table) in
+    let same2 : c.draw_area.new.source.octets ≡ octets = ap (λ (x : Counted). x.octets) c.draw_area.ensures.steps.3 ∙ same1 in
+    let b2 = subst (λ o. IsBetween sign o (before ++ r.so.done) r.so.left c.draw_area.new.cursor) (sym same2) r.so.between in
     let (item, rest, is, taken) = c.in-Some.ensures.first sign (before ++ r.so.done) r.so.left b2 in
-    let b3 : IsBetween sign octets (before ++ r.so.done) (item ∷ rest) c.draw_area-cursor.result = subst (λ l. IsBetween sign octets (before ++ r.so.done) l c.draw_area-cursor.result) is r.so.between in
+    let b3 : IsBetween sign octets (before ++ r.so.done) (item ∷ rest) c.draw_area.new.cursor = subst (λ l. IsBetween sign octets (before ++ r.so.done) l c.draw_area.new.cursor) is r.so.between in
     let same3 : c.next_item.new.source.octets ≡ octets = ap (λ (x : Counted). x.octets) c.in-Some.ensures.steps.3 ∙ same2 in
-    let b4 = subst (λ o. IsBetween sign o (before ++ r.so.done) (item ∷ rest) c.draw_area-cursor.result) (sym same3) b3 in
-    let all = string_more c.args.source.now c.loop-next.source c.read_area-read.new.source c.draw_area-cursor.new.source c.next_item.new.source c.pass-cursor.new.source c.args.cursor.at c.loop-next.cursor.at c.read_area-read.result.end c.in-Some.next.len item rest r.so.left i.on r.on is taken.len i.steps r.steps c.draw_area-cursor.ensures.steps c.in-Some.ensures.steps c.pass-cursor.ensures.steps in
-    let far : c.read_area-read.result.end + c.in-Some.next.len - c.args.cursor.at ≡ c.pass-cursor.result.at - c.args.cursor.at = omega (arith, r.at, c.pass-cursor.ensures.at) in
+    let b4 = subst (λ o. IsBetween sign o (before ++ r.so.done) (item ∷ rest) c.draw_area.new.cursor) (sym same3) b3 in
+    let all = string_more c.args.source.now c.loop-next.source c.read_area.new.source c.draw_area.new.source c.next_item.new.source c.pass.new.source c.args.cursor.at c.loop-next.cursor.at c.read_area.new.read.end c.in-Some.next.len item rest r.so.left i.on r.on is taken.len i.steps r.steps c.draw_area.ensures.steps c.in-Some.ensures.steps c.pass.ensures.steps in
+    let far : c.read_area.new.read.end + c.in-Some.next.len - c.args.cursor.at ≡ c.pass.new.self.at - c.args.cursor.at = omega (arith, r.at, c.pass.ensures.at) in
     record {
       so_far = λ before behind b.
           let s = i.so_far before behind b in
           let b0 = subst (λ o. IsBetween sign o (before ++ s.so.done) s.so.left c.loop-next.cursor) (sym same0) s.so.between in
-          let a = c.read_area-read.ensures.read (before ++ s.so.done) s.so.left b0 s.begins in
-          let same1 : c.read_area-read.new.source.octets ≡ octets = ap (λ (x : Counted). x.octets) a.steps.3 ∙ same0 in
-          let r = round sign octets before behind c.args.layer c.loop-next.cursor c.loop-next.plane s c.read_area-read.result c.loop-next.source c.read_area-read.new.source a c.draw_area-cursor.result c.draw_area-cursor.new.plane
-          (λ earlier area rest x plain end table. subst (λ o. IsBetween sign o (earlier ++ area) rest c.draw_area-cursor.result) same1 (c.draw_area-cursor.ensures.passed earlier area rest (subst (λ o. IsBetween sign o earlier (area ++ rest) c.loop-next.cursor) (sym same1) x) plain end table))
-          (λ earlier area rest x plain end table. c.draw_area-cursor.ensures.drawn earlier area rest (subst (λ o. IsBetween sign o earlier (area ++ rest) c.loop-next.cursor) (sym same1) x) plain end table) in
-          let same2 : c.draw_area-cursor.new.source.octets ≡ octets = ap (λ (x : Counted). x.octets) c.draw_area-cursor.ensures.steps.3 ∙ same1 in
-          let b2 = subst (λ o. IsBetween sign o (before ++ r.so.done) r.so.left c.draw_area-cursor.result) (sym same2) r.so.between in
+          let a = c.read_area.ensures.read (before ++ s.so.done) s.so.left b0 s.begins in
+          let same1 : c.read_area.new.source.octets ≡ octets = ap (λ (x : Counted). x.octets) a.steps.3 ∙ same0 in
+          let r = round sign octets before behind c.args.layer c.loop-next.cursor c.loop-next.plane s c.read_area.new.read c.loop-next.source c.read_area.new.source a c.draw_area.new.cursor c.draw_area.new.plane
+          (λ earlier area rest x plain end table. subst (λ o. IsBetween sign o (earlier ++ area) rest c.draw_area.new.cursor) same1 (c.draw_area.ensures.passed earlier area rest (subst (λ o. IsBetween sign o earlier (area ++ rest) c.loop-next.cursor) (sym same1) x) plain end table))
+          (λ earlier area rest x plain end table. c.draw_area.ensures.drawn earlier area rest (subst (λ o. IsBetween sign o earlier (area ++ rest) c.loop-next.cursor) (sym same1) x) plain end table) in
+          let same2 : c.draw_area.new.source.octets ≡ octets = ap (λ (x : Counted). x.octets) c.draw_area.ensures.steps.3 ∙ same1 in
+          let b2 = subst (λ o. IsBetween sign o (before ++ r.so.done) r.so.left c.draw_area.new.cursor) (sym same2) r.so.between in
           let (item, rest, is, taken) = c.in-Some.ensures.first sign (before ++ r.so.done) r.so.left b2 in
-          let b3 : IsBetween sign octets (before ++ r.so.done) (item ∷ rest) c.draw_area-cursor.result = subst (λ l. IsBetween sign octets (before ++ r.so.done) l c.draw_area-cursor.result) is r.so.between in
+          let b3 : IsBetween sign octets (before ++ r.so.done) (item ∷ rest) c.draw_area.new.cursor = subst (λ l. IsBetween sign octets (before ++ r.so.done) l c.draw_area.new.cursor) is r.so.between in
           let same3 : c.next_item.new.source.octets ≡ octets = ap (λ (x : Counted). x.octets) c.in-Some.ensures.steps.3 ∙ same2 in
-          let b4 = subst (λ o. IsBetween sign o (before ++ r.so.done) (item ∷ rest) c.draw_area-cursor.result) (sym same3) b3 in
-          let b5 = subst (λ o. IsBetween sign o ((before ++ r.so.done) ++ item ∷ []) rest c.pass-cursor.result) same3 (c.pass-cursor.ensures.passed (before ++ r.so.done) rest item b4 taken) in
+          let b4 = subst (λ o. IsBetween sign o (before ++ r.so.done) (item ∷ rest) c.draw_area.new.cursor) (sym same3) b3 in
+          let b5 = subst (λ o. IsBetween sign o ((before ++ r.so.done) ++ item ∷ []) rest c.pass.new.self) same3 (c.pass.ensures.passed (before ++ r.so.done) rest item b4 taken) in
           let turns : is_new_page (meaning item) ≡ false = ap is_new_page taken.meant ∙ sym c.ends_page.ensures ∙ c.if-ends_page.false in
           let starts = first_begins item rest (subst (λ l. EndsArea (map meaning l)) is r.ends) in
-          page_goes_on sign octets before behind c.args.layer c.draw_area-cursor.result c.draw_area-cursor.new.plane r.so item rest is c.pass-cursor.result b5 starts turns
+          page_goes_on sign octets before behind c.args.layer c.draw_area.new.cursor c.draw_area.new.plane r.so item rest is c.pass.new.self b5 starts turns
           (area_no_page sign.defaults (standing sign (map meaning (before ++ r.so.done))) (meaning item) starts turns);
-      on = omega (arith, i.on, r.on, r.at, c.pass-cursor.ensures.at);
-      steps = subst (λ n. RisesBetween c.args.source.now c.pass-cursor.new.source 0 (4 * n)) far all;
-      filled = filled_longer sign c.fill.new.self c.draw_area-cursor.new.plane _ (c.pass-cursor.result.at - c.args.cursor.at) (omega (arith, i.on, r.on, r.at, c.pass-cursor.ensures.at))
-          (filled_then sign c.fill.new.self c.loop-next.plane c.draw_area-cursor.new.plane (c.loop-next.cursor.at - c.args.cursor.at) (c.read_area-read.result.end - c.loop-next.cursor.at) i.filled c.draw_area-cursor.ensures.fills);
+      on = omega (arith, i.on, r.on, r.at, c.pass.ensures.at);
+      steps = subst (λ n. RisesBetween c.args.source.now c.pass.new.source 0 (4 * n)) far all;
+      filled = filled_longer sign c.fill.new.self c.draw_area.new.plane _ (c.pass.new.self.at - c.args.cursor.at) (omega (arith, i.on, r.on, r.at, c.pass.ensures.at))
+          (filled_then sign c.fill.new.self c.loop-next.plane c.draw_area.new.plane (c.loop-next.cursor.at - c.args.cursor.at) (c.read_area.new.read.end - c.loop-next.cursor.at) i.filled c.draw_area.ensures.fills);
     }

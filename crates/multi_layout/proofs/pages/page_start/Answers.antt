@@ -23,9 +23,9 @@ loop-cursor-smaller c =
     let old = c.loop-cursor.cursor in
     let same : c.loop-cursor.source.octets ≡ start.octets = ap (λ (s : Counted). s.octets) i.steps.3 in
     let first = c.in-Some.ensures.first sign i.way.before i.way.behind (rw same i.way.between) in
-    let some = some_read sign c.args.page start c.loop-cursor.source c.next_item.new.source c.pass-cursor.new.source old c.pass-cursor.result c.in-Some.next i.steps c.in-Some.ensures.steps c.pass-cursor.ensures.at i.way first in
-    let within = within_further sign c.args.page start c.loop-cursor.source c.next_item.new.source c.pass-cursor.new.source old c.pass-cursor.result c.in-Some.next i.steps c.in-Some.ensures.steps c.pass-cursor.ensures.at i.way first in
-    omega (arith, c.pass-cursor.ensures.at, some, within)
+    let some = some_read sign c.args.page start c.loop-cursor.source c.next_item.new.source c.pass.new.source old c.pass.new.self c.in-Some.next i.steps c.in-Some.ensures.steps c.pass.ensures.at i.way first in
+    let within = within_further sign c.args.page start c.loop-cursor.source c.next_item.new.source c.pass.new.source old c.pass.new.self c.in-Some.next i.steps c.in-Some.ensures.steps c.pass.ensures.at i.way first in
+    omega (arith, c.pass.ensures.at, some, within)
 
 pub loop-cursor-preserved : goal.loop-cursor-preserved
 loop-cursor-preserved c =
@@ -35,9 +35,9 @@ loop-cursor-preserved c =
     let old = c.loop-cursor.cursor in
     let same : c.loop-cursor.source.octets ≡ start.octets = ap (λ (s : Counted). s.octets) i.steps.3 in
     let first = c.in-Some.ensures.first sign i.way.before i.way.behind (rw same i.way.between) in
-    let some = some_read sign c.args.page start c.loop-cursor.source c.next_item.new.source c.pass-cursor.new.source old c.pass-cursor.result c.in-Some.next i.steps c.in-Some.ensures.steps c.pass-cursor.ensures.at i.way first in
+    let some = some_read sign c.args.page start c.loop-cursor.source c.next_item.new.source c.pass.new.source old c.pass.new.self c.in-Some.next i.steps c.in-Some.ensures.steps c.pass.ensures.at i.way first in
     record {
-      way = way_further sign c.args.page start c.loop-cursor.source c.next_item.new.source c.pass-cursor.new.source old c.pass-cursor.result c.in-Some.next i.steps c.in-Some.ensures.steps c.pass-cursor.ensures.at i.way first
-          c.loop-cursor-test.true (c.pass-cursor.ensures.passed);
-      steps = steps_further sign c.args.page start c.loop-cursor.source c.next_item.new.source c.pass-cursor.new.source old c.pass-cursor.result c.in-Some.next i.steps c.in-Some.ensures.steps c.pass-cursor.ensures.at some c.pass-cursor.ensures.steps;
+      way = way_further sign c.args.page start c.loop-cursor.source c.next_item.new.source c.pass.new.source old c.pass.new.self c.in-Some.next i.steps c.in-Some.ensures.steps c.pass.ensures.at i.way first
+          c.loop-cursor-test.true (c.pass.ensures.passed);
+      steps = steps_further sign c.args.page start c.loop-cursor.source c.next_item.new.source c.pass.new.source old c.pass.new.self c.in-Some.next i.steps c.in-Some.ensures.steps c.pass.ensures.at some c.pass.ensures.steps;
     }

@@ -15,5 +15,5 @@ returns-clause-column c earlier spot glyph at width line apart =
     let order = in_order earlier spot c.args.before.now line apart in
     let part = c.part_for-part.ensures.sum earlier line (omega (arith, just, order)) in
     let own : c.part_for-part.result ≡ segment_sum spot.at.line_just earlier = part ∙ ap (λ (a : Attributes). segment_sum a.line_just earlier) at in
-    rw (c.from-2.ensures, c.start.ensures.place, c.moved.ensures.pixels, c.saturating_sub-spare.ensures, c.from.ensures, c.width-size.ensures)
+    rw (c.from-2.ensures, c.start.ensures.place, c.moved.ensures.pixels, c.from-3.ensures, c.saturating_sub-spare.ensures, c.from.ensures, c.width-size.ensures)
     (column_is c.args.line.now earlier spot a c.part_for-part.result c.columns_before.result at part (c.columns_before.ensures.columns earlier spot glyph at width own))

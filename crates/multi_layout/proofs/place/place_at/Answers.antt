@@ -1,4 +1,4 @@
-use Rattle.std.proofs.Common.{◌≡◌, ◌^◌, ap, ◌∙◌}
+use Rattle.std.proofs.Common.{◌≡◌, ◌^◌, ap, ◌∙◌, arith}
 use Rattle.multi_layout.specs.declared.area.Group.{Group}
 use Rattle.multi_layout.specs.declared.attributes.Attributes.{Attributes}
 use Rattle.multi_layout.specs.Address.{area_of, in_group, group_of, lines_of, line_before}
@@ -10,7 +10,9 @@ pub column_at-requires-clause-below : goal.column_at-requires-clause-below
 column_at-requires-clause-below c = (c.group-group.ensures.below (2 ^ 43) c.requires.below).line
 
 pub row_at-requires : goal.row_at-requires
-row_at-requires c = record { low = c.line_at-line.ensures.low (2 ^ 43) c.requires.low }
+row_at-requires c =
+    let bottom = c.line_at-line.ensures.low (2 ^ 43) c.requires.low in
+    record { low = omega (arith, bottom, c.from.ensures) }
 
 pub returns-clause-place : goal.returns-clause-place
 returns-clause-place c before all spot glyph at width area lines there apart =
@@ -19,4 +21,4 @@ returns-clause-place c before all spot glyph at width area lines there apart =
     place_from before all spot c.args.attributes.now c.group-group.result.now c.args.lines.now c.line_at-line.result c.column_at.result c.row_at.result c.height.result
     at c.requires.line_just sum lines there c.line_at-line.ensures.line
     (c.column_at.ensures.column (line_before before spot) spot glyph at width (ap (λ (g : Group). g.line) sum) apart)
-    (c.height.ensures (lines_of (group_of spot all)) lines) c.row_at.ensures.row
+    (c.height.ensures (lines_of (group_of spot all)) lines) (rw c.from.ensures at c.row_at.ensures.row)

@@ -7,27 +7,27 @@ use Rattle.multi_layout.proofs.read.end_area.Goals as goal
 
 pub end_group-requires-clause-room : goal.end_group-requires-clause-room
 end_group-requires-clause-room c =
-    let (spots, placing, sum, ended, room) = c.requires.room in
-    (in_group 2 spots, placing_group 2 spots placing, c.group.ensures.sum spots sum, ended 2 (omega arith) (omega arith), room 2 (omega arith) (omega arith))
+    let (spots, placing, sum, ended, room, narrow) = c.requires.room in
+    (in_group 2 spots, placing_group 2 spots placing, c.group.ensures.sum spots sum, ended 2 (omega arith) (omega arith), room 2 (omega arith) (omega arith), (narrow 2 (omega arith) (omega arith)).0, (narrow 2 (omega arith) (omega arith)).1)
 
 pub end_group-requires-2-clause-below : goal.end_group-requires-2-clause-below
 end_group-requires-2-clause-below c = c.group-2.ensures.below (2 ^ 42) c.requires.below
 
 pub end_group-requires-2-clause-room : goal.end_group-requires-2-clause-room
 end_group-requires-2-clause-room c =
-    let (spots, placing, sum, ended, room) = c.requires.room in
+    let (spots, placing, sum, ended, room, narrow) = c.requires.room in
     let kept = c.end_group.ensures.others 3 (omega arith) (omega arith) (λ e. omega arith) in
-    (in_group 3 spots, placing_group 3 spots placing, c.group-2.ensures.sum spots sum, kept ∙ ended 3 (omega arith) (omega arith), room 3 (omega arith) (omega arith))
+    (in_group 3 spots, placing_group 3 spots placing, c.group-2.ensures.sum spots sum, kept ∙ ended 3 (omega arith) (omega arith), room 3 (omega arith) (omega arith), (narrow 3 (omega arith) (omega arith)).0, (narrow 3 (omega arith) (omega arith)).1)
 
 pub end_group-requires-3-clause-below : goal.end_group-requires-3-clause-below
 end_group-requires-3-clause-below c = c.group-3.ensures.below (2 ^ 42) c.requires.below
 
 pub end_group-requires-3-clause-room : goal.end_group-requires-3-clause-room
 end_group-requires-3-clause-room c =
-    let (spots, placing, sum, ended, room) = c.requires.room in
+    let (spots, placing, sum, ended, room, narrow) = c.requires.room in
     let kept = c.end_group.ensures.others 4 (omega arith) (omega arith) (λ e. omega arith) in
     let kept_2 = c.end_group-2.ensures.others 4 (omega arith) (omega arith) (λ e. omega arith) in
-    (in_group 4 spots, placing_group 4 spots placing, c.group-3.ensures.sum spots sum, kept_2 ∙ kept ∙ ended 4 (omega arith) (omega arith), room 4 (omega arith) (omega arith))
+    (in_group 4 spots, placing_group 4 spots placing, c.group-3.ensures.sum spots sum, kept_2 ∙ kept ∙ ended 4 (omega arith) (omega arith), room 4 (omega arith) (omega arith), (narrow 4 (omega arith) (omega arith)).0, (narrow 4 (omega arith) (omega arith)).1)
 
 pub returns-clause-counted : goal.returns-clause-counted
 returns-clause-counted c = λ spots placing sum ended.

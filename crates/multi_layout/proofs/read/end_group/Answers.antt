@@ -1,4 +1,4 @@
-use Rattle.std.proofs.Common.{◌≡◌, ◌^◌, ◌≤◌, ◌∙◌, ap, arith}
+use Rattle.std.proofs.Common.{◌^◌, ◌≤◌, ◌∙◌, ap, arith}
 use Rattle.std.specs.List.{after_last}
 use Rattle.multi_layout.specs.declared.area.Group.{Group}
 use Rattle.multi_layout.specs.Address.{is_break}
@@ -7,7 +7,7 @@ use Rattle.multi_layout.proofs.read.end_group.Goals as goal
 
 pub push-requires-clause-room : goal.push-requires-clause-room
 push-requires-clause-room c =
-    let (spots, placing, sum, table, few) = c.requires.room in
+    let (spots, placing, sum, table, few, narrow, tall) = c.requires.room in
     group_room spots c.args.group.now _ sum table c.if-group.true few
 
 pub returns-then-group-clause-counted : goal.returns-then-group-clause-counted
@@ -26,3 +26,13 @@ returns-then-group-clause-low c =
 
 pub returns-else-group-clause-counted : goal.returns-else-group-clause-counted
 returns-else-group-clause-counted c = λ spots placing sum table. group_closed spots c.args.group.now _ sum table placing c.if-group.false
+
+pub of-requires-clause-narrow : goal.of-requires-clause-narrow
+of-requires-clause-narrow c =
+    let (spots, placing, sum, table, few, narrow, tall) = c.requires.room in
+    (after_last is_break spots, ap (λ (g : Group). g.line) sum, narrow)
+
+pub of-requires-clause-low : goal.of-requires-clause-low
+of-requires-clause-low c =
+    let (spots, placing, sum, table, few, narrow, tall) = c.requires.room in
+    omega (arith, tall, c.height.ensures.sum spots placing sum)

@@ -11,7 +11,7 @@ use Rattle.multi_layout.proofs.read.read_area.Given as goal
 abbrev pub invariant-loop-next : goal.invariant-loop-next
 invariant-loop-next l = record {
   so_far : (before behind : List spelled.Item) → IsBetween l.sign l.initial.source.octets before behind l.initial.cursor
-      → present_area l.sign (map meaning before) ≡ [] → SoFar l.sign l.initial.source.octets before behind l.cursor l.lines;
+      → present_area l.sign (map meaning before) ≡ [] → SoFar l.sign l.initial.source.octets before behind l.cursor l.read.lines;
   forward : l.initial.cursor.at ≤ l.cursor.at;
   steps : RisesBetween l.initial.source l.source 0 (2 * (l.cursor.at - l.initial.cursor.at));
 }

@@ -30,7 +30,7 @@ loop-next-smaller c =
     let s = i.searched in
     let first = (rw i.octets at c.in-Some.ensures.first) c.args.sign.now s.before s.behind s.between in
     let fits = next_fits s c.in-Some.next first in
-    omega (arith, fits, c.pass-cursor.ensures.at)
+    omega (arith, fits, c.pass.ensures.at)
 
 pub loop-next-preserved : goal.loop-next-preserved
 loop-next-preserved c =
@@ -38,14 +38,14 @@ loop-next-preserved c =
     let s = i.searched in
     let next = c.in-Some.next in
     let cursor = c.loop-next.cursor in
-    let pass = c.pass-cursor.ensures in
+    let pass = c.pass.ensures in
     let first = (rw i.octets at c.in-Some.ensures.first) c.args.sign.now s.before s.behind s.between in
     let fits = next_fits s next first in
     let same : c.next_item.new.source.octets ≡ c.args.source.now.octets = ap (λ (s : Counted). s.octets) c.in-Some.ensures.steps.3 ∙ i.octets in
     let k = rises_then c.args.source.now c.loop-next.source c.next_item.new.source 0 (2 * cursor.at) 0 (2 * next.len - 1) i.steps c.in-Some.ensures.steps in
-    let all = rises_then c.args.source.now c.next_item.new.source c.pass-cursor.new.source 0 (2 * cursor.at + (2 * next.len - 1)) 0 1 k pass.steps in
+    let all = rises_then c.args.source.now c.next_item.new.source c.pass.new.source 0 (2 * cursor.at + (2 * next.len - 1)) 0 1 k pass.steps in
     record {
-      searched = searched_more s next first c.pass-cursor.result (rw same at pass.passed) (elim c.if-ends_page.branch [
+      searched = searched_more s next first c.pass.new.self (rw same at pass.passed) (elim c.if-ends_page.branch [
         | then-ends_page+in_default-shown_in w ↦ λ _. over_here s w.shown_in.ensures.on w.shown_in.ensures.off w.shown_in.ensures.ended w.in_default-shown_in.is
         | else-ends_page w ↦ λ e. absurd (false≢true (sym w.if-ends_page.false ∙ c.ends_page.ensures ∙ e))
       ]);

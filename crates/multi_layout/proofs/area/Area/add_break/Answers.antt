@@ -1,4 +1,4 @@
-use Rattle.std.proofs.Common.{◌≡◌, ℕ, ap, ◌∙◌, arith}
+use Rattle.std.proofs.Common.{◌≡◌, ap, ◌∙◌, arith}
 use Rattle.multi_layout.specs.declared.area.Area.{Area}
 use Rattle.multi_layout.proofs.AreaSumLemmas.{area_with, group_other, top_grown, middle_grown, bottom_grown}
 use Rattle.multi_layout.proofs.area.Area.add_break.Goals as goal

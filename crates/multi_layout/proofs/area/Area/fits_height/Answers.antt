@@ -4,8 +4,8 @@ use Rattle.multi_layout.specs.Address.{in_group}
 use Rattle.multi_layout.proofs.GroupSumLemmas.{placing_group}
 use Rattle.multi_layout.proofs.area.Area.fits_height.Goals as goal
 
-pub returns : goal.returns
-returns c area placing e =
+pub returns-clause-sum : goal.returns-clause-sum
+returns-clause-sum c area placing e =
     rw (
       c.parts_fit.ensures,
       c.height.ensures.sum (in_group 2 area) (placing_group 2 area placing) (ap (λ (a : Area). a.top) e),

@@ -5,4 +5,4 @@ use Rattle.multi_layout.proofs.area.Area.fits_with_break.Goals as goal
 
 pub returns : goal.returns
 returns c before s b e h =
-    fits_break before s c.args.height c.fits_height.result b h (c.fits_height.ensures (area_of s before ++ s ∷ []) (placing_break before s b) e)
+    fits_break before s c.args.height c.fits_height.result b h (c.fits_height.ensures.sum (area_of s before ++ s ∷ []) (placing_break before s b) e)

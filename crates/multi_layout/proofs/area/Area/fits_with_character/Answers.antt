@@ -12,5 +12,5 @@ pub returns : goal.returns
 returns c before s g e page w h =
     let more = area_of s before ++ s ∷ [] in
     fits_character before s c.args.page_just c.args.width c.args.height c.fits.result c.fits_height.result g page w h
-    (c.fits.ensures (after_last is_break (in_group c.args.page_just more)) (ap (λ (g : Group). g.line) (c.group.ensures.sum more e)))
-    (c.fits_height.ensures more (placing_character before s g) e)
+    (c.fits.ensures.sum (after_last is_break (in_group c.args.page_just more)) (ap (λ (g : Group). g.line) (c.group.ensures.sum more e)))
+    (c.fits_height.ensures.sum more (placing_character before s g) e)

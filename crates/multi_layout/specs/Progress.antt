@@ -1,0 +1,46 @@
+-- How far a string was read and judged (own).
+use Rattle.std.specs.Prelude.{◌≡◌, ℕ, ◌+◌, ◌*◌, ◌≤◌, List, [], ◌++◌, length, drop, map, Option, slice_get}
+use Rattle.std.specs.List.{All}
+use Rattle.multi_token.specs.Counted.{Counted}
+use Rattle.multi_token.specs.Spelling.{Item, IsItem, spell}
+use Rattle.sign_font.specs.Sign.{SignData}
+use Rattle.multi_layout.specs.declared.state.State.{State}
+use Rattle.multi_layout.specs.declared.verdict.Offence.{Offence}
+use Rattle.multi_layout.specs.Codes.{code_of}
+use Rattle.multi_layout.specs.Limits.{check_limit}
+use Rattle.multi_layout.specs.Meaning.{meaning}
+use Rattle.multi_layout.specs.State.{IsStateOf}
+use Rattle.multi_layout.specs.Verdict.{IsVerdict, Refused, offences}
+
+-- the items before an offset, none of which offends, and their state (own)
+pub record ReadSoFar (sign : SignData) (octets : List ℕ) (at : ℕ) (state : State) : Type 0 where
+  pub items : List Item
+  pub each : All IsItem items
+  pub front : octets ≡ spell items ++ drop at octets
+  pub place : at ≡ length (spell items)
+  pub within : at ≤ length octets
+  pub none : offences sign items ≡ []
+  pub state_is : IsStateOf sign (map meaning items) state
+  pub few : length items ≤ at
+
+-- the items before an offset are judged, and each of their octets took one or two steps (own)
+pub record IsBehind (sign : SignData) (octets : List ℕ) (at : ℕ) (state : State) (source : Counted) : Type 0 where
+  pub so_far : ReadSoFar sign octets at state
+  pub same : source.octets ≡ octets
+  pub least : at ≤ source.steps
+  pub most : source.steps ≤ 2 * at
+
+-- the items before an offset are judged, and the octet there is read, for one step more (own)
+pub record IsAt (sign : SignData) (octets : List ℕ) (at : ℕ) (first : Option ℕ) (state : State) (source : Counted) : Type 0 where
+  pub so_far : ReadSoFar sign octets at state
+  pub octet : first ≡ slice_get octets at
+  pub same : source.octets ≡ octets
+  pub least : at + 1 ≤ source.steps
+  pub most : source.steps ≤ 2 * at + 1
+
+-- the item at an offset is the first one that offends, by this error, and its first octet was read (own)
+pub record IsRefused (sign : SignData) (octets : List ℕ) (offence : Offence) (source : Counted) : Type 0 where
+  pub verdict : IsVerdict sign octets (Refused (code_of offence.error) offence.at)
+  pub same : source.octets ≡ octets
+  pub least : offence.at + 1 ≤ source.steps
+  pub most : source.steps ≤ check_limit (length octets)

@@ -1,0 +1,154 @@
+//! The verdict on a string, in one reading from the left with running sums.
+
+ghost use Rattle.std.specs.Prelude.{◌≡◌, ℕ, ◌+◌, ◌^◌, ◌<◌, ◌≤◌, ◌*◌, ◌-◌, [], length, slice_get, IfOk, IfErr, OnOk, None, Some};
+ghost use Rattle.multi_token.specs.Counted.{charged, RisesBetween};
+ghost use Rattle.multi_token.specs.Tokens.{IsTokenOf, item_of};
+ghost use Rattle.sign_font.specs.Defaults.{default_fault, under};
+ghost use Rattle.multi_layout.specs.Codes.{code_of};
+ghost use Rattle.multi_layout.specs.Limits.{check_limit};
+ghost use Rattle.multi_layout.specs.Progress.{IsAt, IsBehind, IsRefused};
+ghost use Rattle.multi_layout.specs.State.{IsStateOf};
+ghost use Rattle.multi_layout.specs.Verdict.{Accepted, IsCycle, IsVerdict, Refused};
+
+use crate::checked::Checked;
+use crate::fault::{Fault, SyntaxError};
+use crate::judge::judge_token;
+use crate::run::judge_run;
+use crate::state::State;
+use crate::terms::Terms;
+use multi_token::{Kind, Source, rest_of_token};
+use sign_font::{Defaults, Sign};
+
+/// The first error of a string, and the offset of its item.
+#[derive(Clone, Copy)]
+pub(crate) struct Offence {
+    pub(crate) error: SyntaxError,
+    pub(crate) at: usize,
+}
+
+/// Whether a sign accepts a string by the sign's own defaults. Everything else is as [`check_with`] says.
+pub fn check<'a>(sign: &'a Sign, source: Source<'a>) -> Result<Checked<'a>, Fault<'a>>
+    requires fresh { source.steps ≡ 0 }
+    requires short { length source.octets < 2 ^ 32 }
+    ensures accepted { IfOk result (λ checked. (pages : ℕ) × IsVerdict sign.now source.entry.octets (Accepted pages)) }
+    ensures refused { IfErr result (λ fault. IsVerdict sign.now source.entry.octets (Refused fault.code fault.at)) }
+
+    // what was handed in comes back
+    ensures kept { IfOk result (λ checked. (checked.sign ≡ sign.now) × (checked.source.octets ≡ source.entry.octets)) }
+    ensures given_back { IfErr result (λ fault. fault.source.octets ≡ source.entry.octets) }
+
+    // and the steps that were taken
+    ensures steps { IfOk result (λ checked. (length source.entry.octets + 1 ≤ checked.source.steps)
+        × (checked.source.steps ≤ check_limit (length source.entry.octets))) }
+    ensures fault_steps { IfErr result (λ fault. (fault.at + 1 ≤ fault.source.steps)
+        × (fault.source.steps ≤ check_limit (length source.entry.octets))) }
+{
+    check_with(sign, sign.defaults(), source)
+}
+
+/// Whether a sign accepts a string by these defaults, which the sign must not refuse. The items are judged from the left,
+/// and the first one that offends gives the error and its offset.
+///
+/// An absent value means these defaults, here and in every call of the [`Checked`].
+///
+/// The source must have no steps yet and at most 4,294,967,295 octets. Both answers give it back. For n octets its count is
+/// then at most 2n + 1. It is at least n + 1 if the string is accepted, and at least one more than the offset of the error
+/// if it is refused.
+pub fn check_with<'a>(
+    sign: &'a Sign,
+    defaults: Defaults,
+    source: Source<'a>,
+) -> Result<Checked<'a>, Fault<'a>>
+    requires taken { default_fault sign.now defaults ≡ None }
+    requires fresh { source.steps ≡ 0 }
+    requires short { length source.octets < 2 ^ 32 }
+    ensures accepted { IfOk result (λ checked. (pages : ℕ) × IsVerdict (under sign.now defaults) source.entry.octets (Accepted pages)) }
+    ensures refused { IfErr result (λ fault. IsVerdict (under sign.now defaults) source.entry.octets (Refused fault.code fault.at)) }
+
+    // what was handed in comes back
+    ensures kept { IfOk result (λ checked. (checked.sign ≡ under sign.now defaults) × (checked.source.octets ≡ source.entry.octets)) }
+    ensures given_back { IfErr result (λ fault. fault.source.octets ≡ source.entry.octets) }
+
+    // and the steps that were taken
+    ensures steps { IfOk result (λ checked. (length source.entry.octets + 1 ≤ checked.source.steps)
+        × (checked.source.steps ≤ check_limit (length source.entry.octets))) }
+    ensures fault_steps { IfErr result (λ fault. (fault.at + 1 ≤ fault.source.steps)
+        × (fault.source.steps ≤ check_limit (length source.entry.octets))) }
+{
+    let terms = Terms::new(sign, defaults);
+    let mut source = source;
+    let mut state = State::new(&terms);
+    match judge(&terms, &mut state, &mut source) {
+        Ok(()) => Ok(Checked {
+            terms,
+            source,
+            pages: state.pages,
+            cycle: state.whole_cycle(),
+        }),
+        Err(offence) => Err(Fault {
+            code: offence.error.code(),
+            at: offence.at,
+            source,
+        }),
+    }
+}
+
+/// Goes from the state before the first item to that behind the last of an accepted string, or to the first offence.
+fn judge(sign: &Terms<'_>, state: &mut State, source: &mut Source<'_>) -> Result<(), Offence>
+    requires start { IsStateOf sign.now [] state.old }
+    requires fresh { source.old.steps ≡ 0 }
+    requires short { length source.old.octets < 2 ^ 32 }
+    ensures accepted { OnOk result (IsVerdict sign.now source.old.octets (Accepted state.new.pages)
+        × IsCycle sign.now source.old.octets (state.new.cycle + state.new.attributes.on + state.new.attributes.off)
+        × (state.new.cycle ≤ 510 * state.new.pages)) }
+    ensures refused { IfErr result (λ offence. IsVerdict sign.now source.old.octets (Refused (code_of offence.error) offence.at)) }
+    ensures kept { source.new.octets ≡ source.old.octets }
+    ensures steps { OnOk result (length source.old.octets + 1 ≤ source.new.steps) }
+    ensures fault_steps { IfErr result (λ offence. offence.at + 1 ≤ source.new.steps) }
+    ensures most { source.new.steps ≤ check_limit (length source.old.octets) }
+{
+    let mut at = 0;
+    let mut next = source.read(at);
+    while let Some(first) = next {
+        let Ok(token) = rest_of_token(source, at, first) else {
+            return Err(Offence {
+                error: SyntaxError::UnsupportedTag,
+                at,
+            });
+        };
+        if let Err(error) = judge_token(sign, state, source, &token) {
+            return Err(Offence { error, at });
+        }
+        match go_on(sign, state, source, at + token.len, token.kind) {
+            Ok((behind, octet)) => {
+                at = behind;
+                next = octet;
+            }
+            Err(offence) => return Err(offence),
+        }
+    }
+    Ok(())
+}
+
+/// Goes on behind an item that was judged: to the next octet, or behind a character to the end of its run.
+fn go_on(
+    sign: &Terms<'_>,
+    state: &mut State,
+    source: &mut Source<'_>,
+    at: usize,
+    kind: Kind,
+) -> Result<(usize, Option<u8>), Offence>
+    requires short { length source.old.octets < 2 ^ 32 }
+    requires behind { IsBehind sign.now source.old.octets at state.old source.old }
+    ensures at { IfOk result (λ to. (at ≤ to.0) × IsAt sign.now source.old.octets to.0 to.1 state.new source.new) }
+    ensures refused { IfErr result (λ offence. IsRefused sign.now source.old.octets offence source.new) }
+{
+    let run = match kind {
+        Kind::Char(_) => state.run(),
+        Kind::Tag => None,
+    };
+    match run {
+        Some(run) => judge_run(sign, state, source, at, run),
+        None => Ok((at, source.read(at))),
+    }
+}
