@@ -1,12 +1,11 @@
 -- The first reading of an area: the table of its counted lines, item by item.
-use Rattle.std.proofs.Common.{◌≡◌, ◌≢◌, ⊎_elim, ℕ, ◌+◌, ◌-◌, ◌*◌, ◌^◌, ◌<◌, ◌≤◌, Bool, true, false, cond, ◌==◌, length, map, List, [], ◌∷◌, ◌++◌, Option, Some, None, refl, sym, ap, subst, ◌∙◌, arith, append_assoc, append-nil}
-use Rattle.std.specs.Prelude.{if◌then◌else◌}
-use Rattle.std.specs.List.{list_any, after_last, All}
+use Rattle.std.proofs.Common.{◌≡◌, ℕ, ◌+◌, ◌-◌, ◌*◌, ◌^◌, ◌<◌, ◌≤◌, Bool, true, false, cond, length, map, List, [], ◌∷◌, ◌++◌, Option, Some, None, refl, sym, ap, subst, ◌∙◌, arith, append_assoc, append-nil}
+use Rattle.std.specs.List.{All}
 use Rattle.std.specs.Option.{option_map, unwrap_or}
-use Rattle.std.proofs.lemmas.Bool.{cases_eq, eq-eqb, ne_eqb, false≢true}
-use Rattle.std.proofs.lemmas.List.{length-append, length-map, length_push, map-append}
+use Rattle.std.proofs.lemmas.Bool.{false≢true}
+use Rattle.std.proofs.lemmas.List.{length-append, length-map, map-append}
 use Rattle.std.proofs.lemmas.List.Concat.{flat_map-append}
-use Rattle.std.proofs.lemmas.List.Elements.{All-nil, All-push, filter-append}
+use Rattle.std.proofs.lemmas.List.Elements.{All-nil, All-push}
 use Rattle.multi_tag.specs.declared.tag.Tag.TheVariants.{NewPage, NewLine, LineJust, PageJust, Font, CharSpacing, CharSpacingEnd, PageTime, Flash, FlashEnd, Fore, Back, Rect}
 use Rattle.multi_token.specs.Counted.{Counted, RisesBetween}
 use Rattle.multi_token.specs.Spelling.{Item, spelling, spell}
@@ -14,6 +13,7 @@ use Rattle.multi_token.proofs.ReadingLemmas.{spelling_some}
 use Rattle.multi_token.proofs.StepLemmas.{rises_then}
 use Rattle.sign_font.specs.Sign.{SignData, CellData, cell_numbered}
 use Rattle.sign_font.specs.Sound.{IsSound}
+use Rattle.multi_layout.specs.declared.area.Area.{Area}
 use Rattle.multi_layout.specs.declared.area.Group.{Group}
 use Rattle.multi_layout.specs.declared.attributes.Attributes.{Attributes}
 use Rattle.multi_layout.specs.declared.cursor.Cursor.{Cursor}
@@ -22,139 +22,35 @@ use Rattle.multi_layout.specs.declared.read.AreaLines.{AreaLines}
 use Rattle.multi_layout.specs.declared.state.State.{State}
 use Rattle.multi_layout.specs.declared.table.CountedLine.{CountedLine}
 use Rattle.multi_layout.specs.declared.table.LineTable.{LineTable}
-use Rattle.multi_layout.specs.Address.{Spot, Standing, Glyph, Break, Cover, is_glyph, is_break, in_group, lines_of, spots, standing, in_area}
+use Rattle.multi_layout.specs.Address.{Spot, Standing, Glyph, Break, Cover, in_group, spots, standing, in_area}
 use Rattle.multi_layout.specs.KnownItem.{meant_by}
-use Rattle.multi_layout.specs.Line.{height_of}
 use Rattle.multi_layout.specs.Meaning.{Meaning, Shows, Does, Faulty, EndsArea, begins_area, meaning}
-use Rattle.multi_layout.specs.Passes.{HasEnded, HasCounted, HasRoom, IsAreaRead, IsLow, BeginsNoArea, ends_line, first_steps, whole_area}
-use Rattle.multi_layout.specs.Run.{kept_group, kept_height}
+use Rattle.multi_layout.specs.Passes.{HasCounted, HasKnown, HasRoom, IsAreaRead, IsLow, BeginsNoArea, ends_line, first_steps, next_group, places, whole_area}
+use Rattle.multi_layout.specs.Offence.{conflicts, offence, too_big}
+use Rattle.multi_layout.specs.Run.{kept_height}
 use Rattle.multi_layout.specs.State.{IsStateOf, present_area}
-use Rattle.multi_layout.specs.Sums.{IsBelow, IsPlacing, area_sum, group_sum, ended_lines}
-use Rattle.multi_layout.specs.Table.{IsNarrowArea, group_lines, table_of}
+use Rattle.multi_layout.specs.Sums.{IsBelow, IsPlacing, area_sum}
+use Rattle.multi_layout.specs.Table.{IsNarrowArea, IsOrdered, group_lines, table_of}
 use Rattle.multi_layout.specs.Verdict.{fault_at, offences}
 use Rattle.multi_layout.specs.Walk.{IsBetween, IsFirst, IsRead}
-use Rattle.multi_layout.proofs.AreaSumLemmas.{area_placing}
+use Rattle.multi_layout.specs.Words.{largest}
+use Rattle.multi_layout.proofs.AreaSumLemmas.{area_placing, group_of_own, no_back, present_behind}
 use Rattle.multi_layout.proofs.DrawnLemmas.{area_ends}
-use Rattle.multi_layout.proofs.GroupSumLemmas.{own_group, placing_group}
+use Rattle.multi_layout.proofs.GroupSumLemmas.{placing_group}
 use Rattle.multi_layout.proofs.JudgedLemmas.{below_more}
+use Rattle.multi_layout.proofs.KnownLinesLemmas.{Pushed, behind_empty, break_known, break_room, glyph_known, known_none}
 use Rattle.multi_layout.proofs.NarrowLemmas.{narrow_area}
-use Rattle.multi_layout.proofs.PlaceLemmas.{ended_most}
+use Rattle.multi_layout.proofs.OffenceLemmas.{offence-break, offence-character, offence-undefined}
+use Rattle.multi_layout.proofs.PlacingLemmas.{no_conflict}
 use Rattle.multi_layout.proofs.RoomLemmas as room_lemmas
-use Rattle.multi_layout.proofs.RunLemmas.{kept_group_is, kept_height_is}
+use Rattle.multi_layout.proofs.RunLemmas.{kept_height_is}
 use Rattle.multi_layout.proofs.StandingLemmas.{standing_push}
 use Rattle.multi_layout.proofs.StateLemmas.{present_area-placing, present_area-nothing, present_area-cover}
-use Rattle.multi_layout.proofs.TableLemmas.{open_entry, table_length, ended_break, ended_glyph, table_break, lines_open, table_open, table_closed}
-use Rattle.multi_layout.proofs.WalkLemmas.{few, within}
+use Rattle.multi_layout.proofs.TableLemmas.{open_entry}
+use Rattle.multi_layout.proofs.WalkLemmas.{few, never_offends, within}
 use Rattle.multi_layout.proofs.WordLemmas.{left_nil, some_after-append}
 
--- ONE MORE LINE
-
--- a line is put behind those of the group with a page justification
-abbrev pub Pushed : ℕ → CountedLine → LineTable → LineTable → Type 0
-Pushed page_just line old new = (just : ℕ) → (2 ≤ just) × (just ≤ 4) → group_lines just new ≡ (if just == page_just then group_lines just old ++ line ∷ [] else group_lines just old)
-
-low_if : (b : Bool) (lines : List CountedLine) (line : CountedLine) → All (λ l. l.bottom ≤ 2 ^ 43) lines → line.bottom ≤ 2 ^ 43 → All (λ l. l.bottom ≤ 2 ^ 43) (if b then lines ++ line ∷ [] else lines)
-low_if true lines line all low = All-push (λ l. l.bottom ≤ 2 ^ 43) lines line all low
-low_if false lines line all low = all
-
-module _ (page_just : ℕ) (line : CountedLine) (old new : LineTable) (pushed : Pushed page_just line old new) where
-  -- its own group has it
-  pub pushed_own : 2 ≤ page_just → page_just ≤ 4 → group_lines page_just new ≡ group_lines page_just old ++ line ∷ []
-  pushed_own least most = pushed page_just (least, most) ∙ ap (λ b. if b then group_lines page_just old ++ line ∷ [] else group_lines page_just old) (eq-eqb page_just page_just refl)
-
-  -- the others stay
-  pub pushed_other : (just : ℕ) → 2 ≤ just → just ≤ 4 → just ≢ page_just → group_lines just new ≡ group_lines just old
-  pushed_other just least most other = pushed just (least, most) ∙ ap (λ b. if b then group_lines just old ++ line ∷ [] else group_lines just old) (ne_eqb just page_just other)
-
-  -- and no sum overflows
-  pub pushed_low : line.bottom ≤ 2 ^ 43 → IsLow old → IsLow new
-  pushed_low low all just least most = subst (All (λ l. l.bottom ≤ 2 ^ 43)) (sym (pushed just (least, most))) (low_if (just == page_just) (group_lines just old) line (all just least most) low)
-
--- what holds of the page justifications top, middle and bottom
-pub each_group : (P : ℕ → Type 0) → P 2 → P 3 → P 4 → (just : ℕ) → 2 ≤ just → just ≤ 4 → P just
-each_group P top middle bottom just least most = ⊎_elim (λ e. subst P (sym e) top) below_top (cases_eq just 2)
-  where
-    below_middle : (just ≡ 2 → ⊥) → (just ≡ 3 → ⊥) → P just
-    below_middle n2 n3 = let four : 4 ≡ just = omega arith in subst P four bottom
-
-    below_top : (just ≡ 2 → ⊥) → P just
-    below_top n2 = ⊎_elim (λ e. subst P (sym e) middle) (below_middle n2) (cases_eq just 3)
-
--- THE LAST LINE OF A GROUP
-
-module _ (spots : List Spot) (group : Group) (lines : List CountedLine) (sum : group ≡ group_sum spots) (table : lines ≡ table_of (ended_lines spots)) where
-  any_is : (b : Bool) → group.line.any ≡ b → list_any is_glyph (after_last is_break spots) ≡ b
-  any_is b any = ap (λ (g : Group). g.line.any) (sym sum) ∙ any
-
-  -- there is room for it
-  pub group_room : group.line.any ≡ true → length (lines_of spots) ≤ 128 → length lines < 128
-  group_room any few =
-      let all = ap length (lines_open spots (any_is true any)) in
-      omega (arith, ap length table, table_length (ended_lines spots), all, length_push (ended_lines spots) (after_last is_break spots))
-
-  -- with it the table has all lines
-  pub group_counted : (line : CountedLine) (bottom : ℕ) → group.line.any ≡ true → line ≡ open_entry spots bottom → bottom ≡ height_of (lines_of spots) → lines ++ line ∷ [] ≡ table_of (lines_of spots)
-  group_counted line bottom any is height =
-      let entry : line ≡ open_entry spots (height_of (lines_of spots)) = is ∙ ap (open_entry spots) height in
-      ap (λ l. l ++ line ∷ []) table
-      ∙ ap (λ (e : CountedLine). table_of (ended_lines spots) ++ e ∷ []) entry
-      ∙ sym (table_open spots (any_is true any))
-
-  -- where there is none the table has all lines
-  pub group_closed : All IsPlacing spots → group.line.any ≡ false → lines ≡ table_of (lines_of spots)
-  group_closed placing none = table ∙ sym (table_closed spots placing (any_is false none))
-
--- THE ENDED LINES AT ONE MORE ITEM
-
--- an item of another group
-other_group : (just : ℕ) (area : List Spot) (s : Spot) → s.at.page_just ≢ just → in_group just (area ++ s ∷ []) ≡ in_group just area
-other_group just area s other =
-    filter-append (λ t. t.at.page_just == just) area (s ∷ [])
-    ∙ ap (λ b. in_group just area ++ cond b (s ∷ []) []) (ne_eqb s.at.page_just just other)
-    ∙ append-nil (in_group just area)
-
--- a character ends no line
-glyph_ended : (area : List Spot) (s : Spot) (table : LineTable) → is_glyph s ≡ true → HasEnded area table → HasEnded (area ++ s ∷ []) table
-glyph_ended area s table glyph has just least most = has just least most ∙ ap table_of (sym (⊎_elim own other (cases_eq s.at.page_just just)))
-  where
-    own : s.at.page_just ≡ just → ended_lines (in_group just (area ++ s ∷ [])) ≡ ended_lines (in_group just area)
-    own e = ap ended_lines (own_group just area s e) ∙ ended_glyph (in_group just area) s glyph
-
-    other : s.at.page_just ≢ just → ended_lines (in_group just (area ++ s ∷ [])) ≡ ended_lines (in_group just area)
-    other e = ap ended_lines (other_group just area s e)
-
-module _ (page_just : ℕ) (area : List Spot) (s : Spot) (breaks : is_break s ≡ true) (at : s.at.page_just ≡ page_just) (least : 2 ≤ page_just) (most : page_just ≤ 4) where
-  -- an `nl` ends the open line of its group
-  break_ended : (after : Group) (line : CountedLine) (old new : LineTable) → after ≡ group_sum (in_group page_just (area ++ s ∷ []))
-      → line ≡ open_entry (in_group page_just area) after.closed → Pushed page_just line old new → HasEnded area old → HasEnded (area ++ s ∷ []) new
-  break_ended after line old new sum_after is pushed has just low high =
-      ⊎_elim (λ e. subst (λ j. group_lines j new ≡ table_of (ended_lines (in_group j (area ++ s ∷ [])))) (sym e) here) there (cases_eq just page_just)
-    where
-      here : group_lines page_just new ≡ table_of (ended_lines (in_group page_just (area ++ s ∷ [])))
-      here =
-          let g = in_group page_just area in
-          let own : in_group page_just (area ++ s ∷ []) ≡ g ++ s ∷ [] = own_group page_just area s at in
-          let bottom : after.closed ≡ height_of (ended_lines (g ++ s ∷ [])) = ap (λ (g : Group). g.closed) sum_after ∙ ap (λ l. height_of (ended_lines l)) own in
-          let entry : line ≡ open_entry g (height_of (ended_lines (g ++ s ∷ []))) = is ∙ ap (open_entry g) bottom in
-          pushed_own page_just line old new pushed least most
-          ∙ ap (λ l. l ++ line ∷ []) (has page_just least most)
-          ∙ ap (λ (e : CountedLine). table_of (ended_lines g) ++ e ∷ []) entry
-          ∙ sym (table_break g s breaks)
-          ∙ ap (λ l. table_of (ended_lines l)) (sym own)
-
-      there : just ≢ page_just → group_lines just new ≡ table_of (ended_lines (in_group just (area ++ s ∷ [])))
-      there other =
-          pushed_other page_just line old new pushed just low high other
-          ∙ has just low high
-          ∙ ap (λ l. table_of (ended_lines l)) (sym (other_group just area s (λ e. other (sym e ∙ at))))
-
-  -- before it there is room for that line
-  break_room : (table : LineTable) → HasEnded area table → HasRoom (area ++ s ∷ []) → length (group_lines page_just table) < 128
-  break_room table has room =
-      let g = in_group page_just area in
-      let own = ap (λ l. length (ended_lines l)) (own_group page_just area s at) in
-      let more = ap length (ended_break g s breaks) ∙ length_push (ended_lines g) (after_last is_break g ++ s ∷ []) in
-      omega (arith, ap length (has page_just least most), table_length (ended_lines g), own, more, ended_most (in_group page_just (area ++ s ∷ [])), room page_just least most)
+-- THE KNOWN LINES AT ONE MORE ITEM
 
 line_end : (x : Meaning) → ends_line x ≡ true → (gap : Option ℕ) × (x ≡ Does (NewLine gap))
 line_end (Shows number) e = absurd (false≢true e)
@@ -173,68 +69,136 @@ line_end (Does (Fore colour)) e = absurd (false≢true e)
 line_end (Does (Back colour)) e = absurd (false≢true e)
 line_end (Does (Rect x y w h)) e = absurd (false≢true e)
 
-module _ (sign : SignData) (items : List Meaning) where
-  abbrev break_spot : Option ℕ → Spot
-  break_spot gap = record { at = standing sign items; put = Break gap }
+module _ (sign : SignData) (items : List Meaning) (state : State) (st : IsStateOf sign items state) where
+  page_is : (standing sign items).page_just ≡ state.attributes.page_just
+  page_is = sym (ap (λ (a : Attributes). a.page_just) st.attributes)
 
-  area_break : (gap : Option ℕ) → present_area sign (items ++ Does (NewLine gap) ∷ []) ≡ present_area sign items ++ break_spot gap ∷ []
-  area_break gap = present_area-placing sign items (Does (NewLine gap)) (Break gap) refl refl refl
+  present_is : state.area.present ≡ largest (λ (t : Spot). t.at.page_just) (present_area sign items)
+  present_is = ap (λ (a : Area). a.present) st.area
 
-  module _ (before : State) (st : IsStateOf sign items before) where
-    just_is : before.attributes.page_just ≡ (standing sign items).page_just
-    just_is = ap (λ (a : Attributes). a.page_just) st.attributes
+  none≢some : (n : ℕ) → Some n ≡ None → ⊥
+  none≢some n e = cc
 
-    -- an item that ends a line ends the open line of the group in force
-    pub ended_more : (x : Meaning) → ends_line x ≡ true → (after : State) (next : Group) (line : CountedLine) (old new : LineTable) → IsStateOf sign (items ++ x ∷ []) after
-        → ((area : List Spot) → after.area ≡ area_sum area → next ≡ group_sum (in_group before.attributes.page_just area))
-        → ((area : List Spot) → before.area ≡ area_sum area → line ≡ open_entry (in_group before.attributes.page_just area) next.closed) → Pushed before.attributes.page_just line old new
-        → HasEnded (present_area sign items) old → HasEnded (present_area sign (items ++ x ∷ [])) new
-    ended_more x ends after next line old new st_after sum_after is pushed has =
+  -- an item with a place that doesn't offend isn't before the present group
+  order_glyph : (number : ℕ) (o : Option CellData) → cell_numbered (standing sign items).font number ≡ o → offence sign items (Shows number) ≡ None → state.area.present ≤ state.attributes.page_just
+  order_glyph number None found fine = absurd (none≢some 7 (sym (offence-undefined sign items number found) ∙ fine))
+  order_glyph number (Some cell) found fine =
+      let spot : Spot = record { at = standing sign items; put = Glyph cell } in
+      no_back (spots sign items) spot state.attributes.page_just state.area.present page_is present_is
+      (no_conflict (conflicts (spots sign items) spot) (too_big (spots sign items) spot) (sym (offence-character sign items number cell found) ∙ fine))
+
+  pub order : (x : Meaning) → offence sign items x ≡ None → places x ≡ true → state.area.present ≤ state.attributes.page_just
+  order (Shows number) fine p = order_glyph number (cell_numbered (standing sign items).font number) refl fine
+  order (Does (NewLine gap)) fine p =
+      let spot : Spot = record { at = standing sign items; put = Break gap } in
+      no_back (spots sign items) spot state.attributes.page_just state.area.present page_is present_is
+      (no_conflict (conflicts (spots sign items) spot) (too_big (spots sign items) spot) (sym (offence-break sign items gap) ∙ fine))
+  order (Faulty code) fine p = absurd (false≢true p)
+  order (Does NewPage) fine p = absurd (false≢true p)
+  order (Does (LineJust just)) fine p = absurd (false≢true p)
+  order (Does (PageJust just)) fine p = absurd (false≢true p)
+  order (Does (Font pick)) fine p = absurd (false≢true p)
+  order (Does (CharSpacing pixels)) fine p = absurd (false≢true p)
+  order (Does CharSpacingEnd) fine p = absurd (false≢true p)
+  order (Does (PageTime on off)) fine p = absurd (false≢true p)
+  order (Does (Flash off_first on off)) fine p = absurd (false≢true p)
+  order (Does FlashEnd) fine p = absurd (false≢true p)
+  order (Does (Fore colour)) fine p = absurd (false≢true p)
+  order (Does (Back colour)) fine p = absurd (false≢true p)
+  order (Does (Rect x y w h)) fine p = absurd (false≢true p)
+
+  -- an item without a place leaves the area, and its lines
+  known_stays : (x : Meaning) (after : State) → IsStateOf sign (items ++ x ∷ []) after → places x ≡ false → present_area sign (items ++ x ∷ []) ≡ present_area sign items
+      → (table : LineTable) → HasKnown (next_group state x) (present_area sign items) table → HasKnown after.area.present (present_area sign (items ++ x ∷ [])) table
+  known_stays x after st' none same table has =
+      let stays : next_group state x ≡ after.area.present =
+      ap (λ b. cond b state.attributes.page_just state.area.present) none ∙ ap (λ (a : Area). a.present) (st.area ∙ sym (st'.area ∙ ap area_sum same)) in
+      subst (λ n. HasKnown n (present_area sign (items ++ x ∷ [])) table) stays (subst (λ a. HasKnown (next_group state x) a table) (sym same) has)
+
+  -- a character joins the group in force
+  known_glyph : (number : ℕ) (o : Option CellData) → cell_numbered (standing sign items).font number ≡ o → offence sign items (Shows number) ≡ None → (after : State) → IsStateOf sign (items ++ Shows number ∷ []) after
+      → (table : LineTable) → HasKnown state.attributes.page_just (present_area sign items) table → HasKnown after.area.present (present_area sign (items ++ Shows number ∷ [])) table
+  known_glyph number None found fine after st' table has = absurd (none≢some 7 (sym (offence-undefined sign items number found) ∙ fine))
+  known_glyph number (Some cell) found fine after st' table has =
+      let spot : Spot = record { at = standing sign items; put = Glyph cell } in
+      let area = present_area sign items in
+      let grown : present_area sign (items ++ Shows number ∷ []) ≡ area ++ spot ∷ [] = present_area-placing sign items (Shows number) (Glyph cell) refl (ap (option_map Glyph) found) refl in
+      let behind = present_behind area spot state.area after.area st.area (st'.area ∙ ap area_sum grown) (omega (arith, page_is, order_glyph number (Some cell) found fine)) in
+      subst (λ n. HasKnown n (present_area sign (items ++ Shows number ∷ [])) table) (sym (behind ∙ page_is))
+      (subst (λ a. HasKnown state.attributes.page_just a table) (sym grown) (glyph_known state.attributes.page_just area spot page_is table refl has))
+
+  -- an item that begins no area and ends no line
+  pub known_same : (x : Meaning) → offence sign items x ≡ None → (after : State) → IsStateOf sign (items ++ x ∷ []) after → begins_area x ≡ false → ends_line x ≡ false
+      → (table : LineTable) → HasKnown (next_group state x) (present_area sign items) table → HasKnown after.area.present (present_area sign (items ++ x ∷ [])) table
+  known_same (Shows number) fine after st' stays open' table has = known_glyph number (cell_numbered (standing sign items).font number) refl fine after st' table has
+  known_same (Faulty code) fine after st' stays open' table has = known_stays (Faulty code) after st' refl (present_area-nothing sign items (Faulty code) refl refl) table has
+  known_same (Does NewPage) fine after st' stays open' table has = absurd (false≢true (sym stays))
+  known_same (Does (NewLine gap)) fine after st' stays open' table has = absurd (false≢true (sym open'))
+  known_same (Does (Rect x y w h)) fine after st' stays open' table has = absurd (false≢true (sym stays))
+  known_same (Does (Back colour)) fine after st' stays open' table has =
+      known_stays (Does (Back colour)) after st' refl
+      (present_area-cover sign items (Does (Back colour)) (Cover (standing sign items).page (unwrap_or colour sign.defaults.back)) refl refl refl) table has
+  known_same (Does (LineJust just)) fine after st' stays open' table has = known_stays (Does (LineJust just)) after st' refl (present_area-nothing sign items (Does (LineJust just)) refl refl) table has
+  known_same (Does (PageJust just)) fine after st' stays open' table has = known_stays (Does (PageJust just)) after st' refl (present_area-nothing sign items (Does (PageJust just)) refl refl) table has
+  known_same (Does (Font pick)) fine after st' stays open' table has = known_stays (Does (Font pick)) after st' refl (present_area-nothing sign items (Does (Font pick)) refl refl) table has
+  known_same (Does (CharSpacing pixels)) fine after st' stays open' table has = known_stays (Does (CharSpacing pixels)) after st' refl (present_area-nothing sign items (Does (CharSpacing pixels)) refl refl) table has
+  known_same (Does CharSpacingEnd) fine after st' stays open' table has = known_stays (Does CharSpacingEnd) after st' refl (present_area-nothing sign items (Does CharSpacingEnd) refl refl) table has
+  known_same (Does (PageTime on off)) fine after st' stays open' table has = known_stays (Does (PageTime on off)) after st' refl (present_area-nothing sign items (Does (PageTime on off)) refl refl) table has
+  known_same (Does (Flash off_first on off)) fine after st' stays open' table has = known_stays (Does (Flash off_first on off)) after st' refl (present_area-nothing sign items (Does (Flash off_first on off)) refl refl) table has
+  known_same (Does FlashEnd) fine after st' stays open' table has = known_stays (Does FlashEnd) after st' refl (present_area-nothing sign items (Does FlashEnd) refl refl) table has
+  known_same (Does (Fore colour)) fine after st' stays open' table has = known_stays (Does (Fore colour)) after st' refl (present_area-nothing sign items (Does (Fore colour)) refl refl) table has
+
+  -- an item that ends a line of the group in force
+  module _ (x : Meaning) (ends : ends_line x ≡ true) (fine : offence sign items x ≡ None) where
+    places_end : places x ≡ true
+    places_end = let (gap, same) = line_end x ends in ap places same
+
+    -- the group in force is the next
+    pub next_is : next_group state x ≡ state.attributes.page_just
+    next_is = ap (λ b. cond b state.attributes.page_just state.area.present) places_end
+
+    pub in_order : state.area.present ≤ state.attributes.page_just
+    in_order = order x fine places_end
+
+    -- the groups behind have no line
+    pub none_behind : (table : LineTable) → HasKnown (next_group state x) (present_area sign items) table → (just : ℕ) → state.attributes.page_just < just → just ≤ 4 → group_lines just table ≡ []
+    none_behind table has =
+        behind_empty (present_area sign items) table state.attributes.page_just (omega (arith, present_is, in_order)) st.page_just.0 (subst (λ n. HasKnown n (present_area sign items) table) next_is has)
+
+    -- there is room for the line
+    pub room_for : (table : LineTable) → HasKnown (next_group state x) (present_area sign items) table → IsOrdered table → HasRoom (present_area sign (items ++ x ∷ [])) → length table.lines.items < 128
+    room_for table has ordered room =
         let (gap, same) = line_end x ends in
-        let area = present_area sign items in
-        let grown : present_area sign (items ++ x ∷ []) ≡ area ++ break_spot gap ∷ [] = ap (λ x. present_area sign (items ++ x ∷ [])) same ∙ area_break gap in
-        subst (λ a. HasEnded a new) (sym grown)
-        (break_ended before.attributes.page_just area (break_spot gap) refl (sym just_is) st.page_just.0 st.page_just.1 next line old new
-        (sum_after (area ++ break_spot gap ∷ []) (st_after.area ∙ ap area_sum grown)) (is area st.area) pushed has)
+        let spot : Spot = record { at = standing sign items; put = Break gap } in
+        let grown : present_area sign (items ++ x ∷ []) ≡ present_area sign items ++ spot ∷ [] =
+        ap (λ x. present_area sign (items ++ x ∷ [])) same ∙ present_area-placing sign items (Does (NewLine gap)) (Break gap) refl refl refl in
+        break_room state.attributes.page_just (present_area sign items) spot page_is refl st.page_just.0 st.page_just.1 table (subst (λ n. HasKnown n (present_area sign items) table) next_is has) ordered
+        (subst HasRoom grown room)
 
-    -- before it there is room for that line
-    pub ended_room : (x : Meaning) → ends_line x ≡ true → (table : LineTable) → HasEnded (present_area sign items) table → HasRoom (present_area sign (items ++ x ∷ []))
-        → length (group_lines before.attributes.page_just table) < 128
-    ended_room x ends table has room =
-        let (gap, same) = line_end x ends in
-        let area = present_area sign items in
-        let grown : present_area sign (items ++ x ∷ []) ≡ area ++ break_spot gap ∷ [] = ap (λ x. present_area sign (items ++ x ∷ [])) same ∙ area_break gap in
-        break_room before.attributes.page_just area (break_spot gap) refl (sym just_is) st.page_just.0 st.page_just.1 table has (subst HasRoom grown room)
+    module _ (after : State) (st' : IsStateOf sign (items ++ x ∷ []) after) where
+      -- the group in force is the present one then
+      pub present_then : after.area.present ≡ state.attributes.page_just
+      present_then =
+          let (gap, same) = line_end x ends in
+          let spot : Spot = record { at = standing sign items; put = Break gap } in
+          let grown : present_area sign (items ++ x ∷ []) ≡ present_area sign items ++ spot ∷ [] =
+          ap (λ x. present_area sign (items ++ x ∷ [])) same ∙ present_area-placing sign items (Does (NewLine gap)) (Break gap) refl refl refl in
+          present_behind (present_area sign items) spot state.area after.area st.area (st'.area ∙ ap area_sum grown) (omega (arith, page_is, in_order)) ∙ page_is
 
-  module _ (table : LineTable) (has : HasEnded (present_area sign items) table) where
-    same_ended : (x : Meaning) → present_area sign (items ++ x ∷ []) ≡ present_area sign items → HasEnded (present_area sign (items ++ x ∷ [])) table
-    same_ended x e = subst (λ a. HasEnded a table) (sym e) has
-
-    character_ended : (number : ℕ) (o : Option CellData) → cell_numbered (standing sign items).font number ≡ o → HasEnded (present_area sign (items ++ Shows number ∷ [])) table
-    character_ended number None found = same_ended (Shows number) (present_area-nothing sign items (Shows number) refl (ap (option_map Glyph) found))
-    character_ended number (Some cell) found =
-        let spot : Spot = record { at = standing sign items; put = Glyph cell } in
-        subst (λ a. HasEnded a table) (sym (present_area-placing sign items (Shows number) (Glyph cell) refl (ap (option_map Glyph) found) refl))
-        (glyph_ended (present_area sign items) spot table refl has)
-
-    -- another item that begins no area ends no line
-    pub ended_same : (x : Meaning) → begins_area x ≡ false → ends_line x ≡ false → HasEnded (present_area sign (items ++ x ∷ [])) table
-    ended_same (Shows number) stays open' = character_ended number (cell_numbered (standing sign items).font number) refl
-    ended_same (Faulty code) stays open' = same_ended (Faulty code) (present_area-nothing sign items (Faulty code) refl refl)
-    ended_same (Does NewPage) stays open' = absurd (false≢true (sym stays))
-    ended_same (Does (NewLine gap)) stays open' = absurd (false≢true (sym open'))
-    ended_same (Does (LineJust just)) stays open' = same_ended (Does (LineJust just)) (present_area-nothing sign items (Does (LineJust just)) refl refl)
-    ended_same (Does (PageJust just)) stays open' = same_ended (Does (PageJust just)) (present_area-nothing sign items (Does (PageJust just)) refl refl)
-    ended_same (Does (Font pick)) stays open' = same_ended (Does (Font pick)) (present_area-nothing sign items (Does (Font pick)) refl refl)
-    ended_same (Does (CharSpacing pixels)) stays open' = same_ended (Does (CharSpacing pixels)) (present_area-nothing sign items (Does (CharSpacing pixels)) refl refl)
-    ended_same (Does CharSpacingEnd) stays open' = same_ended (Does CharSpacingEnd) (present_area-nothing sign items (Does CharSpacingEnd) refl refl)
-    ended_same (Does (PageTime on off)) stays open' = same_ended (Does (PageTime on off)) (present_area-nothing sign items (Does (PageTime on off)) refl refl)
-    ended_same (Does (Flash off_first on off)) stays open' = same_ended (Does (Flash off_first on off)) (present_area-nothing sign items (Does (Flash off_first on off)) refl refl)
-    ended_same (Does FlashEnd) stays open' = same_ended (Does FlashEnd) (present_area-nothing sign items (Does FlashEnd) refl refl)
-    ended_same (Does (Fore colour)) stays open' = same_ended (Does (Fore colour)) (present_area-nothing sign items (Does (Fore colour)) refl refl)
-    ended_same (Does (Back colour)) stays open' =
-        same_ended (Does (Back colour)) (present_area-cover sign items (Does (Back colour)) (Cover (standing sign items).page (unwrap_or colour sign.defaults.back)) refl refl refl)
-    ended_same (Does (Rect x y w h)) stays open' = absurd (false≢true (sym stays))
+      -- and the line is known
+      pub known_ended : (line : CountedLine) (old new : LineTable) → line ≡ open_entry (in_group state.attributes.page_just (present_area sign items)) after.area.group.closed → Pushed after.area.present line old new
+          → HasKnown (next_group state x) (present_area sign items) old → HasKnown after.area.present (present_area sign (items ++ x ∷ [])) new
+      known_ended line old new is pushed has =
+          let (gap, same) = line_end x ends in
+          let spot : Spot = record { at = standing sign items; put = Break gap } in
+          let area = present_area sign items in
+          let page = state.attributes.page_just in
+          let grown : present_area sign (items ++ x ∷ []) ≡ area ++ spot ∷ [] =
+          ap (λ x. present_area sign (items ++ x ∷ [])) same ∙ present_area-placing sign items (Does (NewLine gap)) (Break gap) refl refl refl in
+          let group = group_of_own (area ++ spot ∷ []) after.area (st'.area ∙ ap area_sum grown) page (sym present_then) in
+          subst (λ n. HasKnown n (present_area sign (items ++ x ∷ [])) new) (sym present_then)
+          (subst (λ a. HasKnown page a new) (sym grown)
+          (break_known page area spot page_is refl st.page_just.0 st.page_just.1 old (subst (λ n. HasKnown n area old) next_is has) after.area.group line new group is (subst (λ n. Pushed n line old new) present_then pushed)))
 
 -- AN ACCEPTED STRING
 
@@ -263,13 +227,13 @@ pub present_narrow : {sign : SignData} {octets : List ℕ} {before behind : List
 present_narrow {sign} {octets} {before} {behind} {cursor} sound b =
     narrow_area sign sound before (left_nil (offences sign before) _ (sym (some_after-append (fault_at sign) before behind) ∙ b.accepted.none))
 
--- so its ended lines aren't high
-pub closed_low : {sign : SignData} {octets : List ℕ} {before behind : List Item} {cursor : Cursor} → IsSound sign → IsBetween sign octets before behind cursor → (just : ℕ) → 2 ≤ just → just ≤ 4
-    → (kept_group just cursor.state.area).closed ≤ 1024
-closed_low {sign} {octets} {before} {behind} {cursor} sound b just low high =
+-- so the ended lines of the present group aren't high
+pub closed_low : {sign : SignData} {octets : List ℕ} {before behind : List Item} {cursor : Cursor} → IsSound sign → IsBetween sign octets before behind cursor
+    → (just : ℕ) → 2 ≤ just → just ≤ 4 → cursor.state.area.present ≡ just → cursor.state.area.group.closed ≤ 1024
+closed_low {sign} {octets} {before} {behind} {cursor} sound b just low high own =
     let spots = present_area sign (map meaning before) in
-    let group = kept_group just cursor.state.area in
-    let sum = kept_group_is spots cursor.state.area just b.state_is.area low high in
+    let group = cursor.state.area.group in
+    let sum = group_of_own spots cursor.state.area b.state_is.area just (sym own) in
     let is = kept_height_is (in_group just spots) group (placing_group just spots (present_placing sign (map meaning before))) sum in
     let tall = (present_narrow sound b just low high).1 in
     let most : group.closed ≤ kept_height group = closed_most group in
@@ -290,6 +254,19 @@ present_low {sign} {octets} {before} {behind} {cursor} b =
     let total = ap length (b.accepted.spelled ∙ flat_map-append spelling before behind) ∙ length-append (spell before) (spell behind) in
     below_more (1024 * length (map meaning before)) (2 ^ 42) cursor.state.area (omega (arith, few before, total, b.accepted.short, length-map before meaning)) b.state_is.below
 
+-- one more item of an accepted string, as it was read
+module _ {sign : SignData} {octets : List ℕ} {before rest : List Item} {item : Item} {cursor : Cursor} (b : IsBetween sign octets before (item ∷ rest) cursor) {next : NextItem} (read : IsRead item next) where
+  -- it doesn't offend
+  pub next_fine : offence sign (map meaning before) (meant_by next.item) ≡ None
+  next_fine = ap (offence sign (map meaning before)) (sym read.meant) ∙ never_offends sign octets before rest item cursor b
+
+  pub items_with : map meaning (before ++ item ∷ []) ≡ map meaning before ++ meant_by next.item ∷ []
+  items_with = map-append meaning before (item ∷ []) ∙ ap (λ m. map meaning before ++ m ∷ []) read.meant
+
+  -- the state behind it
+  pub next_state : {new : Cursor} → IsBetween sign octets (before ++ item ∷ []) rest new → IsStateOf sign (map meaning before ++ meant_by next.item ∷ []) new.state
+  next_state {new} behind = subst (λ ms. IsStateOf sign ms new.state) items_with behind.state_is
+
 -- the steps of one more item
 pub steps_on : (at : ℕ) (source a b d : Counted) (from to len : ℕ) → from ≤ at → to ≡ at + len → at < to
     → RisesBetween source a 0 (2 * (at - from)) → RisesBetween a b 0 (2 * len - 1) → RisesBetween b d 0 1 → RisesBetween source d 0 (2 * (to - from))
@@ -309,13 +286,14 @@ module _ (sign : SignData) (octets : List ℕ) where
     pub plain : BeginsNoArea items
     pub same_area : (standing sign (map meaning (before ++ items))).area ≡ (standing sign (map meaning before)).area
     pub between : IsBetween sign octets (before ++ items) left cursor
-    pub ended : HasEnded (present_area sign (map meaning (before ++ items))) lines
+    pub known : HasKnown cursor.state.area.present (present_area sign (map meaning (before ++ items))) lines
+    pub ordered : IsOrdered lines
     pub low : IsLow lines
 
   -- before the first item
   pub nothing_read : (before behind : List Item) (cursor : Cursor) (lines : LineTable) → IsBetween sign octets before behind cursor → present_area sign (map meaning before) ≡ []
-      → ((just : ℕ) → group_lines just lines ≡ []) → SoFar before behind cursor lines
-  nothing_read before behind cursor lines b begins none =
+      → ((just : ℕ) → group_lines just lines ≡ []) → IsOrdered lines → SoFar before behind cursor lines
+  nothing_read before behind cursor lines b begins none ordered =
       let all : before ++ [] ≡ before = append-nil before in
       let area : present_area sign (map meaning (before ++ [])) ≡ [] = ap (λ l. present_area sign (map meaning l)) all ∙ begins in
       record {
@@ -325,7 +303,8 @@ module _ (sign : SignData) (octets : List ℕ) where
         plain = All-nil (λ item. begins_area (meaning item) ≡ false);
         same_area = ap (λ l. (standing sign (map meaning l)).area) all;
         between = subst (λ l. IsBetween sign octets l behind cursor) (sym all) b;
-        ended = subst (λ a. HasEnded a lines) (sym area) (λ just least most. none just);
+        known = subst (λ a. HasKnown cursor.state.area.present a lines) (sym area) (λ just least most. none just ∙ ap table_of (sym (known_none cursor.state.area.present just [] refl)));
+        ordered = ordered;
         low = λ just least most. subst (All (λ l. l.bottom ≤ 2 ^ 43)) (sym (none just)) (All-nil (λ l. l.bottom ≤ 2 ^ 43));
       }
 
@@ -361,17 +340,6 @@ module _ {sign : SignData} {octets : List ℕ} {before behind : List Item} {curs
             (pass (before ++ so.items) rest item (so_first same' item rest first) read);
       }
 
-  -- if the next item ends a line, there is room for it
-  pub room_next : {octets' : List ℕ} → IsSound sign → octets' ≡ octets → (next : NextItem) → ((before behind : List Item) → IsBetween sign octets' before behind cursor → IsFirst behind (Some next))
-      → ends_line (meant_by next.item) ≡ true → length (group_lines cursor.state.attributes.page_just lines) < 128
-  room_next sound same next found ends =
-      let (item, rest, first, read) = found (before ++ so.items) so.left (so_between same) in
-      let room = room_behind sound (so_first same item rest first) in
-      let grown : map meaning ((before ++ so.items) ++ item ∷ []) ≡ map meaning (before ++ so.items) ++ meant_by next.item ∷ [] =
-      map-append meaning (before ++ so.items) (item ∷ []) ∙ ap (λ m. map meaning (before ++ so.items) ++ m ∷ []) read.meant in
-      ended_room sign (map meaning (before ++ so.items)) cursor.state so.between.state_is (meant_by next.item) ends lines so.ended
-      (subst (λ ms. HasRoom (present_area sign ms)) grown room)
-
   module _ {next : NextItem} {new : Cursor} (p : Passed sign octets before behind cursor lines so next new) where
     -- the cursor goes on, and not past the end
     pub so_advances : new.at ≡ cursor.at + next.len → (cursor.at < new.at) × (new.at ≤ length octets)
@@ -386,8 +354,8 @@ module _ {sign : SignData} {octets : List ℕ} {before behind : List Item} {curs
 
     -- one more item
     pub read_on : (lines' : LineTable) → begins_area (meant_by next.item) ≡ false
-        → HasEnded (present_area sign (map meaning (before ++ so.items) ++ meant_by next.item ∷ [])) lines' → IsLow lines' → SoFar sign octets before behind new lines'
-    read_on lines' stays ended low =
+        → HasKnown new.state.area.present (present_area sign (map meaning ((before ++ so.items) ++ p.item ∷ []))) lines' → IsOrdered lines' → IsLow lines' → SoFar sign octets before behind new lines'
+    read_on lines' stays known ordered low =
         let ms = map meaning (before ++ so.items) in
         let again : (before ++ so.items) ++ p.item ∷ [] ≡ before ++ (so.items ++ p.item ∷ []) = append_assoc before so.items (p.item ∷ []) in
         let all : map meaning (before ++ (so.items ++ p.item ∷ [])) ≡ ms ++ meant_by next.item ∷ [] = ap (map meaning) (sym again) ∙ grown in
@@ -402,16 +370,17 @@ module _ {sign : SignData} {octets : List ℕ} {before behind : List Item} {curs
           plain = All-push (λ item. begins_area (meaning item) ≡ false) so.items p.item so.plain (ap begins_area p.read.meant ∙ stays);
           same_area = ap (λ ms. (standing sign ms).area) all ∙ same ∙ so.same_area;
           between = subst (λ l. IsBetween sign octets l p.rest new) again p.between;
-          ended = subst (λ ms. HasEnded (present_area sign ms) lines') (sym all) ended;
+          known = subst (λ l. HasKnown new.state.area.present (present_area sign (map meaning l)) lines') again known;
+          ordered = ordered;
           low = low;
         }
 
   -- the end of the area
   pub area_read : (start : Cursor) (read : AreaLines) (source source' source'' : Counted) → start.at ≡ length (spell before) → EndsArea (map meaning so.left)
-      → HasCounted (present_area sign (map meaning (before ++ so.items))) read.lines → IsLow read.lines → read.end ≡ cursor.at
+      → HasCounted (present_area sign (map meaning (before ++ so.items))) read.lines → IsOrdered read.lines → IsLow read.lines → read.end ≡ cursor.at
       → RisesBetween source source' 0 (2 * (cursor.at - start.at)) → RisesBetween source' source'' 0 (first_steps so.left)
       → IsAreaRead sign before behind start read source source''
-  area_read start read source source' source'' place ends counted low end earlier last =
+  area_read start read source source' source'' place ends counted ordered low end earlier last =
       let ms = map meaning (before ++ so.items) in
       let octets_of : length (spell (before ++ so.items)) ≡ length (spell before) + length (spell so.items) = ap length (flat_map-append spelling before so.items) ∙ length-append (spell before) (spell so.items) in
       let long : cursor.at ≡ start.at + length (spell so.items) = omega (arith, so.between.place, octets_of, place) in
@@ -430,6 +399,7 @@ module _ {sign : SignData} {octets : List ℕ} {before behind : List Item} {curs
         ends = ends;
         end = end ∙ long;
         table = subst (λ a. HasCounted a read.lines) (sym whole) counted;
+        ordered = ordered;
         low = low;
         steps = rises_then source source' source'' 0 (2 * length (spell so.items)) 0 (first_steps so.left) (subst (RisesBetween source source' 0) steps earlier) last;
       }

@@ -106,7 +106,7 @@ group_more k m group h b = record { ended = omega (arith, b.ended); closed = ome
 
 -- what is below a bound is below a larger one
 pub below_more : (k m : ℕ) (area : Area) → k ≤ m → IsBelow k area → IsBelow m area
-below_more k m area h b = record { top = group_more k m area.top h b.top; middle = group_more k m area.middle h b.middle; bottom = group_more k m area.bottom h b.bottom }
+below_more k m area h b = record { top = omega (arith, h, b.top); middle = omega (arith, h, b.middle); group = group_more k m area.group h b.group; known = b.known; some = b.some }
 
 -- ---- one more item that begins no page
 

@@ -14,6 +14,7 @@ pub mod GroupHeightLemmas
 pub mod GroupSumLemmas
 pub mod HeightLemmas
 pub mod JudgedLemmas
+pub mod KnownLinesLemmas
 pub mod LayoutLemmas
 pub mod LineSumLemmas
 pub mod LocateLemmas
@@ -32,6 +33,7 @@ pub mod ReadLemmas
 pub mod RoomLemmas
 pub mod RunLemmas
 pub mod RunReadLemmas
+pub mod SplitLemmas
 pub mod StandingLemmas
 pub mod StateLemmas
 pub mod TableLemmas

@@ -1,5 +1,5 @@
 -- A character that is put on a plane.
-use Rattle.std.proofs.Common.{◌≡◌, ℕ, ◌+◌, ◌-◌, ◌<◌, Bool, true, false, cond, ◌&&◌, ◌==◌, List, [], ◌∷◌, ◌++◌, length, Option, Some, None, refl, sym, ap, subst, ◌∙◌, arith}
+use Rattle.std.proofs.Common.{◌≡◌, ℕ, ◌+◌, ◌-◌, ◌<◌, ◌≤◌, Bool, true, false, cond, ◌&&◌, ◌==◌, List, [], ◌∷◌, ◌++◌, length, Option, Some, None, refl, sym, ap, subst, ◌∙◌, arith}
 use Rattle.std.specs.Prelude.{nat_le, nat_lt}
 use Rattle.std.specs.List.{count_by, filter, list_any}
 use Rattle.std.specs.Option.{option_map}
@@ -9,6 +9,7 @@ use Rattle.std.proofs.lemmas.List.Elements.{filter-append}
 use Rattle.page_plane.specs.Plane.{BitPlane, is_lit}
 use Rattle.sign_font.specs.Cell as cells
 use Rattle.sign_font.specs.Sign.{SignData, FontData, CellData, cell_in, cell_numbered, sized}
+use Rattle.multi_layout.specs.declared.area.Area.{Area}
 use Rattle.multi_layout.specs.declared.attributes.Attributes.{Attributes}
 use Rattle.multi_layout.specs.declared.paint.Layer.{Layer}
 use Rattle.multi_layout.specs.declared.place.Place.{Place}
@@ -27,7 +28,7 @@ use Rattle.multi_layout.specs.Table.{group_lines, table_of}
 use Rattle.multi_layout.proofs.CellLemmas.{covers}
 use Rattle.multi_layout.proofs.DrawnLemmas.{covered_glyph, area_with_glyph, same_page_behind}
 use Rattle.multi_layout.specs.Offence.{clashes, offence}
-use Rattle.multi_layout.proofs.AreaSumLemmas.{no_clash}
+use Rattle.multi_layout.proofs.AreaSumLemmas.{no_back, no_clash}
 use Rattle.multi_layout.proofs.JudgedLemmas.{cell_of_font, no_conflict}
 use Rattle.multi_layout.proofs.PlaceLemmas.{line_is_there}
 
@@ -52,7 +53,8 @@ module _ (sign : SignData) (before : List Meaning) (state : State) (st : IsState
   module _ (rest : List Meaning) (layer : Layer) (lines : LineTable) (counted : HasCounted (in_area (standing sign before).area (spots sign (before ++ Shows number ∷ rest))) lines)
       (place : Place)
       (placed : (earlier all : List Spot) (spot : Spot) → is_glyph spot ≡ true → state.attributes ≡ attributes_of spot.at → glyph_width spot ≡ c.width → state.area ≡ area_sum (area_of spot earlier)
-      → group_lines state.attributes.page_just lines ≡ table_of (lines_of (group_of spot all)) → count_by is_break (group_of spot earlier) < length (lines_of (group_of spot all)) → list_any (clashes spot) (line_before earlier spot) ≡ false → place ≡ place_of earlier all spot)
+      → group_lines state.attributes.page_just lines ≡ table_of (lines_of (group_of spot all)) → count_by is_break (group_of spot earlier) < length (lines_of (group_of spot all)) → list_any (clashes spot) (line_before earlier spot) ≡ false
+      → state.area.present ≤ state.attributes.page_just → place ≡ place_of earlier all spot)
       (fine : offence sign before (Shows number) ≡ None) where
     -- the place is the character's
     place_is : (cell : CellData) → cell_numbered (standing sign before).font number ≡ Some cell → sized (standing sign before).font cell ≡ c
@@ -73,6 +75,7 @@ module _ (sign : SignData) (before : List Meaning) (state : State) (st : IsState
         (counted state.attributes.page_just st.page_just.0 st.page_just.1 ∙ ap (λ n. table_of (lines_of (in_group n (in_area at.area (spots sign (before ++ Shows number ∷ rest)))))) page)
         (subst (λ g. count_by is_break (group_of spot (spots sign before)) < length (lines_of g)) (sym group) there)
         (no_clash (spots sign before) spot at.page_just refl refl (no_conflict sign before number cell numbered fine))
+        (no_back (spots sign before) spot state.attributes.page_just state.area.present (sym page) (ap (λ (a : Area). a.present) st.area) (no_conflict sign before number cell numbered fine))
 
     -- a character that is lit covers the pixels of its cell
     pub lit_drawn : (old new : BitPlane) (on : Bool) → is_lit_at layer.phase state.attributes.flash ≡ true → on ≡ (shown_colour sign state.attributes.fore == layer.colour)

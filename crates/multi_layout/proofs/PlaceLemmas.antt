@@ -142,13 +142,13 @@ pub part_most : (f : ℕ → ℕ) (just height : ℕ) → 2 ≤ just → just �
 part_most f just height low high room =
     each_just (λ just. just ≤ 4 → f just ≤ height) (λ _. omega arith) (λ _. omega arith) (λ _. omega arith) (λ h. absurd (omega arith)) just low (omega arith) high
 
--- no group of an area that fits has more lines than the area has pixels
-pub lines_within : (just height : ℕ) (area : List Spot) → 2 ≤ just → just ≤ 4 → area_fits height area ≡ true → All (λ (s : Spot). 1 ≤ s.at.font.height) area → length (lines_of (in_group just area)) ≤ height
-lines_within just height area low high fits all =
+-- an area that fits has no more lines than pixels
+pub lines_within : (height : ℕ) (area : List Spot) → area_fits height area ≡ true → All (λ (s : Spot). 1 ≤ s.at.font.height) area
+    → length (lines_of (in_group 2 area)) + length (lines_of (in_group 3 area)) + length (lines_of (in_group 4 area)) ≤ height
+lines_within height area fits all =
     let tall = λ (just : ℕ). height_of (lines_of (in_group just area)) in
-    let most : length (lines_of (in_group just area)) ≤ tall just = lines_most (in_group just area) (All-filter (λ t. t.at.page_just == just) High area all) in
-    let room : tall just ≤ height = part_most tall just height low high (fit_each (tall 2) (tall 3) (tall 4) height fits) in
-    omega (arith, most, room)
+    let most : (just : ℕ) → length (lines_of (in_group just area)) ≤ tall just = λ just. lines_most (in_group just area) (All-filter (λ t. t.at.page_just == just) High area all) in
+    omega (arith, most 2, most 3, most 4, fit_each (tall 2) (tall 3) (tall 4) height fits)
 
 -- THE PLACE OF A CHARACTER
 

@@ -1,5 +1,5 @@
 -- What a placing item makes of the state, from what the sums of the present area answer.
-use Rattle.std.proofs.Common.{◌≡◌, ℕ, ◌+◌, ◌*◌, Bool, true, false, cond, not, List, [], ◌∷◌, ◌++◌, length, Option, Some, None, refl, sym, ap, ◌∙◌}
+use Rattle.std.proofs.Common.{◌≡◌, ℕ, ◌+◌, ◌*◌, ◌≤◌, Bool, true, false, cond, not, List, [], ◌∷◌, ◌++◌, length, Option, Some, None, refl, sym, ap, ◌∙◌, arith}
 use Rattle.std.specs.List.{All, after_last, list_any}
 use Rattle.multi_tag.specs.declared.tag.Tag.TheVariants.{NewLine}
 use Rattle.sign_font.specs.Cell.{SizedCell}
@@ -13,7 +13,7 @@ use Rattle.multi_layout.specs.Meaning.{Meaning, Shows, Does}
 use Rattle.multi_layout.specs.Offence.{clashes, conflicts, offence, too_big}
 use Rattle.multi_layout.specs.State.{IsStateOf, present_area}
 use Rattle.multi_layout.specs.Sums.{IsBelow, IsBreak, IsCharacter, IsPlacing, area_sum}
-use Rattle.multi_layout.proofs.AreaSumLemmas.{area_placing, no_clash}
+use Rattle.multi_layout.proofs.AreaSumLemmas.{area_placing, no_back, no_clash, present_behind}
 use Rattle.multi_layout.proofs.JudgedLemmas.{cell_found, character-conflict, character-too_big, character-fits, state-character, break-conflict, break-too_big, break-fits, state-break}
 use Rattle.multi_layout.proofs.OffenceLemmas.{offence-character}
 
@@ -27,7 +27,7 @@ not_false f true e t = refl
 not_false f false e t = absurd (let wrong : true ≡ false = sym e ∙ t in cc)
 
 -- without an error there is no conflict
-no_conflict : (conflict big : Bool) → ◌≡◌ {A = Option ℕ} (cond conflict (Some 11) (cond big (Some 5) None)) None → conflict ≡ false
+pub no_conflict : (conflict big : Bool) → ◌≡◌ {A = Option ℕ} (cond conflict (Some 11) (cond big (Some 5) None)) None → conflict ≡ false
 no_conflict true big e = absurd (cc)
 no_conflict false big e = refl
 
@@ -64,7 +64,7 @@ module _ (sign : SignData) (items : List Meaning) (state : State) (st : IsStateO
   pub character-accepted : (number : ℕ) (c : SizedCell) → cell_in sign state.attributes.font.number number ≡ Some c
       → (character : Character) → character.just ≡ state.attributes.line_just → character.spacing ≡ state.attributes.spacing → character.width ≡ c.width → character.font ≡ state.attributes.font
       → (area : Area)
-      → ((xs : List Spot) (s : Spot) → All IsPlacing xs → state.area ≡ area_sum xs → IsCharacter s character → s.at.page_just ≡ state.attributes.page_just
+      → ((xs : List Spot) (s : Spot) → All IsPlacing xs → state.area ≡ area_sum xs → IsCharacter s character → s.at.page_just ≡ state.attributes.page_just → state.area.present ≤ state.attributes.page_just
       → list_any (clashes s) (after_last is_break (in_group state.attributes.page_just xs)) ≡ false → area ≡ area_sum (xs ++ s ∷ []))
       → IsBelow (1024 * length items + 1024) area → offence sign items (Shows number) ≡ None → IsStateOf sign (items ++ Shows number ∷ []) (record state { area = area })
   character-accepted number c some character just spacing wide font area sum below fine =
@@ -73,7 +73,8 @@ module _ (sign : SignData) (items : List Meaning) (state : State) (st : IsStateO
       let before = spots sign items in
       let free = no_conflict (conflicts before s) (too_big before s) (sym (offence-character sign items number cell found) ∙ fine) in
       let apart = no_clash before s state.attributes.page_just refl page_is free in
-      let grown = sum (present_area sign items) s placing st.area (is_character c character just spacing wide font cell width) page_is apart in
+      let order = no_back before s state.attributes.page_just state.area.present page_is (ap (λ (a : Area). a.present) st.area) free in
+      let grown = sum (present_area sign items) s placing st.area (is_character c character just spacing wide font cell width) page_is order apart in
       state-character sign items state st number cell found area grown below
 
   module _ (number : ℕ) (c : SizedCell) (some : cell_in sign state.attributes.font.number number ≡ Some c) (r : Bool)
@@ -85,19 +86,22 @@ module _ (sign : SignData) (items : List Meaning) (state : State) (st : IsStateO
         (sym (answer (spots sign items) (record { at = standing sign items; put = Glyph cell }) st.area refl page_is line_is) ∙ is)
 
     module _ (character : Character) (area : Area) (just : character.just ≡ state.attributes.line_just) (spacing : character.spacing ≡ state.attributes.spacing) (wide : character.width ≡ c.width) (font : character.font ≡ state.attributes.font)
-        (sum : (xs : List Spot) (s : Spot) → All IsPlacing xs → state.area ≡ area_sum xs → IsCharacter s character → s.at.page_just ≡ state.attributes.page_just
+        (sum : (xs : List Spot) (s : Spot) → All IsPlacing xs → state.area ≡ area_sum xs → IsCharacter s character → s.at.page_just ≡ state.attributes.page_just → state.area.present ≤ state.attributes.page_just
         → list_any (clashes s) (after_last is_break (in_group state.attributes.page_just xs)) ≡ false → area ≡ area_sum (xs ++ s ∷ []))
         (f : Bool)
-        (fits : (before : List Spot) (s : Spot) → is_glyph s ≡ true → area ≡ area_sum (area_of s before ++ s ∷ []) → s.at.page_just ≡ state.attributes.page_just → s.at.rectangle.width ≡ state.attributes.rectangle.width → s.at.rectangle.height ≡ state.attributes.rectangle.height → f ≡ not (too_big before s)) where
+        (fits : (before : List Spot) (s : Spot) → is_glyph s ≡ true → area ≡ area_sum (area_of s before ++ s ∷ []) → area.present ≡ s.at.page_just → s.at.rectangle.width ≡ state.attributes.rectangle.width → s.at.rectangle.height ≡ state.attributes.rectangle.height → f ≡ not (too_big before s)) where
       pub character-exit-too_big : r ≡ false → f ≡ false → offence sign items (Shows number) ≡ Some 5
       character-exit-too_big is big =
           let (cell, found, width) = cell_found sign items state st number c some in
           let s : Spot = record { at = standing sign items; put = Glyph cell } in
           let before = spots sign items in
-          let apart = no_clash before s state.attributes.page_just refl page_is (sym (answer before s st.area refl page_is line_is) ∙ is) in
-          let grown = sum (present_area sign items) s placing st.area (is_character c character just spacing wide font cell width) page_is apart in
+          let free = sym (answer before s st.area refl page_is line_is) ∙ is in
+          let apart = no_clash before s state.attributes.page_just refl page_is free in
+          let order = no_back before s state.attributes.page_just state.area.present page_is (ap (λ (a : Area). a.present) st.area) free in
+          let grown = sum (present_area sign items) s placing st.area (is_character c character just spacing wide font cell width) page_is order apart in
+          let present = present_behind (present_area sign items) s state.area area st.area grown (omega (arith, order, page_is)) in
           character-too_big sign items state st number cell found (sym (answer before s st.area refl page_is line_is) ∙ is)
-          (not_false f (too_big before s) (fits before s refl grown page_is width_is height_is) big)
+          (not_false f (too_big before s) (fits before s refl grown present width_is height_is) big)
 
       pub character-exit-fits : r ≡ false → f ≡ true → IsBelow (1024 * length items + 1024) area
           → (offence sign items (Shows number) ≡ None) × IsStateOf sign (items ++ Shows number ∷ []) (record state { area = area })
@@ -105,10 +109,13 @@ module _ (sign : SignData) (items : List Meaning) (state : State) (st : IsStateO
           let (cell, found, width) = cell_found sign items state st number c some in
           let s : Spot = record { at = standing sign items; put = Glyph cell } in
           let before = spots sign items in
-          let apart = no_clash before s state.attributes.page_just refl page_is (sym (answer before s st.area refl page_is line_is) ∙ is) in
-          let grown = sum (present_area sign items) s placing st.area (is_character c character just spacing wide font cell width) page_is apart in (
+          let free = sym (answer before s st.area refl page_is line_is) ∙ is in
+          let apart = no_clash before s state.attributes.page_just refl page_is free in
+          let order = no_back before s state.attributes.page_just state.area.present page_is (ap (λ (a : Area). a.present) st.area) free in
+          let grown = sum (present_area sign items) s placing st.area (is_character c character just spacing wide font cell width) page_is order apart in
+          let present = present_behind (present_area sign items) s state.area area st.area grown (omega (arith, order, page_is)) in (
             character-fits sign items state st number cell found (sym (answer before s st.area refl page_is line_is) ∙ is)
-                (not_true f (too_big before s) (fits before s refl grown page_is width_is height_is) fine),
+                (not_true f (too_big before s) (fits before s refl grown present width_is height_is) fine),
             state-character sign items state st number cell found area grown below,
           )
 
@@ -122,7 +129,7 @@ module _ (sign : SignData) (items : List Meaning) (state : State) (st : IsStateO
         break-conflict sign items state st gap (sym (answer (spots sign items) (record { at = standing sign items; put = Break gap }) st.area refl page_is) ∙ is)
 
     module _ (area : Area)
-        (sum : (xs : List Spot) (s : Spot) → All IsPlacing xs → state.area ≡ area_sum xs → IsBreak s gap state.attributes.font → s.at.page_just ≡ state.attributes.page_just → area ≡ area_sum (xs ++ s ∷ []))
+        (sum : (xs : List Spot) (s : Spot) → All IsPlacing xs → state.area ≡ area_sum xs → IsBreak s gap state.attributes.font → s.at.page_just ≡ state.attributes.page_just → state.area.present ≤ state.attributes.page_just → area ≡ area_sum (xs ++ s ∷ []))
         (f : Bool)
         (fits : (before : List Spot) (s : Spot) → is_break s ≡ true → area ≡ area_sum (area_of s before ++ s ∷ []) → s.at.rectangle.height ≡ state.attributes.rectangle.height → f ≡ not (too_big before s)) where
       pub break-exit-too_big : r ≡ false → f ≡ false → offence sign items (Does (NewLine gap)) ≡ Some 5
@@ -130,7 +137,8 @@ module _ (sign : SignData) (items : List Meaning) (state : State) (st : IsStateO
           let s : Spot = record { at = standing sign items; put = Break gap } in
           let before = spots sign items in
           let ends : IsBreak s gap state.attributes.font = record { put = refl; font = font_is } in
-          let grown = sum (present_area sign items) s placing st.area ends page_is in
+          let order = no_back before s state.attributes.page_just state.area.present page_is (ap (λ (a : Area). a.present) st.area) (sym (answer before s st.area refl page_is) ∙ is) in
+          let grown = sum (present_area sign items) s placing st.area ends page_is order in
           break-too_big sign items state st gap (sym (answer before s st.area refl page_is) ∙ is)
           (not_false f (too_big before s) (fits before s refl grown height_is) big)
 
@@ -140,7 +148,8 @@ module _ (sign : SignData) (items : List Meaning) (state : State) (st : IsStateO
           let s : Spot = record { at = standing sign items; put = Break gap } in
           let before = spots sign items in
           let ends : IsBreak s gap state.attributes.font = record { put = refl; font = font_is } in
-          let grown = sum (present_area sign items) s placing st.area ends page_is in (
+          let order = no_back before s state.attributes.page_just state.area.present page_is (ap (λ (a : Area). a.present) st.area) (sym (answer before s st.area refl page_is) ∙ is) in
+          let grown = sum (present_area sign items) s placing st.area ends page_is order in (
             break-fits sign items state st gap (sym (answer before s st.area refl page_is) ∙ is)
                 (not_true f (too_big before s) (fits before s refl grown height_is) fine),
             state-break sign items state st gap area grown below,

@@ -1,5 +1,5 @@
 -- What holds behind the items of an accepted string: the rectangle in force is inside the sign, every font in force is at
--- least one pixel high, the present area fits its rectangle, and no group of it has more lines than the sign has rows.
+-- least one pixel high, the present area fits its rectangle, and it has no more lines than the sign has rows.
 use Rattle.std.proofs.Common.{◌≡◌, ℕ, ◌+◌, ◌-◌, ◌≤◌, Bool, true, false, cond, not, ◌&&◌, ◌||◌, ◌==◌, length, map, List, [], ◌∷◌, ◌++◌, Option, Some, None, refl, sym, ap, subst, ◌∙◌, arith, inl, inr}
 use Rattle.std.specs.Prelude.{IsSome}
 use Rattle.std.specs.List.{All, cons_option, find}
@@ -21,12 +21,11 @@ use Rattle.multi_layout.specs.Fit.{area_fits, line_fits}
 use Rattle.multi_layout.specs.Line.{glyph_width}
 use Rattle.multi_layout.specs.Offence.{conflicts, offence, too_big}
 use Rattle.multi_layout.specs.State.{present_area}
-use Rattle.multi_layout.specs.Sums.{ended_lines}
 use Rattle.multi_layout.specs.Verdict.{fault_at, offences}
 use Rattle.multi_layout.specs.Words.{some_after}
 use Rattle.multi_layout.proofs.LayoutLemmas.{spots_push}
 use Rattle.multi_layout.proofs.OffenceLemmas.{offence-undefined, offence-character, offence-break, offence-rectangle}
-use Rattle.multi_layout.proofs.PlaceLemmas.{ended_most, lines_within}
+use Rattle.multi_layout.proofs.PlaceLemmas.{lines_within}
 use Rattle.multi_layout.proofs.StandingLemmas.{standing_push}
 use Rattle.multi_layout.proofs.StateLemmas.{present_area-placing, present_area-nothing, present_area-cover, present_area-new}
 use Rattle.multi_layout.proofs.WordLemmas.{left_nil, none_mapped, none_of, push_ind, right_nil, some_after_push, some_after-append}
@@ -375,18 +374,15 @@ area_fits_always sign =
     let spot : Spot = record { at = standing sign before; put = put } in
     fits_where (is_glyph spot && not (line_fits spot.at.rectangle.width (line_before (spots sign before) spot ++ spot ∷ []))) (area_fits spot.at.rectangle.height (present_area sign before ++ spot ∷ [])) small)
 
--- ---- room for the lines of a group
+-- ---- room for the lines of an area
 
 module _ (sign : SignData) (sound : IsSound sign) (some : IsSome (font_numbered sign sign.defaults.font)) (items : List Item) (none : offences sign items ≡ []) where
-  -- behind the items of an accepted string no group of the present area has more lines than a sign has rows
-  pub room : (just : ℕ) → 2 ≤ just → just ≤ 4 → length (lines_of (in_group just (present_area sign (map meaning items)))) ≤ 128
-  room just low high =
+  -- behind the items of an accepted string the present area has no more lines than a sign has rows
+  pub room : length (lines_of (in_group 2 (present_area sign (map meaning items)))) + length (lines_of (in_group 3 (present_area sign (map meaning items))))
+      + length (lines_of (in_group 4 (present_area sign (map meaning items)))) ≤ 128
+  room =
       let ms = map meaning items in
       let height = (standing sign ms).rectangle.height in
       let area = present_area sign ms in
-      let lines = lines_within just height area low high (area_fits_always sign items none) (area_high sign sound some ms) in
+      let lines = lines_within height area (area_fits_always sign items none) (area_high sign sound some ms) in
       omega (arith, lines, rectangle_within sign items none, sound.height.1)
-
-  -- and so none has more ended lines
-  pub room_ended : (just : ℕ) → 2 ≤ just → just ≤ 4 → length (ended_lines (in_group just (present_area sign (map meaning items)))) ≤ 128
-  room_ended just low high = omega (arith, ended_most (in_group just (present_area sign (map meaning items))), room just low high)

@@ -1,5 +1,5 @@
 -- A character that only lengthens its segment.
-use Rattle.std.proofs.Common.{◌≡◌, ℕ, ◌+◌, ◌*◌, ◌<◌, ◌≤◌, max, Bool, true, false, not, ◌&&◌, ◌||◌, ◌==◌, inl, inr, List, [], ◌∷◌, ◌++◌, length, Some, None, refl, sym, ap, ◌∙◌, arith}
+use Rattle.std.proofs.Common.{◌≡◌, ℕ, ◌+◌, ◌*◌, ◌<◌, ◌≤◌, Bool, true, false, not, ◌&&◌, ◌||◌, ◌==◌, inl, inr, List, [], ◌∷◌, ◌++◌, length, Some, None, refl, sym, ap, ◌∙◌, arith}
 use Rattle.std.specs.Prelude.{nat_le, nat_lt}
 use Rattle.std.specs.List.{All, AllPass, after_last, list_any}
 use Rattle.std.specs.Option.{option_map_or, unwrap_or}
@@ -17,13 +17,13 @@ use Rattle.multi_layout.specs.Fit.{area_fits, fit, line_fits}
 use Rattle.multi_layout.specs.Line.{average, height_of, width_of}
 use Rattle.multi_layout.specs.Meaning.{Meaning, Shows}
 use Rattle.multi_layout.specs.Offence.{clashes, conflicts, offence, too_big}
-use Rattle.multi_layout.specs.Run.{IsRun, kept_fits, kept_group, kept_height, kept_width, lengthened, lengthened_area, lengthened_group, lengthened_line, line_in_force}
+use Rattle.multi_layout.specs.Run.{IsRun, kept_fits, kept_group_height, kept_height, kept_width, lengthened, lengthened_area, lengthened_line, line_in_force}
 use Rattle.multi_layout.specs.State.{IsStateOf}
-use Rattle.multi_layout.specs.Sums.{IsBelow, IsCharacter, IsGroupBelow, IsPlacing, area_sum, group_sum, line_sum, segment_sum, width_before}
+use Rattle.multi_layout.specs.Sums.{IsBelow, IsCharacter, IsPlacing, area_sum, group_sum, height_before, line_sum, segment_sum, width_before}
 use Rattle.multi_layout.specs.Words.{largest}
-use Rattle.multi_layout.proofs.AreaSumLemmas.{area_with, conflicts_character, bottom_grown, fits_character, group_other, middle_grown, placing_character, top_grown}
+use Rattle.multi_layout.proofs.AreaSumLemmas.{area_stays, area_with, conflicts_character, fits_character, group_of_own, other_height, present_height, none_of_later_group, own_line, placing_character}
 use Rattle.multi_layout.proofs.GroupHeightLemmas.{height_ended, height_present}
-use Rattle.multi_layout.proofs.GroupSumLemmas.{group_character, placing_group, present_glyphs}
+use Rattle.multi_layout.proofs.GroupSumLemmas.{group_character, present_glyphs}
 use Rattle.multi_layout.proofs.LineSumLemmas.{line_clashes, line_with, none_of_later, segment_own, width_other_of, width_present}
 use Rattle.multi_layout.proofs.PlacingLemmas.{character-exit-fits, character-exit-too_big}
 
@@ -57,11 +57,24 @@ kept_height_is spots group placing e = by_any group.line.any refl
     by_any true some = rw some (height_present spots placing group e some _ group.line.height refl refl)
     by_any false none = rw none (height_ended spots placing group e none)
 
-pub kept_area_fits : (spots : List Spot) (area : Area) (height : ℕ) → All IsPlacing spots → area ≡ area_sum spots
-    → fit (kept_height area.top) (kept_height area.middle) (kept_height area.bottom) height ≡ area_fits height spots
-kept_area_fits spots area height placing e =
-    let one = λ (just : ℕ) (group : Group) (is : group ≡ group_sum (in_group just spots)). kept_height_is (in_group just spots) group (placing_group just spots placing) is in
-    rw (one 2 area.top (ap (λ (a : Area). a.top) e), one 3 area.middle (ap (λ (a : Area). a.middle) e), one 4 area.bottom (ap (λ (a : Area). a.bottom) e)) refl
+-- the height of a group
+pub kept_group_height_is : (spots : List Spot) (area : Area) (just : ℕ) → All IsPlacing spots → area ≡ area_sum spots → 2 ≤ just → just ≤ 4 → area.present ≤ 4 → kept_group_height just area ≡ height_of (lines_of (in_group just spots))
+kept_group_height_is spots area just placing e low high known = elim (cases_eq just area.present) [
+  | inl own ↦ rw (eq-eqb just area.present own) (present_height spots area e placing just (kept_height area.group) own (λ group placing e. kept_height_is group area.group placing e))
+  | inr other ↦ rw (ne_eqb just area.present other) (elim (cases_eq just 2) [
+    | inl two ↦ rw (eq-eqb just 2 two) (other_height spots area e just area.top (ap (λ (a : Area). a.top) e ∙ ap (λ n. height_before (area_sum spots).present n spots) (sym two)) other)
+    | inr not2 ↦ rw (ne_eqb just 2 not2) (elim (cases_eq just 3) [
+      | inl three ↦ rw (eq-eqb just 3 three) (other_height spots area e just area.middle (ap (λ (a : Area). a.middle) e ∙ ap (λ n. height_before (area_sum spots).present n spots) (sym three)) other)
+      | inr not3 ↦ rw (ne_eqb just 3 not3) (sym (ap (λ l. height_of (lines_of l)) (none_of_later_group spots area e just (omega (arith, not2, not3, other, known, low, high)))))
+    ])
+  ])
+]
+
+pub kept_area_fits : (spots : List Spot) (area : Area) (height : ℕ) → All IsPlacing spots → area ≡ area_sum spots → area.present ≤ 4
+    → fit (kept_group_height 2 area) (kept_group_height 3 area) (kept_group_height 4 area) height ≡ area_fits height spots
+kept_area_fits spots area height placing e known =
+    let is = λ (just : ℕ) (low : 2 ≤ just) (high : just ≤ 4). kept_group_height_is spots area just placing e low high known in
+    rw (is 2 (omega arith) (omega arith), is 3 (omega arith) (omega arith), is 4 (omega arith) (omega arith)) refl
 
 -- ---- one more character of the segment
 
@@ -72,6 +85,10 @@ or_same false = refl
 and_true : (b : Bool) → (b && true) ≡ b
 and_true true = refl
 and_true false = refl
+
+and_none : (b : Bool) → (b && false) ≡ false
+and_none true = refl
+and_none false = refl
 
 -- the average of a number with itself
 average_same : (n : ℕ) → average n n ≡ n
@@ -99,164 +116,48 @@ module _ (line : List Spot) (s : Spot) (c : Character) (glyphs : AllPass is_glyp
       (ap (λ (l : Line). l.right) e ∙ ap (λ n. width_before n 4 line) present)
       kept (or_same l.has_parts ∙ ap (λ b. l.has_parts || b) parts) (omega (arith, height)) (omega (arith, spacing)) any
 
-module _ (xs : List Spot) (s : Spot) (c : Character) (placing : All IsPlacing xs) (is : IsCharacter s c) (area : Area) (e : area ≡ area_sum xs) (page : ℕ) (own : s.at.page_just ≡ page) (most : area.most ≡ page)
-    (width count : ℕ) where
-  -- the area is lengthened where its group's line is
-  group_lengthened : (just : ℕ) → page ≡ just → (group : Group) → group ≡ group_sum (in_group just xs) → lengthened_line width count group.line ≡ line_sum (after_last is_break (in_group just xs) ++ s ∷ [])
-      → lengthened_group width count group ≡ group_sum (in_group just (xs ++ s ∷ []))
-  group_lengthened just at group sum line = group_character just xs s (own ∙ at) is.glyph group (lengthened_line width count group.line) sum line
-
-  most_more : area.most ≡ max area.most page
-  most_more = omega (arith, most)
-
-  pub area_lengthened : 2 ≤ page → page ≤ 4 → lengthened_line width count (kept_group page area).line ≡ line_sum (after_last is_break (in_group page xs) ++ s ∷ []) → lengthened_area page width count area ≡ area_sum (xs ++ s ∷ [])
-  area_lengthened low high line = elim (cases_eq page 2) [
-    | inl two ↦
-        let grown : lengthened_line width count area.top.line ≡ line_sum (after_last is_break (in_group 2 xs) ++ s ∷ []) = rw two at line in
-        rw two (area_with xs s page own area _ e most_more
-        (group_lengthened 2 two area.top (ap (λ (a : Area). a.top) e) grown)
-        (ap (λ (a : Area). a.middle) e ∙ group_other 3 xs s (λ h. omega (arith, own, two, h)))
-        (ap (λ (a : Area). a.bottom) e ∙ group_other 4 xs s (λ h. omega (arith, own, two, h))))
-    | inr not2 ↦ elim (cases_eq page 3) [
-      | inl three ↦
-          let grown : lengthened_line width count area.middle.line ≡ line_sum (after_last is_break (in_group 3 xs) ++ s ∷ []) = rw three at line in
-          rw three (area_with xs s page own area _ e most_more
-          (ap (λ (a : Area). a.top) e ∙ group_other 2 xs s (λ h. omega (arith, own, three, h)))
-          (group_lengthened 3 three area.middle (ap (λ (a : Area). a.middle) e) grown)
-          (ap (λ (a : Area). a.bottom) e ∙ group_other 4 xs s (λ h. omega (arith, own, three, h))))
-      | inr not3 ↦
-          let four : page ≡ 4 = omega (arith, not2, not3) in
-          let grown : lengthened_line width count area.bottom.line ≡ line_sum (after_last is_break (in_group 4 xs) ++ s ∷ []) = rw four at line in
-          rw four (area_with xs s page own area _ e most_more
-          (ap (λ (a : Area). a.top) e ∙ group_other 2 xs s (λ h. omega (arith, own, four, h)))
-          (ap (λ (a : Area). a.middle) e ∙ group_other 3 xs s (λ h. omega (arith, own, four, h)))
-          (group_lengthened 4 four area.bottom (ap (λ (a : Area). a.bottom) e) grown))
-    ]
-  ]
-
--- ---- the group and the line in force
-
-pub kept_group_is : (xs : List Spot) (area : Area) (page : ℕ) → area ≡ area_sum xs → 2 ≤ page → page ≤ 4 → kept_group page area ≡ group_sum (in_group page xs)
-kept_group_is xs area page e low high = elim (cases_eq page 2) [
-  | inl two ↦ rw two (ap (λ (a : Area). a.top) e)
-  | inr not2 ↦ elim (cases_eq page 3) [
-    | inl three ↦ rw three (ap (λ (a : Area). a.middle) e)
-    | inr not3 ↦ let four : page ≡ 4 = omega (arith, not2, not3) in rw four (ap (λ (a : Area). a.bottom) e)
-  ]
-]
-
--- what is lengthened is the line in force
-pub longer_line : (page width count : ℕ) (area : Area) → 2 ≤ page → page ≤ 4 → (kept_group page (lengthened_area page width count area)).line ≡ lengthened_line width count (kept_group page area).line
-longer_line page width count area low high = elim (cases_eq page 2) [
-  | inl two ↦ rw two refl
-  | inr not2 ↦ elim (cases_eq page 3) [
-    | inl three ↦ rw three refl
-    | inr not3 ↦ let four : page ≡ 4 = omega (arith, not2, not3) in rw four refl
-  ]
-]
-
--- no group's height changes
-longer_heights : (page width count height : ℕ) (area : Area) → 2 ≤ page → page ≤ 4
-    → fit (kept_height (lengthened_area page width count area).top) (kept_height (lengthened_area page width count area).middle) (kept_height (lengthened_area page width count area).bottom) height
-    ≡ fit (kept_height area.top) (kept_height area.middle) (kept_height area.bottom) height
-longer_heights page width count height area low high = elim (cases_eq page 2) [
-  | inl two ↦ rw two refl
-  | inr not2 ↦ elim (cases_eq page 3) [
-    | inl three ↦ rw three refl
-    | inr not3 ↦ let four : page ≡ 4 = omega (arith, not2, not3) in rw four refl
-  ]
-]
-
--- the largest page justification doesn't change
-longer_most : (page width count : ℕ) (area : Area) → 2 ≤ page → page ≤ 4 → (lengthened_area page width count area).most ≡ area.most
-longer_most page width count area low high = elim (cases_eq page 2) [
-  | inl two ↦ rw two refl
-  | inr not2 ↦ elim (cases_eq page 3) [
-    | inl three ↦ rw three refl
-    | inr not3 ↦ let four : page ≡ 4 = omega (arith, not2, not3) in rw four refl
-  ]
-]
-
--- the last length stays
-twice : (page width count width2 count2 : ℕ) (area : Area) → 2 ≤ page → page ≤ 4 → lengthened_area page width2 count2 (lengthened_area page width count area) ≡ lengthened_area page width2 count2 area
-twice page width count width2 count2 area low high = elim (cases_eq page 2) [
-  | inl two ↦ rw two refl
-  | inr not2 ↦ elim (cases_eq page 3) [
-    | inl three ↦ rw three refl
-    | inr not3 ↦ let four : page ≡ 4 = omega (arith, not2, not3) in rw four refl
-  ]
-]
-
-pub lengthened_twice : (width count width2 count2 : ℕ) (state : State) → 2 ≤ state.attributes.page_just → state.attributes.page_just ≤ 4
-    → lengthened width2 count2 (lengthened width count state) ≡ lengthened width2 count2 state
-lengthened_twice width count width2 count2 state low high =
-    ap (λ (a : Area). let s : State = record state { area = a } in s) (twice state.attributes.page_just width count width2 count2 state.area low high)
-
--- a line that is as long as it is
-pub lengthened_as_is : (state : State) → 2 ≤ state.attributes.page_just → state.attributes.page_just ≤ 4
-    → lengthened (line_in_force state).part.width (line_in_force state).part.count state ≡ state
-lengthened_as_is state low high = elim (cases_eq state.attributes.page_just 2) [
-  | inl two ↦ rw two refl
-  | inr not2 ↦ elim (cases_eq state.attributes.page_just 3) [
-    | inl three ↦ rw three refl
-    | inr not3 ↦ let four : state.attributes.page_just ≡ 4 = omega (arith, not2, not3) in rw four refl
-  ]
-]
+-- the area is lengthened where its present line is
+pub area_lengthened : (xs : List Spot) (s : Spot) (area : Area) (page width count : ℕ) → area ≡ area_sum xs → is_glyph s ≡ true → s.at.page_just ≡ page → area.present ≡ page
+    → lengthened_line width count area.group.line ≡ line_sum (after_last is_break (in_group page xs) ++ s ∷ []) → lengthened_area width count area ≡ area_sum (xs ++ s ∷ [])
+area_lengthened xs s area page width count e glyph own present line =
+    area_with xs s page own area e (omega (arith, present)) area _ (area_stays xs page area e (omega (arith, present)) (omega (arith, present))) refl refl refl
+    (group_character page xs s own glyph area.group (lengthened_line width count area.group.line) (group_of_own xs area e page (sym present)) line)
 
 -- the run goes on with what is lengthened
-pub run_stays : (state : State) (gap room width count : ℕ) → 2 ≤ state.attributes.page_just → state.attributes.page_just ≤ 4 → IsRun state gap room → IsRun (lengthened width count state) gap room
-run_stays state gap room width count low high run =
-    let page = state.attributes.page_just in
-    let line : line_in_force (lengthened width count state) ≡ lengthened_line width count (line_in_force state) = longer_line page width count state.area low high in
-    record {
-      group = longer_most page width count state.area low high ∙ run.group;
-      segment = ap (λ (l : Line). l.present) line ∙ run.segment;
-      parts = ap (λ (l : Line). l.has_parts) line ∙ run.parts;
-      any = ap (λ (l : Line). l.any) line ∙ run.any;
-      height = omega (arith, ap (λ (l : Line). l.height) line, run.height);
-      spacing = omega (arith, ap (λ (l : Line). l.spacing) line, run.spacing);
-      last = ap (λ (l : Line). l.part.last) line ∙ run.last;
-      gap_is = run.gap_is;
-      narrow = run.narrow;
-      heights = longer_heights page width count state.attributes.rectangle.height state.area low high ∙ run.heights;
-      room_is = λ w c some. ap (λ (l : Line). kept_fits state.attributes.rectangle.width (lengthened_line w c l)) line ∙ run.room_is w c some;
-    }
-
--- the width and the number of the present segment's characters are within the area's
-pub length_below : (k : ℕ) (state : State) → 2 ≤ state.attributes.page_just → state.attributes.page_just ≤ 4 → IsBelow k state.area
-    → ((line_in_force state).part.width ≤ k) × ((line_in_force state).part.count ≤ k)
-length_below k state low high below = elim (cases_eq state.attributes.page_just 2) [
-  | inl two ↦ rw two (below.top.line.part.width, below.top.line.part.count)
-  | inr not2 ↦ elim (cases_eq state.attributes.page_just 3) [
-    | inl three ↦ rw three (below.middle.line.part.width, below.middle.line.part.count)
-    | inr not3 ↦ let four : state.attributes.page_just ≡ 4 = omega (arith, not2, not3) in rw four (below.bottom.line.part.width, below.bottom.line.part.count)
-  ]
-]
+pub run_stays : (state : State) (gap room width count : ℕ) → IsRun state gap room → IsRun (lengthened width count state) gap room
+run_stays state gap room width count run = record {
+  group = run.group;
+  segment = run.segment;
+  parts = run.parts;
+  any = run.any;
+  height = run.height;
+  spacing = run.spacing;
+  last = run.last;
+  gap_is = run.gap_is;
+  narrow = run.narrow;
+  heights = run.heights;
+  room_is = run.room_is;
+}
 
 -- the area's numbers grow by no more than the segment's
-pub longer_below : (k page width count : ℕ) (area : Area) → 2 ≤ page → page ≤ 4 → IsBelow k area → width ≤ k + 1024 → count ≤ k + 1024 → IsBelow (k + 1024) (lengthened_area page width count area)
-longer_below k page width count area low high below wide many = elim (cases_eq page 2) [
-  | inl two ↦ rw two (top_grown k area.most area below _ (grown area.top below.top))
-  | inr not2 ↦ elim (cases_eq page 3) [
-    | inl three ↦ rw three (middle_grown k area.most area below _ (grown area.middle below.middle))
-    | inr not3 ↦
-        let four : page ≡ 4 = omega (arith, not2, not3) in
-        rw four (bottom_grown k area.most area below _ (grown area.bottom below.bottom))
-  ]
-]
-  where
-    grown : (group : Group) → IsGroupBelow k group → IsGroupBelow (k + 1024) (lengthened_group width count group)
-    grown group b = record {
-      ended = omega (arith, b.ended);
-      closed = omega (arith, b.closed);
-      line = record {
-        left = omega (arith, b.line.left);
-        centre = omega (arith, b.line.centre);
-        right = omega (arith, b.line.right);
-        part = record { width = wide; count = many };
-        known = b.line.known;
-      };
-    }
+pub longer_below : (k width count : ℕ) (area : Area) → IsBelow k area → width ≤ k + 1024 → count ≤ k + 1024 → IsBelow (k + 1024) (lengthened_area width count area)
+longer_below k width count area below wide many = record {
+  top = omega (arith, below.top);
+  middle = omega (arith, below.middle);
+  group = record {
+    ended = omega (arith, below.group.ended);
+    closed = omega (arith, below.group.closed);
+    line = record {
+      left = omega (arith, below.group.line.left);
+      centre = omega (arith, below.group.line.centre);
+      right = omega (arith, below.group.line.right);
+      part = record { width = wide; count = many };
+      known = below.group.line.known;
+    };
+  };
+  known = below.known;
+  some = below.some;
+}
 
 -- a number below 5 isn't 5
 not_full : (n : ℕ) → ((n == 5) && nat_lt n 5) ≡ false
@@ -270,7 +171,7 @@ not_full n = elim (cases_eq n 5) [
 module _ (sign : SignData) (items : List Meaning) (state : State) (st : IsStateOf sign items state) (gap room : ℕ) (run : IsRun state gap room)
     (number : ℕ) (cell : SizedCell) (found : cell_in sign state.attributes.font.number number ≡ Some cell) (wide : 1 ≤ cell.width) where
   abbrev pub longer : Area
-  longer = lengthened_area state.attributes.page_just ((line_in_force state).part.width + (gap + cell.width)) ((line_in_force state).part.count + 1) state.area
+  longer = lengthened_area ((line_in_force state).part.width + (gap + cell.width)) ((line_in_force state).part.count + 1) state.area
 
   abbrev pub seen : Character
   seen = record { just = state.attributes.line_just; spacing = state.attributes.spacing; width = cell.width; font = state.attributes.font }
@@ -279,9 +180,8 @@ module _ (sign : SignData) (items : List Meaning) (state : State) (st : IsStateO
   agrees : (before : List Spot) (s : Spot) → state.area ≡ area_sum (area_of s before) → is_glyph s ≡ true → s.at.page_just ≡ state.attributes.page_just → s.at.line_just ≡ state.attributes.line_just
       → false ≡ conflicts before s
   agrees before s sum glyph page line =
-      let own = kept_group_is (area_of s before) state.area state.attributes.page_just sum st.page_just.0 st.page_just.1 in
-      let spots = after_last is_break (in_group state.attributes.page_just (area_of s before)) in
-      let here : line_in_force state ≡ line_sum spots = ap (λ (g : Group). g.line) own in
+      let spots = after_last is_break (in_group state.area.present (area_of s before)) in
+      let here : line_in_force state ≡ line_sum spots = own_line (area_of s before) state.area sum in
       let present : largest (λ (t : Spot). t.at.line_just) spots ≡ state.attributes.line_just = sym (ap (λ (l : Line). l.present) here) ∙ run.segment in
       let parts : list_any (λ (t : Spot). nat_lt t.at.line_just 5) spots ≡ nat_lt state.attributes.line_just 5 = sym (ap (λ (l : Line). l.has_parts) here) ∙ run.parts in
       let clash : list_any (clashes s) spots ≡ false =
@@ -291,37 +191,35 @@ module _ (sign : SignData) (items : List Meaning) (state : State) (st : IsStateO
       ∙ ap (λ b. nat_lt state.attributes.line_just state.attributes.line_just || ((state.attributes.line_just == 5) && b)) parts
       ∙ ap (λ b. b || ((state.attributes.line_just == 5) && nat_lt state.attributes.line_just 5)) (le-ltb state.attributes.line_just state.attributes.line_just (omega arith))
       ∙ not_full state.attributes.line_just in
-      let whole = conflicts_character before s state.attributes.page_just state.area.most false glyph page (ap (λ (a : Area). a.most) sum) (sym clash) in
-      ap (λ b. b || false) (sym (le-ltb state.attributes.page_just state.area.most (omega (arith, run.group)))) ∙ whole
+      let whole = conflicts_character before s state.attributes.page_just state.area.present false glyph page (ap (λ (a : Area). a.present) sum) (sym clash) in
+      sym (and_none (state.attributes.page_just == state.area.present))
+      ∙ ap (λ b. b || ((state.attributes.page_just == state.area.present) && false)) (sym (le-ltb state.attributes.page_just state.area.present (omega (arith, run.group))))
+      ∙ whole
 
   -- the area behind it
-  sum_behind : (xs : List Spot) (s : Spot) → All IsPlacing xs → state.area ≡ area_sum xs → IsCharacter s seen → s.at.page_just ≡ state.attributes.page_just
+  sum_behind : (xs : List Spot) (s : Spot) → All IsPlacing xs → state.area ≡ area_sum xs → IsCharacter s seen → s.at.page_just ≡ state.attributes.page_just → state.area.present ≤ state.attributes.page_just
       → list_any (clashes s) (after_last is_break (in_group state.attributes.page_just xs)) ≡ false → longer ≡ area_sum (xs ++ s ∷ [])
-  sum_behind xs s placing e is page apart =
-      let own = kept_group_is xs state.area state.attributes.page_just e st.page_just.0 st.page_just.1 in
+  sum_behind xs s placing e is page order apart =
       let spots = after_last is_break (in_group state.attributes.page_just xs) in
-      let grown = line_lengthened spots s seen (present_glyphs state.attributes.page_just xs placing) is (line_in_force state) (ap (λ (g : Group). g.line) own)
+      let here : line_in_force state ≡ line_sum spots = own_line xs state.area e ∙ ap (λ n. line_sum (after_last is_break (in_group n xs))) run.group in
+      let grown = line_lengthened spots s seen (present_glyphs state.attributes.page_just xs placing) is (line_in_force state) here
       run.segment run.parts run.any run.height run.spacing run.last gap run.gap_is in
-      area_lengthened xs s seen placing is state.area e state.attributes.page_just page run.group
-      ((line_in_force state).part.width + (gap + cell.width)) ((line_in_force state).part.count + 1) st.page_just.0 st.page_just.1 grown
+      area_lengthened xs s state.area state.attributes.page_just ((line_in_force state).part.width + (gap + cell.width)) ((line_in_force state).part.count + 1) e is.glyph page run.group grown
 
   -- whether it fits
-  fits_behind : (before : List Spot) (s : Spot) → is_glyph s ≡ true → longer ≡ area_sum (area_of s before ++ s ∷ []) → s.at.page_just ≡ state.attributes.page_just
+  fits_behind : (before : List Spot) (s : Spot) → is_glyph s ≡ true → longer ≡ area_sum (area_of s before ++ s ∷ []) → longer.present ≡ s.at.page_just
       → s.at.rectangle.width ≡ state.attributes.rectangle.width → s.at.rectangle.height ≡ state.attributes.rectangle.height
       → nat_le ((line_in_force state).part.width + (gap + cell.width)) room ≡ not (too_big before s)
-  fits_behind before s glyph sum page w h =
+  fits_behind before s glyph sum present w h =
       let more = area_of s before ++ s ∷ [] in
       let line = lengthened_line ((line_in_force state).part.width + (gap + cell.width)) ((line_in_force state).part.count + 1) (line_in_force state) in
-      let own = kept_group_is more longer state.attributes.page_just sum st.page_just.0 st.page_just.1 in
-      let same : line ≡ line_sum (after_last is_break (in_group state.attributes.page_just more)) =
-      sym (longer_line state.attributes.page_just _ _ state.area st.page_just.0 st.page_just.1) ∙ ap (λ (g : Group). g.line) own in
+      let same : line ≡ line_sum (after_last is_break (in_group s.at.page_just more)) = own_line more longer sum ∙ ap (λ n. line_sum (after_last is_break (in_group n more))) present in
       let room_left = run.room_is ((line_in_force state).part.width + (gap + cell.width)) ((line_in_force state).part.count + 1) (omega (arith, wide)) in
-      let fits_line = sym room_left ∙ kept_fits_is (after_last is_break (in_group state.attributes.page_just more)) line state.attributes.rectangle.width same (omega (arith, run.segment, st.line_just.1)) in
-      let fits_area = sym (longer_heights state.attributes.page_just _ _ state.attributes.rectangle.height state.area st.page_just.0 st.page_just.1 ∙ run.heights)
-      ∙ kept_area_fits more longer state.attributes.rectangle.height (placing_character before s glyph) sum in
+      let fits_line = sym room_left ∙ kept_fits_is (after_last is_break (in_group s.at.page_just more)) line state.attributes.rectangle.width same (omega (arith, run.segment, st.line_just.1)) in
+      let fits_area = sym run.heights ∙ kept_area_fits more longer state.attributes.rectangle.height (placing_character before s glyph) sum (omega (arith, st.below.known)) in
       sym (and_true (nat_le ((line_in_force state).part.width + (gap + cell.width)) room))
-      ∙ fits_character before s state.attributes.page_just state.attributes.rectangle.width state.attributes.rectangle.height
-      (nat_le ((line_in_force state).part.width + (gap + cell.width)) room) true glyph page w h fits_line fits_area
+      ∙ fits_character before s s.at.page_just state.attributes.rectangle.width state.attributes.rectangle.height
+      (nat_le ((line_in_force state).part.width + (gap + cell.width)) room) true glyph refl w h fits_line fits_area
 
   pub run_too_big : room < (line_in_force state).part.width + (gap + cell.width) → offence sign items (Shows number) ≡ Some 5
   run_too_big more =

@@ -1,5 +1,5 @@
 -- One more octet of a run, in the string that is read.
-use Rattle.std.proofs.Common.{◌≡◌, ℕ, ◌+◌, ◌*◌, ◌^◌, ◌<◌, ◌≤◌, List, length, map, slice_get, Option, Some, None, refl, ap, ◌∙◌, subst, arith}
+use Rattle.std.proofs.Common.{◌≡◌, ℕ, ◌+◌, ◌*◌, ◌^◌, ◌<◌, ◌≤◌, List, length, map, slice_get, Option, Some, None, refl, arith}
 use Rattle.std.specs.Option.{option_map}
 use Rattle.multi_token.specs.Spelling.{IsPlain}
 use Rattle.multi_token.specs.declared.token.Token.{Token}
@@ -8,16 +8,15 @@ use Rattle.multi_token.specs.Tokens.{IsTokenOf}
 use Rattle.multi_token.proofs.PlaceLemmas.{single_token}
 use Rattle.sign_font.specs.Cell.{SizedCell}
 use Rattle.sign_font.specs.Sign.{SignData, cell_in}
-use Rattle.multi_layout.specs.declared.line.Line.{Line}
 use Rattle.multi_layout.specs.declared.state.State.{State}
 use Rattle.multi_layout.specs.Meaning.{meaning}
 use Rattle.multi_layout.specs.Progress.{ReadSoFar}
-use Rattle.multi_layout.specs.Run.{IsRun, lengthened, lengthened_line, line_in_force}
+use Rattle.multi_layout.specs.Run.{IsRun, lengthened, line_in_force}
 use Rattle.multi_layout.specs.Sums.{IsBelow}
 use Rattle.multi_layout.specs.Verdict.{IsVerdict, Refused}
 use Rattle.multi_layout.proofs.JudgedLemmas.{judged-undefined}
 use Rattle.multi_layout.proofs.ReadLemmas.{read_more, ready_here, refused_here}
-use Rattle.multi_layout.proofs.RunLemmas.{length_below, lengthened_twice, longer_below, longer_line, run_goes_on, run_stays, run_too_big}
+use Rattle.multi_layout.proofs.RunLemmas.{longer_below, run_goes_on, run_stays, run_too_big}
 
 -- a cell of which the width is known
 pub cell_of_width : (o : Option SizedCell) (width : ℕ) → Some width ≡ option_map (λ (c : SizedCell). c.width) o → (c : SizedCell) × (o ≡ Some c) × (width ≡ c.width)
@@ -52,39 +51,26 @@ module _ (sign : SignData) (octets : List ℕ) (at : ℕ) (state : State) (r : R
     octet_goes_on narrow fits =
         let (cell, found, is) = cell_of_width (cell_in sign state.attributes.font.number octet) wide width_is in
         let st = r.state_is in
-        let size = length_below (1024 * length (map meaning r.items)) state st.page_just.0 st.page_just.1 st.below in
         let below : IsBelow (1024 * length (map meaning r.items) + 1024) (lengthened ((line_in_force state).part.width + (gap + cell.width)) ((line_in_force state).part.count + 1) state).area =
-        longer_below (1024 * length (map meaning r.items)) state.attributes.page_just ((line_in_force state).part.width + (gap + cell.width)) ((line_in_force state).part.count + 1) state.area st.page_just.0 st.page_just.1 st.below
-        (omega (arith, size.0, run.narrow, narrow, is)) (omega (arith, size.1)) in
+        longer_below (1024 * length (map meaning r.items)) ((line_in_force state).part.width + (gap + cell.width)) ((line_in_force state).part.count + 1) state.area st.below
+        (omega (arith, st.below.group.line.part.width, run.narrow, narrow, is)) (omega (arith, st.below.group.line.part.count)) in
         let behind = run_goes_on sign (map meaning r.items) state st gap room run octet cell found (omega (arith, some, is)) (omega (arith, fits, is)) below in
         let longer = read_more sign octets at state r token refl stands (lengthened ((line_in_force state).part.width + (gap + cell.width)) ((line_in_force state).part.count + 1) state) behind.0 behind.1 in
         rw is longer
 
 -- the same, where the run began in a state whose segment has been lengthened since
 module _ (sign : SignData) (octets : List ℕ) (at : ℕ) (state : State) (width count : ℕ) (r : ReadSoFar sign octets at (lengthened width count state)) where
-  line_now : line_in_force (lengthened width count state) ≡ lengthened_line width count (line_in_force state)
-  line_now = longer_line state.attributes.page_just width count state.area r.state_is.page_just.0 r.state_is.page_just.1
-
-  width_now : (line_in_force (lengthened width count state)).part.width ≡ width
-  width_now = ap (λ (l : Line). l.part.width) line_now
-
-  count_now : (line_in_force (lengthened width count state)).part.count ≡ count
-  count_now = ap (λ (l : Line). l.part.count) line_now
-
   pub length_now : length octets < 2 ^ 32 → (width ≤ 2 ^ 62) × (count ≤ 2 ^ 62)
   length_now fewer =
       let small = ready_here sign octets at (lengthened width count state) r fewer in
-      let size = length_below (2 ^ 62) (lengthened width count state) r.state_is.page_just.0 r.state_is.page_just.1 small.below in
-      (omega (arith, size.0, width_now), omega (arith, size.1, count_now))
+      (small.below.group.line.part.width, small.below.group.line.part.count)
 
   module _ (octet : ℕ) (short : length octets < 2 ^ 63) (here : slice_get octets at ≡ Some octet) (plain : IsPlain octet)
       (gap room : ℕ) (run : IsRun state gap room) (wide : ℕ) (some : 1 ≤ wide) (width_is : Some wide ≡ option_map (λ (c : SizedCell). c.width) (cell_in sign state.attributes.font.number octet)) where
     pub more_too_big : room < width + (gap + wide) → IsVerdict sign octets (Refused 5 at)
     more_too_big more =
-        octet_too_big sign octets at (lengthened width count state) r octet short here plain gap room (run_stays state gap room width count r.state_is.page_just.0 r.state_is.page_just.1 run) wide some width_is (omega (arith, more, width_now))
+        octet_too_big sign octets at (lengthened width count state) r octet short here plain gap room (run_stays state gap room width count run) wide some width_is more
 
     pub more_goes_on : wide ≤ 64 → width + (gap + wide) ≤ room → ReadSoFar sign octets (at + 1) (lengthened (width + (gap + wide)) (count + 1) state)
     more_goes_on narrow fits =
-        let longer = octet_goes_on sign octets at (lengthened width count state) r octet short here plain gap room (run_stays state gap room width count r.state_is.page_just.0 r.state_is.page_just.1 run) wide some width_is narrow (omega (arith, fits, width_now)) in
-        subst (ReadSoFar sign octets (at + 1)) (lengthened_twice width count _ _ state r.state_is.page_just.0 r.state_is.page_just.1 ∙ ap (λ n. lengthened (n + (gap + wide)) ((line_in_force (lengthened width count state)).part.count + 1) state) width_now
-        ∙ ap (λ n. lengthened (width + (gap + wide)) (n + 1) state) count_now) longer
+        octet_goes_on sign octets at (lengthened width count state) r octet short here plain gap room (run_stays state gap room width count run) wide some width_is narrow fits

@@ -1,5 +1,5 @@
 -- The two readings of an area: one for the table of its lines, one to put its cells.
-use Rattle.std.specs.Prelude.{◌≡◌, ℕ, ◌+◌, ◌-◌, ◌*◌, ◌^◌, ◌≤◌, Bool, true, false, List, [], ◌∷◌, ◌++◌, map, length}
+use Rattle.std.specs.Prelude.{◌≡◌, ℕ, ◌+◌, ◌-◌, ◌*◌, ◌^◌, ◌≤◌, Bool, true, false, nat_lt, List, [], ◌∷◌, ◌++◌, map, length, if◌then◌else◌}
 use Rattle.std.specs.List.{All}
 use Rattle.multi_token.specs.Counted.{Counted, RisesBetween}
 use Rattle.multi_token.specs.Spelling.{Item, spelling, spell}
@@ -10,22 +10,38 @@ use Rattle.sign_font.specs.Sign.{SignData, tallest}
 use Rattle.multi_layout.specs.declared.cursor.Cursor.{Cursor}
 use Rattle.multi_layout.specs.declared.paint.Layer.{Layer}
 use Rattle.multi_layout.specs.declared.read.AreaLines.{AreaLines}
+use Rattle.multi_layout.specs.declared.state.State.{State}
 use Rattle.multi_layout.specs.declared.table.LineTable.{LineTable}
 use Rattle.multi_layout.specs.Address.{Spot, spots, standing, in_group, lines_of, in_area}
 use Rattle.multi_layout.specs.Drawn.{Lights, has_colour}
 use Rattle.multi_layout.specs.Limits.{plane_octets}
-use Rattle.multi_layout.specs.Meaning.{Meaning, Does, EndsArea, begins_area, meaning}
+use Rattle.multi_layout.specs.Meaning.{Meaning, Does, Shows, EndsArea, begins_area, meaning}
 use Rattle.multi_layout.specs.Sums.{ended_lines}
-use Rattle.multi_layout.specs.Table.{group_lines, table_of}
+use Rattle.multi_layout.specs.Table.{IsOrdered, group_lines, table_of}
 
 -- the item ends a line (NTCIP 1203 v03, MULTI tag 'nl')
 abbrev pub ends_line : Meaning → Bool
 ends_line (Does (NewLine gap)) = true
 ends_line _ = false
 
--- the table has the ended lines of each group of an area (own)
-abbrev pub HasEnded : List Spot → LineTable → Type 0
-HasEnded area table = (just : ℕ) → 2 ≤ just → just ≤ 4 → group_lines just table ≡ table_of (ended_lines (in_group just area))
+-- the item has a place in a group: a character or the end of a line (NTCIP 1203 v03, MULTI tag 'nl')
+abbrev pub places : Meaning → Bool
+places (Shows number) = true
+places (Does (NewLine gap)) = true
+places _ = false
+
+-- the page justification of the group to which the next item belongs, if it has a place, or else that of the present group (own)
+abbrev pub next_group : State → Meaning → ℕ
+next_group state item = if places item then state.attributes.page_just else state.area.present
+
+-- the lines of a group that are known when items go on in this group: all counted lines of the groups before it, and the ended
+-- lines of the others (own)
+abbrev pub known_lines : ℕ → ℕ → List Spot → List (List Spot)
+known_lines present just area = if nat_lt just present then lines_of (in_group just area) else ended_lines (in_group just area)
+
+-- the table has the known lines of each group of an area (own)
+abbrev pub HasKnown : ℕ → List Spot → LineTable → Type 0
+HasKnown present area table = (just : ℕ) → 2 ≤ just → just ≤ 4 → group_lines just table ≡ table_of (known_lines present just area)
 
 -- the table has the counted lines of each group of an area (own)
 abbrev pub HasCounted : List Spot → LineTable → Type 0
@@ -35,9 +51,9 @@ HasCounted area table = (just : ℕ) → 2 ≤ just → just ≤ 4 → group_lin
 abbrev pub IsLow : LineTable → Type 0
 IsLow table = (just : ℕ) → 2 ≤ just → just ≤ 4 → All (λ line. line.bottom ≤ 2 ^ 43) (group_lines just table)
 
--- no group of an area has more counted lines than a table has room for (own)
+-- an area has no more counted lines than a table has room for (own)
 abbrev pub HasRoom : List Spot → Type 0
-HasRoom area = (just : ℕ) → 2 ≤ just → just ≤ 4 → length (lines_of (in_group just area)) ≤ 128
+HasRoom area = length (lines_of (in_group 2 area)) + length (lines_of (in_group 3 area)) + length (lines_of (in_group 4 area)) ≤ 128
 
 -- no area begins behind these items (own)
 abbrev pub BeginsNoArea : List Item → Type 0
@@ -66,6 +82,7 @@ pub record IsAreaRead (sign : SignData) (before behind : List Item) (cursor : Cu
   pub ends : EndsArea (map meaning rest)
   pub end : read.end ≡ cursor.at + length (spell area)
   pub table : HasCounted (whole_area sign before behind) read.lines
+  pub ordered : IsOrdered read.lines
   pub low : IsLow read.lines
   pub steps : RisesBetween source source' 0 (2 * length (spell area) + first_steps rest)
 

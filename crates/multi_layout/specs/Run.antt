@@ -22,9 +22,9 @@ kept_height group =
     if group.line.any then group.closed + option_map_or (λ ended. unwrap_or ended.gap (average ended.spacing group.line.spacing)) group.last 0 + group.line.height
     else group.closed
 
--- the group with a page justification: top 2, middle 3, bottom 4 (own)
-abbrev pub kept_group : ℕ → Area → Group
-kept_group just area = if just == 2 then area.top else (if just == 3 then area.middle else area.bottom)
+-- the height of the group with a page justification, by what is kept of the area: top 2, middle 3, bottom 4 (own)
+abbrev pub kept_group_height : ℕ → Area → ℕ
+kept_group_height just area = if just == area.present then kept_height area.group else (if just == 2 then area.top else (if just == 3 then area.middle else 0))
 
 -- a line whose present segment has this width and number of characters (own)
 abbrev pub lengthened_line : ℕ → ℕ → Line → Line
@@ -34,25 +34,22 @@ lengthened_line width count line = record line { part = record line.part { width
 abbrev pub lengthened_group : ℕ → ℕ → Group → Group
 lengthened_group width count group = record group { line = lengthened_line width count group.line }
 
--- an area of which the present segment of the group with a page justification has this width and number of characters (own)
-abbrev pub lengthened_area : ℕ → ℕ → ℕ → Area → Area
-lengthened_area just width count area =
-    if just == 2 then record area { top = lengthened_group width count area.top }
-    else (if just == 3 then record area { middle = lengthened_group width count area.middle }
-    else record area { bottom = lengthened_group width count area.bottom })
+-- an area whose present segment has this width and number of characters (own)
+abbrev pub lengthened_area : ℕ → ℕ → Area → Area
+lengthened_area width count area = record area { group = lengthened_group width count area.group }
 
 -- a state whose present segment has this width and number of characters (own)
 abbrev pub lengthened : ℕ → ℕ → State → State
-lengthened width count state = record state { area = lengthened_area state.attributes.page_just width count state.area }
+lengthened width count state = record state { area = lengthened_area width count state.area }
 
 -- the line in force (own)
 abbrev pub line_in_force : State → Line
-line_in_force state = (kept_group state.attributes.page_just state.area).line
+line_in_force state = state.area.group.line
 
 -- a character here has the attributes of the one before it, so that it only lengthens their segment: by its width and this gap,
 -- and it fits where the segment then has at most so much room (own)
 pub record IsRun (state : State) (gap room : ℕ) : Type 0 where
-  pub group : state.area.most ≡ state.attributes.page_just
+  pub group : state.area.present ≡ state.attributes.page_just
   pub segment : (line_in_force state).present ≡ state.attributes.line_just
   pub parts : (line_in_force state).has_parts ≡ nat_lt state.attributes.line_just 5
   pub any : (line_in_force state).any ≡ true
@@ -61,5 +58,5 @@ pub record IsRun (state : State) (gap room : ℕ) : Type 0 where
   pub last : (line_in_force state).part.last ≡ Some state.attributes.font.char_spacing
   pub gap_is : gap ≡ unwrap_or state.attributes.spacing state.attributes.font.char_spacing
   pub narrow : gap ≤ 255
-  pub heights : fit (kept_height state.area.top) (kept_height state.area.middle) (kept_height state.area.bottom) state.attributes.rectangle.height ≡ true
+  pub heights : fit (kept_group_height 2 state.area) (kept_group_height 3 state.area) (kept_group_height 4 state.area) state.attributes.rectangle.height ≡ true
   pub room_is : (width count : ℕ) → 1 ≤ width → kept_fits state.attributes.rectangle.width (lengthened_line width count (line_in_force state)) ≡ nat_le width room

@@ -62,14 +62,22 @@ group_sum group = record {
   line = line_sum (after_last is_break group);
 }
 
--- the sums of an area: the largest page justification of its items, and its three groups (own)
-abbrev pub area_sum : List Spot → Area
-area_sum area = record {
-  most = largest (λ t. t.at.page_just) area;
-  top = group_sum (in_group 2 area);
-  middle = group_sum (in_group 3 area);
-  bottom = group_sum (in_group 4 area);
+-- the height of the group with a page justification before that of the present one (own)
+abbrev pub height_before : ℕ → ℕ → List Spot → ℕ
+height_before present just area = if nat_lt just present then height_of (lines_of (in_group just area)) else 0
+
+-- the sums of an area whose present group has this page justification: the heights of the groups before it, and that group (own)
+abbrev pub area_sum_in : ℕ → List Spot → Area
+area_sum_in present area = record {
+  present = present;
+  top = height_before present 2 area;
+  middle = height_before present 3 area;
+  group = group_sum (in_group present area);
 }
+
+-- the sums of an area, whose present group is that with the largest page justification of its items (own)
+abbrev pub area_sum : List Spot → Area
+area_sum area = area_sum_in (largest (λ t. t.at.page_just) area) area
 
 -- a placing item: a character or the end of a line (NTCIP 1203 v03, MULTI tag 'nl')
 abbrev pub IsPlacing : Spot → Type 0
@@ -107,8 +115,11 @@ pub record IsGroupBelow (k : ℕ) (group : Group) : Type 0 where
   pub closed : group.closed ≤ k
   pub line : IsLineBelow k group.line
 
--- the numbers of an area's groups are at most k (own)
+-- the heights of an area's groups and the numbers of the present one are at most k, and its justification is none or a known one,
+-- and a known one where its present line has a character (own)
 pub record IsBelow (k : ℕ) (area : Area) : Type 0 where
-  pub top : IsGroupBelow k area.top
-  pub middle : IsGroupBelow k area.middle
-  pub bottom : IsGroupBelow k area.bottom
+  pub top : area.top ≤ k
+  pub middle : area.middle ≤ k
+  pub group : IsGroupBelow k area.group
+  pub known : area.present ≤ 4
+  pub some : area.group.line.any ≡ true → 2 ≤ area.present

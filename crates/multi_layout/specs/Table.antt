@@ -1,5 +1,5 @@
 -- What drawing keeps of the counted lines of an area, so that each character's place is known when it is met.
-use Rattle.std.specs.Prelude.{ℕ, ◌+◌, ◌-◌, ◌≤◌, ◌==◌, List, [], ◌∷◌, ◌++◌, length, if◌then◌else◌}
+use Rattle.std.specs.Prelude.{ℕ, ◌+◌, ◌-◌, ◌≤◌, ◌==◌, List, [], ◌∷◌, ◌++◌, length, slice_range, if◌then◌else◌}
 use Rattle.std.specs.List.{after_last}
 use Rattle.multi_layout.specs.declared.table.CountedLine.{CountedLine}
 use Rattle.multi_layout.specs.declared.table.LineTable.{LineTable}
@@ -34,7 +34,14 @@ width_in just line = if just == 2 then line.left else (if just == 3 then line.ce
 
 -- the counted lines of the group with a page justification: top 2, middle 3, bottom 4 (own)
 abbrev pub group_lines : ℕ → LineTable → List CountedLine
-group_lines just table = if just == 2 then table.top.items else (if just == 3 then table.middle.items else table.bottom.items)
+group_lines just table =
+    if just == 2 then slice_range table.lines.items 0 table.middle
+    else (if just == 3 then slice_range table.lines.items table.middle table.bottom else slice_range table.lines.items table.bottom (length table.lines.items))
+
+-- the groups of the table are in order (own)
+pub record IsOrdered (table : LineTable) : Type 0 where
+  pub middle : table.middle ≤ table.bottom
+  pub bottom : table.bottom ≤ length table.lines.items
 
 -- the column of a character behind those of its line, by what is kept of the line (own)
 abbrev pub column_in : CountedLine → List Spot → Spot → ℕ

@@ -7,8 +7,8 @@ ghost use Rattle.multi_layout.specs.Address.{Spot, is_glyph, is_break, area_of, 
 ghost use Rattle.multi_layout.specs.Fit.{area_fits, fit};
 ghost use Rattle.multi_layout.specs.Line.{average, height_of};
 ghost use Rattle.multi_layout.specs.Offence.{clashes, conflicts, too_big};
-ghost use Rattle.multi_layout.specs.Run.{kept_group, kept_height, lengthened_area};
-ghost use Rattle.multi_layout.specs.Sums.{group_sum, area_sum, IsPlacing, IsCharacter, IsBreak, IsGroupBelow, IsBelow};
+ghost use Rattle.multi_layout.specs.Run.{kept_group_height, kept_height, lengthened_area};
+ghost use Rattle.multi_layout.specs.Sums.{group_sum, area_sum, area_sum_in, IsPlacing, IsCharacter, IsBreak, IsGroupBelow, IsBelow};
 
 use crate::line::{Character, Line, gap_or_average, parts_fit};
 use sign_font::FontInfo;
@@ -35,14 +35,17 @@ pub(crate) struct Group {
     pub(crate) line: Line,
 }
 
-/// The placing items of an area.
+/// The placing items of an area. Page justifications don't go back in an area, so only one group grows, and of those before it
+/// only the heights are kept.
 #[derive(Clone, Copy, Debug, PartialEq, Eq)]
 pub(crate) struct Area {
-    /// The largest page justification; 0 where there is no item.
-    pub(crate) most: u8,
-    pub(crate) top: Group,
-    pub(crate) middle: Group,
-    pub(crate) bottom: Group,
+    /// The page justification of the present group, the largest so far; 0 where there is no item.
+    pub(crate) present: u8,
+    /// The heights in pixels of the groups before the present one.
+    pub(crate) top: u64,
+    pub(crate) middle: u64,
+    /// The present group.
+    pub(crate) group: Group,
 }
 
 impl Group {
@@ -118,71 +121,98 @@ impl Area {
         ensures sum { result ≡ area_sum [] }
         ensures below { IsBelow 0 result }
     {
-        let none = Group::new();
         Area {
-            most: 0,
-            top: none,
-            middle: none,
-            bottom: none,
+            present: 0,
+            top: 0,
+            middle: 0,
+            group: Group::new(),
         }
     }
 
-    /// Adds a character, with this page justification in force.
+    /// Adds a character, with this page justification in force, which isn't before that of the present group.
     pub(crate) fn add_character(&mut self, page_just: u8, character: &Character)
         requires page_just { (2 ≤ page_just) × (page_just ≤ 4) }
         requires known { character.now.just ≤ 5 }
         requires below { IsBelow (2 ^ 62) self.old }
         ensures sum { (area : List Spot) (s : Spot) → All IsPlacing area → self.old ≡ area_sum area
-            → IsCharacter s character.now → s.at.page_just ≡ page_just
+            → IsCharacter s character.now → s.at.page_just ≡ page_just → self.old.present ≤ page_just
             → list_any (clashes s) (after_last is_break (in_group page_just area)) ≡ false → self.new ≡ area_sum (area ++ s ∷ []) }
         ensures grows { (k : ℕ) → IsBelow k self.old → IsBelow (k + 1024) self.new }
     {
-        self.most = self.most.max(page_just);
-        match page_just {
-            2 => self.top.add_character(character),
-            3 => self.middle.add_character(character),
-            _ => self.bottom.add_character(character),
-        }
+        self.go_on(page_just);
+        self.group.add_character(character);
     }
 
-    /// Adds an `nl`, with this page justification and this font in force.
+    /// Adds an `nl`, with this font in force and this page justification, which isn't before that of the present group.
     pub(crate) fn add_break(&mut self, page_just: u8, gap: Option<u8>, font: &FontInfo)
         requires page_just { (2 ≤ page_just) × (page_just ≤ 4) }
         requires below { IsBelow (2 ^ 62) self.old }
         ensures sum { (area : List Spot) (s : Spot) → All IsPlacing area → self.old ≡ area_sum area
-            → IsBreak s gap font.now → s.at.page_just ≡ page_just → self.new ≡ area_sum (area ++ s ∷ []) }
+            → IsBreak s gap font.now → s.at.page_just ≡ page_just → self.old.present ≤ page_just → self.new ≡ area_sum (area ++ s ∷ []) }
         ensures grows { (k : ℕ) → IsBelow k self.old → IsBelow (k + 1024) self.new }
     {
-        self.most = self.most.max(page_just);
-        match page_just {
-            2 => self.top.add_break(gap, font),
-            3 => self.middle.add_break(gap, font),
-            _ => self.bottom.add_break(gap, font),
+        self.go_on(page_just);
+        self.group.add_break(gap, font);
+    }
+
+    /// Goes on to the group with a page justification, which isn't before that of the present one.
+    fn go_on(&mut self, page_just: u8)
+        requires page_just { (2 ≤ page_just) × (page_just ≤ 4) }
+        requires below { IsBelow (2 ^ 62) self.old }
+        ensures sum { (area : List Spot) → All IsPlacing area → self.old ≡ area_sum area → self.old.present ≤ page_just
+            → self.new ≡ area_sum_in page_just area }
+        ensures grows { (k : ℕ) → IsBelow k self.old
+            → (self.new.top ≤ k + 1024) × (self.new.middle ≤ k + 1024) × IsGroupBelow k self.new.group × (2 ≤ self.new.present) × (self.new.present ≤ 4) }
+    {
+        if page_just <= self.present {
+            return;
+        }
+        let (before, height) = (self.present, self.group.height());
+        self.group = Group::new();
+        self.present = page_just;
+        match before {
+            2 => self.top = height,
+            3 => self.middle = height,
+            _ => {}
         }
     }
 
-    /// The group with this page justification: top 2, middle 3, bottom 4.
-    pub(crate) fn group(&self, page_just: u8) -> &Group
-        requires known { (2 ≤ page_just) × (page_just ≤ 4) }
-        ensures sum { (area : List Spot) → self.now ≡ area_sum area → result.now ≡ group_sum (in_group page_just area) }
-        ensures kept { result.now ≡ kept_group page_just self.now }
-        ensures below { (k : ℕ) → IsBelow k self.now → IsGroupBelow k result.now }
+    /// The group with this page justification, top 2, middle 3 or bottom 4, which isn't before the present one.
+    pub(crate) fn group_for(&self, page_just: u8) -> Group
+        ensures sum { (area : List Spot) → self.now ≡ area_sum area → self.now.present ≤ page_just → result ≡ group_sum (in_group page_just area) }
+        ensures below { (k : ℕ) → IsBelow k self.now → IsGroupBelow k result }
     {
+        if page_just == self.present {
+            self.group
+        } else {
+            Group::new()
+        }
+    }
+
+    /// The height of the group with a page justification, in pixels: top 2, middle 3, bottom 4.
+    pub(crate) fn height(&self, page_just: u8) -> u64
+        requires known { (2 ≤ page_just) × (page_just ≤ 4) }
+        requires below { IsBelow (2 ^ 62 + 1024) self.now }
+        ensures sum { (area : List Spot) → All IsPlacing area → self.now ≡ area_sum area → result ≡ height_of (lines_of (in_group page_just area)) }
+        ensures kept { result ≡ kept_group_height page_just self.now }
+        ensures below { result ≤ 2 ^ 62 + 2048 }
+    {
+        if page_just == self.present {
+            return self.group.height();
+        }
         match page_just {
-            2 => &self.top,
-            3 => &self.middle,
-            _ => &self.bottom,
+            2 => self.top,
+            3 => self.middle,
+            _ => 0,
         }
     }
 
     /// Whether a character with these justifications conflicts with the items before it.
     pub(crate) fn conflicts_with_character(&self, page_just: u8, just: u8) -> bool
-        requires known { (2 ≤ page_just) × (page_just ≤ 4) }
         ensures { (before : List Spot) (s : Spot) → self.now ≡ area_sum (area_of s before) → is_glyph s ≡ true
             → s.at.page_just ≡ page_just → s.at.line_just ≡ just → result ≡ conflicts before s }
     {
-        let line = &self.group(page_just).line;
-        (page_just < self.most) | line.clashes(just)
+        (page_just < self.present) | ((page_just == self.present) & self.group.line.clashes(just))
     }
 
     /// Whether an `nl` with this page justification conflicts with the items before it.
@@ -190,20 +220,17 @@ impl Area {
         ensures { (before : List Spot) (s : Spot) → self.now ≡ area_sum (area_of s before) → is_glyph s ≡ false
             → s.at.page_just ≡ page_just → result ≡ conflicts before s }
     {
-        page_just < self.most
+        page_just < self.present
     }
 
-    /// Whether the area fits a rectangle of this width and height in pixels, as far as its last item goes: a
-    /// character with this page justification.
-    pub(crate) fn fits_with_character(&self, page_just: u8, width: u16, height: u16) -> bool
-        requires known { (2 ≤ page_just) × (page_just ≤ 4) }
+    /// Whether the area fits a rectangle of this width and height in pixels, as far as its last item goes: a character.
+    pub(crate) fn fits_with_character(&self, width: u16, height: u16) -> bool
         requires below { IsBelow (2 ^ 62 + 1024) self.now }
         ensures { (before : List Spot) (s : Spot) → is_glyph s ≡ true → self.now ≡ area_sum (area_of s before ++ s ∷ [])
-            → s.at.page_just ≡ page_just → s.at.rectangle.width ≡ width → s.at.rectangle.height ≡ height
+            → self.now.present ≡ s.at.page_just → s.at.rectangle.width ≡ width → s.at.rectangle.height ≡ height
             → result ≡ not (too_big before s) }
     {
-        let line = &self.group(page_just).line;
-        line.fits(width) & self.fits_height(height)
+        self.group.line.fits(width) & self.fits_height(height)
     }
 
     /// Whether the area fits a rectangle of this height in pixels, as far as its last item goes: an `nl`.
@@ -215,15 +242,11 @@ impl Area {
         self.fits_height(height)
     }
 
-    /// Gives the present segment of the group with this page justification this width and number of characters.
-    pub(crate) fn lengthen(&mut self, page_just: u8, width: u64, count: u64)
-        ensures { self.new ≡ lengthened_area page_just width count self.old }
+    /// Gives the present segment of the present group this width and number of characters.
+    pub(crate) fn lengthen(&mut self, width: u64, count: u64)
+        ensures { self.new ≡ lengthened_area width count self.old }
     {
-        match page_just {
-            2 => self.top.line.lengthen(width, count),
-            3 => self.middle.line.lengthen(width, count),
-            _ => self.bottom.line.lengthen(width, count),
-        }
+        self.group.line.lengthen(width, count);
     }
 
     /// Whether the groups stand apart within a height in pixels.
@@ -231,12 +254,12 @@ impl Area {
         requires below { IsBelow (2 ^ 62 + 1024) self.now }
         ensures sum { (area : List Spot) → All IsPlacing area → self.now ≡ area_sum area
             → result ≡ area_fits height area }
-        ensures kept { result ≡ fit (kept_height self.now.top) (kept_height self.now.middle) (kept_height self.now.bottom) height }
+        ensures kept { result ≡ fit (kept_group_height 2 self.now) (kept_group_height 3 self.now) (kept_group_height 4 self.now) height }
     {
         parts_fit(
-            self.top.height(),
-            self.middle.height(),
-            self.bottom.height(),
+            self.height(2),
+            self.height(3),
+            self.height(4),
             u64::from(height),
         )
     }

@@ -12,6 +12,7 @@ ghost use Rattle.multi_layout.specs.Paging.{IsFilledFew, IsPagePassed, IsPageSta
 ghost use Rattle.multi_layout.specs.Passes.{HasCounted, IsDrawnTo, IsFilledBy, IsLow, BeginsNoArea, IsQuiet, whole_area};
 ghost use Rattle.multi_layout.specs.Limits.{plane_octets};
 ghost use Rattle.multi_layout.specs.Picture.{in_plane, shown_colour};
+ghost use Rattle.multi_layout.specs.Table.{IsOrdered};
 ghost use Rattle.multi_layout.specs.Walk.{IsBetween, IsRead};
 
 use crate::cursor::{Cursor, NextItem};
@@ -72,6 +73,7 @@ fn draw_area(
     requires known { (before area rest : List spelled.Item) × IsBetween sign.now source.old.octets before (area ++ rest) cursor.old
         × BeginsNoArea area × (read.now.end ≡ cursor.old.at + length (spelled.spell area)) × HasCounted (whole_area sign.now before (area ++ rest)) read.now.lines }
     requires low { IsLow read.now.lines }
+    requires ordered { IsOrdered read.now.lines }
     requires size { IsSized plane.old sign.now }
     ensures passed { (before area rest : List spelled.Item) → IsBetween sign.now source.old.octets before (area ++ rest) cursor.old
         → BeginsNoArea area → read.now.end ≡ cursor.old.at + length (spelled.spell area) → HasCounted (whole_area sign.now before (area ++ rest)) read.now.lines
@@ -106,6 +108,7 @@ fn draw_item(
     requires known { (before rest : List spelled.Item) × (item : spelled.Item) × IsBetween sign.now source.old.octets before (item ∷ rest) cursor.old
         × IsRead item next × HasCounted (whole_area sign.now before (item ∷ rest)) lines.now }
     requires low { IsLow lines.now }
+    requires ordered { IsOrdered lines.now }
     requires size { IsSized plane.old sign.now }
     ensures passed { (before rest : List spelled.Item) (item : spelled.Item) → IsBetween sign.now source.old.octets before (item ∷ rest) cursor.old
         → IsRead item next → IsBetween sign.now source.old.octets (before ++ item ∷ []) rest cursor.new }

@@ -6,7 +6,7 @@ ghost use Rattle.multi_token.specs.Tokens.{IsTokenOf, item_of};
 ghost use Rattle.multi_layout.specs.Codes.{code_of};
 ghost use Rattle.multi_layout.specs.KnownItem.{IsKnownItem, meant_by};
 ghost use Rattle.multi_layout.specs.Meaning.{Faulty, begins_area, is_new_page, meaning};
-ghost use Rattle.multi_layout.specs.Passes.{ends_line};
+ghost use Rattle.multi_layout.specs.Passes.{ends_line, places};
 
 use crate::fault::SyntaxError;
 use multi_tag::{Tag, TagFault, read_tag};
@@ -32,6 +32,13 @@ impl KnownItem {
         ensures { result ≡ begins_area (meant_by self) }
     {
         matches!(self, KnownItem::Tag(Tag::NewPage | Tag::Rect { .. }))
+    }
+
+    /// Whether the item has a place in a group: a character or the end of a line.
+    pub(crate) fn places(self) -> bool
+        ensures { result ≡ places (meant_by self) }
+    {
+        matches!(self, KnownItem::Char(_) | KnownItem::Tag(Tag::NewLine(_)))
     }
 
     /// Whether the item ends a line.

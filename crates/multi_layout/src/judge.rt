@@ -118,7 +118,7 @@ fn judge_cell(state: &mut State, number: u8, cell: &Cell<'_>) -> Result<(), Synt
     let character = state.attributes.character(cell.width());
     state.area.add_character(page_just, &character);
     let Rectangle { width, height, .. } = state.attributes.rectangle;
-    if state.area.fits_with_character(page_just, width, height) {
+    if state.area.fits_with_character(width, height) {
         Ok(())
     } else {
         Err(SyntaxError::TextTooBig)

@@ -10,6 +10,7 @@ ghost use Rattle.multi_layout.specs.Passes.{HasCounted, IsDrawnTo, IsLow};
 ghost use Rattle.multi_layout.specs.Picture.{is_lit_at, shown_colour};
 ghost use Rattle.multi_layout.specs.State.{IsStateOf};
 ghost use Rattle.multi_layout.specs.Sums.{IsBelow};
+ghost use Rattle.multi_layout.specs.Table.{IsOrdered};
 
 use crate::attributes::FlashTimes;
 use crate::cell::put_cell;
@@ -75,6 +76,7 @@ pub(crate) fn put_character(
     requires page_just { (2 ≤ state.now.attributes.page_just) × (state.now.attributes.page_just ≤ 4) }
     requires below { IsBelow (2 ^ 43) state.now.area }
     requires low { IsLow lines.now }
+    requires ordered { IsOrdered lines.now }
     requires size { IsSoundSize cell.now }
     requires height { cell.now.height ≡ state.now.attributes.font.height }
     ensures drawn { (before rest : List Meaning) (number : ℕ) → IsStateOf sign.now before state.now

@@ -38,10 +38,10 @@ pub(crate) fn place_at(
     ensures place { (before all : List Spot) (spot : Spot) → is_glyph spot ≡ true → attributes.now ≡ attributes_of spot.at
         → glyph_width spot ≡ width → area.now ≡ area_sum (area_of spot before) → lines.now ≡ table_of (lines_of (group_of spot all))
         → count_by is_break (group_of spot before) < length (lines_of (group_of spot all)) → list_any (clashes spot) (line_before before spot) ≡ false
-        → result ≡ place_of before all spot }
+        → area.now.present ≤ attributes.now.page_just → result ≡ place_of before all spot }
     ensures low { (result.column ≤ 2 ^ 62) × (result.row ≤ 2 ^ 62) }
 {
-    let group = area.group(attributes.page_just);
+    let group = area.group_for(attributes.page_just);
     let line = line_at(lines, group.ended);
     Place {
         column: column_at(attributes, &group.line, &line, width),

@@ -33,10 +33,12 @@ impl State {
         ensures segment { IfSome result (λ run. (run.width ≡ (line_in_force self.now).part.width) × (run.count ≡ (line_in_force self.now).part.count)) }
     {
         let attributes = &self.attributes;
-        let line = &self.area.group(attributes.page_just).line;
+        let line = &self.area.group.line;
         let font = &attributes.font;
         let within = attributes.rectangle;
-        if self.area.most != attributes.page_just || !line.takes_more(attributes.line_just, font) {
+        if self.area.present != attributes.page_just
+            || !line.takes_more(attributes.line_just, font)
+        {
             return None;
         }
         if !line.fits(within.width) || !self.area.fits_height(within.height) {
@@ -54,8 +56,7 @@ impl State {
     fn lengthen(&mut self, width: u64, count: u64)
         ensures { self.new ≡ lengthened width count self.old }
     {
-        let page_just = self.attributes.page_just;
-        self.area.lengthen(page_just, width, count);
+        self.area.lengthen(width, count);
     }
 }
 

@@ -3,7 +3,7 @@
 ghost use Rattle.std.specs.Prelude.{◌≡◌, ℕ, ◌<◌, ◌≤◌, ◌==◌, length, List, [], ◌∷◌, ◌++◌, if◌then◌else◌};
 ghost use Rattle.multi_layout.specs.Address.{Spot};
 ghost use Rattle.multi_layout.specs.Sums.{line_sum};
-ghost use Rattle.multi_layout.specs.Table.{IsNarrow, width_in, group_lines, line_entry};
+ghost use Rattle.multi_layout.specs.Table.{IsNarrow, IsOrdered, width_in, group_lines, line_entry};
 
 use crate::line::Line;
 use arrayvec::ArrayVec;
@@ -22,12 +22,13 @@ pub(crate) struct CountedLine {
     pub(crate) bottom: u16,
 }
 
-/// The counted lines of an area: those of the top, the middle and the bottom group.
+/// The counted lines of an area: those of the top group, of the middle one and of the bottom one.
 #[derive(Drop)]
 pub(crate) struct LineTable {
-    top: ArrayVec<CountedLine, 128>,
-    middle: ArrayVec<CountedLine, 128>,
-    bottom: ArrayVec<CountedLine, 128>,
+    lines: ArrayVec<CountedLine, 128>,
+    /// Where the lines of the middle group begin, and those of the bottom one.
+    middle: usize,
+    bottom: usize,
 }
 
 impl CountedLine {
@@ -64,49 +65,58 @@ impl CountedLine {
 
 impl LineTable {
     /// A table of no line.
-    pub(crate) fn new() -> LineTable
-        ensures { (just : ℕ) → group_lines just result ≡ [] }
-    {
+    pub(crate) fn new() -> LineTable {
         LineTable {
-            top: ArrayVec::new(),
-            middle: ArrayVec::new(),
-            bottom: ArrayVec::new(),
+            lines: ArrayVec::new(),
+            middle: 0,
+            bottom: 0,
         }
     }
 
     /// Takes all lines out.
     pub(crate) fn clear(&mut self)
-        ensures { (just : ℕ) → group_lines just self.new ≡ [] }
+        ensures none { (just : ℕ) → group_lines just self.new ≡ [] }
+        ensures ordered { IsOrdered self.new }
     {
-        self.top.clear();
-        self.middle.clear();
-        self.bottom.clear();
+        self.lines.clear();
+        self.middle = 0;
+        self.bottom = 0;
     }
 
-    /// Puts a line behind those of the group with this page justification: top 2, middle 3, bottom 4.
+    /// Puts a line behind those of the group with this page justification, top 2, middle 3 or bottom 4. No group behind it has
+    /// a line.
     pub(crate) fn push(&mut self, page_just: u8, line: CountedLine)
         requires known { (2 ≤ page_just) × (page_just ≤ 4) }
-        requires room { length (group_lines page_just self.old) < 128 }
-        ensures { (just : ℕ) → (2 ≤ just) × (just ≤ 4) → group_lines just self.new
+        requires room { length self.old.lines.items < 128 }
+        requires ordered { IsOrdered self.old }
+        requires last { (just : ℕ) → page_just < just → just ≤ 4 → group_lines just self.old ≡ [] }
+        ensures pushed { (just : ℕ) → (2 ≤ just) × (just ≤ 4) → group_lines just self.new
             ≡ (if just == page_just then group_lines just self.old ++ line ∷ [] else group_lines just self.old) }
+        ensures ordered { IsOrdered self.new }
     {
+        self.lines.push(line);
         match page_just {
-            2 => self.top.push(line),
-            3 => self.middle.push(line),
-            _ => self.bottom.push(line),
+            2 => {
+                self.middle = self.lines.len();
+                self.bottom = self.lines.len();
+            }
+            3 => self.bottom = self.lines.len(),
+            _ => {}
         }
     }
 
     /// The lines of the group with this page justification: top 2, middle 3, bottom 4.
     pub(crate) fn group(&self, page_just: u8) -> &[CountedLine]
         requires known { (2 ≤ page_just) × (page_just ≤ 4) }
+        requires ordered { IsOrdered self.now }
         ensures lines { result.now ≡ group_lines page_just self.now }
         ensures few { length result.now ≤ 128 }
     {
+        let lines = self.lines.as_slice();
         match page_just {
-            2 => self.top.as_slice(),
-            3 => self.middle.as_slice(),
-            _ => self.bottom.as_slice(),
+            2 => &lines[..self.middle],
+            3 => &lines[self.middle..self.bottom],
+            _ => &lines[self.bottom..],
         }
     }
 }

@@ -70,6 +70,19 @@ draw_area-requires-clause-low c =
     let same1 : c.read_area.new.source.octets ≡ octets = ap (λ (x : Counted). x.octets) a.steps.3 ∙ same0 in
     a.low
 
+pub draw_area-requires-clause-ordered : goal.draw_area-requires-clause-ordered
+draw_area-requires-clause-ordered c =
+    let i = c.loop-next.invariant in
+    let sign = c.args.sign.now in
+    let octets = c.args.source.now.octets in
+    let same0 : c.loop-next.source.octets ≡ octets = ap (λ (x : Counted). x.octets) i.steps.3 in
+    let (before, behind, b, begins) = c.requires.begins in
+    let s = i.so_far before behind b in
+    let b0 = subst (λ o. IsBetween sign o (before ++ s.so.done) s.so.left c.loop-next.cursor) (sym same0) s.so.between in
+    let a = c.read_area.ensures.read (before ++ s.so.done) s.so.left b0 s.begins in
+    let same1 : c.read_area.new.source.octets ≡ octets = ap (λ (x : Counted). x.octets) a.steps.3 ∙ same0 in
+    a.ordered
+
 pub next_item-requires : goal.next_item-requires
 next_item-requires c =
     let i = c.loop-next.invariant in

@@ -9,8 +9,8 @@ returns-then-conflicts_with_character c = record {
       character-exit-conflict sign items c.args.state.now st c.args.number c.args.cell.now some c.conflicts_with_character.result c.conflicts_with_character.ensures c.if-conflicts_with_character.true;
 }
 
-pub fits_with_character-requires-clause-below : goal.fits_with_character-requires-clause-below
-fits_with_character-requires-clause-below c = c.add_character.ensures.grows (2 ^ 62) c.requires.below
+pub fits_with_character-requires : goal.fits_with_character-requires
+fits_with_character-requires c = record { below = c.add_character.ensures.grows (2 ^ 62) c.requires.below }
 
 pub returns-then-fits_with_character : goal.returns-then-fits_with_character
 returns-then-fits_with_character c = record {

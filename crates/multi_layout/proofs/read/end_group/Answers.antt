@@ -1,38 +1,56 @@
-use Rattle.std.proofs.Common.{◌^◌, ◌≤◌, ◌∙◌, ap, arith}
+use Rattle.std.proofs.Common.{◌+◌, ◌^◌, ◌≤◌, refl, ap, ◌∙◌, arith}
 use Rattle.std.specs.List.{after_last}
-use Rattle.multi_layout.specs.declared.area.Group.{Group}
-use Rattle.multi_layout.specs.Address.{is_break}
-use Rattle.multi_layout.proofs.AreaLinesLemmas.{group_room, group_counted, group_closed, pushed_own, pushed_other, pushed_low}
+use Rattle.multi_layout.specs.declared.area.Area.{Area}
+use Rattle.multi_layout.specs.Address.{in_group, is_break}
+use Rattle.multi_layout.proofs.AreaSumLemmas.{group_of_own, own_line}
+use Rattle.multi_layout.proofs.GroupSumLemmas.{placing_group}
+use Rattle.multi_layout.proofs.KnownLinesLemmas.{behind_empty, known_later, last_known, last_room, nothing_left, pushed_low}
+use Rattle.multi_layout.proofs.TableLemmas.{open_entry}
 use Rattle.multi_layout.proofs.read.end_group.Goals as goal
+
+pub of-requires-clause-narrow : goal.of-requires-clause-narrow
+of-requires-clause-narrow c =
+    let area = c.args.area.now in
+    let (spots, placing, sum, known, room, narrow) = c.requires.known in
+    (after_last is_break (in_group area.present spots), own_line spots area sum, (narrow area.present (c.requires.below.some c.if-group.true) c.requires.below.known).0)
+
+pub of-requires-clause-low : goal.of-requires-clause-low
+of-requires-clause-low c =
+    let area = c.args.area.now in
+    let (spots, placing, sum, known, room, narrow) = c.requires.known in
+    let tall = (narrow area.present (c.requires.below.some c.if-group.true) c.requires.below.known).1 in
+    let height = c.height.ensures.sum (in_group area.present spots) (placing_group area.present spots placing) (group_of_own spots area sum area.present refl) in
+    omega (arith, tall, height)
 
 pub push-requires-clause-room : goal.push-requires-clause-room
 push-requires-clause-room c =
-    let (spots, placing, sum, table, few, narrow, tall) = c.requires.room in
-    group_room spots c.args.group.now _ sum table c.if-group.true few
+    let (spots, placing, sum, known, room, narrow) = c.requires.known in
+    last_room spots c.args.area.now sum c.if-group.true (c.requires.below.some c.if-group.true) c.requires.below.known c.args.lines.now known c.requires.ordered room
 
-pub returns-then-group-clause-counted : goal.returns-then-group-clause-counted
-returns-then-group-clause-counted c = λ spots placing sum table.
-    pushed_own c.args.page_just c.of.result c.args.lines.now c.push.new.self c.push.ensures c.requires.known.0 c.requires.known.1
-    ∙ group_counted spots c.args.group.now _ sum table c.of.result c.height.result c.if-group.true (c.of.ensures.entry (after_last is_break spots) (ap (λ (g : Group). g.line) sum)) (c.height.ensures.sum spots placing sum)
+pub push-requires-clause-last : goal.push-requires-clause-last
+push-requires-clause-last c =
+    let area = c.args.area.now in
+    let (spots, placing, sum, known, room, narrow) = c.requires.known in
+    let present = ap (λ (a : Area). a.present) sum in
+    behind_empty spots c.args.lines.now area.present (omega (arith, present)) (c.requires.below.some c.if-group.true) known
 
-pub returns-then-group-clause-others : goal.returns-then-group-clause-others
-returns-then-group-clause-others c = pushed_other c.args.page_just c.of.result c.args.lines.now c.push.new.self c.push.ensures
+pub returns-then-group-clause-known : goal.returns-then-group-clause-known
+returns-then-group-clause-known c = λ present spots later placing sum known.
+    let area = c.args.area.now in
+    let own = ap (λ (a : Area). a.present) sum in
+    let height = c.height.ensures.sum (in_group area.present spots) (placing_group area.present spots placing) (group_of_own spots area sum area.present refl) in
+    let entry = c.of.ensures.entry (after_last is_break (in_group area.present spots)) (own_line spots area sum) ∙ ap (open_entry (in_group area.present spots)) height in
+    known_later spots c.push.new.self (area.present + 1) present (omega (arith, own)) (omega (arith, own, later))
+    (last_known spots area sum c.if-group.true (c.requires.below.some c.if-group.true) c.requires.below.known c.args.lines.now known c.push.new.self c.of.result entry c.push.ensures.pushed)
 
 pub returns-then-group-clause-low : goal.returns-then-group-clause-low
 returns-then-group-clause-low c =
     let bottom = c.of.ensures.bottom in
-    let low : c.of.result.bottom ≤ 2 ^ 43 = omega (arith, bottom, c.height.ensures.below, c.requires.below.closed) in
-    pushed_low c.args.page_just c.of.result c.args.lines.now c.push.new.self c.push.ensures low
+    let low : c.of.result.bottom ≤ 2 ^ 43 = omega (arith, bottom, c.height.ensures.below, c.requires.below.group.closed) in
+    pushed_low c.args.area.now.present c.of.result c.args.lines.now c.push.new.self c.push.ensures.pushed low
 
-pub returns-else-group-clause-counted : goal.returns-else-group-clause-counted
-returns-else-group-clause-counted c = λ spots placing sum table. group_closed spots c.args.group.now _ sum table placing c.if-group.false
-
-pub of-requires-clause-narrow : goal.of-requires-clause-narrow
-of-requires-clause-narrow c =
-    let (spots, placing, sum, table, few, narrow, tall) = c.requires.room in
-    (after_last is_break spots, ap (λ (g : Group). g.line) sum, narrow)
-
-pub of-requires-clause-low : goal.of-requires-clause-low
-of-requires-clause-low c =
-    let (spots, placing, sum, table, few, narrow, tall) = c.requires.room in
-    omega (arith, tall, c.height.ensures.sum spots placing sum)
+pub returns-else-group-clause-known : goal.returns-else-group-clause-known
+returns-else-group-clause-known c = λ present spots later placing sum known.
+    let area = c.args.area.now in
+    let own = ap (λ (a : Area). a.present) sum in
+    known_later spots c.args.lines.now (area.present + 1) present (omega (arith, own)) (omega (arith, own, later)) (nothing_left spots area sum placing c.args.lines.now c.if-group.false known)

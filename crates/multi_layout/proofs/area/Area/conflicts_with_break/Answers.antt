@@ -4,4 +4,4 @@ use Rattle.multi_layout.proofs.AreaSumLemmas.{conflicts_break}
 use Rattle.multi_layout.proofs.area.Area.conflicts_with_break.Goals as goal
 
 pub returns : goal.returns
-returns c before s e g page = conflicts_break before s c.args.page_just c.args.self.now.most g page (ap (λ (a : Area). a.most) e)
+returns c before s e g page = conflicts_break before s c.args.page_just c.args.self.now.present g page (ap (λ (a : Area). a.present) e)

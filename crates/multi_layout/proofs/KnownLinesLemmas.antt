@@ -1,0 +1,207 @@
+-- The lines that the table has while an area is read.
+use Rattle.std.proofs.Common.{◌≡◌, ◌≢◌, ℕ, ◌+◌, ◌^◌, ◌<◌, ◌≤◌, Bool, true, false, cond, ◌==◌, inl, inr, length, List, [], ◌∷◌, ◌++◌, refl, sym, ap, subst, ◌∙◌, arith}
+use Rattle.std.specs.Prelude.{nat_lt, if◌then◌else◌}
+use Rattle.std.specs.List.{All, after_last, list_any}
+use Rattle.std.proofs.lemmas.Bool.{cases_eq, cases_lt, eq-eqb, le-ltb, lt-ltb, ne_eqb}
+use Rattle.std.proofs.lemmas.List.{length_push}
+use Rattle.std.proofs.lemmas.List.Elements.{All-push}
+use Rattle.multi_layout.specs.declared.area.Area.{Area}
+use Rattle.multi_layout.specs.declared.area.Group.{Group}
+use Rattle.multi_layout.specs.declared.table.CountedLine.{CountedLine}
+use Rattle.multi_layout.specs.declared.table.LineTable.{LineTable}
+use Rattle.multi_layout.specs.Address.{Spot, in_group, is_break, is_glyph, lines_of}
+use Rattle.multi_layout.specs.Line.{height_of}
+use Rattle.multi_layout.specs.Passes.{HasCounted, HasKnown, HasRoom, IsLow, known_lines}
+use Rattle.multi_layout.specs.Sums.{IsPlacing, area_sum, ended_lines, group_sum}
+use Rattle.multi_layout.specs.Table.{IsOrdered, group_lines, table_of}
+use Rattle.multi_layout.specs.Words.{largest}
+use Rattle.multi_layout.proofs.AreaSumLemmas.{group_behind, group_of_own, in_group_other}
+use Rattle.multi_layout.proofs.GroupSumLemmas.{own_group, placing_group}
+use Rattle.multi_layout.proofs.PlaceLemmas.{ended_most}
+use Rattle.multi_layout.proofs.SplitLemmas.{all_groups, each_group}
+use Rattle.multi_layout.proofs.TableLemmas.{ended_break, ended_glyph, lines_closed, lines_open, open_entry, table_break, table_length, table_open}
+
+-- ONE MORE LINE
+
+-- a line is put behind those of the group with a page justification
+abbrev pub Pushed : ℕ → CountedLine → LineTable → LineTable → Type 0
+Pushed page_just line old new = (just : ℕ) → (2 ≤ just) × (just ≤ 4) → group_lines just new ≡ (if just == page_just then group_lines just old ++ line ∷ [] else group_lines just old)
+
+low_if : (b : Bool) (lines : List CountedLine) (line : CountedLine) → All (λ l. l.bottom ≤ 2 ^ 43) lines → line.bottom ≤ 2 ^ 43 → All (λ l. l.bottom ≤ 2 ^ 43) (if b then lines ++ line ∷ [] else lines)
+low_if true lines line all low = All-push (λ l. l.bottom ≤ 2 ^ 43) lines line all low
+low_if false lines line all low = all
+
+module _ (page_just : ℕ) (line : CountedLine) (old new : LineTable) (pushed : Pushed page_just line old new) where
+  -- its own group has it
+  pushed_own : 2 ≤ page_just → page_just ≤ 4 → group_lines page_just new ≡ group_lines page_just old ++ line ∷ []
+  pushed_own least most = pushed page_just (least, most) ∙ ap (λ b. if b then group_lines page_just old ++ line ∷ [] else group_lines page_just old) (eq-eqb page_just page_just refl)
+
+  -- the others stay
+  pushed_other : (just : ℕ) → 2 ≤ just → just ≤ 4 → just ≢ page_just → group_lines just new ≡ group_lines just old
+  pushed_other just least most other = pushed just (least, most) ∙ ap (λ b. if b then group_lines just old ++ line ∷ [] else group_lines just old) (ne_eqb just page_just other)
+
+  -- and no sum overflows
+  pub pushed_low : line.bottom ≤ 2 ^ 43 → IsLow old → IsLow new
+  pushed_low low all just least most = subst (All (λ l. l.bottom ≤ 2 ^ 43)) (sym (pushed just (least, most))) (low_if (just == page_just) (group_lines just old) line (all just least most) low)
+
+-- KNOWN LINES
+
+module _ (present just : ℕ) (area : List Spot) where
+  known_before : just < present → known_lines present just area ≡ lines_of (in_group just area)
+  known_before less = ap (λ b. cond b (lines_of (in_group just area)) (ended_lines (in_group just area))) (lt-ltb just present less)
+
+  known_from : present ≤ just → known_lines present just area ≡ ended_lines (in_group just area)
+  known_from most = ap (λ b. cond b (lines_of (in_group just area)) (ended_lines (in_group just area))) (le-ltb just present most)
+
+  -- a group without items has none
+  pub known_none : in_group just area ≡ [] → known_lines present just area ≡ []
+  known_none none = ap (λ l. cond (nat_lt just present) (lines_of l) (ended_lines l)) none ∙ either (nat_lt just present)
+    where
+      either : (b : Bool) → cond b (lines_of []) (ended_lines []) ≡ []
+      either true = refl
+      either false = refl
+
+  -- no more are known than there are
+  known_most : length (known_lines present just area) ≤ length (lines_of (in_group just area))
+  known_most = elim (cases_lt just present) [
+    | inl less ↦ omega (arith, ap length (known_before less))
+    | inr most ↦ omega (arith, ap length (known_from most), ended_most (in_group just area))
+  ]
+
+  -- an item of another group changes none
+  known_other : (s : Spot) → (s.at.page_just ≡ just → ⊥) → known_lines present just (area ++ s ∷ []) ≡ known_lines present just area
+  known_other s other = ap (λ l. cond (nat_lt just present) (lines_of l) (ended_lines l)) (in_group_other just area s other)
+
+module _ (area : List Spot) (table : LineTable) where
+  -- behind the groups that have items it doesn't matter which is the present one
+  pub known_later : (n m : ℕ) → largest (λ (t : Spot). t.at.page_just) area < n → largest (λ (t : Spot). t.at.page_just) area < m → HasKnown n area table → HasKnown m area table
+  known_later n m first second has just low high =
+      has just low high ∙ ap table_of (elim (cases_lt (largest (λ (t : Spot). t.at.page_just) area) just) [
+        | inl behind ↦ known_none n just area (group_behind just area behind) ∙ sym (known_none m just area (group_behind just area behind))
+        | inr within ↦ known_before n just area (omega arith) ∙ sym (known_before m just area (omega arith))
+      ])
+
+  -- behind them all, all lines are known
+  pub counted_at_end : (n : ℕ) → largest (λ (t : Spot). t.at.page_just) area < n → largest (λ (t : Spot). t.at.page_just) area ≤ 4 → HasKnown n area table → HasCounted area table
+  counted_at_end n first known has just low high = known_later n 5 first (omega arith) has just low high ∙ ap table_of (known_before 5 just area (omega arith))
+
+  -- the groups behind have no lines
+  pub behind_empty : (present : ℕ) → largest (λ (t : Spot). t.at.page_just) area ≤ present → 2 ≤ present → HasKnown present area table → (just : ℕ) → present < just → just ≤ 4 → group_lines just table ≡ []
+  behind_empty present on some has just behind high = has just (omega arith) high ∙ ap table_of (known_none present just area (group_behind just area (omega arith)))
+
+  -- how many the table has
+  table_count : (present : ℕ) → IsOrdered table → HasKnown present area table → length table.lines.items ≡ length (known_lines present 2 area) + length (known_lines present 3 area) + length (known_lines present 4 area)
+  table_count present ordered has =
+      let count = λ (just : ℕ) (low : 2 ≤ just) (high : just ≤ 4). ap length (has just low high) ∙ table_length (known_lines present just area) in
+      omega (arith, all_groups table ordered, count 2 (omega arith) (omega arith), count 3 (omega arith) (omega arith), count 4 (omega arith) (omega arith))
+
+-- a sum over the groups is less where one group's is
+less_total : (f g : ℕ → ℕ) (p : ℕ) → 2 ≤ p → p ≤ 4 → f 2 ≤ g 2 → f 3 ≤ g 3 → f 4 ≤ g 4 → f p < g p → f 2 + f 3 + f 4 < g 2 + g 3 + g 4
+less_total f g p low high two three four = each_group (λ p. f p < g p → f 2 + f 3 + f 4 < g 2 + g 3 + g 4) (λ h. omega arith) (λ h. omega arith) (λ h. omega arith) p low high
+
+-- THE LAST LINE OF THE PRESENT GROUP
+
+module _ (area : List Spot) (a : Area) (e : a ≡ area_sum area) where
+  present_is : a.present ≡ largest (λ (t : Spot). t.at.page_just) area
+  present_is = ap (λ (a : Area). a.present) e
+
+  group_is : a.group ≡ group_sum (in_group a.present area)
+  group_is = group_of_own area a e a.present refl
+
+  any_is : (b : Bool) → a.group.line.any ≡ b → list_any is_glyph (after_last is_break (in_group a.present area)) ≡ b
+  any_is b any = ap (λ (g : Group). g.line.any) (sym group_is) ∙ any
+
+  -- where it has none, its lines are known
+  pub nothing_left : All IsPlacing area → (old : LineTable) → a.group.line.any ≡ false → HasKnown a.present area old → HasKnown (a.present + 1) area old
+  nothing_left placing old none has just low high =
+      has just low high ∙ ap table_of (elim (cases_eq just a.present) [
+        | inl own ↦
+            known_from a.present just area (omega arith)
+            ∙ sym (lines_closed (in_group just area) (placing_group just area placing) (ap (λ n. list_any is_glyph (after_last is_break (in_group n area))) own ∙ any_is false none))
+            ∙ sym (known_before (a.present + 1) just area (omega arith))
+        | inr other ↦ elim (cases_lt just a.present) [
+          | inl less ↦ known_before a.present just area less ∙ sym (known_before (a.present + 1) just area (omega arith))
+          | inr more ↦ let behind = group_behind just area (omega (arith, present_is, more, other)) in known_none a.present just area behind ∙ sym (known_none (a.present + 1) just area behind)
+        ]
+      ])
+
+  module _ (some : a.group.line.any ≡ true) (low : 2 ≤ a.present) (high : a.present ≤ 4) (old : LineTable) (has : HasKnown a.present area old) where
+    -- with it they are known
+    pub last_known : (new : LineTable) (line : CountedLine) → line ≡ open_entry (in_group a.present area) (height_of (lines_of (in_group a.present area))) → Pushed a.present line old new → HasKnown (a.present + 1) area new
+    last_known new line is pushed just least most = elim (cases_eq just a.present) [
+      | inl own ↦
+          let spots = in_group a.present area in
+          let here : group_lines a.present new ≡ table_of (lines_of spots) =
+          pushed_own a.present line old new pushed low high
+          ∙ ap (λ l. l ++ line ∷ []) (has a.present low high ∙ ap table_of (known_from a.present a.present area (omega arith)))
+          ∙ ap (λ (entry : CountedLine). table_of (ended_lines spots) ++ entry ∷ []) is
+          ∙ sym (table_open spots (any_is true some)) in
+          ap (λ n. group_lines n new) own ∙ here ∙ ap (λ n. table_of (lines_of (in_group n area))) (sym own) ∙ ap table_of (sym (known_before (a.present + 1) just area (omega arith)))
+      | inr other ↦
+          pushed_other a.present line old new pushed just least most other ∙ has just least most ∙ ap table_of (elim (cases_lt just a.present) [
+            | inl less ↦ known_before a.present just area less ∙ sym (known_before (a.present + 1) just area (omega arith))
+            | inr more ↦ let behind = group_behind just area (omega (arith, present_is, more, other)) in known_none a.present just area behind ∙ sym (known_none (a.present + 1) just area behind)
+          ])
+    ]
+
+    -- there is room for it
+    pub last_room : IsOrdered old → HasRoom area → length old.lines.items < 128
+    last_room ordered room =
+        let f = λ (just : ℕ). length (known_lines a.present just area) in
+        let g = λ (just : ℕ). length (lines_of (in_group just area)) in
+        let spots = in_group a.present area in
+        let less : f a.present < g a.present =
+        omega (arith, ap length (known_from a.present a.present area (omega arith)), ap length (lines_open spots (any_is true some)), length_push (ended_lines spots) (after_last is_break spots)) in
+        omega (arith, room, table_count area old a.present ordered has, less_total f g a.present low high (known_most a.present 2 area) (known_most a.present 3 area) (known_most a.present 4 area) less)
+
+-- ONE MORE ITEM OF THE PRESENT GROUP
+
+module _ (present : ℕ) (area : List Spot) (s : Spot) (at : s.at.page_just ≡ present) where
+  -- a character ends no line
+  pub glyph_known : (table : LineTable) → is_glyph s ≡ true → HasKnown present area table → HasKnown present (area ++ s ∷ []) table
+  glyph_known table glyph has just least most =
+      has just least most ∙ ap table_of (sym (elim (cases_eq just present) [
+        | inl own ↦
+            known_from present just (area ++ s ∷ []) (omega arith)
+            ∙ ap ended_lines (own_group just area s (at ∙ sym own))
+            ∙ ended_glyph (in_group just area) s glyph
+            ∙ sym (known_from present just area (omega arith))
+        | inr other ↦ known_other present just area s (λ h. other (sym h ∙ at))
+      ]))
+
+  module _ (breaks : is_break s ≡ true) (low : 2 ≤ present) (high : present ≤ 4) (old : LineTable) (has : HasKnown present area old) where
+    -- an `nl` ends the open line of its group
+    pub break_known : (after : Group) (line : CountedLine) (new : LineTable) → after ≡ group_sum (in_group present (area ++ s ∷ []))
+        → line ≡ open_entry (in_group present area) after.closed → Pushed present line old new → HasKnown present (area ++ s ∷ []) new
+    break_known after line new sum_after is pushed just least most = elim (cases_eq just present) [
+      | inl own ↦ ap (λ n. group_lines n new) own ∙ here ∙ ap (λ n. table_of (known_lines present n (area ++ s ∷ []))) (sym own)
+      | inr other ↦ pushed_other present line old new pushed just least most other ∙ has just least most ∙ ap table_of (sym (known_other present just area s (λ h. other (sym h ∙ at))))
+    ]
+      where
+        here : group_lines present new ≡ table_of (known_lines present present (area ++ s ∷ []))
+        here =
+            let g = in_group present area in
+            let own : in_group present (area ++ s ∷ []) ≡ g ++ s ∷ [] = own_group present area s at in
+            let bottom : after.closed ≡ height_of (ended_lines (g ++ s ∷ [])) = ap (λ (g : Group). g.closed) sum_after ∙ ap (λ l. height_of (ended_lines l)) own in
+            let entry : line ≡ open_entry g (height_of (ended_lines (g ++ s ∷ []))) = is ∙ ap (open_entry g) bottom in
+            pushed_own present line old new pushed low high
+            ∙ ap (λ l. l ++ line ∷ []) (has present low high ∙ ap table_of (known_from present present area (omega arith)))
+            ∙ ap (λ (e : CountedLine). table_of (ended_lines g) ++ e ∷ []) entry
+            ∙ sym (table_break g s breaks)
+            ∙ ap (λ l. table_of (ended_lines l)) (sym own)
+            ∙ ap table_of (sym (known_from present present (area ++ s ∷ []) (omega arith)))
+
+    -- before it there is room for that line
+    pub break_room : IsOrdered old → HasRoom (area ++ s ∷ []) → length old.lines.items < 128
+    break_room ordered room =
+        let f = λ (just : ℕ). length (known_lines present just area) in
+        let g = λ (just : ℕ). length (lines_of (in_group just (area ++ s ∷ []))) in
+        let spots = in_group present area in
+        let more : length (lines_of (in_group present (area ++ s ∷ []))) ≡ length (lines_of (spots ++ s ∷ [])) = ap (λ l. length (lines_of l)) (own_group present area s at) in
+        let ended = ap length (ended_break spots s breaks) ∙ length_push (ended_lines spots) (after_last is_break spots ++ s ∷ []) in
+        let less : f present < g present = omega (arith, ap length (known_from present present area (omega arith)), more, ended, ended_most (spots ++ s ∷ [])) in
+        let each : (just : ℕ) → f just ≤ g just = λ just. elim (cases_eq just present) [
+          | inl own ↦ subst (λ n. f n ≤ g n) (sym own) (omega (arith, less))
+          | inr other ↦ omega (arith, known_most present just area, ap (λ l. length (lines_of l)) (in_group_other just area s (λ h. other (sym h ∙ at))))
+        ] in
+        omega (arith, room, table_count area old present ordered has, less_total f g present low high (each 2) (each 3) (each 4) less)
