@@ -1,5 +1,5 @@
 -- Items and their spelling (NTCIP 1203 v03, MULTI: characters, tags and the doubled brackets).
-use Rattle.std.specs.Prelude.{⊤, ◌≡◌, ◌≢◌, ℕ, ◌==◌, Bool, ◌||◌, List, [], ◌∷◌, ◌++◌, if◌then◌else◌}
+use Rattle.std.specs.Prelude.{⊤, ◌≡◌, ◌≢◌, ℕ, ◌==◌, Bool, ◌||◌, List, [], ◌∷◌, ◌++◌, if◌then◌else◌, ◌⊎◌, Option, IfSome, slice_get}
 use Rattle.std.specs.List.{flat_map, All}
 
 -- a character by its number, or a tag by its body; the characters of a string of octets are 0 to 255
@@ -10,6 +10,10 @@ pub data Item : Type 0 where
 -- an octet that is neither `[` nor `]`
 abbrev pub IsPlain : ℕ → Type 0
 IsPlain octet = (octet ≢ 91) × (octet ≢ 93)
+
+-- octets without brackets end at this offset, by a bracket or by the end of the string
+abbrev pub IsEndedBy : List ℕ → ℕ → Option ℕ → Type 0
+IsEndedBy octets at ending = (ending ≡ slice_get octets at) × IfSome ending (λ octet. (octet ≡ 91) ⊎ (octet ≡ 93))
 
 -- the body of a tag is one or more octets without brackets
 abbrev pub IsBody : List ℕ → Type 0

@@ -4,7 +4,7 @@
 //! spells the character of its number, `[[` and `]]` spell the characters 91 and 93, and a tag is one or more octets
 //! without brackets between `[` and `]`.
 //!
-//! [`Source`] gives its octets one at a time, and counts each read. There is no other way to them. [`next_token`] gives the
+//! [`Source`] gives its octets one at a time, or those up to a bracket at once, and counts each. There is no other way to them. [`next_token`] gives the
 //! one item that is spelled at an offset, and [`rest_of_token`] does so where its first octet was read already.
 #![tactic(auto)]
 

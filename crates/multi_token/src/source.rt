@@ -1,9 +1,9 @@
 //! Octets that are reached by counted reads alone.
 
-ghost use Rattle.std.specs.Prelude.{◌≡◌, ◌+◌, ◌-◌, ◌^◌, ◌<◌, ◌≤◌, ◌⊎◌, length, slice_get, slice_range, IfSome};
+ghost use Rattle.std.specs.Prelude.{◌≡◌, ◌+◌, ◌^◌, ◌<◌, ◌≤◌, ◌⊎◌, length, slice_get, slice_range, take, IfSome, None};
 ghost use Rattle.std.specs.List.{All};
 ghost use Rattle.multi_token.specs.Counted.{charged};
-ghost use Rattle.multi_token.specs.Spelling.{IsPlain};
+ghost use Rattle.multi_token.specs.Spelling.{IsEndedBy, IsPlain};
 
 use std::marker::Model;
 use step_count::raised;
@@ -46,20 +46,29 @@ impl<'a> Source<'a> {
         self.octets.get(at).copied()
     }
 
-    /// Where the first bracket from an offset on stands, with that octet, or the end. This takes a step for each octet from
-    /// the offset to there, with that octet or the end.
-    pub(crate) fn find_bracket(&mut self, from: usize) -> (usize, Option<u8>)
+    /// The octets without brackets from an offset on, at most `most` of them, and the octet that ends them: a bracket, or
+    /// `None` at the end. Each octet that is handed out takes one step, and so does the octet or the end that ends them.
+    /// Where there are `most`, nothing behind them is read, and the answer is `None`.
+    pub fn read_plain(&mut self, from: usize, most: usize) -> (&'a [u8], Option<u8>)
         requires start { from ≤ length self.old.octets }
-        requires room { length self.old.octets < 2 ^ 63 }
-        ensures range { (from ≤ result.0) × (result.0 ≤ length self.old.octets) }
-        ensures plain { All IsPlain (slice_range self.old.octets from result.0) }
-        ensures stop { result.1 ≡ slice_get self.old.octets result.0 }
-        ensures bracket { IfSome result.1 (λ octet. (octet ≡ 91) ⊎ (octet ≡ 93)) }
-        ensures steps { self.new ≡ charged self.old (result.0 - from + 1) }
+        ensures few { length result.0.now ≤ most }
+        ensures within { from + length result.0.now ≤ length self.old.octets }
+        ensures octets { result.0.now ≡ slice_range self.old.octets from (from + length result.0.now) }
+        ensures plain { All IsPlain result.0.now }
+        ensures ended { length result.0.now < most → IsEndedBy self.old.octets (from + length result.0.now) result.1
+            × (self.new ≡ charged self.old (length result.0.now + 1)) }
+        ensures whole { length result.0.now ≡ most → (result.1 ≡ None) × (self.new ≡ charged self.old most) }
+        // a slice is no longer than this
+        ensures room { length self.old.octets < 2 ^ 63 }
     {
-        let end = bracket_from(self.octets, from);
-        self.charge((end - from + 1) as u64);
-        (end, self.octets.get(end).copied())
+        let behind = &self.octets[from..];
+        let len = plain_front(behind, most);
+        if len == most {
+            self.charge(most as u64);
+            return (&behind[..len], None);
+        }
+        self.charge(len as u64 + 1);
+        (&behind[..len], behind.get(len).copied())
     }
 
     /// The number of octets.
@@ -84,16 +93,17 @@ impl<'a> Source<'a> {
     }
 }
 
-/// The offset of the first bracket from an offset on, or of the end. Whoever calls this counts the octets that it looks at.
-fn bracket_from(octets: &[u8], from: usize) -> usize
-    requires start { from ≤ length octets.now }
-    ensures range { (from ≤ result) × (result ≤ length octets.now) }
-    ensures plain { All IsPlain (slice_range octets.now from result) }
-    ensures bracket { IfSome (slice_get octets.now result) (λ octet. (octet ≡ 91) ⊎ (octet ≡ 93)) }
+/// How many octets at the front are no brackets, at most `most`. Whoever calls this counts the octets that it looks at.
+fn plain_front(octets: &[u8], most: usize) -> usize
+    ensures within { result ≤ length octets.now }
+    ensures few { result ≤ most }
+    ensures plain { All IsPlain (take result octets.now) }
+    ensures ended { result < most → IsEndedBy octets.now result (slice_get octets.now result) }
 {
-    let mut end = from;
-    while end < octets.len() && octets[end] != b'[' && octets[end] != b']' {
-        end += 1;
+    let end = octets.len().min(most);
+    let mut len = 0;
+    while len < end && octets[len] != b'[' && octets[len] != b']' {
+        len += 1;
     }
-    end
+    len
 }

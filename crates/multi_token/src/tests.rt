@@ -102,6 +102,26 @@ fn a_token_goes_on_behind_its_first_octet(rt: HostRuntime) {
 }
 
 #[test]
+fn plain_octets_are_read_up_to_a_bracket_or_a_number_of_them(rt: HostRuntime) {
+    let rows: [(usize, usize, &[u8], Option<u8>, u64); 8] = [
+        (0, usize::MAX, b"AB", Some(b'['), 3),
+        (1, usize::MAX, b"B", Some(b'['), 2),
+        (2, usize::MAX, b"", Some(b'['), 1),
+        (3, usize::MAX, b"np", Some(b']'), 3),
+        (3, 2, b"np", None, 2),
+        (3, 1, b"n", None, 1),
+        (6, 9, b"C", None, 2),
+        (7, 0, b"", None, 0),
+    ];
+    for (from, most, octets, ending, steps) in rows {
+        let mut source = Source::new(b"AB[np]C");
+        let found = source.read_plain(from, most);
+        assert_eq!(rt; found, (octets, ending), "from {from}");
+        assert_eq!(rt; source.steps(), steps, "from {from}");
+    }
+}
+
+#[test]
 fn a_count_stays_at_the_largest_number(rt: HostRuntime) {
     let mut source = Source::new(b"AB");
     assert_eq!(rt; source.len(), 2);

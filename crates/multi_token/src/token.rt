@@ -99,12 +99,13 @@ fn open_bracket(source: &mut Source<'_>, at: usize) -> Result<Token, TokenFault>
     ensures fault { IfErr result (λ f.
         (f.at ≡ at) × HasNoItem (drop at source.old.octets) × RisesBetween source.old source.new 0 (length source.old.octets - at)) }
 {
-    let (end, bracket) = source.find_bracket(at + 1);
-    match bracket {
-        Some(b'[') if end == at + 1 => Ok(doubled_bracket(at, b'[')),
-        Some(b']') if end > at + 1 => Ok(Token {
+    let (body, ending) = source.read_plain(at + 1, usize::MAX);
+    let len = body.len();
+    match ending {
+        Some(b'[') if len == 0 => Ok(doubled_bracket(at, b'[')),
+        Some(b']') if len > 0 => Ok(Token {
             at,
-            len: end + 1 - at,
+            len: len + 2,
             kind: Kind::Tag,
         }),
         _ => Err(TokenFault { at }),
