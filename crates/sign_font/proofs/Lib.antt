@@ -8,3 +8,4 @@ pub mod PlaceLemmas
 pub mod RisingLemmas
 pub mod SampleLemmas
 pub mod SoundLemmas
+pub mod TextLemmas

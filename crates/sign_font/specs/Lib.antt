@@ -6,3 +6,4 @@ pub mod Limits
 pub mod Sample
 pub mod Sign
 pub mod Sound
+pub mod Text

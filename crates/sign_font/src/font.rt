@@ -1,12 +1,14 @@
 //! A font, as a sign keeps it and as it is asked for.
 
-ghost use Rattle.std.specs.Prelude.{◌≡◌, ℕ, IfOk, IfSome, option_map};
+ghost use Rattle.std.specs.Prelude.{◌≡◌, ◌≤◌, ℕ, IfErr, IfOk, IfSome, option_map};
 ghost use Rattle.sign_font.specs.Sign.{font_of, info_of, cell_numbered, sized};
 ghost use Rattle.sign_font.specs.Sound.{IsSoundFont, IsSoundSize, IsWithin};
+ghost use Rattle.sign_font.specs.Text.{HasWidth, IsTextFault, width_numbered};
 
 use crate::cell::{Cell, Glyph};
 use crate::glyphs::Glyphs;
 use crate::parts::FontPart;
+use crate::text::TextFault;
 use std::alloc::{AllocError, Global};
 use std::marker::Model;
 
@@ -98,5 +100,26 @@ impl Font {
     {
         let width = self.glyphs.width(octet);
         if width == 0 { None } else { Some(width) }
+    }
+
+    /// The width of a text with this gap before each of its characters, if it has one within the room.
+    pub(crate) fn text_width(&self, text: &[u8], gap: u8, room: u64) -> Result<u64, TextFault>
+        ensures width { IfOk result (λ width. HasWidth (width_numbered self.now) gap text.now width × (width ≤ room)) }
+        ensures fault { IfErr result (IsTextFault (width_numbered self.now) gap room text.now) }
+    {
+        let mut left = room;
+        let mut at = 0;
+        while at < text.len() {
+            let Some(width) = self.cell_width(text[at]) else {
+                return Err(TextFault::Undefined(at));
+            };
+            let advance = u64::from(gap) + u64::from(width);
+            if advance > left {
+                return Err(TextFault::TooWide(at));
+            }
+            left -= advance;
+            at += 1;
+        }
+        Ok(room - left)
     }
 }

@@ -3,8 +3,8 @@
 //! A sign is made from [`SignParts`], the numbers of a file that somebody wrote by hand. If they are outside a limit,
 //! [`Sign::new`] refuses them with the first [`SignFault`]. An accepted [`Sign`] is exactly what was written.
 //!
-//! Only [`Sign::font`], [`Sign::cell`] and [`Sign::cell_width`] look up its fonts and their cells, and each call counts as
-//! one step.
+//! Only [`Sign::font`], [`Sign::cell`], [`Sign::cell_width`] and [`Sign::text_width`] look up its fonts and their cells, and
+//! each look counts as one step.
 #![tactic(auto)]
 
 mod bits;
@@ -17,6 +17,7 @@ mod limits;
 mod parts;
 mod sample;
 mod sign;
+mod text;
 
 pub use cell::Cell;
 pub use fault::{DefaultFault, SignFault};
@@ -24,6 +25,7 @@ pub use font::FontInfo;
 pub use parts::{CellPart, Defaults, FontPart, SignParts};
 pub use sample::sample_sign;
 pub use sign::Sign;
+pub use text::TextFault;
 
 #[cfg(test)]
 mod tests;

@@ -1,12 +1,13 @@
 //! A sign, which is made once and never changes.
 
-ghost use Rattle.std.specs.Prelude.{◌≡◌, ℕ, ◌≤◌, All, Any, IfOk, IfErr, IfSome, IfNone, OnOk, None, map, option_map};
+ghost use Rattle.std.specs.Prelude.{◌≡◌, ℕ, ◌+◌, ◌≤◌, All, Any, length, IfOk, IfErr, IfSome, IfNone, OnOk, None, map, option_map};
 ghost use Rattle.std.specs.Option.{option_copied};
 ghost use Rattle.multi_token.specs.Counted.{charged};
 ghost use Rattle.sign_font.specs.Sign.{sign_of, font_of, font_numbered, info_of, cell_in, tallest};
 ghost use Rattle.sign_font.specs.Defaults.{default_fault, under};
 ghost use Rattle.sign_font.specs.Limits.{first_fault};
 ghost use Rattle.sign_font.specs.Sound.{IsSound, IsSoundFont, IsSoundSize, IsWithin};
+ghost use Rattle.sign_font.specs.Text.{HasWidth, IsTextFault, place_of, width_in};
 
 use crate::cell::Cell;
 use crate::fault::{DefaultFault, SignFault};
@@ -14,14 +15,15 @@ use crate::font::{Font, FontInfo};
 use crate::fonts::Fonts;
 use crate::limits::{are_known, first_fault};
 use crate::parts::{Defaults, FontPart, SignParts};
+use crate::text::TextFault;
 use multi_token::Source;
 use std::alloc::{AllocError, Global};
 use std::marker::Model;
 
 /// A sign within its limits, with its fonts (own).
 ///
-/// Only `font`, `cell` and `cell_width` look up its fonts and their cells, and each call counts as one step. All other calls
-/// take no step.
+/// Only `font`, `cell`, `cell_width` and `text_width` look up its fonts and their cells, and each look counts as one step. All
+/// other calls take no step.
 #[derive(Drop)]
 pub struct Sign {
     width: u16,
@@ -219,6 +221,49 @@ impl Sign {
         ensures sound { IsSound self.now }
     {
         self.probe(source, font)?.cell_width(octet)
+    }
+
+    /// The width in pixels of a text, with this gap before each of its characters, by the cells of its octets in the font of a
+    /// number. The fault tells the first octet that has no cell, or with which the text is wider than the room.
+    ///
+    /// Each cell that is looked up takes one step. None is looked up behind a fault.
+    pub fn text_width(
+        &self,
+        source: &mut Source<'_>,
+        font: u8,
+        text: &[u8],
+        gap: u8,
+        room: u64,
+    ) -> Result<u64, TextFault>
+        ensures width { IfOk result (λ width. HasWidth (width_in self.now font) gap text.now width × (width ≤ room)) }
+        ensures fault { IfErr result (IsTextFault (width_in self.now font) gap room text.now) }
+        ensures steps { OnOk result (source.new ≡ charged source.old (length text.now)) }
+        ensures fault_steps { IfErr result (λ fault. source.new ≡ charged source.old (place_of fault + 1)) }
+        ensures sound { IsSound self.now }
+    {
+        match self.width_of(font, text, gap, room) {
+            Ok(width) => {
+                source.charge(text.len() as u64);
+                Ok(width)
+            }
+            Err(fault) => {
+                source.charge(fault.at() as u64 + 1);
+                Err(fault)
+            }
+        }
+    }
+
+    /// The width of a text, for no step: whoever calls this counts.
+    fn width_of(&self, font: u8, text: &[u8], gap: u8, room: u64) -> Result<u64, TextFault>
+        ensures width { IfOk result (λ width. HasWidth (width_in self.now font) gap text.now width × (width ≤ room)) }
+        ensures fault { IfErr result (IsTextFault (width_in self.now font) gap room text.now) }
+        ensures sound { IsSound self.now }
+    {
+        match self.find_font(font) {
+            Some(font) => font.text_width(text, gap, room),
+            None if text.is_empty() => Ok(0),
+            None => Err(TextFault::Undefined(0)),
+        }
     }
 
     /// The font of a number, for one step.

@@ -1,5 +1,7 @@
 use crate::sample::sample_sign;
-use crate::{CellPart, DefaultFault, Defaults, FontInfo, FontPart, Sign, SignFault, SignParts};
+use crate::{
+    CellPart, DefaultFault, Defaults, FontInfo, FontPart, Sign, SignFault, SignParts, TextFault,
+};
 use multi_token::Source;
 use std::alloc::{AllocError, Global};
 use std::test::Fail;
@@ -172,6 +174,30 @@ fn rows_are_those_of_the_cell_from_the_top(rt: HostRuntime) -> Result<(), Fail> 
         0b1001 << 60,
     ];
     assert_eq!(rt; large.rows(), rows.as_slice());
+    Ok(())
+}
+
+#[test]
+fn a_text_is_as_wide_as_its_cells_and_gaps(rt: HostRuntime) -> Result<(), Fail> {
+    let sign = Sign::new(rt.alloc(), with_widths(rt.alloc())?)?;
+    // in font 2 an A is 2 columns wide and a B is 3; there is no octet 0, and no font 9
+    let rows: [(u8, &[u8], u8, u64, Result<u64, TextFault>, u64); 9] = [
+        (2, b"", 5, 0, Ok(0), 0),
+        (2, b"AB", 1, 7, Ok(7), 2),
+        (2, b"AB", 1, 900, Ok(7), 2),
+        (2, b"AB", 1, 6, Err(TextFault::TooWide(1)), 2),
+        (2, b"AB", 1, 2, Err(TextFault::TooWide(0)), 1),
+        (2, b"A\0B", 0, 9, Err(TextFault::Undefined(1)), 2),
+        (2, b"AA\0", 0, 3, Err(TextFault::TooWide(1)), 2),
+        (9, b"", 0, 0, Ok(0), 0),
+        (9, b"AB", 0, 9, Err(TextFault::Undefined(0)), 1),
+    ];
+    for (font, text, gap, room, width, steps) in rows {
+        let mut source = Source::new(b"");
+        let found = sign.text_width(&mut source, font, text, gap, room);
+        assert_eq!(rt; found, width, "of {text:?}");
+        assert_eq!(rt; source.steps(), steps, "over {text:?}");
+    }
     Ok(())
 }
 
