@@ -127,12 +127,7 @@ area_lengthened xs s area page width count e glyph own present line =
 pub run_stays : (state : State) (gap room width count : ℕ) → IsRun state gap room → IsRun (lengthened width count state) gap room
 run_stays state gap room width count run = record {
   group = run.group;
-  segment = run.segment;
-  parts = run.parts;
-  any = run.any;
-  height = run.height;
-  spacing = run.spacing;
-  last = run.last;
+  line = record { segment = run.line.segment; parts = run.line.parts; any = run.line.any; height = run.line.height; spacing = run.line.spacing; last = run.line.last };
   gap_is = run.gap_is;
   narrow = run.narrow;
   heights = run.heights;
@@ -182,8 +177,8 @@ module _ (sign : SignData) (items : List Meaning) (state : State) (st : IsStateO
   agrees before s sum glyph page line =
       let spots = after_last is_break (in_group state.area.present (area_of s before)) in
       let here : line_in_force state ≡ line_sum spots = own_line (area_of s before) state.area sum in
-      let present : largest (λ (t : Spot). t.at.line_just) spots ≡ state.attributes.line_just = sym (ap (λ (l : Line). l.present) here) ∙ run.segment in
-      let parts : list_any (λ (t : Spot). nat_lt t.at.line_just 5) spots ≡ nat_lt state.attributes.line_just 5 = sym (ap (λ (l : Line). l.has_parts) here) ∙ run.parts in
+      let present : largest (λ (t : Spot). t.at.line_just) spots ≡ state.attributes.line_just = sym (ap (λ (l : Line). l.present) here) ∙ run.line.segment in
+      let parts : list_any (λ (t : Spot). nat_lt t.at.line_just 5) spots ≡ nat_lt state.attributes.line_just 5 = sym (ap (λ (l : Line). l.has_parts) here) ∙ run.line.parts in
       let clash : list_any (clashes s) spots ≡ false =
       line_clashes spots s
       ∙ ap (λ n. nat_lt n (largest (λ (t : Spot). t.at.line_just) spots) || ((n == 5) && list_any (λ (t : Spot). nat_lt t.at.line_just 5) spots)) line
@@ -203,7 +198,7 @@ module _ (sign : SignData) (items : List Meaning) (state : State) (st : IsStateO
       let spots = after_last is_break (in_group state.attributes.page_just xs) in
       let here : line_in_force state ≡ line_sum spots = own_line xs state.area e ∙ ap (λ n. line_sum (after_last is_break (in_group n xs))) run.group in
       let grown = line_lengthened spots s seen (present_glyphs state.attributes.page_just xs placing) is (line_in_force state) here
-      run.segment run.parts run.any run.height run.spacing run.last gap run.gap_is in
+      run.line.segment run.line.parts run.line.any run.line.height run.line.spacing run.line.last gap run.gap_is in
       area_lengthened xs s state.area state.attributes.page_just ((line_in_force state).part.width + (gap + cell.width)) ((line_in_force state).part.count + 1) e is.glyph page run.group grown
 
   -- whether it fits
@@ -215,7 +210,7 @@ module _ (sign : SignData) (items : List Meaning) (state : State) (st : IsStateO
       let line = lengthened_line ((line_in_force state).part.width + (gap + cell.width)) ((line_in_force state).part.count + 1) (line_in_force state) in
       let same : line ≡ line_sum (after_last is_break (in_group s.at.page_just more)) = own_line more longer sum ∙ ap (λ n. line_sum (after_last is_break (in_group n more))) present in
       let room_left = run.room_is ((line_in_force state).part.width + (gap + cell.width)) ((line_in_force state).part.count + 1) (omega (arith, wide)) in
-      let fits_line = sym room_left ∙ kept_fits_is (after_last is_break (in_group s.at.page_just more)) line state.attributes.rectangle.width same (omega (arith, run.segment, st.line_just.1)) in
+      let fits_line = sym room_left ∙ kept_fits_is (after_last is_break (in_group s.at.page_just more)) line state.attributes.rectangle.width same (omega (arith, run.line.segment, st.line_just.1)) in
       let fits_area = sym run.heights ∙ kept_area_fits more longer state.attributes.rectangle.height (placing_character before s glyph) sum (omega (arith, st.below.known)) in
       sym (and_true (nat_le ((line_in_force state).part.width + (gap + cell.width)) room))
       ∙ fits_character before s s.at.page_just state.attributes.rectangle.width state.attributes.rectangle.height

@@ -1,6 +1,7 @@
 -- A run: characters behind one with the same attributes, which only lengthen their segment.
-use Rattle.std.specs.Prelude.{◌≡◌, ℕ, ◌+◌, ◌≤◌, Bool, true, ◌&&◌, ◌==◌, nat_le, nat_lt, Some, if◌then◌else◌}
+use Rattle.std.specs.Prelude.{◌≡◌, ℕ, ◌+◌, ◌≤◌, Bool, true, false, ◌&&◌, ◌==◌, nat_le, nat_lt, Some, if◌then◌else◌}
 use Rattle.std.specs.Option.{option_map_or, unwrap_or}
+use Rattle.sign_font.specs.declared.font.FontInfo.{FontInfo}
 use Rattle.multi_layout.specs.declared.area.Area.{Area}
 use Rattle.multi_layout.specs.declared.area.Group.{Group}
 use Rattle.multi_layout.specs.declared.line.Line.{Line}
@@ -26,6 +27,27 @@ kept_height group =
 abbrev pub kept_group_height : ℕ → Area → ℕ
 kept_group_height just area = if just == area.present then kept_height area.group else (if just == 2 then area.top else (if just == 3 then area.middle else 0))
 
+-- the groups of an area stand apart within a height, by what is kept of the area (own)
+abbrev pub kept_fits_height : ℕ → Area → Bool
+kept_fits_height height area = fit (kept_group_height 2 area) (kept_group_height 3 area) (kept_group_height 4 area) height
+
+-- by what is kept of a line, a character with a line justification may stand on it (own)
+abbrev pub IsOpen : ℕ → Line → Type 0
+IsOpen just line = (line.present ≤ just) × (just ≡ 5 → line.has_parts ≡ false)
+
+-- by what is kept of an area, a character with these justifications may stand in it (own)
+abbrev pub IsOpenArea : ℕ → ℕ → Area → Type 0
+IsOpenArea page_just just area = (area.present ≤ page_just) × (area.present ≡ page_just → IsOpen just area.group.line)
+
+-- the last character of a line has this line justification and font (own)
+pub record IsBehindOne (just : ℕ) (font : FontInfo) (line : Line) : Type 0 where
+  pub segment : line.present ≡ just
+  pub parts : line.has_parts ≡ nat_lt just 5
+  pub any : line.any ≡ true
+  pub height : font.height ≤ line.height
+  pub spacing : font.line_spacing ≤ line.spacing
+  pub last : line.part.last ≡ Some font.char_spacing
+
 -- a line whose present segment has this width and number of characters (own)
 abbrev pub lengthened_line : ℕ → ℕ → Line → Line
 lengthened_line width count line = record line { part = record line.part { width = width; count = count } }
@@ -46,17 +68,19 @@ lengthened width count state = record state { area = lengthened_area width count
 abbrev pub line_in_force : State → Line
 line_in_force state = state.area.group.line
 
+-- the last character was put into the present area with the attributes in force, and what is there fits (own)
+pub record IsBehindCharacter (state : State) : Type 0 where
+  pub group : state.area.present ≡ state.attributes.page_just
+  pub line : IsBehindOne state.attributes.line_just state.attributes.font (line_in_force state)
+  pub width : kept_fits state.attributes.rectangle.width (line_in_force state) ≡ true
+  pub height : kept_fits_height state.attributes.rectangle.height state.area ≡ true
+
 -- a character here has the attributes of the one before it, so that it only lengthens their segment: by its width and this gap,
 -- and it fits where the segment then has at most so much room (own)
 pub record IsRun (state : State) (gap room : ℕ) : Type 0 where
   pub group : state.area.present ≡ state.attributes.page_just
-  pub segment : (line_in_force state).present ≡ state.attributes.line_just
-  pub parts : (line_in_force state).has_parts ≡ nat_lt state.attributes.line_just 5
-  pub any : (line_in_force state).any ≡ true
-  pub height : state.attributes.font.height ≤ (line_in_force state).height
-  pub spacing : state.attributes.font.line_spacing ≤ (line_in_force state).spacing
-  pub last : (line_in_force state).part.last ≡ Some state.attributes.font.char_spacing
+  pub line : IsBehindOne state.attributes.line_just state.attributes.font (line_in_force state)
   pub gap_is : gap ≡ unwrap_or state.attributes.spacing state.attributes.font.char_spacing
   pub narrow : gap ≤ 255
-  pub heights : fit (kept_group_height 2 state.area) (kept_group_height 3 state.area) (kept_group_height 4 state.area) state.attributes.rectangle.height ≡ true
+  pub heights : kept_fits_height state.attributes.rectangle.height state.area ≡ true
   pub room_is : (width count : ℕ) → 1 ≤ width → kept_fits state.attributes.rectangle.width (lengthened_line width count (line_in_force state)) ≡ nat_le width room

@@ -7,7 +7,7 @@ ghost use Rattle.multi_layout.specs.Address.{Spot, is_glyph, is_break, area_of, 
 ghost use Rattle.multi_layout.specs.Fit.{area_fits, fit};
 ghost use Rattle.multi_layout.specs.Line.{average, height_of};
 ghost use Rattle.multi_layout.specs.Offence.{clashes, conflicts, too_big};
-ghost use Rattle.multi_layout.specs.Run.{kept_group_height, kept_height, lengthened_area};
+ghost use Rattle.multi_layout.specs.Run.{IsBehindOne, IsOpen, IsOpenArea, kept_fits, kept_fits_height, kept_group_height, kept_height, lengthened_area};
 ghost use Rattle.multi_layout.specs.Sums.{group_sum, area_sum, area_sum_in, IsPlacing, IsCharacter, IsBreak, IsGroupBelow, IsBelow};
 
 use crate::line::{Character, Line, gap_or_average, parts_fit};
@@ -70,6 +70,7 @@ impl Group {
             → IsCharacter s character.now → s.at.page_just ≡ just → list_any (clashes s) (after_last is_break (in_group just area)) ≡ false
             → self.new ≡ group_sum (in_group just (area ++ s ∷ [])) }
         ensures grows { (k : ℕ) → IsGroupBelow k self.old → IsGroupBelow (k + 1024) self.new }
+        ensures behind { IsOpen character.now.just self.old.line → IsBehindOne character.now.just character.now.font self.new.line }
     {
         self.line.add(character);
     }
@@ -138,6 +139,8 @@ impl Area {
             → IsCharacter s character.now → s.at.page_just ≡ page_just → self.old.present ≤ page_just
             → list_any (clashes s) (after_last is_break (in_group page_just area)) ≡ false → self.new ≡ area_sum (area ++ s ∷ []) }
         ensures grows { (k : ℕ) → IsBelow k self.old → IsBelow (k + 1024) self.new }
+        ensures behind { IsOpenArea page_just character.now.just self.old
+            → (self.new.present ≡ page_just) × IsBehindOne character.now.just character.now.font self.new.group.line }
     {
         self.go_on(page_just);
         self.group.add_character(character);
@@ -163,6 +166,7 @@ impl Area {
             → self.new ≡ area_sum_in page_just area }
         ensures grows { (k : ℕ) → IsBelow k self.old
             → (self.new.top ≤ k + 1024) × (self.new.middle ≤ k + 1024) × IsGroupBelow k self.new.group × (2 ≤ self.new.present) × (self.new.present ≤ 4) }
+        ensures may { (just : ℕ) → IsOpenArea page_just just self.old → (self.new.present ≡ page_just) × IsOpen just self.new.group.line }
     {
         if page_just <= self.present {
             return;
@@ -209,7 +213,8 @@ impl Area {
 
     /// Whether a character with these justifications conflicts with the items before it.
     pub(crate) fn conflicts_with_character(&self, page_just: u8, just: u8) -> bool
-        ensures { (before : List Spot) (s : Spot) → self.now ≡ area_sum (area_of s before) → is_glyph s ≡ true
+        ensures may { result ≡ false → IsOpenArea page_just just self.now }
+        ensures conflicts { (before : List Spot) (s : Spot) → self.now ≡ area_sum (area_of s before) → is_glyph s ≡ true
             → s.at.page_just ≡ page_just → s.at.line_just ≡ just → result ≡ conflicts before s }
     {
         (page_just < self.present) | ((page_just == self.present) & self.group.line.clashes(just))
@@ -226,7 +231,8 @@ impl Area {
     /// Whether the area fits a rectangle of this width and height in pixels, as far as its last item goes: a character.
     pub(crate) fn fits_with_character(&self, width: u16, height: u16) -> bool
         requires below { IsBelow (2 ^ 62 + 1024) self.now }
-        ensures { (before : List Spot) (s : Spot) → is_glyph s ≡ true → self.now ≡ area_sum (area_of s before ++ s ∷ [])
+        ensures kept { result ≡ true → (kept_fits width self.now.group.line ≡ true) × (kept_fits_height height self.now ≡ true) }
+        ensures fits { (before : List Spot) (s : Spot) → is_glyph s ≡ true → self.now ≡ area_sum (area_of s before ++ s ∷ [])
             → self.now.present ≡ s.at.page_just → s.at.rectangle.width ≡ width → s.at.rectangle.height ≡ height
             → result ≡ not (too_big before s) }
     {
@@ -254,7 +260,7 @@ impl Area {
         requires below { IsBelow (2 ^ 62 + 1024) self.now }
         ensures sum { (area : List Spot) → All IsPlacing area → self.now ≡ area_sum area
             → result ≡ area_fits height area }
-        ensures kept { result ≡ fit (kept_group_height 2 self.now) (kept_group_height 3 self.now) (kept_group_height 4 self.now) height }
+        ensures kept { result ≡ kept_fits_height height self.now }
     {
         parts_fit(
             self.height(2),

@@ -10,6 +10,7 @@ ghost use Rattle.multi_layout.specs.Codes.{code_of};
 ghost use Rattle.multi_layout.specs.Limits.{check_limit};
 ghost use Rattle.multi_layout.specs.Meaning.{Does, Faulty, Shows, meaning};
 ghost use Rattle.multi_layout.specs.KnownItem.{IsKnownItem, meant_by};
+ghost use Rattle.multi_layout.specs.Run.{IsBehindCharacter};
 ghost use Rattle.multi_layout.specs.State.{IsKnown, IsReady, IsStateOf, Judges};
 ghost use Rattle.multi_layout.specs.Verdict.{Accepted, IsCycle, IsVerdict, Refused};
 
@@ -85,7 +86,7 @@ pub(crate) fn judge_tag(
 }
 
 /// Judges a character: whether its font has a cell for it, and whether it may stand on its line and fits.
-fn judge_character(
+pub(crate) fn judge_character(
     sign: &Terms<'_>,
     state: &mut State,
     source: &mut Source<'_>,
@@ -93,6 +94,7 @@ fn judge_character(
 ) -> Result<(), SyntaxError>
     requires { IsReady state.old }
     ensures judged { Judges sign.now state.old (Shows number) result state.new }
+    ensures behind { OnOk result (IsBehindCharacter state.new) }
     ensures step { source.new ≡ charged source.old 1 }
 {
     let font = state.attributes.font.number;
@@ -107,6 +109,7 @@ fn judge_cell(state: &mut State, number: u8, cell: &Cell<'_>) -> Result<(), Synt
     requires { IsReady state.old }
     ensures judged { (sign : SignData) → cell_in sign state.old.attributes.font.number number ≡ Some cell.now
         → Judges sign state.old (Shows number) result state.new }
+    ensures behind { OnOk result (IsBehindCharacter state.new) }
 {
     let page_just = state.attributes.page_just;
     if state

@@ -7,7 +7,7 @@ ghost use Rattle.multi_layout.specs.Address.{Spot, is_glyph, segment};
 ghost use Rattle.multi_layout.specs.Fit.{fit, line_fits};
 ghost use Rattle.multi_layout.specs.Line.{average, width_of};
 ghost use Rattle.multi_layout.specs.Offence.{clashes};
-ghost use Rattle.multi_layout.specs.Run.{kept_fits, kept_width, lengthened_line};
+ghost use Rattle.multi_layout.specs.Run.{IsBehindOne, IsOpen, kept_fits, kept_width, lengthened_line};
 ghost use Rattle.multi_layout.specs.Sums.{segment_sum, line_sum, line_sum_in, IsCharacter, IsSegmentBelow, IsLineBelow};
 
 use sign_font::FontInfo;
@@ -77,6 +77,7 @@ impl Segment {
         ensures sum { (just : ℕ) (line : List Spot) (s : Spot) → IsCharacter s character.now → character.now.just ≡ just
             → self.old ≡ segment_sum just line → self.new ≡ segment_sum just (line ++ s ∷ []) }
         ensures grows { (k : ℕ) → IsSegmentBelow k self.old → IsSegmentBelow (k + 1024) self.new }
+        ensures last { self.new.last ≡ Some character.now.font.char_spacing }
     {
         self.width += u64::from(self.gap(character)) + u64::from(character.width);
         self.count += 1;
@@ -125,6 +126,7 @@ impl Line {
         ensures sum { (line : List Spot) (s : Spot) → AllPass is_glyph line → IsCharacter s character.now → self.old ≡ line_sum line
             → list_any (clashes s) line ≡ false → self.new ≡ line_sum (line ++ s ∷ []) }
         ensures grows { (k : ℕ) → IsLineBelow k self.old → IsLineBelow (k + 1024) self.new }
+        ensures behind { IsOpen character.now.just self.old → IsBehindOne character.now.just character.now.font self.new }
     {
         self.go_on(character.just);
         self.part.add(character);
@@ -139,6 +141,7 @@ impl Line {
         requires known { just ≤ 5 }
         ensures sum { (line : List Spot) → self.old ≡ line_sum line → self.old.present ≤ just → self.new ≡ line_sum_in just line }
         ensures others { (self.new.has_parts ≡ self.old.has_parts) × (self.new.height ≡ self.old.height) × (self.new.spacing ≡ self.old.spacing) }
+        ensures present { self.old.present ≤ just → self.new.present ≡ just }
         ensures grows { (k : ℕ) → IsLineBelow k self.old → IsLineBelow k self.new }
     {
         if just <= self.present {
@@ -198,20 +201,6 @@ impl Line {
         }
     }
 
-    /// Whether a character with this line justification and font, and with the character spacing of the last one, changes
-    /// nothing of the line but the present segment's width and count.
-    pub(crate) fn takes_more(&self, just: u8, font: &FontInfo) -> bool
-        ensures { result ≡ true → (self.now.present ≡ just) × (self.now.has_parts ≡ nat_lt just 5) × (self.now.any ≡ true)
-            × (font.now.height ≤ self.now.height) × (font.now.line_spacing ≤ self.now.spacing) × (self.now.part.last ≡ Some font.now.char_spacing) }
-    {
-        self.present == just
-            && self.has_parts == (just < 5)
-            && self.any
-            && font.height <= self.height
-            && font.line_spacing <= self.spacing
-            && self.part.last == Some(font.char_spacing)
-    }
-
     /// The most pixels that the present segment may have within a width, into which the line fits as it is.
     pub(crate) fn room(&self, width: u16) -> u64
         requires known { (2 ≤ self.now.present) × (self.now.present ≤ 5) }
@@ -261,8 +250,9 @@ impl Line {
     /// Whether a character with this line justification has a segment before that of an earlier one, or one of
     /// them is full and the other isn't.
     pub(crate) fn clashes(&self, just: u8) -> bool
-        ensures { (line : List Spot) (s : Spot) → self.now ≡ line_sum line → s.at.line_just ≡ just
+        ensures clashes { (line : List Spot) (s : Spot) → self.now ≡ line_sum line → s.at.line_just ≡ just
             → result ≡ list_any (clashes s) line }
+        ensures may { result ≡ false → IsOpen just self.now }
     {
         (just < self.present) | ((just == 5) & self.has_parts)
     }

@@ -1,13 +1,14 @@
 //! The sign that a string is for, with the defaults in force for that string.
 
-ghost use Rattle.std.specs.Prelude.{◌≡◌, Some, None, IfSome, option_map};
+ghost use Rattle.std.specs.Prelude.{◌≡◌, ◌+◌, ◌≤◌, Some, None, IfErr, IfOk, IfSome, OnOk, length, option_map};
 ghost use Rattle.multi_token.specs.Counted.{charged};
 ghost use Rattle.sign_font.specs.Defaults.{default_fault, under};
 ghost use Rattle.sign_font.specs.Sign.{cell_in, font_numbered, info_of};
 ghost use Rattle.sign_font.specs.Sound.{IsSound, IsSoundSize, IsWithin};
+ghost use Rattle.sign_font.specs.Text.{HasWidth, IsTextFault, place_of, width_in};
 
 use multi_token::Source;
-use sign_font::{Cell, Defaults, FontInfo, Sign};
+use sign_font::{Cell, Defaults, FontInfo, Sign, TextFault};
 use std::marker::Model;
 
 /// A sign, seen with these defaults in place of its own. It doesn't refuse them.
@@ -113,6 +114,25 @@ impl<'a> Terms<'a> {
         ensures sound { IsSound self.now }
     {
         self.sign.cell(source, font, number)
+    }
+
+    /// The width in pixels of a text in the font of a number, with this gap before each of its characters, or the first octet
+    /// that has no cell or goes beyond the room. Each cell that is looked up is one step.
+    pub(crate) fn text_width(
+        &self,
+        source: &mut Source<'_>,
+        font: u8,
+        text: &[u8],
+        gap: u8,
+        room: u64,
+    ) -> Result<u64, TextFault>
+        ensures width { IfOk result (λ width. HasWidth (width_in self.now font) gap text.now width × (width ≤ room)) }
+        ensures fault { IfErr result (IsTextFault (width_in self.now font) gap room text.now) }
+        ensures steps { OnOk result (source.new ≡ charged source.old (length text.now)) }
+        ensures fault_steps { IfErr result (λ fault. source.new ≡ charged source.old (place_of fault + 1)) }
+        ensures sound { IsSound self.now }
+    {
+        self.sign.text_width(source, font, text, gap, room)
     }
 
     /// The width in pixels of the cell of an octet in the font of a number, if both are defined. Either way it is one step.

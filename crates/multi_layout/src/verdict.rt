@@ -12,11 +12,11 @@ ghost use Rattle.multi_layout.specs.Verdict.{Accepted, IsCycle, IsVerdict, Refus
 
 use crate::checked::Checked;
 use crate::fault::{Fault, SyntaxError};
-use crate::judge::judge_token;
+use crate::judge::{judge_character, judge_token};
 use crate::run::judge_run;
 use crate::state::State;
 use crate::terms::Terms;
-use multi_token::{Kind, Source, rest_of_token};
+use multi_token::{Source, rest_of_token};
 use sign_font::{Defaults, Sign};
 
 /// The first error of a string, and the offset of its item.
@@ -110,16 +110,7 @@ fn judge(sign: &Terms<'_>, state: &mut State, source: &mut Source<'_>) -> Result
     let mut at = 0;
     let mut next = source.read(at);
     while let Some(first) = next {
-        let Ok(token) = rest_of_token(source, at, first) else {
-            return Err(Offence {
-                error: SyntaxError::UnsupportedTag,
-                at,
-            });
-        };
-        if let Err(error) = judge_token(sign, state, source, &token) {
-            return Err(Offence { error, at });
-        }
-        match go_on(sign, state, source, at + token.len, token.kind) {
+        match judge_from(sign, state, source, at, first) {
             Ok((behind, octet)) => {
                 at = behind;
                 next = octet;
@@ -130,25 +121,54 @@ fn judge(sign: &Terms<'_>, state: &mut State, source: &mut Source<'_>) -> Result
     Ok(())
 }
 
-/// Goes on behind an item that was judged: to the next octet, or behind a character to the end of its run.
-fn go_on(
+/// Judges what begins with this octet at an offset, which was read: an item that begins with a bracket, or all characters up to
+/// one. It gives the offset behind, and the octet read there.
+fn judge_from(
     sign: &Terms<'_>,
     state: &mut State,
     source: &mut Source<'_>,
     at: usize,
-    kind: Kind,
+    first: u8,
 ) -> Result<(usize, Option<u8>), Offence>
     requires short { length source.old.octets < 2 ^ 32 }
-    requires behind { IsBehind sign.now source.old.octets at state.old source.old }
-    ensures at { IfOk result (λ to. (at ≤ to.0) × IsAt sign.now source.old.octets to.0 to.1 state.new source.new) }
+    requires at { IsAt sign.now source.old.octets at (Some first) state.old source.old }
+    ensures at { IfOk result (λ to. (at < to.0) × IsAt sign.now source.old.octets to.0 to.1 state.new source.new) }
     ensures refused { IfErr result (λ offence. IsRefused sign.now source.old.octets offence source.new) }
 {
-    let run = match kind {
-        Kind::Char(_) => state.run(),
-        Kind::Tag => None,
+    if first == b'[' || first == b']' {
+        return judge_bracket(sign, state, source, at, first);
+    }
+    match judge_character(sign, state, source, first) {
+        Ok(()) => judge_run(sign, state, source, at + 1),
+        Err(error) => Err(Offence { error, at }),
+    }
+}
+
+/// Judges the item that begins with this bracket at an offset, which was read. It gives the offset behind, and the octet read
+/// there.
+fn judge_bracket(
+    sign: &Terms<'_>,
+    state: &mut State,
+    source: &mut Source<'_>,
+    at: usize,
+    first: u8,
+) -> Result<(usize, Option<u8>), Offence>
+    requires short { length source.old.octets < 2 ^ 32 }
+    requires at { IsAt sign.now source.old.octets at (Some first) state.old source.old }
+    ensures at { IfOk result (λ to. (at < to.0) × IsAt sign.now source.old.octets to.0 to.1 state.new source.new) }
+    ensures refused { IfErr result (λ offence. IsRefused sign.now source.old.octets offence source.new) }
+{
+    let Ok(token) = rest_of_token(source, at, first) else {
+        return Err(Offence {
+            error: SyntaxError::UnsupportedTag,
+            at,
+        });
     };
-    match run {
-        Some(run) => judge_run(sign, state, source, at, run),
-        None => Ok((at, source.read(at))),
+    match judge_token(sign, state, source, &token) {
+        Ok(()) => {
+            let behind = at + token.len;
+            Ok((behind, source.read(behind)))
+        }
+        Err(error) => Err(Offence { error, at }),
     }
 }

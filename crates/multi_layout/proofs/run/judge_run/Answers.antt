@@ -1,87 +1,72 @@
-use Rattle.std.proofs.Common.{◌≡◌, slice_get, Some, sym, ap, ◌∙◌, arith}
-use Rattle.std.proofs.lemmas.Option.{slice_get_within}
+use Rattle.std.proofs.Common.{◌≡◌, ◌+◌, length, map, drop, ap, ◌∙◌, arith}
 use Rattle.multi_token.specs.Counted.{Counted, charged}
-use Rattle.multi_layout.proofs.RunReadLemmas.{length_now, more_goes_on, more_too_big, octet_undefined}
+use Rattle.sign_font.specs.Text.{place_of}
+use Rattle.multi_layout.specs.Meaning.{meaning}
+use Rattle.multi_layout.proofs.RunReadLemmas.{length_now, text_read, text_refused, text_stands}
 use Rattle.multi_layout.proofs.run.judge_run.Goals as goal
 
-pub returns-in_default-cell_width-clause-refused : goal.returns-in_default-cell_width-clause-refused
-returns-in_default-cell_width-clause-refused c =
-    let i = c.loop-octet.invariant in
+pub lengthen-requires-clause-width : goal.lengthen-requires-clause-width
+lengthen-requires-clause-width c =
     let xs = c.args.source.now.octets in
-    let here : slice_get xs c.loop-octet.at ≡ Some c.in-Some.octet = sym (ap (λ o. slice_get o c.loop-octet.at) i.behind.same) ∙ sym c.read-next.ensures.octet ∙ c.in-Some.is in
-    let before = slice_get_within xs c.loop-octet.at c.in-Some.octet here in
-    let steps : c.cell_width.new.source.steps ≡ (charged (charged c.loop-octet.source 1) 1).steps = ap (λ (s : Counted). s.steps) (c.cell_width.ensures.step ∙ ap (λ s. charged s 1) c.read-next.ensures.step) in
-    let least = i.behind.least in
-    let most = i.behind.most in
+    let state = c.args.state.now in
+    let r = c.requires.behind.so_far in
+    let found = c.read_plain-next.ensures in
+    let text = c.read_plain-next.result.0.now in
+    let run = c.run-run.ensures (map meaning r.items) c.args.sign.now r.state_is in
+    let (has, narrow) = c.in-Ok.ensures.width in
+    let here = text_stands xs text c.args.at found.octets in
+    let read = text_read c.args.sign.now xs c.args.at state r (omega (arith, c.requires.short)) c.run-run.result.gap c.run-run.result.left run text (drop (c.args.at + length text) xs) here found.plain c.in-Ok.width has narrow in
+    let small = length_now c.args.sign.now xs (c.args.at + length text) state _ _ read c.requires.short in
+    omega (arith, small.0)
+
+pub returns-in-Ok-clause-at : goal.returns-in-Ok-clause-at
+returns-in-Ok-clause-at c =
+    let xs = c.args.source.now.octets in
+    let state = c.args.state.now in
+    let r = c.requires.behind.so_far in
+    let found = c.read_plain-next.ensures in
+    let text = c.read_plain-next.result.0.now in
+    let run = c.run-run.ensures (map meaning r.items) c.args.sign.now r.state_is in
+    let (has, narrow) = c.in-Ok.ensures.width in
+    let here = text_stands xs text c.args.at found.octets in
+    let read = text_read c.args.sign.now xs c.args.at state r (omega (arith, c.requires.short)) c.run-run.result.gap c.run-run.result.left run text (drop (c.args.at + length text) xs) here found.plain c.in-Ok.width has narrow in
+    let (ended, charge) = found.ended (omega (arith, found.within, found.room)) in
+    let reads : c.read_plain-next.new.self.steps ≡ (charged c.args.source.now (length text + 1)).steps = ap (λ (s : Counted). s.steps) charge in
+    let looks : c.text_width.new.source.steps ≡ (charged c.read_plain-next.new.self (length text)).steps = ap (λ (s : Counted). s.steps) c.in-Ok.ensures.steps in
+    let same : c.text_width.new.source.octets ≡ xs = ap (λ (s : Counted). s.octets) (c.in-Ok.ensures.steps ∙ ap (λ s. charged s (length text)) charge) in
+    let least = c.requires.behind.least in
+    let most = c.requires.behind.most in (
+      omega arith,
+      record {
+        so_far = rw c.lengthen.ensures read;
+        octet = ended.0;
+        same = same;
+        least = omega (arith, found.within, c.requires.short);
+        most = omega (arith, found.within, c.requires.short);
+      },
+    )
+
+pub returns-in-Err-clause-refused : goal.returns-in-Err-clause-refused
+returns-in-Err-clause-refused c =
+    let xs = c.args.source.now.octets in
+    let state = c.args.state.now in
+    let r = c.requires.behind.so_far in
+    let found = c.read_plain-next.ensures in
+    let text = c.read_plain-next.result.0.now in
+    let run = c.run-run.ensures (map meaning r.items) c.args.sign.now r.state_is in
+    let here = text_stands xs text c.args.at found.octets in
+    let fault = c.in-Err.fault in
+    let (inside, verdict) = text_refused c.args.sign.now xs c.args.at state r (omega (arith, c.requires.short)) c.run-run.result.gap c.run-run.result.left run text (drop (c.args.at + length text) xs) here found.plain fault c.in-Err.ensures.fault in
+    let (ended, charge) = found.ended (omega (arith, found.within, found.room)) in
+    let reads : c.read_plain-next.new.self.steps ≡ (charged c.args.source.now (length text + 1)).steps = ap (λ (s : Counted). s.steps) charge in
+    let looks : c.text_width.new.source.steps ≡ (charged c.read_plain-next.new.self (place_of fault + 1)).steps = ap (λ (s : Counted). s.steps) c.in-Err.ensures.fault_steps in
+    let same : c.text_width.new.source.octets ≡ xs = ap (λ (s : Counted). s.octets) (c.in-Err.ensures.fault_steps ∙ ap (λ s. charged s (place_of fault + 1)) charge) in
+    let least = c.requires.behind.least in
+    let most = c.requires.behind.most in
+    let to : c.offence_in.result.at ≡ c.args.at + place_of fault = c.offence_in.ensures.at in
     record {
-      verdict = octet_undefined c.args.sign.now xs c.loop-octet.at _ i.behind.so_far c.in-Some.octet (omega (arith, c.requires.short)) here (c.if-octet-ne91.true, c.if-octet-ne93.true)
-          (sym c.in_default-cell_width.is ∙ c.cell_width.ensures.width);
-      same = ap (λ (s : Counted). s.octets) (c.cell_width.ensures.step ∙ ap (λ s. charged s 1) c.read-next.ensures.step) ∙ i.behind.same;
-      least = omega arith;
-      most = omega arith;
-    }
-
-pub overflow_add-width-in-loop-octet : goal.overflow_add-width-in-loop-octet
-overflow_add-width-in-loop-octet c =
-    let i = c.loop-octet.invariant in
-    let width = length_now c.args.sign.now c.args.source.now.octets c.loop-octet.at c.args.state.now c.loop-octet.width c.loop-octet.count i.behind.so_far c.requires.short in
-    let narrow = rw c.in-Some-cell_width.is at c.cell_width.ensures.size in
-    let gap = c.requires.run.narrow in
-    omega arith
-
-pub overflow_add-count : goal.overflow_add-count
-overflow_add-count c =
-    let i = c.loop-octet.invariant in
-    let size = length_now c.args.sign.now c.args.source.now.octets c.loop-octet.at c.args.state.now c.loop-octet.width c.loop-octet.count i.behind.so_far c.requires.short in
-    omega arith
-
-pub returns-then-width-run-clause-refused : goal.returns-then-width-run-clause-refused
-returns-then-width-run-clause-refused c =
-    let i = c.loop-octet.invariant in
-    let xs = c.args.source.now.octets in
-    let here : slice_get xs c.loop-octet.at ≡ Some c.in-Some.octet = sym (ap (λ o. slice_get o c.loop-octet.at) i.behind.same) ∙ sym c.read-next.ensures.octet ∙ c.in-Some.is in
-    let before = slice_get_within xs c.loop-octet.at c.in-Some.octet here in
-    let steps : c.cell_width.new.source.steps ≡ (charged (charged c.loop-octet.source 1) 1).steps = ap (λ (s : Counted). s.steps) (c.cell_width.ensures.step ∙ ap (λ s. charged s 1) c.read-next.ensures.step) in
-    let narrow = rw c.in-Some-cell_width.is at c.cell_width.ensures.size in
-    let least = i.behind.least in
-    let most = i.behind.most in
-    record {
-      verdict = more_too_big c.args.sign.now xs c.loop-octet.at c.args.state.now c.loop-octet.width c.loop-octet.count i.behind.so_far c.in-Some.octet (omega (arith, c.requires.short)) here
-          (c.if-octet-ne91.true, c.if-octet-ne93.true) c.args.run.gap c.args.run.room c.requires.run c.in-Some-cell_width.cell_width narrow.0 (sym c.in-Some-cell_width.is ∙ c.cell_width.ensures.width)
-          (omega (arith, c.if-width-run.true, c.from.ensures, c.from-in-loop-octet.ensures));
-      same = ap (λ (s : Counted). s.octets) (c.cell_width.ensures.step ∙ ap (λ s. charged s 1) c.read-next.ensures.step) ∙ i.behind.same;
-      least = omega arith;
-      most = omega arith;
-    }
-
-pub loop-octet-smaller : goal.loop-octet-smaller
-loop-octet-smaller c =
-    let i = c.loop-octet.invariant in
-    let xs = c.args.source.now.octets in
-    let here : slice_get xs c.loop-octet.at ≡ Some c.in-Some.octet = sym (ap (λ o. slice_get o c.loop-octet.at) i.behind.same) ∙ sym c.read-next.ensures.octet ∙ c.in-Some.is in
-    let before = slice_get_within xs c.loop-octet.at c.in-Some.octet here in
-    omega (arith, before)
-
-pub loop-octet-preserved : goal.loop-octet-preserved
-loop-octet-preserved c =
-    let i = c.loop-octet.invariant in
-    let xs = c.args.source.now.octets in
-    let here : slice_get xs c.loop-octet.at ≡ Some c.in-Some.octet = sym (ap (λ o. slice_get o c.loop-octet.at) i.behind.same) ∙ sym c.read-next.ensures.octet ∙ c.in-Some.is in
-    let before = slice_get_within xs c.loop-octet.at c.in-Some.octet here in
-    let steps : c.cell_width.new.source.steps ≡ (charged (charged c.loop-octet.source 1) 1).steps = ap (λ (s : Counted). s.steps) (c.cell_width.ensures.step ∙ ap (λ s. charged s 1) c.read-next.ensures.step) in
-    let narrow = rw c.in-Some-cell_width.is at c.cell_width.ensures.size in
-    let least = i.behind.least in
-    let most = i.behind.most in
-    let longer = more_goes_on c.args.sign.now xs c.loop-octet.at c.args.state.now c.loop-octet.width c.loop-octet.count i.behind.so_far c.in-Some.octet (omega (arith, c.requires.short)) here
-    (c.if-octet-ne91.true, c.if-octet-ne93.true) c.args.run.gap c.args.run.room c.requires.run c.in-Some-cell_width.cell_width narrow.0 (sym c.in-Some-cell_width.is ∙ c.cell_width.ensures.width)
-    narrow.1 (omega (arith, c.if-width-run.false, c.from.ensures, c.from-in-loop-octet.ensures)) in
-    record {
-      behind = record {
-        so_far = rw (c.from.ensures, c.from-in-loop-octet.ensures) longer;
-        same = ap (λ (s : Counted). s.octets) (c.cell_width.ensures.step ∙ ap (λ s. charged s 1) c.read-next.ensures.step) ∙ i.behind.same;
-        least = omega arith;
-        most = omega arith;
-      };
-      state = i.state;
-      from = omega (arith, i.from);
+      verdict = rw (c.offence_in.ensures.error, to) verdict;
+      same = same;
+      least = omega (arith, inside, found.within, c.requires.short);
+      most = omega (arith, inside, found.within, c.requires.short);
     }

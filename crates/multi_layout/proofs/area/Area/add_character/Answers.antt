@@ -16,3 +16,8 @@ returns-clause-grows c k below =
 
 pub add_character-requires-clause-below : goal.add_character-requires-clause-below
 add_character-requires-clause-below c = (c.go_on.ensures.grows (2 ^ 62) c.requires.below).2
+
+pub returns-clause-behind : goal.returns-clause-behind
+returns-clause-behind c = λ may.
+    let (present, line) = c.go_on.ensures.may c.args.character.now.just may in
+    (present, c.add_character.ensures.behind line)

@@ -8,8 +8,8 @@ use Rattle.multi_layout.proofs.area.Area.fits_with_character.Goals as goal
 pub fits-requires : goal.fits-requires
 fits-requires c = record { below = c.requires.below.group.line }
 
-pub returns : goal.returns
-returns c before s g e present w h =
+pub returns-clause-fits : goal.returns-clause-fits
+returns-clause-fits c before s g e present w h =
     let more = area_of s before ++ s ∷ [] in
     let line = ap (λ (g : Group). g.line) (group_of_own more c.args.self.now e s.at.page_just (sym present)) in
     fits_character before s s.at.page_just c.args.width c.args.height c.fits.result c.fits_height.result g refl w h

@@ -1,5 +1,6 @@
-use Rattle.std.proofs.Common.{◌≤◌, ◌||◌, max, ap, ◌∙◌, refl, arith}
+use Rattle.std.proofs.Common.{◌≡◌, ℕ, ◌≤◌, Bool, true, false, ◌||◌, max, ap, sym, ◌∙◌, refl, arith}
 use Rattle.std.specs.Prelude.{nat_lt}
+use Rattle.std.proofs.lemmas.Bool.{false≢true, ltb-false}
 use Rattle.multi_layout.specs.declared.line.Line.{Line}
 use Rattle.multi_layout.proofs.LineSumLemmas.{in_order, line_with}
 use Rattle.multi_layout.proofs.line.Line.add.Goals as goal
@@ -20,3 +21,21 @@ pub returns-clause-grows : goal.returns-clause-grows
 returns-clause-grows c k below =
     let turned = c.go_on.ensures.grows k below in
     record { left = omega (arith, turned.left); centre = omega (arith, turned.centre); right = omega (arith, turned.right); part = c.add.ensures.grows k turned.part; known = turned.known }
+
+parts_of_one : (parts : Bool) (just : ℕ) → just ≤ 5 → (just ≡ 5 → parts ≡ false) → parts || nat_lt just 5 ≡ nat_lt just 5
+parts_of_one true just known may = by_less (nat_lt just 5) refl
+  where
+    by_less : (less : Bool) → nat_lt just 5 ≡ less → true ≡ nat_lt just 5
+    by_less true is = sym is
+    by_less false is = absurd (false≢true (sym (may (let least = ltb-false just 5 is in omega (arith, known, least)))))
+parts_of_one false just known may = refl
+
+pub returns-clause-behind : goal.returns-clause-behind
+returns-clause-behind c = λ may. record {
+  segment = c.go_on.ensures.present may.0;
+  parts = rw c.go_on.ensures.others.0 (parts_of_one c.args.self.now.has_parts c.args.character.now.just c.requires.known may.1);
+  any = refl;
+  height = omega (arith, c.max-self.ensures);
+  spacing = omega (arith, c.max-self-2.ensures);
+  last = c.add.ensures.last;
+}

@@ -1,0 +1,96 @@
+use Rattle.std.proofs.Common.{◌≡◌, ◌+◌, ◌-◌, ◌++◌, [], ◌∷◌, None, Some, map, slice_get, sym, ap, ◌∙◌, arith, subst}
+use Rattle.std.proofs.lemmas.Option.{slice_get_within}
+use Rattle.multi_token.specs.Counted.{Counted, charged}
+use Rattle.multi_token.proofs.ReadingLemmas.{spelling_some}
+use Rattle.multi_token.specs.Tokens.{item_of}
+use Rattle.multi_layout.specs.Codes.{code_of}
+use Rattle.multi_layout.specs.Meaning.{Meaning, meaning}
+use Rattle.multi_layout.specs.Offence.{offence}
+use Rattle.multi_layout.specs.State.{IsStateOf}
+use Rattle.multi_layout.proofs.ReadLemmas.{read_more, ready_here, refused_here, refused_at_bracket}
+use Rattle.multi_layout.proofs.verdict.judge_bracket.Goals as goal
+
+pub returns-in_default-clause-refused : goal.returns-in_default-clause-refused
+returns-in_default-clause-refused c =
+    let i = c.requires.at in
+    let xs = c.args.source.now.octets in
+    let here : slice_get xs c.args.at ≡ Some c.args.first = sym i.octet in
+    let before = slice_get_within xs c.args.at c.args.first here in
+    let k = c.in_default.ensures.fault_steps in
+    let rises : c.rest_of_token.new.source.steps ≡ (charged c.args.source.now k.0).steps = ap (λ (s : Counted). s.steps) k.3 in
+    let few = k.2 in
+    let least = i.least in
+    let most = i.most in
+    record {
+      verdict = refused_at_bracket c.args.sign.now xs c.args.at c.args.state.now i.so_far before c.in_default.ensures.none_stands;
+      same = ap (λ (s : Counted). s.octets) k.3;
+      least = omega arith;
+      most = omega arith;
+    }
+
+pub judge_token-requires-clause-ready : goal.judge_token-requires-clause-ready
+judge_token-requires-clause-ready c =
+    let i = c.requires.at in
+    ready_here c.args.sign.now c.args.source.now.octets c.args.at c.args.state.now i.so_far c.requires.short
+
+pub returns-in-Ok-judge_token-clause-at : goal.returns-in-Ok-judge_token-clause-at
+returns-in-Ok-judge_token-clause-at c =
+    let i = c.requires.at in
+    let sign = c.args.sign.now in
+    let xs = c.args.source.now.octets in
+    let t = c.in-Ok.token in
+    let found = c.in-Ok.ensures.token in
+    let stepped = c.in-Ok.ensures.token_steps in
+    let same : c.rest_of_token.new.source.octets ≡ xs = ap (λ (s : Counted). s.octets) stepped in
+    let k = c.judge_token.ensures.steps in
+    let judged = c.in-Ok-judge_token.ensures.judged (map meaning i.so_far.items) i.so_far.state_is in
+    let item : meaning (item_of c.rest_of_token.new.source.octets t) ≡ meaning (item_of xs t) = ap (λ o. meaning (item_of o t)) same in
+    let rises : c.rest_of_token.new.source.steps ≡ (charged c.args.source.now (t.len - 1)).steps = ap (λ (s : Counted). s.steps) stepped in
+    let tag_steps : c.judge_token.new.source.steps ≡ (charged c.rest_of_token.new.source k.0).steps = ap (λ (s : Counted). s.steps) k.3 in
+    let octets : c.judge_token.new.source.octets ≡ xs = ap (λ (s : Counted). s.octets) k.3 ∙ same in
+    let read : c.read.new.self.steps ≡ (charged c.judge_token.new.source 1).steps = ap (λ (s : Counted). s.steps) c.read.ensures.step in
+    let within = found.1.within in
+    let len = found.1.len in
+    let some = spelling_some (item_of xs t) in
+    let short = c.requires.short in
+    let few = k.2 in
+    let least = i.least in
+    let most = i.most in (
+      omega arith,
+      record {
+        so_far = read_more sign xs c.args.at c.args.state.now i.so_far t found.0 found.1 c.judge_token.new.state
+            (subst (λ (m : Meaning). offence sign (map meaning i.so_far.items) m ≡ None) item judged.0)
+            (subst (λ (m : Meaning). IsStateOf sign (map meaning i.so_far.items ++ m ∷ []) c.judge_token.new.state) item judged.1);
+        octet = c.read.ensures.octet ∙ ap (λ o. slice_get o (c.args.at + t.len)) octets;
+        same = ap (λ (s : Counted). s.octets) c.read.ensures.step ∙ octets;
+        least = omega arith;
+        most = omega arith;
+      },
+    )
+
+pub returns-in-Err-clause-refused : goal.returns-in-Err-clause-refused
+returns-in-Err-clause-refused c =
+    let i = c.requires.at in
+    let sign = c.args.sign.now in
+    let xs = c.args.source.now.octets in
+    let t = c.in-Ok.token in
+    let found = c.in-Ok.ensures.token in
+    let stepped = c.in-Ok.ensures.token_steps in
+    let same : c.rest_of_token.new.source.octets ≡ xs = ap (λ (s : Counted). s.octets) stepped in
+    let k = c.judge_token.ensures.steps in
+    let rises : c.rest_of_token.new.source.steps ≡ (charged c.args.source.now (t.len - 1)).steps = ap (λ (s : Counted). s.steps) stepped in
+    let tag_steps : c.judge_token.new.source.steps ≡ (charged c.rest_of_token.new.source k.0).steps = ap (λ (s : Counted). s.steps) k.3 in
+    let offends = c.in-Err.ensures.judged (map meaning i.so_far.items) i.so_far.state_is in
+    let within = found.1.within in
+    let len = found.1.len in
+    let some = spelling_some (item_of xs t) in
+    let few = k.2 in
+    let least = i.least in
+    let most = i.most in
+    record {
+      verdict = refused_here sign xs c.args.at c.args.state.now i.so_far t found.0 found.1 (code_of c.in-Err.error)
+          (ap (λ o. offence sign (map meaning i.so_far.items) (meaning (item_of o t))) (sym same) ∙ offends);
+      same = ap (λ (s : Counted). s.octets) k.3 ∙ same;
+      least = omega arith;
+      most = omega arith;
+    }

@@ -1,0 +1,58 @@
+use Rattle.std.proofs.Common.{◌≡◌, ◌+◌, Some, map, slice_get, refl, sym, ap, arith, subst}
+use Rattle.std.proofs.lemmas.Option.{slice_get_within}
+use Rattle.multi_token.specs.Counted.{Counted, charged}
+use Rattle.multi_token.specs.Spelling.{IsPlain}
+use Rattle.multi_token.specs.Tokens.{IsTokenOf}
+use Rattle.multi_token.specs.declared.token.Token.{Token}
+use Rattle.multi_token.specs.declared.token.Kind.TheVariants as kinds
+use Rattle.multi_token.proofs.PlaceLemmas.{single_token}
+use Rattle.multi_layout.specs.Codes.{code_of}
+use Rattle.multi_layout.specs.Meaning.{meaning}
+use Rattle.multi_layout.specs.Progress.{ReadSoFar}
+use Rattle.multi_layout.proofs.ReadLemmas.{read_more, refused_here}
+use Rattle.multi_layout.proofs.verdict.judge_from.Goals as goal
+
+pub judge_run-requires-clause-behind : goal.judge_run-requires-clause-behind
+judge_run-requires-clause-behind c =
+    let i = c.requires.at in
+    let sign = c.args.sign.now in
+    let xs = c.args.source.now.octets in
+    let here : slice_get xs c.args.at ≡ Some c.args.first = sym i.octet in
+    let before = slice_get_within xs c.args.at c.args.first here in
+    let plain : IsPlain c.args.first = (λ e. omega arith, λ e. omega arith) in
+    let token : Token = record { at = c.args.at; len = 1; kind = kinds.Char c.args.first } in
+    let stands : IsTokenOf xs token = single_token xs c.args.at c.args.first (omega (arith, c.requires.short)) here plain in
+    let judged = c.in-Ok.ensures.judged (map meaning i.so_far.items) i.so_far.state_is in
+    let same : c.judge_character.new.source.octets ≡ xs = ap (λ (s : Counted). s.octets) c.judge_character.ensures.step in
+    let step : c.judge_character.new.source.steps ≡ (charged c.args.source.now 1).steps = ap (λ (s : Counted). s.steps) c.judge_character.ensures.step in
+    let least = i.least in
+    let most = i.most in
+    record {
+      so_far = subst (λ o. ReadSoFar sign o (c.args.at + 1) c.judge_character.new.state) (sym same)
+          (read_more sign xs c.args.at c.args.state.now i.so_far token refl stands c.judge_character.new.state judged.0 judged.1);
+      same = refl;
+      least = omega arith;
+      most = omega arith;
+    }
+
+pub returns-in-Err-clause-refused : goal.returns-in-Err-clause-refused
+returns-in-Err-clause-refused c =
+    let i = c.requires.at in
+    let sign = c.args.sign.now in
+    let xs = c.args.source.now.octets in
+    let here : slice_get xs c.args.at ≡ Some c.args.first = sym i.octet in
+    let before = slice_get_within xs c.args.at c.args.first here in
+    let plain : IsPlain c.args.first = (λ e. omega arith, λ e. omega arith) in
+    let token : Token = record { at = c.args.at; len = 1; kind = kinds.Char c.args.first } in
+    let stands : IsTokenOf xs token = single_token xs c.args.at c.args.first (omega (arith, c.requires.short)) here plain in
+    let same : c.judge_character.new.source.octets ≡ xs = ap (λ (s : Counted). s.octets) c.judge_character.ensures.step in
+    let step : c.judge_character.new.source.steps ≡ (charged c.args.source.now 1).steps = ap (λ (s : Counted). s.steps) c.judge_character.ensures.step in
+    let offends = c.in-Err.ensures.judged (map meaning i.so_far.items) i.so_far.state_is in
+    let least = i.least in
+    let most = i.most in
+    record {
+      verdict = refused_here sign xs c.args.at c.args.state.now i.so_far token refl stands (code_of c.in-Err.error) offends;
+      same = same;
+      least = omega arith;
+      most = omega arith;
+    }
