@@ -164,11 +164,9 @@ fn judge_bracket(
             at,
         });
     };
-    match judge_token(sign, state, source, &token) {
-        Ok(()) => {
-            let behind = at + token.len;
-            Ok((behind, source.read(behind)))
-        }
-        Err(error) => Err(Offence { error, at }),
+    if let Err(error) = judge_token(sign, state, source, &token) {
+        return Err(Offence { error, at });
     }
+    let behind = at + token.len;
+    Ok((behind, source.read(behind)))
 }

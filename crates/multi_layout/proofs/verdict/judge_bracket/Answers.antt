@@ -33,8 +33,8 @@ judge_token-requires-clause-ready c =
     let i = c.requires.at in
     ready_here c.args.sign.now c.args.source.now.octets c.args.at c.args.state.now i.so_far c.requires.short
 
-pub returns-in-Ok-judge_token-clause-at : goal.returns-in-Ok-judge_token-clause-at
-returns-in-Ok-judge_token-clause-at c =
+pub returns-clause-at : goal.returns-clause-at
+returns-clause-at c =
     let i = c.requires.at in
     let sign = c.args.sign.now in
     let xs = c.args.source.now.octets in
@@ -43,7 +43,7 @@ returns-in-Ok-judge_token-clause-at c =
     let stepped = c.in-Ok.ensures.token_steps in
     let same : c.rest_of_token.new.source.octets ≡ xs = ap (λ (s : Counted). s.octets) stepped in
     let k = c.judge_token.ensures.steps in
-    let judged = c.in-Ok-judge_token.ensures.judged (map meaning i.so_far.items) i.so_far.state_is in
+    let judged = c.in_default-judge_token.ensures.judged (map meaning i.so_far.items) i.so_far.state_is in
     let item : meaning (item_of c.rest_of_token.new.source.octets t) ≡ meaning (item_of xs t) = ap (λ o. meaning (item_of o t)) same in
     let rises : c.rest_of_token.new.source.steps ≡ (charged c.args.source.now (t.len - 1)).steps = ap (λ (s : Counted). s.steps) stepped in
     let tag_steps : c.judge_token.new.source.steps ≡ (charged c.rest_of_token.new.source k.0).steps = ap (λ (s : Counted). s.steps) k.3 in
