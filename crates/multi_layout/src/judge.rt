@@ -5,6 +5,7 @@ ghost use Rattle.std.specs.Option.{option_map_or};
 ghost use Rattle.multi_token.specs.Counted.{charged, RisesBetween};
 ghost use Rattle.multi_token.specs.Tokens.{IsTokenOf, item_of};
 ghost use Rattle.sign_font.specs.Defaults.{default_fault, under};
+ghost use Rattle.sign_font.specs.Cell.{SizedCell};
 ghost use Rattle.sign_font.specs.Sign.{SignData, cell_in};
 ghost use Rattle.multi_layout.specs.Codes.{code_of};
 ghost use Rattle.multi_layout.specs.Limits.{check_limit};
@@ -98,16 +99,16 @@ pub(crate) fn judge_character(
     ensures step { source.new ≡ charged source.old 1 }
 {
     let font = state.attributes.font.number;
-    match sign.cell(source, font, u16::from(number)) {
-        Some(cell) => judge_cell(state, number, &cell),
+    match sign.cell_width(source, font, number) {
+        Some(width) => judge_cell(state, number, width),
         None => Err(SyntaxError::CharacterNotDefined),
     }
 }
 
-/// Judges a character whose cell was found.
-fn judge_cell(state: &mut State, number: u8, cell: &Cell<'_>) -> Result<(), SyntaxError>
+/// Judges a character whose cell has this width in pixels.
+fn judge_cell(state: &mut State, number: u8, width: u8) -> Result<(), SyntaxError>
     requires { IsReady state.old }
-    ensures judged { (sign : SignData) → cell_in sign state.old.attributes.font.number number ≡ Some cell.now
+    ensures judged { (sign : SignData) (cell : SizedCell) → cell_in sign state.old.attributes.font.number number ≡ Some cell → width ≡ cell.width
         → Judges sign state.old (Shows number) result state.new }
     ensures behind { OnOk result (IsBehindCharacter state.new) }
 {
@@ -118,7 +119,7 @@ fn judge_cell(state: &mut State, number: u8, cell: &Cell<'_>) -> Result<(), Synt
     {
         return Err(SyntaxError::TagConflict);
     }
-    let character = state.attributes.character(cell.width());
+    let character = state.attributes.character(width);
     state.area.add_character(page_just, &character);
     let Rectangle { width, height, .. } = state.attributes.rectangle;
     if state.area.fits_with_character(width, height) {

@@ -1,6 +1,8 @@
 -- Tokens as the items that they stand for.
 use Rattle.std.specs.Prelude.{◌^◌, ◌<◌, ◌≡◌, ℕ, ◌+◌, ◌-◌, ◌≤◌, List, length, drop, slice_range}
 use Rattle.multi_token.specs.declared.token.Token.{Token}
+use Rattle.multi_token.specs.declared.token.Bracketed.{Bracketed}
+use Rattle.multi_token.specs.declared.token.Bracketed.TheVariants as bracketed
 use Rattle.multi_token.specs.declared.token.Kind.{Kind}
 use Rattle.multi_token.specs.declared.token.Kind.TheVariants as kinds
 use Rattle.multi_token.specs.Spelling.{Item, Char, Tag, spelling, BeginsWith}
@@ -30,3 +32,14 @@ pub record IsTokenOf (octets : List ℕ) (token : Token) : Type 0 where
 pub record IsTagOf (octets : List ℕ) (token : Token) : Type 0 where
   pub is : IsTokenOf octets token
   pub kind : token.kind ≡ kinds.Tag
+
+-- the octets that spell what begins with a bracket
+abbrev pub octets_of : Bracketed → ℕ
+octets_of bracketed.Doubled = 2
+octets_of (bracketed.Tag body) = length body.now + 2
+
+-- what begins with a bracket at an offset of these octets
+abbrev pub IsBracketed : List ℕ → ℕ → ℕ → Bracketed → Type 0
+IsBracketed octets at bracket bracketed.Doubled = IsTokenOf octets (record { at = at; len = 2; kind = kinds.Char bracket })
+IsBracketed octets at bracket (bracketed.Tag body) = IsTokenOf octets (record { at = at; len = length body.now + 2; kind = kinds.Tag })
+    × (body.now ≡ slice_range octets (at + 1) (at + 1 + length body.now))

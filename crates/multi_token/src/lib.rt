@@ -5,7 +5,7 @@
 //! without brackets between `[` and `]`.
 //!
 //! [`Source`] gives its octets one at a time, or those up to a bracket at once, and counts each. There is no other way to them. [`next_token`] gives the
-//! one item that is spelled at an offset, and [`rest_of_token`] does so where its first octet was read already.
+//! one item that is spelled at an offset, and [`read_bracket`] the one that begins with a bracket which was read already.
 #![tactic(auto)]
 
 mod laws;
@@ -14,7 +14,7 @@ mod token;
 
 pub use laws::{each_string_has_a_reading, no_spelling_begins_another, one_reading};
 pub use source::Source;
-pub use token::{Kind, Token, TokenFault, next_token, rest_of_token};
+pub use token::{Bracketed, Kind, Token, TokenFault, next_token, read_bracket};
 
 #[cfg(test)]
 mod tests;

@@ -1,4 +1,4 @@
-use crate::{Kind, Source, Token, TokenFault, next_token, rest_of_token};
+use crate::{Bracketed, Kind, Source, Token, TokenFault, next_token, read_bracket};
 
 /// The tokens of a string up to the end or a fault, as far as a table of four holds them, and the steps.
 fn tokens(octets: &[u8]) -> ([Option<Token>; 4], Result<usize, TokenFault>, u64) {
@@ -21,14 +21,15 @@ fn tokens(octets: &[u8]) -> ([Option<Token>; 4], Result<usize, TokenFault>, u64)
     (found, Ok(at), source.steps())
 }
 
-/// The first token, read on from its first octet, and the steps after that octet; `None` where there is no octet.
-fn behind_the_first(octets: &[u8]) -> (Option<Result<Token, TokenFault>>, u64) {
+/// What begins with the bracket at the front, and the steps after that octet; `None` where there is no bracket.
+fn behind_the_bracket(octets: &[u8]) -> Option<(Result<Bracketed<'_>, TokenFault>, u64)> {
     let mut source = Source::new(octets);
-    let Some(first) = source.read(0) else {
-        return (None, 0);
-    };
-    let found = rest_of_token(&mut source, 0, first);
-    (Some(found), source.steps() - 1)
+    let first = source.read(0)?;
+    if first != b'[' && first != b']' {
+        return None;
+    }
+    let found = read_bracket(&mut source, 0, first);
+    Some((found, source.steps() - 1))
 }
 
 fn token(at: usize, len: usize, kind: Kind) -> Token {
@@ -80,25 +81,25 @@ fn a_broken_bracket_is_a_fault_at_its_octet(rt: HostRuntime) {
 }
 
 #[test]
-fn a_token_goes_on_behind_its_first_octet(rt: HostRuntime) {
-    let rows: [(&[u8], Token, u64); 6] = [
-        (b"A[np]", token(0, 1, Kind::Char(65)), 0),
-        (b"[[x", token(0, 2, Kind::Char(91)), 1),
-        (b"]]", token(0, 2, Kind::Char(93)), 1),
-        (b"[np]A", token(0, 4, Kind::Tag), 3),
-        (b"[tr1,1,0,0]", token(0, 11, Kind::Tag), 10),
-        (b"\xff", token(0, 1, Kind::Char(255)), 0),
+fn what_begins_with_a_bracket_goes_on_behind_it(rt: HostRuntime) {
+    let rows: [(&[u8], Bracketed<'_>, u64); 4] = [
+        (b"[[x", Bracketed::Doubled, 1),
+        (b"]]", Bracketed::Doubled, 1),
+        (b"[np]A", Bracketed::Tag(b"np"), 3),
+        (b"[tr1,1,0,0]", Bracketed::Tag(b"tr1,1,0,0"), 10),
     ];
-    for (octets, token, steps) in rows {
-        let (found, taken) = behind_the_first(octets);
-        assert_eq!(rt; found, Some(Ok(token)), "at {octets:?}");
-        assert_eq!(rt; taken, steps, "at {octets:?}");
+    for (octets, spelled, steps) in rows {
+        let found = behind_the_bracket(octets);
+        assert_eq!(rt; found, Some((Ok(spelled), steps)), "at {octets:?}");
     }
     for octets in [b"]" as &[u8], b"][", b"[", b"[nl", b"[]"] {
-        let (found, taken) = behind_the_first(octets);
-        assert_eq!(rt; found, Some(Err(TokenFault { at: 0 })), "at {octets:?}");
+        let Some((found, taken)) = behind_the_bracket(octets) else {
+            continue;
+        };
+        assert_eq!(rt; found, Err(TokenFault { at: 0 }), "at {octets:?}");
         assert!(rt; taken <= octets.len() as u64, "at {octets:?}");
     }
+    assert_eq!(rt; behind_the_bracket(b"A[np]"), None);
 }
 
 #[test]

@@ -4,7 +4,7 @@ ghost use Rattle.std.specs.Prelude.{◌≡◌, ◌+◌, ◌-◌, ◌^◌, ◌<�
 ghost use Rattle.std.specs.List.{All};
 ghost use Rattle.multi_token.specs.Counted.{charged, RisesBetween};
 ghost use Rattle.multi_token.specs.Spelling.{IsPlain, HasNoItem};
-ghost use Rattle.multi_token.specs.Tokens.{IsTokenOf};
+ghost use Rattle.multi_token.specs.Tokens.{IsBracketed, IsTokenOf, octets_of};
 
 use crate::source::Source;
 use thiserror::Error;
@@ -56,85 +56,105 @@ pub fn next_token(source: &mut Source<'_>, at: usize) -> Result<Option<Token>, T
     let Some(first) = source.read(at) else {
         return Ok(None);
     };
-    match rest_of_token(source, at, first) {
-        Ok(token) => Ok(Some(token)),
+    if first != b'[' && first != b']' {
+        return Ok(Some(character(at, 1, first)));
+    }
+    match read_bracket(source, at, first) {
+        Ok(Bracketed::Doubled) => Ok(Some(character(at, 2, first))),
+        Ok(Bracketed::Tag(body)) => Ok(Some(Token {
+            at,
+            len: body.len() + 2,
+            kind: Kind::Tag,
+        })),
         Err(fault) => Err(fault),
     }
 }
 
-/// The token at an offset whose octet was read already, and is `first`. A broken bracket there is a [`TokenFault`].
+/// What begins with a bracket (NTCIP 1203 v03, MULTI).
+#[derive(Clone, Copy, Debug, PartialEq, Eq)]
+pub enum Bracketed<'a> {
+    /// The bracket's own character, which two of them spell.
+    Doubled,
+    /// A tag, with the octets of its body.
+    Tag(&'a [u8]),
+}
+
+/// What begins with this bracket at an offset, which was read already. A broken bracket is a [`TokenFault`].
 ///
-/// The first octet isn't read again: a token takes a step for each of its other octets, and a broken bracket at most as many
-/// steps as there are octets from there on.
-pub fn rest_of_token(source: &mut Source<'_>, at: usize, first: u8) -> Result<Token, TokenFault>
-    requires first { slice_get source.old.octets at ≡ Some first }
+/// The bracket isn't read again: a doubled bracket takes one step, a tag one for each octet of its body and one for its last
+/// bracket, and a broken bracket at most as many as there are octets from there on.
+pub fn read_bracket<'a>(
+    source: &mut Source<'a>,
+    at: usize,
+    bracket: u8,
+) -> Result<Bracketed<'a>, TokenFault>
+    requires bracket { (bracket ≡ 91) ⊎ (bracket ≡ 93) }
+    requires stands { slice_get source.old.octets at ≡ Some bracket }
     // whoever read the octet knows this of the source
     requires room { length source.old.octets < 2 ^ 63 }
-    ensures token { IfOk result (λ t. (t.at ≡ at) × IsTokenOf source.old.octets t) }
+    ensures spelled { IfOk result (IsBracketed source.old.octets at bracket) }
     ensures fault { IfErr result (λ f. f.at ≡ at) }
     ensures none_stands { OnErr result (HasNoItem (drop at source.old.octets)) }
     ensures at_none { HasNoItem (drop at source.old.octets) → IsErr result }
 
-    // the steps of a token and of a fault
-    ensures token_steps { IfOk result (λ t. source.new ≡ charged source.old (t.len - 1)) }
+    // the steps of what is spelled and of a fault
+    ensures steps { IfOk result (λ spelled. source.new ≡ charged source.old (octets_of spelled - 1)) }
     ensures fault_steps { OnErr result (RisesBetween source.old source.new 0 (length source.old.octets - at)) }
 {
-    match first {
-        b'[' => open_bracket(source, at),
-        b']' => close_bracket(source, at),
-        number => Ok(Token {
-            at,
-            len: 1,
-            kind: Kind::Char(number),
-        }),
+    if bracket == b'[' {
+        open_bracket(source, at)
+    } else {
+        close_bracket(source, at)
     }
 }
 
 /// What begins with an opening bracket, which is read already.
-fn open_bracket(source: &mut Source<'_>, at: usize) -> Result<Token, TokenFault>
-    requires first { slice_get source.old.octets at ≡ Some 91 }
+fn open_bracket<'a>(source: &mut Source<'a>, at: usize) -> Result<Bracketed<'a>, TokenFault>
+    requires stands { slice_get source.old.octets at ≡ Some 91 }
     requires room { length source.old.octets < 2 ^ 63 }
-    ensures token { IfOk result (λ t.
-        (t.at ≡ at) × IsTokenOf source.old.octets t × (source.new ≡ charged source.old (t.len - 1))) }
+    ensures spelled { IfOk result (λ spelled.
+        IsBracketed source.old.octets at 91 spelled × (source.new ≡ charged source.old (octets_of spelled - 1))) }
     ensures fault { IfErr result (λ f.
         (f.at ≡ at) × HasNoItem (drop at source.old.octets) × RisesBetween source.old source.new 0 (length source.old.octets - at)) }
 {
     let (body, ending) = source.read_plain(at + 1, usize::MAX);
     let len = body.len();
-    match ending {
-        Some(b'[') if len == 0 => Ok(doubled_bracket(at, b'[')),
-        Some(b']') if len > 0 => Ok(Token {
-            at,
-            len: len + 2,
-            kind: Kind::Tag,
-        }),
-        _ => Err(TokenFault { at }),
-    }
-}
-
-/// What begins with a closing bracket, which is read already.
-fn close_bracket(source: &mut Source<'_>, at: usize) -> Result<Token, TokenFault>
-    requires first { slice_get source.old.octets at ≡ Some 93 }
-    requires room { length source.old.octets < 2 ^ 63 }
-    ensures token { IfOk result (λ t.
-        (t.at ≡ at) × IsTokenOf source.old.octets t × (source.new ≡ charged source.old (t.len - 1))) }
-    ensures fault { IfErr result (λ f.
-        (f.at ≡ at) × HasNoItem (drop at source.old.octets) × RisesBetween source.old source.new 0 (length source.old.octets - at)) }
-{
-    if source.read(at + 1) == Some(b']') {
-        Ok(doubled_bracket(at, b']'))
+    if len == 0 {
+        if ending == Some(b'[') {
+            Ok(Bracketed::Doubled)
+        } else {
+            Err(TokenFault { at })
+        }
+    } else if ending == Some(b']') {
+        Ok(Bracketed::Tag(body))
     } else {
         Err(TokenFault { at })
     }
 }
 
-/// The character that two brackets spell.
-fn doubled_bracket(at: usize, bracket: u8) -> Token
-    ensures { result ≡ record { at = at; len = 2; kind = Kind.Char bracket } }
+/// What begins with a closing bracket, which is read already.
+fn close_bracket<'a>(source: &mut Source<'a>, at: usize) -> Result<Bracketed<'a>, TokenFault>
+    requires stands { slice_get source.old.octets at ≡ Some 93 }
+    requires room { length source.old.octets < 2 ^ 63 }
+    ensures spelled { IfOk result (λ spelled.
+        IsBracketed source.old.octets at 93 spelled × (source.new ≡ charged source.old (octets_of spelled - 1))) }
+    ensures fault { IfErr result (λ f.
+        (f.at ≡ at) × HasNoItem (drop at source.old.octets) × RisesBetween source.old source.new 0 (length source.old.octets - at)) }
+{
+    if source.read(at + 1) == Some(b']') {
+        Ok(Bracketed::Doubled)
+    } else {
+        Err(TokenFault { at })
+    }
+}
+
+/// A character that is spelled by so many octets.
+fn character(at: usize, len: usize, number: u8) -> Token
+    ensures { result ≡ record { at = at; len = len; kind = Kind.Char number } }
 {
     Token {
         at,
-        len: 2,
-        kind: Kind::Char(bracket),
+        len,
+        kind: Kind::Char(number),
     }
 }

@@ -1,4 +1,8 @@
-use Rattle.std.proofs.Common.{◌≡◌, ◌-◌, length, ap}
+use Rattle.std.proofs.Common.{◌≡◌, ◌+◌, ◌-◌, Some, drop, length, sym, ap, arith}
+use Rattle.std.specs.Prelude.{slice_get}
+use Rattle.std.proofs.lemmas.Option.{slice_get_within}
+use Rattle.multi_token.specs.Spelling.{Char, IsPlain}
+use Rattle.multi_token.proofs.PlaceLemmas.{single_token}
 use Rattle.multi_token.specs.Counted.{RisesBetween}
 use Rattle.multi_token.proofs.StepLemmas.{rises_after_one}
 use Rattle.multi_token.proofs.token.next_token.Goals as goal
@@ -7,5 +11,23 @@ pub returns-in-Err-clause-fault_steps : goal.returns-in-Err-clause-fault_steps
 returns-in-Err-clause-fault_steps c =
     let most = length c.args.source.now.octets - c.args.at in
     let same : length c.read.new.self.octets ≡ length c.args.source.now.octets = ap (λ s. length s.octets) c.read.ensures.step in
-    let behind : RisesBetween c.read.new.self c.rest_of_token.new.source 0 most = rw (← same) c.in-Err.ensures.fault_steps in
-    rises_after_one c.args.source.now c.read.new.self c.rest_of_token.new.source most c.read.ensures.step behind
+    let behind : RisesBetween c.read.new.self c.read_bracket.new.source 0 most = rw (← same) c.in-Err.ensures.fault_steps in
+    rises_after_one c.args.source.now c.read.new.self c.read_bracket.new.source most c.read.ensures.step behind
+
+pub returns-then-first-ne93-clause-at_none : goal.returns-then-first-ne93-clause-at_none
+returns-then-first-ne93-clause-at_none c = λ before none.
+    let xs = c.args.source.now.octets in
+    let here : slice_get xs c.args.at ≡ Some c.in-Some.first = sym c.in-Some.ensures.octet in
+    let plain : IsPlain c.in-Some.first = (λ e. omega arith, λ e. omega arith) in
+    let token = single_token xs c.args.at c.in-Some.first c.read.ensures.room here plain in
+    absurd (none (Char c.in-Some.first) (drop (c.args.at + 1) xs) token.begins)
+
+pub returns-in-Err-clause-fault : goal.returns-in-Err-clause-fault
+returns-in-Err-clause-fault c =
+    let within = slice_get_within c.args.source.now.octets c.args.at c.in-Some.first (sym c.in-Some.ensures.octet) in
+    (c.in-Err.ensures.fault, within)
+
+pub returns-in-Err-clause-at_end : goal.returns-in-Err-clause-at_end
+returns-in-Err-clause-at_end c = λ end.
+    let within = slice_get_within c.args.source.now.octets c.args.at c.in-Some.first (sym c.in-Some.ensures.octet) in
+    absurd (omega (arith, within, end))
