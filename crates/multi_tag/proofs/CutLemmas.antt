@@ -1,17 +1,17 @@
 -- Digits at the front of octets: as they are read, and that no other digits stand there.
-use Rattle.std.proofs.Common.{◌≡◌, ◌≢◌, ℕ, ◌+◌, ◌*◌, ◌^◌, ◌<◌, ◌≤◌, List, [], ◌∷◌, ◌++◌, Option, Some, None, length, refl, sym, ap, ◌∙◌, ◌⊎◌, inl, inr, arith, append_assoc, append-nil}
+use Rattle.std.proofs.Common.{◌≡◌, ℕ, ◌+◌, ◌-◌, ◌*◌, ◌^◌, ◌<◌, ◌≤◌, List, [], ◌∷◌, ◌++◌, Option, Some, None, length, take, drop, get_or, refl, sym, ap, ◌∙◌, arith, append_assoc, append-nil}
 use Rattle.std.specs.Prelude.{unwrap_or, nat_lt}
 use Rattle.std.specs.List.{All}
-use Rattle.std.specs.Char.{digit_value}
-use Rattle.std.proofs.lemmas.List.{length-append}
+use Rattle.std.specs.Char.{digit_value, to_ascii_lowercase}
+use Rattle.std.specs.Str.{str_to_ascii_lowercase}
+use Rattle.std.proofs.lemmas.List.{length-append, take_rest}
 use Rattle.std.proofs.lemmas.Option.{cond_some, none-some}
 use Rattle.std.proofs.lemmas.Bool.{ltb-true, lt-ltb}
+use Rattle.std.proofs.lemmas.Bool.Decides.{nat_tests}
 use Rattle.std.proofs.lemmas.Nat.{mul-le}
 use Rattle.std.proofs.lemmas.List.Elements.{All-head, All-tail, All-push}
-use Rattle.multi_tag.specs.declared.number.Numeral.{Numeral}
 use Rattle.multi_tag.specs.Number.{IsDigit}
-use Rattle.multi_tag.specs.Walk.{IsNext}
-use Rattle.multi_tag.specs.Part.{IsCut, IsStop, stopped, written, digit_of}
+use Rattle.multi_tag.specs.Part.{IsCut, BeginsWithDigit, written, digit_of}
 use Rattle.multi_tag.proofs.NumberLemmas.{written-push, written-lt, pow_at_most}
 
 -- the octets begin with so many digits that write this, and the rest follows
@@ -23,23 +23,18 @@ pub record HasDigits (base count : ℕ) (octets : List ℕ) (value : Option ℕ)
   pub value_is : value ≡ written base digits
 
 -- an octet that is a digit has its value
-digit_is : (base digit octet : ℕ) → digit_of base (Some octet) ≡ Some digit → IsDigit base octet × (digit_value octet ≡ digit)
+digit_is : (base digit octet : ℕ) → digit_of base octet ≡ Some digit → IsDigit base octet × (digit_value octet ≡ digit)
 digit_is base digit octet e =
     let (small, same) = cond_some (nat_lt (digit_value octet) base) (digit_value octet) digit e in
     (ltb-true (digit_value octet) base small, same)
 
--- and one that has no value is none
-no_digit : (base octet : ℕ) → IsDigit base octet → digit_of base (Some octet) ≢ None
-no_digit base octet small e = none-some (digit_value octet) (sym e ∙ rw (lt-ltb (digit_value octet) base small) refl)
-
 -- one digit more
-pub one_digit_more : (base count digit : ℕ) (octets : List ℕ) (value : Option ℕ) (rest : List ℕ) (stop : Option ℕ) (behind : List ℕ) → HasDigits base count octets value rest → IsNext rest stop behind → digit_of base stop ≡ Some digit → HasDigits base (count + 1) octets (Some (unwrap_or value 0 * base + digit)) behind
-one_digit_more base count digit octets value rest None behind has next e = cc
-one_digit_more base count digit octets value rest (Some octet) behind has next e =
+pub one_digit_more : (base count digit octet : ℕ) (octets : List ℕ) (value : Option ℕ) (behind : List ℕ) → HasDigits base count octets value (octet ∷ behind) → digit_of base octet ≡ Some digit → HasDigits base (count + 1) octets (Some (unwrap_or value 0 * base + digit)) behind
+one_digit_more base count digit octet octets value behind has e =
     let (small, same) = digit_is base digit octet e in
     record {
       digits = has.digits ++ octet ∷ [];
-      whole = has.whole ∙ (ap (λ ys. has.digits ++ ys) next ∙ sym (append_assoc has.digits (octet ∷ []) behind));
+      whole = has.whole ∙ sym (append_assoc has.digits (octet ∷ []) behind);
       each = All-push (IsDigit base) has.digits octet has.each small;
       size = let s = has.size in simp length-append (omega arith);
       value_is = rw (has.value_is, ← same) (sym (written-push base has.digits octet));
@@ -54,37 +49,25 @@ digits_small base count octets value rest has small few =
     omega (arith, times)
 
 -- a digit is below the base
-pub digit_small : (base digit : ℕ) (stop : Option ℕ) → digit_of base stop ≡ Some digit → digit < base
-digit_small base digit None e = cc
-digit_small base digit (Some octet) e = let (small, same) = digit_is base digit octet e in omega (arith, small, same)
+pub digit_small : (base digit octet : ℕ) → digit_of base octet ≡ Some digit → digit < base
+digit_small base digit octet e = let (small, same) = digit_is base digit octet e in omega (arith, small, same)
 
--- what stopped the digits: no digit, or enough of them
-pub cut_there : (base most count : ℕ) (octets : List ℕ) (value : Option ℕ) (rest : List ℕ) (stop : Option ℕ) (behind : List ℕ) → HasDigits base count octets value rest → count ≤ most → IsNext rest stop behind → (digit_of base stop ≡ None) ⊎ (count ≡ most) → IsCut base most octets (record { value = value; stop = stop }) behind
-cut_there base most count octets value rest None behind has few next why =
+-- the digits were cut off where no digit follows, or there are enough of them
+pub cut_there : (base most count : ℕ) (octets : List ℕ) (value : Option ℕ) (rest : List ℕ) → HasDigits base count octets value rest → count ≤ most → (BeginsWithDigit base rest → count ≡ most) → IsCut base most octets value rest
+cut_there base most count octets value rest has few stops =
     let size = has.size in
     record {
       digits = has.digits;
-      whole = has.whole ∙ ap (λ ys. has.digits ++ ys) next.0;
+      whole = has.whole;
       each = has.each;
       count = omega arith;
-      stops = next.1;
-      number_is = has.value_is;
-    }
-cut_there base most count octets value rest (Some octet) behind has few next why =
-    let size = has.size in
-    record {
-      digits = has.digits;
-      whole = has.whole ∙ ap (λ ys. has.digits ++ ys) next;
-      each = has.each;
-      count = omega arith;
-      stops = λ small. elim why [ inl none ↦ absurd (no_digit base octet small none) | inr full ↦ has.size ∙ full ];
-      number_is = has.value_is;
+      stops = λ begins. has.size ∙ stops begins;
+      value_is = has.value_is;
     }
 
--- the octets begin with a digit
-abbrev pub BeginsWithDigit : ℕ → List ℕ → Type 0
-BeginsWithDigit base [] = ⊥
-BeginsWithDigit base (octet ∷ octets) = IsDigit base octet
+-- an octet that has no value is no digit
+pub no_digit : (base octet : ℕ) (behind : List ℕ) → digit_of base octet ≡ None → BeginsWithDigit base (octet ∷ behind) → ⊥
+no_digit base octet behind e small = none-some (digit_value octet) (sym e ∙ rw (lt-ltb (digit_value octet) base small) refl)
 
 -- digits at the front are one list, where one of the two is stopped by no digit, and the other by none unless it is as long
 pub one_front : (base : ℕ) (a b x y : List ℕ) → All (IsDigit base) a → All (IsDigit base) b → (BeginsWithDigit base x → length b ≤ length a) → (BeginsWithDigit base y → ⊥) → a ++ x ≡ b ++ y → (a ≡ b) × (x ≡ y)
@@ -113,34 +96,47 @@ pub record IsWritten (base most : ℕ) (octets : List ℕ) (value : Option ℕ) 
   pub value_is : value ≡ written base octets
 
 -- the digits that were cut off
-pub cut_digits : (base most : ℕ) (octets : List ℕ) (n : Numeral) (rest : List ℕ) → (cut : IsCut base most octets n rest) → IsWritten base most cut.digits n.value
-cut_digits base most octets n rest cut = record {
+pub cut_digits : (base most : ℕ) (octets : List ℕ) (value : Option ℕ) (rest : List ℕ) → (cut : IsCut base most octets value rest) → IsWritten base most cut.digits value
+cut_digits base most octets value rest cut = record {
   each = cut.each;
   count = cut.count;
-  value_is = cut.number_is;
+  value_is = cut.value_is;
 }
 
-longer : (base most k : ℕ) (stop : Option ℕ) (rest digits : List ℕ) → IsStop base stop rest (length digits ≡ most) → k ≤ most → BeginsWithDigit base (stopped stop rest) → k ≤ length digits
-longer base most k None rest digits stops few begins = absurd begins
-longer base most k (Some octet) rest digits stops few begins = let full = stops begins in omega arith
+longer : (base most k : ℕ) (rest digits : List ℕ) → (BeginsWithDigit base rest → length digits ≡ most) → k ≤ most → BeginsWithDigit base rest → k ≤ length digits
+longer base most k rest digits stops few begins = let full = stops begins in omega arith
 
 -- where the octets are digits and no more than are read, all of them were cut off
-pub cut_whole : (base most : ℕ) (octets : List ℕ) (n : Numeral) (rest : List ℕ) (value : Option ℕ) → IsCut base most octets n rest → IsWritten base most octets value → (n.value ≡ value) × (n.stop ≡ None)
-cut_whole base most octets n rest value cut w =
-    let same = one_front base cut.digits octets (stopped n.stop rest) [] cut.each w.each (longer base most (length octets) n.stop rest cut.digits cut.stops w.count) (λ none. none) (sym cut.whole ∙ sym (append-nil octets)) in
-    (cut.number_is ∙ (ap (written base) same.0 ∙ sym w.value_is), ended n.stop rest same.1)
-  where
-    ended : (stop : Option ℕ) (behind : List ℕ) → stopped stop behind ≡ [] → stop ≡ None
-    ended None behind e = refl
-    ended (Some octet) behind e = cc
+pub cut_whole : (base most : ℕ) (octets : List ℕ) (read : Option ℕ) (rest : List ℕ) (value : Option ℕ) → IsCut base most octets read rest → IsWritten base most octets value → (read ≡ value) × (rest ≡ [])
+cut_whole base most octets read rest value cut w =
+    let same = one_front base cut.digits octets rest [] cut.each w.each (longer base most (length octets) rest cut.digits cut.stops w.count) (λ none. none) (sym cut.whole ∙ sym (append-nil octets)) in
+    (cut.value_is ∙ (ap (written base) same.0 ∙ sym w.value_is), same.1)
 
 -- where digits, no more than are read, stand before an octet that is none, those were cut off
-pub cut_before : (base most octet : ℕ) (octets : List ℕ) (n : Numeral) (rest front behind : List ℕ) (value : Option ℕ) → IsCut base most octets n rest → octets ≡ front ++ octet ∷ behind → IsWritten base most front value → ¬ (IsDigit base octet) → (n.value ≡ value) × (n.stop ≡ Some octet) × (rest ≡ behind)
-cut_before base most octet octets n rest front behind value cut e w none =
-    let same = one_front base cut.digits front (stopped n.stop rest) (octet ∷ behind) cut.each w.each (longer base most (length front) n.stop rest cut.digits cut.stops w.count) none (sym cut.whole ∙ e) in
-    let there = parted n.stop rest same.1 in
-    (cut.number_is ∙ (ap (written base) same.0 ∙ sym w.value_is), there.0, there.1)
-  where
-    parted : (stop : Option ℕ) (after : List ℕ) → stopped stop after ≡ octet ∷ behind → (stop ≡ Some octet) × (after ≡ behind)
-    parted None after e = cc
-    parted (Some c) after e = (cc, cc)
+pub cut_before : (base most octet : ℕ) (octets : List ℕ) (read : Option ℕ) (rest front behind : List ℕ) (value : Option ℕ) → IsCut base most octets read rest → octets ≡ front ++ octet ∷ behind → IsWritten base most front value → ¬ (IsDigit base octet) → (read ≡ value) × (rest ≡ octet ∷ behind)
+cut_before base most octet octets read rest front behind value cut e w none =
+    let same = one_front base cut.digits front rest (octet ∷ behind) cut.each w.each (longer base most (length front) rest cut.digits cut.stops w.count) none (sym cut.whole ∙ e) in
+    (cut.value_is ∙ (ap (written base) same.0 ∙ sym w.value_is), same.1)
+
+-- no octets are none that begin with one
+pub empty_or_not : {octet : ℕ} {octets behind : List ℕ} → octets ≡ [] → octets ≡ octet ∷ behind → ⊥
+empty_or_not e f = cc
+
+pub first_of : {a b : ℕ} {x y : List ℕ} → a ∷ x ≡ b ∷ y → a ≡ b
+first_of e = cc
+
+-- small letters for capital ones: of the first octet, and of the rest
+pub small_front : (octets : List ℕ) → 1 ≤ length octets → str_to_ascii_lowercase octets ≡ to_ascii_lowercase (get_or octets 0 0) ∷ str_to_ascii_lowercase (take (length octets - 1) (drop 1 octets))
+small_front [] some = absurd (omega arith)
+small_front (octet ∷ octets) some = rw (take_rest (octet ∷ octets) 1) refl
+
+pub small_empty : (octets : List ℕ) → length octets < 1 → str_to_ascii_lowercase octets ≡ []
+small_empty [] none = refl
+small_empty (octet ∷ octets) none = absurd (omega arith)
+
+-- a comma is no letter
+pub small_comma : (octets : List ℕ) → 1 ≤ length octets → get_or octets 0 0 ≡ 44 → str_to_ascii_lowercase octets ≡ 44 ∷ str_to_ascii_lowercase (take (length octets - 1) (drop 1 octets))
+small_comma octets some is = small_front octets some ∙ ap (λ octet. to_ascii_lowercase octet ∷ str_to_ascii_lowercase (take (length octets - 1) (drop 1 octets))) is
+
+pub comma_alone : (octet : ℕ) → to_ascii_lowercase octet ≡ 44 → octet ≡ 44
+comma_alone octet is = grind (arith, nat_tests)

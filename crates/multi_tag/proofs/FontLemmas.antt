@@ -1,7 +1,6 @@
 -- Fonts: what was read is their value.
-use Rattle.std.proofs.Common.{◌≡◌, ℕ, List, Option, Some, None, refl, sym, ap, ◌∙◌, ◌⊎◌, inl, inr}
+use Rattle.std.proofs.Common.{◌≡◌, ℕ, List, [], ◌∷◌, Option, Some, None, refl, sym, ap, ◌∙◌, ◌⊎◌, inl, inr}
 use Rattle.std.proofs.lemmas.Option.{none-some, same_Some}
-use Rattle.multi_tag.specs.declared.number.Numeral.{Numeral}
 use Rattle.multi_tag.specs.declared.name.Name.TheVariants as names
 use Rattle.multi_tag.specs.declared.tag.Tag.{Tag}
 use Rattle.multi_tag.specs.declared.tag.FontPick.{FontPick}
@@ -9,6 +8,7 @@ use Rattle.multi_tag.specs.declared.tag.Tag.TheVariants.{Font}
 use Rattle.multi_tag.specs.Form.{d, d?, h, between}
 use Rattle.multi_tag.specs.Body.{table}
 use Rattle.multi_tag.specs.Part.{IsCut, IsValueIn, in_range}
+use Rattle.multi_tag.proofs.CutLemmas.{empty_or_not}
 use Rattle.multi_tag.proofs.PartLemmas.{comma_is_no_digit}
 use Rattle.multi_tag.proofs.FormLemmas.{written_d?, d?_d, d_d?, alone_value, before_value, alone_is, before_is}
 
@@ -27,32 +27,35 @@ font_cases octets tag (inl (empty, is)) = alone None (inl (empty, refl)) is
 font_cases octets tag (inr (inl (n, f, is))) = alone (Some n) (d_d? 1 255 octets n f) is
 font_cases octets tag (inr (inr (v, both, is))) = with_version v.0 v.1 both is
 
--- a font's number, and its version behind a comma
-module _ (octets : List ℕ) (n : Numeral) (rest : List ℕ) (cut : IsCut 10 5 octets n rest) where
-  pub font_out_of_range : in_range 1 255 n.value ≡ None → IsValueIn (table names.Font).rest octets None
-  font_out_of_range e tag f = elim (font_cases octets tag f) [
-    | alone o g is ↦ none-some o (sym e ∙ (alone_value 1 255 octets n rest o cut g).1)
-    | with_version m v (front, behind, is, g, k) same ↦ none-some (Some m) (sym e ∙ (before_value 1 255 44 octets n rest front behind (Some m) cut comma_is_no_digit is (d_d? 1 255 front m g)).1)
+-- a font's number
+module _ (octets : List ℕ) (value : Option ℕ) where
+  pub font_out_of_range : (rest : List ℕ) → IsCut 10 5 octets value rest → in_range 1 255 value ≡ None → IsValueIn (table names.Font).rest octets None
+  font_out_of_range rest cut e tag f = elim (font_cases octets tag f) [
+    | alone o g is ↦ none-some o (sym e ∙ (alone_value 1 255 octets value rest o cut g).1)
+    | with_version m v (front, behind, is, g, k) same ↦ none-some (Some m) (sym e ∙ (before_value 1 255 44 octets value rest front behind (Some m) cut comma_is_no_digit is (d_d? 1 255 front m g)).1)
   ]
 
-  pub font_alone : (o : Option ℕ) → in_range 1 255 n.value ≡ Some o → n.stop ≡ None → (table names.Font).rest octets (Font (picked o))
-  font_alone o e ended = elim (written_d? 1 255 octets n.value o (alone_is 10 5 octets n rest cut ended) e) [
+  pub font_alone : (o : Option ℕ) → IsCut 10 5 octets value [] → in_range 1 255 value ≡ Some o → (table names.Font).rest octets (Font (picked o))
+  font_alone o cut e = elim (written_d? 1 255 octets value o (alone_is 10 5 octets value cut) e) [
     | inl (empty, is) ↦ inl (empty, ap (λ p. Font (picked p)) is)
     | inr (m, f, is) ↦ inr (inl (m, f, ap (λ p. Font (picked p)) is))
   ]
 
-  pub font_version : (m v : ℕ) → in_range 1 255 n.value ≡ Some (Some m) → n.stop ≡ Some 44 → h rest v → (table names.Font).rest octets (Font (Some (record { number = m; version = Some v })))
-  font_version m v e stop g =
-      let (front, is, f) = before_is 1 255 44 octets n rest (Some m) cut stop e in
+  -- and its version behind a comma
+  pub font_version : (m v : ℕ) (rest : List ℕ) → IsCut 10 5 octets value (44 ∷ rest) → in_range 1 255 value ≡ Some (Some m) → h rest v → (table names.Font).rest octets (Font (Some (record { number = m; version = Some v })))
+  font_version m v rest cut e g =
+      let (front, is, f) = before_is 1 255 44 octets value rest (Some m) cut e in
       inr (inr ((m, v), (front, rest, is, d?_d 1 255 front m f, g), refl))
 
-  -- what stopped the number is no comma, or there is no number or no version beside it
-  pub font_none : (stop : ℕ) → n.stop ≡ Some stop → (stop ≡ 44 → (in_range 1 255 n.value ≡ Some None) ⊎ IsValueIn h rest None) → IsValueIn (table names.Font).rest octets None
-  font_none stop e why tag f = elim (font_cases octets tag f) [
-    | alone o g is ↦ none-some stop (sym (alone_value 1 255 octets n rest o cut g).0 ∙ e)
+  -- what stands behind the number is no comma, or there is no number or no version beside it
+  pub font_none : (stop : ℕ) (rest : List ℕ) → IsCut 10 5 octets value (stop ∷ rest) → (stop ≡ 44 → (in_range 1 255 value ≡ Some None) ⊎ IsValueIn h rest None) → IsValueIn (table names.Font).rest octets None
+  font_none stop rest cut why tag f = elim (font_cases octets tag f) [
+    | alone o g is ↦ empty_or_not (alone_value 1 255 octets value (stop ∷ rest) o cut g).0 refl
     | with_version m v (front, behind, is, g, k) _ ↦
-        let (comma, range, same) = before_value 1 255 44 octets n rest front behind (Some m) cut comma_is_no_digit is (d_d? 1 255 front m g) in
-        elim (why (same_Some stop 44 (sym e ∙ comma))) [
+        let (there, range) = before_value 1 255 44 octets value (stop ∷ rest) front behind (Some m) cut comma_is_no_digit is (d_d? 1 255 front m g) in
+        let comma : stop ≡ 44 = cc in
+        let same : rest ≡ behind = cc in
+        elim (why comma) [
           | inl lacks ↦ none-some m (same_Some None (Some m) (sym lacks ∙ range))
           | inr none ↦ none v (rw same k)
         ]

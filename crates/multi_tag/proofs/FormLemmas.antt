@@ -4,10 +4,9 @@ use Rattle.std.specs.Prelude.{nat_le}
 use Rattle.std.proofs.lemmas.Option.{cond_some, none-some, same_Some}
 use Rattle.std.proofs.lemmas.Bool.{le-leb, leb-true}
 use Rattle.std.proofs.lemmas.List.Elements.{All-nil}
-use Rattle.multi_tag.specs.declared.number.Numeral.{Numeral}
 use Rattle.multi_tag.specs.Number.{IsDigit, number}
 use Rattle.multi_tag.specs.Form.{IsNumber, d, d?}
-use Rattle.multi_tag.specs.Part.{IsCut, stopped, in_range}
+use Rattle.multi_tag.specs.Part.{IsCut, in_range}
 use Rattle.multi_tag.proofs.CutLemmas.{IsWritten, cut_digits, cut_whole, cut_before}
 
 -- a number is written
@@ -76,25 +75,25 @@ pub d_d? : (low high : ℕ) (octets : List ℕ) (n : ℕ) → d low high octets 
 d_d? low high octets n f = inr (n, f, refl)
 
 -- where all octets are a d?, nothing stopped the digits
-pub alone_value : (low high : ℕ) (octets : List ℕ) (n : Numeral) (rest : List ℕ) (o : Option ℕ) → IsCut 10 5 octets n rest → d? low high octets o → (n.stop ≡ None) × (in_range low high n.value ≡ Some o)
-alone_value low high octets n rest o cut f =
+pub alone_value : (low high : ℕ) (octets : List ℕ) (value : Option ℕ) (rest : List ℕ) (o : Option ℕ) → IsCut 10 5 octets value rest → d? low high octets o → (rest ≡ []) × (in_range low high value ≡ Some o)
+alone_value low high octets value rest o cut f =
     let (w, passes) = d?_written low high octets o f in
-    let (is, ended) = cut_whole 10 5 octets n rest o cut w in
+    let (is, ended) = cut_whole 10 5 octets value rest o cut w in
     (ended, ap (in_range low high) is ∙ passes)
 
 -- where a d? stands before an octet that is no digit, that octet stopped the digits
-pub before_value : (low high octet : ℕ) (octets : List ℕ) (n : Numeral) (rest front behind : List ℕ) (o : Option ℕ) → IsCut 10 5 octets n rest → ¬ (IsDigit 10 octet) → octets ≡ front ++ octet ∷ behind → d? low high front o → (n.stop ≡ Some octet) × (in_range low high n.value ≡ Some o) × (rest ≡ behind)
-before_value low high octet octets n rest front behind o cut none e f =
+pub before_value : (low high octet : ℕ) (octets : List ℕ) (value : Option ℕ) (rest front behind : List ℕ) (o : Option ℕ) → IsCut 10 5 octets value rest → ¬ (IsDigit 10 octet) → octets ≡ front ++ octet ∷ behind → d? low high front o → (rest ≡ octet ∷ behind) × (in_range low high value ≡ Some o)
+before_value low high octet octets value rest front behind o cut none e f =
     let (w, passes) = d?_written low high front o f in
-    let (is, stop, same) = cut_before 10 5 octet octets n rest front behind o cut e w none in
-    (stop, ap (in_range low high) is ∙ passes, same)
+    let (is, stop) = cut_before 10 5 octet octets value rest front behind o cut e w none in
+    (stop, ap (in_range low high) is ∙ passes)
 
 -- and back
-pub alone_is : (base most : ℕ) (octets : List ℕ) (n : Numeral) (rest : List ℕ) → IsCut base most octets n rest → n.stop ≡ None → IsWritten base most octets n.value
-alone_is base most octets n rest cut ended =
-    let whole : octets ≡ cut.digits = cut.whole ∙ (ap (λ stop. cut.digits ++ stopped stop rest) ended ∙ append-nil cut.digits) in
-    rw whole (cut_digits base most octets n rest cut)
+pub alone_is : (base most : ℕ) (octets : List ℕ) (value : Option ℕ) → IsCut base most octets value [] → IsWritten base most octets value
+alone_is base most octets value cut =
+    let whole : octets ≡ cut.digits = cut.whole ∙ append-nil cut.digits in
+    rw whole (cut_digits base most octets value [] cut)
 
-pub before_is : (low high octet : ℕ) (octets : List ℕ) (n : Numeral) (rest : List ℕ) (o : Option ℕ) → IsCut 10 5 octets n rest → n.stop ≡ Some octet → in_range low high n.value ≡ Some o → (front : List ℕ) × (octets ≡ front ++ octet ∷ rest) × d? low high front o
-before_is low high octet octets n rest o cut stop passes =
-    (cut.digits, cut.whole ∙ ap (λ s. cut.digits ++ stopped s rest) stop, written_d? low high cut.digits n.value o (cut_digits 10 5 octets n rest cut) passes)
+pub before_is : (low high octet : ℕ) (octets : List ℕ) (value : Option ℕ) (behind : List ℕ) (o : Option ℕ) → IsCut 10 5 octets value (octet ∷ behind) → in_range low high value ≡ Some o → (front : List ℕ) × (octets ≡ front ++ octet ∷ behind) × d? low high front o
+before_is low high octet octets value behind o cut passes =
+    (cut.digits, cut.whole, written_d? low high cut.digits value o (cut_digits 10 5 octets value (octet ∷ behind) cut) passes)

@@ -1,4 +1,5 @@
 mod Examples
+pub mod BodyLemmas
 pub mod CutLemmas
 pub mod FontLemmas
 pub mod FormLemmas
@@ -10,7 +11,6 @@ pub mod ReadLemmas
 pub mod RectLemmas
 pub mod TimesLemmas
 pub mod UniqueLemmas
-pub mod WalkLemmas
 pub mod TagFormLemmas
 pub mod TagPartLemmas
 pub mod TagRowLemmas

@@ -1,5 +1,9 @@
 -- The names of the table: one at most begins the octets.
-use Rattle.std.proofs.Common.{◌≡◌, ◌≢◌, ℕ, ◌==◌, if◌then◌else◌, List, [], ◌∷◌, ◌++◌, Option, Some, None, refl, sym, ap, ◌∙◌}
+use Rattle.std.proofs.Common.{◌≡◌, ◌≢◌, ℕ, ◌<◌, ◌≤◌, ◌-◌, ◌==◌, if◌then◌else◌, List, [], ◌∷◌, ◌++◌, length, take, drop, get_or, Option, Some, None, refl, sym, ap, ◌∙◌, arith}
+use Rattle.std.specs.Char.{to_ascii_lowercase}
+use Rattle.std.specs.Str.{str_to_ascii_lowercase}
+use Rattle.std.proofs.lemmas.List.{take_rest}
+use Rattle.std.proofs.lemmas.Bool.{ne_eqb}
 use Rattle.std.proofs.lemmas.Option.{none-some, same_Some}
 use Rattle.multi_tag.specs.declared.name.Name.{Name}
 use Rattle.multi_tag.specs.declared.name.Name.TheVariants.{NewPage, NewLine, LineJust, PageJust, Font, CharSpacing, CharSpacingEnd, PageTime, Flash, FlashEnd, Fore, Back, Rect}
@@ -51,17 +55,29 @@ pub no_name : (octets : List ℕ) → name_at octets ≡ None → HasNameAtFront
 unfolding HasNameAtFront
 no_name octets e (name, rest, is) = none-some name (sym e ∙ (ap name_at is ∙ named name rest))
 
--- two octets that are no name's, and what stands behind them
-pub no_name_of : (octets behind rest : List ℕ) (first second : ℕ) → octets ≡ first ∷ behind → behind ≡ second ∷ rest → name_of first second rest ≡ None → HasNameAtFront octets → ⊥
-no_name_of octets behind rest first second e f none =
-    no_name octets (ap name_at (e ∙ ap (λ ys. first ∷ ys) f) ∙ none)
+-- a body of one octet, or of two that are no name's with what stands behind them
+pub no_short_name : (body : List ℕ) → length body < 2 → HasNameAtFront (str_to_ascii_lowercase body) → ⊥
+no_short_name [] short = no_name [] refl
+no_short_name (first ∷ []) short = no_name (to_ascii_lowercase first ∷ []) refl
+no_short_name (first ∷ second ∷ rest) short = absurd (omega arith)
+
+pub no_name_of : (body : List ℕ) (first second : ℕ) → 2 ≤ length body → first ≡ to_ascii_lowercase (get_or body 0 0) → second ≡ to_ascii_lowercase (get_or body 1 0) → name_of first second (str_to_ascii_lowercase (take (length body - 2) (drop 2 body))) ≡ None → HasNameAtFront (str_to_ascii_lowercase body) → ⊥
+no_name_of [] first second some e f none = absurd (omega arith)
+no_name_of (_ ∷ []) first second some e f none = absurd (omega arith)
+no_name_of (a ∷ b ∷ rest) first second some e f none =
+    let all : take (length (a ∷ b ∷ rest) - 2) (drop 2 (a ∷ b ∷ rest)) ≡ rest = take_rest (a ∷ b ∷ rest) 2 in
+    let named : name_of (to_ascii_lowercase a) (to_ascii_lowercase b) (str_to_ascii_lowercase rest) ≡ None = rw (← e, ← f, ← all) none in
+    no_name (str_to_ascii_lowercase (a ∷ b ∷ rest)) named
 
 -- one name begins the octets
 pub one_name : (a b : Name) (x y : List ℕ) → (table a).name ++ x ≡ (table b).name ++ y → a ≡ b
 one_name a b x y e = same_Some a b (sym (named a x) ∙ (ap name_at e ∙ named b y))
 
--- a name has octets
-pub name_left : (name : Name) (octets rest : List ℕ) → octets ≡ (table name).name ++ rest → octets ≢ []
-name_left name octets rest e empty =
-    let nothing : name_at octets ≡ None = ap name_at empty in
-    none-some name (sym nothing ∙ (ap name_at e ∙ named name rest))
+-- no name of three letters without its third
+pub no_third : (octets : List ℕ) → ((rest : List ℕ) → octets ≢ 99 ∷ rest) → ending 115 octets ≡ None
+no_third [] none = refl
+no_third (third ∷ rest) none = rw (ne_eqb third 99 (λ e. none rest (ap (λ c. c ∷ rest) e))) refl
+
+pub no_third_l : (octets : List ℕ) → ((rest : List ℕ) → octets ≢ 108 ∷ rest) → ending 102 octets ≡ None
+no_third_l [] none = refl
+no_third_l (third ∷ rest) none = rw (ne_eqb third 108 (λ e. none rest (ap (λ c. c ∷ rest) e))) refl

@@ -1,7 +1,6 @@
 -- Page times and flashing: what was read is their value.
 use Rattle.std.proofs.Common.{◌≡◌, ℕ, true, false, List, [], ◌∷◌, Option, Some, None, refl, sym, ap, ◌∙◌, inl, inr}
-use Rattle.std.proofs.lemmas.Option.{none-some, same_Some}
-use Rattle.multi_tag.specs.declared.number.Numeral.{Numeral}
+use Rattle.std.proofs.lemmas.Option.{none-some}
 use Rattle.multi_tag.specs.declared.name.Name.TheVariants as names
 use Rattle.multi_tag.specs.declared.tag.Tag.{Tag}
 use Rattle.multi_tag.specs.declared.tag.Tag.TheVariants.{PageTime, Flash}
@@ -9,30 +8,34 @@ use Rattle.multi_tag.specs.Number.{IsDigit}
 use Rattle.multi_tag.specs.Form.{d?}
 use Rattle.multi_tag.specs.Body.{table}
 use Rattle.multi_tag.specs.Part.{IsCut, IsValueIn, in_range, times}
+use Rattle.multi_tag.proofs.CutLemmas.{empty_or_not}
 use Rattle.multi_tag.proofs.FormLemmas.{written_d?, alone_value, before_value, alone_is, before_is}
 
 -- one time or two
-module _ (letter : ℕ) (octets : List ℕ) (n : Numeral) (rest : List ℕ) (cut : IsCut 10 5 octets n rest) (none : ¬ (IsDigit 10 letter)) where
-  pub times_out_of_range : in_range 0 255 n.value ≡ None → IsValueIn (times letter) octets None
-  times_out_of_range e v (inl (o, f, is)) = none-some o (sym e ∙ (alone_value 0 255 octets n rest o cut f).1)
-  times_out_of_range e v (inr (front, behind, is, f, g)) =
-      none-some v.0 (sym e ∙ (before_value 0 255 letter octets n rest front behind v.0 cut none is f).1)
+module _ (letter : ℕ) (octets : List ℕ) (value : Option ℕ) where
+  pub times_out_of_range : (rest : List ℕ) → IsCut 10 5 octets value rest → ¬ (IsDigit 10 letter) → in_range 0 255 value ≡ None → IsValueIn (times letter) octets None
+  times_out_of_range rest cut none e v (inl (o, f, is)) = none-some o (sym e ∙ (alone_value 0 255 octets value rest o cut f).1)
+  times_out_of_range rest cut none e v (inr (front, behind, is, f, g)) =
+      none-some v.0 (sym e ∙ (before_value 0 255 letter octets value rest front behind v.0 cut none is f).1)
 
-  pub times_alone : (o : Option ℕ) → in_range 0 255 n.value ≡ Some o → n.stop ≡ None → times letter octets (o, None)
-  times_alone o e ended = inl (o, written_d? 0 255 octets n.value o (alone_is 10 5 octets n rest cut ended) e, refl)
+  pub times_alone : (o : Option ℕ) → IsCut 10 5 octets value [] → in_range 0 255 value ≡ Some o → times letter octets (o, None)
+  times_alone o cut e = inl (o, written_d? 0 255 octets value o (alone_is 10 5 octets value cut) e, refl)
 
-  pub times_stopped : (stop : ℕ) → n.stop ≡ Some stop → (stop ≡ letter → ⊥) → IsValueIn (times letter) octets None
-  times_stopped stop e other v (inl (o, f, is)) = none-some stop (sym (alone_value 0 255 octets n rest o cut f).0 ∙ e)
-  times_stopped stop e other v (inr (front, behind, is, f, g)) =
-      other (same_Some stop letter (sym e ∙ (before_value 0 255 letter octets n rest front behind v.0 cut none is f).0))
+  pub times_stopped : (stop : ℕ) (rest : List ℕ) → IsCut 10 5 octets value (stop ∷ rest) → ¬ (IsDigit 10 letter) → (stop ≡ letter → ⊥) → IsValueIn (times letter) octets None
+  times_stopped stop rest cut none other v (inl (o, f, is)) = empty_or_not (alone_value 0 255 octets value (stop ∷ rest) o cut f).0 refl
+  times_stopped stop rest cut none other v (inr (front, behind, is, f, g)) =
+      let there = (before_value 0 255 letter octets value (stop ∷ rest) front behind v.0 cut none is f).0 in
+      let same : stop ≡ letter = cc in
+      other same
 
-  pub times_both : (a b : Option ℕ) → in_range 0 255 n.value ≡ Some a → n.stop ≡ Some letter → d? 0 255 rest b → times letter octets (a, b)
-  times_both a b e stop g = let (front, is, f) = before_is 0 255 letter octets n rest a cut stop e in inr (front, rest, is, f, g)
+  pub times_both : (a b : Option ℕ) (rest : List ℕ) → IsCut 10 5 octets value (letter ∷ rest) → in_range 0 255 value ≡ Some a → d? 0 255 rest b → times letter octets (a, b)
+  times_both a b rest cut e g = let (front, is, f) = before_is 0 255 letter octets value rest a cut e in inr (front, rest, is, f, g)
 
-  pub times_no_second : n.stop ≡ Some letter → IsValueIn (d? 0 255) rest None → IsValueIn (times letter) octets None
-  times_no_second e lacks v (inl (o, f, is)) = none-some letter (sym (alone_value 0 255 octets n rest o cut f).0 ∙ e)
-  times_no_second e lacks v (inr (front, behind, is, f, g)) =
-      let same : rest ≡ behind = (before_value 0 255 letter octets n rest front behind v.0 cut none is f).2 in
+  pub times_no_second : (rest : List ℕ) → IsCut 10 5 octets value (letter ∷ rest) → ¬ (IsDigit 10 letter) → IsValueIn (d? 0 255) rest None → IsValueIn (times letter) octets None
+  times_no_second rest cut none lacks v (inl (o, f, is)) = empty_or_not (alone_value 0 255 octets value (letter ∷ rest) o cut f).0 refl
+  times_no_second rest cut none lacks v (inr (front, behind, is, f, g)) =
+      let there = (before_value 0 255 letter octets value (letter ∷ rest) front behind v.0 cut none is f).0 in
+      let same : rest ≡ behind = cc in
       lacks v.1 (rw same g)
 
 -- what stands behind the name of a page time

@@ -4,5 +4,4 @@ pub mod Form
 pub mod Number
 pub mod Octet
 pub mod Part
-pub mod Walk
 pub mod TagOf

@@ -2,7 +2,6 @@
 use Rattle.std.specs.Prelude.{◌≡◌, ℕ, ◌≤◌, ◌&&◌, nat_le, nat_lt, if◌then◌else◌, List, [], ◌∷◌, ◌++◌, length, Option, Some, None}
 use Rattle.std.specs.List.{All}
 use Rattle.std.specs.Char.{digit_value}
-use Rattle.multi_tag.specs.declared.number.Numeral.{Numeral}
 use Rattle.multi_tag.specs.Number.{IsDigit, number}
 use Rattle.multi_tag.specs.Form.{Form, d?, ◌means◌, ◌or◌, between}
 
@@ -21,34 +20,31 @@ abbrev pub in_range : ℕ → ℕ → Option ℕ → Option (Option ℕ)
 in_range low high None = Some None
 in_range low high (Some number) = if nat_le low number && nat_le number high then Some (Some number) else None
 
--- the value of a digit of a base, if there is one (own)
-abbrev pub digit_of : ℕ → Option ℕ → Option ℕ
-digit_of base None = None
-digit_of base (Some octet) = if nat_lt (digit_value octet) base then Some (digit_value octet) else None
+-- the value of a digit of a base, if it is one (own)
+abbrev pub digit_of : ℕ → ℕ → Option ℕ
+digit_of base octet = if nat_lt (digit_value octet) base then Some (digit_value octet) else None
 
--- what stands behind digits: the end, or an octet that is no digit unless there are as many digits as there may be (own)
-abbrev pub IsStop : ℕ → Option ℕ → List ℕ → Type 0 → Type 0
-IsStop base None rest full = rest ≡ []
-IsStop base (Some octet) rest full = IsDigit base octet → full
+-- the octets begin with a digit (own)
+abbrev pub BeginsWithDigit : ℕ → List ℕ → Type 0
+BeginsWithDigit base [] = ⊥
+BeginsWithDigit base (octet ∷ octets) = IsDigit base octet
 
--- the octets from the one that stopped the digits on (own)
-abbrev pub stopped : Option ℕ → List ℕ → List ℕ
-stopped None rest = []
-stopped (Some octet) rest = octet ∷ rest
-
--- the octets begin with as many digits as there are, but so many at most; behind them stand the octet that stopped them and the rest (own)
-pub record IsCut (base most : ℕ) (octets : List ℕ) (numeral : Numeral) (rest : List ℕ) : Type 0 where
+-- the octets begin with as many digits as there are, but so many at most, which write this; the rest stands behind them (own)
+pub record IsCut (base most : ℕ) (octets : List ℕ) (value : Option ℕ) (rest : List ℕ) : Type 0 where
   pub digits : List ℕ
-  pub whole : octets ≡ digits ++ stopped numeral.stop rest
+  pub whole : octets ≡ digits ++ rest
   pub each : All (IsDigit base) digits
   pub count : length digits ≤ most
-  pub stops : IsStop base numeral.stop rest (length digits ≡ most)
-  pub number_is : numeral.value ≡ written base digits
+  pub stops : BeginsWithDigit base rest → length digits ≡ most
+  pub value_is : value ≡ written base digits
 
--- a number, and the octet behind it: what octets begin with, and the rest (own)
-abbrev pub IsPartBefore : {V : Type 0} → ℕ → Form V → List ℕ → Option V → List ℕ → Type 0
-IsPartBefore octet form octets (Some value) rest = (front : List ℕ) × (octets ≡ front ++ octet ∷ rest) × form front value
-IsPartBefore {V} octet form octets None rest = (front behind : List ℕ) (value : V) → octets ≡ front ++ octet ∷ behind → ¬ (form front value)
+-- octets begin with a number and an octet behind it; the rest stands behind both (own)
+abbrev pub IsPartBefore : {V : Type 0} → ℕ → Form V → List ℕ → V → List ℕ → Type 0
+IsPartBefore octet form octets value rest = (front : List ℕ) × (octets ≡ front ++ octet ∷ rest) × form front value
+
+-- octets begin with no number that this octet stands behind (own)
+abbrev pub HasNoPartBefore : {V : Type 0} → ℕ → Form V → List ℕ → Type 0
+HasNoPartBefore {V} octet form octets = (front behind : List ℕ) (value : V) → octets ≡ front ++ octet ∷ behind → ¬ (form front value)
 
 -- one time, or two times with a letter between them (NTCIP 1203 v03, MULTI tags 'pt' and 'fl')
 abbrev pub times : ℕ → Form (Option ℕ × Option ℕ)

@@ -7,7 +7,6 @@
 //! [`read_tag`] reads the body of a tag, and gives the tag's value or the fault that explains why it has none.
 #![tactic(auto)]
 
-mod body_place;
 mod font;
 mod laws;
 mod name;

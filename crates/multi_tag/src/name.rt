@@ -1,11 +1,8 @@
 //! The names of tags.
 
-ghost use Rattle.std.specs.Prelude.{◌≡◌, ◌≢◌, ◌<◌, [], ◌++◌, IfSome, IfNone};
+ghost use Rattle.std.specs.Prelude.{◌≡◌, ◌≢◌, ℕ, List, ◌∷◌, ◌++◌, IfSome, IfNone};
+ghost use Rattle.std.specs.Str.{str_to_ascii_lowercase};
 ghost use Rattle.multi_tag.specs.Body.{HasNameAtFront, table};
-ghost use Rattle.multi_tag.specs.Walk.{IsWithin, HasReadOn, left};
-
-use crate::body_place::BodyPlace;
-use multi_token::Source;
 
 /// What the name of a tag says of it (NTCIP 1203 v03, MULTI).
 #[derive(Clone, Copy, Debug, PartialEq, Eq)]
@@ -25,32 +22,46 @@ pub enum Name {
     Rect,
 }
 
-/// The name that begins what is left of the body, or `None` where no listed name does.
+/// The name that begins a body, and the octets behind it, or `None` where no listed name does.
 #[inline(always)]
-pub fn read_name(source: &mut Source<'_>, cursor: &mut BodyPlace) -> Option<Name>
-    requires { IsWithin source.old cursor.old }
-    ensures name { IfSome result (λ name.
-        left source.old cursor.old ≡ (table name).name ++ left source.new cursor.new) }
-    ensures none { IfNone result (¬ HasNameAtFront (left source.old cursor.old)) }
-    ensures begins { left source.old cursor.old ≢ [] → cursor.old.at < cursor.new.at }
-    ensures walk { HasReadOn source.old source.new cursor.old cursor.new }
+pub fn read_name(body: &[u8]) -> Option<(Name, &[u8])>
+    ensures name { IfSome result (λ (name, rest).
+        str_to_ascii_lowercase body.now ≡ (table name).name ++ str_to_ascii_lowercase rest.now) }
+    ensures none { IfNone result (¬ HasNameAtFront (str_to_ascii_lowercase body.now)) }
 {
-    let first = cursor.next(source)?;
-    let second = cursor.next(source)?;
-    match &[first, second] {
-        b"np" => Some(Name::NewPage),
-        b"nl" => Some(Name::NewLine),
-        b"jl" => Some(Name::LineJust),
-        b"jp" => Some(Name::PageJust),
-        b"fo" => Some(Name::Font),
-        b"sc" => Some(Name::CharSpacing),
-        b"pt" => Some(Name::PageTime),
-        b"fl" => Some(Name::Flash),
-        b"cf" => Some(Name::Fore),
-        b"pb" => Some(Name::Back),
-        b"tr" => Some(Name::Rect),
-        b"/s" if cursor.next(source) == Some(b'c') => Some(Name::CharSpacingEnd),
-        b"/f" if cursor.next(source) == Some(b'l') => Some(Name::FlashEnd),
+    let [first, second, rest @ ..] = body else {
+        return None;
+    };
+    match &[first.to_ascii_lowercase(), second.to_ascii_lowercase()] {
+        b"np" => Some((Name::NewPage, rest)),
+        b"nl" => Some((Name::NewLine, rest)),
+        b"jl" => Some((Name::LineJust, rest)),
+        b"jp" => Some((Name::PageJust, rest)),
+        b"fo" => Some((Name::Font, rest)),
+        b"sc" => Some((Name::CharSpacing, rest)),
+        b"pt" => Some((Name::PageTime, rest)),
+        b"fl" => Some((Name::Flash, rest)),
+        b"cf" => Some((Name::Fore, rest)),
+        b"pb" => Some((Name::Back, rest)),
+        b"tr" => Some((Name::Rect, rest)),
+        b"/s" => Some((Name::CharSpacingEnd, after_letter(rest, b'c')?)),
+        b"/f" => Some((Name::FlashEnd, after_letter(rest, b'l')?)),
         _ => None,
+    }
+}
+
+/// The octets behind a letter, or `None` where they don't begin with it. The letter is given as a small one.
+#[inline(always)]
+fn after_letter(octets: &[u8], letter: u8) -> Option<&[u8]>
+    ensures some { IfSome result (λ rest. str_to_ascii_lowercase octets.now ≡ letter ∷ str_to_ascii_lowercase rest.now) }
+    ensures none { IfNone result ((rest : List ℕ) → str_to_ascii_lowercase octets.now ≢ letter ∷ rest) }
+{
+    let [first, rest @ ..] = octets else {
+        return None;
+    };
+    if first.to_ascii_lowercase() == letter {
+        Some(rest)
+    } else {
+        None
     }
 }

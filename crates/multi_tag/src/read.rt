@@ -5,7 +5,6 @@ ghost use Rattle.multi_token.specs.Counted.{charged, RisesBetween};
 ghost use Rattle.multi_token.specs.Tokens.{IsTagOf, body_of};
 ghost use Rattle.multi_tag.specs.Body.{Spells, SpellsNoTag, IsReadOf, HasName};
 
-use crate::body_place::BodyPlace;
 use crate::name::read_name;
 use crate::rest::read_rest;
 use crate::tag::{Tag, TagFault};
@@ -33,14 +32,12 @@ pub fn read_tag(source: &mut Source<'_>, token: &Token) -> Result<Tag, TagFault>
     ensures value_steps { OnOk result (source.new ≡ charged source.old (token.now.len - 2)) }
     ensures fault_steps { OnErr result (RisesBetween source.old source.new 1 (token.now.len - 2)) }
 {
-    let mut cursor = BodyPlace {
-        at: token.at + 1,
-        end: token.at + token.len - 1,
-    };
-    let Some(name) = read_name(source, &mut cursor) else {
+    // the body has no brackets, so it is handed out whole
+    let (body, _) = source.read_plain(token.at + 1, token.len - 2);
+    let Some((name, rest)) = read_name(body) else {
         return Err(TagFault::Unsupported);
     };
-    match read_rest(source, &mut cursor, name) {
+    match read_rest(rest, name) {
         Some(tag) => Ok(tag),
         None => Err(TagFault::Value),
     }

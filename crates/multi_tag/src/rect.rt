@@ -1,59 +1,54 @@
 //! Text rectangles.
 
-ghost use Rattle.std.specs.Prelude.{◌≡◌, [], OnSome};
+ghost use Rattle.std.specs.Prelude.{IfSome, IfNone};
+ghost use Rattle.std.specs.Str.{str_to_ascii_lowercase};
 ghost use Rattle.multi_tag.specs.declared.name.Name.TheVariants as names;
 ghost use Rattle.multi_tag.specs.Body.{table};
 ghost use Rattle.multi_tag.specs.Form.{d};
 ghost use Rattle.multi_tag.specs.Octet.{comma};
-ghost use Rattle.multi_tag.specs.Part.{IsValueIn, IsPartBefore};
-ghost use Rattle.multi_tag.specs.Walk.{IsWithin, HasReadOn, left};
+ghost use Rattle.multi_tag.specs.Part.{IsValueIn, IsPartBefore, HasNoPartBefore};
 
-use crate::body_place::BodyPlace;
 use crate::number::read_numeral;
 use crate::tag::Tag;
-use multi_token::Source;
 
 /// Four numbers with commas between them.
 #[inline(always)]
-pub fn read_rect(source: &mut Source<'_>, cursor: &mut BodyPlace) -> Option<Tag>
-    requires { IsWithin source.old cursor.old }
-    ensures value { IsValueIn (table names.Rect).rest (left source.old cursor.old) result }
-    ensures whole { OnSome result (left source.new cursor.new ≡ []) }
-    ensures walk { HasReadOn source.old source.new cursor.old cursor.new }
+pub fn read_rect(octets: &[u8]) -> Option<Tag>
+    ensures { IsValueIn (table names.Rect).rest (str_to_ascii_lowercase octets.now) result }
 {
-    let x = read_before_comma(source, cursor)?;
-    let y = read_before_comma(source, cursor)?;
-    let w = read_before_comma(source, cursor)?;
-    let h = read_coordinate(source, cursor)?;
+    let (x, octets) = read_before_comma(octets)?;
+    let (y, octets) = read_before_comma(octets)?;
+    let (w, octets) = read_before_comma(octets)?;
+    let h = read_coordinate(octets)?;
     Some(Tag::Rect { x, y, w, h })
 }
 
-/// A number, and the comma after it.
+/// A number before a comma, and the octets behind the comma.
 #[inline(always)]
-fn read_before_comma(source: &mut Source<'_>, cursor: &mut BodyPlace) -> Option<u32>
-    requires { IsWithin source.old cursor.old }
-    ensures value { IsPartBefore comma (d 0 99999)
-        (left source.old cursor.old) result (left source.new cursor.new) }
-    ensures walk { HasReadOn source.old source.new cursor.old cursor.new }
+fn read_before_comma(octets: &[u8]) -> Option<(u32, &[u8])>
+    ensures some { IfSome result (λ (number, rest).
+        IsPartBefore comma (d 0 99999) (str_to_ascii_lowercase octets.now) number (str_to_ascii_lowercase rest.now)) }
+    ensures none { IfNone result (HasNoPartBefore comma (d 0 99999) (str_to_ascii_lowercase octets.now)) }
 {
-    let numeral = read_numeral(source, cursor, 10, 5);
-    match numeral.stop {
-        Some(b',') => numeral.value,
-        _ => None,
+    let (value, rest) = read_numeral(octets, 10, 5);
+    let [stop, rest @ ..] = rest else {
+        return None;
+    };
+    if *stop == b',' {
+        Some((value?, rest))
+    } else {
+        None
     }
 }
 
-/// A number, if that is all that is left.
+/// A number, if the octets are no more than that.
 #[inline(always)]
-fn read_coordinate(source: &mut Source<'_>, cursor: &mut BodyPlace) -> Option<u32>
-    requires { IsWithin source.old cursor.old }
-    ensures value { IsValueIn (d 0 99999) (left source.old cursor.old) result }
-    ensures whole { OnSome result (left source.new cursor.new ≡ []) }
-    ensures walk { HasReadOn source.old source.new cursor.old cursor.new }
+fn read_coordinate(octets: &[u8]) -> Option<u32>
+    ensures { IsValueIn (d 0 99999) (str_to_ascii_lowercase octets.now) result }
 {
-    let numeral = read_numeral(source, cursor, 10, 5);
-    match numeral.stop {
-        None => numeral.value,
-        Some(_) => None,
+    let (value, rest) = read_numeral(octets, 10, 5);
+    match rest {
+        [] => value,
+        _ => None,
     }
 }

@@ -1,37 +1,28 @@
 //! Page times and flashing.
 
-ghost use Rattle.std.specs.Prelude.{◌≡◌, [], OnSome};
+ghost use Rattle.std.specs.Str.{str_to_ascii_lowercase};
 ghost use Rattle.multi_tag.specs.declared.name.Name.TheVariants as names;
 ghost use Rattle.multi_tag.specs.Body.{table};
 ghost use Rattle.multi_tag.specs.Number.{IsDigit};
 ghost use Rattle.multi_tag.specs.Part.{IsValueIn, times};
-ghost use Rattle.multi_tag.specs.Walk.{IsWithin, HasReadOn, left};
 
-use crate::body_place::BodyPlace;
 use crate::number::{in_range, read_numeral, read_optional};
 use crate::tag::Tag;
-use multi_token::Source;
 
-/// One time, or two times with this letter between them.
+/// One time, or two times with this letter between them. The letter is given as a small one.
 #[inline(always)]
-pub fn read_times(
-    source: &mut Source<'_>,
-    cursor: &mut BodyPlace,
-    letter: u8,
-) -> Option<(Option<u8>, Option<u8>)>
-    requires within { IsWithin source.old cursor.old }
-    requires letter { ¬ (IsDigit 10 letter) }
-    ensures value { IsValueIn (times letter) (left source.old cursor.old) result }
-    ensures whole { OnSome result (left source.new cursor.new ≡ []) }
-    ensures walk { HasReadOn source.old source.new cursor.old cursor.new }
+pub fn read_times(octets: &[u8], letter: u8) -> Option<(Option<u8>, Option<u8>)>
+    requires { ¬ (IsDigit 10 letter) }
+    ensures { IsValueIn (times letter) (str_to_ascii_lowercase octets.now) result }
 {
-    let numeral = read_numeral(source, cursor, 10, 5);
-    let first = in_range(numeral.value, 0, 255)?;
-    let Some(stop) = numeral.stop else {
+    let (value, rest) = read_numeral(octets, 10, 5);
+    let first = in_range(value, 0, 255)?;
+    let [stop, rest @ ..] = rest else {
         return Some((first, None));
     };
+    let stop = stop.to_ascii_lowercase();
     if stop == letter {
-        Some((first, read_optional(source, cursor, 0, 255)?))
+        Some((first, read_optional(rest, 0, 255)?))
     } else {
         None
     }
@@ -39,34 +30,33 @@ pub fn read_times(
 
 /// The times of a flash: it is on first if they begin with a 't', and off first if they begin with an 'o'.
 #[inline(always)]
-pub fn read_flash(source: &mut Source<'_>, cursor: &mut BodyPlace) -> Option<Tag>
-    requires { IsWithin source.old cursor.old }
-    ensures value { IsValueIn (table names.Flash).rest (left source.old cursor.old) result }
-    ensures whole { OnSome result (left source.new cursor.new ≡ []) }
-    ensures walk { HasReadOn source.old source.new cursor.old cursor.new }
+pub fn read_flash(octets: &[u8]) -> Option<Tag>
+    ensures { IsValueIn (table names.Flash).rest (str_to_ascii_lowercase octets.now) result }
 {
-    match cursor.next(source) {
-        None => Some(Tag::Flash {
+    let [first, rest @ ..] = octets else {
+        return Some(Tag::Flash {
             off_first: false,
             on: None,
             off: None,
-        }),
-        Some(b't') => {
-            let (on, off) = read_times(source, cursor, b'o')?;
+        });
+    };
+    match first.to_ascii_lowercase() {
+        b't' => {
+            let (on, off) = read_times(rest, b'o')?;
             Some(Tag::Flash {
                 off_first: false,
                 on,
                 off,
             })
         }
-        Some(b'o') => {
-            let (off, on) = read_times(source, cursor, b't')?;
+        b'o' => {
+            let (off, on) = read_times(rest, b't')?;
             Some(Tag::Flash {
                 off_first: true,
                 on,
                 off,
             })
         }
-        Some(_) => None,
+        _ => None,
     }
 }

@@ -1,57 +1,34 @@
-use Rattle.std.proofs.Common.{◌∷◌, arith, ap, ◌∙◌}
+use Rattle.std.proofs.Common.{◌≡◌, arith}
 use Rattle.std.proofs.lemmas.Bool.Decides.{nat_tests}
-use Rattle.multi_tag.proofs.NameLemmas.{name_at, no_name, no_name_of}
+use Rattle.multi_tag.proofs.NameLemmas.{no_short_name, no_name_of, no_third, no_third_l}
+use Rattle.multi_tag.proofs.name.read_name.Goals.{in_default-2-via-in-110+in_default, in_default-2-via-in-106+in_default, in_default-2-via-in-102+in_default, in_default-2-via-in-115+in_default, in_default-2-via-in-112+in_default, in_default-2-via-in-99+in_default, in_default-2-via-in-116+in_default, in_default-2-via-in-47+in_default, in_default-2-via-in_default}
 use Rattle.multi_tag.proofs.name.read_name.Goals as goal
 
-pub returns-in_err-first-clause-none : goal.returns-in_err-first-clause-none
-returns-in_err-first-clause-none c =
-    rw c.from_residual.ensures (no_name _ (ap name_at c.in_err-first.ensures.octet.0))
-
-pub returns-in_err-second-clause-none : goal.returns-in_err-second-clause-none
-returns-in_err-second-clause-none c =
-    let alone = c.in_ok-first.ensures.octet ∙ ap (λ ys. c.in_ok-first.first ∷ ys) c.in_err-second.ensures.octet.0 in
-    rw c.from_residual-in_err-second.ensures (no_name _ (ap name_at alone))
-
 pub returns-in_default-clause-none : goal.returns-in_default-clause-none
-returns-in_default-clause-none c =
-    no_name_of _ _ _ _ _ c.in_ok-first.ensures.octet c.in_ok-second.ensures.octet (grind (arith, nat_tests))
+returns-in_default-clause-none c = no_short_name _ c.in_default.len_below
+
+pub returns-in_err-after_letter-in-47-clause-none : goal.returns-in_err-after_letter-in-47-clause-none
+returns-in_err-after_letter-in-47-clause-none c =
+    let first : c.to_ascii_lowercase.result ≡ 47 = grind (arith, nat_tests) in
+    let second : c.to_ascii_lowercase-2.result ≡ 115 = grind (arith, nat_tests) in
+    rw c.from_residual.ensures (no_name_of c.args.body.now _ _ c.in-len2-up.len_at_least c.to_ascii_lowercase.ensures.value c.to_ascii_lowercase-2.ensures.value (rw (first, second) (no_third _ c.in_err-after_letter-in-47.ensures.none)))
+
+pub returns-in_err-after_letter-in-47-2-clause-none : goal.returns-in_err-after_letter-in-47-2-clause-none
+returns-in_err-after_letter-in-47-2-clause-none c =
+    let first : c.to_ascii_lowercase.result ≡ 47 = grind (arith, nat_tests) in
+    let second : c.to_ascii_lowercase-2.result ≡ 102 = grind (arith, nat_tests) in
+    rw c.from_residual-in_err-after_letter-in-47-2.ensures (no_name_of c.args.body.now _ _ c.in-len2-up.len_at_least c.to_ascii_lowercase.ensures.value c.to_ascii_lowercase-2.ensures.value (rw (first, second) (no_third_l _ c.in_err-after_letter-in-47-2.ensures.none)))
 
 pub returns-in_default-2-clause-none : goal.returns-in_default-2-clause-none
 returns-in_default-2-clause-none c =
-    no_name_of _ _ _ _ _ c.in_ok-first.ensures.octet c.in_ok-second.ensures.octet (grind (arith, nat_tests))
-
-pub returns-in_default-3-clause-none : goal.returns-in_default-3-clause-none
-returns-in_default-3-clause-none c =
-    no_name_of _ _ _ _ _ c.in_ok-first.ensures.octet c.in_ok-second.ensures.octet (grind (arith, nat_tests))
-
-pub returns-in_default-4-clause-none : goal.returns-in_default-4-clause-none
-returns-in_default-4-clause-none c =
-    no_name_of _ _ _ _ _ c.in_ok-first.ensures.octet c.in_ok-second.ensures.octet (grind (arith, nat_tests))
-
-pub returns-in_default-5-clause-none : goal.returns-in_default-5-clause-none
-returns-in_default-5-clause-none c =
-    no_name_of _ _ _ _ _ c.in_ok-first.ensures.octet c.in_ok-second.ensures.octet (grind (arith, nat_tests))
-
-pub returns-in_default-6-clause-none : goal.returns-in_default-6-clause-none
-returns-in_default-6-clause-none c =
-    no_name_of _ _ _ _ _ c.in_ok-first.ensures.octet c.in_ok-second.ensures.octet (grind (arith, nat_tests))
-
-pub returns-in_default-7-clause-none : goal.returns-in_default-7-clause-none
-returns-in_default-7-clause-none c =
-    no_name_of _ _ _ _ _ c.in_ok-first.ensures.octet c.in_ok-second.ensures.octet (grind (arith, nat_tests))
-
-pub returns-in_default-8-clause-none : goal.returns-in_default-8-clause-none
-returns-in_default-8-clause-none c =
-    no_name_of _ _ _ _ _ c.in_ok-first.ensures.octet c.in_ok-second.ensures.octet (grind (arith, nat_tests))
-
-pub returns-in_default-9-clause-none : goal.returns-in_default-9-clause-none
-returns-in_default-9-clause-none c =
-    no_name_of _ _ _ _ _ c.in_ok-first.ensures.octet c.in_ok-second.ensures.octet (grind (arith, nat_tests))
-
-pub returns-in_default-10-clause-none : goal.returns-in_default-10-clause-none
-returns-in_default-10-clause-none c =
-    no_name_of _ _ _ _ _ c.in_ok-first.ensures.octet c.in_ok-second.ensures.octet (grind (arith, nat_tests))
-
-pub returns-in_default-11-clause-none : goal.returns-in_default-11-clause-none
-returns-in_default-11-clause-none c =
-    no_name_of _ _ _ _ _ c.in_ok-first.ensures.octet c.in_ok-second.ensures.octet (grind (arith, nat_tests))
+    no_name_of c.args.body.now _ _ c.in-len2-up.len_at_least c.to_ascii_lowercase.ensures.value c.to_ascii_lowercase-2.ensures.value (elim c.in_default-2.branch [
+      | in_default-2-via-in-110+in_default w ↦ grind (arith, nat_tests)
+      | in_default-2-via-in-106+in_default w ↦ grind (arith, nat_tests)
+      | in_default-2-via-in-102+in_default w ↦ grind (arith, nat_tests)
+      | in_default-2-via-in-115+in_default w ↦ grind (arith, nat_tests)
+      | in_default-2-via-in-112+in_default w ↦ grind (arith, nat_tests)
+      | in_default-2-via-in-99+in_default w ↦ grind (arith, nat_tests)
+      | in_default-2-via-in-116+in_default w ↦ grind (arith, nat_tests)
+      | in_default-2-via-in-47+in_default w ↦ grind (arith, nat_tests)
+      | in_default-2-via-in_default w ↦ grind (arith, nat_tests)
+    ])

@@ -1,17 +1,17 @@
-use Rattle.std.proofs.Common.{◌≡◌, Some, sym, ◌∙◌}
-use Rattle.std.proofs.lemmas.Option.{none-some}
-use Rattle.multi_tag.proofs.PartLemmas.{part_stopped, part_not_stopped, comma_is_no_digit}
+use Rattle.multi_tag.proofs.CutLemmas.{small_front, small_empty, small_comma, comma_alone, first_of, empty_or_not}
+use Rattle.multi_tag.proofs.PartLemmas.{part_there, part_not_stopped, comma_is_no_digit}
 use Rattle.multi_tag.proofs.rect.read_before_comma.Goals as goal
 
-pub returns-in-Some-eq44-clause-value : goal.returns-in-Some-eq44-clause-value
-returns-in-Some-eq44-clause-value c =
-    let stop : c.read_numeral-numeral.result.stop ≡ Some 44 = cc in
-    part_stopped _ _ _ c.read_numeral-numeral.ensures.cut 44 stop comma_is_no_digit
+pub returns-in_default-clause-none : goal.returns-in_default-clause-none
+returns-in_default-clause-none c =
+    part_not_stopped 44 _ _ _ c.read_numeral-value.ensures (λ behind e. empty_or_not (small_empty c.read_numeral-value.result.1.now c.in_default.len_below) e) comma_is_no_digit
 
-pub returns-in_default-clause-value : goal.returns-in_default-clause-value
-returns-in_default-clause-value c =
-    part_not_stopped _ _ _ c.read_numeral-numeral.ensures.cut 44 (λ e. c.in_default.field-0-test.1 cc) comma_is_no_digit
+pub returns-in_ok-value-clause-some : goal.returns-in_ok-value-clause-some
+returns-in_ok-value-clause-some c =
+    let cut = rw (c.in_ok-value.was, small_comma c.read_numeral-value.result.1.now c.in-len1-up.len_at_least c.if-stop-eq44.true) at c.read_numeral-value.ensures in
+    part_there 44 _ _ _ cut
 
-pub returns-in_default-2-clause-value : goal.returns-in_default-2-clause-value
-returns-in_default-2-clause-value c =
-    part_not_stopped _ _ _ c.read_numeral-numeral.ensures.cut 44 (λ e. none-some 44 (sym c.in_default.is ∙ e)) comma_is_no_digit
+pub returns-else-stop-eq44-clause-none : goal.returns-else-stop-eq44-clause-none
+returns-else-stop-eq44-clause-none c =
+    let cut = rw (small_front c.read_numeral-value.result.1.now c.in-len1-up.len_at_least) at c.read_numeral-value.ensures in
+    part_not_stopped 44 _ _ _ cut (λ behind e. c.if-stop-eq44.false (comma_alone _ (first_of e))) comma_is_no_digit
