@@ -47,3 +47,7 @@ body_there octets token tag =
     let size = length-tag octets token tag in
     let end : token.at + 1 + (token.len - 2) ≡ token.at + token.len - 1 = omega (arith, size) in
     ap (slice_range octets (token.at + 1)) end
+
+-- what is handed out whole is the body
+pub handed_out : (xs : List ℕ) (t : Token) (octets : List ℕ) → IsTagOf xs t → octets ≡ slice_range xs (t.at + 1) (t.at + 1 + length octets) → length octets ≡ t.len - 2 → octets ≡ body_of xs t
+handed_out xs t octets is found all = found ∙ (ap (λ n. slice_range xs (t.at + 1) (t.at + 1 + n)) all ∙ body_there xs t is)

@@ -4,7 +4,8 @@
 //! has one of the forms that the table of tags lists for that name: nothing, or numbers with commas and letters between
 //! them. Letters may be large or small.
 //!
-//! [`read_tag`] reads the body of a tag, and gives the tag's value or the fault that explains why it has none.
+//! [`read_tag`] reads the body of a tag, and gives the tag's value or the fault that explains why it has none. [`read_body`]
+//! does so where the body was read already.
 #![tactic(auto)]
 
 mod font;
@@ -18,7 +19,7 @@ mod tag;
 mod times;
 
 pub use laws::{one_tag_at_most, tag_of_is_the_table};
-pub use read::read_tag;
+pub use read::{read_body, read_tag};
 pub use tag::{FontPick, Tag, TagFault};
 
 #[cfg(test)]

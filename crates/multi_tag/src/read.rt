@@ -34,6 +34,16 @@ pub fn read_tag(source: &mut Source<'_>, token: &Token) -> Result<Tag, TagFault>
 {
     // the body has no brackets, so it is handed out whole
     let (body, _) = source.read_plain(token.at + 1, token.len - 2);
+    read_body(body)
+}
+
+/// The value of a tag with this body, whose octets were read already. The faults are those of [`read_tag`].
+pub fn read_body(body: &[u8]) -> Result<Tag, TagFault>
+    ensures spelled { IfOk result (Spells body.now) }
+    ensures read { IsReadOf body.now result }
+    ensures unsupported { (result ≡ Err TagFault.Unsupported) ↔ (¬ (HasName body.now)) }
+    ensures value { (result ≡ Err TagFault.Value) ↔ (HasName body.now × SpellsNoTag body.now) }
+{
     let Some((name, rest)) = read_name(body) else {
         return Err(TagFault::Unsupported);
     };
