@@ -33,8 +33,8 @@ pub fn read_name(body: &[u8]) -> Option<(Name, &[u8])>
         return None;
     };
     match &[first.to_ascii_lowercase(), second.to_ascii_lowercase()] {
-        b"np" => Some((Name::NewPage, rest)),
         b"nl" => Some((Name::NewLine, rest)),
+        b"np" => Some((Name::NewPage, rest)),
         b"jl" => Some((Name::LineJust, rest)),
         b"jp" => Some((Name::PageJust, rest)),
         b"fo" => Some((Name::Font, rest)),

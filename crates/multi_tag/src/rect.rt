@@ -12,7 +12,7 @@ use crate::number::read_numeral;
 use crate::tag::Tag;
 
 /// Four numbers with commas between them.
-#[inline(always)]
+#[inline(never)]
 pub fn read_rect(octets: &[u8]) -> Option<Tag>
     ensures { IsValueIn (table names.Rect).rest (str_to_ascii_lowercase octets.now) result }
 {
