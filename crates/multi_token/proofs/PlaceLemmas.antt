@@ -9,7 +9,9 @@ use Rattle.std.proofs.lemmas.List.Elements.{All-nil, All-push}
 use Rattle.multi_token.specs.declared.token.Token.{Token}
 use Rattle.multi_token.specs.declared.token.Kind.TheVariants as kinds
 use Rattle.multi_token.specs.Spelling.{Char, Tag, IsPlain, spelling, HasNoItem}
-use Rattle.multi_token.specs.Tokens.{IsTokenOf, IsTagOf, item_of, body_of}
+use Rattle.multi_token.specs.declared.token.Bracketed.{Bracketed}
+use Rattle.multi_token.specs.declared.token.Bracketed.TheVariants as bracketed
+use Rattle.multi_token.specs.Tokens.{IsBracketed, IsTokenOf, IsTagOf, item_of, item_spelled, body_of, octets_of}
 use Rattle.multi_token.proofs.SpellingLemmas.{IsStopped, one_plain_front, doubled, single, spelled_char}
 
 -- the list from a place on, where x stands at it
@@ -179,3 +181,11 @@ length-tag xs t k =
     let body = body_of xs t in
     let tag : item_of xs t ≡ Tag body = rw k.kind refl in
     k.is.len ∙ ap (λ i. length (spelling i)) tag ∙ (let n : length (spelling (Tag body)) ≡ length body + 2 = simp length-append (omega arith) in n)
+
+-- what begins with a bracket, as the token that it is
+pub bracketed_token : (xs : List ℕ) (at bracket : ℕ) (spelled : Bracketed) → IsBracketed xs at bracket spelled
+    → (t : Token) × (t.at ≡ at) × (t.len ≡ octets_of spelled) × IsTokenOf xs t × (item_of xs t ≡ item_spelled bracket spelled)
+bracketed_token xs at bracket bracketed.Doubled token = (record { at = at; len = 2; kind = kinds.Char bracket }, refl, refl, token, refl)
+bracketed_token xs at bracket (bracketed.Tag body) (token, is) =
+    let last : at + 1 + length body.now ≡ at + (length body.now + 2) - 1 = omega arith in
+    (record { at = at; len = length body.now + 2; kind = kinds.Tag }, refl, refl, token, ap Tag (sym (is ∙ ap (slice_range xs (at + 1)) last)))

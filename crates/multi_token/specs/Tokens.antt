@@ -43,3 +43,8 @@ abbrev pub IsBracketed : List ℕ → ℕ → ℕ → Bracketed → Type 0
 IsBracketed octets at bracket bracketed.Doubled = IsTokenOf octets (record { at = at; len = 2; kind = kinds.Char bracket })
 IsBracketed octets at bracket (bracketed.Tag body) = IsTokenOf octets (record { at = at; len = length body.now + 2; kind = kinds.Tag })
     × (body.now ≡ slice_range octets (at + 1) (at + 1 + length body.now))
+
+-- the item that begins with a bracket
+abbrev pub item_spelled : ℕ → Bracketed → Item
+item_spelled bracket bracketed.Doubled = Char bracket
+item_spelled bracket (bracketed.Tag body) = Tag body.now

@@ -79,6 +79,18 @@ pub enum Bracketed<'a> {
     Tag(&'a [u8]),
 }
 
+impl Bracketed<'_> {
+    /// The number of octets that spell it.
+    pub fn len(&self) -> usize
+        ensures { result ≡ octets_of self.now }
+    {
+        match self {
+            Bracketed::Doubled => 2,
+            Bracketed::Tag(body) => body.len() + 2,
+        }
+    }
+}
+
 /// What begins with this bracket at an offset, which was read already. A broken bracket is a [`TokenFault`].
 ///
 /// The bracket isn't read again: a doubled bracket takes one step, a tag one for each octet of its body and one for its last
