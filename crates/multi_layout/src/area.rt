@@ -63,6 +63,7 @@ impl Group {
     }
 
     /// Adds a character of this group.
+    #[inline(always)]
     pub(crate) fn add_character(&mut self, character: &Character)
         requires known { character.now.just ≤ 5 }
         requires below { IsGroupBelow (2 ^ 62) self.old }
@@ -131,6 +132,7 @@ impl Area {
     }
 
     /// Adds a character, with this page justification in force, which isn't before that of the present group.
+    #[inline(always)]
     pub(crate) fn add_character(&mut self, page_just: u8, character: &Character)
         requires page_just { (2 ≤ page_just) × (page_just ≤ 4) }
         requires known { character.now.just ≤ 5 }
@@ -256,6 +258,7 @@ impl Area {
     }
 
     /// Whether the groups stand apart within a height in pixels.
+    #[inline(always)]
     pub(crate) fn fits_height(&self, height: u16) -> bool
         requires below { IsBelow (2 ^ 62 + 1024) self.now }
         ensures sum { (area : List Spot) → All IsPlacing area → self.now ≡ area_sum area

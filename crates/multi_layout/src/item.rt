@@ -2,14 +2,16 @@
 
 ghost use Rattle.std.specs.Prelude.{◌≡◌, ◌-◌, IfOk, IfErr};
 ghost use Rattle.multi_token.specs.Counted.{RisesBetween};
+ghost use Rattle.multi_token.specs.Spelling as spelled;
 ghost use Rattle.multi_token.specs.Tokens.{IsTokenOf, item_of};
 ghost use Rattle.multi_layout.specs.Codes.{code_of};
 ghost use Rattle.multi_layout.specs.KnownItem.{IsKnownItem, meant_by};
-ghost use Rattle.multi_layout.specs.Meaning.{Faulty, begins_area, is_new_page, meaning};
+ghost use Rattle.multi_layout.specs.Meaning.{Does, Faulty, begins_area, is_new_page, meaning};
+ghost use Rattle.multi_layout.specs.State.{IsKnown};
 ghost use Rattle.multi_layout.specs.Passes.{ends_line, places};
 
 use crate::fault::SyntaxError;
-use multi_tag::{Tag, TagFault, read_tag};
+use multi_tag::{Tag, TagFault, read_body, read_tag};
 use multi_token::{Kind, Source, Token};
 
 /// An item of a string: a character by its number, or what a tag says (NTCIP 1203 v03, MULTI).
@@ -64,5 +66,17 @@ pub(crate) fn read_item(source: &mut Source<'_>, token: &Token) -> Result<KnownI
             Err(TagFault::Unsupported) => Err(SyntaxError::UnsupportedTag),
             Err(TagFault::Value) => Err(SyntaxError::UnsupportedTagValue),
         },
+    }
+}
+
+/// What the tag with this body says, or its error.
+pub(crate) fn tag_of(body: &[u8]) -> Result<Tag, SyntaxError>
+    ensures read { IfOk result (λ tag. (meaning (spelled.Tag body.now) ≡ Does tag) × IsKnown tag) }
+    ensures fault { IfErr result (λ error. meaning (spelled.Tag body.now) ≡ Faulty (code_of error)) }
+{
+    match read_body(body) {
+        Ok(tag) => Ok(tag),
+        Err(TagFault::Unsupported) => Err(SyntaxError::UnsupportedTag),
+        Err(TagFault::Value) => Err(SyntaxError::UnsupportedTagValue),
     }
 }

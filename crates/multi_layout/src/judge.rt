@@ -3,7 +3,7 @@
 ghost use Rattle.std.specs.Prelude.{◌≡◌, ℕ, ◌+◌, ◌-◌, ◌^◌, ◌<◌, ◌≤◌, ◌*◌, ◌==◌, if◌then◌else◌, [], length, IfOk, IfErr, IfSome, IfNone, OnOk, None, Some, true};
 ghost use Rattle.std.specs.Option.{option_map_or};
 ghost use Rattle.multi_token.specs.Counted.{charged, RisesBetween};
-ghost use Rattle.multi_token.specs.Tokens.{IsTokenOf, item_of};
+ghost use Rattle.multi_token.specs.Tokens.{item_spelled};
 ghost use Rattle.sign_font.specs.Defaults.{default_fault, under};
 ghost use Rattle.sign_font.specs.Cell.{SizedCell};
 ghost use Rattle.sign_font.specs.Sign.{SignData, cell_in};
@@ -19,46 +19,31 @@ use crate::area::Area;
 use crate::attributes::{Rectangle, whole_sign};
 use crate::checked::Checked;
 use crate::fault::{Fault, SyntaxError};
-use crate::item::{KnownItem, read_item};
+use crate::item::tag_of;
 use crate::state::State;
 use crate::terms::Terms;
 use multi_tag::{FontPick, Tag};
-use multi_token::{Source, Token, next_token};
+use multi_token::{Bracketed, Source};
 use sign_font::{Cell, Defaults, Sign};
 
-/// Judges the item of a token.
-pub(crate) fn judge_token(
+/// Judges what begins with this bracket.
+pub(crate) fn judge_spelled(
     sign: &Terms<'_>,
     state: &mut State,
     source: &mut Source<'_>,
-    token: &Token,
+    bracket: u8,
+    spelled: Bracketed<'_>,
 ) -> Result<(), SyntaxError>
-    requires token { IsTokenOf source.old.octets token.now }
-    requires ready { IsReady state.old }
-    ensures judged { Judges sign.now state.old (meaning (item_of source.old.octets token.now)) result state.new }
-    ensures steps { RisesBetween source.old source.new 0 token.now.len }
-{
-    match read_item(source, token) {
-        Ok(item) => judge_item(sign, state, source, item),
-        Err(error) => Err(error),
-    }
-}
-
-/// Judges an item that was read.
-fn judge_item(
-    sign: &Terms<'_>,
-    state: &mut State,
-    source: &mut Source<'_>,
-    item: KnownItem,
-) -> Result<(), SyntaxError>
-    requires ready { IsReady state.old }
-    requires known { IsKnownItem item }
-    ensures judged { Judges sign.now state.old (meant_by item) result state.new }
+    requires { IsReady state.old }
+    ensures judged { Judges sign.now state.old (meaning (item_spelled bracket spelled.entry)) result state.new }
     ensures steps { RisesBetween source.old source.new 0 1 }
 {
-    match item {
-        KnownItem::Char(number) => judge_character(sign, state, source, number),
-        KnownItem::Tag(tag) => judge_tag(sign, state, source, tag),
+    match spelled {
+        Bracketed::Doubled => judge_character(sign, state, source, bracket),
+        Bracketed::Tag(body) => match tag_of(body) {
+            Ok(tag) => judge_tag(sign, state, source, tag),
+            Err(error) => Err(error),
+        },
     }
 }
 
@@ -87,6 +72,7 @@ pub(crate) fn judge_tag(
 }
 
 /// Judges a character: whether its font has a cell for it, and whether it may stand on its line and fits.
+#[inline(always)]
 pub(crate) fn judge_character(
     sign: &Terms<'_>,
     state: &mut State,
@@ -106,6 +92,7 @@ pub(crate) fn judge_character(
 }
 
 /// Judges a character whose cell has this width in pixels.
+#[inline(always)]
 fn judge_cell(state: &mut State, number: u8, width: u8) -> Result<(), SyntaxError>
     requires { IsReady state.old }
     ensures judged { (sign : SignData) (cell : SizedCell) → cell_in sign state.old.attributes.font.number number ≡ Some cell → width ≡ cell.width

@@ -72,6 +72,7 @@ impl Segment {
     }
 
     /// Adds a character of this segment.
+    #[inline(always)]
     pub(crate) fn add(&mut self, character: &Character)
         requires below { IsSegmentBelow (2 ^ 62) self.old }
         ensures sum { (just : ℕ) (line : List Spot) (s : Spot) → IsCharacter s character.now → character.now.just ≡ just
@@ -120,6 +121,7 @@ impl Line {
     }
 
     /// Adds a character, whose line justification isn't before that of an earlier one.
+    #[inline(always)]
     pub(crate) fn add(&mut self, character: &Character)
         requires known { character.now.just ≤ 5 }
         requires below { IsLineBelow (2 ^ 62) self.old }

@@ -1,6 +1,6 @@
 //! The verdict on a string, in one reading from the left with running sums.
 
-ghost use Rattle.std.specs.Prelude.{◌≡◌, ℕ, ◌+◌, ◌^◌, ◌<◌, ◌≤◌, ◌*◌, ◌-◌, [], length, slice_get, IfOk, IfErr, OnOk, None, Some};
+ghost use Rattle.std.specs.Prelude.{◌≡◌, ℕ, ◌+◌, ◌^◌, ◌<◌, ◌≤◌, ◌*◌, ◌-◌, ◌⊎◌, [], length, slice_get, IfOk, IfErr, OnOk, None, Some};
 ghost use Rattle.multi_token.specs.Counted.{charged, RisesBetween};
 ghost use Rattle.multi_token.specs.Tokens.{IsTokenOf, item_of};
 ghost use Rattle.sign_font.specs.Defaults.{default_fault, under};
@@ -12,11 +12,11 @@ ghost use Rattle.multi_layout.specs.Verdict.{Accepted, IsCycle, IsVerdict, Refus
 
 use crate::checked::Checked;
 use crate::fault::{Fault, SyntaxError};
-use crate::judge::{judge_character, judge_token};
+use crate::judge::{judge_character, judge_spelled};
 use crate::run::judge_run;
 use crate::state::State;
 use crate::terms::Terms;
-use multi_token::{Source, rest_of_token};
+use multi_token::{Source, read_bracket};
 use sign_font::{Defaults, Sign};
 
 /// The first error of a string, and the offset of its item.
@@ -153,20 +153,21 @@ fn judge_bracket(
     at: usize,
     first: u8,
 ) -> Result<(usize, Option<u8>), Offence>
+    requires bracket { (first ≡ 91) ⊎ (first ≡ 93) }
     requires short { length source.old.octets < 2 ^ 32 }
     requires at { IsAt sign.now source.old.octets at (Some first) state.old source.old }
     ensures at { IfOk result (λ to. (at < to.0) × IsAt sign.now source.old.octets to.0 to.1 state.new source.new) }
     ensures refused { IfErr result (λ offence. IsRefused sign.now source.old.octets offence source.new) }
 {
-    let Ok(token) = rest_of_token(source, at, first) else {
+    let Ok(spelled) = read_bracket(source, at, first) else {
         return Err(Offence {
             error: SyntaxError::UnsupportedTag,
             at,
         });
     };
-    if let Err(error) = judge_token(sign, state, source, &token) {
+    if let Err(error) = judge_spelled(sign, state, source, first, spelled) {
         return Err(Offence { error, at });
     }
-    let behind = at + token.len;
+    let behind = at + spelled.len();
     Ok((behind, source.read(behind)))
 }

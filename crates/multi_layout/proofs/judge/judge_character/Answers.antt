@@ -1,6 +1,5 @@
 use Rattle.multi_layout.proofs.JudgedLemmas.{judged-undefined}
 use Rattle.multi_layout.proofs.RunReadLemmas.{cell_of_width, no_cell}
-use Rattle.std.proofs.Common.{◌∙◌}
 use Rattle.sign_font.specs.Sign.{cell_in}
 use Rattle.multi_layout.proofs.judge.judge_character.Goals as goal
 
