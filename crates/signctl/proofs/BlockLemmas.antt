@@ -1,11 +1,11 @@
 -- The octets of a block, and its first line.
-use Rattle.std.proofs.Common.{◌≡◌, ◌≢◌, ℕ, ◌+◌, ◌-◌, ◌<◌, ◌≤◌, ◌==◌, List, [], ◌∷◌, ◌++◌, Option, None, Some, Ok, Err, length, take, drop, get_or, slice_range, refl, sym, ap, ◌∙◌, subst, arith, append_assoc, append-nil, take-append-drop}
-use Rattle.std.proofs.lemmas.Bool.{eqb-true}
+use Rattle.std.proofs.Common.{◌≡◌, ◌≢◌, ℕ, zero, suc, Bool, slice_index, ⊎_elim, ◌+◌, ◌-◌, ◌<◌, ◌≤◌, ◌==◌, List, [], ◌∷◌, ◌++◌, Option, None, Some, Ok, Err, length, take, drop, get_or, slice_range, refl, sym, ap, ◌∙◌, subst, arith, append_assoc, append-nil, take-append-drop}
+use Rattle.std.proofs.lemmas.Bool.{cases_Bool, cases_eq, cond-false, cond-true, eqb-true, false≢true}
 use Rattle.std.proofs.lemmas.List.{drop-append-le, drop-drop, drop-take, drop_more, get_or-drop, get_or-take, length-append, length-drop, length-take, take-append-le, take_all, take_at}
 use Rattle.std.proofs.lemmas.List.Elements.{All-append, All-from_get_or}
 use Rattle.std.proofs.Math.Seq.{take-add, take-append-add}
 use Rattle.std.specs.Io.KnownBytes.{Consumes, IsAtEnd, Keeps, prepend_known}
-use Rattle.memchr.specs.Find.{NoneBefore, Nowhere, Passes, is_byte}
+use Rattle.memchr.specs.Find.{NoneBefore, Nowhere, Passes, is_byte, places, places_from}
 use Rattle.signctl.specs.declared.fault.ToolFault.{ToolFault}
 use Rattle.signctl.specs.declared.fault.ToolFault.TheVariants as faults
 use Rattle.signctl.specs.declared.lines.NextLine.TheVariants as next
@@ -52,6 +52,62 @@ moved octets start end ordered all =
     ∙ sym (take_all (end - start) (drop start octets) (omega (arith, size)))
 
 -- ---- the first line feed
+
+-- the list of places that pass a test begins with the first of them, and is empty if there is none
+module _ (test : ℕ → Bool) (hay : List ℕ) where
+  no_place : (i n : ℕ) → places_from test hay i n ≡ [] → Nowhere (Passes test hay) i (i + n)
+  unfolding places_from
+  no_place i zero is k low high = absurd (omega arith)
+  no_place i (suc n) is k low high =
+      ⊎_elim
+      (λ t. let some : i ∷ places_from test hay (i + 1) n ≡ [] = sym (cond-true _ _ _ t) ∙ is in absurd cc)
+      (λ f.
+      let later : places_from test hay (i + 1) n ≡ [] = sym (cond-false _ _ _ f) ∙ is in
+      ⊎_elim
+      (λ here. subst (λ j. ¬ Passes test hay j) here (λ t. absurd (false≢true (sym f ∙ t))))
+      (λ other. no_place (i + 1) n later k (omega (arith, other)) (omega arith))
+      (cases_eq i k))
+      (cases_Bool (test (slice_index hay i)))
+
+  first_place : (i n k : ℕ) (more : List ℕ) → places_from test hay i n ≡ k ∷ more → NoneBefore (Passes test hay) i (i + n) k × Passes test hay k
+  unfolding places_from
+  first_place i zero k more is = absurd cc
+  first_place i (suc n) k more is =
+      ⊎_elim
+      (λ t.
+      let first : i ∷ places_from test hay (i + 1) n ≡ k ∷ more = sym (cond-true _ _ _ t) ∙ is in
+      let here : i ≡ k = cc in (
+        record { low = omega (arith, here); high = omega (arith, here); before = λ j low high. absurd (omega (arith, here)) },
+        subst (Passes test hay) here t,
+      ))
+      (λ f.
+      let (later, passes) = first_place (i + 1) n k more (sym (cond-false _ _ _ f) ∙ is) in (
+        record {
+          low = omega (arith, later.low);
+          high = omega (arith, later.high);
+          before = λ j low high.
+              ⊎_elim
+              (λ here. subst (λ m. ¬ Passes test hay m) here (λ t. absurd (false≢true (sym f ∙ t))))
+              (λ other. later.before j (omega (arith, other)) high)
+              (cases_eq i j);
+        },
+        passes,
+      ))
+      (cases_Bool (test (slice_index hay i)))
+
+-- the first line feed, of which there is a list
+pub first_feed : (hay : List ℕ) (k : ℕ) (more : List ℕ) → places (is_byte 10) hay ≡ k ∷ more → NoneBefore (Passes (is_byte 10) hay) 0 (length hay) k × Passes (is_byte 10) hay k
+first_feed hay k more is =
+    let whole : length hay ≡ length hay - 0 = omega arith in
+    let sum : 0 + length hay ≡ length hay = omega arith in
+    let (first, passes) = first_place (is_byte 10) hay 0 (length hay) k more (ap (places_from (is_byte 10) hay 0) whole ∙ is) in
+    (subst (λ n. NoneBefore (Passes (is_byte 10) hay) 0 n k) sum first, passes)
+
+pub no_feed : (hay : List ℕ) → places (is_byte 10) hay ≡ [] → Nowhere (Passes (is_byte 10) hay) 0 (length hay)
+no_feed hay is =
+    let whole : length hay ≡ length hay - 0 = omega arith in
+    let sum : 0 + length hay ≡ length hay = omega arith in
+    subst (Nowhere (Passes (is_byte 10) hay) 0) sum (no_place (is_byte 10) hay 0 (length hay) (ap (places_from (is_byte 10) hay 0) whole ∙ is))
 
 none_in : (hay : List ℕ) (k : ℕ) → Nowhere (Passes (is_byte 10) hay) 0 k → IsOneLine (take k hay)
 none_in hay k before = All-from_get_or (λ c. c ≢ 10) (take k hay) 0 (λ i below is.

@@ -1,5 +1,5 @@
 -- The rows of a frame, one after the other.
-use Rattle.std.proofs.Common.{◌≡◌, ℕ, zero, suc, ◌+◌, ◌-◌, ◌*◌, ◌/◌, ◌%◌, ◌<◌, ◌==◌, Bool, List, [], ◌∷◌, ◌++◌, get_or, length, map, take, drop, slice_set, refl, sym, ap, ◌∙◌, arith, append_assoc, append-nil}
+use Rattle.std.proofs.Common.{◌≡◌, ℕ, zero, suc, ◌+◌, ◌-◌, ◌*◌, ◌/◌, ◌%◌, ◌<◌, ◌≤◌, ◌==◌, Bool, List, [], ◌∷◌, ◌++◌, get_or, length, map, take, drop, slice_set, refl, sym, ap, ◌∙◌, arith, append_assoc, append-nil}
 use Rattle.std.specs.Int.{bit_at}
 use Rattle.std.specs.List.{flat_map, range_with_len}
 use Rattle.std.proofs.lemmas.Grind.{flat_map-append}
@@ -14,10 +14,9 @@ use Rattle.multi_layout.specs.Meaning.{meanings}
 use Rattle.multi_layout.specs.Pages.{IsSized}
 use Rattle.multi_layout.specs.Picture.{pixel_at}
 use Rattle.multi_layout.specs.Times.{shown}
-use Rattle.multi_layout.specs.Verdict.{Accepted}
+use Rattle.multi_layout.specs.Verdict.{Accepted, IsVerdict}
 use Rattle.signctl.specs.Frame.{frame_text, head_text, pixel_text, pixels_text, row_text, rows_text, show_answer}
-use Rattle.signctl.specs.Reply.{IsAccepted}
-use Rattle.signctl.proofs.ReplyLemmas.{answer_of_verdict}
+use Rattle.signctl.proofs.ReplyLemmas.{answer_accepted}
 
 -- ROWS
 
@@ -150,10 +149,9 @@ same_frame judge sign octets line colour clock same_sign same_octets =
     ∙ ap (λ l. frame_text sign l colour (shown sign l clock)) same_octets
 
 -- the frame of an accepted string answers its line
-pub answer_of_frame : (old now : List ℕ) (sign judge : SignData) (line octets : List ℕ) (colour clock : ℕ) → now ≡ old → IsAccepted sign line judge octets
-    → now ++ frame_text judge octets colour (shown judge octets clock) ≡ old ++ show_answer sign colour clock line
-answer_of_frame old now sign judge line octets colour clock same a =
+pub answer_of_frame : (old : List ℕ) (sign judge : SignData) (line octets : List ℕ) (pages colour clock : ℕ) → length line ≤ 4096 → judge ≡ sign → octets ≡ line → IsVerdict sign octets (Accepted pages)
+    → old ++ frame_text judge octets colour (shown judge octets clock) ≡ old ++ show_answer sign colour clock line
+answer_of_frame old sign judge line octets pages colour clock short same_sign same_octets is =
     let text = frame_text sign line colour (shown sign line clock) in
-    let answer : show_answer sign colour clock line ≡ text = answer_of_verdict (λ pages. text) sign line (Accepted a.pages) a.short a.accepted in
-    ap (λ l. l ++ frame_text judge octets colour (shown judge octets clock)) same
-    ∙ ap (λ l. old ++ l) (same_frame judge sign octets line colour clock a.same_sign a.same_octets ∙ sym answer)
+    let answer : show_answer sign colour clock line ≡ text = answer_accepted (λ pages. text) sign line sign octets pages short refl same_octets is in
+    ap (λ l. old ++ l) (same_frame judge sign octets line colour clock same_sign same_octets ∙ sym answer)

@@ -1,7 +1,7 @@
 -- The texts of answers.
-use Rattle.std.specs.Prelude.{◌≡◌, ℕ, ◌≤◌, List, ◌++◌, length, nat_lt, if◌then◌else◌, codes, decimal}
+use Rattle.std.specs.Prelude.{ℕ, List, ◌++◌, length, nat_lt, if◌then◌else◌, codes, decimal}
 use Rattle.sign_font.specs.Sign.{SignData}
-use Rattle.multi_layout.specs.Verdict.{Verdict, Accepted, Refused, IsVerdict, verdict}
+use Rattle.multi_layout.specs.Verdict.{Verdict, Accepted, Refused, verdict}
 
 -- A string with too many octets is answered by this text (own).
 abbrev pub too_long_text : List ℕ
@@ -19,15 +19,6 @@ verdict_text accepted (Refused code at) = refused_text code at
 -- A string of at most 4,096 octets is answered by the sign's verdict on it, by the sign's own defaults (own).
 abbrev pub answer_to : (ℕ → List ℕ) → SignData → List ℕ → List ℕ
 answer_to accepted sign line = if nat_lt 4096 (length line) then too_long_text else verdict_text accepted (verdict sign line)
-
--- The sign accepts the string of a line; `judge` and `octets` are the sign and the string that a judged string keeps
--- (own).
-pub record IsAccepted (sign : SignData) (line : List ℕ) (judge : SignData) (octets : List ℕ) : Type 0 where
-  pub short : length line ≤ 4096
-  pub same_sign : judge ≡ sign
-  pub same_octets : octets ≡ line
-  pub pages : ℕ
-  pub accepted : IsVerdict sign line (Accepted pages)
 
 -- The check answers an accepted string by the number of its pages (own).
 abbrev pub pages_text : ℕ → List ℕ

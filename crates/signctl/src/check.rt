@@ -3,8 +3,9 @@ ghost use Rattle.std.specs.Prelude.{◌≡◌, ◌++◌, OnOk, Some, map};
 ghost use Rattle.signctl.specs.Reply.{check_answer};
 
 use crate::answer::{Answer, LineAnswer};
-use crate::judge::judge_line;
-use crate::reply::push_pages;
+use crate::reply::{MAX_STRING, push_pages, push_refused, push_too_long};
+use multi_layout::check;
+use multi_token::Source;
 use sign_font::Sign;
 use std::alloc::AllocError;
 
@@ -18,9 +19,12 @@ pub(crate) struct Checker {
 fn push_verdict(sign: &Sign, line: &[u8], text: &mut Vec<u8>) -> Result<(), AllocError>
     ensures { OnOk result (text.new.items ≡ text.old.items ++ check_answer sign.now line.now) }
 {
-    match judge_line(sign, line, text)? {
-        Some(checked) => push_pages(text, checked.pages()),
-        None => Ok(()),
+    if line.len() > MAX_STRING {
+        return push_too_long(text);
+    }
+    match check(sign, Source::new(line)) {
+        Ok(checked) => push_pages(text, checked.pages()),
+        Err(fault) => push_refused(text, fault.code, fault.at),
     }
 }
 

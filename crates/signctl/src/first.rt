@@ -5,7 +5,7 @@ ghost use Rattle.signctl.specs.Lines.{IsOneLine};
 
 use crate::answer::{Answer, LineAnswer};
 use crate::lines::{MAX_LINE, text_of};
-use memchr::memchr;
+use memchr::memchr_iter;
 use std::alloc::AllocError;
 
 /// What was done with the first line of a block (own).
@@ -27,7 +27,8 @@ fn line_end(octets: &[u8], seen: usize) -> Option<usize>
     requires none { IsOneLine (take seen octets.now) }
     ensures { IsLineEnd octets.now result }
 {
-    match memchr(b'\n', &octets[seen..]) {
+    // Most lines are short, and an iterator looks near first.
+    match memchr_iter(b'\n', &octets[seen..]).next() {
         Some(end) => Some(seen + end),
         None => None,
     }

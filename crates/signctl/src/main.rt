@@ -44,7 +44,6 @@ mod block;
 mod check;
 mod fault;
 mod first;
-mod judge;
 mod laws;
 mod lines;
 mod main_with;

@@ -2,14 +2,20 @@
 ghost use Rattle.std.specs.Prelude.{◌≡◌, ◌++◌, OnOk, decimal};
 ghost use Rattle.signctl.specs.Reply.{pages_text, refused_text, too_long_text};
 
-use crate::octets::push_octets;
+use crate::octets::{push_octet, push_octets};
 use itoa::Buffer;
 use std::alloc::AllocError;
+
+/// The most octets that a string may have to be judged (own).
+pub(crate) const MAX_STRING: usize = 4_096;
 
 /// Appends a number in decimal.
 pub(crate) fn push_number(text: &mut Vec<u8>, number: u64) -> Result<(), AllocError>
     ensures { OnOk result (text.new.items ≡ text.old.items ++ decimal number) }
 {
+    if number < 10 {
+        return push_octet(text, b'0' + number as u8);
+    }
     push_octets(text, Buffer::new().format(number).as_bytes())
 }
 
@@ -17,6 +23,9 @@ pub(crate) fn push_number(text: &mut Vec<u8>, number: u64) -> Result<(), AllocEr
 pub(crate) fn push_pages(text: &mut Vec<u8>, pages: u8) -> Result<(), AllocError>
     ensures { OnOk result (text.new.items ≡ text.old.items ++ pages_text pages) }
 {
+    if pages < 10 {
+        return push_octets(text, &[b'o', b'k', b' ', b'0' + pages, b'\n']);
+    }
     push_octets(text, b"ok ")?;
     push_number(text, u64::from(pages))?;
     push_octets(text, b"\n")

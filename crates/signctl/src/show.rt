@@ -11,11 +11,11 @@ ghost use Rattle.multi_layout.specs.Times.{shown};
 ghost use Rattle.signctl.specs.Frame.{frame_text, head_text, pixel_text, row_text, rows_text, show_answer};
 
 use crate::answer::{Answer, LineAnswer};
-use crate::judge::judge_line;
 use crate::octets::{push_octet, push_octets};
 use crate::pixels::write_pixels;
-use crate::reply::push_number;
-use multi_layout::{Checked, Shown};
+use crate::reply::{MAX_STRING, push_number, push_refused, push_too_long};
+use multi_layout::{Checked, Shown, check};
+use multi_token::Source;
 use page_plane::Plane;
 use sign_font::Sign;
 use std::alloc::{AllocError, Global};
@@ -163,9 +163,12 @@ fn push_shown(
     ensures ok { OnOk result (text.new.items ≡ text.old.items ++ show_answer sign.now colour clock line.now) }
     ensures size { IsSized plane.new sign.now }
 {
-    match judge_line(sign, line, text)? {
-        Some(mut checked) => push_frame(text, &mut checked, clock, colour, plane),
-        None => Ok(()),
+    if line.len() > MAX_STRING {
+        return push_too_long(text);
+    }
+    match check(sign, Source::new(line)) {
+        Ok(mut checked) => push_frame(text, &mut checked, clock, colour, plane),
+        Err(fault) => push_refused(text, fault.code, fault.at),
     }
 }
 
