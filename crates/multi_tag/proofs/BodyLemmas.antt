@@ -35,19 +35,15 @@ no_end octets token count (Some octet) tag few ended =
     let plain : IsPlain octet = subst IsPlain inside (All-get_or IsPlain body count 0 short (plain_body octets token tag)) in
     elim ended.1 [ inl opens ↦ plain.0 opens | inr closes ↦ plain.1 closes ]
 
--- the octets without brackets that stand behind the first bracket, no more than the body has, are all of it
-pub whole_body : (octets : List ℕ) (token : Token) (count : ℕ) (ending : Option ℕ) → IsTagOf octets token → count ≤ token.len - 2 → (count < token.len - 2 → IsEndedBy octets (token.at + 1 + count) ending) → count ≡ token.len - 2
-whole_body octets token count ending tag few ended = elim (eq-or-lt_of_le few) [
+-- the octets without brackets that stand behind the first bracket, no more than the body has, are the body
+pub whole_body : (octets : List ℕ) (token : Token) (front : List ℕ) (ending : Option ℕ) → IsTagOf octets token → length front ≤ token.len - 2 → (length front < token.len - 2 → IsEndedBy octets (token.at + 1 + length front) ending) → length front ≡ token.len - 2
+whole_body octets token front ending tag few ended = elim (eq-or-lt_of_le few) [
   | inl all ↦ all
-  | inr less ↦ absurd (no_end octets token count ending tag less (ended less))
+  | inr less ↦ absurd (no_end octets token (length front) ending tag less (ended less))
 ]
 
-pub body_there : (octets : List ℕ) (token : Token) → IsTagOf octets token → slice_range octets (token.at + 1) (token.at + 1 + (token.len - 2)) ≡ body_of octets token
-body_there octets token tag =
+pub body_read : (octets : List ℕ) (token : Token) (front : List ℕ) → IsTagOf octets token → front ≡ slice_range octets (token.at + 1) (token.at + 1 + length front) → length front ≡ token.len - 2 → front ≡ body_of octets token
+body_read octets token front tag is all =
     let size = length-tag octets token tag in
-    let end : token.at + 1 + (token.len - 2) ≡ token.at + token.len - 1 = omega (arith, size) in
-    ap (slice_range octets (token.at + 1)) end
-
--- what is handed out whole is the body
-pub handed_out : (xs : List ℕ) (t : Token) (octets : List ℕ) → IsTagOf xs t → octets ≡ slice_range xs (t.at + 1) (t.at + 1 + length octets) → length octets ≡ t.len - 2 → octets ≡ body_of xs t
-handed_out xs t octets is found all = found ∙ (ap (λ n. slice_range xs (t.at + 1) (t.at + 1 + n)) all ∙ body_there xs t is)
+    let end : token.at + 1 + length front ≡ token.at + token.len - 1 = omega (arith, size, all) in
+    is ∙ ap (slice_range octets (token.at + 1)) end

@@ -10,6 +10,7 @@ use crate::number::{in_range, read_numeral};
 use crate::tag::{FontPick, Tag};
 
 /// A font, and its version after a comma.
+// called, so that the code of the tags that are read often stays small
 #[inline(never)]
 pub fn read_font(octets: &[u8]) -> Option<Tag>
     ensures { IsValueIn (table names.Font).rest (str_to_ascii_lowercase octets.now) result }

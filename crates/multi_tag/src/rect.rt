@@ -12,6 +12,7 @@ use crate::number::read_numeral;
 use crate::tag::Tag;
 
 /// Four numbers with commas between them.
+// called, so that the code of the tags that are read often stays small
 #[inline(never)]
 pub fn read_rect(octets: &[u8]) -> Option<Tag>
     ensures { IsValueIn (table names.Rect).rest (str_to_ascii_lowercase octets.now) result }

@@ -29,6 +29,7 @@ pub fn read_times(octets: &[u8], letter: u8) -> Option<(Option<u8>, Option<u8>)>
 }
 
 /// The times of a flash: it is on first if they begin with a 't', and off first if they begin with an 'o'.
+// called, so that the code of the tags that are read often stays small
 #[inline(never)]
 pub fn read_flash(octets: &[u8]) -> Option<Tag>
     ensures { IsValueIn (table names.Flash).rest (str_to_ascii_lowercase octets.now) result }
