@@ -1,12 +1,12 @@
 -- Digits at the front of octets: as they are read, and that no other digits stand there.
-use Rattle.std.proofs.Common.{◌≡◌, ℕ, ◌+◌, ◌-◌, ◌*◌, ◌^◌, ◌<◌, ◌≤◌, List, [], ◌∷◌, ◌++◌, Option, Some, None, length, take, drop, get_or, refl, sym, ap, ◌∙◌, arith, append_assoc, append-nil}
+use Rattle.std.proofs.Common.{◌≡◌, ℕ, ◌+◌, ◌-◌, ◌*◌, ◌^◌, ◌<◌, ◌≤◌, List, [], ◌∷◌, ◌++◌, Option, Some, length, take, drop, get_or, refl, sym, ap, ◌∙◌, arith, append_assoc, append-nil}
 use Rattle.std.specs.Prelude.{unwrap_or, nat_lt}
 use Rattle.std.specs.List.{All}
 use Rattle.std.specs.Char.{digit_value, to_ascii_lowercase}
 use Rattle.std.specs.Str.{str_to_ascii_lowercase}
 use Rattle.std.proofs.lemmas.List.{length-append, take_rest}
-use Rattle.std.proofs.lemmas.Option.{cond_some, none-some}
-use Rattle.std.proofs.lemmas.Bool.{ltb-true, lt-ltb}
+use Rattle.std.proofs.lemmas.Option.{cond_some}
+use Rattle.std.proofs.lemmas.Bool.{ltb-true}
 use Rattle.std.proofs.lemmas.Bool.Decides.{nat_tests}
 use Rattle.std.proofs.lemmas.Nat.{mul-le}
 use Rattle.std.proofs.lemmas.List.Elements.{All-head, All-tail, All-push}
@@ -51,23 +51,6 @@ digits_small base count octets value rest has small few =
 -- a digit is below the base
 pub digit_small : (base digit octet : ℕ) → digit_of base octet ≡ Some digit → digit < base
 digit_small base digit octet e = let (small, same) = digit_is base digit octet e in omega (arith, small, same)
-
--- the digits were cut off where no digit follows, or there are enough of them
-pub cut_there : (base most count : ℕ) (octets : List ℕ) (value : Option ℕ) (rest : List ℕ) → HasDigits base count octets value rest → count ≤ most → (BeginsWithDigit base rest → count ≡ most) → IsCut base most octets value rest
-cut_there base most count octets value rest has few stops =
-    let size = has.size in
-    record {
-      digits = has.digits;
-      whole = has.whole;
-      each = has.each;
-      count = omega arith;
-      stops = λ begins. has.size ∙ stops begins;
-      value_is = has.value_is;
-    }
-
--- an octet that has no value is no digit
-pub no_digit : (base octet : ℕ) (behind : List ℕ) → digit_of base octet ≡ None → BeginsWithDigit base (octet ∷ behind) → ⊥
-no_digit base octet behind e small = none-some (digit_value octet) (sym e ∙ rw (lt-ltb (digit_value octet) base small) refl)
 
 -- digits at the front are one list, where one of the two is stopped by no digit, and the other by none unless it is as long
 pub one_front : (base : ℕ) (a b x y : List ℕ) → All (IsDigit base) a → All (IsDigit base) b → (BeginsWithDigit base x → length b ≤ length a) → (BeginsWithDigit base y → ⊥) → a ++ x ≡ b ++ y → (a ≡ b) × (x ≡ y)

@@ -1,5 +1,5 @@
 -- Fonts: what was read is their value.
-use Rattle.std.proofs.Common.{◌≡◌, ℕ, List, [], ◌∷◌, Option, Some, None, refl, sym, ap, ◌∙◌, ◌⊎◌, inl, inr}
+use Rattle.std.proofs.Common.{◌≡◌, ℕ, List, ◌∷◌, Option, Some, None, refl, sym, ◌∙◌, ◌⊎◌, inl, inr}
 use Rattle.std.proofs.lemmas.Option.{none-some, same_Some}
 use Rattle.multi_tag.specs.declared.name.Name.TheVariants as names
 use Rattle.multi_tag.specs.declared.tag.Tag.{Tag}
@@ -10,7 +10,7 @@ use Rattle.multi_tag.specs.Body.{table}
 use Rattle.multi_tag.specs.Part.{IsCut, IsValueIn, in_range}
 use Rattle.multi_tag.proofs.CutLemmas.{empty_or_not}
 use Rattle.multi_tag.proofs.PartLemmas.{comma_is_no_digit}
-use Rattle.multi_tag.proofs.FormLemmas.{written_d?, d?_d, d_d?, alone_value, before_value, alone_is, before_is}
+use Rattle.multi_tag.proofs.FormLemmas.{d?_d, d_d?, alone_value, before_value, before_is}
 
 -- the font that a number picks
 abbrev pub picked : Option ℕ → Option FontPick
@@ -33,12 +33,6 @@ module _ (octets : List ℕ) (value : Option ℕ) where
   font_out_of_range rest cut e tag f = elim (font_cases octets tag f) [
     | alone o g is ↦ none-some o (sym e ∙ (alone_value 1 255 octets value rest o cut g).1)
     | with_version m v (front, behind, is, g, k) same ↦ none-some (Some m) (sym e ∙ (before_value 1 255 44 octets value rest front behind (Some m) cut comma_is_no_digit is (d_d? 1 255 front m g)).1)
-  ]
-
-  pub font_alone : (o : Option ℕ) → IsCut 10 5 octets value [] → in_range 1 255 value ≡ Some o → (table names.Font).rest octets (Font (picked o))
-  font_alone o cut e = elim (written_d? 1 255 octets value o (alone_is 10 5 octets value cut) e) [
-    | inl (empty, is) ↦ inl (empty, ap (λ p. Font (picked p)) is)
-    | inr (m, f, is) ↦ inr (inl (m, f, ap (λ p. Font (picked p)) is))
   ]
 
   -- and its version behind a comma

@@ -1,13 +1,13 @@
 -- Numbers that were read, and the forms that they have.
-use Rattle.std.proofs.Common.{◌≡◌, ℕ, ◌+◌, ◌^◌, ◌≤◌, List, [], ◌∷◌, Option, Some, None, length, refl, sym, ◌∙◌, inr, arith, lit≤}
+use Rattle.std.proofs.Common.{◌≡◌, ℕ, ◌+◌, ◌^◌, ◌≤◌, List, [], ◌∷◌, Option, Some, None, length, refl, sym, inr, arith, lit≤}
 use Rattle.std.proofs.lemmas.Option.{none-some, same_Some}
 use Rattle.multi_tag.specs.Number.{IsDigit, number}
 use Rattle.multi_tag.specs.Form.{Form, IsNumber, d, d?, ◌means◌}
-use Rattle.multi_tag.specs.Part.{IsCut, IsValueIn, in_range, IsPartBefore, HasNoPartBefore}
+use Rattle.multi_tag.specs.Part.{IsCut, IsValueIn, IsPartBefore, HasNoPartBefore}
 use Rattle.std.proofs.Math.Nat.{pow-le-pow_right}
 use Rattle.multi_tag.proofs.NumberLemmas.{number-lt}
 use Rattle.multi_tag.proofs.CutLemmas.{IsWritten, cut_digits, cut_whole, cut_before, empty_or_not}
-use Rattle.multi_tag.proofs.FormLemmas.{number_written, written_number, written_d?, alone_value, alone_is}
+use Rattle.multi_tag.proofs.FormLemmas.{number_written, written_number, alone_value, alone_is}
 
 -- no value in a form is none in what it means
 pub means_none : {U V : Type 0} (form : Form U) (meaning : U → V) (octets : List ℕ) → IsValueIn form octets None → IsValueIn (form means meaning) octets None
@@ -21,11 +21,6 @@ number_none low high octets none n f = none (Some n) (inr (n, f, refl))
 pub optional_stopped : (low high stop : ℕ) (octets : List ℕ) (value : Option ℕ) (behind : List ℕ) → IsCut 10 5 octets value (stop ∷ behind) → IsValueIn (d? low high) octets None
 optional_stopped low high stop octets value behind cut o f =
     empty_or_not (alone_value low high octets value (stop ∷ behind) o cut f).0 refl
-
--- digits alone
-pub optional_alone : (low high : ℕ) (octets : List ℕ) (value : Option ℕ) → IsCut 10 5 octets value [] → (o : Option (Option ℕ)) → o ≡ in_range low high value → IsValueIn (d? low high) octets o
-optional_alone low high octets value cut (Some o) e = written_d? low high octets value o (alone_is 10 5 octets value cut) (sym e)
-optional_alone low high octets value cut None e = λ o f. none-some o (e ∙ (alone_value low high octets value [] o cut f).1)
 
 -- digits write no more than there is room for
 pub written_at_most : (base most high : ℕ) (octets : List ℕ) (v : ℕ) → IsWritten base most octets (Some v) → base ^ most ≤ high + 1 → 2 ≤ base → v ≤ high
@@ -57,10 +52,6 @@ pub part_there : (octet v : ℕ) (octets behind : List ℕ) → IsCut 10 5 octet
 part_there octet v octets behind cut =
     let there = cut_digits 10 5 octets (Some v) (octet ∷ behind) cut in
     (cut.digits, cut.whole, written_number 10 5 0 99999 cut.digits v there (omega arith) (written_at_most 10 5 99999 cut.digits v there (lit≤ tt) (lit≤ tt)))
-
-pub part_lacks_number : (octet : ℕ) (octets rest : List ℕ) → IsCut 10 5 octets None rest → ¬ (IsDigit 10 octet) → HasNoPartBefore octet (d 0 99999) octets
-part_lacks_number octet octets rest cut none front behind v is f =
-    none-some v (cut_before 10 5 octet octets None rest front behind (Some v) cut is (number_written 10 5 0 99999 front v f) none).0
 
 pub part_not_stopped : (octet : ℕ) (octets : List ℕ) (value : Option ℕ) (rest : List ℕ) → IsCut 10 5 octets value rest → ((behind : List ℕ) → rest ≡ octet ∷ behind → ⊥) → ¬ (IsDigit 10 octet) → HasNoPartBefore octet (d 0 99999) octets
 part_not_stopped octet octets value rest cut other none front behind v is f =

@@ -36,10 +36,6 @@ two = between 44 (d 0 99999) (d 0 99999)
 abbrev pub three : Form (ℕ × (ℕ × ℕ))
 three = between 44 (d 0 99999) two
 
--- no first number, and so on
-pub rect_no_first : (octets : List ℕ) → HasNoPartBefore 44 (d 0 99999) octets → IsValueIn (table names.Rect).rest octets None
-rect_no_first octets none = means_none (between 44 (d 0 99999) three) rect_of octets (part_none three octets none)
-
 module _ (octets second : List ℕ) (x : ℕ) (before : IsPartBefore 44 (d 0 99999) octets x second) where
   pub rect_no_second : HasNoPartBefore 44 (d 0 99999) second → IsValueIn (table names.Rect).rest octets None
   rect_no_second none = means_none (between 44 (d 0 99999) three) rect_of octets (rest_none three octets second x before (part_none two second none))

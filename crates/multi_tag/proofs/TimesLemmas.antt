@@ -9,7 +9,7 @@ use Rattle.multi_tag.specs.Form.{d?}
 use Rattle.multi_tag.specs.Body.{table}
 use Rattle.multi_tag.specs.Part.{IsCut, IsValueIn, in_range, times}
 use Rattle.multi_tag.proofs.CutLemmas.{empty_or_not}
-use Rattle.multi_tag.proofs.FormLemmas.{written_d?, alone_value, before_value, alone_is, before_is}
+use Rattle.multi_tag.proofs.FormLemmas.{alone_value, before_value, before_is}
 
 -- one time or two
 module _ (letter : ℕ) (octets : List ℕ) (value : Option ℕ) where
@@ -17,9 +17,6 @@ module _ (letter : ℕ) (octets : List ℕ) (value : Option ℕ) where
   times_out_of_range rest cut none e v (inl (o, f, is)) = none-some o (sym e ∙ (alone_value 0 255 octets value rest o cut f).1)
   times_out_of_range rest cut none e v (inr (front, behind, is, f, g)) =
       none-some v.0 (sym e ∙ (before_value 0 255 letter octets value rest front behind v.0 cut none is f).1)
-
-  pub times_alone : (o : Option ℕ) → IsCut 10 5 octets value [] → in_range 0 255 value ≡ Some o → times letter octets (o, None)
-  times_alone o cut e = inl (o, written_d? 0 255 octets value o (alone_is 10 5 octets value cut) e, refl)
 
   pub times_stopped : (stop : ℕ) (rest : List ℕ) → IsCut 10 5 octets value (stop ∷ rest) → ¬ (IsDigit 10 letter) → (stop ≡ letter → ⊥) → IsValueIn (times letter) octets None
   times_stopped stop rest cut none other v (inl (o, f, is)) = empty_or_not (alone_value 0 255 octets value (stop ∷ rest) o cut f).0 refl
