@@ -2,7 +2,7 @@
 
 ghost use Rattle.std.specs.Prelude.{◌≡◌, ◌+◌, ◌<◌, ◌≤◌, ◌++◌, [], map, take, drop, length, replicate, slice_set, slice_index_or, IfOk};
 ghost use Rattle.std.specs.Vec.{vec_capacity};
-ghost use Rattle.message_store.specs.Pool.{ArePlaced, Pool, moved, moved_start, span_at, text_in, used};
+ghost use Rattle.message_store.specs.Pool.{ArePlaced, Pool, moved, span_at, text_in, used};
 
 use std::alloc::{AllocError, Global};
 use std::marker::Model;
@@ -37,12 +37,15 @@ impl Model for Texts {
     ghost invariant = { λ t. ArePlaced t.spans.items (length t.octets.items) × (length t.octets.items ≤ t.room) × (t.room ≤ vec_capacity t.octets) };
 }
 
-/// Where a text begins after a gap of `len` octets before `end` was closed.
-fn moved_start(end: usize, len: usize, start: usize) -> usize
+/// Moves the place of a text up where a gap of `len` octets before `end` was closed and it stands behind that.
+fn move_one(span: &mut Span, end: usize, len: usize)
     requires { len ≤ end }
-    ensures { result ≡ moved_start end len start }
+    ensures { span.new ≡ moved end len span.old }
 {
-    if end <= start { start - len } else { start }
+    // A place that stays isn't written again, for speed: every place of the pool is looked at.
+    if end <= span.start {
+        span.start -= len;
+    }
 }
 
 /// Moves the places of texts up where a gap of `len` octets before `end` was closed.
@@ -51,8 +54,7 @@ fn move_up(spans: &mut [Span], end: usize, len: usize)
     ensures { spans.new ≡ map (moved end len) spans.old }
 {
     for index in 0..spans.len() {
-        let span = &mut spans[index];
-        span.start = moved_start(end, len, span.start);
+        move_one(&mut spans[index], end, len);
     }
 }
 
@@ -62,7 +64,8 @@ fn close_gap(octets: &mut Vec<u8>, start: usize, len: usize)
     ensures items { octets.new.items ≡ take start octets.old.items ++ drop (start + len) octets.old.items }
     ensures capacity { vec_capacity octets.new ≡ vec_capacity octets.old }
 {
-    octets.slice_mut(start..).rotate_left(len);
+    let behind = start + len;
+    octets.as_mut_slice().copy_within(behind.., start);
     octets.truncate(octets.len() - len);
 }
 

@@ -1,10 +1,7 @@
-use Rattle.std.proofs.Common.{ap, slice_index_or}
-use Rattle.message_store.specs.declared.texts.Span.{Span}
 use Rattle.message_store.specs.Pool.{moved, no_span}
 use Rattle.message_store.proofs.PoolLemmas.{one-moved}
 use Rattle.message_store.proofs.texts.move_up.Goals as goal
 
 pub loop-index-preserved : goal.loop-index-preserved
 loop-index-preserved c =
-    one-moved (moved c.args.end c.args.len) c.args.spans.now c.loop-index.spans c.loop-index.index no_span _ c.loop-index-test.true c.loop-index.invariant
-    (ap (λ n. let span : Span = record { start = n; len = (slice_index_or c.loop-index.spans c.loop-index.index no_span).len } in span) c.moved_start-span.ensures)
+    one-moved (moved c.args.end c.args.len) c.args.spans.now c.loop-index.spans c.loop-index.index no_span _ c.loop-index-test.true c.loop-index.invariant c.move_one.ensures
