@@ -1,18 +1,14 @@
 -- Digits and the number that they write.
-use Rattle.std.proofs.Common.{◌≡◌, ◌≢◌, ℕ, ◌<◌, ◌≤◌, ◌^◌, Bool, true, false, List, [], ◌∷◌, length, get_or, Option, None, Some, Result, Ok, Err, Bor, IsUtf8, refl, sym, ap, ◌∙◌, arith}
-use Rattle.std.specs.Prelude.{◌==◌, ◌&&◌, nat_le}
-use Rattle.std.specs.List.{list_all, slice_get}
-use Rattle.std.specs.Option.{option_copied, option_eq}
-use Rattle.std.specs.Result.{MatchResult, result_ok}
-use Rattle.std.specs.Str.{IsAscii}
-use Rattle.std.specs.Str.Parse.{AllDigits, ParsesUnsigned, digits_value}
-use Rattle.std.specs.declared.num.ParseIntError.{ParseIntError}
+use Rattle.std.proofs.Common.{◌≡◌, ℕ, ◌+◌, ◌-◌, ◌*◌, ◌<◌, ◌≤◌, take, Bool, true, List, [], ◌∷◌, length, get_or, Option, None, Some, refl, ap, ◌∙◌, arith}
+use Rattle.std.specs.Prelude.{◌&&◌, nat_le}
+use Rattle.std.specs.List.{list_all}
+use Rattle.std.specs.Str.Parse.{AllDigits, digits_value}
 use Rattle.std.specs.Char.{digit_value}
 use Rattle.std.proofs.lemmas.Bool.{and_from, and_parts}
+use Rattle.std.proofs.lemmas.Int.Digits.{digits_value_more}
+use Rattle.std.proofs.lemmas.List.{take_more}
+use Rattle.std.proofs.lemmas.List.Folds.{list_all-append}
 use Rattle.std.proofs.lemmas.Option.{cond_some}
-use Rattle.std.proofs.lemmas.Str.{IsUtf8-from_ascii}
-use Rattle.std.proofs.lemmas.Str.Parse.{without_leading_plus_none}
-use Rattle.std.proofs.lemmas.Str.Ascii.{IsAscii-nil, IsAscii-cons}
 use Rattle.sign_script.specs.Fields.{is_digit, number_of}
 use Rattle.sign_script.specs.Spelling.{IsNumber}
 
@@ -76,42 +72,12 @@ none_from (Some n) none = absurd (none n refl)
 pub no_number : (most : ℕ) (ds : List ℕ) → ((n : ℕ) → IsNumber most n ds → ⊥) → number_of most ds ≡ None
 no_number most ds none = none_from (number_of most ds) (λ n h. none n (number_found most n ds h))
 
--- digits are ASCII
-digits_ascii : (ds : List ℕ) → AllDigits 10 ds → IsAscii ds
-digits_ascii [] h = IsAscii-nil
-digits_ascii (c ∷ cs) h = IsAscii-cons c cs (grind (arith, h.0)) (digits_ascii cs h.1)
+-- one digit more
+pub digits_more : (ds : List ℕ) (i : ℕ) → i < length ds → list_all is_digit (take i ds) ≡ true → is_digit (get_or ds i 0) ≡ true → list_all is_digit (take (i + 1) ds) ≡ true
+digits_more ds i there before here =
+    ap (list_all is_digit) (take_more ds i 0 there) ∙ list_all-append is_digit (take i ds) (get_or ds i 0 ∷ []) ∙ and_from (list_all is_digit (take i ds)) _ before (and_from (is_digit (get_or ds i 0)) true here refl)
 
-module _ {E : Type 0} (V : E → Type 0) (ds : List ℕ) where
-  -- octets as text, if they are text
-  abbrev pub IsText : Result (Bor (List ℕ)) E → Type 0
-  IsText r = MatchResult r (λ s. (s.now ≡ ds) × IsUtf8 ds) (λ e. ¬ (IsUtf8 ds) × V e)
-
-  pub no_text : (most : ℕ) (r : Result (Bor (List ℕ)) E) → IsText r → None ≡ result_ok r → number_of most ds ≡ None
-  no_text most (Ok s) h is = cc
-  no_text most (Err e) h is = no_number most ds (λ n number. h.0 (IsUtf8-from_ascii ds (digits_ascii ds number.numeral.1)))
-
-  pub same_text : (r : Result (Bor (List ℕ)) E) (s : Bor (List ℕ)) → IsText r → Some s ≡ result_ok r → s.now ≡ ds
-  same_text (Ok t) s h is = let same : s ≡ t = cc in ap (λ (b : Bor (List ℕ)). b.now) same ∙ h.0
-  same_text (Err e) s h is = cc
-
--- a text that a plus doesn't begin
-pub no_plus : (ds : List ℕ) (first : Option (Bor ℕ)) (plus : Bor ℕ) → plus.now ≡ 43 → option_copied first ≡ slice_get ds 0 → option_eq (λ (x y : Bor ℕ). x.now == y.now) first (Some plus) ≡ false → get_or ds 0 0 ≢ 43
-no_plus [] first plus is same differs = λ e. omega arith
-no_plus (c ∷ cs) None plus is same differs = cc
-no_plus (c ∷ cs) (Some b) plus is same differs = λ e. let now : b.now ≡ c = cc in grind (arith)
-
-module _ (most : ℕ) (ds text : List ℕ) (same : text ≡ ds) (differs : get_or ds 0 0 ≢ 43) where
-  pub parsed : (r : Result ℕ ParseIntError) (n : ℕ) → ParsesUnsigned 32 10 text r → Some n ≡ result_ok r → length ds ≤ 10 → n ≤ most → number_of most ds ≡ Some n
-  parsed (Ok m) n h is short within =
-      let plain = without_leading_plus_none ds differs in
-      let read = rw (same, plain) at h in
-      let is_it : n ≡ m = cc in
-      number_read most n ds (record { numeral = read.0.0; short = short; value = sym (is_it ∙ read.1); within = within })
-  parsed (Err e) n h is short within = cc
-
-  pub not_parsed : (r : Result ℕ ParseIntError) → ParsesUnsigned 32 10 text r → None ≡ result_ok r → most < 2 ^ 32 → number_of most ds ≡ None
-  not_parsed (Ok m) h is fits = cc
-  not_parsed (Err e) h is fits =
-      let plain = without_leading_plus_none ds differs in
-      let read = rw (same, plain) at h in
-      no_number most ds (λ n is. read (is.numeral, omega (arith, is.value, is.within)))
+pub number_more : (ds : List ℕ) (i number : ℕ) → i < length ds → number ≡ digits_value 10 (take i ds) → 48 ≤ get_or ds i 0 → get_or ds i 0 ≤ 57 → number * 10 + (get_or ds i 0 - 48) ≡ digits_value 10 (take (i + 1) ds)
+number_more ds i number there is least most =
+    let value : digit_value (get_or ds i 0) ≡ get_or ds i 0 - 48 = grind (arith, least, most) in
+    omega (arith, digits_value_more 10 ds i there, value, is)

@@ -30,64 +30,31 @@ pub(crate) enum Verb {
 }
 
 impl Verb {
-    const ALL: [Verb; 17] = [
-        Verb::Request,
-        Verb::Multi,
-        Verb::MultiHex,
-        Verb::Owner,
-        Verb::Priority,
-        Verb::Beacon,
-        Verb::Pixel,
-        Verb::Clear,
-        Verb::Work,
-        Verb::Activate,
-        Verb::End,
-        Verb::Tick,
-        Verb::Frame,
-        Verb::Row,
-        Verb::Report,
-        Verb::Default,
-        Verb::Defaults,
-    ];
-
-    /// The word of a verb.
-    fn word(self) -> &'static [u8]
-        ensures { result.now ≡ word self }
-    {
-        match self {
-            Verb::Request => b"request",
-            Verb::Multi => b"multi",
-            Verb::MultiHex => b"multix",
-            Verb::Owner => b"owner",
-            Verb::Priority => b"priority",
-            Verb::Beacon => b"beacon",
-            Verb::Pixel => b"pixel",
-            Verb::Clear => b"clear",
-            Verb::Work => b"work",
-            Verb::Activate => b"activate",
-            Verb::End => b"end",
-            Verb::Tick => b"tick",
-            Verb::Frame => b"frame",
-            Verb::Row => b"row",
-            Verb::Report => b"report",
-            Verb::Default => b"default",
-            Verb::Defaults => b"defaults",
-        }
-    }
-
-    /// The first of these verbs that has this word.
-    fn first_of(verbs: &[Verb], text: &[u8]) -> Option<Verb>
-        ensures { result ≡ find (λ v. bytes_eq text.now (word v)) verbs.now }
-    {
-        verbs.iter().copied().find(|verb| text == verb.word())
-    }
-
     /// The verb of a word.
     #[tactic(auto, unfolding(crate::specs::Verbs::verb_of))]
     pub(crate) fn of(text: &[u8]) -> Option<Verb>
         ensures { result ≡ verb_of text.now }
     {
-        Verb::first_of(&Verb::ALL, text)
+        match text {
+            b"request" => Some(Verb::Request),
+            b"multi" => Some(Verb::Multi),
+            b"multix" => Some(Verb::MultiHex),
+            b"owner" => Some(Verb::Owner),
+            b"priority" => Some(Verb::Priority),
+            b"beacon" => Some(Verb::Beacon),
+            b"pixel" => Some(Verb::Pixel),
+            b"clear" => Some(Verb::Clear),
+            b"work" => Some(Verb::Work),
+            b"activate" => Some(Verb::Activate),
+            b"end" => Some(Verb::End),
+            b"tick" => Some(Verb::Tick),
+            b"frame" => Some(Verb::Frame),
+            b"row" => Some(Verb::Row),
+            b"report" => Some(Verb::Report),
+            b"default" => Some(Verb::Default),
+            b"defaults" => Some(Verb::Defaults),
+            _ => None,
+        }
     }
 }
 
