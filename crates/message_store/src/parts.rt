@@ -14,7 +14,12 @@ use crate::store::Store;
 fn first_validating(slots: &[Slot]) -> Option<usize>
     ensures { result ≡ position (λ slot. is_validating slot.status) slots.now }
 {
-    slots.iter().position(|slot| slot.status.is_validating())
+    for index in 0..slots.len() {
+        if slots[index].status.is_validating() {
+            return Some(index);
+        }
+    }
+    None
 }
 
 impl Store {

@@ -39,10 +39,11 @@ impl Model for Store {
 fn count_used(slots: &[Slot]) -> usize
     ensures count { result ≡ count_by (λ slot. not (is_not_used slot.status)) slots.now }
 {
-    slots
-        .iter()
-        .filter(|slot| !slot.status.is_not_used())
-        .count()
+    let mut count = 0;
+    for slot in slots {
+        count += usize::from(!slot.status.is_not_used());
+    }
+    count
 }
 
 impl Store {
