@@ -231,6 +231,7 @@ impl Area {
     }
 
     /// Whether the area fits a rectangle of this width and height in pixels, as far as its last item goes: a character.
+    #[inline(always)]
     pub(crate) fn fits_with_character(&self, width: u16, height: u16) -> bool
         requires below { IsBelow (2 ^ 62 + 1024) self.now }
         ensures kept { result ≡ true → (kept_fits width self.now.group.line ≡ true) × (kept_fits_height height self.now ≡ true) }

@@ -27,6 +27,7 @@ use multi_token::{Bracketed, Source};
 use sign_font::{Cell, Defaults, Sign};
 
 /// Judges what begins with this bracket.
+#[inline(always)]
 pub(crate) fn judge_spelled(
     sign: &Terms<'_>,
     state: &mut State,

@@ -146,6 +146,7 @@ fn judge_from(
 
 /// Judges the item that begins with this bracket at an offset, which was read. It gives the offset behind, and the octet read
 /// there.
+#[inline(always)]
 fn judge_bracket(
     sign: &Terms<'_>,
     state: &mut State,

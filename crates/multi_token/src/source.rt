@@ -3,7 +3,7 @@
 ghost use Rattle.std.specs.Prelude.{◌≡◌, ◌+◌, ◌^◌, ◌<◌, ◌≤◌, ◌⊎◌, length, slice_get, slice_range, take, IfSome, None};
 ghost use Rattle.std.specs.List.{All};
 ghost use Rattle.multi_token.specs.Counted.{charged};
-ghost use Rattle.multi_token.specs.Spelling.{IsEndedBy, IsPlain};
+ghost use Rattle.multi_token.specs.Spelling.{IsEndedBy, IsPlain, is_bracket};
 
 use std::marker::Model;
 use step_count::raised;
@@ -102,8 +102,17 @@ fn plain_front(octets: &[u8], most: usize) -> usize
 {
     let end = octets.len().min(most);
     let mut len = 0;
-    while len < end && octets[len] != b'[' && octets[len] != b']' {
+    while len < end && !is_bracket(octets[len]) {
         len += 1;
     }
     len
+}
+
+/// Whether an octet is a bracket.
+#[inline(always)]
+fn is_bracket(octet: u8) -> bool
+    ensures { result ≡ is_bracket octet }
+{
+    // without a branch between the two: octets are many
+    (octet == b'[') | (octet == b']')
 }
