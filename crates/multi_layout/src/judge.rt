@@ -49,6 +49,7 @@ pub(crate) fn judge_spelled(
 }
 
 /// Judges what a tag says.
+#[inline(always)]
 pub(crate) fn judge_tag(
     sign: &Terms<'_>,
     state: &mut State,

@@ -27,6 +27,7 @@ pub(crate) struct Offence {
 }
 
 /// Whether a sign accepts a string by the sign's own defaults. Everything else is as [`check_with`] says.
+#[inline(always)]
 pub fn check<'a>(sign: &'a Sign, source: Source<'a>) -> Result<Checked<'a>, Fault<'a>>
     requires fresh { source.steps ≡ 0 }
     requires short { length source.octets < 2 ^ 32 }
@@ -54,6 +55,7 @@ pub fn check<'a>(sign: &'a Sign, source: Source<'a>) -> Result<Checked<'a>, Faul
 /// The source must have no steps yet and at most 4,294,967,295 octets. Both answers give it back. For n octets its count is
 /// then at most 2n + 1. It is at least n + 1 if the string is accepted, and at least one more than the offset of the error
 /// if it is refused.
+#[inline(always)]
 pub fn check_with<'a>(
     sign: &'a Sign,
     defaults: Defaults,
