@@ -25,7 +25,7 @@ use Rattle.multi_layout.specs.declared.table.LineTable.{LineTable}
 use Rattle.multi_layout.specs.Address.{Spot, Standing, Glyph, Break, Cover, in_group, spots, standing, in_area}
 use Rattle.multi_layout.specs.KnownItem.{meant_by}
 use Rattle.multi_layout.specs.Meaning.{Meaning, Shows, Does, Faulty, EndsArea, begins_area, meaning}
-use Rattle.multi_layout.specs.Passes.{HasCounted, HasKnown, HasRoom, IsAreaRead, IsLow, BeginsNoArea, ends_line, first_steps, next_group, places, whole_area}
+use Rattle.multi_layout.specs.Passes.{HasCounted, HasKnown, HasRoom, IsAreaRead, IsLow, BeginsNoArea, ends_line, first_steps, next_group, has_place, whole_area}
 use Rattle.multi_layout.specs.Offence.{conflicts, offence, too_big}
 use Rattle.multi_layout.specs.Run.{kept_height}
 use Rattle.multi_layout.specs.State.{IsStateOf, present_area}
@@ -87,7 +87,7 @@ module _ (sign : SignData) (items : List Meaning) (state : State) (st : IsStateO
       no_back (spots sign items) spot state.attributes.page_just state.area.present page_is present_is
       (no_conflict (conflicts (spots sign items) spot) (too_big (spots sign items) spot) (sym (offence-character sign items number cell found) ∙ fine))
 
-  pub order : (x : Meaning) → offence sign items x ≡ None → places x ≡ true → state.area.present ≤ state.attributes.page_just
+  pub order : (x : Meaning) → offence sign items x ≡ None → has_place x ≡ true → state.area.present ≤ state.attributes.page_just
   order (Shows number) fine p = order_glyph number (cell_numbered (standing sign items).font number) refl fine
   order (Does (NewLine gap)) fine p =
       let spot : Spot = record { at = standing sign items; put = Break gap } in
@@ -108,7 +108,7 @@ module _ (sign : SignData) (items : List Meaning) (state : State) (st : IsStateO
   order (Does (Rect x y w h)) fine p = absurd (false≢true p)
 
   -- an item without a place leaves the area, and its lines
-  known_stays : (x : Meaning) (after : State) → IsStateOf sign (items ++ x ∷ []) after → places x ≡ false → present_area sign (items ++ x ∷ []) ≡ present_area sign items
+  known_stays : (x : Meaning) (after : State) → IsStateOf sign (items ++ x ∷ []) after → has_place x ≡ false → present_area sign (items ++ x ∷ []) ≡ present_area sign items
       → (table : LineTable) → HasKnown (next_group state x) (present_area sign items) table → HasKnown after.area.present (present_area sign (items ++ x ∷ [])) table
   known_stays x after st' none same table has =
       let stays : next_group state x ≡ after.area.present =
@@ -150,8 +150,8 @@ module _ (sign : SignData) (items : List Meaning) (state : State) (st : IsStateO
 
   -- an item that ends a line of the group in force
   module _ (x : Meaning) (ends : ends_line x ≡ true) (fine : offence sign items x ≡ None) where
-    places_end : places x ≡ true
-    places_end = let (gap, same) = line_end x ends in ap places same
+    places_end : has_place x ≡ true
+    places_end = let (gap, same) = line_end x ends in ap has_place same
 
     -- the group in force is the next
     pub next_is : next_group state x ≡ state.attributes.page_just

@@ -25,14 +25,14 @@ ends_line (Does (NewLine gap)) = true
 ends_line _ = false
 
 -- the item has a place in a group: a character or the end of a line (NTCIP 1203 v03, MULTI tag 'nl')
-abbrev pub places : Meaning → Bool
-places (Shows number) = true
-places (Does (NewLine gap)) = true
-places _ = false
+abbrev pub has_place : Meaning → Bool
+has_place (Shows number) = true
+has_place (Does (NewLine gap)) = true
+has_place _ = false
 
 -- the page justification of the group to which the next item belongs, if it has a place, or else that of the present group (own)
 abbrev pub next_group : State → Meaning → ℕ
-next_group state item = if places item then state.attributes.page_just else state.area.present
+next_group state item = if has_place item then state.attributes.page_just else state.area.present
 
 -- the lines of a group that are known when items go on in this group: all counted lines of the groups before it, and the ended
 -- lines of the others (own)

@@ -8,7 +8,7 @@ ghost use Rattle.multi_layout.specs.Codes.{code_of};
 ghost use Rattle.multi_layout.specs.KnownItem.{IsKnownItem, meant_by};
 ghost use Rattle.multi_layout.specs.Meaning.{Does, Faulty, begins_area, is_new_page, meaning};
 ghost use Rattle.multi_layout.specs.State.{IsKnown};
-ghost use Rattle.multi_layout.specs.Passes.{ends_line, places};
+ghost use Rattle.multi_layout.specs.Passes.{ends_line, has_place};
 
 use crate::fault::SyntaxError;
 use multi_tag::{Tag, TagFault, read_body, read_tag};
@@ -37,8 +37,8 @@ impl KnownItem {
     }
 
     /// Whether the item has a place in a group: a character or the end of a line.
-    pub(crate) fn places(self) -> bool
-        ensures { result ≡ places (meant_by self) }
+    pub(crate) fn has_place(self) -> bool
+        ensures { result ≡ has_place (meant_by self) }
     {
         matches!(self, KnownItem::Char(_) | KnownItem::Tag(Tag::NewLine(_)))
     }

@@ -10,7 +10,7 @@ ghost use Rattle.multi_layout.specs.Address.{Spot, in_group, is_break, lines_of}
 ghost use Rattle.multi_layout.specs.KnownItem.{meant_by};
 ghost use Rattle.multi_layout.specs.Line.{height_of};
 ghost use Rattle.multi_layout.specs.Meaning.{Meaning, EndsArea, meaning, begins_area};
-ghost use Rattle.multi_layout.specs.Passes.{HasKnown, HasRoom, IsAreaRead, IsLow, first_steps, next_group, places};
+ghost use Rattle.multi_layout.specs.Passes.{HasKnown, HasRoom, IsAreaRead, IsLow, first_steps, next_group, has_place};
 ghost use Rattle.multi_layout.specs.State.{IsStateOf, present_area};
 ghost use Rattle.multi_layout.specs.Sums.{IsBelow, IsGroupBelow, IsPlacing, area_sum, group_sum, ended_lines};
 ghost use Rattle.multi_layout.specs.Table.{IsNarrowArea, IsOrdered};
@@ -129,13 +129,13 @@ fn leave_group(lines: &mut LineTable, item: KnownItem, state: &State)
     requires ordered { IsOrdered lines.old }
     requires known { (spots : List Spot) × All IsPlacing spots × (state.now.area ≡ area_sum spots) × HasKnown state.now.area.present spots lines.old
         × HasRoom spots × IsNarrowArea spots }
-    requires order { places (meant_by item) ≡ true → state.now.area.present ≤ state.now.attributes.page_just }
+    requires order { has_place (meant_by item) ≡ true → state.now.area.present ≤ state.now.attributes.page_just }
     ensures known { (spots : List Spot) → All IsPlacing spots → state.now.area ≡ area_sum spots → HasKnown state.now.area.present spots lines.old
         → HasKnown (next_group state.now (meant_by item)) spots lines.new }
     ensures ordered { IsOrdered lines.new }
     ensures low { IsLow lines.old → IsLow lines.new }
 {
-    if item.places() && state.area.present < state.attributes.page_just {
+    if item.has_place() && state.area.present < state.attributes.page_just {
         end_group(lines, &state.area);
     }
 }

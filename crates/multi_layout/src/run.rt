@@ -71,7 +71,7 @@ pub(crate) fn judge_run(
     let run = state.run();
     let font = state.attributes.font.number;
     let (text, next) = source.read_plain(at, usize::MAX);
-    match sign.text_width(source, font, text, run.gap, run.left) {
+    match sign.run_width(source, font, run, text) {
         Ok(width) => {
             state.lengthen(width, text.len() as u64);
             Ok((at + text.len(), next))

@@ -7,6 +7,7 @@ ghost use Rattle.sign_font.specs.Sign.{cell_in, font_numbered, info_of};
 ghost use Rattle.sign_font.specs.Sound.{IsSound, IsSoundSize, IsWithin};
 ghost use Rattle.sign_font.specs.Text.{HasWidth, IsTextFault, place_of, width_in};
 
+use crate::run::Run;
 use multi_token::Source;
 use sign_font::{Cell, Defaults, FontInfo, Sign, TextFault};
 use std::marker::Model;
@@ -116,23 +117,22 @@ impl<'a> Terms<'a> {
         self.sign.cell(source, font, number)
     }
 
-    /// The width in pixels of a text in the font of a number, with this gap before each of its characters, or the first octet
-    /// that has no cell or goes beyond the room. Each cell that is looked up is one step.
-    pub(crate) fn text_width(
+    /// The width in pixels of a text of a run in the font of a number, or the first octet that has no cell or for which too little
+    /// is left. Each cell that is looked up is one step.
+    pub(crate) fn run_width(
         &self,
         source: &mut Source<'_>,
         font: u8,
+        run: Run,
         text: &[u8],
-        gap: u8,
-        room: u64,
     ) -> Result<u64, TextFault>
-        ensures width { IfOk result (λ width. HasWidth (width_in self.now font) gap text.now width × (width ≤ room)) }
-        ensures fault { IfErr result (IsTextFault (width_in self.now font) gap room text.now) }
+        ensures width { IfOk result (λ width. HasWidth (width_in self.now font) run.gap text.now width × (width ≤ run.left)) }
+        ensures fault { IfErr result (IsTextFault (width_in self.now font) run.gap run.left text.now) }
         ensures steps { OnOk result (source.new ≡ charged source.old (length text.now)) }
         ensures fault_steps { IfErr result (λ fault. source.new ≡ charged source.old (place_of fault + 1)) }
         ensures sound { IsSound self.now }
     {
-        self.sign.text_width(source, font, text, gap, room)
+        self.sign.text_width(source, font, text, run.gap, run.left)
     }
 
     /// The width in pixels of the cell of an octet in the font of a number, if both are defined. Either way it is one step.
