@@ -16,7 +16,9 @@ use Rattle.multi_layout.specs.Address.{Spot, spots, standing, in_group, lines_of
 use Rattle.multi_layout.specs.Drawn.{Lights, has_colour}
 use Rattle.multi_layout.specs.Limits.{plane_octets}
 use Rattle.multi_layout.specs.Meaning.{Meaning, Does, Shows, EndsArea, begins_area, meaning}
+use Rattle.multi_layout.specs.State.{present_area}
 use Rattle.multi_layout.specs.Sums.{ended_lines}
+use Rattle.multi_layout.specs.Walk.{IsBetween}
 use Rattle.multi_layout.specs.Table.{IsOrdered, group_lines, table_of}
 
 -- the item ends a line (NTCIP 1203 v03, MULTI tag 'nl')
@@ -68,6 +70,10 @@ IsQuiet tag = Unit {0}
 abbrev pub whole_area : SignData → List Item → List Item → List Spot
 whole_area sign before behind = in_area (standing sign (map meaning before)).area (spots sign (map meaning (before ++ behind)))
 
+-- the table has the lines that are known before these items, where the cursor stands (own)
+abbrev pub IsKnownBefore : SignData → List Item → Cursor → LineTable → Type 0
+IsKnownBefore sign before cursor lines = HasKnown cursor.state.area.present (present_area sign (map meaning before)) lines
+
 -- the steps that reading the first of these items takes at most, and one at the end (own)
 abbrev pub first_steps : List Item → ℕ
 first_steps [] = 1
@@ -90,6 +96,17 @@ pub record IsAreaRead (sign : SignData) (before behind : List Item) (cursor : Cu
 abbrev pub IsDrawnTo : SignData → Layer → List Meaning → List Meaning → BitPlane → Type 0
 IsDrawnTo sign layer items before plane =
     Lights plane (has_colour sign (standing sign before).page layer.phase layer.colour (spots sign items) (spots sign before))
+
+-- if the old plane shows what the items before these put on their page, the new one shows what these put on it too (own)
+abbrev pub DrawsOn : SignData → Layer → List Item → List Item → List Item → BitPlane → BitPlane → Type 0
+DrawsOn sign layer before these rest old new =
+    IsDrawnTo sign layer (map meaning (before ++ (these ++ rest))) (map meaning before) old → IsDrawnTo sign layer (map meaning (before ++ (these ++ rest))) (map meaning (before ++ these)) new
+
+-- so it is wherever the cursor stands before the items of an area that was read, and other items (own)
+abbrev pub OverArea : SignData → List ℕ → Cursor → AreaLines → (List Item → List Item → List Item → Type 0) → Type 0
+OverArea sign octets cursor read So =
+    (before area rest : List Item) → IsBetween sign octets before (area ++ rest) cursor → BeginsNoArea area → read.end ≡ cursor.at + length (spell area)
+    → HasCounted (whole_area sign before (area ++ rest)) read.lines → So before area rest
 
 -- these octets of a page took at most these steps over the plane: a row for each row of each character, and a fill for each
 -- background, which has four octets (own)

@@ -41,3 +41,8 @@ IsFirst behind (Some next) = (item : Item) × (rest : List Item) × (behind ≡ 
 -- the cursor stands before an item of an accepted string, of which this is read (own)
 abbrev pub IsBefore : SignData → List ℕ → NextItem → Cursor → Type 0
 IsBefore sign octets next cursor = (before rest : List Item) × (item : Item) × IsBetween sign octets before (item ∷ rest) cursor × IsRead item next
+
+-- the new cursor stands behind the next item, of which this is read, wherever the old one stands before it (own)
+abbrev pub GoesBehind : SignData → List ℕ → NextItem → Cursor → Cursor → Type 0
+GoesBehind sign octets next old new =
+    (before rest : List Item) (item : Item) → IsBetween sign octets before (item ∷ rest) old → IsRead item next → IsBetween sign octets (before ++ item ∷ []) rest new

@@ -6,7 +6,7 @@ ghost use Rattle.multi_token.specs.Spelling as spelled;
 ghost use Rattle.sign_font.specs.Cell.{SizedCell};
 ghost use Rattle.sign_font.specs.Sign.{SignData, cell_in};
 ghost use Rattle.sign_font.specs.Sound.{IsSound};
-ghost use Rattle.multi_layout.specs.Walk.{IsAccepted, IsBefore, IsBetween, IsCursor, IsFirst, IsRead};
+ghost use Rattle.multi_layout.specs.Walk.{GoesBehind, IsAccepted, IsBefore, IsBetween, IsCursor, IsFirst, IsRead};
 
 use crate::item::{KnownItem, read_item};
 use crate::judge::judge_tag;
@@ -68,8 +68,7 @@ impl Cursor {
     /// Goes behind the next item, of which this was read.
     pub(crate) fn pass(&mut self, sign: &Terms<'_>, source: &mut Source<'_>, next: NextItem)
         requires { IsBefore sign.now source.old.octets next self.old }
-        ensures passed { (before rest : List spelled.Item) (item : spelled.Item) → IsBetween sign.now source.old.octets before (item ∷ rest) self.old
-            → IsRead item next → IsBetween sign.now source.old.octets (before ++ item ∷ []) rest self.new }
+        ensures passed { GoesBehind sign.now source.old.octets next self.old self.new }
         ensures at { self.new.at ≡ self.old.at + next.len }
         ensures steps { RisesBetween source.old source.new 0 1 }
     {
@@ -89,8 +88,7 @@ impl Cursor {
     /// Goes behind the next item, a tag of so many octets.
     fn pass_tag(&mut self, sign: &Terms<'_>, source: &mut Source<'_>, tag: Tag, len: usize)
         requires { IsBefore sign.now source.old.octets (record { item = KnownItem.Tag tag; len = len }) self.old }
-        ensures passed { (before rest : List spelled.Item) (item : spelled.Item) → IsBetween sign.now source.old.octets before (item ∷ rest) self.old
-            → IsRead item (record { item = KnownItem.Tag tag; len = len }) → IsBetween sign.now source.old.octets (before ++ item ∷ []) rest self.new }
+        ensures passed { GoesBehind sign.now source.old.octets (record { item = KnownItem.Tag tag; len = len }) self.old self.new }
         ensures at { self.new.at ≡ self.old.at + len }
         ensures steps { RisesBetween source.old source.new 0 1 }
     {

@@ -9,11 +9,11 @@ ghost use Rattle.multi_layout.specs.Drawn.{Lights};
 ghost use Rattle.multi_layout.specs.Meaning.{begins_area, meaning};
 ghost use Rattle.multi_layout.specs.Pages.{IsSized};
 ghost use Rattle.multi_layout.specs.Paging.{IsFilledFew, IsPagePassed, IsPageStart, IsReadTwice};
-ghost use Rattle.multi_layout.specs.Passes.{HasCounted, IsDrawnTo, IsFilledBy, IsLow, BeginsNoArea, IsQuiet, whole_area};
+ghost use Rattle.multi_layout.specs.Passes.{DrawsOn, HasCounted, IsFilledBy, OverArea, IsLow, BeginsNoArea, IsQuiet, whole_area};
 ghost use Rattle.multi_layout.specs.Limits.{plane_octets};
 ghost use Rattle.multi_layout.specs.Picture.{in_plane, shown_colour};
 ghost use Rattle.multi_layout.specs.Table.{IsOrdered};
-ghost use Rattle.multi_layout.specs.Walk.{IsBetween, IsRead};
+ghost use Rattle.multi_layout.specs.Walk.{GoesBehind, IsBetween, IsRead};
 
 use crate::cursor::{Cursor, NextItem};
 use crate::item::KnownItem;
@@ -75,13 +75,8 @@ fn draw_area(
     requires low { IsLow read.now.lines }
     requires ordered { IsOrdered read.now.lines }
     requires size { IsSized plane.old sign.now }
-    ensures passed { (before area rest : List spelled.Item) → IsBetween sign.now source.old.octets before (area ++ rest) cursor.old
-        → BeginsNoArea area → read.now.end ≡ cursor.old.at + length (spelled.spell area) → HasCounted (whole_area sign.now before (area ++ rest)) read.now.lines
-        → IsBetween sign.now source.old.octets (before ++ area) rest cursor.new }
-    ensures drawn { (before area rest : List spelled.Item) → IsBetween sign.now source.old.octets before (area ++ rest) cursor.old
-        → BeginsNoArea area → read.now.end ≡ cursor.old.at + length (spelled.spell area) → HasCounted (whole_area sign.now before (area ++ rest)) read.now.lines
-        → IsDrawnTo sign.now layer (map meaning (before ++ (area ++ rest))) (map meaning before) plane.old
-        → IsDrawnTo sign.now layer (map meaning (before ++ (area ++ rest))) (map meaning (before ++ area)) plane.new }
+    ensures passed { OverArea sign.now source.old.octets cursor.old read.now (λ before area rest. IsBetween sign.now source.old.octets (before ++ area) rest cursor.new) }
+    ensures drawn { OverArea sign.now source.old.octets cursor.old read.now (λ before area rest. DrawsOn sign.now layer before area rest plane.old plane.new) }
     ensures steps { RisesBetween source.old source.new 0 (2 * (read.now.end - cursor.old.at)) }
     ensures fills { IsFilledBy sign.now plane.old plane.new (read.now.end - cursor.old.at) }
 {
@@ -110,12 +105,10 @@ fn draw_item(
     requires low { IsLow lines.now }
     requires ordered { IsOrdered lines.now }
     requires size { IsSized plane.old sign.now }
-    ensures passed { (before rest : List spelled.Item) (item : spelled.Item) → IsBetween sign.now source.old.octets before (item ∷ rest) cursor.old
-        → IsRead item next → IsBetween sign.now source.old.octets (before ++ item ∷ []) rest cursor.new }
+    ensures passed { GoesBehind sign.now source.old.octets next cursor.old cursor.new }
     ensures drawn { (before rest : List spelled.Item) (item : spelled.Item) → IsBetween sign.now source.old.octets before (item ∷ rest) cursor.old
         → IsRead item next → begins_area (meaning item) ≡ false → HasCounted (whole_area sign.now before (item ∷ rest)) lines.now
-        → IsDrawnTo sign.now layer (map meaning (before ++ item ∷ rest)) (map meaning before) plane.old
-        → IsDrawnTo sign.now layer (map meaning (before ++ item ∷ rest)) (map meaning (before ++ item ∷ [])) plane.new }
+        → DrawsOn sign.now layer before (item ∷ []) rest plane.old plane.new }
     ensures at { cursor.new.at ≡ cursor.old.at + next.len }
     ensures steps { RisesBetween source.old source.new 0 1 }
     ensures fills { IsFilledBy sign.now plane.old plane.new next.len }

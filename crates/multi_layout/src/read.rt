@@ -10,11 +10,11 @@ ghost use Rattle.multi_layout.specs.Address.{Spot, in_group, is_break, lines_of}
 ghost use Rattle.multi_layout.specs.KnownItem.{meant_by};
 ghost use Rattle.multi_layout.specs.Line.{height_of};
 ghost use Rattle.multi_layout.specs.Meaning.{Meaning, EndsArea, meaning, begins_area};
-ghost use Rattle.multi_layout.specs.Passes.{HasKnown, HasRoom, IsAreaRead, IsLow, first_steps, next_group, has_place};
+ghost use Rattle.multi_layout.specs.Passes.{HasKnown, HasRoom, IsAreaRead, IsLow, IsKnownBefore, first_steps, has_place, next_group};
 ghost use Rattle.multi_layout.specs.State.{IsStateOf, present_area};
 ghost use Rattle.multi_layout.specs.Sums.{IsBelow, IsGroupBelow, IsPlacing, area_sum, group_sum, ended_lines};
 ghost use Rattle.multi_layout.specs.Table.{IsNarrowArea, IsOrdered};
-ghost use Rattle.multi_layout.specs.Walk.{IsBefore, IsBetween, IsCursor, IsFirst, IsRead};
+ghost use Rattle.multi_layout.specs.Walk.{GoesBehind, IsBefore, IsBetween, IsCursor, IsFirst, IsRead};
 
 use crate::area::Area;
 use crate::cursor::{Cursor, NextItem};
@@ -93,14 +93,12 @@ fn pass_item(
 )
     requires sound { IsSound sign.now }
     requires known { (before rest : List spelled.Item) × (item : spelled.Item) × IsBetween sign.now source.old.octets before (item ∷ rest) cursor.old
-        × IsRead item next × HasKnown cursor.old.state.area.present (present_area sign.now (map meaning before)) lines.old }
+        × IsRead item next × IsKnownBefore sign.now before cursor.old lines.old }
     requires plain { begins_area (meant_by next.item) ≡ false }
     requires ordered { IsOrdered lines.old }
-    ensures passed { (before rest : List spelled.Item) (item : spelled.Item) → IsBetween sign.now source.old.octets before (item ∷ rest) cursor.old
-        → IsRead item next → IsBetween sign.now source.old.octets (before ++ item ∷ []) rest cursor.new }
+    ensures passed { GoesBehind sign.now source.old.octets next cursor.old cursor.new }
     ensures known { (before rest : List spelled.Item) (item : spelled.Item) → IsBetween sign.now source.old.octets before (item ∷ rest) cursor.old
-        → IsRead item next → HasKnown cursor.old.state.area.present (present_area sign.now (map meaning before)) lines.old
-        → HasKnown cursor.new.state.area.present (present_area sign.now (map meaning (before ++ item ∷ []))) lines.new }
+        → IsRead item next → IsKnownBefore sign.now before cursor.old lines.old → IsKnownBefore sign.now (before ++ item ∷ []) cursor.new lines.new }
     ensures at { cursor.new.at ≡ cursor.old.at + next.len }
     ensures steps { RisesBetween source.old source.new 0 1 }
     ensures ordered { IsOrdered lines.new }
