@@ -13,6 +13,7 @@ pub mod FitLemmas
 pub mod GroupHeightLemmas
 pub mod GroupSumLemmas
 pub mod HeightLemmas
+pub mod InForceLemmas
 pub mod JudgedLemmas
 pub mod KnownLinesLemmas
 pub mod LayoutLemmas

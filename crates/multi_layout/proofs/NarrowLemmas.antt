@@ -17,8 +17,9 @@ use Rattle.multi_layout.specs.Table.{IsNarrow, IsNarrowArea}
 use Rattle.multi_layout.specs.Verdict.{offences}
 use Rattle.multi_layout.proofs.BehindLemmas.{after_last_push}
 use Rattle.multi_layout.proofs.GroupSumLemmas.{glyph_put, own_group}
+use Rattle.multi_layout.proofs.InForceLemmas.{area_wide, rectangle_width_within, rectangle_within}
 use Rattle.multi_layout.proofs.PlaceLemmas.{each_just, fit_each, part_most, sum_least}
-use Rattle.multi_layout.proofs.RoomLemmas.{area_fits_always, area_wide, holds_always, rectangle_width_within, rectangle_within}
+use Rattle.multi_layout.proofs.RoomLemmas.{area_fits_always, holds_always}
 
 -- the present line of each group fits a width
 abbrev LinesFit : ℕ → List Spot → Type 0
