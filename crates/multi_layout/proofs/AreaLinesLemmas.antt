@@ -1,204 +1,42 @@
 -- The first reading of an area: the table of its counted lines, item by item.
-use Rattle.std.proofs.Common.{◌≡◌, ℕ, ◌+◌, ◌-◌, ◌*◌, ◌^◌, ◌<◌, ◌≤◌, Bool, true, false, cond, length, map, List, [], ◌∷◌, ◌++◌, Option, Some, None, refl, sym, ap, subst, ◌∙◌, arith, append_assoc, append-nil}
+use Rattle.std.proofs.Common.{◌≡◌, ℕ, ◌+◌, ◌-◌, ◌*◌, ◌^◌, ◌<◌, ◌≤◌, Bool, true, false, cond, length, map, List, [], ◌∷◌, ◌++◌, Some, None, refl, sym, ap, subst, ◌∙◌, arith, append_assoc, append-nil}
 use Rattle.std.specs.List.{All}
-use Rattle.std.specs.Option.{option_map, unwrap_or}
-use Rattle.std.proofs.lemmas.Bool.{false≢true}
 use Rattle.std.proofs.lemmas.List.{length-append, length-map, map-append}
 use Rattle.std.proofs.lemmas.List.Concat.{flat_map-append}
 use Rattle.std.proofs.lemmas.List.Elements.{All-nil, All-push}
-use Rattle.multi_tag.specs.declared.tag.Tag.TheVariants.{NewPage, NewLine, LineJust, PageJust, Font, CharSpacing, CharSpacingEnd, PageTime, Flash, FlashEnd, Fore, Back, Rect}
 use Rattle.multi_token.specs.Counted.{Counted, RisesBetween}
 use Rattle.multi_token.specs.Spelling.{Item, spelling, spell}
 use Rattle.multi_token.proofs.ReadingLemmas.{spelling_some}
 use Rattle.multi_token.proofs.StepLemmas.{rises_then}
-use Rattle.sign_font.specs.Sign.{SignData, CellData, cell_numbered}
+use Rattle.sign_font.specs.Sign.{SignData}
 use Rattle.sign_font.specs.Sound.{IsSound}
-use Rattle.multi_layout.specs.declared.area.Area.{Area}
 use Rattle.multi_layout.specs.declared.area.Group.{Group}
-use Rattle.multi_layout.specs.declared.attributes.Attributes.{Attributes}
 use Rattle.multi_layout.specs.declared.cursor.Cursor.{Cursor}
 use Rattle.multi_layout.specs.declared.cursor.NextItem.{NextItem}
 use Rattle.multi_layout.specs.declared.read.AreaLines.{AreaLines}
-use Rattle.multi_layout.specs.declared.state.State.{State}
-use Rattle.multi_layout.specs.declared.table.CountedLine.{CountedLine}
 use Rattle.multi_layout.specs.declared.table.LineTable.{LineTable}
-use Rattle.multi_layout.specs.Address.{Spot, Standing, Glyph, Break, Cover, in_group, spots, standing, in_area}
+use Rattle.multi_layout.specs.Address.{Standing, Break, in_group, spots, standing, in_area}
 use Rattle.multi_layout.specs.KnownItem.{meant_by}
-use Rattle.multi_layout.specs.Meaning.{Meaning, Shows, Does, Faulty, EndsArea, begins_area, meaning}
-use Rattle.multi_layout.specs.Passes.{HasCounted, HasKnown, HasRoom, IsAreaRead, IsLow, BeginsNoArea, ends_line, first_steps, next_group, has_place, whole_area}
-use Rattle.multi_layout.specs.Offence.{conflicts, offence, too_big}
+use Rattle.multi_layout.specs.Meaning.{Meaning, EndsArea, begins_area, meaning}
+use Rattle.multi_layout.specs.Passes.{HasCounted, HasKnown, HasRoom, IsAreaRead, IsLow, BeginsNoArea, first_steps, whole_area}
+use Rattle.multi_layout.specs.Offence.{offence}
 use Rattle.multi_layout.specs.Run.{kept_height}
 use Rattle.multi_layout.specs.State.{IsStateOf, present_area}
-use Rattle.multi_layout.specs.Sums.{IsBelow, IsPlacing, area_sum}
+use Rattle.multi_layout.specs.Sums.{IsBelow, IsPlacing}
 use Rattle.multi_layout.specs.Table.{IsNarrowArea, IsOrdered, group_lines, table_of}
 use Rattle.multi_layout.specs.Verdict.{fault_at, offences}
 use Rattle.multi_layout.specs.Walk.{IsBetween, IsFirst, IsRead}
-use Rattle.multi_layout.specs.Words.{largest}
-use Rattle.multi_layout.proofs.AreaSumLemmas.{area_placing, group_of_own, no_back, present_behind}
+use Rattle.multi_layout.proofs.AreaSumLemmas.{area_placing, group_of_own}
 use Rattle.multi_layout.proofs.DrawnLemmas.{area_ends}
 use Rattle.multi_layout.proofs.GroupSumLemmas.{placing_group}
 use Rattle.multi_layout.proofs.JudgedLemmas.{below_more}
-use Rattle.multi_layout.proofs.KnownLinesLemmas.{Pushed, behind_empty, break_known, break_room, glyph_known, known_none}
+use Rattle.multi_layout.proofs.KnownLinesLemmas.{known_none}
 use Rattle.multi_layout.proofs.NarrowLemmas.{narrow_area}
-use Rattle.multi_layout.proofs.OffenceLemmas.{offence-break, offence-character, offence-undefined}
-use Rattle.multi_layout.proofs.PlacingLemmas.{no_conflict}
 use Rattle.multi_layout.proofs.RoomLemmas as room_lemmas
 use Rattle.multi_layout.proofs.RunLemmas.{kept_height_is}
 use Rattle.multi_layout.proofs.StandingLemmas.{standing_push}
-use Rattle.multi_layout.proofs.StateLemmas.{present_area-placing, present_area-nothing, present_area-cover}
-use Rattle.multi_layout.proofs.TableLemmas.{open_entry}
 use Rattle.multi_layout.proofs.WalkLemmas.{few, never_offends, within}
 use Rattle.multi_layout.proofs.WordLemmas.{left_nil, some_after-append}
-
--- THE KNOWN LINES AT ONE MORE ITEM
-
-line_end : (x : Meaning) → ends_line x ≡ true → (gap : Option ℕ) × (x ≡ Does (NewLine gap))
-line_end (Shows number) e = absurd (false≢true e)
-line_end (Faulty code) e = absurd (false≢true e)
-line_end (Does NewPage) e = absurd (false≢true e)
-line_end (Does (NewLine gap)) e = (gap, refl)
-line_end (Does (LineJust just)) e = absurd (false≢true e)
-line_end (Does (PageJust just)) e = absurd (false≢true e)
-line_end (Does (Font pick)) e = absurd (false≢true e)
-line_end (Does (CharSpacing pixels)) e = absurd (false≢true e)
-line_end (Does CharSpacingEnd) e = absurd (false≢true e)
-line_end (Does (PageTime on off)) e = absurd (false≢true e)
-line_end (Does (Flash off_first on off)) e = absurd (false≢true e)
-line_end (Does FlashEnd) e = absurd (false≢true e)
-line_end (Does (Fore colour)) e = absurd (false≢true e)
-line_end (Does (Back colour)) e = absurd (false≢true e)
-line_end (Does (Rect x y w h)) e = absurd (false≢true e)
-
-module _ (sign : SignData) (items : List Meaning) (state : State) (st : IsStateOf sign items state) where
-  page_is : (standing sign items).page_just ≡ state.attributes.page_just
-  page_is = sym (ap (λ (a : Attributes). a.page_just) st.attributes)
-
-  present_is : state.area.present ≡ largest (λ (t : Spot). t.at.page_just) (present_area sign items)
-  present_is = ap (λ (a : Area). a.present) st.area
-
-  none≢some : (n : ℕ) → Some n ≡ None → ⊥
-  none≢some n e = cc
-
-  -- an item with a place that doesn't offend isn't before the present group
-  order_glyph : (number : ℕ) (o : Option CellData) → cell_numbered (standing sign items).font number ≡ o → offence sign items (Shows number) ≡ None → state.area.present ≤ state.attributes.page_just
-  order_glyph number None found fine = absurd (none≢some 7 (sym (offence-undefined sign items number found) ∙ fine))
-  order_glyph number (Some cell) found fine =
-      let spot : Spot = record { at = standing sign items; put = Glyph cell } in
-      no_back (spots sign items) spot state.attributes.page_just state.area.present page_is present_is
-      (no_conflict (conflicts (spots sign items) spot) (too_big (spots sign items) spot) (sym (offence-character sign items number cell found) ∙ fine))
-
-  pub order : (x : Meaning) → offence sign items x ≡ None → has_place x ≡ true → state.area.present ≤ state.attributes.page_just
-  order (Shows number) fine p = order_glyph number (cell_numbered (standing sign items).font number) refl fine
-  order (Does (NewLine gap)) fine p =
-      let spot : Spot = record { at = standing sign items; put = Break gap } in
-      no_back (spots sign items) spot state.attributes.page_just state.area.present page_is present_is
-      (no_conflict (conflicts (spots sign items) spot) (too_big (spots sign items) spot) (sym (offence-break sign items gap) ∙ fine))
-  order (Faulty code) fine p = absurd (false≢true p)
-  order (Does NewPage) fine p = absurd (false≢true p)
-  order (Does (LineJust just)) fine p = absurd (false≢true p)
-  order (Does (PageJust just)) fine p = absurd (false≢true p)
-  order (Does (Font pick)) fine p = absurd (false≢true p)
-  order (Does (CharSpacing pixels)) fine p = absurd (false≢true p)
-  order (Does CharSpacingEnd) fine p = absurd (false≢true p)
-  order (Does (PageTime on off)) fine p = absurd (false≢true p)
-  order (Does (Flash off_first on off)) fine p = absurd (false≢true p)
-  order (Does FlashEnd) fine p = absurd (false≢true p)
-  order (Does (Fore colour)) fine p = absurd (false≢true p)
-  order (Does (Back colour)) fine p = absurd (false≢true p)
-  order (Does (Rect x y w h)) fine p = absurd (false≢true p)
-
-  -- an item without a place leaves the area, and its lines
-  known_stays : (x : Meaning) (after : State) → IsStateOf sign (items ++ x ∷ []) after → has_place x ≡ false → present_area sign (items ++ x ∷ []) ≡ present_area sign items
-      → (table : LineTable) → HasKnown (next_group state x) (present_area sign items) table → HasKnown after.area.present (present_area sign (items ++ x ∷ [])) table
-  known_stays x after st' none same table has =
-      let stays : next_group state x ≡ after.area.present =
-      ap (λ b. cond b state.attributes.page_just state.area.present) none ∙ ap (λ (a : Area). a.present) (st.area ∙ sym (st'.area ∙ ap area_sum same)) in
-      subst (λ n. HasKnown n (present_area sign (items ++ x ∷ [])) table) stays (subst (λ a. HasKnown (next_group state x) a table) (sym same) has)
-
-  -- a character joins the group in force
-  known_glyph : (number : ℕ) (o : Option CellData) → cell_numbered (standing sign items).font number ≡ o → offence sign items (Shows number) ≡ None → (after : State) → IsStateOf sign (items ++ Shows number ∷ []) after
-      → (table : LineTable) → HasKnown state.attributes.page_just (present_area sign items) table → HasKnown after.area.present (present_area sign (items ++ Shows number ∷ [])) table
-  known_glyph number None found fine after st' table has = absurd (none≢some 7 (sym (offence-undefined sign items number found) ∙ fine))
-  known_glyph number (Some cell) found fine after st' table has =
-      let spot : Spot = record { at = standing sign items; put = Glyph cell } in
-      let area = present_area sign items in
-      let grown : present_area sign (items ++ Shows number ∷ []) ≡ area ++ spot ∷ [] = present_area-placing sign items (Shows number) (Glyph cell) refl (ap (option_map Glyph) found) refl in
-      let behind = present_behind area spot state.area after.area st.area (st'.area ∙ ap area_sum grown) (omega (arith, page_is, order_glyph number (Some cell) found fine)) in
-      subst (λ n. HasKnown n (present_area sign (items ++ Shows number ∷ [])) table) (sym (behind ∙ page_is))
-      (subst (λ a. HasKnown state.attributes.page_just a table) (sym grown) (glyph_known state.attributes.page_just area spot page_is table refl has))
-
-  -- an item that begins no area and ends no line
-  pub known_same : (x : Meaning) → offence sign items x ≡ None → (after : State) → IsStateOf sign (items ++ x ∷ []) after → begins_area x ≡ false → ends_line x ≡ false
-      → (table : LineTable) → HasKnown (next_group state x) (present_area sign items) table → HasKnown after.area.present (present_area sign (items ++ x ∷ [])) table
-  known_same (Shows number) fine after st' stays open' table has = known_glyph number (cell_numbered (standing sign items).font number) refl fine after st' table has
-  known_same (Faulty code) fine after st' stays open' table has = known_stays (Faulty code) after st' refl (present_area-nothing sign items (Faulty code) refl refl) table has
-  known_same (Does NewPage) fine after st' stays open' table has = absurd (false≢true (sym stays))
-  known_same (Does (NewLine gap)) fine after st' stays open' table has = absurd (false≢true (sym open'))
-  known_same (Does (Rect x y w h)) fine after st' stays open' table has = absurd (false≢true (sym stays))
-  known_same (Does (Back colour)) fine after st' stays open' table has =
-      known_stays (Does (Back colour)) after st' refl
-      (present_area-cover sign items (Does (Back colour)) (Cover (standing sign items).page (unwrap_or colour sign.defaults.back)) refl refl refl) table has
-  known_same (Does (LineJust just)) fine after st' stays open' table has = known_stays (Does (LineJust just)) after st' refl (present_area-nothing sign items (Does (LineJust just)) refl refl) table has
-  known_same (Does (PageJust just)) fine after st' stays open' table has = known_stays (Does (PageJust just)) after st' refl (present_area-nothing sign items (Does (PageJust just)) refl refl) table has
-  known_same (Does (Font pick)) fine after st' stays open' table has = known_stays (Does (Font pick)) after st' refl (present_area-nothing sign items (Does (Font pick)) refl refl) table has
-  known_same (Does (CharSpacing pixels)) fine after st' stays open' table has = known_stays (Does (CharSpacing pixels)) after st' refl (present_area-nothing sign items (Does (CharSpacing pixels)) refl refl) table has
-  known_same (Does CharSpacingEnd) fine after st' stays open' table has = known_stays (Does CharSpacingEnd) after st' refl (present_area-nothing sign items (Does CharSpacingEnd) refl refl) table has
-  known_same (Does (PageTime on off)) fine after st' stays open' table has = known_stays (Does (PageTime on off)) after st' refl (present_area-nothing sign items (Does (PageTime on off)) refl refl) table has
-  known_same (Does (Flash off_first on off)) fine after st' stays open' table has = known_stays (Does (Flash off_first on off)) after st' refl (present_area-nothing sign items (Does (Flash off_first on off)) refl refl) table has
-  known_same (Does FlashEnd) fine after st' stays open' table has = known_stays (Does FlashEnd) after st' refl (present_area-nothing sign items (Does FlashEnd) refl refl) table has
-  known_same (Does (Fore colour)) fine after st' stays open' table has = known_stays (Does (Fore colour)) after st' refl (present_area-nothing sign items (Does (Fore colour)) refl refl) table has
-
-  -- an item that ends a line of the group in force
-  module _ (x : Meaning) (ends : ends_line x ≡ true) (fine : offence sign items x ≡ None) where
-    places_end : has_place x ≡ true
-    places_end = let (gap, same) = line_end x ends in ap has_place same
-
-    -- the group in force is the next
-    pub next_is : next_group state x ≡ state.attributes.page_just
-    next_is = ap (λ b. cond b state.attributes.page_just state.area.present) places_end
-
-    pub in_order : state.area.present ≤ state.attributes.page_just
-    in_order = order x fine places_end
-
-    -- the groups behind have no line
-    pub none_behind : (table : LineTable) → HasKnown (next_group state x) (present_area sign items) table → (just : ℕ) → state.attributes.page_just < just → just ≤ 4 → group_lines just table ≡ []
-    none_behind table has =
-        behind_empty (present_area sign items) table state.attributes.page_just (omega (arith, present_is, in_order)) st.page_just.0 (subst (λ n. HasKnown n (present_area sign items) table) next_is has)
-
-    -- there is room for the line
-    pub room_for : (table : LineTable) → HasKnown (next_group state x) (present_area sign items) table → IsOrdered table → HasRoom (present_area sign (items ++ x ∷ [])) → length table.lines.items < 128
-    room_for table has ordered room =
-        let (gap, same) = line_end x ends in
-        let spot : Spot = record { at = standing sign items; put = Break gap } in
-        let grown : present_area sign (items ++ x ∷ []) ≡ present_area sign items ++ spot ∷ [] =
-        ap (λ x. present_area sign (items ++ x ∷ [])) same ∙ present_area-placing sign items (Does (NewLine gap)) (Break gap) refl refl refl in
-        break_room state.attributes.page_just (present_area sign items) spot page_is refl st.page_just.0 st.page_just.1 table (subst (λ n. HasKnown n (present_area sign items) table) next_is has) ordered
-        (subst HasRoom grown room)
-
-    module _ (after : State) (st' : IsStateOf sign (items ++ x ∷ []) after) where
-      -- the group in force is the present one then
-      pub present_then : after.area.present ≡ state.attributes.page_just
-      present_then =
-          let (gap, same) = line_end x ends in
-          let spot : Spot = record { at = standing sign items; put = Break gap } in
-          let grown : present_area sign (items ++ x ∷ []) ≡ present_area sign items ++ spot ∷ [] =
-          ap (λ x. present_area sign (items ++ x ∷ [])) same ∙ present_area-placing sign items (Does (NewLine gap)) (Break gap) refl refl refl in
-          present_behind (present_area sign items) spot state.area after.area st.area (st'.area ∙ ap area_sum grown) (omega (arith, page_is, in_order)) ∙ page_is
-
-      -- and the line is known
-      pub known_ended : (line : CountedLine) (old new : LineTable) → line ≡ open_entry (in_group state.attributes.page_just (present_area sign items)) after.area.group.closed → Pushed after.area.present line old new
-          → HasKnown (next_group state x) (present_area sign items) old → HasKnown after.area.present (present_area sign (items ++ x ∷ [])) new
-      known_ended line old new is pushed has =
-          let (gap, same) = line_end x ends in
-          let spot : Spot = record { at = standing sign items; put = Break gap } in
-          let area = present_area sign items in
-          let page = state.attributes.page_just in
-          let grown : present_area sign (items ++ x ∷ []) ≡ area ++ spot ∷ [] =
-          ap (λ x. present_area sign (items ++ x ∷ [])) same ∙ present_area-placing sign items (Does (NewLine gap)) (Break gap) refl refl refl in
-          let group = group_of_own (area ++ spot ∷ []) after.area (st'.area ∙ ap area_sum grown) page (sym present_then) in
-          subst (λ n. HasKnown n (present_area sign (items ++ x ∷ [])) new) (sym present_then)
-          (subst (λ a. HasKnown page a new) (sym grown)
-          (break_known page area spot page_is refl st.page_just.0 st.page_just.1 old (subst (λ n. HasKnown n area old) next_is has) after.area.group line new group is (subst (λ n. Pushed n line old new) present_then pushed)))
 
 -- AN ACCEPTED STRING
 

@@ -16,6 +16,7 @@ pub mod HeightLemmas
 pub mod InForceLemmas
 pub mod JudgedLemmas
 pub mod KnownLinesLemmas
+pub mod KnownStepLemmas
 pub mod LayoutLemmas
 pub mod LineSumLemmas
 pub mod LocateLemmas

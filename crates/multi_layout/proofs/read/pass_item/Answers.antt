@@ -6,8 +6,9 @@ use Rattle.multi_layout.specs.KnownItem.{meant_by}
 use Rattle.multi_layout.specs.Meaning.{meaning}
 use Rattle.multi_layout.specs.Passes.{HasKnown, HasRoom, ends_line}
 use Rattle.multi_layout.specs.State.{present_area}
-use Rattle.multi_layout.proofs.AreaLinesLemmas.{closed_low, in_order, items_with, known_ended, known_same, next_fine, next_state, none_behind, order, present_low, present_narrow, present_placing, present_room, present_then, room_for}
+use Rattle.multi_layout.proofs.AreaLinesLemmas.{closed_low, items_with, next_fine, next_state, present_low, present_narrow, present_placing, present_room}
 use Rattle.multi_layout.proofs.KnownLinesLemmas.{pushed_low}
+use Rattle.multi_layout.proofs.KnownStepLemmas.{in_order, known_ended, known_same, none_behind, order, present_then, room_for}
 use Rattle.multi_layout.proofs.read.pass_item.Goals as goal
 
 pub leave_group-requires-clause-below : goal.leave_group-requires-clause-below
