@@ -85,7 +85,8 @@ impl Cursor {
         }
     }
 
-    /// Goes behind the next item, a tag of so many octets.
+    /// Goes behind the next item, a tag of so many octets. It isn't put into its callers' code, since characters are many more.
+    #[inline(never)]
     fn pass_tag(&mut self, sign: &Terms<'_>, source: &mut Source<'_>, tag: Tag, len: usize)
         requires { IsBefore sign.now source.old.octets (record { item = KnownItem.Tag tag; len = len }) self.old }
         ensures passed { GoesBehind sign.now source.old.octets (record { item = KnownItem.Tag tag; len = len }) self.old self.new }
