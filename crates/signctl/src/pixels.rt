@@ -273,7 +273,7 @@ fn octet_pixels(octet: u8) -> [u8; 8]
 }
 
 /// Writes the pixels of the octets of a row, eight after eight.
-pub(crate) fn write_pixels(pixels: &mut [[u8; 8]], octets: &[u8])
+fn write_pixels(pixels: &mut [[u8; 8]], octets: &[u8])
     requires room { length octets.now ≤ length pixels.old }
     ensures len { length pixels.new ≡ length pixels.old }
     ensures written { flat_map (λ x. x) (take (length octets.now) pixels.new)
@@ -281,5 +281,19 @@ pub(crate) fn write_pixels(pixels: &mut [[u8; 8]], octets: &[u8])
 {
     for (place, octet) in octets.iter().enumerate() {
         pixels[place] = octet_pixels(*octet);
+    }
+}
+
+/// Writes the pixels of the octets of a row over those of the row before, which stay where both rows are alike.
+pub(crate) fn write_changed(pixels: &mut [[u8; 8]], before: &[u8], octets: &[u8])
+    requires room { length octets.now ≤ length pixels.old }
+    requires before { flat_map (λ x. x) (take (length before.now) pixels.old)
+        ≡ map (λ place. pixel_text (is_bit_set before.now place)) (range_with_len 0 (8 * length before.now)) }
+    ensures len { length pixels.new ≡ length pixels.old }
+    ensures written { flat_map (λ x. x) (take (length octets.now) pixels.new)
+        ≡ map (λ place. pixel_text (is_bit_set octets.now place)) (range_with_len 0 (8 * length octets.now)) }
+{
+    if octets != before {
+        write_pixels(pixels, octets);
     }
 }

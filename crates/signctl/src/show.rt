@@ -1,18 +1,16 @@
 //! The answers that show pages, as rows of characters.
-ghost use Rattle.std.specs.Prelude.{◌≡◌, ◌<◌, ◌-◌, ◌==◌, ◌++◌, ◌∷◌, [], OnOk, IfOk, List, Option, Some, length, map};
-ghost use Rattle.std.specs.Int.{bit_at};
-ghost use Rattle.std.specs.List.{range_with_len};
+ghost use Rattle.std.specs.Prelude.{◌≡◌, ◌++◌, OnOk, IfOk, Some, map};
 ghost use Rattle.page_plane.specs.Plane.{is_lit};
 ghost use Rattle.multi_layout.specs.Drawn.{Lights};
 ghost use Rattle.multi_layout.specs.Meaning.{meanings};
 ghost use Rattle.multi_layout.specs.Pages.{IsSized};
 ghost use Rattle.multi_layout.specs.Picture.{pixel_at};
 ghost use Rattle.multi_layout.specs.Times.{shown};
-ghost use Rattle.signctl.specs.Frame.{frame_text, head_text, pixel_text, row_text, rows_text, show_answer};
+ghost use Rattle.signctl.specs.Frame.{frame_text, head_text, rows_text, show_answer};
 
 use crate::answer::{Answer, LineAnswer};
 use crate::octets::{push_octet, push_octets};
-use crate::pixels::write_pixels;
+use crate::pixels::write_changed;
 use crate::reply::{MAX_STRING, push_number, push_refused, push_too_long};
 use multi_layout::{Checked, Shown, check};
 use multi_token::Source;
@@ -69,31 +67,19 @@ impl Shower {
 /// The most octets of a row of pixels.
 const MAX_ROW: usize = 128;
 
-/// Appends a pixel row as a line. Its pixels are written in `pixels` first.
-fn push_row(
-    text: &mut Vec<u8>,
-    pixels: &mut [[u8; 8]],
-    plane: &Plane,
-    row: u16,
-) -> Result<(), AllocError>
-    requires row { row < plane.now.height }
-    requires room { length pixels.old ≡ 128 }
-    ensures row { OnOk result (text.new.items ≡ text.old.items ++ row_text (is_lit plane.now) plane.now.width row) }
-    ensures room { length pixels.new ≡ 128 }
-{
-    let width = usize::from(plane.width());
-    write_pixels(pixels, plane.row(row));
-    push_octets(text, &pixels.as_flattened()[..width])?;
-    push_octet(text, b'\n')
-}
-
-/// Appends the pixel rows from the top.
+/// Appends the pixel rows from the top. Many rows are like the one above, whose pixels stay as they are written.
 pub(crate) fn push_rows(text: &mut Vec<u8>, plane: &Plane) -> Result<(), AllocError>
     ensures { OnOk result (text.new.items ≡ text.old.items ++ rows_text (is_lit plane.now) plane.now.width plane.now.height) }
 {
+    let width = usize::from(plane.width());
     let mut pixels = [[0; 8]; MAX_ROW];
+    let mut before: &[u8] = &[];
     for row in 0..plane.height() {
-        push_row(text, &mut pixels, plane, row)?;
+        let octets = plane.row(row);
+        write_changed(&mut pixels, before, octets);
+        push_octets(text, &pixels.as_flattened()[..width])?;
+        push_octet(text, b'\n')?;
+        before = octets;
     }
     Ok(())
 }
