@@ -70,6 +70,10 @@ IsQuiet tag = Unit {0}
 abbrev pub whole_area : SignData → List Item → List Item → List Spot
 whole_area sign before behind = in_area (standing sign (map meaning before)).area (spots sign (map meaning (before ++ behind)))
 
+-- the table has the counted lines of the area in which the first of the items behind stands (own)
+abbrev pub HasArea : SignData → List Meaning → List Meaning → LineTable → Type 0
+HasArea sign before behind lines = HasCounted (in_area (standing sign before).area (spots sign (before ++ behind))) lines
+
 -- the table has the lines that are known before these items, where the cursor stands (own)
 abbrev pub IsKnownBefore : SignData → List Item → Cursor → LineTable → Type 0
 IsKnownBefore sign before cursor lines = HasKnown cursor.state.area.present (present_area sign (map meaning before)) lines
@@ -101,6 +105,11 @@ IsDrawnTo sign layer items before plane =
 abbrev pub DrawsOn : SignData → Layer → List Item → List Item → List Item → BitPlane → BitPlane → Type 0
 DrawsOn sign layer before these rest old new =
     IsDrawnTo sign layer (map meaning (before ++ (these ++ rest))) (map meaning before) old → IsDrawnTo sign layer (map meaning (before ++ (these ++ rest))) (map meaning (before ++ these)) new
+
+-- the same of a character by its number, whatever of the string is behind it (own)
+abbrev pub DrawsGlyph : SignData → Layer → List Meaning → ℕ → List Meaning → BitPlane → BitPlane → Type 0
+DrawsGlyph sign layer before number rest old new =
+    IsDrawnTo sign layer (before ++ Shows number ∷ rest) before old → IsDrawnTo sign layer (before ++ Shows number ∷ rest) (before ++ Shows number ∷ []) new
 
 -- so it is wherever the cursor stands before the items of an area that was read, and other items (own)
 abbrev pub OverArea : SignData → List ℕ → Cursor → AreaLines → (List Item → List Item → List Item → Type 0) → Type 0

@@ -3,10 +3,9 @@
 ghost use Rattle.std.specs.Prelude.{◌≡◌, ℕ, ◌+◌, ◌^◌, ◌≤◌, ◌==◌, [], ◌∷◌, ◌++◌, List, Some, None};
 ghost use Rattle.sign_font.specs.Sign.{cell_in};
 ghost use Rattle.sign_font.specs.Sound.{IsSound, IsSoundSize};
-ghost use Rattle.multi_layout.specs.Address.{spots, standing, in_area};
 ghost use Rattle.multi_layout.specs.Meaning.{Meaning, Shows};
 ghost use Rattle.multi_layout.specs.Offence.{offence};
-ghost use Rattle.multi_layout.specs.Passes.{HasCounted, IsDrawnTo, IsLow};
+ghost use Rattle.multi_layout.specs.Passes.{DrawsGlyph, HasArea, IsLow};
 ghost use Rattle.multi_layout.specs.Picture.{is_lit_at, shown_colour};
 ghost use Rattle.multi_layout.specs.State.{IsStateOf};
 ghost use Rattle.multi_layout.specs.Sums.{IsBelow};
@@ -81,9 +80,8 @@ pub(crate) fn put_character(
     requires height { cell.now.height ≡ state.now.attributes.font.height }
     ensures drawn { (before rest : List Meaning) (number : ℕ) → IsStateOf sign.now before state.now
         → cell_in sign.now state.now.attributes.font.number number ≡ Some cell.now → offence sign.now before (Shows number) ≡ None
-        → HasCounted (in_area (standing sign.now before).area (spots sign.now (before ++ Shows number ∷ rest))) lines.now
-        → IsDrawnTo sign.now layer (before ++ Shows number ∷ rest) before plane.old
-        → IsDrawnTo sign.now layer (before ++ Shows number ∷ rest) (before ++ Shows number ∷ []) plane.new }
+        → HasArea sign.now before (Shows number ∷ rest) lines.now
+        → DrawsGlyph sign.now layer before number rest plane.old plane.new }
     ensures counted { plane.old.steps ≤ plane.new.steps }
     ensures steps { plane.new.steps ≤ plane.old.steps + cell.now.height }
     ensures width { plane.new.width ≡ plane.old.width }
