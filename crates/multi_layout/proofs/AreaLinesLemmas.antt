@@ -27,13 +27,13 @@ use Rattle.multi_layout.specs.Table.{IsNarrowArea, IsOrdered, group_lines, table
 use Rattle.multi_layout.specs.Verdict.{fault_at, offences}
 use Rattle.multi_layout.specs.Walk.{IsBetween, IsFirst, IsRead}
 use Rattle.multi_layout.proofs.AreaSumLemmas.{area_placing, group_of_own}
-use Rattle.multi_layout.proofs.DrawnLemmas.{area_ends}
 use Rattle.multi_layout.proofs.GroupSumLemmas.{placing_group}
 use Rattle.multi_layout.proofs.JudgedLemmas.{below_more}
 use Rattle.multi_layout.proofs.KnownLinesLemmas.{known_none}
 use Rattle.multi_layout.proofs.NarrowLemmas.{narrow_area}
 use Rattle.multi_layout.proofs.RoomLemmas as room_lemmas
 use Rattle.multi_layout.proofs.RunLemmas.{kept_height_is}
+use Rattle.multi_layout.proofs.SpotsLemmas.{area_ends}
 use Rattle.multi_layout.proofs.StandingLemmas.{standing_push}
 use Rattle.multi_layout.proofs.WalkLemmas.{few, never_offends, within}
 use Rattle.multi_layout.proofs.WordLemmas.{left_nil, some_after-append}

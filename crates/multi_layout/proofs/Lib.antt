@@ -36,6 +36,7 @@ pub mod RoomLemmas
 pub mod RunLemmas
 pub mod RunReadLemmas
 pub mod SplitLemmas
+pub mod SpotsLemmas
 pub mod StandingLemmas
 pub mod StateLemmas
 pub mod TableLemmas

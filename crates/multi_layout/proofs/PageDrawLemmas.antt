@@ -29,7 +29,8 @@ use Rattle.multi_layout.specs.State.{present_area}
 use Rattle.multi_layout.specs.Verdict.{pages_of}
 use Rattle.multi_layout.specs.Walk.{IsAccepted, IsBetween}
 use Rattle.multi_layout.proofs.DrawLemmas.{no_page}
-use Rattle.multi_layout.proofs.DrawnLemmas.{covered_begins, covered_ends, covered_same, same_page_behind, next_page_behind}
+use Rattle.multi_layout.proofs.DrawnLemmas.{covered_begins, covered_ends, covered_same}
+use Rattle.multi_layout.proofs.SpotsLemmas.{same_page_behind, next_page_behind}
 use Rattle.multi_layout.proofs.StateLemmas.{present_area-new}
 use Rattle.multi_layout.proofs.WalkLemmas.{spell-append}
 

@@ -26,11 +26,12 @@ use Rattle.multi_layout.specs.State.{IsStateOf, attributes_of}
 use Rattle.multi_layout.specs.Sums.{area_sum}
 use Rattle.multi_layout.specs.Table.{group_lines, table_of}
 use Rattle.multi_layout.proofs.CellLemmas.{covers}
-use Rattle.multi_layout.proofs.DrawnLemmas.{covered_glyph, area_with_glyph, same_page_behind}
+use Rattle.multi_layout.proofs.DrawnLemmas.{covered_glyph}
 use Rattle.multi_layout.specs.Offence.{clashes, offence}
 use Rattle.multi_layout.proofs.AreaSumLemmas.{no_back, no_clash}
 use Rattle.multi_layout.proofs.JudgedLemmas.{cell_of_font, no_conflict}
 use Rattle.multi_layout.proofs.PlaceLemmas.{line_is_there}
+use Rattle.multi_layout.proofs.SpotsLemmas.{area_with_glyph, same_page_behind}
 
 -- a lit character covers this pixel
 abbrev lit_covers : Bool → cells.SizedCell → ℕ → ℕ → ℕ → ℕ → ℕ → Bool
