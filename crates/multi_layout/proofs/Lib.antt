@@ -24,6 +24,7 @@ pub mod MeaningLemmas
 pub mod NarrowLemmas
 pub mod OffenceLemmas
 pub mod PageDrawLemmas
+pub mod PageLoopLemmas
 pub mod PagesLemmas
 pub mod PaintLemmas
 pub mod PictureExamples

@@ -10,7 +10,8 @@ use Rattle.multi_layout.specs.Passes.{IsFilledBy}
 use Rattle.multi_layout.specs.Walk.{IsBetween}
 use Rattle.multi_layout.proofs.AreaDrawLemmas.{filled_longer, filled_none, filled_then}
 use Rattle.multi_layout.proofs.DrawLemmas.{four_octets}
-use Rattle.multi_layout.proofs.PageDrawLemmas.{area_no_page, first_begins, first_ends, first_filled, if_same, last_passed, more_filled, new_page_is, no_less, one_place, page_begins, page_filled, page_goes_on, page_passed, page_shown, rises_far, round, same_pages, string_end, string_more}
+use Rattle.multi_layout.proofs.PageDrawLemmas.{area_no_page, first_begins, first_ends, first_filled, if_same, last_passed, more_filled, new_page_is, no_less, one_place, page_begins, page_filled, page_goes_on, page_passed, page_shown, rises_far, same_pages, string_end, string_more}
+use Rattle.multi_layout.proofs.PageLoopLemmas.{round_in, stands_before, stands_in}
 use Rattle.multi_layout.proofs.draw.draw_page.Goals as goal
 
 pub loop-next-init : goal.loop-next-init
@@ -33,8 +34,7 @@ read_area-requires-clause-begins c =
     let same0 : c.loop-next.source.octets ≡ octets = ap (λ (x : Counted). x.octets) i.steps.3 in
     let (before, behind, b, begins) = c.requires.begins in
     let s = i.so_far before behind b in
-    let b0 = subst (λ o. IsBetween sign o (before ++ s.so.done) s.so.left c.loop-next.cursor) (sym same0) s.so.between in
-    (before ++ s.so.done, s.so.left, b0, s.begins)
+    (before ++ s.so.done, s.so.left, stands_in same0 s.so.between, s.begins)
 
 pub draw_area-requires-clause-known : goal.draw_area-requires-clause-known
 draw_area-requires-clause-known c =
@@ -44,8 +44,7 @@ draw_area-requires-clause-known c =
     let same0 : c.loop-next.source.octets ≡ octets = ap (λ (x : Counted). x.octets) i.steps.3 in
     let (before, behind, b, begins) = c.requires.begins in
     let s = i.so_far before behind b in
-    let b0 = subst (λ o. IsBetween sign o (before ++ s.so.done) s.so.left c.loop-next.cursor) (sym same0) s.so.between in
-    let a = c.read_area.ensures.read (before ++ s.so.done) s.so.left b0 s.begins in
+    let a = c.read_area.ensures.read (before ++ s.so.done) s.so.left (stands_in same0 s.so.between) s.begins in
     let same1 : c.read_area.new.source.octets ≡ octets = ap (λ (x : Counted). x.octets) a.steps.3 ∙ same0 in
     let b1 = subst (λ o. IsBetween sign o (before ++ s.so.done) s.so.left c.loop-next.cursor) (sym same1) s.so.between in (
       before ++ s.so.done,
@@ -65,8 +64,7 @@ draw_area-requires-clause-low c =
     let same0 : c.loop-next.source.octets ≡ octets = ap (λ (x : Counted). x.octets) i.steps.3 in
     let (before, behind, b, begins) = c.requires.begins in
     let s = i.so_far before behind b in
-    let b0 = subst (λ o. IsBetween sign o (before ++ s.so.done) s.so.left c.loop-next.cursor) (sym same0) s.so.between in
-    let a = c.read_area.ensures.read (before ++ s.so.done) s.so.left b0 s.begins in
+    let a = c.read_area.ensures.read (before ++ s.so.done) s.so.left (stands_in same0 s.so.between) s.begins in
     let same1 : c.read_area.new.source.octets ≡ octets = ap (λ (x : Counted). x.octets) a.steps.3 ∙ same0 in
     a.low
 
@@ -78,8 +76,7 @@ draw_area-requires-clause-ordered c =
     let same0 : c.loop-next.source.octets ≡ octets = ap (λ (x : Counted). x.octets) i.steps.3 in
     let (before, behind, b, begins) = c.requires.begins in
     let s = i.so_far before behind b in
-    let b0 = subst (λ o. IsBetween sign o (before ++ s.so.done) s.so.left c.loop-next.cursor) (sym same0) s.so.between in
-    let a = c.read_area.ensures.read (before ++ s.so.done) s.so.left b0 s.begins in
+    let a = c.read_area.ensures.read (before ++ s.so.done) s.so.left (stands_in same0 s.so.between) s.begins in
     let same1 : c.read_area.new.source.octets ≡ octets = ap (λ (x : Counted). x.octets) a.steps.3 ∙ same0 in
     a.ordered
 
@@ -91,15 +88,11 @@ next_item-requires c =
     let same0 : c.loop-next.source.octets ≡ octets = ap (λ (x : Counted). x.octets) i.steps.3 in
     let (before, behind, b, begins) = c.requires.begins in
     let s = i.so_far before behind b in
-    let b0 = subst (λ o. IsBetween sign o (before ++ s.so.done) s.so.left c.loop-next.cursor) (sym same0) s.so.between in
-    let a = c.read_area.ensures.read (before ++ s.so.done) s.so.left b0 s.begins in
+    let a = c.read_area.ensures.read (before ++ s.so.done) s.so.left (stands_in same0 s.so.between) s.begins in
     let same1 : c.read_area.new.source.octets ≡ octets = ap (λ (x : Counted). x.octets) a.steps.3 ∙ same0 in
-    let r = round sign octets before behind c.args.layer c.loop-next.cursor c.loop-next.plane s c.read_area.new.read c.loop-next.source c.read_area.new.source a c.draw_area.new.cursor c.draw_area.new.plane
-    (λ earlier area rest x plain end table. subst (λ o. IsBetween sign o (earlier ++ area) rest c.draw_area.new.cursor) same1 (c.draw_area.ensures.passed earlier area rest (subst (λ o. IsBetween sign o earlier (area ++ rest) c.loop-next.cursor) (sym same1) x) plain end table))
-    (λ earlier area rest x plain end table. c.draw_area.ensures.drawn earlier area rest (subst (λ o. IsBetween sign o earlier (area ++ rest) c.loop-next.cursor) (sym same1) x) plain end table) in
+    let r = round_in sign octets c.read_area.new.source.octets same1 before behind c.args.layer c.loop-next.cursor c.loop-next.plane s c.read_area.new.read c.loop-next.source c.read_area.new.source a c.draw_area.new.cursor c.draw_area.new.plane c.draw_area.ensures.passed c.draw_area.ensures.drawn in
     let same2 : c.draw_area.new.source.octets ≡ octets = ap (λ (x : Counted). x.octets) c.draw_area.ensures.steps.3 ∙ same1 in
-    let b2 = subst (λ o. IsBetween sign o (before ++ r.so.done) r.so.left c.draw_area.new.cursor) (sym same2) r.so.between in
-    (sign, (before ++ r.so.done, r.so.left, b2))
+    (sign, (before ++ r.so.done, r.so.left, stands_in same2 r.so.between))
 
 pub returns-in_default-clause-drawn : goal.returns-in_default-clause-drawn
 returns-in_default-clause-drawn c = λ before behind b.
@@ -108,15 +101,11 @@ returns-in_default-clause-drawn c = λ before behind b.
     let octets = c.args.source.now.octets in
     let same0 : c.loop-next.source.octets ≡ octets = ap (λ (x : Counted). x.octets) i.steps.3 in
     let s = i.so_far before behind b in
-    let b0 = subst (λ o. IsBetween sign o (before ++ s.so.done) s.so.left c.loop-next.cursor) (sym same0) s.so.between in
-    let a = c.read_area.ensures.read (before ++ s.so.done) s.so.left b0 s.begins in
+    let a = c.read_area.ensures.read (before ++ s.so.done) s.so.left (stands_in same0 s.so.between) s.begins in
     let same1 : c.read_area.new.source.octets ≡ octets = ap (λ (x : Counted). x.octets) a.steps.3 ∙ same0 in
-    let r = round sign octets before behind c.args.layer c.loop-next.cursor c.loop-next.plane s c.read_area.new.read c.loop-next.source c.read_area.new.source a c.draw_area.new.cursor c.draw_area.new.plane
-    (λ earlier area rest x plain end table. subst (λ o. IsBetween sign o (earlier ++ area) rest c.draw_area.new.cursor) same1 (c.draw_area.ensures.passed earlier area rest (subst (λ o. IsBetween sign o earlier (area ++ rest) c.loop-next.cursor) (sym same1) x) plain end table))
-    (λ earlier area rest x plain end table. c.draw_area.ensures.drawn earlier area rest (subst (λ o. IsBetween sign o earlier (area ++ rest) c.loop-next.cursor) (sym same1) x) plain end table) in
+    let r = round_in sign octets c.read_area.new.source.octets same1 before behind c.args.layer c.loop-next.cursor c.loop-next.plane s c.read_area.new.read c.loop-next.source c.read_area.new.source a c.draw_area.new.cursor c.draw_area.new.plane c.draw_area.ensures.passed c.draw_area.ensures.drawn in
     let same2 : c.draw_area.new.source.octets ≡ octets = ap (λ (x : Counted). x.octets) c.draw_area.ensures.steps.3 ∙ same1 in
-    let b2 = subst (λ o. IsBetween sign o (before ++ r.so.done) r.so.left c.draw_area.new.cursor) (sym same2) r.so.between in
-    let none : r.so.left ≡ [] = c.in_default.ensures.first sign (before ++ r.so.done) r.so.left b2 in
+    let none : r.so.left ≡ [] = c.in_default.ensures.first sign (before ++ r.so.done) r.so.left (stands_in same2 r.so.between) in
     page_shown sign octets before behind c.args.layer c.draw_area.new.cursor c.draw_area.new.plane r.so (subst (λ l. EndsPage (map meaning l)) (sym none) (inl refl)) c.args.cursor.state.pages b.state_is.pages
 
 pub returns-in_default-clause-passed : goal.returns-in_default-clause-passed
@@ -126,15 +115,11 @@ returns-in_default-clause-passed c = λ before behind b.
     let octets = c.args.source.now.octets in
     let same0 : c.loop-next.source.octets ≡ octets = ap (λ (x : Counted). x.octets) i.steps.3 in
     let s = i.so_far before behind b in
-    let b0 = subst (λ o. IsBetween sign o (before ++ s.so.done) s.so.left c.loop-next.cursor) (sym same0) s.so.between in
-    let a = c.read_area.ensures.read (before ++ s.so.done) s.so.left b0 s.begins in
+    let a = c.read_area.ensures.read (before ++ s.so.done) s.so.left (stands_in same0 s.so.between) s.begins in
     let same1 : c.read_area.new.source.octets ≡ octets = ap (λ (x : Counted). x.octets) a.steps.3 ∙ same0 in
-    let r = round sign octets before behind c.args.layer c.loop-next.cursor c.loop-next.plane s c.read_area.new.read c.loop-next.source c.read_area.new.source a c.draw_area.new.cursor c.draw_area.new.plane
-    (λ earlier area rest x plain end table. subst (λ o. IsBetween sign o (earlier ++ area) rest c.draw_area.new.cursor) same1 (c.draw_area.ensures.passed earlier area rest (subst (λ o. IsBetween sign o earlier (area ++ rest) c.loop-next.cursor) (sym same1) x) plain end table))
-    (λ earlier area rest x plain end table. c.draw_area.ensures.drawn earlier area rest (subst (λ o. IsBetween sign o earlier (area ++ rest) c.loop-next.cursor) (sym same1) x) plain end table) in
+    let r = round_in sign octets c.read_area.new.source.octets same1 before behind c.args.layer c.loop-next.cursor c.loop-next.plane s c.read_area.new.read c.loop-next.source c.read_area.new.source a c.draw_area.new.cursor c.draw_area.new.plane c.draw_area.ensures.passed c.draw_area.ensures.drawn in
     let same2 : c.draw_area.new.source.octets ≡ octets = ap (λ (x : Counted). x.octets) c.draw_area.ensures.steps.3 ∙ same1 in
-    let b2 = subst (λ o. IsBetween sign o (before ++ r.so.done) r.so.left c.draw_area.new.cursor) (sym same2) r.so.between in
-    let none : r.so.left ≡ [] = c.in_default.ensures.first sign (before ++ r.so.done) r.so.left b2 in
+    let none : r.so.left ≡ [] = c.in_default.ensures.first sign (before ++ r.so.done) r.so.left (stands_in same2 r.so.between) in
     last_passed sign octets before behind c.args.layer c.draw_area.new.cursor c.draw_area.new.plane r.so c.args.cursor b.state_is.pages (omega (arith, i.on, r.on, r.at)) none
 
 pub returns-in_default-clause-kept : goal.returns-in_default-clause-kept
@@ -145,14 +130,9 @@ returns-in_default-clause-kept c =
     let same0 : c.loop-next.source.octets ≡ octets = ap (λ (x : Counted). x.octets) i.steps.3 in
     let (before, behind, b, begins) = c.requires.begins in
     let s = i.so_far before behind b in
-    let b0 = subst (λ o. IsBetween sign o (before ++ s.so.done) s.so.left c.loop-next.cursor) (sym same0) s.so.between in
-    let a = c.read_area.ensures.read (before ++ s.so.done) s.so.left b0 s.begins in
+    let a = c.read_area.ensures.read (before ++ s.so.done) s.so.left (stands_in same0 s.so.between) s.begins in
     let same1 : c.read_area.new.source.octets ≡ octets = ap (λ (x : Counted). x.octets) a.steps.3 ∙ same0 in
-    let r = round sign octets before behind c.args.layer c.loop-next.cursor c.loop-next.plane s c.read_area.new.read c.loop-next.source c.read_area.new.source a c.draw_area.new.cursor c.draw_area.new.plane
-    (λ earlier area rest x plain end table. subst (λ o. IsBetween sign o (earlier ++ area) rest c.draw_area.new.cursor) same1 (c.draw_area.ensures.passed earlier area rest (subst (λ o. IsBetween sign o earlier (area ++ rest) c.loop-next.cursor) (sym same1) x) plain end table))
-    (λ earlier area rest x plain end table. c.draw_area.ensures.drawn earlier area rest (subst (λ o. IsBetween sign o earlier (area ++ rest) c.loop-next.cursor) (sym same1) x) plain end table) in
     let same2 : c.draw_area.new.source.octets ≡ octets = ap (λ (x : Counted). x.octets) c.draw_area.ensures.steps.3 ∙ same1 in
-    let b2 = subst (λ o. IsBetween sign o (before ++ r.so.done) r.so.left c.draw_area.new.cursor) (sym same2) r.so.between in
     ap (λ (x : Counted). x.octets) c.in_default.ensures.end_steps.3 ∙ same2
 
 pub returns-in_default-clause-steps : goal.returns-in_default-clause-steps
@@ -163,15 +143,11 @@ returns-in_default-clause-steps c =
     let same0 : c.loop-next.source.octets ≡ octets = ap (λ (x : Counted). x.octets) i.steps.3 in
     let (before, behind, b, begins) = c.requires.begins in
     let s = i.so_far before behind b in
-    let b0 = subst (λ o. IsBetween sign o (before ++ s.so.done) s.so.left c.loop-next.cursor) (sym same0) s.so.between in
-    let a = c.read_area.ensures.read (before ++ s.so.done) s.so.left b0 s.begins in
+    let a = c.read_area.ensures.read (before ++ s.so.done) s.so.left (stands_in same0 s.so.between) s.begins in
     let same1 : c.read_area.new.source.octets ≡ octets = ap (λ (x : Counted). x.octets) a.steps.3 ∙ same0 in
-    let r = round sign octets before behind c.args.layer c.loop-next.cursor c.loop-next.plane s c.read_area.new.read c.loop-next.source c.read_area.new.source a c.draw_area.new.cursor c.draw_area.new.plane
-    (λ earlier area rest x plain end table. subst (λ o. IsBetween sign o (earlier ++ area) rest c.draw_area.new.cursor) same1 (c.draw_area.ensures.passed earlier area rest (subst (λ o. IsBetween sign o earlier (area ++ rest) c.loop-next.cursor) (sym same1) x) plain end table))
-    (λ earlier area rest x plain end table. c.draw_area.ensures.drawn earlier area rest (subst (λ o. IsBetween sign o earlier (area ++ rest) c.loop-next.cursor) (sym same1) x) plain end table) in
+    let r = round_in sign octets c.read_area.new.source.octets same1 before behind c.args.layer c.loop-next.cursor c.loop-next.plane s c.read_area.new.read c.loop-next.source c.read_area.new.source a c.draw_area.new.cursor c.draw_area.new.plane c.draw_area.ensures.passed c.draw_area.ensures.drawn in
     let same2 : c.draw_area.new.source.octets ≡ octets = ap (λ (x : Counted). x.octets) c.draw_area.ensures.steps.3 ∙ same1 in
-    let b2 = subst (λ o. IsBetween sign o (before ++ r.so.done) r.so.left c.draw_area.new.cursor) (sym same2) r.so.between in
-    let none : r.so.left ≡ [] = c.in_default.ensures.first sign (before ++ r.so.done) r.so.left b2 in
+    let none : r.so.left ≡ [] = c.in_default.ensures.first sign (before ++ r.so.done) r.so.left (stands_in same2 r.so.between) in
     let pages : c.draw_area.new.cursor.state.pages ≡ c.args.cursor.state.pages = same_pages sign octets before behind c.args.layer c.draw_area.new.cursor c.draw_area.new.plane r.so c.args.cursor.state.pages b.state_is.pages in
     let all = string_end c.args.source.now c.loop-next.source c.read_area.new.source c.draw_area.new.source c.next_item.new.source c.args.cursor.at c.loop-next.cursor.at c.read_area.new.read.end r.so.left i.on r.on none i.steps r.steps c.draw_area.ensures.steps c.in_default.ensures.end_steps in
     subst (λ k. RisesBetween c.args.source.now c.next_item.new.source 0 (4 * (c.draw_area.new.cursor.at - c.args.cursor.at) + k)) (sym (if_same c.draw_area.new.cursor.state.pages c.args.cursor.state.pages 2 pages))
@@ -185,15 +161,11 @@ returns-in_default-clause-fills c =
     let same0 : c.loop-next.source.octets ≡ octets = ap (λ (x : Counted). x.octets) i.steps.3 in
     let (before, behind, b, begins) = c.requires.begins in
     let s = i.so_far before behind b in
-    let b0 = subst (λ o. IsBetween sign o (before ++ s.so.done) s.so.left c.loop-next.cursor) (sym same0) s.so.between in
-    let a = c.read_area.ensures.read (before ++ s.so.done) s.so.left b0 s.begins in
+    let a = c.read_area.ensures.read (before ++ s.so.done) s.so.left (stands_in same0 s.so.between) s.begins in
     let same1 : c.read_area.new.source.octets ≡ octets = ap (λ (x : Counted). x.octets) a.steps.3 ∙ same0 in
-    let r = round sign octets before behind c.args.layer c.loop-next.cursor c.loop-next.plane s c.read_area.new.read c.loop-next.source c.read_area.new.source a c.draw_area.new.cursor c.draw_area.new.plane
-    (λ earlier area rest x plain end table. subst (λ o. IsBetween sign o (earlier ++ area) rest c.draw_area.new.cursor) same1 (c.draw_area.ensures.passed earlier area rest (subst (λ o. IsBetween sign o earlier (area ++ rest) c.loop-next.cursor) (sym same1) x) plain end table))
-    (λ earlier area rest x plain end table. c.draw_area.ensures.drawn earlier area rest (subst (λ o. IsBetween sign o earlier (area ++ rest) c.loop-next.cursor) (sym same1) x) plain end table) in
+    let r = round_in sign octets c.read_area.new.source.octets same1 before behind c.args.layer c.loop-next.cursor c.loop-next.plane s c.read_area.new.read c.loop-next.source c.read_area.new.source a c.draw_area.new.cursor c.draw_area.new.plane c.draw_area.ensures.passed c.draw_area.ensures.drawn in
     let same2 : c.draw_area.new.source.octets ≡ octets = ap (λ (x : Counted). x.octets) c.draw_area.ensures.steps.3 ∙ same1 in
-    let b2 = subst (λ o. IsBetween sign o (before ++ r.so.done) r.so.left c.draw_area.new.cursor) (sym same2) r.so.between in
-    let none : r.so.left ≡ [] = c.in_default.ensures.first sign (before ++ r.so.done) r.so.left b2 in
+    let none : r.so.left ≡ [] = c.in_default.ensures.first sign (before ++ r.so.done) r.so.left (stands_in same2 r.so.between) in
     let count : octet_count c.args.plane.now ≡ plane_octets sign = ap (λ w. (w + 7) / 8 * c.args.plane.now.height) c.requires.size.0 ∙ ap (λ h. (sign.width + 7) / 8 * h) c.requires.size.1 in
     let first = first_filled sign c.args.plane.now c.fill.new.self (octet_count c.args.plane.now) (omega (arith, c.fill.ensures.steps)) (omega (arith, c.fill.ensures.steps)) count c.fill.ensures.width c.fill.ensures.height in
     let areas = more_filled sign c.args.plane.now c.fill.new.self c.draw_area.new.plane 0 _ first (filled_then sign c.fill.new.self c.loop-next.plane c.draw_area.new.plane (c.loop-next.cursor.at - c.args.cursor.at) (c.read_area.new.read.end - c.loop-next.cursor.at) i.filled c.draw_area.ensures.fills) in
@@ -208,18 +180,13 @@ pass-requires c =
     let same0 : c.loop-next.source.octets ≡ octets = ap (λ (x : Counted). x.octets) i.steps.3 in
     let (before, behind, b, begins) = c.requires.begins in
     let s = i.so_far before behind b in
-    let b0 = subst (λ o. IsBetween sign o (before ++ s.so.done) s.so.left c.loop-next.cursor) (sym same0) s.so.between in
-    let a = c.read_area.ensures.read (before ++ s.so.done) s.so.left b0 s.begins in
+    let a = c.read_area.ensures.read (before ++ s.so.done) s.so.left (stands_in same0 s.so.between) s.begins in
     let same1 : c.read_area.new.source.octets ≡ octets = ap (λ (x : Counted). x.octets) a.steps.3 ∙ same0 in
-    let r = round sign octets before behind c.args.layer c.loop-next.cursor c.loop-next.plane s c.read_area.new.read c.loop-next.source c.read_area.new.source a c.draw_area.new.cursor c.draw_area.new.plane
-    (λ earlier area rest x plain end table. subst (λ o. IsBetween sign o (earlier ++ area) rest c.draw_area.new.cursor) same1 (c.draw_area.ensures.passed earlier area rest (subst (λ o. IsBetween sign o earlier (area ++ rest) c.loop-next.cursor) (sym same1) x) plain end table))
-    (λ earlier area rest x plain end table. c.draw_area.ensures.drawn earlier area rest (subst (λ o. IsBetween sign o earlier (area ++ rest) c.loop-next.cursor) (sym same1) x) plain end table) in
+    let r = round_in sign octets c.read_area.new.source.octets same1 before behind c.args.layer c.loop-next.cursor c.loop-next.plane s c.read_area.new.read c.loop-next.source c.read_area.new.source a c.draw_area.new.cursor c.draw_area.new.plane c.draw_area.ensures.passed c.draw_area.ensures.drawn in
     let same2 : c.draw_area.new.source.octets ≡ octets = ap (λ (x : Counted). x.octets) c.draw_area.ensures.steps.3 ∙ same1 in
-    let b2 = subst (λ o. IsBetween sign o (before ++ r.so.done) r.so.left c.draw_area.new.cursor) (sym same2) r.so.between in
-    let (item, rest, is, taken) = c.in-Some.ensures.first sign (before ++ r.so.done) r.so.left b2 in
-    let b3 : IsBetween sign octets (before ++ r.so.done) (item ∷ rest) c.draw_area.new.cursor = subst (λ l. IsBetween sign octets (before ++ r.so.done) l c.draw_area.new.cursor) is r.so.between in
+    let (item, rest, is, taken) = c.in-Some.ensures.first sign (before ++ r.so.done) r.so.left (stands_in same2 r.so.between) in
     let same3 : c.next_item.new.source.octets ≡ octets = ap (λ (x : Counted). x.octets) c.in-Some.ensures.steps.3 ∙ same2 in
-    let b4 = subst (λ o. IsBetween sign o (before ++ r.so.done) (item ∷ rest) c.draw_area.new.cursor) (sym same3) b3 in
+    let b4 = stands_before same3 is r.so.between in
     (before ++ r.so.done, rest, item, b4, taken)
 
 pub returns-then-ends_page-clause-drawn : goal.returns-then-ends_page-clause-drawn
@@ -229,18 +196,12 @@ returns-then-ends_page-clause-drawn c = λ before behind b.
     let octets = c.args.source.now.octets in
     let same0 : c.loop-next.source.octets ≡ octets = ap (λ (x : Counted). x.octets) i.steps.3 in
     let s = i.so_far before behind b in
-    let b0 = subst (λ o. IsBetween sign o (before ++ s.so.done) s.so.left c.loop-next.cursor) (sym same0) s.so.between in
-    let a = c.read_area.ensures.read (before ++ s.so.done) s.so.left b0 s.begins in
+    let a = c.read_area.ensures.read (before ++ s.so.done) s.so.left (stands_in same0 s.so.between) s.begins in
     let same1 : c.read_area.new.source.octets ≡ octets = ap (λ (x : Counted). x.octets) a.steps.3 ∙ same0 in
-    let r = round sign octets before behind c.args.layer c.loop-next.cursor c.loop-next.plane s c.read_area.new.read c.loop-next.source c.read_area.new.source a c.draw_area.new.cursor c.draw_area.new.plane
-    (λ earlier area rest x plain end table. subst (λ o. IsBetween sign o (earlier ++ area) rest c.draw_area.new.cursor) same1 (c.draw_area.ensures.passed earlier area rest (subst (λ o. IsBetween sign o earlier (area ++ rest) c.loop-next.cursor) (sym same1) x) plain end table))
-    (λ earlier area rest x plain end table. c.draw_area.ensures.drawn earlier area rest (subst (λ o. IsBetween sign o earlier (area ++ rest) c.loop-next.cursor) (sym same1) x) plain end table) in
+    let r = round_in sign octets c.read_area.new.source.octets same1 before behind c.args.layer c.loop-next.cursor c.loop-next.plane s c.read_area.new.read c.loop-next.source c.read_area.new.source a c.draw_area.new.cursor c.draw_area.new.plane c.draw_area.ensures.passed c.draw_area.ensures.drawn in
     let same2 : c.draw_area.new.source.octets ≡ octets = ap (λ (x : Counted). x.octets) c.draw_area.ensures.steps.3 ∙ same1 in
-    let b2 = subst (λ o. IsBetween sign o (before ++ r.so.done) r.so.left c.draw_area.new.cursor) (sym same2) r.so.between in
-    let (item, rest, is, taken) = c.in-Some.ensures.first sign (before ++ r.so.done) r.so.left b2 in
-    let b3 : IsBetween sign octets (before ++ r.so.done) (item ∷ rest) c.draw_area.new.cursor = subst (λ l. IsBetween sign octets (before ++ r.so.done) l c.draw_area.new.cursor) is r.so.between in
+    let (item, rest, is, taken) = c.in-Some.ensures.first sign (before ++ r.so.done) r.so.left (stands_in same2 r.so.between) in
     let same3 : c.next_item.new.source.octets ≡ octets = ap (λ (x : Counted). x.octets) c.in-Some.ensures.steps.3 ∙ same2 in
-    let b4 = subst (λ o. IsBetween sign o (before ++ r.so.done) (item ∷ rest) c.draw_area.new.cursor) (sym same3) b3 in
     let turns : is_new_page (meaning item) ≡ true = ap is_new_page taken.meant ∙ sym c.ends_page.ensures ∙ c.if-ends_page.true in
     page_shown sign octets before behind c.args.layer c.draw_area.new.cursor c.draw_area.new.plane r.so (subst (λ l. EndsPage (map meaning l)) (sym is) (first_ends item rest turns)) c.args.cursor.state.pages b.state_is.pages
 
@@ -251,18 +212,13 @@ returns-then-ends_page-clause-passed c = λ before behind b.
     let octets = c.args.source.now.octets in
     let same0 : c.loop-next.source.octets ≡ octets = ap (λ (x : Counted). x.octets) i.steps.3 in
     let s = i.so_far before behind b in
-    let b0 = subst (λ o. IsBetween sign o (before ++ s.so.done) s.so.left c.loop-next.cursor) (sym same0) s.so.between in
-    let a = c.read_area.ensures.read (before ++ s.so.done) s.so.left b0 s.begins in
+    let a = c.read_area.ensures.read (before ++ s.so.done) s.so.left (stands_in same0 s.so.between) s.begins in
     let same1 : c.read_area.new.source.octets ≡ octets = ap (λ (x : Counted). x.octets) a.steps.3 ∙ same0 in
-    let r = round sign octets before behind c.args.layer c.loop-next.cursor c.loop-next.plane s c.read_area.new.read c.loop-next.source c.read_area.new.source a c.draw_area.new.cursor c.draw_area.new.plane
-    (λ earlier area rest x plain end table. subst (λ o. IsBetween sign o (earlier ++ area) rest c.draw_area.new.cursor) same1 (c.draw_area.ensures.passed earlier area rest (subst (λ o. IsBetween sign o earlier (area ++ rest) c.loop-next.cursor) (sym same1) x) plain end table))
-    (λ earlier area rest x plain end table. c.draw_area.ensures.drawn earlier area rest (subst (λ o. IsBetween sign o earlier (area ++ rest) c.loop-next.cursor) (sym same1) x) plain end table) in
+    let r = round_in sign octets c.read_area.new.source.octets same1 before behind c.args.layer c.loop-next.cursor c.loop-next.plane s c.read_area.new.read c.loop-next.source c.read_area.new.source a c.draw_area.new.cursor c.draw_area.new.plane c.draw_area.ensures.passed c.draw_area.ensures.drawn in
     let same2 : c.draw_area.new.source.octets ≡ octets = ap (λ (x : Counted). x.octets) c.draw_area.ensures.steps.3 ∙ same1 in
-    let b2 = subst (λ o. IsBetween sign o (before ++ r.so.done) r.so.left c.draw_area.new.cursor) (sym same2) r.so.between in
-    let (item, rest, is, taken) = c.in-Some.ensures.first sign (before ++ r.so.done) r.so.left b2 in
-    let b3 : IsBetween sign octets (before ++ r.so.done) (item ∷ rest) c.draw_area.new.cursor = subst (λ l. IsBetween sign octets (before ++ r.so.done) l c.draw_area.new.cursor) is r.so.between in
+    let (item, rest, is, taken) = c.in-Some.ensures.first sign (before ++ r.so.done) r.so.left (stands_in same2 r.so.between) in
     let same3 : c.next_item.new.source.octets ≡ octets = ap (λ (x : Counted). x.octets) c.in-Some.ensures.steps.3 ∙ same2 in
-    let b4 = subst (λ o. IsBetween sign o (before ++ r.so.done) (item ∷ rest) c.draw_area.new.cursor) (sym same3) b3 in
+    let b4 = stands_before same3 is r.so.between in
     let b5 = subst (λ o. IsBetween sign o ((before ++ r.so.done) ++ item ∷ []) rest c.pass.new.self) same3 (c.pass.ensures.passed (before ++ r.so.done) rest item b4 taken) in
     let turns : is_new_page (meaning item) ≡ true = ap is_new_page taken.meant ∙ sym c.ends_page.ensures ∙ c.if-ends_page.true in
     page_passed sign octets before behind c.args.layer c.draw_area.new.cursor c.draw_area.new.plane r.so item rest is c.pass.new.self b5 c.args.cursor b.state_is.pages (omega (arith, i.on, r.on, r.at, c.pass.ensures.at)) (new_page_is (meaning item) turns)
@@ -275,14 +231,9 @@ returns-then-ends_page-clause-kept c =
     let same0 : c.loop-next.source.octets ≡ octets = ap (λ (x : Counted). x.octets) i.steps.3 in
     let (before, behind, b, begins) = c.requires.begins in
     let s = i.so_far before behind b in
-    let b0 = subst (λ o. IsBetween sign o (before ++ s.so.done) s.so.left c.loop-next.cursor) (sym same0) s.so.between in
-    let a = c.read_area.ensures.read (before ++ s.so.done) s.so.left b0 s.begins in
+    let a = c.read_area.ensures.read (before ++ s.so.done) s.so.left (stands_in same0 s.so.between) s.begins in
     let same1 : c.read_area.new.source.octets ≡ octets = ap (λ (x : Counted). x.octets) a.steps.3 ∙ same0 in
-    let r = round sign octets before behind c.args.layer c.loop-next.cursor c.loop-next.plane s c.read_area.new.read c.loop-next.source c.read_area.new.source a c.draw_area.new.cursor c.draw_area.new.plane
-    (λ earlier area rest x plain end table. subst (λ o. IsBetween sign o (earlier ++ area) rest c.draw_area.new.cursor) same1 (c.draw_area.ensures.passed earlier area rest (subst (λ o. IsBetween sign o earlier (area ++ rest) c.loop-next.cursor) (sym same1) x) plain end table))
-    (λ earlier area rest x plain end table. c.draw_area.ensures.drawn earlier area rest (subst (λ o. IsBetween sign o earlier (area ++ rest) c.loop-next.cursor) (sym same1) x) plain end table) in
     let same2 : c.draw_area.new.source.octets ≡ octets = ap (λ (x : Counted). x.octets) c.draw_area.ensures.steps.3 ∙ same1 in
-    let b2 = subst (λ o. IsBetween sign o (before ++ r.so.done) r.so.left c.draw_area.new.cursor) (sym same2) r.so.between in
     ap (λ (x : Counted). x.octets) c.pass.ensures.steps.3 ∙ ap (λ (x : Counted). x.octets) c.in-Some.ensures.steps.3 ∙ same2
 
 pub returns-then-ends_page-clause-steps : goal.returns-then-ends_page-clause-steps
@@ -293,18 +244,12 @@ returns-then-ends_page-clause-steps c =
     let same0 : c.loop-next.source.octets ≡ octets = ap (λ (x : Counted). x.octets) i.steps.3 in
     let (before, behind, b, begins) = c.requires.begins in
     let s = i.so_far before behind b in
-    let b0 = subst (λ o. IsBetween sign o (before ++ s.so.done) s.so.left c.loop-next.cursor) (sym same0) s.so.between in
-    let a = c.read_area.ensures.read (before ++ s.so.done) s.so.left b0 s.begins in
+    let a = c.read_area.ensures.read (before ++ s.so.done) s.so.left (stands_in same0 s.so.between) s.begins in
     let same1 : c.read_area.new.source.octets ≡ octets = ap (λ (x : Counted). x.octets) a.steps.3 ∙ same0 in
-    let r = round sign octets before behind c.args.layer c.loop-next.cursor c.loop-next.plane s c.read_area.new.read c.loop-next.source c.read_area.new.source a c.draw_area.new.cursor c.draw_area.new.plane
-    (λ earlier area rest x plain end table. subst (λ o. IsBetween sign o (earlier ++ area) rest c.draw_area.new.cursor) same1 (c.draw_area.ensures.passed earlier area rest (subst (λ o. IsBetween sign o earlier (area ++ rest) c.loop-next.cursor) (sym same1) x) plain end table))
-    (λ earlier area rest x plain end table. c.draw_area.ensures.drawn earlier area rest (subst (λ o. IsBetween sign o earlier (area ++ rest) c.loop-next.cursor) (sym same1) x) plain end table) in
+    let r = round_in sign octets c.read_area.new.source.octets same1 before behind c.args.layer c.loop-next.cursor c.loop-next.plane s c.read_area.new.read c.loop-next.source c.read_area.new.source a c.draw_area.new.cursor c.draw_area.new.plane c.draw_area.ensures.passed c.draw_area.ensures.drawn in
     let same2 : c.draw_area.new.source.octets ≡ octets = ap (λ (x : Counted). x.octets) c.draw_area.ensures.steps.3 ∙ same1 in
-    let b2 = subst (λ o. IsBetween sign o (before ++ r.so.done) r.so.left c.draw_area.new.cursor) (sym same2) r.so.between in
-    let (item, rest, is, taken) = c.in-Some.ensures.first sign (before ++ r.so.done) r.so.left b2 in
-    let b3 : IsBetween sign octets (before ++ r.so.done) (item ∷ rest) c.draw_area.new.cursor = subst (λ l. IsBetween sign octets (before ++ r.so.done) l c.draw_area.new.cursor) is r.so.between in
+    let (item, rest, is, taken) = c.in-Some.ensures.first sign (before ++ r.so.done) r.so.left (stands_in same2 r.so.between) in
     let same3 : c.next_item.new.source.octets ≡ octets = ap (λ (x : Counted). x.octets) c.in-Some.ensures.steps.3 ∙ same2 in
-    let b4 = subst (λ o. IsBetween sign o (before ++ r.so.done) (item ∷ rest) c.draw_area.new.cursor) (sym same3) b3 in
     let all = string_more c.args.source.now c.loop-next.source c.read_area.new.source c.draw_area.new.source c.next_item.new.source c.pass.new.source c.args.cursor.at c.loop-next.cursor.at c.read_area.new.read.end c.in-Some.next.len item rest r.so.left i.on r.on is taken.len i.steps r.steps c.draw_area.ensures.steps c.in-Some.ensures.steps c.pass.ensures.steps in
     let far : c.read_area.new.read.end + c.in-Some.next.len - c.args.cursor.at ≡ c.pass.new.self.at - c.args.cursor.at = omega (arith, r.at, c.pass.ensures.at) in
     rises_far c.args.source.now c.pass.new.source (c.read_area.new.read.end + c.in-Some.next.len - c.args.cursor.at) (c.pass.new.self.at - c.args.cursor.at) _ far all
@@ -317,18 +262,12 @@ returns-then-ends_page-clause-fills c =
     let same0 : c.loop-next.source.octets ≡ octets = ap (λ (x : Counted). x.octets) i.steps.3 in
     let (before, behind, b, begins) = c.requires.begins in
     let s = i.so_far before behind b in
-    let b0 = subst (λ o. IsBetween sign o (before ++ s.so.done) s.so.left c.loop-next.cursor) (sym same0) s.so.between in
-    let a = c.read_area.ensures.read (before ++ s.so.done) s.so.left b0 s.begins in
+    let a = c.read_area.ensures.read (before ++ s.so.done) s.so.left (stands_in same0 s.so.between) s.begins in
     let same1 : c.read_area.new.source.octets ≡ octets = ap (λ (x : Counted). x.octets) a.steps.3 ∙ same0 in
-    let r = round sign octets before behind c.args.layer c.loop-next.cursor c.loop-next.plane s c.read_area.new.read c.loop-next.source c.read_area.new.source a c.draw_area.new.cursor c.draw_area.new.plane
-    (λ earlier area rest x plain end table. subst (λ o. IsBetween sign o (earlier ++ area) rest c.draw_area.new.cursor) same1 (c.draw_area.ensures.passed earlier area rest (subst (λ o. IsBetween sign o earlier (area ++ rest) c.loop-next.cursor) (sym same1) x) plain end table))
-    (λ earlier area rest x plain end table. c.draw_area.ensures.drawn earlier area rest (subst (λ o. IsBetween sign o earlier (area ++ rest) c.loop-next.cursor) (sym same1) x) plain end table) in
+    let r = round_in sign octets c.read_area.new.source.octets same1 before behind c.args.layer c.loop-next.cursor c.loop-next.plane s c.read_area.new.read c.loop-next.source c.read_area.new.source a c.draw_area.new.cursor c.draw_area.new.plane c.draw_area.ensures.passed c.draw_area.ensures.drawn in
     let same2 : c.draw_area.new.source.octets ≡ octets = ap (λ (x : Counted). x.octets) c.draw_area.ensures.steps.3 ∙ same1 in
-    let b2 = subst (λ o. IsBetween sign o (before ++ r.so.done) r.so.left c.draw_area.new.cursor) (sym same2) r.so.between in
-    let (item, rest, is, taken) = c.in-Some.ensures.first sign (before ++ r.so.done) r.so.left b2 in
-    let b3 : IsBetween sign octets (before ++ r.so.done) (item ∷ rest) c.draw_area.new.cursor = subst (λ l. IsBetween sign octets (before ++ r.so.done) l c.draw_area.new.cursor) is r.so.between in
+    let (item, rest, is, taken) = c.in-Some.ensures.first sign (before ++ r.so.done) r.so.left (stands_in same2 r.so.between) in
     let same3 : c.next_item.new.source.octets ≡ octets = ap (λ (x : Counted). x.octets) c.in-Some.ensures.steps.3 ∙ same2 in
-    let b4 = subst (λ o. IsBetween sign o (before ++ r.so.done) (item ∷ rest) c.draw_area.new.cursor) (sym same3) b3 in
     let count : octet_count c.args.plane.now ≡ plane_octets sign = ap (λ w. (w + 7) / 8 * c.args.plane.now.height) c.requires.size.0 ∙ ap (λ h. (sign.width + 7) / 8 * h) c.requires.size.1 in
     let first = first_filled sign c.args.plane.now c.fill.new.self (octet_count c.args.plane.now) (omega (arith, c.fill.ensures.steps)) (omega (arith, c.fill.ensures.steps)) count c.fill.ensures.width c.fill.ensures.height in
     let areas = more_filled sign c.args.plane.now c.fill.new.self c.draw_area.new.plane 0 _ first (filled_then sign c.fill.new.self c.loop-next.plane c.draw_area.new.plane (c.loop-next.cursor.at - c.args.cursor.at) (c.read_area.new.read.end - c.loop-next.cursor.at) i.filled c.draw_area.ensures.fills) in
@@ -344,18 +283,13 @@ loop-next-smaller c =
     let same0 : c.loop-next.source.octets ≡ octets = ap (λ (x : Counted). x.octets) i.steps.3 in
     let (before, behind, b, begins) = c.requires.begins in
     let s = i.so_far before behind b in
-    let b0 = subst (λ o. IsBetween sign o (before ++ s.so.done) s.so.left c.loop-next.cursor) (sym same0) s.so.between in
-    let a = c.read_area.ensures.read (before ++ s.so.done) s.so.left b0 s.begins in
+    let a = c.read_area.ensures.read (before ++ s.so.done) s.so.left (stands_in same0 s.so.between) s.begins in
     let same1 : c.read_area.new.source.octets ≡ octets = ap (λ (x : Counted). x.octets) a.steps.3 ∙ same0 in
-    let r = round sign octets before behind c.args.layer c.loop-next.cursor c.loop-next.plane s c.read_area.new.read c.loop-next.source c.read_area.new.source a c.draw_area.new.cursor c.draw_area.new.plane
-    (λ earlier area rest x plain end table. subst (λ o. IsBetween sign o (earlier ++ area) rest c.draw_area.new.cursor) same1 (c.draw_area.ensures.passed earlier area rest (subst (λ o. IsBetween sign o earlier (area ++ rest) c.loop-next.cursor) (sym same1) x) plain end table))
-    (λ earlier area rest x plain end table. c.draw_area.ensures.drawn earlier area rest (subst (λ o. IsBetween sign o earlier (area ++ rest) c.loop-next.cursor) (sym same1) x) plain end table) in
+    let r = round_in sign octets c.read_area.new.source.octets same1 before behind c.args.layer c.loop-next.cursor c.loop-next.plane s c.read_area.new.read c.loop-next.source c.read_area.new.source a c.draw_area.new.cursor c.draw_area.new.plane c.draw_area.ensures.passed c.draw_area.ensures.drawn in
     let same2 : c.draw_area.new.source.octets ≡ octets = ap (λ (x : Counted). x.octets) c.draw_area.ensures.steps.3 ∙ same1 in
-    let b2 = subst (λ o. IsBetween sign o (before ++ r.so.done) r.so.left c.draw_area.new.cursor) (sym same2) r.so.between in
-    let (item, rest, is, taken) = c.in-Some.ensures.first sign (before ++ r.so.done) r.so.left b2 in
-    let b3 : IsBetween sign octets (before ++ r.so.done) (item ∷ rest) c.draw_area.new.cursor = subst (λ l. IsBetween sign octets (before ++ r.so.done) l c.draw_area.new.cursor) is r.so.between in
+    let (item, rest, is, taken) = c.in-Some.ensures.first sign (before ++ r.so.done) r.so.left (stands_in same2 r.so.between) in
     let same3 : c.next_item.new.source.octets ≡ octets = ap (λ (x : Counted). x.octets) c.in-Some.ensures.steps.3 ∙ same2 in
-    let b4 = subst (λ o. IsBetween sign o (before ++ r.so.done) (item ∷ rest) c.draw_area.new.cursor) (sym same3) b3 in
+    let b4 = stands_before same3 is r.so.between in
     let b5 = subst (λ o. IsBetween sign o ((before ++ r.so.done) ++ item ∷ []) rest c.pass.new.self) same3 (c.pass.ensures.passed (before ++ r.so.done) rest item b4 taken) in
     omega (arith, r.at, r.on, c.pass.ensures.at, taken.len, spelling_some item, Rattle.multi_layout.proofs.WalkLemmas.within sign octets ((before ++ r.so.done) ++ item ∷ []) rest c.pass.new.self b5)
 
@@ -367,35 +301,25 @@ loop-next-preserved c =
     let same0 : c.loop-next.source.octets ≡ octets = ap (λ (x : Counted). x.octets) i.steps.3 in
     let (before, behind, b, begins) = c.requires.begins in
     let s = i.so_far before behind b in
-    let b0 = subst (λ o. IsBetween sign o (before ++ s.so.done) s.so.left c.loop-next.cursor) (sym same0) s.so.between in
-    let a = c.read_area.ensures.read (before ++ s.so.done) s.so.left b0 s.begins in
+    let a = c.read_area.ensures.read (before ++ s.so.done) s.so.left (stands_in same0 s.so.between) s.begins in
     let same1 : c.read_area.new.source.octets ≡ octets = ap (λ (x : Counted). x.octets) a.steps.3 ∙ same0 in
-    let r = round sign octets before behind c.args.layer c.loop-next.cursor c.loop-next.plane s c.read_area.new.read c.loop-next.source c.read_area.new.source a c.draw_area.new.cursor c.draw_area.new.plane
-    (λ earlier area rest x plain end table. subst (λ o. IsBetween sign o (earlier ++ area) rest c.draw_area.new.cursor) same1 (c.draw_area.ensures.passed earlier area rest (subst (λ o. IsBetween sign o earlier (area ++ rest) c.loop-next.cursor) (sym same1) x) plain end table))
-    (λ earlier area rest x plain end table. c.draw_area.ensures.drawn earlier area rest (subst (λ o. IsBetween sign o earlier (area ++ rest) c.loop-next.cursor) (sym same1) x) plain end table) in
+    let r = round_in sign octets c.read_area.new.source.octets same1 before behind c.args.layer c.loop-next.cursor c.loop-next.plane s c.read_area.new.read c.loop-next.source c.read_area.new.source a c.draw_area.new.cursor c.draw_area.new.plane c.draw_area.ensures.passed c.draw_area.ensures.drawn in
     let same2 : c.draw_area.new.source.octets ≡ octets = ap (λ (x : Counted). x.octets) c.draw_area.ensures.steps.3 ∙ same1 in
-    let b2 = subst (λ o. IsBetween sign o (before ++ r.so.done) r.so.left c.draw_area.new.cursor) (sym same2) r.so.between in
-    let (item, rest, is, taken) = c.in-Some.ensures.first sign (before ++ r.so.done) r.so.left b2 in
-    let b3 : IsBetween sign octets (before ++ r.so.done) (item ∷ rest) c.draw_area.new.cursor = subst (λ l. IsBetween sign octets (before ++ r.so.done) l c.draw_area.new.cursor) is r.so.between in
+    let (item, rest, is, taken) = c.in-Some.ensures.first sign (before ++ r.so.done) r.so.left (stands_in same2 r.so.between) in
     let same3 : c.next_item.new.source.octets ≡ octets = ap (λ (x : Counted). x.octets) c.in-Some.ensures.steps.3 ∙ same2 in
-    let b4 = subst (λ o. IsBetween sign o (before ++ r.so.done) (item ∷ rest) c.draw_area.new.cursor) (sym same3) b3 in
+    let b4 = stands_before same3 is r.so.between in
     let all = string_more c.args.source.now c.loop-next.source c.read_area.new.source c.draw_area.new.source c.next_item.new.source c.pass.new.source c.args.cursor.at c.loop-next.cursor.at c.read_area.new.read.end c.in-Some.next.len item rest r.so.left i.on r.on is taken.len i.steps r.steps c.draw_area.ensures.steps c.in-Some.ensures.steps c.pass.ensures.steps in
     let far : c.read_area.new.read.end + c.in-Some.next.len - c.args.cursor.at ≡ c.pass.new.self.at - c.args.cursor.at = omega (arith, r.at, c.pass.ensures.at) in
     record {
       so_far = λ before behind b.
           let s = i.so_far before behind b in
-          let b0 = subst (λ o. IsBetween sign o (before ++ s.so.done) s.so.left c.loop-next.cursor) (sym same0) s.so.between in
-          let a = c.read_area.ensures.read (before ++ s.so.done) s.so.left b0 s.begins in
+          let a = c.read_area.ensures.read (before ++ s.so.done) s.so.left (stands_in same0 s.so.between) s.begins in
           let same1 : c.read_area.new.source.octets ≡ octets = ap (λ (x : Counted). x.octets) a.steps.3 ∙ same0 in
-          let r = round sign octets before behind c.args.layer c.loop-next.cursor c.loop-next.plane s c.read_area.new.read c.loop-next.source c.read_area.new.source a c.draw_area.new.cursor c.draw_area.new.plane
-          (λ earlier area rest x plain end table. subst (λ o. IsBetween sign o (earlier ++ area) rest c.draw_area.new.cursor) same1 (c.draw_area.ensures.passed earlier area rest (subst (λ o. IsBetween sign o earlier (area ++ rest) c.loop-next.cursor) (sym same1) x) plain end table))
-          (λ earlier area rest x plain end table. c.draw_area.ensures.drawn earlier area rest (subst (λ o. IsBetween sign o earlier (area ++ rest) c.loop-next.cursor) (sym same1) x) plain end table) in
+          let r = round_in sign octets c.read_area.new.source.octets same1 before behind c.args.layer c.loop-next.cursor c.loop-next.plane s c.read_area.new.read c.loop-next.source c.read_area.new.source a c.draw_area.new.cursor c.draw_area.new.plane c.draw_area.ensures.passed c.draw_area.ensures.drawn in
           let same2 : c.draw_area.new.source.octets ≡ octets = ap (λ (x : Counted). x.octets) c.draw_area.ensures.steps.3 ∙ same1 in
-          let b2 = subst (λ o. IsBetween sign o (before ++ r.so.done) r.so.left c.draw_area.new.cursor) (sym same2) r.so.between in
-          let (item, rest, is, taken) = c.in-Some.ensures.first sign (before ++ r.so.done) r.so.left b2 in
-          let b3 : IsBetween sign octets (before ++ r.so.done) (item ∷ rest) c.draw_area.new.cursor = subst (λ l. IsBetween sign octets (before ++ r.so.done) l c.draw_area.new.cursor) is r.so.between in
+          let (item, rest, is, taken) = c.in-Some.ensures.first sign (before ++ r.so.done) r.so.left (stands_in same2 r.so.between) in
           let same3 : c.next_item.new.source.octets ≡ octets = ap (λ (x : Counted). x.octets) c.in-Some.ensures.steps.3 ∙ same2 in
-          let b4 = subst (λ o. IsBetween sign o (before ++ r.so.done) (item ∷ rest) c.draw_area.new.cursor) (sym same3) b3 in
+          let b4 = stands_before same3 is r.so.between in
           let b5 = subst (λ o. IsBetween sign o ((before ++ r.so.done) ++ item ∷ []) rest c.pass.new.self) same3 (c.pass.ensures.passed (before ++ r.so.done) rest item b4 taken) in
           let turns : is_new_page (meaning item) ≡ false = ap is_new_page taken.meant ∙ sym c.ends_page.ensures ∙ c.if-ends_page.false in
           let starts = first_begins item rest (subst (λ l. EndsArea (map meaning l)) is r.ends) in
