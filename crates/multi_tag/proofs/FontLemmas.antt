@@ -20,7 +20,7 @@ picked (Some n) = Some (record { number = n; version = None })
 -- what stands behind the name of a font: one number or none, or a number and a version
 pub data FontCases (octets : List ℕ) (tag : Tag) : Type 0 where
   alone : (o : Option ℕ) → d? 1 255 octets o → tag ≡ Font (picked o) → FontCases octets tag
-  with_version : (n v : ℕ) → between 44 (d 1 255) h octets (n, v) → tag ≡ Font (Some (record { number = n; version = Some v })) → FontCases octets tag
+  with_version : (n v : ℕ) → between 44 (d 1 255) (h 0 65535) octets (n, v) → tag ≡ Font (Some (record { number = n; version = Some v })) → FontCases octets tag
 
 pub font_cases : (octets : List ℕ) (tag : Tag) → (table names.Font).rest octets tag → FontCases octets tag
 font_cases octets tag (inl (empty, is)) = alone None (inl (empty, refl)) is
@@ -36,13 +36,13 @@ module _ (octets : List ℕ) (value : Option ℕ) where
   ]
 
   -- and its version behind a comma
-  pub font_version : (m v : ℕ) (rest : List ℕ) → IsCut 10 5 octets value (44 ∷ rest) → in_range 1 255 value ≡ Some (Some m) → h rest v → (table names.Font).rest octets (Font (Some (record { number = m; version = Some v })))
+  pub font_version : (m v : ℕ) (rest : List ℕ) → IsCut 10 5 octets value (44 ∷ rest) → in_range 1 255 value ≡ Some (Some m) → h 0 65535 rest v → (table names.Font).rest octets (Font (Some (record { number = m; version = Some v })))
   font_version m v rest cut e g =
       let (front, is, f) = before_is 1 255 44 octets value rest (Some m) cut e in
       inr (inr ((m, v), (front, rest, is, d?_d 1 255 front m f, g), refl))
 
   -- what stands behind the number is no comma, or there is no number or no version beside it
-  pub font_none : (stop : ℕ) (rest : List ℕ) → IsCut 10 5 octets value (stop ∷ rest) → (stop ≡ 44 → (in_range 1 255 value ≡ Some None) ⊎ IsValueIn h rest None) → IsValueIn (table names.Font).rest octets None
+  pub font_none : (stop : ℕ) (rest : List ℕ) → IsCut 10 5 octets value (stop ∷ rest) → (stop ≡ 44 → (in_range 1 255 value ≡ Some None) ⊎ IsValueIn (h 0 65535) rest None) → IsValueIn (table names.Font).rest octets None
   font_none stop rest cut why tag f = elim (font_cases octets tag f) [
     | alone o g is ↦ empty_or_not (alone_value 1 255 octets value (stop ∷ rest) o cut g).0 refl
     | with_version m v (front, behind, is, g, k) _ ↦

@@ -28,8 +28,8 @@ one_page_time octets a b f g =
 one_font : HasOneValue (table names.Font).rest
 one_font octets a b f g = by_cases (font_cases octets a f) (font_cases octets b g)
   where
-    apart : (v : Option ℕ) (w : ℕ × ℕ) → d? 1 255 octets v → between 44 (d 1 255) h octets w → ⊥
-    apart v w = not_alone 44 (d 1 255) h comma_is_no_digit (digits_number 1 255) (d? 1 255) (digits_optional 1 255) octets v w
+    apart : (v : Option ℕ) (w : ℕ × ℕ) → d? 1 255 octets v → between 44 (d 1 255) (h 0 65535) octets w → ⊥
+    apart v w = not_alone 44 (d 1 255) (h 0 65535) comma_is_no_digit (digits_number 1 255) (d? 1 255) (digits_optional 1 255) octets v w
 
     version : ℕ × ℕ → Tag
     version v = Font (Some (record { number = v.0; version = Some v.1 }))
@@ -39,7 +39,7 @@ one_font octets a b f g = by_cases (font_cases octets a f) (font_cases octets b 
     by_cases (fonts.alone o m is) (fonts.with_version k v n is') = absurd (apart o (k, v) m n)
     by_cases (fonts.with_version k v n is) (fonts.alone o m is') = absurd (apart o (k, v) m n)
     by_cases (fonts.with_version k v m is) (fonts.with_version l w n is') =
-        is ∙ (ap version (one_between 44 (d 1 255) h comma_is_no_digit (digits_number 1 255) (one_number 10 5 1 255) (one_number 16 4 0 65535) octets (k, v) (l, w) m n) ∙ sym is')
+        is ∙ (ap version (one_between 44 (d 1 255) (h 0 65535) comma_is_no_digit (digits_number 1 255) (one_number 10 5 1 255) (one_number 16 4 0 65535) octets (k, v) (l, w) m n) ∙ sym is')
 
 one_flash : HasOneValue (table names.Flash).rest
 one_flash octets a b f g = by_cases (flash_cases octets a f) (flash_cases octets b g)

@@ -31,13 +31,18 @@ written_at_most base most high (c ∷ cs) v w room least =
     let power : base ^ length (c ∷ cs) ≤ base ^ most = pow-le-pow_right (omega arith) w.count in
     omega (arith, is, below, power)
 
+-- a number of all the octets, in a range whose end leaves none out
+pub number_from : (base most low high : ℕ) (octets : List ℕ) (v : ℕ) → IsCut base most octets (Some v) [] → base ^ most ≤ high + 1 → 2 ≤ base → low ≤ v → IsNumber base most low high octets v
+number_from base most low high octets v cut room small above =
+    let there = alone_is base most octets (Some v) cut in
+    written_number base most low high octets v there above (written_at_most base most high octets v there room small)
+
 -- a number of all the octets, in a range that leaves none out
 pub number_ended : (base most high : ℕ) (octets : List ℕ) (value : Option ℕ) → IsCut base most octets value [] → base ^ most ≤ high + 1 → 2 ≤ base → IsValueIn (IsNumber base most 0 high) octets value
 number_ended base most high octets None cut room small =
     λ v f. none-some v (cut_whole base most octets None [] (Some v) cut (number_written base most 0 high octets v f)).0
 number_ended base most high octets (Some v) cut room small =
-    let there = alone_is base most octets (Some v) cut in
-    written_number base most 0 high octets v there (omega arith) (written_at_most base most high octets v there room small)
+    number_from base most 0 high octets v cut room small (omega arith)
 
 pub number_stopped : (base most low high stop : ℕ) (octets : List ℕ) (value : Option ℕ) (behind : List ℕ) → IsCut base most octets value (stop ∷ behind) → IsValueIn (IsNumber base most low high) octets None
 number_stopped base most low high stop octets value behind cut v f =

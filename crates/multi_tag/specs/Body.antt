@@ -25,7 +25,7 @@ table names.Font = record {
   rest =
       nothing (Font None)
       or d 1 255 means (λ n. Font (Some (record { number = n; version = None })))
-      or between comma (d 1 255) h means (λ (n, v). Font (Some (record { number = n; version = Some v })));
+      or between comma (d 1 255) (h 0 65535) means (λ (n, v). Font (Some (record { number = n; version = Some v })));
 }
 table names.CharSpacing = record { name = codes "sc"; rest = d 0 255 means CharSpacing }
 table names.CharSpacingEnd = record { name = codes "/sc"; rest = nothing CharSpacingEnd }

@@ -24,9 +24,9 @@ pub record IsNumber (base most low high : ℕ) (octets : List ℕ) (value : ℕ)
 abbrev pub d : ℕ → ℕ → Form ℕ
 d low high = IsNumber 10 5 low high
 
--- h: 1 to 4 hexadecimal digits (NTCIP 1203 v03, MULTI tag 'fo'; how many digits is own)
-abbrev pub h : Form ℕ
-h = IsNumber 16 4 0 65535
+-- h: 1 to 4 hexadecimal digits, for a number from low to high (NTCIP 1203 v03, MULTI tag 'fo'; how many digits is own)
+abbrev pub h : ℕ → ℕ → Form ℕ
+h low high = IsNumber 16 4 low high
 
 infixr 2 ◌or◌
 infix 3 ◌means◌

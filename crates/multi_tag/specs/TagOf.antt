@@ -40,9 +40,9 @@ digits base most low high octets = if are_digits base most low high octets then 
 abbrev pub decimal : ℕ → ℕ → Reads ℕ
 decimal low high = digits 10 5 low high
 
--- 1 to 4 hexadecimal digits (NTCIP 1203 v03, MULTI tag 'fo'; how many digits is own)
-abbrev pub hexadecimal : Reads ℕ
-hexadecimal = digits 16 4 0 65535
+-- 1 to 4 hexadecimal digits, for a number from low to high (NTCIP 1203 v03, MULTI tag 'fo'; how many digits is own)
+abbrev pub hexadecimal : ℕ → ℕ → Reads ℕ
+hexadecimal low high = digits 16 4 low high
 
 infixr 2 ◌or◌
 infix 3 ◌means◌
@@ -85,7 +85,7 @@ read_rest names.PageJust = decimal? 2 4 means PageJust
 read_rest names.Font =
     read_nothing (Font None)
     or decimal 1 255 means (λ n. Font (Some (record { number = n; version = None })))
-    or read_between comma (decimal 1 255) hexadecimal means (λ (n, v). Font (Some (record { number = n; version = Some v })))
+    or read_between comma (decimal 1 255) (hexadecimal 0 65535) means (λ (n, v). Font (Some (record { number = n; version = Some v })))
 read_rest names.CharSpacing = decimal 0 255 means CharSpacing
 read_rest names.CharSpacingEnd = read_nothing CharSpacingEnd
 read_rest names.PageTime =

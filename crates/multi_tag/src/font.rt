@@ -3,10 +3,9 @@
 ghost use Rattle.std.specs.Str.{str_to_ascii_lowercase};
 ghost use Rattle.multi_tag.specs.declared.name.Name.TheVariants as names;
 ghost use Rattle.multi_tag.specs.Body.{table};
-ghost use Rattle.multi_tag.specs.Form.{h};
 ghost use Rattle.multi_tag.specs.Part.{IsValueIn};
 
-use crate::number::{in_range, read_numeral};
+use crate::number::{in_range, read_hexadecimal, read_numeral};
 use crate::tag::{FontPick, Tag};
 
 /// A font, and its version after a comma.
@@ -27,21 +26,9 @@ pub fn read_font(octets: &[u8]) -> Option<Tag>
         return None;
     }
     let number = number?;
-    let version = read_version(rest)?;
+    let version = read_hexadecimal(rest, 0)?;
     Some(Tag::Font(Some(FontPick {
         number,
         version: Some(version),
     })))
-}
-
-/// A font's version, if the octets are no more than that.
-#[inline(always)]
-fn read_version(octets: &[u8]) -> Option<u16>
-    ensures { IsValueIn h (str_to_ascii_lowercase octets.now) result }
-{
-    let (value, rest) = read_numeral(octets, 16, 4);
-    match rest {
-        [] => Some(value? as u16),
-        _ => None,
-    }
 }

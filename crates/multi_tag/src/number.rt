@@ -3,7 +3,7 @@
 ghost use Rattle.std.specs.Prelude.{◌≡◌, ◌≤◌};
 ghost use Rattle.std.specs.Char.{to_ascii_lowercase};
 ghost use Rattle.std.specs.Str.{str_to_ascii_lowercase};
-ghost use Rattle.multi_tag.specs.Form.{d?};
+ghost use Rattle.multi_tag.specs.Form.{d?, h};
 ghost use Rattle.multi_tag.specs.Part.{IsValueIn, IsCut, digit_of, in_range};
 
 /// The number that the digits at the front of octets write, at most `most` digits of a base, or `None` where there is no
@@ -74,4 +74,20 @@ pub fn read_optional(octets: &[u8], low: u8, high: u8) -> Option<Option<u8>>
         [] => in_range(value, low, high),
         _ => None,
     }
+}
+
+/// A hexadecimal number of one to four digits, from `low` to 65,535, if the octets are no more than that.
+#[inline(always)]
+pub fn read_hexadecimal(octets: &[u8], low: u16) -> Option<u16>
+    ensures { IsValueIn (h low 65535) (str_to_ascii_lowercase octets.now) result }
+{
+    let (value, rest) = read_numeral(octets, 16, 4);
+    let [] = rest else {
+        return None;
+    };
+    let value = value?;
+    if value < u32::from(low) {
+        return None;
+    }
+    Some(value as u16)
 }
