@@ -48,6 +48,6 @@ no_letter_more : HasName (codes "/f") → ⊥
 unfolding HasName
 no_letter_more = no_name (codes "/f") refl
 
-no_other_name : HasName (codes "hc41") → ⊥
+no_other_name : HasName (codes "hd41") → ⊥
 unfolding HasName
-no_other_name = no_name (codes "hc41") refl
+no_other_name = no_name (codes "hd41") refl

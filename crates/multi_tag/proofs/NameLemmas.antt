@@ -6,7 +6,7 @@ use Rattle.std.proofs.lemmas.List.{take_rest}
 use Rattle.std.proofs.lemmas.Bool.{ne_eqb}
 use Rattle.std.proofs.lemmas.Option.{none-some, same_Some}
 use Rattle.multi_tag.specs.declared.name.Name.{Name}
-use Rattle.multi_tag.specs.declared.name.Name.TheVariants.{NewPage, NewLine, LineJust, PageJust, Font, CharSpacing, CharSpacingEnd, PageTime, Flash, FlashEnd, Fore, Back, Rect}
+use Rattle.multi_tag.specs.declared.name.Name.TheVariants.{NewPage, NewLine, LineJust, PageJust, Font, CharSpacing, CharSpacingEnd, PageTime, Flash, FlashEnd, Fore, Back, Rect, HexChar}
 use Rattle.multi_tag.specs.Body.{table, HasNameAtFront}
 
 -- the name of three letters, by its second
@@ -27,6 +27,7 @@ name_of first second rest =
     else if first == 112 then (if second == 116 then Some PageTime else if second == 98 then Some Back else None)
     else if first == 99 then (if second == 102 then Some Fore else None)
     else if first == 116 then (if second == 114 then Some Rect else None)
+    else if first == 104 then (if second == 99 then Some HexChar else None)
     else if first == 47 then ending second rest
     else None
 
@@ -49,6 +50,7 @@ named FlashEnd rest = refl
 named Fore rest = refl
 named Back rest = refl
 named Rect rest = refl
+named HexChar rest = refl
 
 -- where no name is found, none begins the octets
 pub no_name : (octets : List ℕ) → name_at octets ≡ None → HasNameAtFront octets → ⊥

@@ -3,7 +3,7 @@ use Rattle.std.proofs.Common.{◌≡◌, ℕ, true, false, List, ◌++◌, Optio
 use Rattle.multi_tag.specs.declared.name.Name.{Name}
 use Rattle.multi_tag.specs.declared.name.Name.TheVariants as names
 use Rattle.multi_tag.specs.declared.tag.Tag.{Tag}
-use Rattle.multi_tag.specs.declared.tag.Tag.TheVariants.{NewLine, LineJust, PageJust, CharSpacing, PageTime, Fore, Back, Flash, Font}
+use Rattle.multi_tag.specs.declared.tag.Tag.TheVariants.{NewLine, LineJust, PageJust, CharSpacing, PageTime, Fore, Back, Flash, Font, HexChar}
 use Rattle.multi_tag.specs.Form.{Form, d, d?, h, between}
 use Rattle.multi_tag.specs.Body.{table, Spells, SpellsSmall, OneTagAtMost}
 use Rattle.std.proofs.lemmas.List.{append_cancel_left}
@@ -90,6 +90,7 @@ one_rest names.FlashEnd octets a b f g = f.1 ∙ sym g.1
 one_rest names.Fore octets a b f g = one_meaning (d? 0 9) Fore (one_optional 0 9) octets a b f g
 one_rest names.Back octets a b f g = one_meaning (d? 0 9) Back (one_optional 0 9) octets a b f g
 one_rest names.Rect octets a b f g = one_rect octets a b f g
+one_rest names.HexChar octets a b f g = one_meaning (h 1 65535) HexChar (one_number 16 4 1 65535) octets a b f g
 
 -- a body spells one tag
 pub one_tag : OneTagAtMost

@@ -1,7 +1,7 @@
 -- Bodies, and their tags.
 use Rattle.std.proofs.Common.{◌≡◌, true, false, Some, None, Ok, Err, refl}
 use Rattle.std.specs.Prelude.{codes}
-use Rattle.multi_tag.specs.declared.tag.Tag.TheVariants.{Font, CharSpacingEnd, PageTime, Flash, Fore, Rect}
+use Rattle.multi_tag.specs.declared.tag.Tag.TheVariants.{Font, CharSpacingEnd, PageTime, Flash, Fore, Rect, HexChar}
 use Rattle.multi_tag.specs.declared.tag.TagFault.TheVariants.{Unsupported, Value}
 use Rattle.multi_tag.specs.TagOf.{tag_of}
 
@@ -49,6 +49,26 @@ name_without_its_form : tag_of (codes "foo") ≡ Err Value
 unfolding tag_of
 name_without_its_form = refl
 
-name_not_listed : tag_of (codes "hc41") ≡ Err Unsupported
+character_of_a_number : tag_of (codes "HC0041") ≡ Ok (HexChar 65)
+unfolding tag_of
+character_of_a_number = refl
+
+largest_number_of_a_character : tag_of (codes "hcFfFf") ≡ Ok (HexChar 65535)
+unfolding tag_of
+largest_number_of_a_character = refl
+
+no_character_of_0 : tag_of (codes "hc0000") ≡ Err Value
+unfolding tag_of
+no_character_of_0 = refl
+
+character_of_five_digits : tag_of (codes "hc00041") ≡ Err Value
+unfolding tag_of
+character_of_five_digits = refl
+
+character_without_a_number : tag_of (codes "hc") ≡ Err Value
+unfolding tag_of
+character_without_a_number = refl
+
+name_not_listed : tag_of (codes "hd41") ≡ Err Unsupported
 unfolding tag_of
 name_not_listed = refl

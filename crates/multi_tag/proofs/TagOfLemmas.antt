@@ -6,7 +6,7 @@ use Rattle.std.proofs.lemmas.Option.{none-some}
 use Rattle.multi_tag.specs.declared.name.Name.{Name}
 use Rattle.multi_tag.specs.declared.name.Name.TheVariants as names
 use Rattle.multi_tag.specs.declared.tag.Tag.{Tag}
-use Rattle.multi_tag.specs.declared.tag.Tag.TheVariants.{NewPage, NewLine, LineJust, PageJust, Font, CharSpacing, CharSpacingEnd, PageTime, Flash, FlashEnd, Fore, Back, Rect}
+use Rattle.multi_tag.specs.declared.tag.Tag.TheVariants.{NewPage, NewLine, LineJust, PageJust, Font, CharSpacing, CharSpacingEnd, PageTime, Flash, FlashEnd, Fore, Back, Rect, HexChar}
 use Rattle.multi_tag.specs.declared.tag.TagFault.{TagFault}
 use Rattle.multi_tag.specs.declared.tag.TagFault.TheVariants.{Unsupported, Value}
 use Rattle.multi_tag.specs.Form.{d?}
@@ -85,6 +85,7 @@ row_of FlashEnd = names.FlashEnd
 row_of (Fore colour) = names.Fore
 row_of (Back colour) = names.Back
 row_of (Rect x y w h) = names.Rect
+row_of (HexChar number) = names.HexChar
 
 own_row : (name : Name) (rest : List ℕ) (tag : Tag) → (table name).rest rest tag → row_of tag ≡ name
 own_row names.NewPage rest tag (empty, is) = ap row_of is
@@ -107,6 +108,7 @@ own_row names.FlashEnd rest tag (empty, is) = ap row_of is
 own_row names.Fore rest tag (colour, f, is) = ap row_of is
 own_row names.Back rest tag (colour, f, is) = ap row_of is
 own_row names.Rect rest tag (v, f, is) = ap row_of is
+own_row names.HexChar rest tag (number, f, is) = ap row_of is
 
 -- the numbers of justifications
 just_in_range : (low high just : ℕ) (rest : List ℕ) (o : Option ℕ) → d? low high rest o → o ≡ Some just → (low ≤ just) × (just ≤ high)

@@ -6,7 +6,7 @@ use Rattle.std.proofs.lemmas.Option.{none-some, same_Some}
 use Rattle.std.proofs.lemmas.Bool.{and_parts, cases_Bool, eqb-true}
 use Rattle.multi_tag.specs.declared.name.Name.{Name}
 use Rattle.multi_tag.specs.declared.name.Name.TheVariants as names
-use Rattle.multi_tag.specs.declared.tag.Tag.TheVariants.{NewPage, NewLine, LineJust, PageJust, Font, CharSpacing, CharSpacingEnd, PageTime, Flash, FlashEnd, Fore, Back, Rect}
+use Rattle.multi_tag.specs.declared.tag.Tag.TheVariants.{NewPage, NewLine, LineJust, PageJust, Font, CharSpacing, CharSpacingEnd, PageTime, Flash, FlashEnd, Fore, Back, Rect, HexChar}
 use Rattle.multi_tag.specs.Body.{table}
 use Rattle.multi_tag.specs.TagOf.{read_rest, name_at_front}
 use Rattle.multi_tag.proofs.PartLemmas.{comma_is_no_digit}
@@ -51,6 +51,7 @@ rest_read names.Rect =
     (between_read 44 comma_is_no_digit (digits_number 0 99999) (digits_read 10 5 0 99999)
     (between_read 44 comma_is_no_digit (digits_number 0 99999) (digits_read 10 5 0 99999)
     (between_read 44 comma_is_no_digit (digits_number 0 99999) (digits_read 10 5 0 99999) (digits_read 10 5 0 99999))))
+rest_read names.HexChar = means_read HexChar (digits_read 16 4 1 65535)
 
 -- the listed name that begins the octets
 pub named : (name : Name) (rest : List ℕ) → name_at_front ((table name).name ++ rest) ≡ Some name
@@ -67,6 +68,7 @@ named names.FlashEnd rest = refl
 named names.Fore rest = refl
 named names.Back rest = refl
 named names.Rect rest = refl
+named names.HexChar rest = refl
 
 -- and what stands behind it
 pub behind : (name : Name) (rest : List ℕ) → drop (length (table name).name) ((table name).name ++ rest) ≡ rest
@@ -83,6 +85,7 @@ behind names.FlashEnd rest = refl
 behind names.Fore rest = refl
 behind names.Back rest = refl
 behind names.Rect rest = refl
+behind names.HexChar rest = refl
 
 pub begun : (octets front : List ℕ) → starts_with nat_eq octets front ≡ true → octets ≡ front ++ drop (length front) octets
 begun octets [] e = refl

@@ -4,7 +4,7 @@ use Rattle.std.specs.Str.{str_to_ascii_lowercase}
 use Rattle.multi_tag.specs.declared.name.Name.{Name}
 use Rattle.multi_tag.specs.declared.name.Name.TheVariants as names
 use Rattle.multi_tag.specs.declared.tag.Tag.{Tag}
-use Rattle.multi_tag.specs.declared.tag.Tag.TheVariants.{NewPage, NewLine, LineJust, PageJust, Font, CharSpacing, CharSpacingEnd, PageTime, Flash, FlashEnd, Fore, Back, Rect}
+use Rattle.multi_tag.specs.declared.tag.Tag.TheVariants.{NewPage, NewLine, LineJust, PageJust, Font, CharSpacing, CharSpacingEnd, PageTime, Flash, FlashEnd, Fore, Back, Rect, HexChar}
 use Rattle.multi_tag.specs.declared.tag.TagFault.{TagFault}
 use Rattle.multi_tag.specs.Octet.{comma, letter_o, letter_t}
 use Rattle.multi_tag.specs.Form.{Form, nothing, d, d?, h, ◌means◌, ◌or◌, after, between}
@@ -51,6 +51,7 @@ table names.Rect = record {
   name = codes "tr";
   rest = between comma (d 0 99999) (between comma (d 0 99999) (between comma (d 0 99999) (d 0 99999))) means (λ (x, (y, (w, h))). Rect x y w h);
 }
+table names.HexChar = record { name = codes "hc"; rest = h 1 65535 means HexChar }
 
 -- small letters spell a tag: a name of the table, and then a rest in the form of its row (NTCIP 1203 v03, MULTI)
 unfoldable pub SpellsSmall : List ℕ → Tag → Type 0

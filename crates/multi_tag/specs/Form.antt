@@ -24,7 +24,7 @@ pub record IsNumber (base most low high : ℕ) (octets : List ℕ) (value : ℕ)
 abbrev pub d : ℕ → ℕ → Form ℕ
 d low high = IsNumber 10 5 low high
 
--- h: 1 to 4 hexadecimal digits, for a number from low to high (NTCIP 1203 v03, MULTI tag 'fo'; how many digits is own)
+-- h: 1 to 4 hexadecimal digits, for a number from low to high (NTCIP 1203 v03, MULTI tags 'fo' and 'hc'; how many digits is own)
 abbrev pub h : ℕ → ℕ → Form ℕ
 h low high = IsNumber 16 4 low high
 

@@ -7,7 +7,7 @@ use Rattle.std.specs.Str.{str_to_ascii_lowercase}
 use Rattle.multi_tag.specs.declared.name.Name.{Name}
 use Rattle.multi_tag.specs.declared.name.Name.TheVariants as names
 use Rattle.multi_tag.specs.declared.tag.Tag.{Tag}
-use Rattle.multi_tag.specs.declared.tag.Tag.TheVariants.{NewPage, NewLine, LineJust, PageJust, Font, CharSpacing, CharSpacingEnd, PageTime, Flash, FlashEnd, Fore, Back, Rect}
+use Rattle.multi_tag.specs.declared.tag.Tag.TheVariants.{NewPage, NewLine, LineJust, PageJust, Font, CharSpacing, CharSpacingEnd, PageTime, Flash, FlashEnd, Fore, Back, Rect, HexChar}
 use Rattle.multi_tag.specs.declared.tag.TagFault.{TagFault}
 use Rattle.multi_tag.specs.declared.tag.TagFault.TheVariants.{Unsupported, Value}
 use Rattle.multi_tag.specs.Number.{number}
@@ -40,7 +40,7 @@ digits base most low high octets = if are_digits base most low high octets then 
 abbrev pub decimal : ℕ → ℕ → Reads ℕ
 decimal low high = digits 10 5 low high
 
--- 1 to 4 hexadecimal digits, for a number from low to high (NTCIP 1203 v03, MULTI tag 'fo'; how many digits is own)
+-- 1 to 4 hexadecimal digits, for a number from low to high (NTCIP 1203 v03, MULTI tags 'fo' and 'hc'; how many digits is own)
 abbrev pub hexadecimal : ℕ → ℕ → Reads ℕ
 hexadecimal low high = digits 16 4 low high
 
@@ -101,10 +101,11 @@ read_rest names.FlashEnd = read_nothing FlashEnd
 read_rest names.Fore = decimal? 0 9 means Fore
 read_rest names.Back = decimal? 0 9 means Back
 read_rest names.Rect = read_between comma (decimal 0 99999) (read_between comma (decimal 0 99999) (read_between comma (decimal 0 99999) (decimal 0 99999))) means (λ (x, (y, (w, h))). Rect x y w h)
+read_rest names.HexChar = hexadecimal 1 65535 means HexChar
 
 -- the names of the table, in its order (own)
 abbrev pub listed : List Name
-listed = names.NewPage ∷ names.NewLine ∷ names.LineJust ∷ names.PageJust ∷ names.Font ∷ names.CharSpacing ∷ names.CharSpacingEnd ∷ names.PageTime ∷ names.Flash ∷ names.FlashEnd ∷ names.Fore ∷ names.Back ∷ names.Rect ∷ []
+listed = names.NewPage ∷ names.NewLine ∷ names.LineJust ∷ names.PageJust ∷ names.Font ∷ names.CharSpacing ∷ names.CharSpacingEnd ∷ names.PageTime ∷ names.Flash ∷ names.FlashEnd ∷ names.Fore ∷ names.Back ∷ names.Rect ∷ names.HexChar ∷ []
 
 -- the listed name that begins the octets, if one does (own)
 abbrev pub name_at_front : List ℕ → Option Name

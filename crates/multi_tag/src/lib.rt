@@ -9,6 +9,7 @@
 #![tactic(auto)]
 
 mod font;
+mod hex_char;
 mod laws;
 mod name;
 mod number;

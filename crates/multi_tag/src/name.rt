@@ -20,6 +20,7 @@ pub enum Name {
     Fore,
     Back,
     Rect,
+    HexChar,
 }
 
 /// The name that begins a body, and the octets behind it, or `None` where no listed name does.
@@ -44,6 +45,7 @@ pub fn read_name(body: &[u8]) -> Option<(Name, &[u8])>
         b"cf" => Some((Name::Fore, rest)),
         b"pb" => Some((Name::Back, rest)),
         b"tr" => Some((Name::Rect, rest)),
+        b"hc" => Some((Name::HexChar, rest)),
         b"/s" => Some((Name::CharSpacingEnd, after_letter(rest, b'c')?)),
         b"/f" => Some((Name::FlashEnd, after_letter(rest, b'l')?)),
         _ => None,

@@ -6,6 +6,7 @@ ghost use Rattle.multi_tag.specs.Form.{nothing};
 ghost use Rattle.multi_tag.specs.Part.{IsValueIn};
 
 use crate::font::read_font;
+use crate::hex_char::read_hex_char;
 use crate::name::Name;
 use crate::number::read_optional;
 use crate::rect::read_rect;
@@ -34,6 +35,7 @@ pub fn read_rest(octets: &[u8], name: Name) -> Option<Tag>
         Name::Fore => Some(Tag::Fore(read_optional(octets, 0, 9)?)),
         Name::Back => Some(Tag::Back(read_optional(octets, 0, 9)?)),
         Name::Rect => read_rect(octets),
+        Name::HexChar => read_hex_char(octets),
     }
 }
 

@@ -56,6 +56,8 @@ pub enum Tag {
         w: u32,
         h: u32,
     },
+    /// The character of a number: 1 to 65,535 ('hc').
+    HexChar(u16),
 }
 
 /// Why a tag has no value.

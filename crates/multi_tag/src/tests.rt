@@ -30,7 +30,7 @@ fn rect(x: u32, y: u32, w: u32, h: u32) -> Tag {
 
 #[test]
 fn listed_bodies_are_tags(rt: HostRuntime) {
-    let rows: [(&[u8], Tag); 45] = [
+    let rows: [(&[u8], Tag); 51] = [
         (b"[np]", Tag::NewPage),
         (b"[nl]", Tag::NewLine(None)),
         (b"[nl0]", Tag::NewLine(Some(0))),
@@ -115,6 +115,12 @@ fn listed_bodies_are_tags(rt: HostRuntime) {
             b"[tr99999,99999,99999,99999]",
             rect(99999, 99999, 99999, 99999),
         ),
+        (b"[hc1]", Tag::HexChar(1)),
+        (b"[hc41]", Tag::HexChar(65)),
+        (b"[HC0041]", Tag::HexChar(65)),
+        (b"[hc10]", Tag::HexChar(16)),
+        (b"[hCaF0]", Tag::HexChar(2800)),
+        (b"[hcffff]", Tag::HexChar(65535)),
     ];
     for (octets, tag) in rows {
         // a step for each octet between the brackets
@@ -125,7 +131,7 @@ fn listed_bodies_are_tags(rt: HostRuntime) {
 
 #[test]
 fn a_name_with_another_rest_is_a_wrong_value(rt: HostRuntime) {
-    let rows: [&[u8]; 45] = [
+    let rows: [&[u8]; 54] = [
         b"[np1]",
         b"[nl256]",
         b"[nl123456]",
@@ -171,6 +177,15 @@ fn a_name_with_another_rest_is_a_wrong_value(rt: HostRuntime) {
         b"[tr1,1,1,100000]",
         b"[npp]",
         b"[tr1;1;0;0]",
+        b"[hc]",
+        b"[hc0]",
+        b"[hc0000]",
+        b"[hc00041]",
+        b"[hc12345]",
+        b"[hcG]",
+        b"[hc4g]",
+        b"[hc 41]",
+        b"[hc41,42]",
     ];
     for octets in rows {
         let fault = read(octets).map(|(tag, _)| tag);
@@ -180,11 +195,12 @@ fn a_name_with_another_rest_is_a_wrong_value(rt: HostRuntime) {
 
 #[test]
 fn another_body_is_no_listed_tag(rt: HostRuntime) {
-    let rows: [&[u8]; 14] = [
+    let rows: [&[u8]; 15] = [
         b"[/f]",
         b"[/s]",
         b"[n]",
-        b"[hc41]",
+        b"[h]",
+        b"[hd41]",
         b"[cb1]",
         b"[f1]",
         b"[ms]",

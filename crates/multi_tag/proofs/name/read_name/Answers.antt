@@ -1,7 +1,7 @@
 use Rattle.std.proofs.Common.{◌≡◌, arith}
 use Rattle.std.proofs.lemmas.Bool.Decides.{nat_tests}
 use Rattle.multi_tag.proofs.NameLemmas.{no_short_name, no_name_of, no_third, no_third_l}
-use Rattle.multi_tag.proofs.name.read_name.Goals.{in_default-2-via-in-110+in_default, in_default-2-via-in-106+in_default, in_default-2-via-in-102+in_default, in_default-2-via-in-115+in_default, in_default-2-via-in-112+in_default, in_default-2-via-in-99+in_default, in_default-2-via-in-116+in_default, in_default-2-via-in-47+in_default, in_default-2-via-in_default}
+use Rattle.multi_tag.proofs.name.read_name.Goals.{in_default-2-via-in-110+in_default, in_default-2-via-in-106+in_default, in_default-2-via-in-102+in_default, in_default-2-via-in-115+in_default, in_default-2-via-in-112+in_default, in_default-2-via-in-99+in_default, in_default-2-via-in-116+in_default, in_default-2-via-in-104+in_default, in_default-2-via-in-47+in_default, in_default-2-via-in_default}
 use Rattle.multi_tag.proofs.name.read_name.Goals as goal
 
 pub returns-in_default-clause-none : goal.returns-in_default-clause-none
@@ -29,6 +29,7 @@ returns-in_default-2-clause-none c =
       | in_default-2-via-in-112+in_default w ↦ grind (arith, nat_tests)
       | in_default-2-via-in-99+in_default w ↦ grind (arith, nat_tests)
       | in_default-2-via-in-116+in_default w ↦ grind (arith, nat_tests)
+      | in_default-2-via-in-104+in_default w ↦ grind (arith, nat_tests)
       | in_default-2-via-in-47+in_default w ↦ grind (arith, nat_tests)
       | in_default-2-via-in_default w ↦ grind (arith, nat_tests)
     ])

@@ -44,3 +44,6 @@ returns-in-Flash c = rw c.in-Flash.is c.read_flash.ensures
 
 pub returns-in-Rect : goal.returns-in-Rect
 returns-in-Rect c = rw c.in-Rect.is c.read_rect.ensures
+
+pub returns-in-HexChar : goal.returns-in-HexChar
+returns-in-HexChar c = rw c.in-HexChar.is c.read_hex_char.ensures
