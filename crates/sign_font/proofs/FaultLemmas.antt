@@ -24,7 +24,7 @@ is_clear octets pixels clear =
 
 cell_passes : (height : ℕ) (cell : CellData) → IsSoundCell height cell → is_cell height cell ≡ true
 cell_passes height cell sound =
-    let lower = and_from _ _ (passes 1 255 cell.number sound.number) (passes 1 64 cell.width sound.width) in
+    let lower = and_from _ _ (passes 1 65535 cell.number sound.number) (passes 1 64 cell.width sound.width) in
     let middle = and_from _ _ lower (eq-eqb (length cell.bits) ((height * cell.width + 7) / 8) sound.len) in
     and_from _ _ middle (is_clear cell.bits (height * cell.width) sound.spare)
 

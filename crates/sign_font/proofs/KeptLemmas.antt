@@ -1,6 +1,6 @@
 -- Cells as they are kept, at their font's height.
-use Rattle.std.proofs.Common.{◌≡◌, ℕ, zero, suc, arith, ◌==◌, List, [], ◌∷◌, ◌++◌, map, Option, Some, None, refl, sym, ap, ◌∙◌}
-use Rattle.std.specs.Prelude.{find, option_map, IfSome, All}
+use Rattle.std.proofs.Common.{◌≡◌, ℕ, ◌==◌, List, [], ◌∷◌, ◌++◌, map, Option, Some, None, refl, sym, ap, ◌∙◌}
+use Rattle.std.specs.Prelude.{find, option_map, IfSome}
 use Rattle.std.proofs.lemmas.Simd.{map-map}
 use Rattle.std.proofs.lemmas.List.{length-map, map-append}
 use Rattle.sign_font.specs.declared.parts.CellPart.{CellPart}
@@ -9,8 +9,7 @@ use Rattle.sign_font.specs.Cell.{SizedCell}
 use Rattle.sign_font.specs.Sign.{CellData, cell_of, unsized, sized, cell_numbered}
 use Rattle.sign_font.specs.Limits.{is_rising}
 use Rattle.sign_font.specs.Kept.{AreNumbered, font_kept, IsFontKept}
-use Rattle.std.proofs.lemmas.List.Elements.{All-head, All-tail}
-use Rattle.sign_font.specs.Sound.{IsSoundCell, IsSoundFont}
+use Rattle.sign_font.specs.Sound.{IsSoundFont}
 use Rattle.sign_font.proofs.FindLemmas.{find-map}
 use Rattle.sign_font.proofs.SoundLemmas.{found_holds}
 
@@ -50,15 +49,9 @@ module _ (info : FontInfo) (cells : List SizedCell) (kept : IsFontKept info cell
       let found = find-map (λ (cell : CellData). cell.number == number) unsized cells in
       sym (ap (option_map (λ (cell : CellData). cell.width)) found ∙ unsized_width (find (λ (cell : SizedCell). cell.number == number) cells))
 
-unmapped : (P : CellData → Type 0) (cells : List SizedCell) → All P (map unsized cells) → All (λ cell. P (unsized cell)) cells
-unmapped P [] all k d h = absurd (omega arith)
-unmapped P (cell ∷ cells) all zero d h = All-head P (unsized cell) (map unsized cells) all
-unmapped P (cell ∷ cells) all (suc k) d h = unmapped P cells (All-tail P (unsized cell) (map unsized cells) all) k d (omega arith)
-
--- cells of a font within its limits have numbers that are octets and rise
+-- a font within its limits has at most 255 cells, whose numbers rise
 pub numbered : (info : FontInfo) (cells : List SizedCell) → IsSoundFont (font_kept info cells) → AreNumbered cells
 numbered info cells sound = record {
   count = rw (← length-map cells unsized) sound.count;
-  octets = λ k d h. (unmapped (IsSoundCell info.height) cells sound.each k d h).number.1;
   rising = ap is_rising (sym (map-map (λ (cell : CellData). cell.number) unsized cells)) ∙ sound.rising;
 }

@@ -2,6 +2,7 @@ pub mod BitLemmas
 pub mod DefaultLemmas
 pub mod FaultLemmas
 pub mod FindLemmas
+pub mod HalfLemmas
 pub mod KeptLemmas
 pub mod LimitLemmas
 pub mod PlaceLemmas

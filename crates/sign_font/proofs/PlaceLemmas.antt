@@ -21,7 +21,7 @@ find_push_other test (y ∷ xs) x fails =
     ]
 
 -- one more thing that passes a test is found, where none before it passes
-find_push_here : {X : Type 0} (test : X → Bool) (xs : List X) (x : X) → find test xs ≡ None → test x ≡ true → find test (xs ++ x ∷ []) ≡ Some x
+pub find_push_here : {X : Type 0} (test : X → Bool) (xs : List X) (x : X) → find test xs ≡ None → test x ≡ true → find test (xs ++ x ∷ []) ≡ Some x
 find_push_here test xs x none passes = find-append test xs (x ∷ []) ∙ rw none (rw passes refl)
 
 -- by number below 256, the place of the first of the first things of that number, or a place where nothing stands
@@ -36,7 +36,7 @@ places_none number_of things short number h =
     rw nowhere (slice_get_past things 255 short)
 
 -- before the next thing none has its number
-none_before : {X : Type 0} (number_of : X → ℕ) (things : List X) (count number : ℕ) (thing : X) → is_rising (map number_of things) ≡ true
+pub none_before : {X : Type 0} (number_of : X → ℕ) (things : List X) (count number : ℕ) (thing : X) → is_rising (map number_of things) ≡ true
     → count < length things → thing ≡ get_or things count thing → number_of thing ≡ number
     → find (λ other. number_of other == number) (take count things) ≡ None
 none_before number_of things count number thing rising within is named =
@@ -64,6 +64,14 @@ places_more number_of things count thing places rising within is room before num
           let there : slice_index (set places (number_of thing) count) number ≡ slice_index places number = get_or-set_other places (number_of thing) number count 0 (λ same. n (sym same)) in
           rw (there, more) (before number h ∙ sym (find_push_other _ (take count things) thing (ne_eqb (number_of thing) number n)))
     ]
+
+-- one more thing of a number above 255 changes no place
+pub places_past : {X : Type 0} (number_of : X → ℕ) (things : List X) (count : ℕ) (thing : X) (places : List ℕ)
+    → count < length things → thing ≡ get_or things count thing → 256 ≤ number_of thing
+    → ArePlacesBelow number_of things count places → ArePlacesBelow number_of things (count + 1) places
+places_past number_of things count thing places within is wide before number h =
+    let more : take (count + 1) things ≡ take count things ++ thing ∷ [] = take_more things count thing within ∙ ap (λ t. take count things ++ t ∷ []) (sym is) in
+    rw more (before number h ∙ sym (find_push_other _ (take count things) thing (ne_eqb (number_of thing) number (λ same. omega arith))))
 
 -- when each thing has its place, the table is whole
 pub places_all : {X : Type 0} (number_of : X → ℕ) (things : List X) (count : ℕ) (places : List ℕ) → length things ≤ count → ArePlacesBelow number_of things count places → ArePlaces number_of things places

@@ -42,6 +42,12 @@ a_sign_has_a_font = refl
 a_spare_bit_is_clear : first_fault (record sample { fonts = record small_font { cells = record { number = 65; width = 3; bits = 0x5e ∷ 0x81 ∷ [] } ∷ [] } ∷ [] }) ≡ Some BadCell
 a_spare_bit_is_clear = refl
 
+a_cell_has_a_wide_number : first_fault (record sample { fonts = record small_font { cells = record { number = 65535; width = 3; bits = 0x5e ∷ 0x80 ∷ [] } ∷ [] } ∷ [] }) ≡ None
+a_cell_has_a_wide_number = refl
+
+no_cell_has_the_number_0 : first_fault (record sample { fonts = record small_font { cells = record { number = 0; width = 3; bits = 0x5e ∷ 0x80 ∷ [] } ∷ [] } ∷ [] }) ≡ Some BadCell
+no_cell_has_the_number_0 = refl
+
 the_default_font_is_defined : first_fault (record sample { fonts = large_font ∷ [] }) ≡ Some BadDefault
 the_default_font_is_defined = refl
 

@@ -42,7 +42,7 @@ cell_sound height cell e =
     let middle = and_parts _ _ upper.0 in
     let lower = and_parts _ _ middle.0 in
     record {
-      number = within 1 255 cell.number lower.0;
+      number = within 1 65535 cell.number lower.0;
       width = within 1 64 cell.width lower.1;
       len = eqb-true (length cell.bits) ((height * cell.width + 7) / 8) middle.1;
       spare = clear_behind cell.bits (height * cell.width) upper.1;

@@ -26,24 +26,24 @@ pub record IsFontKept (info : FontInfo) (cells : List SizedCell) : Type 0 where
   pub heights : AreAtHeight info.height cells
   pub sound : IsSoundFont (font_kept info cells)
 
--- at most 255 cells whose numbers are octets and rise (own)
+-- at most 255 cells whose numbers rise (own)
 pub record AreNumbered (cells : List SizedCell) : Type 0 where
   pub count : length cells ≤ 255
-  pub octets : All (λ cell. cell.number ≤ 255) cells
   pub rising : IsTrue (is_rising (map (λ cell. cell.number) cells))
 
--- by number below 256, the place of the first thing of that number, or a place where nothing stands (own)
+-- by number below 256, the place of the first thing of that number, or a place where nothing stands; of a wider number
+-- it says nothing (own)
 abbrev pub ArePlaces : {X : Type 0} → (X → ℕ) → List X → List ℕ → Type 0
 ArePlaces number_of things places =
     (number : ℕ) → number < 256 → slice_get things (slice_index places number) ≡ find (λ thing. number_of thing == number) things
 
--- by octet, the width of the cell of that number, or 0 (own)
+-- by octet, the width of the cell of that number, or 0; of a wider number it says nothing (own)
 abbrev pub AreWidths : List SizedCell → List ℕ → Type 0
 AreWidths cells widths =
     (octet : ℕ) → octet < 256 → slice_index widths octet ≡ unwrap_or (option_map (λ cell. cell.width) (find (λ cell. cell.number == octet) cells)) 0
 
--- each cell's number is an octet, and the tables are those of these cells (own)
+-- the cells' numbers rise, and the tables are those of the cells whose numbers are octets (own)
 pub record AreTables (cells : List SizedCell) (places widths : List ℕ) : Type 0 where
-  pub octets : All (λ cell. cell.number ≤ 255) cells
+  pub numbered : AreNumbered cells
   pub placed : ArePlaces (λ cell. cell.number) cells places
   pub wide : AreWidths cells widths

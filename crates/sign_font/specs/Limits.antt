@@ -37,7 +37,7 @@ is_clear_behind octets pixels =
 
 -- a cell's number and width, and the length and the spare bits of its pixels (NTCIP 1203 v03, object characterTable)
 abbrev pub is_cell : ℕ → CellData → Bool
-is_cell height cell = is_within 1 255 cell.number
+is_cell height cell = is_within 1 65535 cell.number
     && is_within 1 64 cell.width
     && (length cell.bits == (height * cell.width + 7) / 8)
     && is_clear_behind cell.bits (height * cell.width)

@@ -10,7 +10,7 @@ IsWithin low high number = (low ≤ number) × (number ≤ high)
 
 -- a cell within its limits, in a font of this height (NTCIP 1203 v03, object characterTable)
 pub record IsSoundCell (height : ℕ) (cell : CellData) : Type 0 where
-  pub number : IsWithin 1 255 cell.number
+  pub number : IsWithin 1 65535 cell.number
   pub width : IsWithin 1 64 cell.width
   pub len : length cell.bits ≡ (height * cell.width + 7) / 8
   pub spare : (place : ℕ) → height * cell.width ≤ place → is_set cell.bits place ≡ false

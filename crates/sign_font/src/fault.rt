@@ -16,9 +16,9 @@ pub enum SignFault {
     /// font's height isn't 1 to 64 pixels.
     #[error("the number of fonts, or a font's number, order or height, is outside its limits")]
     BadFont,
-    /// A font has more than 255 cells, or a cell's number isn't 1 to 255, or the numbers of a font's cells
-    /// don't rise strictly, or a cell's width isn't 1 to 64 pixels, or a cell has more or fewer octets than its pixels
-    /// need, or a spare bit is set.
+    /// A font has more than 255 cells, or a cell's number is 0, or the numbers of a font's cells don't rise strictly, or
+    /// a cell's width isn't 1 to 64 pixels, or a cell has more or fewer octets than its pixels need, or a spare bit is
+    /// set.
     #[error("the number, order, width or bits of a cell are outside their limits")]
     BadCell,
     /// The default font isn't defined, or the default line justification isn't 2 to 5, or the default page

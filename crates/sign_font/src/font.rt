@@ -1,6 +1,7 @@
 //! A font, as a sign keeps it and as it is asked for.
 
-ghost use Rattle.std.specs.Prelude.{◌≡◌, ◌≤◌, ℕ, IfErr, IfOk, IfSome, option_map};
+ghost use Rattle.std.specs.Prelude.{◌≡◌, ◌≤◌, ℕ, min, length, IfErr, IfOk, IfSome, option_map};
+ghost use Rattle.multi_token.specs.Counted.{RisesBetween};
 ghost use Rattle.sign_font.specs.Sign.{font_of, info_of, cell_numbered, sized};
 ghost use Rattle.sign_font.specs.Sound.{IsSoundFont, IsSoundSize, IsWithin};
 ghost use Rattle.sign_font.specs.Text.{HasWidth, IsTextFault, width_numbered};
@@ -9,6 +10,7 @@ use crate::cell::{Cell, Glyph};
 use crate::glyphs::Glyphs;
 use crate::parts::FontPart;
 use crate::text::TextFault;
+use multi_token::Source;
 use std::alloc::{AllocError, Global};
 use std::marker::Model;
 
@@ -82,12 +84,24 @@ impl Font {
         self.info
     }
 
-    /// The cell of a number.
-    pub(crate) fn cell(&self, number: u16) -> Option<Cell<'_>>
-        ensures cell { result ≡ option_map (sized self.now) (cell_numbered self.now number) }
+    /// The cell of an octet.
+    pub(crate) fn cell(&self, octet: u8) -> Option<Cell<'_>>
+        ensures cell { result ≡ option_map (sized self.now) (cell_numbered self.now octet) }
         ensures size { IfSome result IsSoundSize }
     {
-        match self.glyphs.find(number) {
+        match self.glyphs.find(octet) {
+            Some(glyph) => Some(Cell::new(glyph)),
+            None => None,
+        }
+    }
+
+    /// The cell of any number, by halves. Each cell that is compared with it takes one step.
+    pub(crate) fn search(&self, source: &mut Source<'_>, number: u16) -> Option<Cell<'_>>
+        ensures cell { result ≡ option_map (sized self.now) (cell_numbered self.now number) }
+        ensures size { IfSome result IsSoundSize }
+        ensures steps { RisesBetween source.old source.new (min 1 (length self.now.cells)) 8 }
+    {
+        match self.glyphs.search(source, number) {
             Some(glyph) => Some(Cell::new(glyph)),
             None => None,
         }

@@ -1,16 +1,18 @@
 //! The cells of a font, as a sign keeps them.
 
-ghost use Rattle.std.specs.Prelude.{◌≡◌, ℕ, ◌==◌, find, option_map, unwrap_or};
+ghost use Rattle.std.specs.Prelude.{◌≡◌, ℕ, min, ◌==◌, length, find, option_map, unwrap_or};
 ghost use Rattle.std.specs.Option.{option_copied};
+ghost use Rattle.multi_token.specs.Counted.{RisesBetween};
 ghost use Rattle.sign_font.specs.Kept.{AreNumbered};
 
 use crate::cell::Glyph;
+use multi_token::Source;
 use std::marker::Model;
 
 /// The place for a number that nothing has. A list has at most 255 things, so nothing stands there.
 pub(crate) const NOWHERE: u8 = 255;
 
-/// The cells of a font, with tables by which an octet finds its cell at once.
+/// The cells of a font, with tables by which an octet finds its cell at once. A number above 255 stands in no table.
 #[derive(Drop)]
 pub(crate) struct Glyphs {
     glyphs: Vec<Glyph>,
@@ -41,9 +43,11 @@ impl Glyphs {
         let mut places = [NOWHERE; 256];
         let mut widths = [0; 256];
         for (place, glyph) in glyphs.iter().enumerate() {
-            let octet = usize::from(glyph.number());
-            places[octet] = place as u8;
-            widths[octet] = glyph.width();
+            let number = usize::from(glyph.number());
+            if number < 256 {
+                places[number] = place as u8;
+                widths[number] = glyph.width();
+            }
         }
         Glyphs {
             glyphs,
@@ -52,15 +56,39 @@ impl Glyphs {
         }
     }
 
-    /// The cell of a number.
-    pub(crate) fn find(&self, number: u16) -> Option<&Glyph>
-        ensures { option_copied result ≡ find (λ cell. cell.number == number) self.now }
+    /// The cell of an octet.
+    pub(crate) fn find(&self, octet: u8) -> Option<&Glyph>
+        ensures { option_copied result ≡ find (λ cell. cell.number == octet) self.now }
     {
-        match self.places.get(usize::from(number)) {
-            Some(place) => self.glyphs.get(usize::from(*place)),
-            // no cell has a number above 255
-            None => None,
+        let place = self.places[usize::from(octet)];
+        self.glyphs.get(usize::from(place))
+    }
+
+    /// The cell of any number, by halves. Each cell that is compared with it takes one step.
+    pub(crate) fn search(&self, source: &mut Source<'_>, number: u16) -> Option<&Glyph>
+        ensures cell { option_copied result ≡ find (λ cell. cell.number == number) self.now }
+        ensures steps { RisesBetween source.old source.new (min 1 (length self.now)) 8 }
+    {
+        let mut low = 0;
+        let mut high = self.glyphs.len();
+        for _probe in 0..8u8 {
+            if low >= high {
+                return None;
+            }
+            source.charge(1);
+            let middle = low + (high - low) / 2;
+            let glyph = &self.glyphs[middle];
+            let here = glyph.number();
+            if here == number {
+                return Some(glyph);
+            }
+            if here < number {
+                low = middle + 1;
+            } else {
+                high = middle;
+            }
         }
+        None
     }
 
     /// The width of an octet's cell, or 0 for an octet without a cell.

@@ -4,7 +4,7 @@
 //! [`Sign::new`] refuses them with the first [`SignFault`]. An accepted [`Sign`] is exactly what was written.
 //!
 //! Only [`Sign::font`], [`Sign::cell`], [`Sign::cell_width`] and [`Sign::text_width`] look up its fonts and their cells, and
-//! each look counts as one step.
+//! each look counts as one step. A cell whose number is above 255 is found by at most 8 looks.
 #![tactic(auto)]
 
 mod bits;

@@ -90,7 +90,7 @@ fn is_cell(height: u8, cell: &CellPart) -> bool
     ensures { result ≡ is_cell height (cell_of cell.now) }
 {
     let pixels = height as usize * cell.width as usize;
-    (1..=255).contains(&cell.number)
+    (1..=65535).contains(&cell.number)
         && (1..=64).contains(&cell.width)
         && cell.bits.len() == (pixels + 7) / 8
         && is_clear_behind(&cell.bits, pixels)

@@ -42,7 +42,7 @@ pub struct FontPart {
 /// A character's cell as it was written (NTCIP 1203 v03, object characterTable).
 #[derive(Debug, Drop)]
 pub struct CellPart {
-    /// The character: 1 to 255.
+    /// The character: 1 to 65,535.
     pub number: u16,
     /// Columns, in pixels: 1 to 64.
     pub width: u8,

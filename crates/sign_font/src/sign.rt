@@ -1,8 +1,8 @@
 //! A sign, which is made once and never changes.
 
-ghost use Rattle.std.specs.Prelude.{◌≡◌, ℕ, ◌+◌, ◌≤◌, All, Any, length, IfOk, IfErr, IfSome, IfNone, OnOk, None, map, option_map};
+ghost use Rattle.std.specs.Prelude.{◌≡◌, ℕ, ◌+◌, ◌<◌, ◌≤◌, All, Any, length, IfOk, IfErr, IfSome, IfNone, OnOk, None, map, option_map};
 ghost use Rattle.std.specs.Option.{option_copied};
-ghost use Rattle.multi_token.specs.Counted.{charged};
+ghost use Rattle.multi_token.specs.Counted.{charged, RisesBetween};
 ghost use Rattle.sign_font.specs.Sign.{sign_of, font_of, font_numbered, info_of, cell_in, tallest};
 ghost use Rattle.sign_font.specs.Defaults.{default_fault, under};
 ghost use Rattle.sign_font.specs.Limits.{first_fault};
@@ -22,8 +22,8 @@ use std::marker::Model;
 
 /// A sign within its limits, with its fonts (own).
 ///
-/// Only `font`, `cell`, `cell_width` and `text_width` look up its fonts and their cells, and each look counts as one step. All
-/// other calls take no step.
+/// Only `font`, `cell`, `cell_width` and `text_width` look up its fonts and their cells, and each look counts as one step.
+/// `cell` takes up to 8 looks for a number above 255. All other calls take no step.
 #[derive(Drop)]
 pub struct Sign {
     width: u16,
@@ -202,14 +202,23 @@ impl Sign {
         self.probe(source, number).map(|font| font.info())
     }
 
-    /// The cell of a number in the font of a number, or `None` if the sign lacks either. Either way this takes one step.
+    /// The cell of a number in the font of a number, or `None` if the sign lacks either.
+    ///
+    /// A number up to 255 takes one step, found or not. A wider number takes one step for each of the font's cells that is
+    /// compared with it: at most 8, and at least one if the font has a cell, found or not.
     pub fn cell(&self, source: &mut Source<'_>, font: u8, number: u16) -> Option<Cell<'_>>
         ensures cell { result ≡ cell_in self.now font number }
         ensures size { IfSome result IsSoundSize }
-        ensures step { source.new ≡ charged source.old 1 }
+        ensures step { number ≤ 255 → source.new ≡ charged source.old 1 }
+        ensures steps { RisesBetween source.old source.new 0 8 }
+        ensures probed { IfSome (font_numbered self.now font) (λ f. 0 < length f.cells → RisesBetween source.old source.new 1 8) }
         ensures sound { IsSound self.now }
     {
-        self.probe(source, font)?.cell(number)
+        if number < 256 {
+            self.probe(source, font)?.cell(number as u8)
+        } else {
+            self.find_font(font)?.search(source, number)
+        }
     }
 
     /// The width in pixels of the cell of an octet in the font of a number: 1 to 64, or `None` if the sign lacks either. Either

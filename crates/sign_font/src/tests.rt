@@ -91,6 +91,43 @@ fn with_widths(alloc: Global) -> Result<SignParts, AllocError> {
     Ok(parts)
 }
 
+/// The same with the numbers 257, 514 and so on up to 65,535 in place of 1, 2 and so on up to 255.
+fn with_wide_numbers(alloc: Global) -> Result<SignParts, AllocError> {
+    let mut parts = with_widths(alloc)?;
+    if let Some(font) = parts.fonts.get_mut(1) {
+        for cell in font.cells.iter_mut() {
+            cell.number = cell.number.wrapping_mul(257);
+        }
+    }
+    Ok(parts)
+}
+
+/// The sample with cells of one row in its second font, of these numbers and up to 8 columns, the first of them lit.
+fn with_numbers(alloc: Global, cells: &[(u16, u8)]) -> Result<SignParts, AllocError> {
+    let mut parts = sample_sign(alloc)?;
+    if let Some(font) = parts.fonts.get_mut(1) {
+        font.height = 1;
+        font.cells.clear();
+        for &(number, width) in cells {
+            font.cells.push(CellPart {
+                number,
+                width,
+                bits: [0x80].to_vec(alloc)?,
+            })?;
+        }
+    }
+    Ok(parts)
+}
+
+/// The width of the cell of a number in the font of a number, and the steps that this takes.
+fn look(sign: &Sign, font: u8, number: u16) -> (Option<u8>, u64) {
+    let mut source = Source::new(b"");
+    let width = sign
+        .cell(&mut source, font, number)
+        .map(|cell| cell.width());
+    (width, source.steps())
+}
+
 #[test]
 fn the_sample_says_what_was_written(rt: HostRuntime) -> Result<(), Fail> {
     let sign = Sign::new(rt.alloc(), sample_sign(rt.alloc())?)?;
@@ -234,17 +271,99 @@ fn each_octet_finds_its_own_cell_and_width_in_one_step(rt: HostRuntime) -> Resul
         );
     }
     assert_eq!(rt; source.steps(), 5 * 256);
-    for number in [256, 257, 321, 65535] {
-        assert!(rt;
-            sign.cell(&mut source, 2, number).is_none(),
-            "cell {number}"
-        );
-    }
     assert_eq!(rt;
         sign.cell_width(&mut source, 1, 65),
         Some(3),
         "of the first font"
     );
+    Ok(())
+}
+
+#[test]
+fn each_wide_number_finds_its_own_cell_in_at_most_eight_steps(rt: HostRuntime) -> Result<(), Fail> {
+    let sign = Sign::new(rt.alloc(), with_wide_numbers(rt.alloc())?)?;
+    let mut together = 0;
+    for place in 1..=255u8 {
+        let (width, steps) = look(&sign, 2, u16::from(place).wrapping_mul(257));
+        assert_eq!(rt; width, Some(place % 64 + 1), "the cell at place {place}");
+        assert!(rt; (1..=8).contains(&steps), "{steps} steps at place {place}");
+        together = steps.wrapping_add(together);
+    }
+    // halves of 255 cells: one is found at the first look, two at the second, and so on up to 128 at the eighth
+    assert_eq!(rt; together, 1793);
+    // the cell in the middle, those in the middle of its halves, and the first and the last cell
+    for (number, steps) in [(32896, 1), (16448, 2), (49344, 2), (257, 8), (65535, 8)] {
+        let (_, taken) = look(&sign, 2, number);
+        assert_eq!(rt; taken, steps, "cell {number}");
+    }
+    for number in [256, 258, 513, 32895, 32897, 65279, 65534] {
+        assert_eq!(rt; look(&sign, 2, number), (None, 8), "no cell {number}");
+    }
+    Ok(())
+}
+
+#[test]
+fn an_octet_never_finds_a_cell_of_a_wide_number(rt: HostRuntime) -> Result<(), Fail> {
+    let sign = Sign::new(rt.alloc(), with_wide_numbers(rt.alloc())?)?;
+    for octet in 0..=255u8 {
+        let mut source = Source::new(b"");
+        assert_eq!(rt;
+            sign.cell_width(&mut source, 2, octet),
+            None,
+            "octet {octet}"
+        );
+        assert_eq!(rt; look(&sign, 2, u16::from(octet)), (None, 1), "cell {octet}");
+        let width = sign.text_width(&mut source, 2, &[octet], 0, 99);
+        assert_eq!(rt; width, Err(TextFault::Undefined(0)), "a text of {octet}");
+        assert_eq!(rt; source.steps(), 2, "octet {octet}");
+    }
+    Ok(())
+}
+
+#[test]
+fn octets_and_wide_numbers_stand_in_one_font(rt: HostRuntime) -> Result<(), Fail> {
+    let cells = [(65, 3), (255, 2), (256, 4), (321, 5), (65535, 1)];
+    let sign = Sign::new(rt.alloc(), with_numbers(rt.alloc(), &cells)?)?;
+    let mut source = Source::new(b"");
+    // of five cells the third is looked at first, and then the fifth; 321 and 577 are 65 and a multiple of 256
+    for (number, width, steps) in [
+        (65, Some(3), 1),
+        (255, Some(2), 1),
+        (256, Some(4), 1),
+        (321, Some(5), 3),
+        (65535, Some(1), 2),
+        (0, None, 1),
+        (66, None, 1),
+        (257, None, 3),
+        (577, None, 3),
+        (65534, None, 3),
+    ] {
+        assert_eq!(rt; look(&sign, 2, number), (width, steps), "cell {number}");
+    }
+    for (octet, width) in [(65, Some(3)), (255, Some(2)), (0, None), (1, None)] {
+        assert_eq!(rt;
+            sign.cell_width(&mut source, 2, octet),
+            width,
+            "octet {octet}"
+        );
+    }
+    let lit = sign.cell(&mut source, 2, 65535).ok_or("no cell 65,535")?;
+    assert_eq!(rt; (lit.width(), lit.row(0)), (1, 1 << 63));
+    Ok(())
+}
+
+#[test]
+fn a_wide_number_that_is_nowhere_is_not_found(rt: HostRuntime) -> Result<(), Fail> {
+    let sign = Sign::new(rt.alloc(), with_widths(rt.alloc())?)?;
+    // font 2 has the cells 1 to 255, font 3 has none, and there is no font 9
+    for number in [256, 257, 321, 65534, 65535] {
+        assert_eq!(rt; look(&sign, 2, number), (None, 8), "255 octets, {number}");
+        assert_eq!(rt; look(&sign, 3, number), (None, 0), "no cells, {number}");
+        assert_eq!(rt; look(&sign, 9, number), (None, 0), "no font, {number}");
+    }
+    let sign = Sign::new(rt.alloc(), with_numbers(rt.alloc(), &[(65535, 1)])?)?;
+    assert_eq!(rt; look(&sign, 2, 65535), (Some(1), 1));
+    assert_eq!(rt; look(&sign, 2, 65534), (None, 1));
     Ok(())
 }
 
@@ -326,9 +445,23 @@ fn cells_have_limits(rt: HostRuntime) -> Result<(), Fail> {
         let parts = with_bits(rt.alloc(), bits)?;
         assert_eq!(rt; code(rt.alloc(), parts), fault, "{bits:?}");
     }
-    for (number, fault) in [(1, 0), (255, 0), (0, 3), (256, 3)] {
+    for (number, fault) in [(1, 0), (255, 0), (256, 0), (65535, 0), (0, 3)] {
         let parts = with_number(rt.alloc(), number)?;
         assert_eq!(rt; code(rt.alloc(), parts), fault, "a cell of number {number}");
+    }
+    for (first, second, fault) in [
+        (255, 256, 0),
+        (256, 65535, 0),
+        (256, 256, 3),
+        (321, 65, 3),
+        (65535, 65534, 3),
+    ] {
+        let parts = with_numbers(rt.alloc(), &[(first, 1), (second, 1)])?;
+        assert_eq!(rt;
+            code(rt.alloc(), parts),
+            fault,
+            "cells {first} and {second}"
+        );
     }
     for (last, fault) in [(255, 0), (256, 3)] {
         let parts = with_cells(rt.alloc(), last)?;
