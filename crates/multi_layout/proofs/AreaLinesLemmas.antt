@@ -7,7 +7,7 @@ use Rattle.std.proofs.lemmas.List.Elements.{All-nil, All-push}
 use Rattle.multi_token.specs.Counted.{Counted, RisesBetween}
 use Rattle.multi_token.specs.Spelling.{Item, spelling, spell}
 use Rattle.multi_token.proofs.ReadingLemmas.{spelling_some}
-use Rattle.multi_token.proofs.StepLemmas.{rises_then}
+use Rattle.multi_token.proofs.StepLemmas.{rises_more, rises_then}
 use Rattle.sign_font.specs.Sign.{SignData}
 use Rattle.sign_font.specs.Sound.{IsSound}
 use Rattle.multi_layout.specs.declared.area.Group.{Group}
@@ -107,11 +107,11 @@ module _ {sign : SignData} {octets : List ℕ} {before rest : List Item} {item :
 
 -- the steps of one more item
 pub steps_on : (at : ℕ) (source a b d : Counted) (from to len : ℕ) → from ≤ at → to ≡ at + len → at < to
-    → RisesBetween source a 0 (2 * (at - from)) → RisesBetween a b 0 (2 * len - 1) → RisesBetween b d 0 1 → RisesBetween source d 0 (2 * (to - from))
+    → RisesBetween source a 0 (9 * (at - from)) → RisesBetween a b 0 (2 * len - 1) → RisesBetween b d 0 8 → RisesBetween source d 0 (9 * (to - from))
 steps_on at source a b d from to len low on more earlier item passing =
-    let all : 2 * (at - from) + (2 * len - 1) + 1 ≡ 2 * (to - from) = omega arith in
-    subst (RisesBetween source d 0) all
-    (rises_then source b d 0 (2 * (at - from) + (2 * len - 1)) 0 1 (rises_then source a b 0 (2 * (at - from)) 0 (2 * len - 1) earlier item) passing)
+    let all : 9 * (at - from) + (2 * len - 1) + 8 ≤ 9 * (to - from) = omega arith in
+    rises_more source d 0 _ _ all
+    (rises_then source b d 0 (9 * (at - from) + (2 * len - 1)) 0 8 (rises_then source a b 0 (9 * (at - from)) 0 (2 * len - 1) earlier item) passing)
 
 -- THE READING OF AN AREA
 
@@ -216,7 +216,7 @@ module _ {sign : SignData} {octets : List ℕ} {before behind : List Item} {curs
   -- the end of the area
   pub area_read : (start : Cursor) (read : AreaLines) (source source' source'' : Counted) → start.at ≡ length (spell before) → EndsArea (map meaning so.left)
       → HasCounted (present_area sign (map meaning (before ++ so.items))) read.lines → IsOrdered read.lines → IsLow read.lines → read.end ≡ cursor.at
-      → RisesBetween source source' 0 (2 * (cursor.at - start.at)) → RisesBetween source' source'' 0 (first_steps so.left)
+      → RisesBetween source source' 0 (9 * (cursor.at - start.at)) → RisesBetween source' source'' 0 (first_steps so.left)
       → IsAreaRead sign before behind start read source source''
   area_read start read source source' source'' place ends counted ordered low end earlier last =
       let ms = map meaning (before ++ so.items) in
@@ -228,7 +228,7 @@ module _ {sign : SignData} {octets : List ℕ} {before behind : List Item} {curs
       ap (λ k. in_area k (spots sign (map meaning (before ++ behind)))) (sym so.same_area)
       ∙ ap (λ l. in_area (standing sign ms).area (spots sign l)) all
       ∙ area_ends sign ms (map meaning so.left) ends in
-      let steps : 2 * (cursor.at - start.at) ≡ 2 * length (spell so.items) = omega (arith, long) in
+      let steps : 9 * (cursor.at - start.at) ≡ 9 * length (spell so.items) = omega (arith, long) in
       record {
         area = so.items;
         rest = so.left;
@@ -239,5 +239,5 @@ module _ {sign : SignData} {octets : List ℕ} {before behind : List Item} {curs
         table = subst (λ a. HasCounted a read.lines) (sym whole) counted;
         ordered = ordered;
         low = low;
-        steps = rises_then source source' source'' 0 (2 * length (spell so.items)) 0 (first_steps so.left) (subst (RisesBetween source source' 0) steps earlier) last;
+        steps = rises_then source source' source'' 0 (9 * length (spell so.items)) 0 (first_steps so.left) (subst (RisesBetween source source' 0) steps earlier) last;
       }

@@ -13,7 +13,7 @@ use Rattle.multi_tag.specs.TagOf.{tag_of}
 use Rattle.multi_tag.specs.declared.name.Name.{Name}
 use Rattle.multi_tag.specs.declared.name.Name.TheVariants as names
 use Rattle.multi_tag.specs.declared.tag.Tag.{Tag}
-use Rattle.multi_tag.specs.declared.tag.Tag.TheVariants.{NewPage, NewLine, LineJust, PageJust, Font, CharSpacing, CharSpacingEnd, PageTime, Flash, FlashEnd, Fore, Back, Rect}
+use Rattle.multi_tag.specs.declared.tag.Tag.TheVariants.{NewPage, NewLine, LineJust, PageJust, Font, CharSpacing, CharSpacingEnd, PageTime, Flash, FlashEnd, Fore, Back, Rect, HexChar}
 use Rattle.multi_tag.specs.declared.tag.TagFault.{TagFault}
 use Rattle.multi_tag.specs.declared.tag.TagFault.TheVariants.{Unsupported, Value}
 use Rattle.multi_tag.proofs.TagOfLemmas.{tag_of_is_the_table}
@@ -37,6 +37,7 @@ use Rattle.multi_layout.specs.Sums.{IsBelow}
 use Rattle.multi_layout.specs.Walk.{IsBetween}
 use Rattle.multi_layout.proofs.DrawnLemmas.{covered_cover, covered_same}
 use Rattle.multi_layout.proofs.JudgedLemmas.{below_more}
+use Rattle.multi_layout.proofs.MeaningLemmas.{does_tag}
 use Rattle.multi_layout.proofs.PaintLemmas.{glyph_found}
 use Rattle.multi_layout.proofs.SpotsLemmas.{same_page_behind}
 use Rattle.multi_layout.proofs.WalkLemmas.{few_between}
@@ -55,6 +56,7 @@ long_name names.CharSpacingEnd = omega arith
 long_name names.PageTime = omega arith
 long_name names.Flash = omega arith
 long_name names.FlashEnd = omega arith
+long_name names.HexChar = omega arith
 long_name names.Fore = omega arith
 long_name names.Back = omega arith
 long_name names.Rect = omega arith
@@ -68,7 +70,7 @@ long_body body tag (name, rest, is, form) =
 
 tag_spelled : (body : List ℕ) (r : Result Tag TagFault) (tag : Tag) → tag_of body ≡ r → meaning_of_tag r ≡ Does tag → Spells body tag
 tag_spelled body (Ok t) tag is e =
-    let same : t ≡ tag = cc in
+    let same = does_tag t tag e in
     ((tag_of_is_the_table body).0 tag).1 (is ∙ ap Ok same)
 tag_spelled body (Err Unsupported) tag is e = cc
 tag_spelled body (Err Value) tag is e = cc
@@ -137,6 +139,7 @@ quiet_put defaults at CharSpacingEnd quiet plain = inl refl
 quiet_put defaults at (PageTime on off) quiet plain = inl refl
 quiet_put defaults at (Flash off_first on off) quiet plain = inl refl
 quiet_put defaults at FlashEnd quiet plain = inl refl
+quiet_put defaults at (HexChar number) quiet plain = inl refl
 quiet_put defaults at (Fore colour) quiet plain = inl refl
 
 pub no_page : (tag : Tag) → begins_area (Does tag) ≡ false → is_new_page (Does tag) ≡ false
@@ -150,6 +153,7 @@ no_page CharSpacingEnd plain = refl
 no_page (PageTime on off) plain = refl
 no_page (Flash off_first on off) plain = refl
 no_page FlashEnd plain = refl
+no_page (HexChar number) plain = refl
 no_page (Fore colour) plain = refl
 no_page (Back given) plain = refl
 no_page (Rect x y w h) plain = refl
@@ -166,6 +170,7 @@ back_or_quiet CharSpacingEnd = inr tt
 back_or_quiet (PageTime on off) = inr tt
 back_or_quiet (Flash off_first on off) = inr tt
 back_or_quiet FlashEnd = inr tt
+back_or_quiet (HexChar number) = inr tt
 back_or_quiet (Fore colour) = inr tt
 back_or_quiet (Rect x y w h) = inr tt
 

@@ -8,7 +8,7 @@ use Rattle.std.proofs.lemmas.Bool.{cases_Bool, false≢true}
 use Rattle.std.proofs.lemmas.Bool.Decides.{nat_tests}
 use Rattle.std.proofs.lemmas.List.{map-append}
 use Rattle.std.proofs.lemmas.List.Elements.{All-nil, All-cons, All-head, All-tail, All-append, All-filter, All-weaker}
-use Rattle.multi_tag.specs.declared.tag.Tag.TheVariants.{NewPage, NewLine, LineJust, PageJust, Font, CharSpacing, CharSpacingEnd, PageTime, Flash, FlashEnd, Fore, Back, Rect}
+use Rattle.multi_tag.specs.declared.tag.Tag.TheVariants.{NewPage, NewLine, LineJust, PageJust, Font, CharSpacing, CharSpacingEnd, PageTime, Flash, FlashEnd, Fore, Back, Rect, HexChar}
 use Rattle.multi_token.specs.Spelling.{Item, spell}
 use Rattle.sign_font.specs.declared.parts.Defaults.{Defaults}
 use Rattle.sign_font.specs.Sign.{SignData, CellData, FontData, font_numbered, cell_numbered}
@@ -115,6 +115,7 @@ module _ (sign : SignData) where
   given_in_sign before (Does (PageTime on off)) none = tt
   given_in_sign before (Does (Flash off_first on off)) none = tt
   given_in_sign before (Does FlashEnd) none = tt
+  given_in_sign before (Does (HexChar number)) none = tt
   given_in_sign before (Does (Fore colour)) none = tt
   given_in_sign before (Does (Back colour)) none = tt
   given_in_sign before (Shows number) none = tt
@@ -189,6 +190,7 @@ high_put defaults here (Does CharSpacingEnd) high = tt
 high_put defaults here (Does (PageTime on off)) high = tt
 high_put defaults here (Does (Flash off_first on off)) high = tt
 high_put defaults here (Does FlashEnd) high = tt
+high_put defaults here (Does (HexChar number)) high = tt
 high_put defaults here (Does (Fore colour)) high = tt
 high_put defaults here (Does (Rect x y w h)) high = tt
 high_put defaults here (Faulty code) high = tt
@@ -221,6 +223,7 @@ module _ (sign : SignData) (sound : IsSound sign) (some : IsSome (font_numbered 
   given_high (Does (PageTime on off)) = tt
   given_high (Does (Flash off_first on off)) = tt
   given_high (Does FlashEnd) = tt
+  given_high (Does (HexChar number)) = tt
   given_high (Does (Fore colour)) = tt
   given_high (Does (Back colour)) = tt
   given_high (Shows number) = tt

@@ -2,7 +2,7 @@
 use Rattle.std.proofs.Common.{◌≡◌, ℕ, ◌<◌, ◌≤◌, true, false, cond, length, List, [], ◌∷◌, ◌++◌, Option, Some, None, refl, sym, ap, subst, ◌∙◌, arith}
 use Rattle.std.specs.Option.{option_map, unwrap_or}
 use Rattle.std.proofs.lemmas.Bool.{false≢true}
-use Rattle.multi_tag.specs.declared.tag.Tag.TheVariants.{NewPage, NewLine, LineJust, PageJust, Font, CharSpacing, CharSpacingEnd, PageTime, Flash, FlashEnd, Fore, Back, Rect}
+use Rattle.multi_tag.specs.declared.tag.Tag.TheVariants.{NewPage, NewLine, LineJust, PageJust, Font, CharSpacing, CharSpacingEnd, PageTime, Flash, FlashEnd, Fore, Back, Rect, HexChar}
 use Rattle.sign_font.specs.Sign.{SignData, CellData, cell_numbered}
 use Rattle.multi_layout.specs.declared.area.Area.{Area}
 use Rattle.multi_layout.specs.declared.attributes.Attributes.{Attributes}
@@ -37,6 +37,7 @@ line_end (Does CharSpacingEnd) e = absurd (false≢true e)
 line_end (Does (PageTime on off)) e = absurd (false≢true e)
 line_end (Does (Flash off_first on off)) e = absurd (false≢true e)
 line_end (Does FlashEnd) e = absurd (false≢true e)
+line_end (Does (HexChar number)) e = absurd (false≢true e)
 line_end (Does (Fore colour)) e = absurd (false≢true e)
 line_end (Does (Back colour)) e = absurd (false≢true e)
 line_end (Does (Rect x y w h)) e = absurd (false≢true e)
@@ -75,6 +76,7 @@ module _ (sign : SignData) (items : List Meaning) (state : State) (st : IsStateO
   order (Does (PageTime on off)) fine p = absurd (false≢true p)
   order (Does (Flash off_first on off)) fine p = absurd (false≢true p)
   order (Does FlashEnd) fine p = absurd (false≢true p)
+  order (Does (HexChar number)) fine p = absurd (false≢true p)
   order (Does (Fore colour)) fine p = absurd (false≢true p)
   order (Does (Back colour)) fine p = absurd (false≢true p)
   order (Does (Rect x y w h)) fine p = absurd (false≢true p)
@@ -118,6 +120,7 @@ module _ (sign : SignData) (items : List Meaning) (state : State) (st : IsStateO
   known_same (Does (PageTime on off)) fine after st' stays open' table has = known_stays (Does (PageTime on off)) after st' refl (present_area-nothing sign items (Does (PageTime on off)) refl refl) table has
   known_same (Does (Flash off_first on off)) fine after st' stays open' table has = known_stays (Does (Flash off_first on off)) after st' refl (present_area-nothing sign items (Does (Flash off_first on off)) refl refl) table has
   known_same (Does FlashEnd) fine after st' stays open' table has = known_stays (Does FlashEnd) after st' refl (present_area-nothing sign items (Does FlashEnd) refl refl) table has
+  known_same (Does (HexChar number)) fine after st' stays open' table has = known_stays (Does (HexChar number)) after st' refl (present_area-nothing sign items (Does (HexChar number)) refl refl) table has
   known_same (Does (Fore colour)) fine after st' stays open' table has = known_stays (Does (Fore colour)) after st' refl (present_area-nothing sign items (Does (Fore colour)) refl refl) table has
 
   -- an item that ends a line of the group in force

@@ -1,16 +1,17 @@
 -- What a token's item means, from what its tag was read as.
-use Rattle.std.proofs.Common.{◌≡◌, ℕ, List, Some, None, Result, refl, ap, ◌∙◌}
+use Rattle.std.proofs.Common.{◌≡◌, ℕ, List, Some, None, Result, Ok, Err, refl, ap, ◌∙◌}
+use Rattle.std.specs.Prelude.{IfOk}
 use Rattle.multi_token.specs.declared.token.Token.{Token}
 use Rattle.multi_token.specs.declared.token.Kind.TheVariants as kinds
 use Rattle.multi_token.specs.Spelling as items
 use Rattle.multi_token.specs.Tokens.{body_of, item_of}
 use Rattle.multi_tag.specs.Body.{Spells}
 use Rattle.multi_tag.specs.declared.tag.Tag.{Tag}
-use Rattle.multi_tag.specs.declared.tag.Tag.TheVariants.{NewPage, NewLine, LineJust, PageJust, Font, CharSpacing, CharSpacingEnd, PageTime, Flash, FlashEnd, Fore, Back, Rect}
+use Rattle.multi_tag.specs.declared.tag.Tag.TheVariants.{NewPage, NewLine, LineJust, PageJust, Font, CharSpacing, CharSpacingEnd, PageTime, Flash, FlashEnd, Fore, Back, Rect, HexChar}
 use Rattle.multi_tag.specs.declared.tag.TagFault.{TagFault}
 use Rattle.multi_tag.specs.TagOf.{tag_of}
 use Rattle.multi_tag.proofs.TagOfLemmas.{line_just_known, page_just_known}
-use Rattle.multi_layout.specs.Meaning.{meaning, meaning_of_tag}
+use Rattle.multi_layout.specs.Meaning.{Does, meaning, meaning_of_tag, said_by}
 use Rattle.multi_layout.specs.State.{IsKnown}
 
 -- a tag that is read gives a known justification
@@ -27,9 +28,32 @@ known_of body CharSpacingEnd s = tt
 known_of body (PageTime on off) s = tt
 known_of body (Flash off_first on off) s = tt
 known_of body FlashEnd s = tt
+known_of body (HexChar number) s = tt
 known_of body (Fore colour) s = tt
 known_of body (Back colour) s = tt
 known_of body (Rect x y w h) s = tt
+
+-- and so does what was read
+pub known_read : (body : List ℕ) (result : Result Tag TagFault) → IfOk result (Spells body) → IfOk result IsKnown
+known_read body (Ok tag) s = known_of body tag s
+known_read body (Err fault) s = tt
+
+-- a tag that says that some tag is done is that tag
+pub does_tag : (said tag : Tag) → said_by said ≡ Does tag → said ≡ tag
+does_tag NewPage tag e = cc
+does_tag (NewLine gap) tag e = cc
+does_tag (LineJust just) tag e = cc
+does_tag (PageJust just) tag e = cc
+does_tag (Font pick) tag e = cc
+does_tag (CharSpacing pixels) tag e = cc
+does_tag CharSpacingEnd tag e = cc
+does_tag (PageTime on off) tag e = cc
+does_tag (Flash off_first on off) tag e = cc
+does_tag FlashEnd tag e = cc
+does_tag (Fore colour) tag e = cc
+does_tag (Back colour) tag e = cc
+does_tag (Rect x y w h) tag e = cc
+does_tag (HexChar number) tag e = cc
 
 -- the item of a tag means what its body is read as
 pub meaning-tag : (octets : List ℕ) (token : Token) (result : Result Tag TagFault) → token.kind ≡ kinds.Tag → tag_of (body_of octets token) ≡ result → meaning (item_of octets token) ≡ meaning_of_tag result

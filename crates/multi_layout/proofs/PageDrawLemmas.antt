@@ -8,7 +8,7 @@ use Rattle.multi_token.specs.Counted.{Counted, RisesBetween}
 use Rattle.multi_token.specs.Spelling.{Item, IsReading, spelling, spell}
 use Rattle.multi_token.proofs.ReadingLemmas.{none_found, spelling_some}
 use Rattle.multi_token.proofs.SpellingLemmas.{one_reading}
-use Rattle.multi_token.proofs.StepLemmas.{rises_then}
+use Rattle.multi_token.proofs.StepLemmas.{rises_more, rises_then}
 use Rattle.multi_tag.specs.declared.tag.Tag.TheVariants.{NewPage, Rect}
 use Rattle.page_plane.specs.Plane.{BitPlane, is_lit}
 use Rattle.sign_font.specs.declared.parts.Defaults.{Defaults}
@@ -238,7 +238,7 @@ pub record Round (sign : SignData) (octets : List ℕ) (before behind : List Ite
   pub ends : EndsArea (map meaning so.left)
   pub at : new.at ≡ end
   pub on : old.at ≤ end
-  pub steps : RisesBetween source source' 0 (2 * (end - old.at) + first_steps so.left)
+  pub steps : RisesBetween source source' 0 (9 * (end - old.at) + first_steps so.left)
 
 pub round : (sign : SignData) (octets : List ℕ) (before behind : List Item) (layer : Layer) (cursor : Cursor) (plane : BitPlane) (s : PageSoFar sign octets before behind layer cursor plane)
     → (read : AreaLines) (source source' : Counted) → IsAreaRead sign (before ++ s.so.done) s.so.left cursor read source source' → (new : Cursor) (plane' : BitPlane)
@@ -258,40 +258,37 @@ round sign octets before behind layer cursor plane s read source source' a new p
       ends = subst (λ l. EndsArea (map meaning l)) (sym left) a.ends;
       at = omega (arith, between.place, b.place, a.end, ap length (spell-append (before ++ s.so.done) a.area), length-append (spell (before ++ s.so.done)) (spell a.area));
       on = omega (arith, a.end);
-      steps = subst (λ n. RisesBetween source source' 0 (2 * n + first_steps d.left)) long (subst (λ l. RisesBetween source source' 0 (2 * length (spell a.area) + first_steps l)) (sym left) a.steps);
+      steps = subst (λ n. RisesBetween source source' 0 (9 * n + first_steps d.left)) long (subst (λ l. RisesBetween source source' 0 (9 * length (spell a.area) + first_steps l)) (sym left) a.steps);
     }
 
 -- STEPS
-
-pub rises_more : (a b : Counted) (low high high' : ℕ) → high ≤ high' → RisesBetween a b low high → RisesBetween a b low high'
-rises_more a b low high high' more (k, l, h, is) = (k, l, omega (arith, h, more), is)
 
 -- a bound that holds only where two numbers are one
 pub if_same : (a b k : ℕ) → a ≡ b → cond (a == b) k 0 ≡ k
 if_same a b k is = ap (λ t. cond t k 0) (eq-eqb a b is)
 
-pub rises_far : (a b : Counted) (m n k : ℕ) → m ≡ n → RisesBetween a b 0 (4 * m) → RisesBetween a b 0 (4 * n + k)
-rises_far a b m n k is r = rises_more a b 0 (4 * m) (4 * n + k) (omega (arith, is)) r
+pub rises_far : (a b : Counted) (m n k : ℕ) → m ≡ n → RisesBetween a b 0 (18 * m) → RisesBetween a b 0 (18 * n + k)
+rises_far a b m n k is r = rises_more a b 0 (18 * m) (18 * n + k) (omega (arith, is)) r
 
 pub no_less : (x y k : ℕ) → x ≤ y → x ≤ y + k
 no_less x y k within = omega (arith, within)
 
 -- the steps over the string to its end
-pub string_end : (a b c d e : Counted) (start at end : ℕ) (left : List Item) → start ≤ at → at ≤ end → left ≡ [] → RisesBetween a b 0 (4 * (at - start)) → RisesBetween b c 0 (2 * (end - at) + first_steps left) → RisesBetween c d 0 (2 * (end - at)) → RisesBetween d e 0 1
-    → RisesBetween a e 0 (4 * (end - start) + 2)
+pub string_end : (a b c d e : Counted) (start at end : ℕ) (left : List Item) → start ≤ at → at ≤ end → left ≡ [] → RisesBetween a b 0 (18 * (at - start)) → RisesBetween b c 0 (9 * (end - at) + first_steps left) → RisesBetween c d 0 (9 * (end - at)) → RisesBetween d e 0 1
+    → RisesBetween a e 0 (18 * (end - start) + 2)
 string_end a b c d e start at end left on more none w x y z =
     let one : first_steps left ≡ 1 = ap first_steps none in
-    let all = rises_then a d e 0 _ 0 1 (rises_then a c d 0 _ 0 (2 * (end - at)) (rises_then a b c 0 (4 * (at - start)) 0 (2 * (end - at) + first_steps left) w x) y) z in
-    rises_more a e 0 _ (4 * (end - start) + 2) (omega (arith, one, on, more)) all
+    let all = rises_then a d e 0 _ 0 1 (rises_then a c d 0 _ 0 (9 * (end - at)) (rises_then a b c 0 (18 * (at - start)) 0 (9 * (end - at) + first_steps left) w x) y) z in
+    rises_more a e 0 _ (18 * (end - start) + 2) (omega (arith, one, on, more)) all
 
 -- the steps over the string behind one more item
 pub string_more : (a b c d e f : Counted) (start at end len : ℕ) (item : Item) (rest left : List Item) → start ≤ at → at ≤ end → left ≡ item ∷ rest → len ≡ length (spelling item)
-    → RisesBetween a b 0 (4 * (at - start)) → RisesBetween b c 0 (2 * (end - at) + first_steps left) → RisesBetween c d 0 (2 * (end - at)) → RisesBetween d e 0 (2 * len - 1) → RisesBetween e f 0 1
-    → RisesBetween a f 0 (4 * (end + len - start))
+    → RisesBetween a b 0 (18 * (at - start)) → RisesBetween b c 0 (9 * (end - at) + first_steps left) → RisesBetween c d 0 (9 * (end - at)) → RisesBetween d e 0 (2 * len - 1) → RisesBetween e f 0 8
+    → RisesBetween a f 0 (18 * (end + len - start))
 string_more a b c d e f start at end len item rest left on more some is v w x y z =
     let first : first_steps left ≡ 2 * length (spelling item) - 1 = ap first_steps some in
-    let all = rises_then a e f 0 _ 0 1 (rises_then a d e 0 _ 0 (2 * len - 1) (rises_then a c d 0 _ 0 (2 * (end - at)) (rises_then a b c 0 (4 * (at - start)) 0 (2 * (end - at) + first_steps left) v w) x) y) z in
-    rises_more a f 0 _ (4 * (end + len - start)) (omega (arith, first, on, more, is, spelling_some item)) all
+    let all = rises_then a e f 0 _ 0 8 (rises_then a d e 0 _ 0 (2 * len - 1) (rises_then a c d 0 _ 0 (9 * (end - at)) (rises_then a b c 0 (18 * (at - start)) 0 (9 * (end - at) + first_steps left) v w) x) y) z in
+    rises_more a f 0 _ (18 * (end + len - start)) (omega (arith, first, on, more, is, spelling_some item)) all
 
 -- the steps over the plane of the areas of a page so far, with the fill where it begins
 pub record PageFilled (sign : SignData) (plane plane' : BitPlane) (octets : ℕ) : Type 0 where

@@ -15,7 +15,7 @@ use Rattle.multi_token.specs.Reading.{reading}
 use Rattle.multi_token.specs.Spelling.{Item, IsReading, spell}
 use Rattle.multi_token.proofs.ReadingLemmas.{each_string_has_a_reading, none_found, spelling_some}
 use Rattle.multi_token.proofs.SpellingLemmas.{one_reading}
-use Rattle.multi_token.proofs.StepLemmas.{rises_then}
+use Rattle.multi_token.proofs.StepLemmas.{rises_more, rises_then}
 use Rattle.page_plane.specs.Plane.{BitPlane}
 use Rattle.sign_font.specs.Sign.{FontData, SignData, largest, tallest}
 use Rattle.sign_font.specs.Sound.{IsSound, IsSoundFont}
@@ -123,19 +123,18 @@ module _ (sign : SignData) (octets : List ℕ) (page : ℕ) where
 
 -- ---- one step of the way: an item is read, and the cursor passes it
 
-module _ (sign : SignData) (page : ℕ) (start source read passed : Counted) (old new : Cursor) (next : NextItem) (steps : RisesBetween start source 0 (2 * old.at)) (reads : RisesBetween source read 0 (2 * next.len - 1)) (at : new.at ≡ old.at + next.len) where
+module _ (sign : SignData) (page : ℕ) (start source read passed : Counted) (old new : Cursor) (next : NextItem) (steps : RisesBetween start source 0 (9 * old.at)) (reads : RisesBetween source read 0 (2 * next.len - 1)) (at : new.at ≡ old.at + next.len) where
   source_same : source.octets ≡ start.octets
   source_same = ap (λ (s : Counted). s.octets) steps.3
 
   read_same : read.octets ≡ start.octets
   read_same = ap (λ (s : Counted). s.octets) reads.3 ∙ source_same
 
-  pub steps_further : 1 ≤ next.len → RisesBetween read passed 0 1 → RisesBetween start passed 0 (2 * new.at)
+  pub steps_further : 1 ≤ next.len → RisesBetween read passed 0 8 → RisesBetween start passed 0 (9 * new.at)
   steps_further some judges =
-      let both = rises_then source read passed 0 (2 * next.len - 1) 0 1 reads judges in
-      let all = rises_then start source passed 0 (2 * old.at) 0 (2 * next.len - 1 + 1) steps both in
-      let sum : 2 * old.at + (2 * next.len - 1 + 1) ≡ 2 * new.at = omega (arith, at, some) in
-      subst (RisesBetween start passed 0) sum all
+      let both = rises_then source read passed 0 (2 * next.len - 1) 0 8 reads judges in
+      let all = rises_then start source passed 0 (9 * old.at) 0 (2 * next.len - 1 + 8) steps both in
+      rises_more start passed 0 _ _ (omega (arith, at, some)) all
 
   module _ (w : IsOnTheWay sign start.octets page old) (first : IsFirst w.behind (Some next)) where
     stands : IsBetween sign start.octets w.before (first.0 ∷ first.1) old
@@ -182,22 +181,17 @@ drawing_few sign n sound short =
 
 -- ---- a page that is drawn
 
--- at most so many steps are at most more
-pub rises_fewer : (old new : Counted) (high high' : ℕ) → RisesBetween old new 0 high → high ≤ high' → RisesBetween old new 0 high'
-rises_fewer old new high high' r h = (r.0, r.1, omega (arith, r.2, h), r.3)
-
 -- what a test adds
 at_most : (b : Bool) (n : ℕ) → cond b n 0 ≤ n
 at_most true n = omega arith
 at_most false n = omega arith
 
 -- the steps over the string to a page and to draw it
-pub drawing_reads : (start source new : Counted) (old cursor : Cursor) (n : ℕ) → RisesBetween start source 0 (4 * old.at) → IsReadTwice source new old cursor → old.at ≤ cursor.at → cursor.at ≤ n
+pub drawing_reads : (start source new : Counted) (old cursor : Cursor) (n : ℕ) → RisesBetween start source 0 (18 * old.at) → IsReadTwice source new old cursor → old.at ≤ cursor.at → cursor.at ≤ n
     → RisesBetween start new 0 (reading_limit n)
 drawing_reads start source new old cursor n way twice on few =
-    let all = rises_then start source new 0 (4 * old.at) 0 (4 * (cursor.at - old.at) + cond (cursor.state.pages == old.state.pages) 2 0) way twice in
-    rises_fewer start new (4 * old.at + (4 * (cursor.at - old.at) + cond (cursor.state.pages == old.state.pages) 2 0)) (reading_limit n) all
-    (omega (arith, on, few, at_most (cursor.state.pages == old.state.pages) 2))
+    let all = rises_then start source new 0 (18 * old.at) 0 (18 * (cursor.at - old.at) + cond (cursor.state.pages == old.state.pages) 2 0) way twice in
+    rises_more start new 0 _ (reading_limit n) (omega (arith, on, few, at_most (cursor.state.pages == old.state.pages) 2)) all
 
 -- the steps over the plane to draw a page
 pub drawing_fills : (sign : SignData) (plane plane' : BitPlane) (old cursor : Cursor) (n : ℕ) → IsFilledFew sign plane plane' old cursor → cursor.at ≤ n → plane'.steps ≤ plane.steps + plane_limit sign n
@@ -303,8 +297,8 @@ module _ (old : PagesState) (cursor cursor' : Cursor) (u : IsUnderWay old cursor
     pub turns_page : TurnsPage old (record (moved twice.0) { string = string })
     turns_page = record {
       sign_kept = sign_kept;
-      read = rises_fewer old.string.source string.source (4 * (cursor'.at - cursor.at) + cond (cursor'.state.pages == cursor.state.pages) 2 0) (reading_limit (length old.string.source.octets)) twice
-          (omega (arith, t.within, at_most (cursor'.state.pages == cursor.state.pages) 2));
+      read = rises_more old.string.source string.source 0 _ (reading_limit (length old.string.source.octets))
+          (omega (arith, t.within, at_most (cursor'.state.pages == cursor.state.pages) 2)) twice;
       size_kept = size_kept;
       drawn_least = f.least;
       drawn_most = drawing_fills old.string.sign old.plane plane cursor cursor' (length old.string.source.octets) f t.within;

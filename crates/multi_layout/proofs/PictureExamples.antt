@@ -99,5 +99,5 @@ an_absent_page_time_is_the_default : shown (codes "[pt10o5]A[pt20][np]A") 20 ≡
 unfolding shown
 an_absent_page_time_is_the_default = refl
 
-limits_on_the_sample_sign : map (frame_limit sample) (0 ∷ 1 ∷ 4 ∷ 64 ∷ []) ≡ 18 ∷ 31 ∷ 84 ∷ 1074 ∷ []
+limits_on_the_sample_sign : map (frame_limit sample) (0 ∷ 1 ∷ 4 ∷ 64 ∷ []) ≡ 18 ∷ 59 ∷ 196 ∷ 2866 ∷ []
 limits_on_the_sample_sign = refl

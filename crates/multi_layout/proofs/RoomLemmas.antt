@@ -4,7 +4,7 @@ use Rattle.std.proofs.Common.{◌≡◌, ℕ, ◌+◌, ◌≤◌, Bool, true, fa
 use Rattle.std.specs.Prelude.{IsSome}
 use Rattle.std.specs.Option.{option_map, unwrap_or}
 use Rattle.std.proofs.lemmas.Bool.{false≢true, le-leb}
-use Rattle.multi_tag.specs.declared.tag.Tag.TheVariants.{NewPage, NewLine, LineJust, PageJust, Font, CharSpacing, CharSpacingEnd, PageTime, Flash, FlashEnd, Fore, Back, Rect}
+use Rattle.multi_tag.specs.declared.tag.Tag.TheVariants.{NewPage, NewLine, LineJust, PageJust, Font, CharSpacing, CharSpacingEnd, PageTime, Flash, FlashEnd, Fore, Back, Rect, HexChar}
 use Rattle.multi_token.specs.Spelling.{Item}
 use Rattle.sign_font.specs.Sign.{SignData, CellData, font_numbered, cell_numbered}
 use Rattle.sign_font.specs.Sound.{IsSound}
@@ -111,6 +111,7 @@ module _ (sign : SignData) (P : Rectangle → List Spot → Type 0) (first : (r 
   next_holds before (Does (PageTime on off)) none old = holds_same before (Does (PageTime on off)) refl refl refl old
   next_holds before (Does (Flash off_first on off)) none old = holds_same before (Does (Flash off_first on off)) refl refl refl old
   next_holds before (Does FlashEnd) none old = holds_same before (Does FlashEnd) refl refl refl old
+  next_holds before (Does (HexChar number)) none old = holds_same before (Does (HexChar number)) refl refl refl old
   next_holds before (Does (Fore colour)) none old = holds_same before (Does (Fore colour)) refl refl refl old
   next_holds before (Faulty code) none old = holds_same before (Faulty code) refl refl refl old
 

@@ -5,7 +5,7 @@ use Rattle.std.proofs.lemmas.Bool.{cases_Bool}
 use Rattle.std.proofs.lemmas.Bool.Decides.{nat_tests}
 use Rattle.multi_tag.specs.declared.tag.FontPick.{FontPick}
 use Rattle.multi_tag.specs.declared.tag.Tag.{Tag}
-use Rattle.multi_tag.specs.declared.tag.Tag.TheVariants.{NewPage, NewLine, LineJust, PageJust, Font, CharSpacing, CharSpacingEnd, PageTime, Flash, FlashEnd, Fore, Back, Rect}
+use Rattle.multi_tag.specs.declared.tag.Tag.TheVariants.{NewPage, NewLine, LineJust, PageJust, Font, CharSpacing, CharSpacingEnd, PageTime, Flash, FlashEnd, Fore, Back, Rect, HexChar}
 use Rattle.sign_font.specs.declared.font.FontInfo.{FontInfo}
 use Rattle.sign_font.specs.Sign.{SignData, FontData, font_numbered, info_of}
 use Rattle.sign_font.specs.Sound.{IsSound}
@@ -33,6 +33,7 @@ simple_of CharSpacingEnd a b c d = tt
 simple_of (PageTime on off) a b c d = tt
 simple_of (Flash off_first on off) a b c d = tt
 simple_of FlashEnd a b c d = tt
+simple_of (HexChar number) a b c d = tt
 simple_of (Fore colour) a b c d = tt
 simple_of (Back colour) a b c d = tt
 
@@ -108,6 +109,11 @@ module _ (sign : SignData) (items : List Meaning) (state : State) (st : IsStateO
   judged-simple FlashEnd s k is = (
     refl,
     state-attribute sign items state attributes (Does FlashEnd) st refl refl refl is st.font
+        (along_line _ (ap (λ (a : Attributes). a.line_just) is) line) (along_page _ (ap (λ (a : Attributes). a.page_just) is) page) below,
+  )
+  judged-simple (HexChar number) s k is = (
+    refl,
+    state-attribute sign items state attributes (Does (HexChar number)) st refl refl refl is st.font
         (along_line _ (ap (λ (a : Attributes). a.line_just) is) line) (along_page _ (ap (λ (a : Attributes). a.page_just) is) page) below,
   )
   judged-simple (Fore colour) s k is = (

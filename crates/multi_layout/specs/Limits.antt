@@ -5,7 +5,7 @@ use Rattle.sign_font.specs.Sign.{SignData, tallest}
 
 -- the check limit, C1: the most steps that judging a string takes (own)
 abbrev pub check_limit : ℕ → ℕ
-check_limit n = 2 * n + 1
+check_limit n = 9 * n + 1
 
 -- the octets of the sign's plane (own)
 abbrev pub plane_octets : SignData → ℕ
@@ -13,7 +13,7 @@ plane_octets sign = row_octets sign.width * sign.height
 
 -- the most steps that drawing takes over the string (own)
 abbrev pub reading_limit : ℕ → ℕ
-reading_limit n = 4 * n + 2
+reading_limit n = 18 * n + 2
 
 -- the most steps that drawing takes over the plane: a row for each row of each character, and a fill for page 0, for each new
 -- page and for each background (own)

@@ -5,7 +5,7 @@ use Rattle.multi_token.specs.Spelling.{Item, Char, Tag}
 use Rattle.multi_tag.specs.declared.tag.TagFault.{TagFault}
 use Rattle.multi_tag.specs.declared.tag.TagFault.TheVariants.{Unsupported, Value}
 use Rattle.multi_tag.specs.declared.tag.Tag as tag
-use Rattle.multi_tag.specs.declared.tag.Tag.TheVariants.{NewPage, Rect}
+use Rattle.multi_tag.specs.declared.tag.Tag.TheVariants.{NewPage, Rect, HexChar}
 use Rattle.multi_tag.specs.TagOf.{tag_of}
 
 -- an item shows a character by its number, or does what its tag says, or its tag is at fault with the number of an error (own)
@@ -14,9 +14,14 @@ pub data Meaning : Type 0 where
   Does : tag.Tag → Meaning
   Faulty : ℕ → Meaning
 
+-- what a tag says: it shows the character of a number, or does something (NTCIP 1203 v03, MULTI tag 'hc')
+abbrev pub said_by : tag.Tag → Meaning
+said_by (HexChar number) = Shows number
+said_by tag = Does tag
+
 -- a tag that isn't supported is error 3, and one whose value isn't is error 4 (NTCIP 1203 v03, dmsMultiSyntaxError)
 abbrev pub meaning_of_tag : Result tag.Tag TagFault → Meaning
-meaning_of_tag (Ok tag) = Does tag
+meaning_of_tag (Ok tag) = said_by tag
 meaning_of_tag (Err Unsupported) = Faulty 3
 meaning_of_tag (Err Value) = Faulty 4
 

@@ -94,7 +94,7 @@ pub record IsAreaRead (sign : SignData) (before behind : List Item) (cursor : Cu
   pub table : HasCounted (whole_area sign before behind) read.lines
   pub ordered : IsOrdered read.lines
   pub low : IsLow read.lines
-  pub steps : RisesBetween source source' 0 (2 * length (spell area) + first_steps rest)
+  pub steps : RisesBetween source source' 0 (9 * length (spell area) + first_steps rest)
 
 -- the plane shows what these items put on their page, of all the items of the string (own)
 abbrev pub IsDrawnTo : SignData → Layer → List Meaning → List Meaning → BitPlane → Type 0

@@ -23,12 +23,12 @@ pub record ReadSoFar (sign : SignData) (octets : List ℕ) (at : ℕ) (state : S
   pub state_is : IsStateOf sign (map meaning items) state
   pub few : length items ≤ at
 
--- the items before an offset are judged, and each of their octets took one or two steps (own)
+-- the items before an offset are judged, and each of their octets took one to nine steps (own)
 pub record IsBehind (sign : SignData) (octets : List ℕ) (at : ℕ) (state : State) (source : Counted) : Type 0 where
   pub so_far : ReadSoFar sign octets at state
   pub same : source.octets ≡ octets
   pub least : at ≤ source.steps
-  pub most : source.steps ≤ 2 * at
+  pub most : source.steps ≤ 9 * at
 
 -- the items before an offset are judged, and the octet there is read, for one step more (own)
 pub record IsAt (sign : SignData) (octets : List ℕ) (at : ℕ) (first : Option ℕ) (state : State) (source : Counted) : Type 0 where
@@ -36,7 +36,7 @@ pub record IsAt (sign : SignData) (octets : List ℕ) (at : ℕ) (first : Option
   pub octet : first ≡ slice_get octets at
   pub same : source.octets ≡ octets
   pub least : at + 1 ≤ source.steps
-  pub most : source.steps ≤ 2 * at + 1
+  pub most : source.steps ≤ 9 * at + 1
 
 -- the item at an offset is the first one that offends, by this error, and its first octet was read (own)
 pub record IsRefused (sign : SignData) (octets : List ℕ) (offence : Offence) (source : Counted) : Type 0 where

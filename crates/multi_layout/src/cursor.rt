@@ -70,7 +70,7 @@ impl Cursor {
         requires { IsBefore sign.now source.old.octets next self.old }
         ensures passed { GoesBehind sign.now source.old.octets next self.old self.new }
         ensures at { self.new.at ≡ self.old.at + next.len }
-        ensures steps { RisesBetween source.old source.new 0 1 }
+        ensures steps { RisesBetween source.old source.new 0 8 }
     {
         match next.item {
             KnownItem::Char(number) => {
@@ -101,7 +101,7 @@ impl Cursor {
     }
 
     /// Goes behind the next item, a character of so many octets whose cell has this width in pixels.
-    pub(crate) fn pass_character(&mut self, number: u8, width: u8, len: usize)
+    pub(crate) fn pass_character(&mut self, number: u16, width: u8, len: usize)
         requires { (sign : SignData) × (octets : List ℕ)
             × IsBefore sign octets (record { item = KnownItem.Char number; len = len }) self.old }
         ensures passed { (sign : SignData) (octets : List ℕ) (before rest : List spelled.Item) (item : spelled.Item) (cell : SizedCell)

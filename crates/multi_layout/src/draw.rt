@@ -77,7 +77,7 @@ fn draw_area(
     requires size { IsSized plane.old sign.now }
     ensures passed { OverArea sign.now source.old.octets cursor.old read.now (λ before area rest. IsBetween sign.now source.old.octets (before ++ area) rest cursor.new) }
     ensures drawn { OverArea sign.now source.old.octets cursor.old read.now (λ before area rest. DrawsOn sign.now layer before area rest plane.old plane.new) }
-    ensures steps { RisesBetween source.old source.new 0 (2 * (read.now.end - cursor.old.at)) }
+    ensures steps { RisesBetween source.old source.new 0 (9 * (read.now.end - cursor.old.at)) }
     ensures fills { IsFilledBy sign.now plane.old plane.new (read.now.end - cursor.old.at) }
 {
     while cursor.at < read.end {
@@ -110,13 +110,13 @@ fn draw_item(
         → IsRead item next → begins_area (meaning item) ≡ false → HasCounted (whole_area sign.now before (item ∷ rest)) lines.now
         → DrawsOn sign.now layer before (item ∷ []) rest plane.old plane.new }
     ensures at { cursor.new.at ≡ cursor.old.at + next.len }
-    ensures steps { RisesBetween source.old source.new 0 1 }
+    ensures steps { RisesBetween source.old source.new 0 8 }
     ensures fills { IsFilledBy sign.now plane.old plane.new next.len }
 {
     match next.item {
         KnownItem::Char(number) => {
             let font = cursor.state.attributes.font.number;
-            let Some(cell) = sign.cell(source, font, u16::from(number)) else {
+            let Some(cell) = sign.cell(source, font, number) else {
                 // Each character of an accepted string has a cell.
                 unreachable!();
             };

@@ -6,7 +6,7 @@ ghost use Rattle.multi_token.specs.Spelling as spelled;
 ghost use Rattle.multi_token.specs.Tokens.{IsTokenOf, item_of};
 ghost use Rattle.multi_layout.specs.Codes.{code_of};
 ghost use Rattle.multi_layout.specs.KnownItem.{IsKnownItem, meant_by};
-ghost use Rattle.multi_layout.specs.Meaning.{Does, Faulty, begins_area, is_new_page, meaning};
+ghost use Rattle.multi_layout.specs.Meaning.{Faulty, begins_area, is_new_page, meaning, meaning_of_tag};
 ghost use Rattle.multi_layout.specs.State.{IsKnown};
 ghost use Rattle.multi_layout.specs.Passes.{ends_line, has_place};
 
@@ -17,7 +17,7 @@ use multi_token::{Kind, Source, Token};
 /// An item of a string: a character by its number, or what a tag says (NTCIP 1203 v03, MULTI).
 #[derive(Clone, Copy, Debug, PartialEq, Eq)]
 pub(crate) enum KnownItem {
-    Char(u8),
+    Char(u16),
     Tag(Tag),
 }
 
@@ -60,22 +60,31 @@ pub(crate) fn read_item(source: &mut Source<'_>, token: &Token) -> Result<KnownI
     ensures steps { RisesBetween source.old source.new 0 (token.now.len - 1) }
 {
     match token.kind {
-        Kind::Char(number) => Ok(KnownItem::Char(number)),
-        Kind::Tag => match read_tag(source, token) {
-            Ok(tag) => Ok(KnownItem::Tag(tag)),
-            Err(TagFault::Unsupported) => Err(SyntaxError::UnsupportedTag),
-            Err(TagFault::Value) => Err(SyntaxError::UnsupportedTagValue),
-        },
+        Kind::Char(octet) => Ok(KnownItem::Char(u16::from(octet))),
+        Kind::Tag => item_of_tag(read_tag(source, token)),
     }
 }
 
-/// What the tag with this body says, or its error.
-pub(crate) fn tag_of(body: &[u8]) -> Result<Tag, SyntaxError>
-    ensures read { IfOk result (λ tag. (meaning (spelled.Tag body.now) ≡ Does tag) × IsKnown tag) }
+/// The item that the tag with this body is, or its error.
+#[inline(always)]
+pub(crate) fn tag_item(body: &[u8]) -> Result<KnownItem, SyntaxError>
+    ensures read { IfOk result (λ item. meaning (spelled.Tag body.now) ≡ meant_by item) }
+    ensures known { IfOk result IsKnownItem }
     ensures fault { IfErr result (λ error. meaning (spelled.Tag body.now) ≡ Faulty (code_of error)) }
 {
-    match read_body(body) {
-        Ok(tag) => Ok(tag),
+    item_of_tag(read_body(body))
+}
+
+/// The item that a tag is which was read so, or its error.
+#[inline(always)]
+fn item_of_tag(read: Result<Tag, TagFault>) -> Result<KnownItem, SyntaxError>
+    ensures read { IfOk result (λ item. meaning_of_tag read ≡ meant_by item) }
+    ensures known { IfOk read IsKnown → IfOk result IsKnownItem }
+    ensures fault { IfErr result (λ error. meaning_of_tag read ≡ Faulty (code_of error)) }
+{
+    match read {
+        Ok(Tag::HexChar(number)) => Ok(KnownItem::Char(number)),
+        Ok(tag) => Ok(KnownItem::Tag(tag)),
         Err(TagFault::Unsupported) => Err(SyntaxError::UnsupportedTag),
         Err(TagFault::Value) => Err(SyntaxError::UnsupportedTagValue),
     }

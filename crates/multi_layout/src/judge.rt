@@ -19,7 +19,7 @@ use crate::area::Area;
 use crate::attributes::{Rectangle, whole_sign};
 use crate::checked::Checked;
 use crate::fault::{Fault, SyntaxError};
-use crate::item::tag_of;
+use crate::item::{KnownItem, tag_item};
 use crate::state::State;
 use crate::terms::Terms;
 use multi_tag::{FontPick, Tag};
@@ -37,12 +37,13 @@ pub(crate) fn judge_spelled(
 ) -> Result<(), SyntaxError>
     requires { IsReady state.old }
     ensures judged { Judges sign.now state.old (meaning (item_spelled bracket spelled.entry)) result state.new }
-    ensures steps { RisesBetween source.old source.new 0 1 }
+    ensures steps { RisesBetween source.old source.new 0 8 }
 {
     match spelled {
-        Bracketed::Doubled => judge_character(sign, state, source, bracket),
-        Bracketed::Tag(body) => match tag_of(body) {
-            Ok(tag) => judge_tag(sign, state, source, tag),
+        Bracketed::Doubled => judge_character(sign, state, source, u16::from(bracket)),
+        Bracketed::Tag(body) => match tag_item(body) {
+            Ok(KnownItem::Tag(tag)) => judge_tag(sign, state, source, tag),
+            Ok(KnownItem::Char(number)) => judge_character(sign, state, source, number),
             Err(error) => Err(error),
         },
     }
@@ -79,12 +80,13 @@ pub(crate) fn judge_character(
     sign: &Terms<'_>,
     state: &mut State,
     source: &mut Source<'_>,
-    number: u8,
+    number: u16,
 ) -> Result<(), SyntaxError>
     requires { IsReady state.old }
     ensures judged { Judges sign.now state.old (Shows number) result state.new }
     ensures behind { OnOk result (IsBehindCharacter state.new) }
-    ensures step { source.new ≡ charged source.old 1 }
+    ensures step { number ≤ 255 → source.new ≡ charged source.old 1 }
+    ensures steps { RisesBetween source.old source.new 0 8 }
 {
     let font = state.attributes.font.number;
     match sign.cell_width(source, font, number) {
@@ -95,7 +97,7 @@ pub(crate) fn judge_character(
 
 /// Judges a character whose cell has this width in pixels.
 #[inline(always)]
-fn judge_cell(state: &mut State, number: u8, width: u8) -> Result<(), SyntaxError>
+fn judge_cell(state: &mut State, number: u16, width: u8) -> Result<(), SyntaxError>
     requires { IsReady state.old }
     ensures judged { (sign : SignData) (cell : SizedCell) → cell_in sign state.old.attributes.font.number number ≡ Some cell → width ≡ cell.width
         → Judges sign state.old (Shows number) result state.new }

@@ -149,7 +149,7 @@ fn page_start(sign: &Terms<'_>, source: &mut Source<'_>, page: u8) -> Cursor
     requires page { page < pages_of (meanings source.old.octets) }
     ensures begins { IsPageStart sign.now source.old.octets result }
     ensures page { result.state.pages ≡ page + 1 }
-    ensures steps { RisesBetween source.old source.new 0 (2 * result.at) }
+    ensures steps { RisesBetween source.old source.new 0 (9 * result.at) }
 {
     let mut cursor = Cursor::new(sign);
     while cursor.state.pages <= page {

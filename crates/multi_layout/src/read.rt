@@ -100,7 +100,7 @@ fn pass_item(
     ensures known { (before rest : List spelled.Item) (item : spelled.Item) → IsBetween sign.now source.old.octets before (item ∷ rest) cursor.old
         → IsRead item next → IsKnownBefore sign.now before cursor.old lines.old → IsKnownBefore sign.now (before ++ item ∷ []) cursor.new lines.new }
     ensures at { cursor.new.at ≡ cursor.old.at + next.len }
-    ensures steps { RisesBetween source.old source.new 0 1 }
+    ensures steps { RisesBetween source.old source.new 0 8 }
     ensures ordered { IsOrdered lines.new }
     ensures low { IsLow lines.old → IsLow lines.new }
 {

@@ -1,7 +1,7 @@
 //! The sign that a string is for, with the defaults in force for that string.
 
 ghost use Rattle.std.specs.Prelude.{◌≡◌, ◌+◌, ◌≤◌, Some, None, IfErr, IfOk, IfSome, OnOk, length, option_map};
-ghost use Rattle.multi_token.specs.Counted.{charged};
+ghost use Rattle.multi_token.specs.Counted.{charged, RisesBetween};
 ghost use Rattle.sign_font.specs.Defaults.{default_fault, under};
 ghost use Rattle.sign_font.specs.Sign.{cell_in, font_numbered, info_of};
 ghost use Rattle.sign_font.specs.Sound.{IsSound, IsSoundSize, IsWithin};
@@ -107,11 +107,12 @@ impl<'a> Terms<'a> {
         self.sign.font(source, number)
     }
 
-    /// The cell of a number in the font of a number, if both are defined. Either way it is one step.
+    /// The cell of a number in the font of a number, if both are defined. Either way an octet is one step, and a wider number at
+    /// most 8.
     pub(crate) fn cell(&self, source: &mut Source<'_>, font: u8, number: u16) -> Option<Cell<'_>>
         ensures cell { result ≡ cell_in self.now font number }
         ensures size { IfSome result IsSoundSize }
-        ensures step { source.new ≡ charged source.old 1 }
+        ensures steps { RisesBetween source.old source.new 0 8 }
         ensures sound { IsSound self.now }
     {
         self.sign.cell(source, font, number)
@@ -135,13 +136,15 @@ impl<'a> Terms<'a> {
         self.sign.text_width(source, font, text, run.gap, run.left)
     }
 
-    /// The width in pixels of the cell of an octet in the font of a number, if both are defined. Either way it is one step.
-    pub(crate) fn cell_width(&self, source: &mut Source<'_>, font: u8, octet: u8) -> Option<u8>
-        ensures width { result ≡ option_map (λ cell. cell.width) (cell_in self.now font octet) }
+    /// The width in pixels of the cell of a number in the font of a number, if both are defined. Either way an octet is one step,
+    /// and a wider number at most 8.
+    pub(crate) fn cell_width(&self, source: &mut Source<'_>, font: u8, number: u16) -> Option<u8>
+        ensures width { result ≡ option_map (λ cell. cell.width) (cell_in self.now font number) }
         ensures size { IfSome result (IsWithin 1 64) }
-        ensures step { source.new ≡ charged source.old 1 }
+        ensures step { number ≤ 255 → source.new ≡ charged source.old 1 }
+        ensures steps { RisesBetween source.old source.new 0 8 }
         ensures sound { IsSound self.now }
     {
-        self.sign.cell_width(source, font, octet)
+        self.sign.cell_width(source, font, number)
     }
 }

@@ -140,7 +140,7 @@ fn judge_from(
     if first == b'[' || first == b']' {
         return judge_bracket(sign, state, source, at, first);
     }
-    match judge_character(sign, state, source, first) {
+    match judge_character(sign, state, source, u16::from(first)) {
         Ok(()) => judge_run(sign, state, source, at + 1),
         Err(error) => Err(Offence { error, at }),
     }

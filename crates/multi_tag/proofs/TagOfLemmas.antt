@@ -1,6 +1,6 @@
 -- The table as a function gives what the table spells.
 use Rattle.std.proofs.Common.{◌≡◌, ℕ, ◌≤◌, List, Option, Some, None, Result, Ok, Err, length, drop, refl, sym, ap, subst, ◌∙◌, inl, inr}
-use Rattle.std.specs.Prelude.{ok_or}
+use Rattle.std.specs.Prelude.{◌↔◌, IfOk, ok_or}
 use Rattle.std.specs.Str.{str_to_ascii_lowercase}
 use Rattle.std.proofs.lemmas.Option.{none-some}
 use Rattle.multi_tag.specs.declared.name.Name.{Name}
@@ -10,7 +10,7 @@ use Rattle.multi_tag.specs.declared.tag.Tag.TheVariants.{NewPage, NewLine, LineJ
 use Rattle.multi_tag.specs.declared.tag.TagFault.{TagFault}
 use Rattle.multi_tag.specs.declared.tag.TagFault.TheVariants.{Unsupported, Value}
 use Rattle.multi_tag.specs.Form.{d?}
-use Rattle.multi_tag.specs.Body.{table, Spells, SpellsSmall, HasName, HasNameAtFront}
+use Rattle.multi_tag.specs.Body.{table, Spells, SpellsSmall, HasName, HasNameAtFront, SpellsNoTag}
 use Rattle.multi_tag.specs.TagOf.{read_rest, listed, name_at_front, tag_behind, tag_of, TagOfIsTheTable}
 use Rattle.multi_tag.proofs.FormLemmas.{d?_d}
 use Rattle.multi_tag.proofs.TagRowLemmas.{rest_read, named, behind, begun, found}
@@ -69,6 +69,13 @@ tag_of-value body has none = by_cases (tag_of body) refl
     by_cases (Ok tag) e = absurd (none tag (((tag_of_is_the_table body).0 tag).1 e))
     by_cases (Err Unsupported) e = absurd ((tag_of_is_the_table body).1.0 e has)
     by_cases (Err Value) e = refl
+
+-- what was read of a body is what it spells
+pub tag_of-read : (body : List ℕ) (result : Result Tag TagFault) → IfOk result (Spells body) → ((result ≡ Err Unsupported) ↔ (¬ (HasName body)))
+    → ((result ≡ Err Value) ↔ (HasName body × SpellsNoTag body)) → tag_of body ≡ result
+tag_of-read body (Ok tag) spelled unsupported value = tag_of-spelled body tag spelled
+tag_of-read body (Err Unsupported) spelled unsupported value = tag_of-unsupported body (unsupported.0 refl)
+tag_of-read body (Err Value) spelled unsupported value = let (has, none) = value.0 refl in tag_of-value body has none
 
 -- the name of the row that spells a tag
 abbrev row_of : Tag → Name

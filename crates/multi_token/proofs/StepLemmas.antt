@@ -1,5 +1,5 @@
 -- Steps of a counted source.
-use Rattle.std.proofs.Common.{◌≡◌, ℕ, ◌+◌, ap, ◌∙◌, arith}
+use Rattle.std.proofs.Common.{◌≡◌, ℕ, ◌+◌, ◌≤◌, ap, ◌∙◌, arith}
 use Rattle.step_count.proofs.CountLemmas.{raised-raised, raised-zero}
 use Rattle.multi_token.specs.Counted.{Counted, charged, RisesBetween}
 
@@ -20,3 +20,7 @@ rises_after_one a b d high e r =
 pub rises_then : (a b d : Counted) (low high low' high' : ℕ) → RisesBetween a b low high → RisesBetween b d low' high' → RisesBetween a d (low + low') (high + high')
 rises_then a b d low high low' high' r s =
     (r.0 + s.0, omega (arith, r.1, s.1), omega (arith, r.2, s.2), s.3 ∙ (ap (λ c. charged c s.0) r.3 ∙ charged-charged a r.0 s.0))
+
+-- at most so many steps are at most more
+pub rises_more : (a b : Counted) (low high high' : ℕ) → high ≤ high' → RisesBetween a b low high → RisesBetween a b low high'
+rises_more a b low high high' more (k, l, h, is) = (k, l, omega (arith, h, more), is)

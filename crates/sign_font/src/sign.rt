@@ -23,7 +23,7 @@ use std::marker::Model;
 /// A sign within its limits, with its fonts (own).
 ///
 /// Only `font`, `cell`, `cell_width` and `text_width` look up its fonts and their cells, and each look counts as one step.
-/// `cell` takes up to 8 looks for a number above 255. All other calls take no step.
+/// `cell` and `cell_width` take up to 8 looks for a number above 255. All other calls take no step.
 #[derive(Drop)]
 pub struct Sign {
     width: u16,
@@ -221,15 +221,22 @@ impl Sign {
         }
     }
 
-    /// The width in pixels of the cell of an octet in the font of a number: 1 to 64, or `None` if the sign lacks either. Either
-    /// way this takes one step.
-    pub fn cell_width(&self, source: &mut Source<'_>, font: u8, octet: u8) -> Option<u8>
-        ensures width { result ≡ option_map (λ cell. cell.width) (cell_in self.now font octet) }
+    /// The width in pixels of the cell of a number in the font of a number: 1 to 64, or `None` if the sign lacks either. It takes
+    /// the steps that `cell` takes.
+    pub fn cell_width(&self, source: &mut Source<'_>, font: u8, number: u16) -> Option<u8>
+        ensures width { result ≡ option_map (λ cell. cell.width) (cell_in self.now font number) }
         ensures size { IfSome result (IsWithin 1 64) }
-        ensures step { source.new ≡ charged source.old 1 }
+        ensures step { number ≤ 255 → source.new ≡ charged source.old 1 }
+        ensures steps { RisesBetween source.old source.new 0 8 }
+        ensures probed { IfSome (font_numbered self.now font) (λ f. 0 < length f.cells → RisesBetween source.old source.new 1 8) }
         ensures sound { IsSound self.now }
     {
-        self.probe(source, font)?.cell_width(octet)
+        if number < 256 {
+            self.probe(source, font)?.cell_width(number as u8)
+        } else {
+            let cell = self.find_font(font)?.search(source, number)?;
+            Some(cell.width())
+        }
     }
 
     /// The width in pixels of a text, with this gap before each of its characters, by the cells of its octets in the font of a

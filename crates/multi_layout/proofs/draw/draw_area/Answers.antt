@@ -2,7 +2,7 @@ use Rattle.std.proofs.Common.{◌≡◌, ◌+◌, ◌-◌, ◌*◌, ◌≤◌, L
 use Rattle.multi_token.specs.Counted.{Counted, RisesBetween}
 use Rattle.multi_token.specs.Spelling.{Item, spell}
 use Rattle.multi_token.proofs.ReadingLemmas.{spelling_some}
-use Rattle.multi_token.proofs.StepLemmas.{rises_then, charged-zero}
+use Rattle.multi_token.proofs.StepLemmas.{charged-zero, rises_more, rises_then}
 use Rattle.multi_layout.specs.Meaning.{meaning}
 use Rattle.multi_layout.specs.Passes.{IsDrawnTo, IsFilledBy}
 use Rattle.multi_layout.specs.Walk.{IsBetween}
@@ -77,9 +77,9 @@ loop-cursor-preserved c =
     let first = λ (earlier behind : List Item) (x : IsBetween sign octets earlier behind c.loop-cursor.cursor). c.in-Some.ensures.first sign earlier behind (subst (λ o. IsBetween sign o earlier behind c.loop-cursor.cursor) (sym same) x) in
     let some = area_next sign octets before' area' rest' c.args.read.now.lines c.args.layer c.args.plane.now c.loop-cursor.cursor c.loop-cursor.plane s' c.args.read.now.end end' c.loop-cursor-test.true next first in
     let long : 1 ≤ next.len = omega (arith, some.4.len, spelling_some some.0) in
-    let both = rises_then c.args.source.now c.loop-cursor.source c.next_item.new.source 0 (2 * (c.loop-cursor.cursor.at - c.args.cursor.now.at)) 0 (2 * next.len - 1) i.steps c.in-Some.ensures.steps in
-    let all = rises_then c.args.source.now c.next_item.new.source c.draw_item.new.source 0 (2 * (c.loop-cursor.cursor.at - c.args.cursor.now.at) + (2 * next.len - 1)) 0 1 both c.draw_item.ensures.steps in
-    let steps : 2 * (c.loop-cursor.cursor.at - c.args.cursor.now.at) + (2 * next.len - 1) + 1 ≡ 2 * (c.draw_item.new.cursor.at - c.args.cursor.now.at) = omega (arith, at, i.on, long) in
+    let both = rises_then c.args.source.now c.loop-cursor.source c.next_item.new.source 0 (9 * (c.loop-cursor.cursor.at - c.args.cursor.now.at)) 0 (2 * next.len - 1) i.steps c.in-Some.ensures.steps in
+    let all = rises_then c.args.source.now c.next_item.new.source c.draw_item.new.source 0 (9 * (c.loop-cursor.cursor.at - c.args.cursor.now.at) + (2 * next.len - 1)) 0 8 both c.draw_item.ensures.steps in
+    let steps : 9 * (c.loop-cursor.cursor.at - c.args.cursor.now.at) + (2 * next.len - 1) + 8 ≤ 9 * (c.draw_item.new.cursor.at - c.args.cursor.now.at) = omega (arith, at, i.on, long) in
     let gone : (c.loop-cursor.cursor.at - c.args.cursor.now.at) + next.len ≡ c.draw_item.new.cursor.at - c.args.cursor.now.at = omega (arith, at, i.on) in
     record {
       so_far = λ before area rest b plain ends counted.
@@ -91,7 +91,7 @@ loop-cursor-preserved c =
           area_more sign octets before area rest c.args.read.now.lines c.args.layer c.args.plane.now c.loop-cursor.cursor c.loop-cursor.plane s c.args.read.now.end end item more is c.draw_item.new.cursor c.draw_item.new.plane passed
           (c.draw_item.ensures.drawn (before ++ s.done) (more ++ rest) item here' read quiet table);
       on = omega (arith, at, i.on);
-      steps = subst (RisesBetween c.args.source.now c.draw_item.new.source 0) steps all;
+      steps = rises_more c.args.source.now c.draw_item.new.source 0 _ _ steps all;
       fills = subst (IsFilledBy sign c.args.plane.now c.draw_item.new.plane) gone (filled_then sign c.args.plane.now c.loop-cursor.plane c.draw_item.new.plane (c.loop-cursor.cursor.at - c.args.cursor.now.at) next.len i.fills c.draw_item.ensures.fills);
     }
 
@@ -117,7 +117,7 @@ returns-clause-steps c =
     let s = i.so_far before area rest b plain ends counted in
     let end : c.args.read.now.end ≡ length (spell before) + length (spell area) = omega (arith, ends, b.place) in
     let at = at_end sign c.args.source.now.octets before area rest c.args.read.now.lines c.args.layer c.args.plane.now c.loop-cursor.cursor c.loop-cursor.plane s c.args.read.now.end end (omega (arith, c.loop-cursor-test.false)) in
-    subst (λ n. RisesBetween c.args.source.now c.loop-cursor.source 0 (2 * (n - c.args.cursor.now.at))) at i.steps
+    subst (λ n. RisesBetween c.args.source.now c.loop-cursor.source 0 (9 * (n - c.args.cursor.now.at))) at i.steps
 
 pub returns-clause-fills : goal.returns-clause-fills
 returns-clause-fills c =

@@ -13,7 +13,7 @@ invariant-loop-cursor l = record {
       → HasCounted (whole_area l.sign before (area ++ rest)) l.read.lines
       → AreaSoFar l.sign l.initial.source.octets before area rest l.read.lines l.layer l.cursor l.initial.plane l.plane;
   on : l.initial.cursor.at ≤ l.cursor.at;
-  steps : RisesBetween l.initial.source l.source 0 (2 * (l.cursor.at - l.initial.cursor.at));
+  steps : RisesBetween l.initial.source l.source 0 (9 * (l.cursor.at - l.initial.cursor.at));
   fills : IsFilledBy l.sign l.initial.plane l.plane (l.cursor.at - l.initial.cursor.at);
 }
 

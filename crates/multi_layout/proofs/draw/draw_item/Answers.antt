@@ -17,7 +17,7 @@ unreachable-requires c =
     let sign = c.args.sign.now in
     let (before, rest, item, b, read, counted) = c.requires.known in
     let shows : meaning item ≡ Shows c.in-Char.number = read.meant ∙ ap meant_by c.in-Char.is in
-    let none : cell_in sign c.args.cursor.now.state.attributes.font.number c.in-Char.number ≡ None = ap (cell_in sign c.args.cursor.now.state.attributes.font.number) (sym c.from.ensures) ∙ sym c.cell.ensures.cell ∙ c.in_default.is in
+    let none : cell_in sign c.args.cursor.now.state.attributes.font.number c.in-Char.number ≡ None = sym c.cell.ensures.cell ∙ c.in_default.is in
     let offends = judged-undefined sign (map meaning before) c.args.cursor.now.state b.state_is c.in-Char.number none in
     let fine = never_offends sign c.args.source.now.octets before rest item c.args.cursor.now b in
     let wrong : ◌≡◌ {A = Option ℕ} (Some 7) None = sym offends ∙ ap (offence sign (map meaning before)) (sym shows) ∙ fine in
@@ -32,20 +32,20 @@ pub put_character-requires-clause-height : goal.put_character-requires-clause-he
 put_character-requires-clause-height c =
     let sign = c.args.sign.now in
     let (before, rest, item, b, read, counted) = c.requires.known in
-    let found : cell_in sign c.args.cursor.now.state.attributes.font.number c.in-Char.number ≡ Some c.in-Some.cell = ap (cell_in sign c.args.cursor.now.state.attributes.font.number) (sym c.from.ensures) ∙ sym c.cell.ensures.cell ∙ c.in-Some.is in
+    let found : cell_in sign c.args.cursor.now.state.attributes.font.number c.in-Char.number ≡ Some c.in-Some.cell = sym c.cell.ensures.cell ∙ c.in-Some.is in
     (cell_height sign (map meaning before) c.args.cursor.now.state b.state_is c.in-Char.number c.in-Some.cell found).0
 
 pub returns-in-Some-clause-passed : goal.returns-in-Some-clause-passed
 returns-in-Some-clause-passed c = λ before rest item b read.
     let sign = c.args.sign.now in
-    let found : cell_in sign c.args.cursor.now.state.attributes.font.number c.in-Char.number ≡ Some c.in-Some.cell = ap (cell_in sign c.args.cursor.now.state.attributes.font.number) (sym c.from.ensures) ∙ sym c.cell.ensures.cell ∙ c.in-Some.is in
+    let found : cell_in sign c.args.cursor.now.state.attributes.font.number c.in-Char.number ≡ Some c.in-Some.cell = sym c.cell.ensures.cell ∙ c.in-Some.is in
     c.pass_character.ensures.passed sign c.args.source.now.octets before rest item c.in-Some.cell b (record { meant = read.meant ∙ ap meant_by c.in-Char.is; known = tt; len = read.len }) found c.width.ensures
 
 pub returns-in-Some-clause-drawn : goal.returns-in-Some-clause-drawn
 returns-in-Some-clause-drawn c = λ before rest item b read plain counted drawn.
     let sign = c.args.sign.now in
     let shows : meaning item ≡ Shows c.in-Char.number = read.meant ∙ ap meant_by c.in-Char.is in
-    let found : cell_in sign c.args.cursor.now.state.attributes.font.number c.in-Char.number ≡ Some c.in-Some.cell = ap (cell_in sign c.args.cursor.now.state.attributes.font.number) (sym c.from.ensures) ∙ sym c.cell.ensures.cell ∙ c.in-Some.is in
+    let found : cell_in sign c.args.cursor.now.state.attributes.font.number c.in-Char.number ≡ Some c.in-Some.cell = sym c.cell.ensures.cell ∙ c.in-Some.is in
     let all = map_split before rest item (Shows c.in-Char.number) shows in
     let one = map_split before [] item (Shows c.in-Char.number) shows in
     let k = (standing sign (map meaning before)).area in
@@ -60,7 +60,7 @@ pub returns-in-Some-clause-fills : goal.returns-in-Some-clause-fills
 returns-in-Some-clause-fills c =
     let sign = c.args.sign.now in
     let (before, rest, item, b, read, counted) = c.requires.known in
-    let found : cell_in sign c.args.cursor.now.state.attributes.font.number c.in-Char.number ≡ Some c.in-Some.cell = ap (cell_in sign c.args.cursor.now.state.attributes.font.number) (sym c.from.ensures) ∙ sym c.cell.ensures.cell ∙ c.in-Some.is in
+    let found : cell_in sign c.args.cursor.now.state.attributes.font.number c.in-Char.number ≡ Some c.in-Some.cell = sym c.cell.ensures.cell ∙ c.in-Some.is in
     let tall = (cell_height sign (map meaning before) c.args.cursor.now.state b.state_is c.in-Char.number c.in-Some.cell found).1 in
     rows_few sign c.args.plane.now c.put_character.new.plane c.args.next.len c.in-Some.cell.height (omega (arith, read.len, spelling_some item)) tall
     c.put_character.ensures.counted c.put_character.ensures.steps c.put_character.ensures.width c.put_character.ensures.height

@@ -150,8 +150,8 @@ returns-in_default-clause-steps c =
     let none : r.so.left ≡ [] = c.in_default.ensures.first sign (before ++ r.so.done) r.so.left (stands_in same2 r.so.between) in
     let pages : c.draw_area.new.cursor.state.pages ≡ c.args.cursor.state.pages = same_pages sign octets before behind c.args.layer c.draw_area.new.cursor c.draw_area.new.plane r.so c.args.cursor.state.pages b.state_is.pages in
     let all = string_end c.args.source.now c.loop-next.source c.read_area.new.source c.draw_area.new.source c.next_item.new.source c.args.cursor.at c.loop-next.cursor.at c.read_area.new.read.end r.so.left i.on r.on none i.steps r.steps c.draw_area.ensures.steps c.in_default.ensures.end_steps in
-    subst (λ k. RisesBetween c.args.source.now c.next_item.new.source 0 (4 * (c.draw_area.new.cursor.at - c.args.cursor.at) + k)) (sym (if_same c.draw_area.new.cursor.state.pages c.args.cursor.state.pages 2 pages))
-    (subst (λ n. RisesBetween c.args.source.now c.next_item.new.source 0 (4 * (n - c.args.cursor.at) + 2)) (sym r.at) all)
+    subst (λ k. RisesBetween c.args.source.now c.next_item.new.source 0 (18 * (c.draw_area.new.cursor.at - c.args.cursor.at) + k)) (sym (if_same c.draw_area.new.cursor.state.pages c.args.cursor.state.pages 2 pages))
+    (subst (λ n. RisesBetween c.args.source.now c.next_item.new.source 0 (18 * (n - c.args.cursor.at) + 2)) (sym r.at) all)
 
 pub returns-in_default-clause-fills : goal.returns-in_default-clause-fills
 returns-in_default-clause-fills c =
@@ -326,7 +326,7 @@ loop-next-preserved c =
           page_goes_on sign octets before behind c.args.layer c.draw_area.new.cursor c.draw_area.new.plane r.so item rest is c.pass.new.self b5 starts turns
           (area_no_page sign.defaults (standing sign (map meaning (before ++ r.so.done))) (meaning item) starts turns);
       on = omega (arith, i.on, r.on, r.at, c.pass.ensures.at);
-      steps = subst (λ n. RisesBetween c.args.source.now c.pass.new.source 0 (4 * n)) far all;
+      steps = subst (λ n. RisesBetween c.args.source.now c.pass.new.source 0 (18 * n)) far all;
       filled = filled_longer sign c.fill.new.self c.draw_area.new.plane _ (c.pass.new.self.at - c.args.cursor.at) (omega (arith, i.on, r.on, r.at, c.pass.ensures.at))
           (filled_then sign c.fill.new.self c.loop-next.plane c.draw_area.new.plane (c.loop-next.cursor.at - c.args.cursor.at) (c.read_area.new.read.end - c.loop-next.cursor.at) i.filled c.draw_area.ensures.fills);
     }

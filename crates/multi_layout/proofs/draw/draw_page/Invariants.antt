@@ -12,7 +12,7 @@ invariant-loop-next l = record {
   so_far : (before behind : List Item) → IsBetween l.sign l.initial.source.octets before behind l.initial.cursor
       → PageSoFar l.sign l.initial.source.octets before behind l.layer l.cursor l.plane;
   on : l.initial.cursor.at ≤ l.cursor.at;
-  steps : RisesBetween l.initial.source l.source 0 (4 * (l.cursor.at - l.initial.cursor.at));
+  steps : RisesBetween l.initial.source l.source 0 (18 * (l.cursor.at - l.initial.cursor.at));
   filled : IsFilledBy l.sign l.initial.plane l.plane (l.cursor.at - l.initial.cursor.at);
 }
 

@@ -3,11 +3,11 @@ use Rattle.multi_token.specs.Counted.{RisesBetween}
 use Rattle.multi_layout.proofs.PagesLemmas.{IsOnTheWay}
 use Rattle.multi_layout.proofs.pages.page_start.Given as goal
 
--- the page hasn't begun before the cursor, and each octet before it took at most two steps
+-- the page hasn't begun before the cursor, and each octet before it took at most nine steps
 abbrev pub invariant-loop-cursor : goal.invariant-loop-cursor
 invariant-loop-cursor l = record {
   way : IsOnTheWay l.sign l.initial.source.octets l.page l.cursor;
-  steps : RisesBetween l.initial.source l.source 0 (2 * l.cursor.at);
+  steps : RisesBetween l.initial.source l.source 0 (9 * l.cursor.at);
 }
 
 abbrev pub decreases-loop-cursor : goal.decreases-loop-cursor

@@ -7,13 +7,13 @@ use Rattle.multi_layout.specs.Walk.{IsBetween}
 use Rattle.multi_layout.proofs.AreaLinesLemmas.{SoFar}
 use Rattle.multi_layout.proofs.read.read_area.Given as goal
 
--- the table has the ended lines of the items so far, and each octet of them took at most two steps
+-- the table has the ended lines of the items so far, and each octet of them took at most nine steps
 abbrev pub invariant-loop-next : goal.invariant-loop-next
 invariant-loop-next l = record {
   so_far : (before behind : List spelled.Item) → IsBetween l.sign l.initial.source.octets before behind l.initial.cursor
       → present_area l.sign (map meaning before) ≡ [] → SoFar l.sign l.initial.source.octets before behind l.cursor l.read.lines;
   forward : l.initial.cursor.at ≤ l.cursor.at;
-  steps : RisesBetween l.initial.source l.source 0 (2 * (l.cursor.at - l.initial.cursor.at));
+  steps : RisesBetween l.initial.source l.source 0 (9 * (l.cursor.at - l.initial.cursor.at));
 }
 
 abbrev pub decreases-loop-next : goal.decreases-loop-next

@@ -21,7 +21,7 @@ returns-in-Some-shown_in-clause-steps c =
     let len = c.in-Some.next.len in
     let first = (rw i.octets at c.in-Some.ensures.first) c.args.sign.now s.before s.behind s.between in
     let fits = next_fits s c.in-Some.next first in
-    let k = rises_then c.args.source.now c.loop-next.source c.next_item.new.source 0 (2 * c.loop-next.cursor.at) 0 (2 * len - 1) i.steps c.in-Some.ensures.steps in
+    let k = rises_then c.args.source.now c.loop-next.source c.next_item.new.source 0 (9 * c.loop-next.cursor.at) 0 (2 * len - 1) i.steps c.in-Some.ensures.steps in
     (k.0, k.1, omega (arith, k.2, fits), k.3)
 
 pub loop-next-smaller : goal.loop-next-smaller
@@ -42,8 +42,8 @@ loop-next-preserved c =
     let first = (rw i.octets at c.in-Some.ensures.first) c.args.sign.now s.before s.behind s.between in
     let fits = next_fits s next first in
     let same : c.next_item.new.source.octets ≡ c.args.source.now.octets = ap (λ (s : Counted). s.octets) c.in-Some.ensures.steps.3 ∙ i.octets in
-    let k = rises_then c.args.source.now c.loop-next.source c.next_item.new.source 0 (2 * cursor.at) 0 (2 * next.len - 1) i.steps c.in-Some.ensures.steps in
-    let all = rises_then c.args.source.now c.next_item.new.source c.pass.new.source 0 (2 * cursor.at + (2 * next.len - 1)) 0 1 k pass.steps in
+    let k = rises_then c.args.source.now c.loop-next.source c.next_item.new.source 0 (9 * cursor.at) 0 (2 * next.len - 1) i.steps c.in-Some.ensures.steps in
+    let all = rises_then c.args.source.now c.next_item.new.source c.pass.new.source 0 (9 * cursor.at + (2 * next.len - 1)) 0 8 k pass.steps in
     record {
       searched = searched_more s next first c.pass.new.self (rw same at pass.passed) (elim c.if-ends_page.branch [
         | then-ends_page+in_default-shown_in w ↦ λ _. over_here s w.shown_in.ensures.on w.shown_in.ensures.off w.shown_in.ensures.ended w.in_default-shown_in.is
@@ -72,5 +72,5 @@ returns-clause-shown c =
 pub returns-clause-steps : goal.returns-clause-steps
 returns-clause-steps c =
     let i = c.loop-next.invariant in
-    let k = rises_then c.args.source.now c.loop-next.source c.next_item.new.source 0 (2 * c.loop-next.cursor.at) 0 1 i.steps c.in_default.ensures.end_steps in
+    let k = rises_then c.args.source.now c.loop-next.source c.next_item.new.source 0 (9 * c.loop-next.cursor.at) 0 1 i.steps c.in_default.ensures.end_steps in
     (k.0, k.1, omega (arith, k.2, within_octets i.searched), k.3)

@@ -8,7 +8,7 @@ abbrev pub invariant-loop-next : goal.invariant-loop-next
 invariant-loop-next l = record {
   searched : Searched l.sign l.initial.source.octets l.time l.cursor;
   octets : l.source.octets ≡ l.initial.source.octets;
-  steps : RisesBetween l.initial.source l.source 0 (2 * l.cursor.at);
+  steps : RisesBetween l.initial.source l.source 0 (9 * l.cursor.at);
 }
 
 abbrev pub decreases-loop-next : goal.decreases-loop-next

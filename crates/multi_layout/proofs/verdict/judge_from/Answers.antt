@@ -1,4 +1,4 @@
-use Rattle.std.proofs.Common.{◌≡◌, ◌+◌, Some, map, slice_get, refl, sym, ap, arith, subst}
+use Rattle.std.proofs.Common.{◌≡◌, ◌≤◌, ◌+◌, Some, map, slice_get, refl, sym, ap, arith, subst}
 use Rattle.std.proofs.lemmas.Option.{slice_get_within}
 use Rattle.multi_token.specs.Counted.{Counted, charged}
 use Rattle.multi_token.specs.Spelling.{IsPlain}
@@ -22,9 +22,10 @@ judge_run-requires-clause-behind c =
     let plain : IsPlain c.args.first = (λ e. omega arith, λ e. omega arith) in
     let token : Token = record { at = c.args.at; len = 1; kind = kinds.Char c.args.first } in
     let stands : IsTokenOf xs token = single_token xs c.args.at c.args.first (omega (arith, c.requires.short)) here plain in
-    let judged = c.in-Ok.ensures.judged (map meaning i.so_far.items) i.so_far.state_is in
-    let same : c.judge_character.new.source.octets ≡ xs = ap (λ (s : Counted). s.octets) c.judge_character.ensures.step in
-    let step : c.judge_character.new.source.steps ≡ (charged c.args.source.now 1).steps = ap (λ (s : Counted). s.steps) c.judge_character.ensures.step in
+    let judged = rw c.from.ensures at (c.in-Ok.ensures.judged (map meaning i.so_far.items) i.so_far.state_is) in
+    let octet : c.from.result ≤ 255 = omega (arith, c.from.ensures) in
+    let same : c.judge_character.new.source.octets ≡ xs = ap (λ (s : Counted). s.octets) (c.judge_character.ensures.step octet) in
+    let step : c.judge_character.new.source.steps ≡ (charged c.args.source.now 1).steps = ap (λ (s : Counted). s.steps) (c.judge_character.ensures.step octet) in
     let least = i.least in
     let most = i.most in
     record {
@@ -45,9 +46,10 @@ returns-in-Err-clause-refused c =
     let plain : IsPlain c.args.first = (λ e. omega arith, λ e. omega arith) in
     let token : Token = record { at = c.args.at; len = 1; kind = kinds.Char c.args.first } in
     let stands : IsTokenOf xs token = single_token xs c.args.at c.args.first (omega (arith, c.requires.short)) here plain in
-    let same : c.judge_character.new.source.octets ≡ xs = ap (λ (s : Counted). s.octets) c.judge_character.ensures.step in
-    let step : c.judge_character.new.source.steps ≡ (charged c.args.source.now 1).steps = ap (λ (s : Counted). s.steps) c.judge_character.ensures.step in
-    let offends = c.in-Err.ensures.judged (map meaning i.so_far.items) i.so_far.state_is in
+    let octet : c.from.result ≤ 255 = omega (arith, c.from.ensures) in
+    let same : c.judge_character.new.source.octets ≡ xs = ap (λ (s : Counted). s.octets) (c.judge_character.ensures.step octet) in
+    let step : c.judge_character.new.source.steps ≡ (charged c.args.source.now 1).steps = ap (λ (s : Counted). s.steps) (c.judge_character.ensures.step octet) in
+    let offends = rw c.from.ensures at (c.in-Err.ensures.judged (map meaning i.so_far.items) i.so_far.state_is) in
     let least = i.least in
     let most = i.most in
     record {

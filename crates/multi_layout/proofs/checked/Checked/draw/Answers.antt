@@ -1,8 +1,9 @@
 use Rattle.std.proofs.Common.{◌≡◌, ◌-◌, ◌*◌, length, ap, arith}
 use Rattle.std.proofs.lemmas.Bool.Decides.{nat_tests}
 use Rattle.multi_token.specs.Counted.{Counted}
+use Rattle.multi_token.proofs.StepLemmas.{rises_more}
 use Rattle.multi_layout.proofs.AcceptedLemmas.{accepted_is}
-use Rattle.multi_layout.proofs.PagesLemmas.{drawing_fills, drawing_reads, rises_fewer}
+use Rattle.multi_layout.proofs.PagesLemmas.{drawing_fills, drawing_reads}
 use Rattle.multi_layout.proofs.checked.Checked.draw.Goals as goal
 
 pub returns-then-page-self-clause-exists : goal.returns-then-page-self-clause-exists
@@ -37,7 +38,7 @@ returns-clause-steps c =
     let same : c.page_start-cursor.new.source.octets ≡ s.source.octets = ap (λ (x : Counted). x.octets) e.steps.3 in
     let t = rw same at c.draw_from.ensures.turned in
     let start = c.page_start-cursor.result in
-    let way = rises_fewer s.source c.page_start-cursor.new.source (2 * start.at) (4 * start.at) e.steps (omega arith) in
+    let way = rises_more s.source c.page_start-cursor.new.source 0 (9 * start.at) (18 * start.at) (omega arith) e.steps in
     rw (← c.self.view_is) (drawing_reads s.source c.page_start-cursor.new.source c.draw_from.new.self.source start c.draw_from.result (length s.source.octets) way c.draw_from.ensures.steps t.on t.within)
 
 pub returns-clause-plane_steps : goal.returns-clause-plane_steps
