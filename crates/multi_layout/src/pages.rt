@@ -81,7 +81,7 @@ impl<'a> Checked<'a> {
     /// Pages are counted from 0. The phase is the time since the page began, in tenths of a second. A colour is 0 to 255. The
     /// answer is false if there is no such page, and then nothing changes. The plane must have the sign's size.
     ///
-    /// For a string of n octets this takes at most 4n + 2 steps over the string and R * n + B * (n / 4 + 1) over the plane.
+    /// For a string of n octets this takes at most 18n + 2 steps over the string and R * n + B * (n / 4 + 1) over the plane.
     /// R is the height of the tallest font, and B the number of octets of the plane.
     pub fn draw(&mut self, page: u8, phase: u64, colour: u8, plane: &mut Plane) -> bool
         requires size { IsSized plane.old self.old.sign }

@@ -28,7 +28,7 @@ impl<'a> Checked<'a> {
     ///
     /// A string with one page or a cycle of 0 always shows page 0, with the clock as its phase. Otherwise the clock is taken
     /// modulo the cycle: each page in turn is shown for its on time, and then nothing for its off time, over and over. This
-    /// takes at most 2n + 1 steps over a string of n octets.
+    /// takes at most 9n + 1 steps over a string of n octets.
     pub fn locate(&mut self, clock: u64) -> Shown
         ensures shown { result ≡ shown self.old.sign self.old.source.octets clock }
         ensures kept { self.new.sign ≡ self.old.sign }

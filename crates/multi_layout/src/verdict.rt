@@ -53,7 +53,7 @@ pub fn check<'a>(sign: &'a Sign, source: Source<'a>) -> Result<Checked<'a>, Faul
 /// An absent value means these defaults, here and in every call of the [`Checked`].
 ///
 /// The source must have no steps yet and at most 4,294,967,295 octets. Both answers give it back. For n octets its count is
-/// then at most 2n + 1. It is at least n + 1 if the string is accepted, and at least one more than the offset of the error
+/// then at most 9n + 1. It is at least n + 1 if the string is accepted, and at least one more than the offset of the error
 /// if it is refused.
 #[inline(always)]
 pub fn check_with<'a>(
@@ -161,6 +161,8 @@ fn judge_bracket(
     requires at { IsAt sign.now source.old.octets at (Some first) state.old source.old }
     ensures at { IfOk result (λ to. (at < to.0) × IsAt sign.now source.old.octets to.0 to.1 state.new source.new) }
     ensures refused { IfErr result (λ offence. IsRefused sign.now source.old.octets offence source.new) }
+    // each octet up to the one behind is read once, and beside that at most 8 cells are looked at
+    ensures steps { IfOk result (λ to. source.new.steps ≤ source.old.steps + (to.0 - at) + 8) }
 {
     let Ok(spelled) = read_bracket(source, at, first) else {
         return Err(Offence {

@@ -70,6 +70,20 @@ returns-clause-at c =
       },
     )
 
+pub returns-clause-steps : goal.returns-clause-steps
+returns-clause-steps c =
+    let xs = c.args.source.now.octets in
+    let (t, here, len, token, item) = bracketed_token xs c.args.at c.args.first c.in-Ok.spelled c.in-Ok.ensures.spelled in
+    let k = c.judge_spelled.ensures.steps in
+    let rises : c.read_bracket.new.source.steps ≡ (charged c.args.source.now (octets_of c.in-Ok.spelled - 1)).steps = ap (λ (s : Counted). s.steps) c.in-Ok.ensures.steps in
+    let tag_steps : c.judge_spelled.new.source.steps ≡ (charged c.read_bracket.new.source k.0).steps = ap (λ (s : Counted). s.steps) k.3 in
+    let size : t.len ≡ c.len.result = len ∙ sym c.len.ensures in
+    let read : c.read.new.self.steps ≡ (charged c.judge_spelled.new.source 1).steps = ap (λ (s : Counted). s.steps) c.read.ensures.step in
+    let long = token.len in
+    let some = spelling_some (item_of xs t) in
+    let few = k.2 in
+    omega arith
+
 pub returns-in-Err-clause-refused : goal.returns-in-Err-clause-refused
 returns-in-Err-clause-refused c =
     let i = c.requires.at in
