@@ -98,7 +98,7 @@ impl Controller {
     /// Draws the plane of a colour, 0 to 255, of what the display shows at its clock, and lends it.
     ///
     /// The display's own text is drawn by the defaults with which it is shown, whatever has become of the message since.
-    /// For n octets this takes at most 8n + R * n + B * (n / 4 + 1) + 4 steps. R is the height of the tallest font, and B the
+    /// For n octets this takes at most 36n + R * n + B * (n / 4 + 1) + 4 steps. R is the height of the tallest font, and B the
     /// number of octets of the plane.
     pub fn frame(&mut self, colour: u8) -> Frame<'_>
         ensures* after { sem 𝓛 (FramedAfter self.entry result) }
