@@ -166,3 +166,23 @@ fn a_row_that_is_not_there_is_refused(rt: HostRuntime) -> Result<(), Fail> {
     assert_eq!(rt; told_rows(&store), [2, 2, 2, 1, 1, 2, 0, 2, 1]);
     Ok(())
 }
+
+#[test]
+fn a_character_by_its_number_is_kept_as_it_is_written(rt: HostRuntime) -> Result<(), Fail> {
+    let sign = sample(rt.alloc())?;
+    let mut store = Store::new(rt.alloc(), limits(1, 6, 64), Vec::new(rt.alloc()))?;
+    let first = changeable(1);
+    let calls = [
+        (Call::Request(first, 6), 0),
+        (Call::Multi(first, b"[hc41]"), 0),
+        (Call::Request(first, 7), 0),
+    ];
+    assert!(rt; are_told(&mut store, &calls), "it is stored");
+    assert!(rt; work(&mut store, &sign).is_some(), "it is judged");
+    assert!(rt; has(&store, first, [4, 1, 0, 0], 0x3e27), "it is valid");
+    assert!(rt;
+        holds(&store, first, b"[hc41]", b""),
+        "the octets that were written"
+    );
+    Ok(())
+}

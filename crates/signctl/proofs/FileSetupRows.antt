@@ -21,9 +21,13 @@ keys_are_read_before_the_sign_is_judged : setup_of_octets (a_file (codes "width 
 unfolding sign_file_on_literals setup_of_octets
 keys_are_read_before_the_sign_is_judged = refl
 
-a_cell_of_256_is_fault_3 : setup_of_octets (a_file (codes "width = 12") (codes "1") (codes "256") (codes "5e80") []) ≡ Err (SignRefused 3)
+a_cell_of_0_is_fault_3 : setup_of_octets (a_file (codes "width = 12") (codes "1") (codes "0") (codes "5e80") []) ≡ Err (SignRefused 3)
 unfolding sign_file_on_literals setup_of_octets
-a_cell_of_256_is_fault_3 = refl
+a_cell_of_0_is_fault_3 = refl
+
+a_cell_of_65536_is_not_read : setup_of_octets (a_file (codes "width = 12") (codes "1") (codes "65536") (codes "5e80") []) ≡ Err BadSign
+unfolding sign_file_on_literals setup_of_octets
+a_cell_of_65536_is_not_read = refl
 
 no_slots_are_fault_5 : setup_of_octets (a_file (codes "width = 12") (codes "0") (codes "65") (codes "5e80") []) ≡ Err (SignRefused 5)
 unfolding sign_file_on_literals setup_of_octets

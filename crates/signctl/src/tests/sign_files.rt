@@ -115,11 +115,20 @@ fn a_sign_outside_a_limit_has_its_number(rt: HostRuntime) -> Result<(), Fail> {
         ("\"5e80\"", "\"\"", refused(3)),
         ("\"5e80\"", "\"5e8000\"", refused(3)),
         ("\"5e80\"", "\"5e81\"", refused(3)),
-        ("number = 93", "number = 256", refused(3)),
-        ("number = 93", "number = 65535", refused(3)),
         ("number = 93", "number = 91", refused(3)),
-        ("number = 32", "number = 0", refused(3)),
         ("width = 3,", "width = 65,", refused(3)),
+    ];
+    check_changed(&rt, rt.alloc(), SAMPLE, &rows)
+}
+
+#[test]
+fn a_cell_may_have_any_number_of_its_type_but_0(rt: HostRuntime) -> Result<(), Fail> {
+    let rows = [
+        ("number = 93", "number = 255", Ok(())),
+        ("number = 93", "number = 256", Ok(())),
+        ("number = 93", "number = 65535", Ok(())),
+        ("number = 32", "number = 0", refused(3)),
+        ("number = 93", "number = 65536", BAD),
     ];
     check_changed(&rt, rt.alloc(), SAMPLE, &rows)
 }
