@@ -348,7 +348,7 @@ fn octets_and_wide_numbers_stand_in_one_font(rt: HostRuntime) -> Result<(), Fail
     }
     for (octet, width) in [(65, Some(3)), (255, Some(2)), (0, None), (1, None)] {
         assert_eq!(rt;
-            sign.cell_width(&mut source, 2, u16::from(octet)),
+            sign.cell_width(&mut source, 2, octet),
             width,
             "octet {octet}"
         );
