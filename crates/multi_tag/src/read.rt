@@ -16,6 +16,8 @@ use multi_token::{Source, Token};
 /// what follows the name has none of its forms, or a number is outside its range.
 ///
 /// It takes no more steps than the body has octets; a tag that is read takes exactly as many.
+// called, so that the code of whoever goes from item to item stays small
+#[inline(never)]
 pub fn read_tag(source: &mut Source<'_>, token: &Token) -> Result<Tag, TagFault>
     requires { IsTagOf source.old.octets token.now }
     // what is read is in the table, and what is in the table is read
@@ -38,6 +40,7 @@ pub fn read_tag(source: &mut Source<'_>, token: &Token) -> Result<Tag, TagFault>
 }
 
 /// The value of a tag with this body, whose octets were read already. The faults are those of [`read_tag`].
+#[inline(always)]
 pub fn read_body(body: &[u8]) -> Result<Tag, TagFault>
     ensures spelled { IfOk result (Spells body.now) }
     ensures read { IsReadOf body.now result }
