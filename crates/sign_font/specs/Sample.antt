@@ -1,5 +1,6 @@
 -- The sample sign, by which the definitions are tried (own).
 use Rattle.std.specs.Prelude.{false, [], ◌∷◌}
+use Rattle.sign_font.specs.declared.parts.LineFill.TheVariants.{Off}
 use Rattle.sign_font.specs.Sign.{FontData, SignData}
 
 -- the font of three rows (own)
@@ -37,6 +38,7 @@ sample = record {
   max_pages = 2;
   beacons = false;
   pixel_service = false;
+  line_fill = Off;
   defaults = record {
     font = 1;
     line = 3;

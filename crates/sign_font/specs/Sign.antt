@@ -6,6 +6,7 @@ use Rattle.sign_font.specs.declared.parts.CellPart.{CellPart}
 use Rattle.sign_font.specs.declared.parts.FontPart.{FontPart}
 use Rattle.sign_font.specs.declared.parts.SignParts.{SignParts}
 use Rattle.sign_font.specs.declared.parts.Defaults.{Defaults}
+use Rattle.sign_font.specs.declared.parts.LineFill.{LineFill}
 use Rattle.sign_font.specs.Cell.{SizedCell}
 
 -- a character's cell: its number, its columns and the octets of its pixels (NTCIP 1203 v03, object characterTable)
@@ -23,7 +24,7 @@ pub record FontData : Type 0 where
   pub line_spacing : ℕ
   pub cells : List CellData
 
--- a sign: its size in pixels, what it can do, its defaults and its fonts (own)
+-- a sign: its size in pixels, what it can do, whether it breaks lines between words, its defaults and its fonts (own)
 pub record SignData : Type 0 where
   pub width : ℕ
   pub height : ℕ
@@ -31,6 +32,7 @@ pub record SignData : Type 0 where
   pub max_pages : ℕ
   pub beacons : Bool
   pub pixel_service : Bool
+  pub line_fill : LineFill
   pub defaults : Defaults
   pub fonts : List FontData
 
@@ -58,6 +60,7 @@ sign_of parts = record {
   max_pages = parts.max_pages;
   beacons = parts.beacons;
   pixel_service = parts.pixel_service;
+  line_fill = parts.line_fill;
   defaults = parts.defaults;
   fonts = map font_of parts.fonts.items;
 }

@@ -22,7 +22,7 @@ mod text;
 pub use cell::Cell;
 pub use fault::{DefaultFault, SignFault};
 pub use font::FontInfo;
-pub use parts::{CellPart, Defaults, FontPart, SignParts};
+pub use parts::{CellPart, Defaults, FontPart, LineFill, SignParts};
 pub use sample::sample_sign;
 pub use sign::Sign;
 pub use text::TextFault;

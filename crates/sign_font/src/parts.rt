@@ -16,10 +16,22 @@ pub struct SignParts {
     pub beacons: bool,
     /// Whether the sign has a pixel service.
     pub pixel_service: bool,
+    /// Whether the sign breaks lines that no longer fit between words.
+    pub line_fill: LineFill,
     /// What holds unless a message says otherwise.
     pub defaults: Defaults,
     /// 1 to 16 fonts, whose numbers rise strictly.
     pub fonts: Vec<FontPart>,
+}
+
+/// Whether lines that no longer fit are broken between words. This is a setting of the sign, for which NTCIP 1203 v03 has no
+/// object (own).
+#[derive(Clone, Copy, Debug, PartialEq, Eq)]
+pub enum LineFill {
+    /// They aren't broken.
+    Off,
+    /// They are broken between words.
+    Words,
 }
 
 /// A font as it was written (NTCIP 1203 v03, object fontTable).

@@ -4,7 +4,7 @@ ghost use Rattle.std.specs.Prelude.{◌≡◌, IfOk};
 ghost use Rattle.sign_font.specs.Sign.{cell_of, font_of, sign_of};
 ghost use Rattle.sign_font.specs.Sample.{sample, small_font, large_font};
 
-use crate::parts::{CellPart, Defaults, FontPart, SignParts};
+use crate::parts::{CellPart, Defaults, FontPart, LineFill, SignParts};
 use std::alloc::{AllocError, Global};
 
 /// The parts of the sample sign: monochrome, 12 columns and 7 rows, with two fonts (own).
@@ -18,6 +18,7 @@ pub fn sample_sign(alloc: Global) -> Result<SignParts, AllocError>
         max_pages: 2,
         beacons: false,
         pixel_service: false,
+        line_fill: LineFill::Off,
         defaults: Defaults {
             font: 1,
             line: 3,

@@ -14,7 +14,7 @@ use crate::fault::{DefaultFault, SignFault};
 use crate::font::{Font, FontInfo};
 use crate::fonts::Fonts;
 use crate::limits::{are_known, first_fault};
-use crate::parts::{Defaults, FontPart, SignParts};
+use crate::parts::{Defaults, FontPart, LineFill, SignParts};
 use crate::text::TextFault;
 use multi_token::Source;
 use std::alloc::{AllocError, Global};
@@ -32,6 +32,7 @@ pub struct Sign {
     max_pages: u8,
     beacons: bool,
     pixel_service: bool,
+    line_fill: LineFill,
     defaults: Defaults,
     fonts: Fonts,
 }
@@ -49,6 +50,7 @@ impl Model for Sign {
       max_pages = s.max_pages;
       beacons = s.beacons;
       pixel_service = s.pixel_service;
+      line_fill = s.line_fill;
       defaults = s.defaults;
       fonts = s.fonts;
     } };
@@ -81,6 +83,7 @@ impl Sign {
             max_pages: parts.max_pages,
             beacons: parts.beacons,
             pixel_service: parts.pixel_service,
+            line_fill: parts.line_fill,
             defaults: parts.defaults,
             fonts: Fonts::new(fonts),
         })
@@ -132,6 +135,14 @@ impl Sign {
         ensures sound { IsSound self.now }
     {
         self.pixel_service
+    }
+
+    /// Whether the sign breaks lines that no longer fit between words.
+    pub fn line_fill(&self) -> LineFill
+        ensures line_fill { result ≡ self.now.line_fill }
+        ensures sound { IsSound self.now }
+    {
+        self.line_fill
     }
 
     /// What holds unless a message says otherwise.

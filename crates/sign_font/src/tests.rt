@@ -1,6 +1,7 @@
 use crate::sample::sample_sign;
 use crate::{
-    CellPart, DefaultFault, Defaults, FontInfo, FontPart, Sign, SignFault, SignParts, TextFault,
+    CellPart, DefaultFault, Defaults, FontInfo, FontPart, LineFill, Sign, SignFault, SignParts,
+    TextFault,
 };
 use multi_token::Source;
 use std::alloc::{AllocError, Global};
@@ -142,6 +143,7 @@ fn the_sample_says_what_was_written(rt: HostRuntime) -> Result<(), Fail> {
         (sign.classic(), sign.beacons(), sign.pixel_service()),
         (false, false, false)
     );
+    assert_eq!(rt; sign.line_fill(), LineFill::Off);
     let defaults = sign.defaults();
     assert_eq!(rt; (defaults.font, defaults.line, defaults.page), (1, 3, 3));
     assert_eq!(rt; (defaults.page_on, defaults.page_off), (30, 0));
@@ -150,6 +152,19 @@ fn the_sample_says_what_was_written(rt: HostRuntime) -> Result<(), Fail> {
     let font = sign.default_font();
     assert_eq!(rt; (font.number, font.version, font.height), (1, 6699, 3));
     assert_eq!(rt; sign.tallest(), 5);
+    Ok(())
+}
+
+#[test]
+fn a_sign_fills_lines_as_it_was_written(rt: HostRuntime) -> Result<(), Fail> {
+    for line_fill in [LineFill::Off, LineFill::Words] {
+        let parts = SignParts {
+            line_fill,
+            ..sample_sign(rt.alloc())?
+        };
+        let sign = Sign::new(rt.alloc(), parts)?;
+        assert_eq!(rt; sign.line_fill(), line_fill);
+    }
     Ok(())
 }
 
