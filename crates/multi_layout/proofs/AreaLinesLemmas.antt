@@ -28,7 +28,7 @@ use Rattle.multi_layout.specs.Verdict.{fault_at, offences}
 use Rattle.multi_layout.specs.Walk.{IsBetween, IsFirst, IsRead}
 use Rattle.multi_layout.proofs.AreaSumLemmas.{area_placing, group_of_own}
 use Rattle.multi_layout.proofs.GroupSumLemmas.{placing_group}
-use Rattle.multi_layout.proofs.JudgedLemmas.{below_more}
+use Rattle.multi_layout.proofs.BoundLemmas.{below_more}
 use Rattle.multi_layout.proofs.KnownLinesLemmas.{known_none}
 use Rattle.multi_layout.proofs.NarrowLemmas.{narrow_area}
 use Rattle.multi_layout.proofs.RoomLemmas as room_lemmas

@@ -36,7 +36,7 @@ use Rattle.multi_layout.specs.State.{IsStateOf}
 use Rattle.multi_layout.specs.Sums.{IsBelow}
 use Rattle.multi_layout.specs.Walk.{IsBetween}
 use Rattle.multi_layout.proofs.DrawnLemmas.{covered_cover, covered_same}
-use Rattle.multi_layout.proofs.JudgedLemmas.{below_more}
+use Rattle.multi_layout.proofs.BoundLemmas.{below_more}
 use Rattle.multi_layout.proofs.MeaningLemmas.{does_tag}
 use Rattle.multi_layout.proofs.PaintLemmas.{glyph_found}
 use Rattle.multi_layout.proofs.SpotsLemmas.{same_page_behind}

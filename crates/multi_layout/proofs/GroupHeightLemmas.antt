@@ -9,29 +9,28 @@ use Rattle.sign_font.specs.declared.font.FontInfo.{FontInfo}
 use Rattle.multi_layout.specs.declared.line.Line.{Line}
 use Rattle.multi_layout.specs.declared.area.Ended.{Ended}
 use Rattle.multi_layout.specs.declared.area.Group.{Group}
-use Rattle.multi_layout.specs.Address.{Spot, is_glyph, is_break, in_group, lines_of}
+use Rattle.multi_layout.specs.Address.{Spot, is_glyph, is_break, lines_of}
 use Rattle.multi_layout.specs.Line.{average, line_height, line_spacing, height_of}
 use Rattle.multi_layout.specs.Sums.{line_sum, ended_sum, group_sum, IsPlacing, IsBreak}
 use Rattle.multi_layout.proofs.WordLemmas.{last_or_push}
 use Rattle.multi_layout.proofs.CutLemmas.{cut, part, cut_behind_is}
 use Rattle.multi_layout.proofs.HeightLemmas.{open_glyphs}
-use Rattle.multi_layout.proofs.GroupSumLemmas.{gap_of_break, largest_break, cut_sums, sums_are, sums_push, cut_glyphs, own_group, same_group, more_height}
+use Rattle.multi_layout.proofs.GroupSumLemmas.{gap_of_break, largest_break, cut_sums, sums_are, sums_push, same_group, more_height}
 
 abbrev ended : Option ℕ → ℕ → Option Ended
 ended gap spacing = Some (record { gap = gap; spacing = spacing })
 
 -- a group after one more `nl`
-module _ (just : ℕ) (area : List Spot) (s : Spot) (given : Option ℕ) (info : FontInfo) (placing : All IsPlacing area) (own : s.at.page_just ≡ just) (is : IsBreak s given info) where
-  pub group_break : (group : Group) (line : Line) (gap height spacing : ℕ) → group ≡ group_sum (in_group just area) → line ≡ line_sum []
+module _ (before : List Spot) (s : Spot) (given : Option ℕ) (info : FontInfo) (placing : All IsPlacing before) (is : IsBreak s given info) where
+  pub group_break : (group : Group) (line : Line) (gap height spacing : ℕ) → group ≡ group_sum before → line ≡ line_sum []
       → gap ≡ option_map_or (λ ended. unwrap_or ended.gap (average ended.spacing spacing)) group.last 0
       → height ≡ cond group.line.any group.line.height info.height → spacing ≡ cond group.line.any group.line.spacing info.line_spacing
-      → ◌≡◌ {A = Group} (record { ended = group.ended + 1; closed = group.closed + (gap + height); last = Some (record { gap = given; spacing = spacing }); line = line }) (group_sum (in_group just (area ++ s ∷ [])))
+      → ◌≡◌ {A = Group} (record { ended = group.ended + 1; closed = group.closed + (gap + height); last = Some (record { gap = given; spacing = spacing }); line = line }) (group_sum (before ++ s ∷ []))
   group_break group line gap height spacing e l g h n =
-      let before = in_group just area in
       let c = cut is_break before in
       let more = c.open' ++ s ∷ [] in
       let from : group ≡ cut_sums c = e ∙ sums_are before in
-      let glyphs : AllPass is_glyph c.open' = cut_glyphs just area placing in
+      let glyphs : AllPass is_glyph c.open' = open_glyphs before placing in
       let is_nl : is_break s ≡ true = ap (λ p. is_break (record { at = s.at; put = p })) is.put in
       let no_glyph : is_glyph s ≡ false = ap (λ p. is_glyph (record { at = s.at; put = p })) is.put in
       let high : height ≡ line_height more =
@@ -52,7 +51,6 @@ module _ (just : ℕ) (area : List Spot) (s : Spot) (given : Option ℕ) (info :
       let counted : group.ended + 1 ≡ length (c.closed ++ more ∷ []) = omega (arith, ap (λ (g : Group). g.ended) from, length-append c.closed (more ∷ [])) in
       same_group (group.ended + 1) (length (c.closed ++ more ∷ [])) (group.closed + (gap + height)) (height_of (c.closed ++ more ∷ [])) (ended given spacing) (option_map ended_sum (last_or None (c.closed ++ more ∷ []))) line (line_sum []) counted total last l
       ∙ sym (sums_push before s true is_nl)
-      ∙ ap group_sum (sym (own_group just area s own))
 
 -- THE HEIGHT OF A GROUP
 

@@ -14,18 +14,16 @@ use Rattle.sign_font.specs.declared.font.FontInfo.{FontInfo}
 use Rattle.sign_font.specs.Sound.{IsSound}
 use Rattle.multi_layout.specs.Attributes.{default_font, whole_sign}
 use Rattle.multi_layout.specs.declared.area.Area.{Area}
-use Rattle.multi_layout.specs.declared.area.Group.{Group}
-use Rattle.multi_layout.specs.declared.line.Line.{Line}
-use Rattle.multi_layout.specs.declared.line.Segment.{Segment}
 use Rattle.multi_layout.specs.declared.attributes.Attributes.{Attributes}
 use Rattle.multi_layout.specs.declared.state.State.{State}
 use Rattle.multi_layout.specs.Address.{Break, Cover, Glyph, Spot, Standing, put_at, spots, standing}
 use Rattle.multi_layout.specs.Meaning.{Meaning, Shows, Does, begins_area, is_new_page}
 use Rattle.multi_layout.specs.Offence.{conflicts, offence, too_big}
 use Rattle.multi_layout.specs.State.{IsReady, IsStateOf, attributes_of, present_area, standing_behind}
-use Rattle.multi_layout.specs.Sums.{IsBelow, IsGroupBelow, IsLineBelow, IsSegmentBelow, area_sum}
+use Rattle.multi_layout.specs.Sums.{IsBelow, area_sum}
 use Rattle.multi_layout.specs.Times.{Times, cycle, ended_times, times_at}
 use Rattle.multi_layout.specs.Verdict.{pages_of}
+use Rattle.multi_layout.proofs.BoundLemmas.{below_more}
 use Rattle.multi_layout.proofs.OffenceLemmas.{offence-undefined, offence-character, offence-break, offence-page, offence-rectangle}
 use Rattle.multi_layout.proofs.StandingLemmas.{standing_push}
 use Rattle.multi_layout.proofs.StateLemmas.{present_area-placing, present_area-nothing, present_area-cover, present_area-new}
@@ -86,27 +84,6 @@ none_mapped font (Some cell) e = cc
 some_mapped : (font : FontData) (o : Option CellData) (c : SizedCell) → option_map (sized font) o ≡ Some c → (cell : CellData) × (o ≡ Some cell) × (c.width ≡ cell.width)
 some_mapped font None c e = cc
 some_mapped font (Some cell) c e = (cell, refl, ap (λ (z : SizedCell). z.width) (sym (same_Some (sized font cell) c e)))
-
--- ---- bounds
-
-segment_more : (k m : ℕ) (segment : Segment) → k ≤ m → IsSegmentBelow k segment → IsSegmentBelow m segment
-segment_more k m segment h b = record { width = omega (arith, b.width); count = omega (arith, b.count) }
-
-line_more : (k m : ℕ) (line : Line) → k ≤ m → IsLineBelow k line → IsLineBelow m line
-line_more k m line h b = record {
-  left = omega (arith, b.left);
-  centre = omega (arith, b.centre);
-  right = omega (arith, b.right);
-  part = segment_more k m line.part h b.part;
-  known = b.known;
-}
-
-group_more : (k m : ℕ) (group : Group) → k ≤ m → IsGroupBelow k group → IsGroupBelow m group
-group_more k m group h b = record { ended = omega (arith, b.ended); closed = omega (arith, b.closed); line = line_more k m group.line h b.line }
-
--- what is below a bound is below a larger one
-pub below_more : (k m : ℕ) (area : Area) → k ≤ m → IsBelow k area → IsBelow m area
-below_more k m area h b = record { top = omega (arith, h, b.top); middle = omega (arith, h, b.middle); group = group_more k m area.group h b.group; known = b.known; some = b.some }
 
 -- ---- one more item that begins no page
 
@@ -174,10 +151,13 @@ module _ (sign : SignData) (items : List Meaning) (state : State) (st : IsStateO
   cell_is : (number : ℕ) → cell_in sign state.attributes.font.number number ≡ option_map (sized (standing sign items).font) (cell_numbered (standing sign items).font number)
   cell_is number = ap (λ n. cell_in sign n number) font_number ∙ cell_of_font sign (standing sign items).font number st.font
 
-  pub judged-undefined : (number : ℕ) → cell_in sign state.attributes.font.number number ≡ None → offence sign items (Shows number) ≡ Some 7
-  judged-undefined number none =
+  pub cell_missing : (number : ℕ) → cell_in sign state.attributes.font.number number ≡ None → cell_numbered (standing sign items).font number ≡ None
+  cell_missing number none =
       let font = (standing sign items).font in
-      offence-undefined sign items number (none_mapped font (cell_numbered font number) (sym (cell_is number) ∙ none))
+      none_mapped font (cell_numbered font number) (sym (cell_is number) ∙ none)
+
+  pub judged-undefined : (number : ℕ) → cell_in sign state.attributes.font.number number ≡ None → offence sign items (Shows number) ≡ Some 7
+  judged-undefined number none = offence-undefined sign items number (cell_missing number none)
 
   pub cell_found : (number : ℕ) (c : SizedCell) → cell_in sign state.attributes.font.number number ≡ Some c
       → (cell : CellData) × (cell_numbered (standing sign items).font number ≡ Some cell) × (c.width ≡ cell.width)

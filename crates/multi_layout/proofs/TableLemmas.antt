@@ -12,7 +12,7 @@ use Rattle.multi_layout.specs.Address.{Spot, is_glyph, is_break, segment, lines_
 use Rattle.multi_layout.specs.Line.{height_of, width_of}
 use Rattle.multi_layout.specs.Sums.{ended_lines, IsPlacing}
 use Rattle.multi_layout.specs.Table.{counted_line, line_entry, table_of}
-use Rattle.multi_layout.proofs.WordLemmas.{each_after_push, last_or_push, push_ind}
+use Rattle.multi_layout.proofs.WordLemmas.{each_after_length, each_after_push, last_or_push, push_ind}
 use Rattle.multi_layout.proofs.CutLemmas.{Cut, cut, cut_push, cut_behind_is}
 use Rattle.multi_layout.proofs.GroupHeightLemmas.{part_none, part_some}
 use Rattle.multi_layout.proofs.BehindLemmas.{after_last_is, ended_is, cut_if}
@@ -24,10 +24,6 @@ use Rattle.multi_layout.proofs.GroupSumLemmas.{break_put, glyph_put}
 -- a table after one more line
 pub table_push : (lines : List (List Spot)) (line : List Spot) → table_of (lines ++ line ∷ []) ≡ table_of lines ++ counted_line lines line ∷ []
 table_push lines line = each_after_push counted_line lines line
-
-each_after_length : {X Y : Type 0} (f : List X → X → Y) (xs : List X) → length (each_after f xs) ≡ length xs
-each_after_length f [] = refl
-each_after_length f (x ∷ xs) = ap suc (each_after_length (λ before. f (x ∷ before)) xs)
 
 -- a table has one entry for each line
 pub table_length : (lines : List (List Spot)) → length (table_of lines) ≡ length lines

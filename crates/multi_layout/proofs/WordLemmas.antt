@@ -1,5 +1,5 @@
 -- The words on lists, at one more item and at two lists.
-use Rattle.std.proofs.Common.{◌≡◌, ℕ, ◌+◌, ◌<◌, ◌≤◌, max, length, take, drop, get_or, List, [], ◌∷◌, ◌++◌, Option, Some, None, refl, sym, ap, subst, ◌∙◌, arith}
+use Rattle.std.proofs.Common.{◌≡◌, ℕ, ◌+◌, ◌<◌, ◌≤◌, max, length, take, drop, get_or, List, [], ◌∷◌, ◌++◌, Option, Some, None, suc, refl, sym, ap, subst, ◌∙◌, arith}
 use Rattle.std.specs.List.{sum_by, filter_map, last_or, cons_option, All}
 use Rattle.std.specs.Option.{option_map, option_map_or}
 use Rattle.std.proofs.lemmas.List.{append_assoc, append-nil, take_more, drop_more, take-append-drop}
@@ -10,6 +10,10 @@ use Rattle.multi_layout.specs.Words.{each_after, some_after, successive, largest
 pub each_after_push : {X Y : Type 0} (f : List X → X → Y) (xs : List X) (x : X) → each_after f (xs ++ x ∷ []) ≡ each_after f xs ++ f xs x ∷ []
 each_after_push f [] x = refl
 each_after_push f (y ∷ xs) x = ap (λ l. f [] y ∷ l) (each_after_push (λ before. f (y ∷ before)) xs x)
+
+pub each_after_length : {X Y : Type 0} (f : List X → X → Y) (xs : List X) → length (each_after f xs) ≡ length xs
+each_after_length f [] = refl
+each_after_length f (x ∷ xs) = ap suc (each_after_length (λ before. f (x ∷ before)) xs)
 
 pub last_or_push : {X : Type 0} (o : Option X) (xs : List X) (x : X) → last_or o (xs ++ x ∷ []) ≡ Some x
 last_or_push o [] x = refl

@@ -3,8 +3,16 @@ pub mod Attributes
 pub mod CheckedData
 pub mod Codes
 pub mod Drawn
+pub mod FillLaw
+pub mod FillOpen
+pub mod FillSums
+pub mod FilledState
+pub mod FilledVerdict
+pub mod Filling
 pub mod Fit
 pub mod KnownItem
+pub mod Laid
+pub mod LaidItems
 pub mod Lending
 pub mod Limits
 pub mod Line

@@ -79,8 +79,8 @@ impl Group {
     /// Adds an `nl` of this group.
     pub(crate) fn add_break(&mut self, gap: Option<u8>, font: &FontInfo)
         requires below { IsGroupBelow (2 ^ 62) self.old }
-        ensures sum { (just : ℕ) (area : List Spot) (s : Spot) → All IsPlacing area → self.old ≡ group_sum (in_group just area)
-            → IsBreak s gap font.now → s.at.page_just ≡ just → self.new ≡ group_sum (in_group just (area ++ s ∷ [])) }
+        ensures sum { (group : List Spot) (s : Spot) → All IsPlacing group → self.old ≡ group_sum group → IsBreak s gap font.now
+            → self.new ≡ group_sum (group ++ s ∷ []) }
         ensures grows { (k : ℕ) → IsGroupBelow k self.old → IsGroupBelow (k + 1024) self.new }
     {
         let height = self.line.ended_height(font);
@@ -161,7 +161,7 @@ impl Area {
     }
 
     /// Goes on to the group with a page justification, which isn't before that of the present one.
-    fn go_on(&mut self, page_just: u8)
+    pub(crate) fn go_on(&mut self, page_just: u8)
         requires page_just { (2 ≤ page_just) × (page_just ≤ 4) }
         requires below { IsBelow (2 ^ 62) self.old }
         ensures sum { (area : List Spot) → All IsPlacing area → self.old ≡ area_sum area → self.old.present ≤ page_just

@@ -13,6 +13,8 @@ mod checked;
 mod cursor;
 mod draw;
 mod fault;
+mod fill;
+mod filled;
 mod item;
 mod judge;
 mod laws;

@@ -1,5 +1,6 @@
 -- Worked examples of sign files, computed.
 use Rattle.std.proofs.Common.{◌≡◌, ℕ, List, [], ◌∷◌, ◌++◌, None, Some, false, refl, codes}
+use Rattle.sign_font.specs.declared.parts.LineFill.TheVariants.{Off}
 use Rattle.sign_font.specs.Sign.{SignData}
 use Rattle.message_store.specs.Slot.{PermanentData}
 use Rattle.sign_file.specs.SignFile.{FileData, file_of_octets}
@@ -21,6 +22,7 @@ its_sign width = record {
   max_pages = 2;
   beacons = false;
   pixel_service = false;
+  line_fill = Off;
   defaults = record { font = 1; line = 3; page = 3; page_on = 30; page_off = 0; flash_on = 5; flash_off = 5; fore = 1; back = 0 };
   fonts = record { number = 1; version = 0; height = 3; char_spacing = 1; line_spacing = 1; cells = record { number = 65; width = 3; bits = 0x5e ∷ 0x80 ∷ [] } ∷ [] } ∷ [];
 }

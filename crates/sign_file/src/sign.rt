@@ -10,7 +10,7 @@ use crate::fault::FileFault;
 use crate::keys::{
     Entry, flag_at, list_at, member, octets_at, scheme_of, text_at, u8_at, u16_at, u16_or,
 };
-use sign_font::{CellPart, Defaults, FontPart, SignParts};
+use sign_font::{CellPart, Defaults, FontPart, LineFill, SignParts};
 use std::alloc::Global;
 use toml::Table;
 
@@ -101,6 +101,7 @@ pub(crate) fn parts_of(alloc: Global, table: &Table) -> Result<SignParts, FileFa
         max_pages,
         beacons,
         pixel_service,
+        line_fill: LineFill::Off,
         defaults,
         fonts,
     })

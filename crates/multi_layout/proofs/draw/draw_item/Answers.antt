@@ -8,7 +8,8 @@ use Rattle.multi_layout.specs.Meaning.{Meaning, Shows, Does, begins_area, meanin
 use Rattle.multi_layout.specs.Offence.{offence}
 use Rattle.multi_layout.specs.Passes.{HasCounted, IsDrawnTo}
 use Rattle.multi_layout.proofs.DrawLemmas.{low_between, cell_height, map_split, four_octets, tag_drawn, rows_few, fill_few}
-use Rattle.multi_layout.proofs.JudgedLemmas.{below_more, judged-undefined}
+use Rattle.multi_layout.proofs.BoundLemmas.{below_more}
+use Rattle.multi_layout.proofs.JudgedLemmas.{judged-undefined}
 use Rattle.multi_layout.proofs.WalkLemmas.{never_offends}
 use Rattle.multi_layout.proofs.draw.draw_item.Goals as goal
 

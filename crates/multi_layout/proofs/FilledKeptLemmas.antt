@@ -1,0 +1,172 @@
+-- What is kept behind one more character, where lines are filled.
+use Rattle.std.proofs.Common.{◌≡◌, ℕ, ◌+◌, ◌*◌, ◌≤◌, Bool, true, false, cond, ◌&&◌, ◌||◌, ◌==◌, nat_lt, inl, inr, List, [], ◌∷◌, ◌++◌, length, Option, Some, None, refl, sym, ap, subst, ◌∙◌, arith}
+use Rattle.std.specs.List.{All, AllPass, after_last, find, list_any}
+use Rattle.std.specs.Option.{option_map}
+use Rattle.std.proofs.lemmas.Bool.{cases_Bool, cases_eq, eq-eqb, eqb-true, false≢true}
+use Rattle.std.proofs.lemmas.List.{length-append}
+use Rattle.std.proofs.lemmas.Option.{same_Some}
+use Rattle.sign_font.specs.declared.parts.LineFill.TheVariants.{Words}
+use Rattle.sign_font.specs.Cell.{SizedCell}
+use Rattle.sign_font.specs.Sign.{SignData, CellData, cell_in, cell_numbered}
+use Rattle.multi_layout.specs.declared.area.Area.{Area}
+use Rattle.multi_layout.specs.declared.attributes.Attributes.{Attributes}
+use Rattle.multi_layout.specs.declared.fill.Split.{Split}
+use Rattle.multi_layout.specs.declared.filled.Filled.{Filled}
+use Rattle.multi_layout.specs.declared.line.Character.{Character}
+use Rattle.multi_layout.specs.declared.line.Line.{Line}
+use Rattle.multi_layout.specs.Address.{Glyph, Spot, Standing, group_of, in_group, is_break, is_glyph, put_at, spots, standing}
+use Rattle.multi_layout.specs.Filling.{filled, is_space}
+use Rattle.multi_layout.specs.FilledState.{IsFilledOf}
+use Rattle.multi_layout.specs.FillSums.{IsSplitBelow, split_sum}
+use Rattle.multi_layout.specs.Fit.{area_fits, line_fits}
+use Rattle.multi_layout.specs.FilledVerdict.{filled_offence}
+use Rattle.multi_layout.specs.LaidItems.{laid_item, laid_items}
+use Rattle.multi_layout.specs.Meaning.{Meaning, Shows}
+use Rattle.multi_layout.specs.Offence.{clashes, conflicts}
+use Rattle.multi_layout.specs.State.{present_area}
+use Rattle.multi_layout.specs.Sums.{IsBelow, IsCharacter, IsLineBelow, IsPlacing, area_sum, line_sum}
+use Rattle.multi_layout.proofs.AreaSumLemmas.{area_placing, group_behind, in_group_other, no_back, no_clash}
+use Rattle.multi_layout.proofs.FilledCharacterLemmas.{area_with, goes_behind, present_is, shown}
+use Rattle.multi_layout.proofs.FilledJudgedLemmas.{Fills, attributes_here, conflict_is, filled_fits, filled_grown, filled_too_big, found_here, shown_character}
+use Rattle.multi_layout.proofs.FilledStateLemmas.{filled_state}
+use Rattle.multi_layout.proofs.GroupSumLemmas.{own_group, present_glyphs, present_push}
+use Rattle.multi_layout.proofs.StandingLemmas.{standing_push}
+use Rattle.multi_layout.proofs.StateLemmas.{present_area-placing}
+use Rattle.multi_layout.proofs.WordLemmas.{each_after_length}
+
+first_true : (a b : Bool) → (a && b) ≡ true → a ≡ true
+first_true true b e = refl
+first_true false b e = e
+
+-- the cell that was found has the number that was asked for
+found_cell : (cells : List CellData) (n : ℕ) (cell : CellData) → find (λ c. c.number == n) cells ≡ Some cell → cell.number ≡ n
+found_cell [] n cell e = cc
+found_cell (c ∷ cells) n cell e = elim (cases_Bool (c.number == n)) [
+  | inl here ↦
+      let is : Some c ≡ Some cell = sym (ap (λ b. cond b (Some c) (find (λ d. d.number == n) cells)) here) ∙ e in
+      ap (λ (d : CellData). d.number) (sym (same_Some c cell is)) ∙ eqb-true c.number n here
+  | inr there ↦ found_cell cells n cell (sym (ap (λ b. cond b (Some c) (find (λ d. d.number == n) cells)) there) ∙ e)
+]
+
+-- as many items are laid out as there are
+pub laid_count : (sign : SignData) (items : List Meaning) → length (laid_items Words sign items items) ≡ length items
+laid_count sign items = each_after_length (laid_item Words sign items) items
+
+module _ (sign : SignData) (items : List Meaning) (number : ℕ) (cell : CellData) (found : cell_numbered (standing sign items).font number ≡ Some cell) where
+  abbrev s : Spot
+  s = shown sign items number cell found
+
+  abbrev more : List Meaning
+  more = items ++ Shows number ∷ []
+
+  -- it is a space by its number
+  pub spaces_is : is_space s ≡ (number == 32)
+  spaces_is = ap (λ n. n == 32) (found_cell (standing sign items).font.cells number cell found)
+
+  -- the characters of its area with it
+  present_more : present_area sign more ≡ present_area sign items ++ s ∷ []
+  present_more =
+      let puts : put_at sign.defaults (standing sign items) (Shows number) ≡ Some (Glyph cell) = ap (option_map Glyph) found in
+      present_area-placing sign items (Shows number) (Glyph cell) refl puts refl
+
+  -- its group grows by it, and the others stay
+  own : in_group s.at.page_just (present_area sign more) ≡ group_of s (spots sign items) ++ s ∷ []
+  own = ap (in_group s.at.page_just) present_more ∙ own_group s.at.page_just (present_area sign items) s refl
+
+  other : (j : ℕ) → (s.at.page_just ≡ j → ⊥) → in_group j (present_area sign more) ≡ in_group j (present_area sign items)
+  other j apart = ap (in_group j) present_more ∙ in_group_other j (present_area sign items) s apart
+
+  width_more : (standing sign more).rectangle.width ≡ s.at.rectangle.width
+  width_more = ap (λ (t : Standing). t.rectangle.width) (standing_push sign items (Shows number))
+
+  module _ (kept : Filled) (of : IsFilledOf sign items kept) (apart : conflicts (spots sign items) (shown sign items number cell found) ≡ false) where
+    back : kept.state.area.present ≤ s.at.page_just
+    back = no_back (spots sign items) s s.at.page_just kept.state.area.present refl (present_is sign items number cell found kept.state of.state_is) apart
+
+    -- the order of the characters since the hard break
+    pub order_with : (goes_on : Bool) → goes_on ≡ (kept.state.attributes.page_just == kept.state.area.present) → kept.state.attributes.page_just ≡ s.at.page_just
+        → (character : Character) → IsCharacter s character → (order' : Line)
+        → ((line : List Spot) (s : Spot) → AllPass is_glyph line → IsCharacter s character → list_any (clashes s) line ≡ false
+        → (goes_on ≡ true → kept.order ≡ line_sum line) → (goes_on ≡ false → line ≡ []) → order' ≡ line_sum (line ++ s ∷ []))
+        → order' ≡ line_sum (after_last is_break (in_group s.at.page_just (present_area sign more)))
+    order_with goes_on goes at character is order' sum =
+        let all = spots sign items in
+        let just = s.at.page_just in
+        let line = after_last is_break (group_of s all) in
+        sum line s (present_glyphs just (present_area sign items) (area_placing all s)) is (no_clash all s just refl refl apart)
+        (λ e. of.order_is ∙ ap (λ j. line_sum (after_last is_break (in_group j (present_area sign items)))) (sym (eqb-true kept.state.attributes.page_just kept.state.area.present (sym goes ∙ e)) ∙ at))
+        (λ e. ap (after_last is_break) (group_behind just (present_area sign items) (elim (cases_eq kept.state.attributes.page_just kept.state.area.present) [
+          | inl same ↦ absurd (false≢true (sym e ∙ goes ∙ eq-eqb kept.state.attributes.page_just kept.state.area.present same))
+          | inr differ ↦ omega (arith, back, at, differ, present_is sign items number cell found kept.state of.state_is)
+        ])))
+        ∙ ap line_sum (sym (present_push (group_of s all) s refl) ∙ ap (after_last is_break) (sym own))
+
+    -- what is kept is that of the items with it
+    pub kept_with : (area' : Area) (split' : Option Split) (order' : Line) → area' ≡ area_sum (area_with sign items number cell found)
+        → split' ≡ split_sum (after_last is_break (filled (Some s.at.rectangle.width) (group_of s (spots sign items) ++ s ∷ [])))
+        → order' ≡ line_sum (after_last is_break (in_group s.at.page_just (present_area sign more)))
+        → IsBelow (1024 * length items + 1024) area' → IsSplitBelow (1024 * length items + 1024) split' → IsLineBelow (1024 * length items + 1024) order'
+        → line_fits s.at.rectangle.width (after_last is_break (filled (Some s.at.rectangle.width) (group_of s (spots sign items) ++ s ∷ []))) ≡ true
+        → IsFilledOf sign more (record { state = record kept.state { area = area' }; split = split'; order = order' })
+    kept_with area' split' order' area split order below split_below order_below fits =
+        let present : area'.present ≡ s.at.page_just = ap (λ (a : Area). a.present) area ∙ (goes_behind sign items number cell found apart).last in
+        let count : 1024 * length more ≡ 1024 * length items + 1024 = omega (arith, length-append items (Shows number ∷ [])) in
+        let laid : 1024 * length (laid_items Words sign more more) ≡ 1024 * length items + 1024 = ap (λ n. 1024 * n) (laid_count sign more) ∙ count in
+        let group_is : in_group area'.present (present_area sign more) ≡ group_of s (spots sign items) ++ s ∷ [] = ap (λ j. in_group j (present_area sign more)) present ∙ own in
+        record {
+          state_is = filled_state Words sign items number cell found kept.state area' of.state_is area (subst (λ n. IsBelow n area') (sym laid) below);
+          split_is = split ∙ sym (λ i. split_sum (after_last is_break (filled (Some (width_more i)) (group_is i))));
+          order_is = order ∙ ap (λ j. line_sum (after_last is_break (in_group j (present_area sign more)))) (sym present);
+          split_below = subst (λ n. IsSplitBelow n split') (sym count) split_below;
+          order_below = subst (λ n. IsLineBelow n order') (sym count) order_below;
+          fits = λ j. elim (cases_eq s.at.page_just j) [
+            | inl same ↦
+                let group : in_group j (present_area sign more) ≡ group_of s (spots sign items) ++ s ∷ [] = ap (λ j. in_group j (present_area sign more)) (sym same) ∙ own in
+                (λ i. line_fits (width_more i) (after_last is_break (filled (Some (width_more i)) (group i)))) ∙ fits
+            | inr differ ↦ (λ i. line_fits (width_more i) (after_last is_break (filled (Some (width_more i)) (other j differ i)))) ∙ of.fits j
+          ];
+        }
+
+-- a character is judged whose cell was found and which doesn't conflict
+module _ (sign : SignData) (items : List Meaning) (kept : Filled) (of : IsFilledOf sign items kept) (number : ℕ) (c : SizedCell) (some : cell_in sign kept.state.attributes.font.number number ≡ Some c)
+    (clash : Bool) (clashing : (line : List Spot) (s : Spot) → kept.order ≡ line_sum line → s.at.line_just ≡ kept.state.attributes.line_just → clash ≡ list_any (clashes s) line)
+    (goes_on : Bool) (goes : goes_on ≡ (kept.state.attributes.page_just == kept.state.area.present)) (free : (nat_lt kept.state.attributes.page_just kept.state.area.present || (goes_on && clash)) ≡ false)
+    (character : Character) (just : character.just ≡ kept.state.attributes.line_just) (spacing : character.spacing ≡ kept.state.attributes.spacing) (wide : character.width ≡ c.width)
+    (font : character.font ≡ kept.state.attributes.font) (area' : Area) (split' : Option Split)
+    (fills : (cell : CellData) (found : cell_numbered (standing sign items).font number ≡ Some cell) → Fills sign items kept of number c some clash clashing character (number == 32) area' split' kept.state.attributes.page_just kept.state.attributes.rectangle.width)
+    (f h : Bool) (line : (l : List Spot) → area'.group.line ≡ line_sum l → f ≡ line_fits kept.state.attributes.rectangle.width l)
+    (height : (l : List Spot) → All IsPlacing l → area' ≡ area_sum l → h ≡ area_fits kept.state.attributes.rectangle.height l) where
+  free' : (nat_lt kept.state.attributes.page_just kept.state.area.present || ((kept.state.attributes.page_just == kept.state.area.present) && clash)) ≡ false
+  free' = ap (λ b. nat_lt kept.state.attributes.page_just kept.state.area.present || (b && clash)) (sym goes) ∙ free
+
+  -- it is too big
+  pub exit_too_big : (f && h) ≡ false → filled_offence Words sign items (Shows number) ≡ Some 5
+  exit_too_big is =
+      let (cell, found, width) = found_here sign items kept of number c some in
+      let apart = conflict_is sign items kept of number c some clash clashing cell found ∙ free' in
+      let is' = shown_character sign items kept of number c some clash clashing cell found width character just spacing wide font in
+      filled_too_big sign items kept of number c some clash clashing cell found apart character is' (number == 32) (spaces_is sign items number cell found) area' split' (fills cell found) f h line height is
+
+  -- it fits
+  pub exit_fits : (f && h) ≡ true → (order' : Line)
+      → ((line : List Spot) (s : Spot) → AllPass is_glyph line → IsCharacter s character → list_any (clashes s) line ≡ false
+      → (goes_on ≡ true → kept.order ≡ line_sum line) → (goes_on ≡ false → line ≡ []) → order' ≡ line_sum (line ++ s ∷ []))
+      → IsBelow (1024 * length items + 1024) area' → IsSplitBelow (1024 * length items + 1024) split' → IsLineBelow (1024 * length items + 1024) order'
+      → (filled_offence Words sign items (Shows number) ≡ None) × IsFilledOf sign (items ++ Shows number ∷ []) (record { state = record kept.state { area = area' }; split = split'; order = order' })
+  exit_fits is order' sum below split_below order_below =
+      let (cell, found, width) = found_here sign items kept of number c some in
+      let s : Spot = shown sign items number cell found in
+      let at = ap (λ (a : Attributes). a.page_just) (attributes_here sign items kept of) in
+      let apart = conflict_is sign items kept of number c some clash clashing cell found ∙ free' in
+      let is' = shown_character sign items kept of number c some clash clashing cell found width character just spacing wide font in
+      let space = spaces_is sign items number cell found in
+      let (area, split) = filled_grown sign items kept of number c some clash clashing cell found apart character is' (number == 32) space area' split' (fills cell found) in
+      let goes_behind' = goes_behind sign items number cell found apart in
+      let line_is : area'.group.line ≡ line_sum (after_last is_break (filled (Some s.at.rectangle.width) (group_of s (spots sign items) ++ s ∷ []))) =
+      ap (λ (a : Area). a.group.line) area ∙ ap (λ j. line_sum (after_last is_break (in_group j (area_with sign items number cell found)))) goes_behind'.last ∙ ap (λ l. line_sum (after_last is_break l)) goes_behind'.after in
+      let last = after_last is_break (filled (Some s.at.rectangle.width) (group_of s (spots sign items) ++ s ∷ [])) in
+      let fits = ap (λ (a : Attributes). line_fits a.rectangle.width last) (sym (attributes_here sign items kept of)) ∙ sym (line last line_is) ∙ first_true f h is in
+      let order = order_with sign items number cell found kept of apart goes_on goes at character is' order' sum in (
+        filled_fits sign items kept of number c some clash clashing cell found apart character is' (number == 32) space area' split' (fills cell found) f h line height is,
+        kept_with sign items number cell found kept of apart area' split' order' area split order below split_below order_below fits,
+      )

@@ -1,0 +1,44 @@
+-- What is kept of an open line where lines are filled: the sums around its last space.
+use Rattle.std.specs.Prelude.{◌≡◌, ℕ, Bool, true, false, List, [], ◌∷◌, ◌++◌, Option, Some}
+use Rattle.std.specs.List.{All, after_last, list_any}
+use Rattle.std.specs.Option.{IfSome, option_map}
+use Rattle.sign_font.specs.Sign.{info_of}
+use Rattle.multi_layout.specs.declared.area.Group.{Group}
+use Rattle.multi_layout.specs.declared.fill.Split.{Split}
+use Rattle.multi_layout.specs.declared.line.Character.{Character}
+use Rattle.multi_layout.specs.Address.{Spot, in_group, is_break}
+use Rattle.multi_layout.specs.Filling.{CutAt, cut_at_last, filled, is_space}
+use Rattle.multi_layout.specs.Fit.{line_fits}
+use Rattle.multi_layout.specs.Offence.{clashes}
+use Rattle.multi_layout.specs.Words.{largest}
+use Rattle.multi_layout.specs.Sums.{IsCharacter, IsLineBelow, IsPlacing, group_sum, line_sum}
+
+-- the sums around a space of a line: of the characters before it, its font, and of those behind it (own)
+abbrev pub parts_sum : CutAt Spot → Split
+parts_sum cut = record { before = line_sum cut.before; font = info_of cut.item.at.font; behind = line_sum cut.behind }
+
+-- the sums around a line's last space, if it has one (own)
+abbrev pub split_sum : List Spot → Option Split
+split_sum line = option_map parts_sum (cut_at_last is_space line)
+
+-- the numbers of the parts of a line are at most k (own)
+abbrev pub IsSplitBelow : ℕ → Option Split → Type 0
+IsSplitBelow k split = IfSome split (λ s. IsLineBelow k s.before × IsLineBelow k s.behind)
+
+-- what so holds behind one more character of a filled group, where these are the sums of the group and of its open line's parts
+-- before it: whatever the group is, if its open line fits and the character may stand on that (own)
+abbrev pub OnFilled : ℕ → Group → Option Split → Character → Bool → (List Spot → Spot → Type 0) → Type 0
+OnFilled width old split character space So =
+    (group : List Spot) (s : Spot) → All IsPlacing group → IsCharacter s character → is_space s ≡ space
+    → line_fits width (after_last is_break (filled (Some width) group)) ≡ true
+    → list_any (clashes s) (after_last is_break (filled (Some width) group)) ≡ false
+    → old ≡ group_sum (filled (Some width) group) → split ≡ split_sum (after_last is_break (filled (Some width) group)) → So group s
+
+-- the laid items of an area, whose group with this page justification is these items, filled, and those with one more character:
+-- that group grows, the others stay, and none is behind it (own)
+pub record IsFilledOn (page_just width : ℕ) (group : List Spot) (s : Spot) (old new : List Spot) : Type 0 where
+  pub own : s.at.page_just ≡ page_just
+  pub before : in_group page_just old ≡ filled (Some width) group
+  pub after : in_group page_just new ≡ filled (Some width) (group ++ s ∷ [])
+  pub others : (just : ℕ) → (just ≡ page_just → ⊥) → in_group just new ≡ in_group just old
+  pub last : largest (λ t. t.at.page_just) new ≡ page_just
