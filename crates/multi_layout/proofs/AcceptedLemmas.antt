@@ -5,10 +5,12 @@ use Rattle.multi_token.specs.Spelling.{Item, spell}
 use Rattle.multi_token.proofs.SpellingLemmas.{one_reading}
 use Rattle.multi_token.proofs.ReadingLemmas.{each_string_has_a_reading}
 use Rattle.sign_font.specs.Sign.{SignData}
+use Rattle.multi_layout.specs.LaidItems.{laid_out}
 use Rattle.multi_layout.specs.Meaning.{meaning, meanings}
 use Rattle.multi_layout.specs.Times.{cycle, page_times}
 use Rattle.multi_layout.specs.Verdict.{Accepted, IsVerdict, IsCycle, broken, of_first, offences, pages_of, verdict_on}
-use Rattle.multi_layout.specs.Walk.{IsAccepted}
+use Rattle.multi_layout.specs.Walk.{IsAccepted, IsOrderly}
+use Rattle.multi_layout.proofs.OrderlyLemmas.{orderly_out}
 
 -- accepted means that there is no fault
 no_fault : (pages number : ℕ) (faults : List (ℕ × ℕ)) → Accepted pages ≡ of_first number faults → (pages ≡ number) × (faults ≡ [])
@@ -48,3 +50,7 @@ pub cycle_is : (sign : SignData) (octets : List ℕ) (tenths : ℕ) → IsCycle 
 cycle_is sign octets tenths (items, rest, read, is) =
     let same = one_reading octets items (reading octets).items rest (reading octets).rest read (each_string_has_a_reading octets) in
     is ∙ ap (λ l. cycle (page_times sign (map meaning l))) same.0
+
+-- none of its items offends, as they are laid out
+pub accepted_orderly : (sign : SignData) (octets : List ℕ) → IsAccepted sign octets (reading octets).items → IsOrderly sign (laid_out sign (meanings octets))
+accepted_orderly sign octets a = orderly_out sign (reading octets).items a.none

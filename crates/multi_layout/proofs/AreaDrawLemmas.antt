@@ -3,7 +3,7 @@ use Rattle.std.proofs.Common.{◌≡◌, ℕ, ◌+◌, ◌<◌, ◌≤◌, false
 use Rattle.std.proofs.Math.Nat.{mul-add, mul-le-mul_left}
 use Rattle.std.proofs.lemmas.List.{length-append, map-append}
 use Rattle.std.proofs.lemmas.List.Elements.{All-head, All-tail}
-use Rattle.multi_token.specs.Spelling.{Item, spelling, spell}
+use Rattle.multi_token.specs.Spelling.{spelling}
 use Rattle.multi_token.proofs.ReadingLemmas.{spelling_some}
 use Rattle.page_plane.specs.Plane.{BitPlane}
 use Rattle.sign_font.specs.Sign.{SignData, tallest}
@@ -13,23 +13,23 @@ use Rattle.multi_layout.specs.declared.paint.Layer.{Layer}
 use Rattle.multi_layout.specs.declared.table.LineTable.{LineTable}
 use Rattle.multi_layout.specs.Address.{spots, standing, in_area}
 use Rattle.multi_layout.specs.Limits.{plane_octets}
-use Rattle.multi_layout.specs.Meaning.{begins_area, meaning}
+use Rattle.multi_layout.specs.Meaning.{begins_area}
 use Rattle.multi_layout.specs.Passes.{HasCounted, IsDrawnTo, IsFilledBy, BeginsNoArea, whole_area}
-use Rattle.multi_layout.specs.Walk.{IsBetween, IsFirst, IsRead}
+use Rattle.multi_layout.specs.Walk.{IsBetween, IsPieceFirst, IsRead, meant, Piece, spell_of}
 use Rattle.multi_layout.proofs.StateLemmas.{same_area}
-use Rattle.multi_layout.proofs.WalkLemmas.{spell-append}
+use Rattle.multi_layout.proofs.WalkLemmas.{spell_of-append}
 
 -- these of the area's items are drawn, and those are left
-pub record AreaSoFar (sign : SignData) (octets : List ℕ) (before area rest : List Item) (lines : LineTable) (layer : Layer) (cursor : Cursor) (old new : BitPlane) : Type 0 where
-  pub done : List Item
-  pub left : List Item
+pub record AreaSoFar (sign : SignData) (octets : List ℕ) (before area rest : List Piece) (lines : LineTable) (layer : Layer) (cursor : Cursor) (old new : BitPlane) : Type 0 where
+  pub done : List Piece
+  pub left : List Piece
   pub split : area ≡ done ++ left
   pub plain : BeginsNoArea left
   pub between : IsBetween sign octets (before ++ done) (left ++ rest) cursor
   pub counted : HasCounted (whole_area sign (before ++ done) (left ++ rest)) lines
-  pub drawn : IsDrawnTo sign layer (map meaning (before ++ (area ++ rest))) (map meaning before) old → IsDrawnTo sign layer (map meaning (before ++ (area ++ rest))) (map meaning (before ++ done)) new
+  pub drawn : IsDrawnTo sign layer (map meant (before ++ (area ++ rest))) (map meant before) old → IsDrawnTo sign layer (map meant (before ++ (area ++ rest))) (map meant (before ++ done)) new
 
-module _ (sign : SignData) (octets : List ℕ) (before area rest : List Item) (lines : LineTable) (layer : Layer) (old : BitPlane) where
+module _ (sign : SignData) (octets : List ℕ) (before area rest : List Piece) (lines : LineTable) (layer : Layer) (old : BitPlane) where
   -- none is drawn
   pub area_begins : (cursor : Cursor) → IsBetween sign octets before (area ++ rest) cursor → BeginsNoArea area → HasCounted (whole_area sign before (area ++ rest)) lines
       → AreaSoFar sign octets before area rest lines layer cursor old old
@@ -41,21 +41,21 @@ module _ (sign : SignData) (octets : List ℕ) (before area rest : List Item) (l
         plain = plain;
         between = subst (λ l. IsBetween sign octets l (area ++ rest) cursor) (sym none) b;
         counted = subst (λ l. HasCounted (whole_area sign l (area ++ rest)) lines) (sym none) counted;
-        drawn = λ d. subst (λ l. IsDrawnTo sign layer (map meaning (before ++ (area ++ rest))) (map meaning l) old) (sym none) d;
+        drawn = λ d. subst (λ l. IsDrawnTo sign layer (map meant (before ++ (area ++ rest))) (map meant l) old) (sym none) d;
       }
 
-  module _ (cursor : Cursor) (new : BitPlane) (s : AreaSoFar sign octets before area rest lines layer cursor old new) (end : ℕ) (ends : end ≡ length (spell before) + length (spell area)) where
-    ahead : length (spell area) ≡ length (spell s.done) + length (spell s.left)
-    ahead = ap (λ l. length (spell l)) s.split ∙ ap length (spell-append s.done s.left) ∙ length-append (spell s.done) (spell s.left)
+  module _ (cursor : Cursor) (new : BitPlane) (s : AreaSoFar sign octets before area rest lines layer cursor old new) (end : ℕ) (ends : end ≡ length (spell_of before) + length (spell_of area)) where
+    ahead : length (spell_of area) ≡ length (spell_of s.done) + length (spell_of s.left)
+    ahead = ap (λ l. length (spell_of l)) s.split ∙ ap length (spell_of-append s.done s.left) ∙ length-append (spell_of s.done) (spell_of s.left)
 
-    here : cursor.at ≡ length (spell before) + length (spell s.done)
-    here = s.between.place ∙ ap length (spell-append before s.done) ∙ length-append (spell before) (spell s.done)
+    here : cursor.at ≡ length (spell_of before) + length (spell_of s.done)
+    here = s.between.placed.place ∙ ap length (spell_of-append before s.done) ∙ length-append (spell_of before) (spell_of s.done)
 
     -- before the end one is left
-    pub one_left : cursor.at < end → (item : Item) × (more : List Item) × (s.left ≡ item ∷ more)
+    pub one_left : cursor.at < end → (item : Piece) × (more : List Piece) × (s.left ≡ item ∷ more)
     one_left more = of s.left (omega (arith, more, ends, ahead, here))
       where
-        of : (left : List Item) → 1 ≤ length (spell left) → (item : Item) × (more : List Item) × (left ≡ item ∷ more)
+        of : (left : List Piece) → 1 ≤ length (spell_of left) → (item : Piece) × (more : List Piece) × (left ≡ item ∷ more)
         of [] h = absurd (omega (arith, h))
         of (item ∷ more) h = (item, more, refl)
 
@@ -63,9 +63,9 @@ module _ (sign : SignData) (octets : List ℕ) (before area rest : List Item) (l
     pub none_left : end ≤ cursor.at → s.left ≡ []
     none_left reached = of s.left (omega (arith, reached, ends, ahead, here))
       where
-        of : (left : List Item) → length (spell left) ≤ 0 → left ≡ []
+        of : (left : List Piece) → length (spell_of left) ≤ 0 → left ≡ []
         of [] h = refl
-        of (item ∷ more) h = absurd (omega (arith, h, spelling_some item, length-append (spelling item) (spell more)))
+        of (item ∷ more) h = absurd (omega (arith, h, spelling_some item.item, length-append (spelling item.item) (spell_of more)))
 
     pub area_ended : end ≤ cursor.at → (s.done ≡ area) × IsBetween sign octets (before ++ area) rest cursor
     area_ended reached =
@@ -83,54 +83,62 @@ module _ (sign : SignData) (octets : List ℕ) (before area rest : List Item) (l
 
     -- the cursor is at the end
     pub at_end : end ≤ cursor.at → cursor.at ≡ end
-    at_end reached = omega (arith, reached, (area_ended reached).1.place, ends, ap length (spell-append before area), length-append (spell before) (spell area))
+    at_end reached = omega (arith, reached, (area_ended reached).1.placed.place, ends, ap length (spell_of-append before area), length-append (spell_of before) (spell_of area))
+
+    -- an item is left
+    pub area_here : cursor.at < end → (item : Piece) × (more : List Piece) × IsBetween sign octets (before ++ s.done) (item ∷ (more ++ rest)) cursor
+    area_here before_end =
+        let (item, more, is) = one_left before_end in
+        (item, more, subst (λ l. IsBetween sign octets (before ++ s.done) (l ++ rest) cursor) is s.between)
 
     -- the next item is the first that is left
-    pub area_next : cursor.at < end → (next : NextItem) → ((earlier behind : List Item) → IsBetween sign octets earlier behind cursor → IsFirst behind (Some next))
-        → (item : Item) × (more : List Item) × (s.left ≡ item ∷ more) × IsBetween sign octets (before ++ s.done) (item ∷ (more ++ rest)) cursor × IsRead item next
-        × HasCounted (whole_area sign (before ++ s.done) (item ∷ (more ++ rest))) lines × (begins_area (meaning item) ≡ false)
+    pub area_next : cursor.at < end → (next : NextItem)
+        → ((earlier behind : List Piece) → IsBetween sign octets earlier behind cursor → HasCounted (whole_area sign earlier behind) lines → IsPieceFirst behind (Some next))
+        → (item : Piece) × (more : List Piece) × (s.left ≡ item ∷ more) × IsBetween sign octets (before ++ s.done) (item ∷ (more ++ rest)) cursor × IsRead item next
+        × HasCounted (whole_area sign (before ++ s.done) (item ∷ (more ++ rest))) lines × (begins_area (meant item) ≡ false)
     area_next before_end next first =
         let (item, more, is) = one_left before_end in
         let b : IsBetween sign octets (before ++ s.done) (item ∷ (more ++ rest)) cursor = subst (λ l. IsBetween sign octets (before ++ s.done) (l ++ rest) cursor) is s.between in
-        let (found, others, same, read) = first (before ++ s.done) (item ∷ (more ++ rest)) b in
+        let counted = subst (λ l. HasCounted (whole_area sign (before ++ s.done) (l ++ rest)) lines) is s.counted in
+        let (found, others, same, read) = first (before ++ s.done) (item ∷ (more ++ rest)) b counted in
         let one : found ≡ item = cc in (
           item,
           more,
           is,
           b,
           subst (λ x. IsRead x next) one read,
-          subst (λ l. HasCounted (whole_area sign (before ++ s.done) (l ++ rest)) lines) is s.counted,
-          All-head (λ x. begins_area (meaning x) ≡ false) item more (subst BeginsNoArea is s.plain),
+          counted,
+          All-head (λ x. begins_area (meant x) ≡ false) item more (subst BeginsNoArea is s.plain),
         )
 
     -- one more is drawn
-    pub area_more : (item : Item) (more : List Item) → s.left ≡ item ∷ more → (cursor' : Cursor) (new' : BitPlane)
+    pub area_more : (item : Piece) (more : List Piece) → s.left ≡ item ∷ more → (cursor' : Cursor) (new' : BitPlane)
         → IsBetween sign octets ((before ++ s.done) ++ item ∷ []) (more ++ rest) cursor'
-        → (IsDrawnTo sign layer (map meaning ((before ++ s.done) ++ item ∷ (more ++ rest))) (map meaning (before ++ s.done)) new → IsDrawnTo sign layer (map meaning ((before ++ s.done) ++ item ∷ (more ++ rest))) (map meaning ((before ++ s.done) ++ item ∷ [])) new')
+        → (IsDrawnTo sign layer (map meant ((before ++ s.done) ++ item ∷ (more ++ rest))) (map meant (before ++ s.done)) new → IsDrawnTo sign layer (map meant ((before ++ s.done) ++ item ∷ (more ++ rest))) (map meant ((before ++ s.done) ++ item ∷ [])) new')
         → AreaSoFar sign octets before area rest lines layer cursor' old new'
     area_more item more is cursor' new' between drawn =
         let plain = subst BeginsNoArea is s.plain in
-        let first : begins_area (meaning item) ≡ false = All-head (λ x. begins_area (meaning x) ≡ false) item more plain in
+        let first : begins_area (meant item) ≡ false = All-head (λ x. begins_area (meant x) ≡ false) item more plain in
         let assoc : (before ++ s.done) ++ item ∷ [] ≡ before ++ (s.done ++ item ∷ []) = append_assoc before s.done (item ∷ []) in
         let all : before ++ (area ++ rest) ≡ (before ++ s.done) ++ item ∷ (more ++ rest) =
         ap (λ l. before ++ (l ++ rest)) (s.split ∙ ap (λ l. s.done ++ l) is) ∙ ap (λ l. before ++ l) (append_assoc s.done (item ∷ more) rest) ∙ sym (append_assoc before s.done (item ∷ (more ++ rest))) in
         let on : (before ++ s.done) ++ item ∷ (more ++ rest) ≡ ((before ++ s.done) ++ item ∷ []) ++ (more ++ rest) = sym (append_assoc (before ++ s.done) (item ∷ []) (more ++ rest)) in
-        let area_is : (standing sign (map meaning ((before ++ s.done) ++ item ∷ []))).area ≡ (standing sign (map meaning (before ++ s.done))).area =
-        ap (λ ms. (standing sign ms).area) (map-append meaning (before ++ s.done) (item ∷ [])) ∙ same_area sign (map meaning (before ++ s.done)) (meaning item) first in
+        let area_is : (standing sign (map meant ((before ++ s.done) ++ item ∷ []))).area ≡ (standing sign (map meant (before ++ s.done))).area =
+        ap (λ ms. (standing sign ms).area) (map-append meant (before ++ s.done) (item ∷ [])) ∙ same_area sign (map meant (before ++ s.done)) (meant item) first in
         let counted : HasCounted (whole_area sign ((before ++ s.done) ++ item ∷ []) (more ++ rest)) lines =
-        subst (λ n. HasCounted (in_area n (spots sign (map meaning (((before ++ s.done) ++ item ∷ []) ++ (more ++ rest))))) lines) (sym area_is)
-        (subst (λ l. HasCounted (in_area (standing sign (map meaning (before ++ s.done))).area (spots sign (map meaning l))) lines) on (subst (λ l. HasCounted (whole_area sign (before ++ s.done) (l ++ rest)) lines) is s.counted)) in
+        subst (λ n. HasCounted (in_area n (spots sign (map meant (((before ++ s.done) ++ item ∷ []) ++ (more ++ rest))))) lines) (sym area_is)
+        (subst (λ l. HasCounted (in_area (standing sign (map meant (before ++ s.done))).area (spots sign (map meant l))) lines) on (subst (λ l. HasCounted (whole_area sign (before ++ s.done) (l ++ rest)) lines) is s.counted)) in
         record {
           done = s.done ++ item ∷ [];
           left = more;
           split = s.split ∙ ap (λ l. s.done ++ l) is ∙ sym (append_assoc s.done (item ∷ []) more);
-          plain = All-tail (λ x. begins_area (meaning x) ≡ false) item more plain;
+          plain = All-tail (λ x. begins_area (meant x) ≡ false) item more plain;
           between = subst (λ l. IsBetween sign octets l (more ++ rest) cursor') assoc between;
           counted = subst (λ l. HasCounted (whole_area sign l (more ++ rest)) lines) assoc counted;
           drawn = λ d.
-              subst (λ l. IsDrawnTo sign layer (map meaning (before ++ (area ++ rest))) (map meaning l) new') assoc
-              (subst (λ l. IsDrawnTo sign layer (map meaning l) (map meaning ((before ++ s.done) ++ item ∷ [])) new') (sym all)
-              (drawn (subst (λ l. IsDrawnTo sign layer (map meaning l) (map meaning (before ++ s.done)) new) all (s.drawn d))));
+              subst (λ l. IsDrawnTo sign layer (map meant (before ++ (area ++ rest))) (map meant l) new') assoc
+              (subst (λ l. IsDrawnTo sign layer (map meant l) (map meant ((before ++ s.done) ++ item ∷ [])) new') (sym all)
+              (drawn (subst (λ l. IsDrawnTo sign layer (map meant l) (map meant (before ++ s.done)) new) all (s.drawn d))));
         }
 
 -- the steps over the plane add up

@@ -6,13 +6,15 @@ use Rattle.std.proofs.Math.Bool.{or-false}
 use Rattle.std.proofs.lemmas.Bool.{cases_eq, cases_lt, eq-eqb, false≢true, le-ltb, lt-ltb, ne_eqb, or_cases}
 use Rattle.std.proofs.lemmas.List.{append-nil}
 use Rattle.std.proofs.lemmas.List.Elements.{All-push, All-weaker, filter-append, filter_passes}
+use Rattle.sign_font.specs.declared.parts.LineFill.TheVariants.{Off}
 use Rattle.multi_layout.specs.declared.area.Area.{Area}
 use Rattle.multi_layout.specs.declared.area.Group.{Group}
 use Rattle.multi_layout.specs.Words.{largest}
 use Rattle.multi_layout.specs.Address.{Spot, is_glyph, is_break, area_of, in_group, line_before, lines_of}
 use Rattle.multi_layout.specs.Fit.{line_fits, area_fits}
 use Rattle.multi_layout.specs.Line.{height_of}
-use Rattle.multi_layout.specs.Offence.{goes_back, clashes, conflicts, too_big}
+use Rattle.multi_layout.specs.Laid.{too_big}
+use Rattle.multi_layout.specs.Offence.{goes_back, clashes, conflicts}
 use Rattle.multi_layout.specs.Sums.{group_sum, area_sum, area_sum_in, height_before, line_sum, IsPlacing}
 use Rattle.multi_layout.proofs.WordLemmas.{largest_most, largest_push}
 use Rattle.multi_layout.proofs.AreaLemmas.{filter_none}
@@ -213,18 +215,18 @@ present_line before s page_just g page =
     ∙ present_push (in_group s.at.page_just (area_of s before)) s g
 
 pub fits_character : (before : List Spot) (s : Spot) (page_just width height : ℕ) (line area : Bool) → is_glyph s ≡ true → s.at.page_just ≡ page_just → s.at.rectangle.width ≡ width → s.at.rectangle.height ≡ height
-    → line ≡ line_fits width (after_last is_break (in_group page_just (area_of s before ++ s ∷ []))) → area ≡ area_fits height (area_of s before ++ s ∷ []) → (line && area) ≡ not (too_big before s)
+    → line ≡ line_fits width (after_last is_break (in_group page_just (area_of s before ++ s ∷ []))) → area ≡ area_fits height (area_of s before ++ s ∷ []) → (line && area) ≡ not (too_big Off before s)
 fits_character before s page_just width height line area g page w h l a =
-    let more = line_before before s ++ s ∷ [] in
-    let line' : line ≡ line_fits s.at.rectangle.width more = l ∙ ap (line_fits width) (present_line before s page_just g page) ∙ ap (λ n. line_fits n more) (sym w) in
+    let more = after_last is_break (in_group s.at.page_just (area_of s before ++ s ∷ [])) in
+    let line' : line ≡ line_fits s.at.rectangle.width more = l ∙ ap (λ n. line_fits width (after_last is_break (in_group n (area_of s before ++ s ∷ [])))) (sym page) ∙ ap (λ n. line_fits n more) (sym w) in
     let area' : area ≡ area_fits s.at.rectangle.height (area_of s before ++ s ∷ []) = a ∙ ap (λ n. area_fits n (area_of s before ++ s ∷ [])) (sym h) in
     ap (λ b. b && area) line' ∙ ap (λ b. line_fits s.at.rectangle.width more && b) area'
     ∙ both_fit (line_fits s.at.rectangle.width more) (area_fits s.at.rectangle.height (area_of s before ++ s ∷ []))
     ∙ ap (λ b. not ((b && not (line_fits s.at.rectangle.width more)) || not (area_fits s.at.rectangle.height (area_of s before ++ s ∷ [])))) (sym g)
 
-pub fits_break : (before : List Spot) (s : Spot) (height : ℕ) (area : Bool) → is_break s ≡ true → s.at.rectangle.height ≡ height → area ≡ area_fits height (area_of s before ++ s ∷ []) → area ≡ not (too_big before s)
+pub fits_break : (before : List Spot) (s : Spot) (height : ℕ) (area : Bool) → is_break s ≡ true → s.at.rectangle.height ≡ height → area ≡ area_fits height (area_of s before ++ s ∷ []) → area ≡ not (too_big Off before s)
 fits_break before s height area b h a =
-    let more = line_before before s ++ s ∷ [] in
+    let more = after_last is_break (in_group s.at.page_just (area_of s before ++ s ∷ [])) in
     a ∙ ap (λ n. area_fits n (area_of s before ++ s ∷ [])) (sym h)
     ∙ no_line (area_fits s.at.rectangle.height (area_of s before ++ s ∷ []))
     ∙ ap (λ b. not ((b && not (line_fits s.at.rectangle.width more)) || not (area_fits s.at.rectangle.height (area_of s before ++ s ∷ [])))) (sym (break_put s.at s.put b))

@@ -34,7 +34,7 @@ use Rattle.multi_layout.specs.Passes.{IsDrawnTo, IsFilledBy, IsQuiet}
 use Rattle.multi_layout.specs.Picture.{shown_colour}
 use Rattle.multi_layout.specs.State.{IsStateOf}
 use Rattle.multi_layout.specs.Sums.{IsBelow}
-use Rattle.multi_layout.specs.Walk.{IsBetween}
+use Rattle.multi_layout.specs.Walk.{IsBetween, meant, Piece}
 use Rattle.multi_layout.proofs.DrawnLemmas.{covered_cover, covered_same}
 use Rattle.multi_layout.proofs.BoundLemmas.{below_more}
 use Rattle.multi_layout.proofs.MeaningLemmas.{does_tag}
@@ -102,8 +102,8 @@ cell_height sign before state st number c found =
 -- ONE MORE ITEM
 
 -- the items of a string, as they mean
-pub map_split : (before rest : List spelled.Item) (item : spelled.Item) (m : Meaning) → meaning item ≡ m → map meaning (before ++ item ∷ rest) ≡ map meaning before ++ m ∷ map meaning rest
-map_split before rest item m e = map-append meaning before (item ∷ rest) ∙ ap (λ x. map meaning before ++ x ∷ map meaning rest) e
+pub map_split : (before rest : List Piece) (item : Piece) (m : Meaning) → meant item ≡ m → map meant (before ++ item ∷ rest) ≡ map meant before ++ m ∷ map meant rest
+map_split before rest item m e = map-append meant before (item ∷ rest) ∙ ap (λ x. map meant before ++ x ∷ map meant rest) e
 
 module _ (sign : SignData) (layer : Layer) (before rest : List Meaning) where
   -- a background covers the page
@@ -224,5 +224,21 @@ fill_few sign old new octets k four least most is width height = record {
 }
 
 -- the sums of the present area are small
-pub low_between : (sign : SignData) (octets : List ℕ) (before behind : List spelled.Item) (cursor : Cursor) → IsBetween sign octets before behind cursor → IsBelow (2 ^ 42) cursor.state.area
-low_between sign octets before behind cursor b = below_more (1024 * length (map meaning before)) (2 ^ 42) cursor.state.area (omega (arith, few_between sign octets before behind cursor b)) b.state_is.below
+-- a tag fills the plane once where it sets the background, and else never
+pub tag_filled : (sign : SignData) (old new : BitPlane) (octets : ℕ) (tag : Tag) → ((given : Option ℕ) → tag ≡ Back given → 4 ≤ octets) → old.steps ≤ new.steps → new.steps ≤ old.steps + plane_octets sign
+    → (IsQuiet tag → new ≡ old) → new.width ≡ old.width → new.height ≡ old.height → IsFilledBy sign old new octets
+tag_filled sign old new octets tag four least most quiet width height = of (back_or_quiet tag)
+  where
+    of : ((given : Option ℕ) × (tag ≡ Back given)) ⊎ IsQuiet tag → IsFilledBy sign old new octets
+    of (inl (given, is)) = fill_few sign old new octets (plane_octets sign) (four given is) least most refl width height
+    of (inr other) = record {
+      fills = 0;
+      few = omega arith;
+      least = least;
+      most = omega (arith, ap (λ (p : BitPlane). p.steps) (quiet other), no_more old.steps (tallest sign * octets) (plane_octets sign));
+      width = width;
+      height = height;
+    }
+
+pub low_between : (sign : SignData) (octets : List ℕ) (before behind : List Piece) (cursor : Cursor) → IsBetween sign octets before behind cursor → IsBelow (2 ^ 42) cursor.state.area
+low_between sign octets before behind cursor b = below_more (1024 * length (map meant before)) (2 ^ 42) cursor.state.area (omega (arith, few_between sign octets before behind cursor b)) b.state_is.below

@@ -1,15 +1,16 @@
--- The second reading knows a dropped space: as many characters stand on its line as were put there before it.
-use Rattle.std.proofs.Common.{◌≡◌, inl, inr, ⊎_elim, ℕ, ◌+◌, ◌<◌, ◌≤◌, Bool, true, false, cond, ◌==◌, List, [], ◌∷◌, ◌++◌, length, refl, sym, ap, ◌∙◌, arith, append_assoc}
+-- The second reading knows a dropped space: the segment in which it would stand is as wide on its line as it was before it.
+use Rattle.std.proofs.Common.{◌≡◌, inl, inr, ⊎_elim, ℕ, ◌+◌, ◌<◌, ◌≤◌, Bool, true, false, cond, ◌&&◌, ◌==◌, List, [], ◌∷◌, ◌++◌, length, refl, sym, ap, ◌∙◌, arith, append_assoc, append-nil}
 use Rattle.std.specs.Prelude.{slice_index_or}
-use Rattle.std.specs.List.{after_last, count_by, AllPass}
+use Rattle.std.specs.List.{after_last, count_by}
 use Rattle.std.proofs.lemmas.Bool.{eq-eqb, ne_eqb, cases_lt}
 use Rattle.std.proofs.lemmas.List.{get_or_at, get_or_append_left, length_push}
-use Rattle.std.proofs.lemmas.List.Elements.{All-head, All-tail}
+use Rattle.std.proofs.lemmas.List.Elements.{filter-append}
 use Rattle.std.proofs.lemmas.List.Sums.{sum_by_push, sum_by-append}
-use Rattle.multi_layout.specs.Address.{Spot, is_glyph, is_break, lines_of}
-use Rattle.multi_layout.specs.FillOpen.{standing_on}
+use Rattle.multi_layout.specs.Address.{Spot, is_glyph, is_break, lines_of, segment}
+use Rattle.multi_layout.specs.Line.{char_gap, glyph_width, width_of}
 use Rattle.multi_layout.specs.Sums.{IsPlacing}
-use Rattle.multi_layout.proofs.WordLemmas.{push_ind}
+use Rattle.multi_layout.proofs.WordLemmas.{extent_push, push_ind}
+use Rattle.multi_layout.proofs.CheckLemmas.{extent-append-le}
 use Rattle.multi_layout.proofs.CutLemmas.{Cut, cut, part, cut_push, cut_behind_is, cut_behind_push}
 use Rattle.multi_layout.proofs.BehindLemmas.{after_last_is, ended_is}
 use Rattle.multi_layout.proofs.TableLemmas.{ended_count}
@@ -98,34 +99,31 @@ module _ (front : List Spot) (y : Spot) where
   line_of : (back : List Spot) → LineOf front y back
   line_of = push_ind (LineOf front y) (record { rest = []; line = first_of front y; ends = λ b. refl; open' = open_one front y (is_break y) refl }) step_line
 
-all_stand : (line : List Spot) → AllPass is_glyph line → standing_on line ≡ length line
-all_stand [] h = refl
-all_stand (s ∷ line) h =
-    let one : cond {A = ℕ} (is_glyph s) 1 0 ≡ 1 = ap (λ b. cond b 1 0) (All-head (λ x. is_glyph x ≡ true) s line h) in
-    omega (arith, Rattle.std.proofs.lemmas.List.Sums.sum_by-cons (λ s. cond (is_glyph s) 1 0) s line, one, all_stand line (All-tail (λ x. is_glyph x ≡ true) s line h))
+-- what stands behind an item of a segment makes it no narrower
+wider : (j : ℕ) (open' rest : List Spot) (y : Spot) → is_glyph y ≡ true → y.at.line_just ≡ j → 1 ≤ glyph_width y → width_of (segment j open') < width_of (segment j (open' ++ y ∷ rest))
+wider j open' rest y glyph just wide =
+    let own : (is_glyph y && (y.at.line_just == j)) ≡ true = ap (λ b. b && (y.at.line_just == j)) glyph ∙ eq-eqb y.at.line_just j just in
+    let split : segment j (open' ++ y ∷ rest) ≡ segment j open' ++ y ∷ segment j rest =
+    filter-append (λ t. is_glyph t && (t.at.line_just == j)) open' (y ∷ rest) ∙ ap (λ b. segment j open' ++ cond b (y ∷ segment j rest) (segment j rest)) own in
+    let more = extent-append-le glyph_width char_gap (segment j rest) (segment j open' ++ y ∷ []) in
+    let one = extent_push glyph_width char_gap (segment j open') y in
+    omega (arith, wide, one, more, ap width_of split, ap width_of (append_assoc (segment j open') (y ∷ []) (segment j rest)))
 
--- an item of a filled group ends its line exactly where all characters of that line stand before it
-pub dropped_known : (front : List Spot) (y : Spot) (back : List Spot) → IsPlacing y → AllPass is_glyph (after_last is_break front)
-    → (length (after_last is_break front) == standing_on (slice_index_or (lines_of (front ++ y ∷ back)) (count_by is_break front) [])) ≡ is_break y
-dropped_known front y back placing glyphs =
+-- an item of a laid group ends its line exactly where the segment in which it would stand is as wide before it as on that line
+pub full_known : (j : ℕ) (front : List Spot) (y : Spot) (back : List Spot) → IsPlacing y → (is_glyph y ≡ true → (y.at.line_just ≡ j) × (1 ≤ glyph_width y))
+    → (width_of (segment j (after_last is_break front)) == width_of (segment j (slice_index_or (lines_of (front ++ y ∷ back)) (count_by is_break front) []))) ≡ is_break y
+full_known j front y back placing stands =
     let h = line_of front y back in
-    let open' = after_last is_break front in
-    ap (λ l. length open' == standing_on l) h.line
-    ∙ of placing
+    ap (λ l. width_of (segment j (after_last is_break front)) == width_of (segment j l)) h.line ∙ of placing
   where
-    of : IsPlacing y → (length (after_last is_break front) == standing_on (after_last is_break front ++ y ∷ (line_of front y back).rest)) ≡ is_break y
+    of : IsPlacing y → (width_of (segment j (after_last is_break front)) == width_of (segment j (after_last is_break front ++ y ∷ (line_of front y back).rest))) ≡ is_break y
     of (inl glyph) =
         let open' = after_last is_break front in
-        let rest = (line_of front y back).rest in
-        let one : cond {A = ℕ} (is_glyph y) 1 0 ≡ 1 = ap (λ b. cond b 1 0) glyph in
-        let more : length open' < standing_on (open' ++ y ∷ rest) =
-        omega (arith, sum_by-append (λ s. cond (is_glyph s) 1 0) open' (y ∷ rest), Rattle.std.proofs.lemmas.List.Sums.sum_by-cons (λ s. cond (is_glyph s) 1 0) y rest, one, all_stand open' glyphs) in
-        ne_eqb (length open') (standing_on (open' ++ y ∷ rest)) (λ e. omega (arith, more, e)) ∙ sym (glyph_put y.at y.put glyph).0
+        let more = wider j open' (line_of front y back).rest y glyph (stands glyph).0 (stands glyph).1 in
+        ne_eqb (width_of (segment j open')) (width_of (segment j (open' ++ y ∷ (line_of front y back).rest))) (λ e. omega (arith, more, e)) ∙ sym (glyph_put y.at y.put glyph).0
     of (inr breaks) =
         let open' = after_last is_break front in
-        let h = line_of front y back in
-        let none : cond {A = ℕ} (is_glyph y) 1 0 ≡ 0 = ap (λ b. cond b 1 0) (break_put y.at y.put breaks) in
-        let same : length open' ≡ standing_on (open' ++ y ∷ h.rest) =
-        let only : standing_on (open' ++ y ∷ h.rest) ≡ standing_on (open' ++ y ∷ []) = ap (λ l. standing_on (open' ++ y ∷ l)) (h.ends breaks) in
-        omega (arith, only, sum_by_push (λ s. cond (is_glyph s) 1 0) open' y, none, all_stand open' glyphs) in
-        eq-eqb (length open') (standing_on (open' ++ y ∷ h.rest)) same ∙ sym breaks
+        let none : (is_glyph y && (y.at.line_just == j)) ≡ false = ap (λ b. b && (y.at.line_just == j)) (break_put y.at y.put breaks) in
+        let same : segment j (open' ++ y ∷ (line_of front y back).rest) ≡ segment j open' =
+        ap (λ l. segment j (open' ++ y ∷ l)) ((line_of front y back).ends breaks) ∙ filter-append (λ t. is_glyph t && (t.at.line_just == j)) open' (y ∷ []) ∙ ap (λ b. segment j open' ++ cond b (y ∷ []) []) none ∙ append-nil (segment j open') in
+        eq-eqb (width_of (segment j open')) (width_of (segment j (open' ++ y ∷ (line_of front y back).rest))) (ap width_of (sym same)) ∙ sym breaks

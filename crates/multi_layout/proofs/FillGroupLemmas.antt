@@ -1,5 +1,5 @@
 -- The sums of a filled group at one more character, in each case that filling tells apart.
-use Rattle.std.proofs.Common.{◌≡◌, inl, inr, ℕ, Bool, true, false, List, [], ◌∷◌, ◌++◌, Option, Some, None, refl, sym, ap, subst, ◌∙◌, append_assoc}
+use Rattle.std.proofs.Common.{◌≡◌, inl, inr, ℕ, Bool, true, false, List, [], ◌∷◌, ◌++◌, Option, Some, None, refl, sym, ap, subst, ◌∙◌, append_assoc, append-nil}
 use Rattle.std.specs.List.{after_last, list_any, All, AllPass}
 use Rattle.std.specs.Option.{option_map}
 use Rattle.std.proofs.lemmas.List.Elements.{All-nil, All-cons, All-head, All-tail}
@@ -11,10 +11,12 @@ use Rattle.multi_layout.specs.declared.line.Line.{Line}
 use Rattle.multi_layout.specs.Address.{Spot, is_break, is_glyph}
 use Rattle.multi_layout.specs.Fit.{line_fits}
 use Rattle.multi_layout.specs.Filling.{CutAt, cut_at_last, dropped, filled, is_space}
-use Rattle.multi_layout.specs.FillSums.{parts_sum, split_sum}
+use Rattle.multi_layout.specs.FillSums.{EndsLine, parts_sum, split_sum}
 use Rattle.multi_layout.specs.Offence.{clashes}
-use Rattle.multi_layout.specs.Sums.{IsBreak, IsCharacter, IsPlacing, group_sum, line_sum}
+use Rattle.multi_layout.specs.Sums.{IsBreak, IsCharacter, IsPlacing, ended_lines, group_sum, line_sum}
 use Rattle.multi_layout.proofs.BreakLemmas.{all_glyphs, none_behind, relined}
+use Rattle.multi_layout.proofs.FilledEndedLemmas.{broken_line}
+use Rattle.multi_layout.proofs.TableLemmas.{ended_break, ended_glyph}
 use Rattle.multi_layout.proofs.FilledSumLemmas.{breaks, drops, stands, stays, word_grows}
 use Rattle.multi_layout.proofs.FillListLemmas.{is_cut}
 use Rattle.multi_layout.proofs.FillSplitLemmas.{parts_of}
@@ -124,6 +126,10 @@ module _ (width : ℕ) (group : List Spot) (s : Spot) (character : Character) (p
     pub stands_line : r ≡ true → after_last is_break more ≡ after_last is_break (filled (Some width) group) ++ s ∷ []
     stands_line h = ap (after_last is_break) (stands width group s placing is.glyph fits (sym r_is ∙ h)) ∙ present_push (filled (Some width) group) s is.glyph
 
+    -- then no line is ended
+    pub stands_ended : r ≡ true → EndsLine (filled (Some width) group) more None
+    stands_ended h = ap ended_lines (stands width group s placing is.glyph fits (sym r_is ∙ h)) ∙ ended_glyph (filled (Some width) group) s is.glyph
+
     -- it is a space that is dropped
     pub drops_sum : r ≡ false → is_space s ≡ true → (result : Group)
         → ((g : List Spot) (t : Spot) → All IsPlacing g → self ≡ group_sum g → IsBreak t None character.font → result ≡ group_sum (g ++ t ∷ [])) → result ≡ group_sum more
@@ -134,6 +140,17 @@ module _ (width : ℕ) (group : List Spot) (s : Spot) (character : Character) (p
     pub drops_split : r ≡ false → is_space s ≡ true → ◌≡◌ {A = Option Split} None (split_sum (after_last is_break more))
     drops_split h space =
         ap split_sum (sym (ap (after_last is_break) (drops width group s placing is.glyph fits (sym r_is ∙ h) space) ∙ none_behind (filled (Some width) group) (dropped s) refl))
+
+    -- it ends its line
+    pub drops_ended : r ≡ false → is_space s ≡ true → EndsLine (filled (Some width) group) more (Some self.line)
+    drops_ended h space = (
+      after_last is_break (filled (Some width) group),
+      dropped s,
+      present_line,
+      ([], sym (append-nil (after_last is_break (filled (Some width) group)))),
+      refl,
+      ap ended_lines (drops width group s placing is.glyph fits (sym r_is ∙ h) space) ∙ ended_break (filled (Some width) group) (dropped s) refl,
+    )
 
     -- it stays on a line that has no space
     no_space : None ≡ split_sum (after_last is_break (filled (Some width) group)) → cut_at_last is_space line ≡ None
@@ -148,6 +165,9 @@ module _ (width : ℕ) (group : List Spot) (s : Spot) (character : Character) (p
 
     pub stays_line : r ≡ false → is_space s ≡ false → None ≡ split_sum (after_last is_break (filled (Some width) group)) → after_last is_break more ≡ after_last is_break (filled (Some width) group) ++ s ∷ []
     stays_line h word o = ap (after_last is_break) (stays width group s placing is.glyph fits (sym r_is ∙ h) word (no_space o)) ∙ present_push (filled (Some width) group) s is.glyph
+
+    pub stays_ended : r ≡ false → is_space s ≡ false → None ≡ split_sum (after_last is_break (filled (Some width) group)) → EndsLine (filled (Some width) group) more None
+    stays_ended h word o = ap ended_lines (stays width group s placing is.glyph fits (sym r_is ∙ h) word (no_space o)) ∙ ended_glyph (filled (Some width) group) s is.glyph
 
     -- the line is broken at its last space
     module _ (h : r ≡ false) (word : is_space s ≡ false) (parts : Split) (o : Some parts ≡ split_sum (after_last is_break (filled (Some width) group))) where
@@ -171,6 +191,17 @@ module _ (width : ℕ) (group : List Spot) (s : Spot) (character : Character) (p
 
       more_is : more ≡ broken_front ++ (c.behind ++ s ∷ [])
       more_is = breaks width group s placing is.glyph fits c (sym r_is ∙ h) word found
+
+      -- what stands before it is ended
+      pub breaks_ended : EndsLine (filled (Some width) group) more (Some parts.before)
+      breaks_ended = (
+        c.before,
+        dropped c.item,
+        ap (λ (p : Split). p.before) (sym cut_there.2),
+        (c.item ∷ c.behind, line_is ∙ line_parts),
+        refl,
+        broken_line width group s placing is.glyph fits c (sym r_is ∙ h) word found,
+      )
 
       module _ (first : Group) (breaks_at : (front before behind : List Spot) (space : Spot) → All IsPlacing (front ++ before) → after_last is_break front ≡ [] → AllPass is_glyph before → AllPass is_glyph behind → is_glyph space ≡ true
           → self ≡ group_sum (front ++ (before ++ space ∷ behind)) → parts.before ≡ line_sum before → parts.font ≡ info_of space.at.font → parts.behind ≡ line_sum behind

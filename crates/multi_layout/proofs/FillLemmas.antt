@@ -20,7 +20,7 @@ cond_least true w g k = omega arith
 cond_least false w g k = omega arith
 
 -- one more character makes no segment narrower
-segment_grows : (just : ℕ) (line : List Spot) (s : Spot) → width_of (segment just line) ≤ width_of (segment just (line ++ s ∷ []))
+pub segment_grows : (just : ℕ) (line : List Spot) (s : Spot) → width_of (segment just line) ≤ width_of (segment just (line ++ s ∷ []))
 segment_grows just line s =
     subst (λ n. width_of (segment just line) ≤ n) (sym (segment_push just line s))
     (cond_least (is_glyph s && (s.at.line_just == just)) (width_of (segment just line)) (gap_before char_gap (segment just line) s) (glyph_width s))

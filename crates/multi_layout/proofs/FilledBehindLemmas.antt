@@ -6,7 +6,7 @@ use Rattle.std.proofs.lemmas.Bool.{cases_eq}
 use Rattle.std.proofs.lemmas.List.{length-append}
 use Rattle.multi_tag.specs.declared.tag.Tag.{Tag}
 use Rattle.multi_tag.specs.declared.tag.Tag.TheVariants.{NewPage, NewLine, LineJust, PageJust, Font, CharSpacing, CharSpacingEnd, PageTime, Flash, FlashEnd, Fore, Back, Rect, HexChar}
-use Rattle.sign_font.specs.declared.parts.LineFill.TheVariants.{Words}
+use Rattle.sign_font.specs.declared.parts.LineFill.TheVariants.{Off, Words}
 use Rattle.sign_font.specs.Sign.{SignData}
 use Rattle.multi_layout.specs.declared.area.Area.{Area}
 use Rattle.multi_layout.specs.declared.fault.SyntaxError.{SyntaxError}
@@ -17,9 +17,10 @@ use Rattle.multi_layout.specs.Filling.{filled}
 use Rattle.multi_layout.specs.FilledState.{IsFilledJudged, IsFilledOf, begins_line}
 use Rattle.multi_layout.specs.FillSums.{split_sum}
 use Rattle.multi_layout.specs.Fit.{line_fits}
+use Rattle.multi_layout.specs.Laid.{too_big}
 use Rattle.multi_layout.specs.LaidItems.{laid_items}
 use Rattle.multi_layout.specs.Meaning.{Meaning, Does}
-use Rattle.multi_layout.specs.Offence.{conflicts, offence, too_big}
+use Rattle.multi_layout.specs.Offence.{conflicts, offence}
 use Rattle.multi_layout.specs.State.{IsJudged, IsStateOf, present_area, standing_behind}
 use Rattle.multi_layout.specs.Sums.{line_sum}
 use Rattle.multi_layout.specs.Words.{largest}
@@ -87,7 +88,7 @@ module _ (sign : SignData) (items : List Meaning) (kept : Filled) (of : IsFilled
   }
 
 -- a line ends
-module _ (sign : SignData) (items : List Meaning) (kept : Filled) (of : IsFilledOf sign items kept) (gap : Option ℕ) (fine : offence sign (laid_items Words sign items items) (Does (NewLine gap)) ≡ None)
+module _ (sign : SignData) (items : List Meaning) (kept : Filled) (of : IsFilledOf sign items kept) (gap : Option ℕ) (fine : offence Off sign (laid_items Words sign items items) (Does (NewLine gap)) ≡ None)
     (state : State) (st : IsStateOf sign (laid_items Words sign items items ++ Does (NewLine gap) ∷ []) state) where
   abbrev nl : Spot
   nl = record { at = standing sign items; put = Break gap }
@@ -99,7 +100,7 @@ module _ (sign : SignData) (items : List Meaning) (kept : Filled) (of : IsFilled
   order =
       let laid = laid_items Words sign items items in
       let s : Spot = record { at = standing sign laid; put = Break gap } in
-      let free = no_conflict (conflicts (spots sign laid) s) (too_big (spots sign laid) s) (sym (offence-break sign laid gap) ∙ fine) in
+      let free = no_conflict (conflicts (spots sign laid) s) (too_big Off (spots sign laid) s) (sym (offence-break (too_big Off) sign laid gap) ∙ fine) in
       let here = ap (λ (t : Standing). t.page_just) (are_laid Words sign items items [] (sym (append-nil items))).0 in
       omega (arith, here, no_back (spots sign laid) s s.at.page_just kept.state.area.present refl (ap (λ (a : Area). a.present) of.state_is.area) free)
 
@@ -194,7 +195,7 @@ module _ (sign : SignData) (items : List Meaning) (kept : Filled) (of : IsFilled
   judged-stays tag (Err error) state e j = offends_as_laid sign items tag ∙ j
   judged-stays tag (Ok done) state e j = (offends_as_laid sign items tag ∙ j.0, stays sign items kept of tag state j.1 (area_stays tag e) (width_stays tag e))
 
-  begins_of : (tag : Tag) (state : State) → begins_line tag ≡ true → offence sign laid (Does tag) ≡ None → IsStateOf sign (laid ++ Does tag ∷ []) state
+  begins_of : (tag : Tag) (state : State) → begins_line tag ≡ true → offence Off sign laid (Does tag) ≡ None → IsStateOf sign (laid ++ Does tag ∷ []) state
       → IsFilledOf sign (items ++ Does tag ∷ []) (record { state = state; split = None; order = line_sum [] })
   begins_of NewPage state e fine st = begins sign items kept of NewPage state st (present_area-new sign items (Does NewPage) refl)
   begins_of (NewLine gap) state e fine st = ends sign items kept of gap fine state st

@@ -8,12 +8,11 @@ use Rattle.multi_layout.specs.declared.area.Area.{Area}
 use Rattle.multi_layout.specs.declared.state.State.{State}
 use Rattle.multi_layout.specs.Address.{Glyph, Spot, area_of, group_of, in_area, in_group, is_break, spots, standing}
 use Rattle.multi_layout.specs.FillSums.{IsFilledOn}
-use Rattle.multi_layout.specs.FilledVerdict.{filled_character_cases, filled_offence}
 use Rattle.multi_layout.specs.Fit.{area_fits, line_fits}
-use Rattle.multi_layout.specs.Laid.{laid, laid_too_big}
+use Rattle.multi_layout.specs.Laid.{laid, too_big}
 use Rattle.multi_layout.specs.LaidItems.{laid_items}
 use Rattle.multi_layout.specs.Meaning.{Meaning, Shows}
-use Rattle.multi_layout.specs.Offence.{clashes, conflicts, first_code}
+use Rattle.multi_layout.specs.Offence.{character_cases, clashes, conflicts, first_code, offence, offence_by}
 use Rattle.multi_layout.specs.State.{IsStateOf, present_area}
 use Rattle.multi_layout.specs.Words.{largest}
 use Rattle.multi_layout.proofs.AreaSumLemmas.{conflicts_character, no_back}
@@ -38,7 +37,7 @@ module _ (sign : SignData) (items : List Meaning) (number : ℕ) (cell : CellDat
   abbrev pub doesn't_fit : Bool
   doesn't_fit = not (line_fits shown.at.rectangle.width (after_last is_break (in_group shown.at.page_just area_with))) || not (area_fits shown.at.rectangle.height area_with)
 
-  too_big_is : laid_too_big Words (spots sign items) shown ≡ doesn't_fit
+  too_big_is : too_big Words (spots sign items) shown ≡ doesn't_fit
   too_big_is =
       too_big_laid Words shown.at.rectangle.width (spots sign items) shown (eq-eqb shown.at.area shown.at.area refl) (same_width sign items (Glyph cell))
       ∙ ap (λ l. not (line_fits shown.at.rectangle.width (after_last is_break (in_group shown.at.page_just l))) || not (area_fits shown.at.rectangle.height l)) (sym (laid_area_more Words sign items number cell found))
@@ -70,13 +69,13 @@ module _ (sign : SignData) (items : List Meaning) (number : ℕ) (cell : CellDat
       subst (λ l. IsFilledOn shown.at.page_just width (group_of shown all) shown l area_with) (sym before)
       (subst (λ l. IsFilledOn shown.at.page_just width (group_of shown all) shown (in_area shown.at.area (laid Words all all)) l) (sym behind) on)
 
-  pub offends_by : filled_offence Words sign items (Shows number) ≡ first_code ((conflicts (spots sign items) shown, 11) ∷ (doesn't_fit, 5) ∷ [])
-  unfolding filled_offence
+  pub offends_by : offence Words sign items (Shows number) ≡ first_code ((conflicts (spots sign items) shown, 11) ∷ (doesn't_fit, 5) ∷ [])
+  unfolding offence_by
   offends_by =
-      ap (λ o. first_code (filled_character_cases Words sign items o)) found
+      ap (λ o. first_code (character_cases (too_big Words) sign items o)) found
       ∙ ap (λ b. first_code ((conflicts (spots sign items) shown, 11) ∷ (b, 5) ∷ [])) too_big_is
 
 -- a character without a cell
-pub offends_without : (sign : SignData) (items : List Meaning) (number : ℕ) → cell_numbered (standing sign items).font number ≡ None → filled_offence Words sign items (Shows number) ≡ Some 7
-unfolding filled_offence
-offends_without sign items number none = ap (λ o. first_code (filled_character_cases Words sign items o)) none
+pub offends_without : (sign : SignData) (items : List Meaning) (number : ℕ) → cell_numbered (standing sign items).font number ≡ None → offence Words sign items (Shows number) ≡ Some 7
+unfolding offence_by
+offends_without sign items number none = ap (λ o. first_code (character_cases (too_big Words) sign items o)) none

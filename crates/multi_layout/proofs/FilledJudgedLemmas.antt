@@ -1,5 +1,5 @@
 -- One more character is judged where lines are filled, by what is kept of the items before it.
-use Rattle.std.proofs.Common.{◌≡◌, ℕ, ◌≤◌, Bool, true, false, not, ◌&&◌, ◌||◌, ◌==◌, nat_lt, List, [], ◌∷◌, ◌++◌, Option, Some, None, refl, sym, ap, subst, ◌∙◌, append-nil}
+use Rattle.std.proofs.Common.{◌≡◌, ℕ, Bool, true, false, not, ◌&&◌, ◌||◌, ◌==◌, nat_lt, List, [], ◌∷◌, ◌++◌, Option, Some, None, refl, sym, ap, subst, ◌∙◌, append-nil}
 use Rattle.std.specs.List.{All, after_last, list_any}
 use Rattle.sign_font.specs.declared.parts.LineFill.TheVariants.{Words}
 use Rattle.sign_font.specs.Cell.{SizedCell}
@@ -7,17 +7,17 @@ use Rattle.sign_font.specs.Sign.{SignData, CellData, cell_in, cell_numbered}
 use Rattle.multi_layout.specs.declared.area.Area.{Area}
 use Rattle.multi_layout.specs.declared.fill.Split.{Split}
 use Rattle.multi_layout.specs.declared.line.Character.{Character}
+use Rattle.multi_layout.specs.declared.line.Line.{Line}
 use Rattle.multi_layout.specs.declared.attributes.Attributes.{Attributes}
 use Rattle.multi_layout.specs.declared.filled.Filled.{Filled}
 use Rattle.multi_layout.specs.Address.{Glyph, Spot, Standing, area_of, group_of, in_group, is_break, spots, standing}
 use Rattle.multi_layout.specs.Filling.{filled, is_space}
-use Rattle.multi_layout.specs.FillSums.{IsFilledOn, split_sum}
+use Rattle.multi_layout.specs.FillSums.{EndsLine, FillsArea, split_sum}
 use Rattle.multi_layout.specs.Fit.{area_fits, line_fits}
 use Rattle.multi_layout.specs.FilledState.{IsFilledOf}
-use Rattle.multi_layout.specs.FilledVerdict.{filled_offence}
 use Rattle.multi_layout.specs.LaidItems.{laid_items}
 use Rattle.multi_layout.specs.Meaning.{Meaning, Shows}
-use Rattle.multi_layout.specs.Offence.{clashes, conflicts, first_code}
+use Rattle.multi_layout.specs.Offence.{clashes, conflicts, first_code, offence}
 use Rattle.multi_layout.specs.State.{attributes_of, present_area}
 use Rattle.multi_layout.specs.Sums.{IsCharacter, IsPlacing, area_sum, line_sum}
 use Rattle.multi_layout.proofs.AreaSumLemmas.{area_placing, no_back, no_clash}
@@ -49,7 +49,7 @@ module _ (sign : SignData) (items : List Meaning) (kept : Filled) (of : IsFilled
       (cell, ap (λ (s : Standing). cell_numbered s.font number) (sym here) ∙ found, width)
 
   -- it has none
-  pub filled_undefined : (number : ℕ) → cell_in sign kept.state.attributes.font.number number ≡ None → filled_offence Words sign items (Shows number) ≡ Some 7
+  pub filled_undefined : (number : ℕ) → cell_in sign kept.state.attributes.font.number number ≡ None → offence Words sign items (Shows number) ≡ Some 7
   filled_undefined number none =
       let without = cell_missing sign (laid_items Words sign items items) kept.state of.state_is number none in
       offends_without sign items number (ap (λ (s : Standing). cell_numbered s.font number) (sym here) ∙ without)
@@ -65,11 +65,12 @@ module _ (sign : SignData) (items : List Meaning) (kept : Filled) (of : IsFilled
 
     -- it conflicts with what is before it
     pub filled_conflict : (nat_lt kept.state.attributes.page_just kept.state.area.present || ((kept.state.attributes.page_just == kept.state.area.present) && clash)) ≡ true
-        → filled_offence Words sign items (Shows number) ≡ Some 11
+        → offence Words sign items (Shows number) ≡ Some 11
     filled_conflict is =
         let (cell, found, width) = found_here number c some in
         offends_by sign items number cell found ∙ ap (λ b. first_code ((b, 11) ∷ (doesn't_fit sign items number cell found, 5) ∷ [])) (conflict_is cell found ∙ is)
 
+  module _ (number : ℕ) (c : SizedCell) (some : cell_in sign kept.state.attributes.font.number number ≡ Some c) where
     -- what is read of it is what it is
     pub shown_character : (cell : CellData) (found : cell_numbered (standing sign items).font number ≡ Some cell) → c.width ≡ cell.width
         → (character : Character) → character.just ≡ kept.state.attributes.line_just → character.spacing ≡ kept.state.attributes.spacing → character.width ≡ c.width → character.font ≡ kept.state.attributes.font
@@ -83,27 +84,23 @@ module _ (sign : SignData) (items : List Meaning) (kept : Filled) (of : IsFilled
     }
 
     -- what `Area::fill_character` says of the area and the split behind it, by its page justification and the width of its rectangle
-    abbrev pub Fills : Character → Bool → Area → Option Split → ℕ → ℕ → Type 0
-    Fills character space area' split' just width =
-        (old new group : List Spot) (s : Spot) → All IsPlacing old → All IsPlacing group → kept.state.area ≡ area_sum old → kept.state.area.present ≤ just
-        → IsFilledOn just width group s old new → IsCharacter s character → is_space s ≡ space
-        → line_fits width (after_last is_break (filled (Some width) group)) ≡ true
-        → list_any (clashes s) (after_last is_break (filled (Some width) group)) ≡ false
-        → (kept.state.area.present ≡ just → kept.split ≡ split_sum (after_last is_break (filled (Some width) group)))
-        → (area' ≡ area_sum new) × (split' ≡ split_sum (after_last is_break (filled (Some width) (group ++ s ∷ []))))
+    abbrev pub Fills : Character → Bool → Area → Option Split → Option Line → ℕ → ℕ → Type 0
+    Fills character space area' split' ended just width = FillsArea just width kept.state.area kept.split character space area' split' ended
 
     module _ (cell : CellData) (found : cell_numbered (standing sign items).font number ≡ Some cell) (apart : conflicts (spots sign items) (shown sign items number cell found) ≡ false)
         (character : Character) (is : IsCharacter (shown sign items number cell found) character) (space : Bool) (spaces : is_space (shown sign items number cell found) ≡ space)
-        (area' : Area) (split' : Option Split) (fills : Fills character space area' split' kept.state.attributes.page_just kept.state.attributes.rectangle.width) where
+        (area' : Area) (split' : Option Split) (ended : Option Line) (fills : Fills character space area' split' ended kept.state.attributes.page_just kept.state.attributes.rectangle.width) where
       pub filled_grown : (area' ≡ area_sum (area_with sign items number cell found))
           × (split' ≡ split_sum (after_last is_break (filled (Some (standing sign items).rectangle.width) (group_of (shown sign items number cell found) (spots sign items) ++ shown sign items number cell found ∷ []))))
+          × EndsLine (filled (Some (standing sign items).rectangle.width) (group_of (shown sign items number cell found) (spots sign items)))
+          (filled (Some (standing sign items).rectangle.width) (group_of (shown sign items number cell found) (spots sign items) ++ shown sign items number cell found ∷ [])) ended
       filled_grown =
           let all = spots sign items in
           let s : Spot = shown sign items number cell found in
           let laid = laid_items Words sign items items in
           let behind : Spot = record { at = standing sign laid; put = Glyph cell } in
           let placing = placing_group s.at.page_just (area_of s all) (area_placing all s) in
-          let fills' : Fills character space area' split' s.at.page_just s.at.rectangle.width = subst (λ (a : Attributes). Fills character space area' split' a.page_just a.rectangle.width) attributes_here fills in
+          let fills' : Fills character space area' split' ended s.at.page_just s.at.rectangle.width = subst (λ (a : Attributes). Fills character space area' split' ended a.page_just a.rectangle.width) attributes_here fills in
           fills' (present_area sign laid) (area_with sign items number cell found) (group_of s all) s
           (area_placing (spots sign laid) behind) placing of.state_is.area
           (no_back all s s.at.page_just kept.state.area.present refl (present_is sign items number cell found kept.state of.state_is) apart)
@@ -132,13 +129,13 @@ module _ (sign : SignData) (items : List Meaning) (kept : Filled) (of : IsFilled
             both_are false b = refl
 
         -- too big
-        pub filled_too_big : (f && h) ≡ false → filled_offence Words sign items (Shows number) ≡ Some 5
+        pub filled_too_big : (f && h) ≡ false → offence Words sign items (Shows number) ≡ Some 5
         filled_too_big is =
             offends_by sign items number cell found
             ∙ ap (λ b. first_code ((b, 11) ∷ (doesn't_fit sign items number cell found, 5) ∷ [])) apart
             ∙ ap (λ b. first_code ((false, 11) ∷ (b, 5) ∷ [])) (not_not (doesn't_fit sign items number cell found) true (sym fits_is ∙ is))
 
-        pub filled_fits : (f && h) ≡ true → filled_offence Words sign items (Shows number) ≡ None
+        pub filled_fits : (f && h) ≡ true → offence Words sign items (Shows number) ≡ None
         filled_fits is =
             offends_by sign items number cell found
             ∙ ap (λ b. first_code ((b, 11) ∷ (doesn't_fit sign items number cell found, 5) ∷ [])) apart

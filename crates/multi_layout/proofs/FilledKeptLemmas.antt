@@ -1,5 +1,5 @@
 -- What is kept behind one more character, where lines are filled.
-use Rattle.std.proofs.Common.{◌≡◌, ℕ, ◌+◌, ◌*◌, ◌≤◌, Bool, true, false, cond, ◌&&◌, ◌||◌, ◌==◌, nat_lt, inl, inr, List, [], ◌∷◌, ◌++◌, length, Option, Some, None, refl, sym, ap, subst, ◌∙◌, arith}
+use Rattle.std.proofs.Common.{◌≡◌, ℕ, ◌+◌, ◌*◌, ◌≤◌, Bool, true, false, cond, not, ◌&&◌, ◌||◌, ◌==◌, nat_lt, inl, inr, List, [], ◌∷◌, ◌++◌, length, Option, Some, None, refl, sym, ap, subst, ◌∙◌, arith}
 use Rattle.std.specs.List.{All, AllPass, after_last, find, list_any}
 use Rattle.std.specs.Option.{option_map}
 use Rattle.std.proofs.lemmas.Bool.{cases_Bool, cases_eq, eq-eqb, eqb-true, false≢true}
@@ -16,17 +16,16 @@ use Rattle.multi_layout.specs.declared.line.Character.{Character}
 use Rattle.multi_layout.specs.declared.line.Line.{Line}
 use Rattle.multi_layout.specs.Address.{Glyph, Spot, Standing, group_of, in_group, is_break, is_glyph, put_at, spots, standing}
 use Rattle.multi_layout.specs.Filling.{filled, is_space}
-use Rattle.multi_layout.specs.FilledState.{IsFilledOf}
-use Rattle.multi_layout.specs.FillSums.{IsSplitBelow, split_sum}
+use Rattle.multi_layout.specs.FilledState.{IsFilledBehind, IsFilledOf}
+use Rattle.multi_layout.specs.FillSums.{EndsLine, IsSplitBelow, split_sum}
 use Rattle.multi_layout.specs.Fit.{area_fits, line_fits}
-use Rattle.multi_layout.specs.FilledVerdict.{filled_offence}
 use Rattle.multi_layout.specs.LaidItems.{laid_item, laid_items}
 use Rattle.multi_layout.specs.Meaning.{Meaning, Shows}
-use Rattle.multi_layout.specs.Offence.{clashes, conflicts}
+use Rattle.multi_layout.specs.Offence.{clashes, conflicts, first_code, offence}
 use Rattle.multi_layout.specs.State.{present_area}
 use Rattle.multi_layout.specs.Sums.{IsBelow, IsCharacter, IsLineBelow, IsPlacing, area_sum, line_sum}
 use Rattle.multi_layout.proofs.AreaSumLemmas.{area_placing, group_behind, in_group_other, no_back, no_clash}
-use Rattle.multi_layout.proofs.FilledCharacterLemmas.{area_with, goes_behind, present_is, shown}
+use Rattle.multi_layout.proofs.FilledCharacterLemmas.{area_with, doesn't_fit, goes_behind, offends_by, offends_without, present_is, shown}
 use Rattle.multi_layout.proofs.FilledJudgedLemmas.{Fills, attributes_here, conflict_is, filled_fits, filled_grown, filled_too_big, found_here, shown_character}
 use Rattle.multi_layout.proofs.FilledStateLemmas.{filled_state}
 use Rattle.multi_layout.proofs.GroupSumLemmas.{own_group, present_glyphs, present_push}
@@ -37,6 +36,11 @@ use Rattle.multi_layout.proofs.WordLemmas.{each_after_length}
 first_true : (a b : Bool) → (a && b) ≡ true → a ≡ true
 first_true true b e = refl
 first_true false b e = e
+
+none_of_both : (a b : Bool) → first_code ((a, 11) ∷ (b, 5) ∷ []) ≡ None → (a ≡ false) × (b ≡ false)
+none_of_both true b e = cc
+none_of_both false true e = cc
+none_of_both false false e = (refl, refl)
 
 -- the cell that was found has the number that was asked for
 found_cell : (cells : List CellData) (n : ℕ) (cell : CellData) → find (λ c. c.number == n) cells ≡ Some cell → cell.number ≡ n
@@ -127,46 +131,94 @@ module _ (sign : SignData) (items : List Meaning) (number : ℕ) (cell : CellDat
           ];
         }
 
+-- a character that doesn't offend isn't before the present group
+module _ (sign : SignData) (items : List Meaning) (kept : Filled) (of : IsFilledOf sign items kept) (number : ℕ) (fine : offence Words sign items (Shows number) ≡ None) where
+  on_by : (o : Option CellData) → cell_numbered (standing sign items).font number ≡ o → kept.state.area.present ≤ kept.state.attributes.page_just
+  on_by None found = let wrong : ◌≡◌ {A = Option ℕ} (Some 7) None = sym (offends_without sign items number found) ∙ fine in absurd cc
+  on_by (Some cell) found =
+      let at = ap (λ (a : Attributes). a.page_just) (attributes_here sign items kept of) in
+      let apart = (none_of_both (conflicts (spots sign items) (shown sign items number cell found)) (doesn't_fit sign items number cell found) (sym (offends_by sign items number cell found) ∙ fine)).0 in
+      omega (arith, at, back sign items number cell found kept of apart)
+
+  pub goes_on : kept.state.area.present ≤ kept.state.attributes.page_just
+  goes_on = on_by (cell_numbered (standing sign items).font number) refl
+
 -- a character is judged whose cell was found and which doesn't conflict
 module _ (sign : SignData) (items : List Meaning) (kept : Filled) (of : IsFilledOf sign items kept) (number : ℕ) (c : SizedCell) (some : cell_in sign kept.state.attributes.font.number number ≡ Some c)
     (clash : Bool) (clashing : (line : List Spot) (s : Spot) → kept.order ≡ line_sum line → s.at.line_just ≡ kept.state.attributes.line_just → clash ≡ list_any (clashes s) line)
     (goes_on : Bool) (goes : goes_on ≡ (kept.state.attributes.page_just == kept.state.area.present)) (free : (nat_lt kept.state.attributes.page_just kept.state.area.present || (goes_on && clash)) ≡ false)
     (character : Character) (just : character.just ≡ kept.state.attributes.line_just) (spacing : character.spacing ≡ kept.state.attributes.spacing) (wide : character.width ≡ c.width)
-    (font : character.font ≡ kept.state.attributes.font) (area' : Area) (split' : Option Split)
-    (fills : (cell : CellData) (found : cell_numbered (standing sign items).font number ≡ Some cell) → Fills sign items kept of number c some clash clashing character (number == 32) area' split' kept.state.attributes.page_just kept.state.attributes.rectangle.width)
+    (font : character.font ≡ kept.state.attributes.font) (area' : Area) (split' : Option Split) (ended : Option Line)
+    (fills : (cell : CellData) (found : cell_numbered (standing sign items).font number ≡ Some cell) → Fills sign items kept of number c some character (number == 32) area' split' ended kept.state.attributes.page_just kept.state.attributes.rectangle.width)
     (f h : Bool) (line : (l : List Spot) → area'.group.line ≡ line_sum l → f ≡ line_fits kept.state.attributes.rectangle.width l)
     (height : (l : List Spot) → All IsPlacing l → area' ≡ area_sum l → h ≡ area_fits kept.state.attributes.rectangle.height l) where
   free' : (nat_lt kept.state.attributes.page_just kept.state.area.present || ((kept.state.attributes.page_just == kept.state.area.present) && clash)) ≡ false
   free' = ap (λ b. nat_lt kept.state.attributes.page_just kept.state.area.present || (b && clash)) (sym goes) ∙ free
 
   -- it is too big
-  pub exit_too_big : (f && h) ≡ false → filled_offence Words sign items (Shows number) ≡ Some 5
+  pub exit_too_big : (f && h) ≡ false → offence Words sign items (Shows number) ≡ Some 5
   exit_too_big is =
       let (cell, found, width) = found_here sign items kept of number c some in
       let apart = conflict_is sign items kept of number c some clash clashing cell found ∙ free' in
-      let is' = shown_character sign items kept of number c some clash clashing cell found width character just spacing wide font in
-      filled_too_big sign items kept of number c some clash clashing cell found apart character is' (number == 32) (spaces_is sign items number cell found) area' split' (fills cell found) f h line height is
+      let is' = shown_character sign items kept of number c some cell found width character just spacing wide font in
+      filled_too_big sign items kept of number c some cell found apart character is' (number == 32) (spaces_is sign items number cell found) area' split' ended (fills cell found) f h line height is
 
   -- it fits
   pub exit_fits : (f && h) ≡ true → (order' : Line)
       → ((line : List Spot) (s : Spot) → AllPass is_glyph line → IsCharacter s character → list_any (clashes s) line ≡ false
       → (goes_on ≡ true → kept.order ≡ line_sum line) → (goes_on ≡ false → line ≡ []) → order' ≡ line_sum (line ++ s ∷ []))
       → IsBelow (1024 * length items + 1024) area' → IsSplitBelow (1024 * length items + 1024) split' → IsLineBelow (1024 * length items + 1024) order'
-      → (filled_offence Words sign items (Shows number) ≡ None) × IsFilledOf sign (items ++ Shows number ∷ []) (record { state = record kept.state { area = area' }; split = split'; order = order' })
+      → (offence Words sign items (Shows number) ≡ None) × IsFilledOf sign (items ++ Shows number ∷ []) (record { state = record kept.state { area = area' }; split = split'; order = order' })
   exit_fits is order' sum below split_below order_below =
       let (cell, found, width) = found_here sign items kept of number c some in
       let s : Spot = shown sign items number cell found in
       let at = ap (λ (a : Attributes). a.page_just) (attributes_here sign items kept of) in
       let apart = conflict_is sign items kept of number c some clash clashing cell found ∙ free' in
-      let is' = shown_character sign items kept of number c some clash clashing cell found width character just spacing wide font in
+      let is' = shown_character sign items kept of number c some cell found width character just spacing wide font in
       let space = spaces_is sign items number cell found in
-      let (area, split) = filled_grown sign items kept of number c some clash clashing cell found apart character is' (number == 32) space area' split' (fills cell found) in
+      let (area, split, line_ended) = filled_grown sign items kept of number c some cell found apart character is' (number == 32) space area' split' ended (fills cell found) in
       let goes_behind' = goes_behind sign items number cell found apart in
       let line_is : area'.group.line ≡ line_sum (after_last is_break (filled (Some s.at.rectangle.width) (group_of s (spots sign items) ++ s ∷ []))) =
       ap (λ (a : Area). a.group.line) area ∙ ap (λ j. line_sum (after_last is_break (in_group j (area_with sign items number cell found)))) goes_behind'.last ∙ ap (λ l. line_sum (after_last is_break l)) goes_behind'.after in
       let last = after_last is_break (filled (Some s.at.rectangle.width) (group_of s (spots sign items) ++ s ∷ [])) in
       let fits = ap (λ (a : Attributes). line_fits a.rectangle.width last) (sym (attributes_here sign items kept of)) ∙ sym (line last line_is) ∙ first_true f h is in
       let order = order_with sign items number cell found kept of apart goes_on goes at character is' order' sum in (
-        filled_fits sign items kept of number c some clash clashing cell found apart character is' (number == 32) space area' split' (fills cell found) f h line height is,
+        filled_fits sign items kept of number c some cell found apart character is' (number == 32) space area' split' ended (fills cell found) f h line height is,
         kept_with sign items number cell found kept of apart area' split' order' area split order below split_below order_below fits,
       )
+
+-- a character is passed that doesn't offend
+module _ (sign : SignData) (items : List Meaning) (kept : Filled) (of : IsFilledOf sign items kept) (number : ℕ) (c : SizedCell) (some : cell_in sign kept.state.attributes.font.number number ≡ Some c)
+    (fine : offence Words sign items (Shows number) ≡ None) (goes_on : Bool) (goes : goes_on ≡ (kept.state.attributes.page_just == kept.state.area.present))
+    (character : Character) (just : character.just ≡ kept.state.attributes.line_just) (spacing : character.spacing ≡ kept.state.attributes.spacing) (wide : character.width ≡ c.width)
+    (font : character.font ≡ kept.state.attributes.font) (area' : Area) (split' : Option Split) (ended : Option Line)
+    (fills : (cell : CellData) (found : cell_numbered (standing sign items).font number ≡ Some cell) → Fills sign items kept of number c some character (number == 32) area' split' ended kept.state.attributes.page_just kept.state.attributes.rectangle.width)
+    (order' : Line) (sum : (line : List Spot) (s : Spot) → AllPass is_glyph line → IsCharacter s character → list_any (clashes s) line ≡ false
+    → (goes_on ≡ true → kept.order ≡ line_sum line) → (goes_on ≡ false → line ≡ []) → order' ≡ line_sum (line ++ s ∷ [])) where
+  first_of : (a b : Bool) → (not a || not b) ≡ false → a ≡ true
+  first_of true b e = refl
+  first_of false b e = cc
+
+  pub passed_behind : IsBelow (1024 * length items + 1024) area' → IsSplitBelow (1024 * length items + 1024) split' → IsLineBelow (1024 * length items + 1024) order'
+      → IsFilledBehind sign items number kept (record { state = record kept.state { area = area' }; split = split'; order = order' }) ended
+  passed_behind below split_below order_below =
+      let (cell, found, width) = found_here sign items kept of number c some in
+      let s : Spot = shown sign items number cell found in
+      let w = s.at.rectangle.width in
+      let group = group_of s (spots sign items) in
+      let at = ap (λ (a : Attributes). a.page_just) (attributes_here sign items kept of) in
+      let (apart, fit) = none_of_both (conflicts (spots sign items) s) (doesn't_fit sign items number cell found) (sym (offends_by sign items number cell found) ∙ fine) in
+      let is' = shown_character sign items kept of number c some cell found width character just spacing wide font in
+      let (area, split, line_ended) = filled_grown sign items kept of number c some cell found apart character is' (number == 32) (spaces_is sign items number cell found) area' split' ended (fills cell found) in
+      let on = goes_behind sign items number cell found apart in
+      let new = area_with sign items number cell found in
+      let line_fits' = ap (λ l. line_fits w (after_last is_break l)) (sym on.after) ∙ first_of (line_fits w (after_last is_break (in_group s.at.page_just new))) (area_fits s.at.rectangle.height new) fit in
+      let order = order_with sign items number cell found kept of apart goes_on goes at character is' order' sum in
+      record {
+        of = kept_with sign items number cell found kept of apart area' split' order' area split order below split_below order_below line_fits';
+        present = ap (λ (a : Area). a.present) area ∙ on.last ∙ sym at;
+        order = omega (arith, at, back sign items number cell found kept of apart);
+        others = λ j other. on.others j (λ e. other (e ∙ sym at));
+        own = subst (λ j. EndsLine (in_group j (present_area sign (laid_items Words sign items items))) (in_group j new) ended) (sym at)
+            (subst (λ l. EndsLine l (in_group s.at.page_just new) ended) (sym on.before) (subst (λ l. EndsLine (filled (Some w) group) l ended) (sym on.after) line_ended));
+      }

@@ -32,7 +32,7 @@ module _ (setting : LineFill) (width : ℕ) (a : ℕ) where
       ∙ ap (λ n. take n f) size ∙ take_all (length f) f (omega arith)
 
   -- the largest page justification stays, since what is laid stands where it did
-  same_at : (x y : Spot) → LaidAs x y → (in_areas a y ≡ in_areas a x) × (y.at.page_just ≡ x.at.page_just)
+  pub same_at : (x y : Spot) → LaidAs x y → (in_areas a y ≡ in_areas a x) × (y.at.page_just ≡ x.at.page_just)
   same_at x y (inl e) = (ap (in_areas a) e, ap (λ (x : Spot). x.at.page_just) e)
   same_at x y (inr (glyph, e)) = (ap (in_areas a) e ∙ rw glyph refl, ap (λ (x : Spot). x.at.page_just) e)
 

@@ -27,7 +27,7 @@ one_of false true e = absurd (omega (arith, e))
 one_of false false e = refl
 
 -- the pages of items are counted by where they stand
-pages_at : (sign : SignData) (xs ys : List Meaning) → (standing sign xs).page ≡ (standing sign ys).page → pages_of xs ≡ pages_of ys
+pub pages_at : (sign : SignData) (xs ys : List Meaning) → (standing sign xs).page ≡ (standing sign ys).page → pages_of xs ≡ pages_of ys
 unfolding standing
 pages_at sign xs ys e = ap (λ n. n + 1) e
 

@@ -5,15 +5,14 @@ use Rattle.std.proofs.lemmas.Bool.{eq-eqb}
 use Rattle.std.proofs.lemmas.List.Elements.{All-push, All-weaker}
 use Rattle.multi_tag.specs.declared.tag.Tag.{Tag}
 use Rattle.multi_tag.specs.declared.tag.Tag.TheVariants.{NewPage, NewLine, LineJust, PageJust, Font, CharSpacing, CharSpacingEnd, PageTime, Flash, FlashEnd, Fore, Back, Rect, HexChar}
-use Rattle.sign_font.specs.declared.parts.LineFill.TheVariants.{Words}
+use Rattle.sign_font.specs.declared.parts.LineFill.TheVariants.{Off, Words}
 use Rattle.sign_font.specs.Sign.{SignData}
 use Rattle.multi_layout.specs.Address.{Break, Put, Spot, Standing, area_of, in_area, spots, standing}
-use Rattle.multi_layout.specs.FilledVerdict.{filled_offence}
 use Rattle.multi_layout.specs.Fit as plain
-use Rattle.multi_layout.specs.Laid.{fill_at, laid, laid_too_big}
+use Rattle.multi_layout.specs.Laid.{fill_at, laid, too_big}
 use Rattle.multi_layout.specs.LaidItems.{laid_items}
 use Rattle.multi_layout.specs.Meaning.{Meaning, Does, is_new_page}
-use Rattle.multi_layout.specs.Offence.{first_code, goes_back, offence, placing_cases, too_big}
+use Rattle.multi_layout.specs.Offence.{first_code, goes_back, offence, offence_by, placing_cases}
 use Rattle.multi_layout.proofs.CheckLemmas.{group_goes_back}
 use Rattle.multi_layout.proofs.FilledOnLemmas.{HasWidth, largest_laid, one_more}
 use Rattle.multi_layout.proofs.GroupLaidLemmas.{in_areas}
@@ -68,7 +67,7 @@ module _ (sign : SignData) (items : List Meaning) where
         ∙ spots_more sign laid_before (Does (NewLine gap)) (Break gap) refl
         ∙ (λ i. here.1 i ++ record { at = here.0 i; put = Break gap } ∷ [])
 
-    too_big_laid_break : laid_too_big Words all nl ≡ too_big (laid Words all all) nl
+    too_big_laid_break : too_big Words all nl ≡ too_big Off (laid Words all all) nl
     too_big_laid_break =
         too_big_laid Words nl.at.rectangle.width all nl placed (same_width (Break gap))
         ∙ ap (λ l. not (plain.area_fits nl.at.rectangle.height (in_area nl.at.area l))) laid_with
@@ -79,13 +78,13 @@ module _ (sign : SignData) (items : List Meaning) where
   same_pages = sym (ap (λ (s : Standing). s.page) here.0)
 
   abbrev OffendsAsLaid : Tag → Type 0
-  OffendsAsLaid tag = filled_offence Words sign items (Does tag) ≡ offence sign laid_before (Does tag)
+  OffendsAsLaid tag = offence Words sign items (Does tag) ≡ offence Off sign laid_before (Does tag)
 
   pub offends_as_laid : (tag : Tag) → OffendsAsLaid tag
-  unfolding filled_offence offence
+  unfolding offence_by
   offends_as_laid (NewLine gap) =
       (λ i. first_code ((goes_back_laid gap i || false, 11) ∷ (too_big_laid_break gap i, 5) ∷ []))
-      ∙ sym (λ i. first_code (placing_cases (here.1 i) (record { at = here.0 i; put = Break gap })))
+      ∙ sym (λ i. first_code (placing_cases (too_big Off) (here.1 i) (record { at = here.0 i; put = Break gap })))
   offends_as_laid NewPage = ap (λ n. first_code ((nat_lt sign.max_pages (n + 2), 12) ∷ [])) same_pages
   offends_as_laid (Back colour) = refl
   offends_as_laid (LineJust just) = refl

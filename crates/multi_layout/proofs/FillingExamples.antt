@@ -3,25 +3,29 @@ use Rattle.std.proofs.Common.{◌≡◌, ℕ, List, [], ◌∷◌, map, codes, r
 use Rattle.multi_token.specs.Reading.{reading, read_items, read_item}
 use Rattle.multi_tag.specs.TagOf.{tag_of}
 use Rattle.sign_font.specs.Sample.{sample}
-use Rattle.sign_font.specs.declared.parts.LineFill.TheVariants.{Off, Words}
+use Rattle.sign_font.specs.Sign.{SignData}
+use Rattle.sign_font.specs.declared.parts.LineFill.TheVariants.{Words}
 use Rattle.multi_layout.specs.Meaning.{meaning}
 use Rattle.multi_layout.specs.Address.{standing, spots}
-use Rattle.multi_layout.specs.Offence as old
-use Rattle.multi_layout.specs.Verdict.{Verdict, Accepted, Refused}
-use Rattle.multi_layout.specs.Place.{place_of}
-use Rattle.multi_layout.specs.FilledVerdict.{filled_verdict, filled_offence, filled_places}
+use Rattle.multi_layout.specs.Offence.{offence_by}
+use Rattle.multi_layout.specs.Verdict.{Accepted, Refused, Verdict, verdict, verdict_on}
+use Rattle.multi_layout.specs.Place.{place_of, places}
+
+-- the sample sign, with its lines filled by words
+abbrev words : SignData
+words = record sample { line_fill = Words }
 
 unfoldable judged : List ℕ → Verdict
-unfolding filled_verdict filled_offence old.offence spots standing reading read_items read_item tag_of
-judged octets = filled_verdict Words sample octets
+unfolding verdict verdict_on offence_by spots standing reading read_items read_item tag_of
+judged octets = verdict words octets
 
 unfoldable without : List ℕ → Verdict
-unfolding filled_verdict filled_offence old.offence spots standing reading read_items read_item tag_of
-without octets = filled_verdict Off sample octets
+unfolding verdict verdict_on offence_by spots standing reading read_items read_item tag_of
+without octets = verdict sample octets
 
 unfoldable placed : List ℕ → List (ℕ × ℕ)
-unfolding filled_places place_of spots standing reading read_items read_item tag_of
-placed octets = filled_places Words sample (map meaning (reading octets).items)
+unfolding places place_of spots standing reading read_items read_item tag_of
+placed octets = map (λ p. (p.column, p.row)) (places words (map meaning (reading octets).items))
 
 two_words_stand_on_two_lines : judged (codes "AA AA") ≡ Accepted 1
 unfolding judged

@@ -48,7 +48,7 @@ members_with a j xs ys x e =
     ∙ append_assoc (members a j xs) (x ∷ []) (members a j ys)
 
 -- a laid spot is in the group of its spot
-same_member : (a j : ℕ) (x y : Spot) → LaidAs x y → is_member a j y ≡ is_member a j x
+pub same_member : (a j : ℕ) (x y : Spot) → LaidAs x y → is_member a j y ≡ is_member a j x
 same_member a j x y (inl e) = ap (is_member a j) e
 same_member a j x y (inr (glyph, e)) = ap (is_member a j) e ∙ ap (λ b. ((b || is_break x) && (x.at.area == a)) && (x.at.page_just == j)) (sym glyph)
 

@@ -1,57 +1,47 @@
 -- What is in force behind the items of an accepted string: the rectangle is inside the sign, and every font is at least one
 -- pixel high, with characters at least one column wide.
-use Rattle.std.proofs.Common.{◌≡◌, ℕ, ◌+◌, ◌-◌, ◌≤◌, Bool, true, false, cond, ◌&&◌, ◌||◌, ◌==◌, length, map, List, [], ◌∷◌, ◌++◌, Option, Some, None, refl, sym, subst, ◌∙◌, arith, inl, inr}
+use Rattle.std.proofs.Common.{◌≡◌, ℕ, ◌+◌, ◌-◌, ◌≤◌, Bool, true, false, cond, ◌&&◌, ◌||◌, ◌==◌, List, [], ◌∷◌, ◌++◌, Option, Some, None, refl, sym, subst, ◌∙◌, arith, inl, inr}
 use Rattle.std.specs.Prelude.{IsSome}
 use Rattle.std.specs.List.{All, cons_option, find}
 use Rattle.std.specs.Option.{IfSome, option_map, unwrap_or}
 use Rattle.std.proofs.lemmas.Bool.{cases_Bool, false≢true}
 use Rattle.std.proofs.lemmas.Bool.Decides.{nat_tests}
-use Rattle.std.proofs.lemmas.List.{map-append}
 use Rattle.std.proofs.lemmas.List.Elements.{All-nil, All-cons, All-head, All-tail, All-append, All-filter, All-weaker}
 use Rattle.multi_tag.specs.declared.tag.Tag.TheVariants.{NewPage, NewLine, LineJust, PageJust, Font, CharSpacing, CharSpacingEnd, PageTime, Flash, FlashEnd, Fore, Back, Rect, HexChar}
-use Rattle.multi_token.specs.Spelling.{Item, spell}
 use Rattle.sign_font.specs.declared.parts.Defaults.{Defaults}
 use Rattle.sign_font.specs.Sign.{SignData, CellData, FontData, font_numbered, cell_numbered}
 use Rattle.sign_font.specs.Sound.{IsSound, IsSoundCell, IsSoundFont}
 use Rattle.multi_layout.specs.declared.attributes.Rectangle.{Rectangle}
-use Rattle.multi_layout.specs.Meaning.{Meaning, Shows, Does, Faulty, meaning}
+use Rattle.multi_layout.specs.Meaning.{Meaning, Shows, Does, Faulty}
 use Rattle.multi_layout.specs.Attributes.{default_font, given_font, given_rectangle, is_inside, rectangle, whole_sign}
 use Rattle.multi_layout.specs.Address.{Standing, standing, Put, Glyph, Spot, put_at, spot_at, spots, is_glyph, is_break}
 use Rattle.multi_layout.specs.Line.{glyph_width}
-use Rattle.multi_layout.specs.Offence.{offence}
+use Rattle.multi_layout.specs.Offence.{offence_by}
 use Rattle.multi_layout.specs.State.{present_area}
-use Rattle.multi_layout.specs.Verdict.{fault_at, offences}
 use Rattle.multi_layout.specs.Words.{some_after}
 use Rattle.multi_layout.proofs.LayoutLemmas.{spots_push}
 use Rattle.multi_layout.proofs.OffenceLemmas.{offence-rectangle}
 use Rattle.multi_layout.proofs.StandingLemmas.{standing_push}
-use Rattle.multi_layout.proofs.WordLemmas.{left_nil, none_mapped, none_of, push_ind, right_nil, some_after_push, some_after-append}
+use Rattle.multi_layout.proofs.WordLemmas.{left_nil, none_of, push_ind, right_nil, some_after_push, some_after-append}
 
 -- ---- the items of an accepted string, from the end
 
 module _ (sign : SignData) where
-  -- where no item offends, none of a front of them does
-  pub none_front : (items behind : List Item) → offences sign (items ++ behind) ≡ [] → offences sign items ≡ []
-  none_front items behind none =
-      let f = fault_at sign in
-      left_nil (offences sign items) (some_after (λ more. f (items ++ more)) behind) (sym (some_after-append f items behind) ∙ none)
+  -- where no item offends by these errors, none of a front of them does
+  pub none_front : (f : List Meaning → Meaning → Option ℕ) (items behind : List Meaning) → some_after f (items ++ behind) ≡ [] → some_after f items ≡ []
+  none_front f items behind none = left_nil (some_after f items) (some_after (λ more. f (items ++ more)) behind) (sym (some_after-append f items behind) ∙ none)
 
-  -- where no item offends, the last one doesn't offend after those before it
-  pub none_last : (items : List Item) (item : Item) → offences sign (items ++ item ∷ []) ≡ [] → offence sign (map meaning items) (meaning item) ≡ None
-  none_last items item none =
-      let at = fault_at sign items item in
-      let last : cons_option at [] ≡ [] = right_nil (offences sign items) (cons_option at []) (sym (some_after_push (fault_at sign) items item) ∙ none) in
-      none_mapped (λ code. (code, length (spell items))) (offence sign (map meaning items) (meaning item)) (none_of at [] last)
+  -- where no item offends by them, the last one doesn't after those before it
+  pub none_last : (f : List Meaning → Meaning → Option ℕ) (items : List Meaning) (item : Meaning) → some_after f (items ++ item ∷ []) ≡ [] → f items item ≡ None
+  none_last f items item none = none_of (f items item) [] (right_nil (some_after f items) (cons_option (f items item) []) (sym (some_after_push f items item) ∙ none))
 
   -- what holds before the first item, and behind each that doesn't offend if it holds before it, holds behind them all
-  pub accepted_ind : (P : List Meaning → Type 0) → P [] → ((before : List Meaning) (x : Meaning) → offence sign before x ≡ None → P before → P (before ++ x ∷ []))
-      → (items : List Item) → offences sign items ≡ [] → P (map meaning items)
-  accepted_ind P first step = push_ind (λ items. offences sign items ≡ [] → P (map meaning items)) (λ none. first) more
+  pub each_ind : (f : List Meaning → Meaning → Option ℕ) (P : List Meaning → Type 0) → P [] → ((before : List Meaning) (x : Meaning) → f before x ≡ None → P before → P (before ++ x ∷ []))
+      → (items : List Meaning) → some_after f items ≡ [] → P items
+  each_ind f P first step = push_ind (λ items. some_after f items ≡ [] → P items) (λ none. first) more
     where
-      more : (items : List Item) (item : Item) → (offences sign items ≡ [] → P (map meaning items)) → offences sign (items ++ item ∷ []) ≡ [] → P (map meaning (items ++ item ∷ []))
-      more items item holds none =
-          let before = holds (none_front items (item ∷ []) none) in
-          subst P (sym (map-append meaning items (item ∷ []))) (step (map meaning items) (meaning item) (none_last items item none) before)
+      more : (items : List Meaning) (item : Meaning) → (some_after f items ≡ [] → P items) → some_after f (items ++ item ∷ []) ≡ [] → P (items ++ item ∷ [])
+      more items item holds none = step items item (none_last f items item none) (holds (none_front f items (item ∷ []) none))
 
 -- what holds of each value that is given and of the one before holds of the one in force
 in_force_by : {A : Type 0} (P : A → Type 0) (o : Option A) (a : A) → IfSome o P → P a → P (unwrap_or o a)
@@ -101,11 +91,11 @@ passed : (b : Bool) (n : ℕ) → cond {A = Option ℕ} b None (Some n) ≡ None
 passed true n e = refl
 passed false n e = cc
 
-module _ (sign : SignData) where
+module _ (sign : SignData) (big : List Spot → Spot → Bool) where
   -- a rectangle that an item gives is inside the sign
-  given_in_sign : (before : List Meaning) (x : Meaning) → offence sign before x ≡ None → IfSome (given_rectangle sign x) (IsInSign sign)
+  given_in_sign : (before : List Meaning) (x : Meaning) → offence_by big sign before x ≡ None → IfSome (given_rectangle sign x) (IsInSign sign)
   given_in_sign before (Does NewPage) none = whole_in_sign sign
-  given_in_sign before (Does (Rect x y w h)) none = rectangle_in_sign sign x y w h (passed (is_inside sign x y w h) 4 (sym (offence-rectangle sign before x y w h) ∙ none))
+  given_in_sign before (Does (Rect x y w h)) none = rectangle_in_sign sign x y w h (passed (is_inside sign x y w h) 4 (sym (offence-rectangle big sign before x y w h) ∙ none))
   given_in_sign before (Does (NewLine gap)) none = tt
   given_in_sign before (Does (LineJust just)) none = tt
   given_in_sign before (Does (PageJust just)) none = tt
@@ -125,21 +115,21 @@ module _ (sign : SignData) where
   unfolding standing
   first_in_sign = whole_in_sign sign
 
-  next_in_sign : (before : List Meaning) (x : Meaning) → offence sign before x ≡ None → IsInSign sign (standing sign before).rectangle → IsInSign sign (standing sign (before ++ x ∷ [])).rectangle
+  next_in_sign : (before : List Meaning) (x : Meaning) → offence_by big sign before x ≡ None → IsInSign sign (standing sign before).rectangle → IsInSign sign (standing sign (before ++ x ∷ [])).rectangle
   next_in_sign before x none old =
       subst (λ (s : Standing). IsInSign sign s.rectangle) (sym (standing_push sign before x))
       (in_force_by (IsInSign sign) (given_rectangle sign x) (standing sign before).rectangle (given_in_sign before x none) old)
 
   -- behind the items of an accepted string the rectangle in force is inside the sign
-  pub rectangle_inside : (items : List Item) → offences sign items ≡ [] → IsInSign sign (standing sign (map meaning items)).rectangle
-  rectangle_inside = accepted_ind sign (λ before. IsInSign sign (standing sign before).rectangle) first_in_sign next_in_sign
+  pub rectangle_inside : (items : List Meaning) → some_after (offence_by big sign) items ≡ [] → IsInSign sign (standing sign items).rectangle
+  rectangle_inside = each_ind sign (offence_by big sign) (λ before. IsInSign sign (standing sign before).rectangle) first_in_sign next_in_sign
 
   -- and so the rectangle in force is no higher than the sign
-  pub rectangle_within : (items : List Item) → offences sign items ≡ [] → (standing sign (map meaning items)).rectangle.height ≤ sign.height
+  pub rectangle_within : (items : List Meaning) → some_after (offence_by big sign) items ≡ [] → (standing sign items).rectangle.height ≤ sign.height
   rectangle_within items none = omega (arith, (rectangle_inside items none).down)
 
   -- and no wider
-  pub rectangle_width_within : (items : List Item) → offences sign items ≡ [] → (standing sign (map meaning items)).rectangle.width ≤ sign.width
+  pub rectangle_width_within : (items : List Meaning) → some_after (offence_by big sign) items ≡ [] → (standing sign items).rectangle.width ≤ sign.width
   rectangle_width_within items none = omega (arith, (rectangle_inside items none).across)
 
 -- ---- the font in force

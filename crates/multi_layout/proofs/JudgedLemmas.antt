@@ -8,6 +8,8 @@ use Rattle.std.proofs.lemmas.Option.{same_Some}
 use Rattle.std.proofs.lemmas.List.{length-append}
 use Rattle.std.proofs.lemmas.List.Sums.{sum_by_push, sum_by-append}
 use Rattle.multi_tag.specs.declared.tag.Tag.TheVariants.{NewPage, NewLine, Back, Rect}
+use Rattle.sign_font.specs.declared.parts.LineFill.TheVariants.{Off}
+use Rattle.multi_layout.specs.Laid.{too_big}
 use Rattle.sign_font.specs.Cell.{SizedCell}
 use Rattle.sign_font.specs.Sign.{SignData, CellData, FontData, cell_in, cell_numbered, font_numbered, info_of, sized}
 use Rattle.sign_font.specs.declared.font.FontInfo.{FontInfo}
@@ -18,7 +20,7 @@ use Rattle.multi_layout.specs.declared.attributes.Attributes.{Attributes}
 use Rattle.multi_layout.specs.declared.state.State.{State}
 use Rattle.multi_layout.specs.Address.{Break, Cover, Glyph, Spot, Standing, put_at, spots, standing}
 use Rattle.multi_layout.specs.Meaning.{Meaning, Shows, Does, begins_area, is_new_page}
-use Rattle.multi_layout.specs.Offence.{conflicts, offence, too_big}
+use Rattle.multi_layout.specs.Offence.{conflicts, never_big, offence, unsized_offence}
 use Rattle.multi_layout.specs.State.{IsReady, IsStateOf, attributes_of, present_area, standing_behind}
 use Rattle.multi_layout.specs.Sums.{IsBelow, area_sum}
 use Rattle.multi_layout.specs.Times.{Times, cycle, ended_times, times_at}
@@ -135,9 +137,9 @@ case_none : (a b : Bool) → a ≡ false → b ≡ false → cond {A = Option �
 case_none a b p q = ap (λ c. cond {A = Option ℕ} c (Some 11) (cond b (Some 5) None)) p ∙ ap (λ c. cond {A = Option ℕ} c (Some 5) None) q
 
 -- a character that doesn't offend doesn't conflict
-pub no_conflict : (sign : SignData) (items : List Meaning) (number : ℕ) (cell : CellData) → cell_numbered (standing sign items).font number ≡ Some cell → offence sign items (Shows number) ≡ None
+pub no_conflict : (sign : SignData) (items : List Meaning) (number : ℕ) (cell : CellData) → cell_numbered (standing sign items).font number ≡ Some cell → unsized_offence sign items (Shows number) ≡ None
     → conflicts (spots sign items) (record { at = standing sign items; put = Glyph cell }) ≡ false
-no_conflict sign items number cell found fine = none_first _ _ (sym (offence-character sign items number cell found) ∙ fine)
+no_conflict sign items number cell found fine = none_first _ _ (sym (offence-character never_big sign items number cell found) ∙ fine)
   where
     none_first : (a : Bool) (o : Option ℕ) → cond {A = Option ℕ} a (Some 11) o ≡ None → a ≡ false
     none_first true o e = cc
@@ -156,8 +158,11 @@ module _ (sign : SignData) (items : List Meaning) (state : State) (st : IsStateO
       let font = (standing sign items).font in
       none_mapped font (cell_numbered font number) (sym (cell_is number) ∙ none)
 
-  pub judged-undefined : (number : ℕ) → cell_in sign state.attributes.font.number number ≡ None → offence sign items (Shows number) ≡ Some 7
-  judged-undefined number none = offence-undefined sign items number (cell_missing number none)
+  pub judged-undefined : (number : ℕ) → cell_in sign state.attributes.font.number number ≡ None → offence Off sign items (Shows number) ≡ Some 7
+  judged-undefined number none = offence-undefined (too_big Off) sign items number (cell_missing number none)
+
+  pub unsized-undefined : (number : ℕ) → cell_in sign state.attributes.font.number number ≡ None → unsized_offence sign items (Shows number) ≡ Some 7
+  unsized-undefined number none = offence-undefined never_big sign items number (cell_missing number none)
 
   pub cell_found : (number : ℕ) (c : SizedCell) → cell_in sign state.attributes.font.number number ≡ Some c
       → (cell : CellData) × (cell_numbered (standing sign items).font number ≡ Some cell) × (c.width ≡ cell.width)
@@ -169,16 +174,16 @@ module _ (sign : SignData) (items : List Meaning) (state : State) (st : IsStateO
     glyph : Spot
     glyph = record { at = standing sign items; put = Glyph cell }
 
-    pub character-conflict : conflicts (spots sign items) (record { at = standing sign items; put = Glyph cell }) ≡ true → offence sign items (Shows number) ≡ Some 11
-    character-conflict p = offence-character sign items number cell found ∙ case_11 _ _ p
+    pub character-conflict : conflicts (spots sign items) (record { at = standing sign items; put = Glyph cell }) ≡ true → offence Off sign items (Shows number) ≡ Some 11
+    character-conflict p = offence-character (too_big Off) sign items number cell found ∙ case_11 _ _ p
 
-    pub character-too_big : conflicts (spots sign items) (record { at = standing sign items; put = Glyph cell }) ≡ false → too_big (spots sign items) (record { at = standing sign items; put = Glyph cell }) ≡ true
-        → offence sign items (Shows number) ≡ Some 5
-    character-too_big p q = offence-character sign items number cell found ∙ case_5 _ _ p q
+    pub character-too_big : conflicts (spots sign items) (record { at = standing sign items; put = Glyph cell }) ≡ false → too_big Off (spots sign items) (record { at = standing sign items; put = Glyph cell }) ≡ true
+        → offence Off sign items (Shows number) ≡ Some 5
+    character-too_big p q = offence-character (too_big Off) sign items number cell found ∙ case_5 _ _ p q
 
-    pub character-fits : conflicts (spots sign items) (record { at = standing sign items; put = Glyph cell }) ≡ false → too_big (spots sign items) (record { at = standing sign items; put = Glyph cell }) ≡ false
-        → offence sign items (Shows number) ≡ None
-    character-fits p q = offence-character sign items number cell found ∙ case_none _ _ p q
+    pub character-fits : conflicts (spots sign items) (record { at = standing sign items; put = Glyph cell }) ≡ false → too_big Off (spots sign items) (record { at = standing sign items; put = Glyph cell }) ≡ false
+        → offence Off sign items (Shows number) ≡ None
+    character-fits p q = offence-character (too_big Off) sign items number cell found ∙ case_none _ _ p q
 
     pub state-character : (area : Area) → area ≡ area_sum (present_area sign items ++ record { at = standing sign items; put = Glyph cell } ∷ []) → IsBelow (1024 * length items + 1024) area
         → IsStateOf sign (items ++ Shows number ∷ []) (record state { area = area })
@@ -189,16 +194,16 @@ module _ (sign : SignData) (items : List Meaning) (state : State) (st : IsStateO
         st.font st.line_just st.page_just below
 
   module _ (gap : Option ℕ) where
-    pub break-conflict : conflicts (spots sign items) (record { at = standing sign items; put = Break gap }) ≡ true → offence sign items (Does (NewLine gap)) ≡ Some 11
-    break-conflict p = offence-break sign items gap ∙ case_11 _ _ p
+    pub break-conflict : conflicts (spots sign items) (record { at = standing sign items; put = Break gap }) ≡ true → offence Off sign items (Does (NewLine gap)) ≡ Some 11
+    break-conflict p = offence-break (too_big Off) sign items gap ∙ case_11 _ _ p
 
-    pub break-too_big : conflicts (spots sign items) (record { at = standing sign items; put = Break gap }) ≡ false → too_big (spots sign items) (record { at = standing sign items; put = Break gap }) ≡ true
-        → offence sign items (Does (NewLine gap)) ≡ Some 5
-    break-too_big p q = offence-break sign items gap ∙ case_5 _ _ p q
+    pub break-too_big : conflicts (spots sign items) (record { at = standing sign items; put = Break gap }) ≡ false → too_big Off (spots sign items) (record { at = standing sign items; put = Break gap }) ≡ true
+        → offence Off sign items (Does (NewLine gap)) ≡ Some 5
+    break-too_big p q = offence-break (too_big Off) sign items gap ∙ case_5 _ _ p q
 
-    pub break-fits : conflicts (spots sign items) (record { at = standing sign items; put = Break gap }) ≡ false → too_big (spots sign items) (record { at = standing sign items; put = Break gap }) ≡ false
-        → offence sign items (Does (NewLine gap)) ≡ None
-    break-fits p q = offence-break sign items gap ∙ case_none _ _ p q
+    pub break-fits : conflicts (spots sign items) (record { at = standing sign items; put = Break gap }) ≡ false → too_big Off (spots sign items) (record { at = standing sign items; put = Break gap }) ≡ false
+        → offence Off sign items (Does (NewLine gap)) ≡ None
+    break-fits p q = offence-break (too_big Off) sign items gap ∙ case_none _ _ p q
 
     pub state-break : (area : Area) → area ≡ area_sum (present_area sign items ++ record { at = standing sign items; put = Break gap } ∷ []) → IsBelow (1024 * length items + 1024) area
         → IsStateOf sign (items ++ Does (NewLine gap) ∷ []) (record state { area = area })
@@ -212,8 +217,8 @@ module _ (sign : SignData) (items : List Meaning) (state : State) (st : IsStateO
   pages_are : count_by is_new_page items + 2 ≡ state.pages + 1
   pages_are = omega (arith, st.pages)
 
-  pub judged-page : offence sign items (Does NewPage) ≡ cond (nat_lt sign.max_pages (state.pages + 1)) (Some 12) None
-  judged-page = offence-page sign items ∙ ap (λ n. cond (nat_lt sign.max_pages n) (Some 12) None) pages_are
+  pub judged-page : offence Off sign items (Does NewPage) ≡ cond (nat_lt sign.max_pages (state.pages + 1)) (Some 12) None
+  judged-page = offence-page (too_big Off) sign items ∙ ap (λ n. cond (nat_lt sign.max_pages n) (Some 12) None) pages_are
 
   -- a new page: the times of the one before are ended, and the whole sign and an empty area begin
   pub state-page : (new : State) → new.pages ≡ state.pages + 1 → new.cycle ≡ state.cycle + (state.attributes.on + state.attributes.off)
@@ -241,8 +246,8 @@ module _ (sign : SignData) (items : List Meaning) (state : State) (st : IsStateO
         short = omega (arith, st.short, pages, times, on_bound, off_bound);
       }
 
-  pub judged-rectangle : (x y w h : ℕ) → offence sign items (Does (Rect x y w h)) ≡ cond (Rattle.multi_layout.specs.Attributes.is_inside sign x y w h) None (Some 4)
-  judged-rectangle x y w h = offence-rectangle sign items x y w h
+  pub judged-rectangle : (x y w h : ℕ) → offence Off sign items (Does (Rect x y w h)) ≡ cond (Rattle.multi_layout.specs.Attributes.is_inside sign x y w h) None (Some 4)
+  judged-rectangle x y w h = offence-rectangle (too_big Off) sign items x y w h
 
 -- ---- the start
 

@@ -62,7 +62,7 @@ module _ (present just : ℕ) (area : List Spot) where
       either false = refl
 
   -- no more are known than there are
-  known_most : length (known_lines present just area) ≤ length (lines_of (in_group just area))
+  pub known_most : length (known_lines present just area) ≤ length (lines_of (in_group just area))
   known_most = elim (cases_lt just present) [
     | inl less ↦ omega (arith, ap length (known_before less))
     | inr most ↦ omega (arith, ap length (known_from most), ended_most (in_group just area))
@@ -90,13 +90,13 @@ module _ (area : List Spot) (table : LineTable) where
   behind_empty present on some has just behind high = has just (omega arith) high ∙ ap table_of (known_none present just area (group_behind just area (omega arith)))
 
   -- how many the table has
-  table_count : (present : ℕ) → IsOrdered table → HasKnown present area table → length table.lines.items ≡ length (known_lines present 2 area) + length (known_lines present 3 area) + length (known_lines present 4 area)
+  pub table_count : (present : ℕ) → IsOrdered table → HasKnown present area table → length table.lines.items ≡ length (known_lines present 2 area) + length (known_lines present 3 area) + length (known_lines present 4 area)
   table_count present ordered has =
       let count = λ (just : ℕ) (low : 2 ≤ just) (high : just ≤ 4). ap length (has just low high) ∙ table_length (known_lines present just area) in
       omega (arith, all_groups table ordered, count 2 (omega arith) (omega arith), count 3 (omega arith) (omega arith), count 4 (omega arith) (omega arith))
 
 -- a sum over the groups is less where one group's is
-less_total : (f g : ℕ → ℕ) (p : ℕ) → 2 ≤ p → p ≤ 4 → f 2 ≤ g 2 → f 3 ≤ g 3 → f 4 ≤ g 4 → f p < g p → f 2 + f 3 + f 4 < g 2 + g 3 + g 4
+pub less_total : (f g : ℕ → ℕ) (p : ℕ) → 2 ≤ p → p ≤ 4 → f 2 ≤ g 2 → f 3 ≤ g 3 → f 4 ≤ g 4 → f p < g p → f 2 + f 3 + f 4 < g 2 + g 3 + g 4
 less_total f g p low high two three four = each_group (λ p. f p < g p → f 2 + f 3 + f 4 < g 2 + g 3 + g 4) (λ h. omega arith) (λ h. omega arith) (λ h. omega arith) p low high
 
 -- THE LAST LINE OF THE PRESENT GROUP

@@ -2,6 +2,7 @@
 use Rattle.std.proofs.Common.{◌≡◌, ℕ, ◌<◌, ◌≤◌, true, false, cond, length, List, [], ◌∷◌, ◌++◌, Option, Some, None, refl, sym, ap, subst, ◌∙◌, arith}
 use Rattle.std.specs.Option.{option_map, unwrap_or}
 use Rattle.std.proofs.lemmas.Bool.{false≢true}
+use Rattle.multi_tag.specs.declared.tag.Tag.{Tag}
 use Rattle.multi_tag.specs.declared.tag.Tag.TheVariants.{NewPage, NewLine, LineJust, PageJust, Font, CharSpacing, CharSpacingEnd, PageTime, Flash, FlashEnd, Fore, Back, Rect, HexChar}
 use Rattle.sign_font.specs.Sign.{SignData, CellData, cell_numbered}
 use Rattle.multi_layout.specs.declared.area.Area.{Area}
@@ -10,9 +11,9 @@ use Rattle.multi_layout.specs.declared.state.State.{State}
 use Rattle.multi_layout.specs.declared.table.CountedLine.{CountedLine}
 use Rattle.multi_layout.specs.declared.table.LineTable.{LineTable}
 use Rattle.multi_layout.specs.Address.{Spot, Glyph, Break, Cover, in_group, spots, standing}
-use Rattle.multi_layout.specs.Meaning.{Meaning, Shows, Does, Faulty, begins_area}
-use Rattle.multi_layout.specs.Passes.{HasKnown, HasRoom, ends_line, next_group, has_place}
-use Rattle.multi_layout.specs.Offence.{conflicts, offence, too_big}
+use Rattle.multi_layout.specs.Meaning.{begins_area, Does, Faulty, has_place, Meaning, Shows}
+use Rattle.multi_layout.specs.Passes.{HasKnown, HasRoom, ends_line, next_group}
+use Rattle.multi_layout.specs.Offence.{conflicts, never_big, unsized_offence}
 use Rattle.multi_layout.specs.State.{IsStateOf, present_area}
 use Rattle.multi_layout.specs.Sums.{area_sum}
 use Rattle.multi_layout.specs.Table.{IsOrdered, group_lines}
@@ -42,6 +43,11 @@ line_end (Does (Fore colour)) e = absurd (false≢true e)
 line_end (Does (Back colour)) e = absurd (false≢true e)
 line_end (Does (Rect x y w h)) e = absurd (false≢true e)
 
+-- each tag but `nl` ends none
+pub ends_not : (tag : Tag) → ((gap : Option ℕ) → tag ≡ NewLine gap → ⊥) → ends_line (Does tag) ≡ false
+ends_not (NewLine gap) other = absurd (other gap refl)
+ends_not _ other = refl
+
 module _ (sign : SignData) (items : List Meaning) (state : State) (st : IsStateOf sign items state) where
   page_is : (standing sign items).page_just ≡ state.attributes.page_just
   page_is = sym (ap (λ (a : Attributes). a.page_just) st.attributes)
@@ -53,19 +59,19 @@ module _ (sign : SignData) (items : List Meaning) (state : State) (st : IsStateO
   none≢some n e = cc
 
   -- an item with a place that doesn't offend isn't before the present group
-  order_glyph : (number : ℕ) (o : Option CellData) → cell_numbered (standing sign items).font number ≡ o → offence sign items (Shows number) ≡ None → state.area.present ≤ state.attributes.page_just
-  order_glyph number None found fine = absurd (none≢some 7 (sym (offence-undefined sign items number found) ∙ fine))
+  order_glyph : (number : ℕ) (o : Option CellData) → cell_numbered (standing sign items).font number ≡ o → unsized_offence sign items (Shows number) ≡ None → state.area.present ≤ state.attributes.page_just
+  order_glyph number None found fine = absurd (none≢some 7 (sym (offence-undefined never_big sign items number found) ∙ fine))
   order_glyph number (Some cell) found fine =
       let spot : Spot = record { at = standing sign items; put = Glyph cell } in
       no_back (spots sign items) spot state.attributes.page_just state.area.present page_is present_is
-      (no_conflict (conflicts (spots sign items) spot) (too_big (spots sign items) spot) (sym (offence-character sign items number cell found) ∙ fine))
+      (no_conflict (conflicts (spots sign items) spot) false (sym (offence-character never_big sign items number cell found) ∙ fine))
 
-  pub order : (x : Meaning) → offence sign items x ≡ None → has_place x ≡ true → state.area.present ≤ state.attributes.page_just
+  pub order : (x : Meaning) → unsized_offence sign items x ≡ None → has_place x ≡ true → state.area.present ≤ state.attributes.page_just
   order (Shows number) fine p = order_glyph number (cell_numbered (standing sign items).font number) refl fine
   order (Does (NewLine gap)) fine p =
       let spot : Spot = record { at = standing sign items; put = Break gap } in
       no_back (spots sign items) spot state.attributes.page_just state.area.present page_is present_is
-      (no_conflict (conflicts (spots sign items) spot) (too_big (spots sign items) spot) (sym (offence-break sign items gap) ∙ fine))
+      (no_conflict (conflicts (spots sign items) spot) false (sym (offence-break never_big sign items gap) ∙ fine))
   order (Faulty code) fine p = absurd (false≢true p)
   order (Does NewPage) fine p = absurd (false≢true p)
   order (Does (LineJust just)) fine p = absurd (false≢true p)
@@ -90,9 +96,9 @@ module _ (sign : SignData) (items : List Meaning) (state : State) (st : IsStateO
       subst (λ n. HasKnown n (present_area sign (items ++ x ∷ [])) table) stays (subst (λ a. HasKnown (next_group state x) a table) (sym same) has)
 
   -- a character joins the group in force
-  known_glyph : (number : ℕ) (o : Option CellData) → cell_numbered (standing sign items).font number ≡ o → offence sign items (Shows number) ≡ None → (after : State) → IsStateOf sign (items ++ Shows number ∷ []) after
+  known_glyph : (number : ℕ) (o : Option CellData) → cell_numbered (standing sign items).font number ≡ o → unsized_offence sign items (Shows number) ≡ None → (after : State) → IsStateOf sign (items ++ Shows number ∷ []) after
       → (table : LineTable) → HasKnown state.attributes.page_just (present_area sign items) table → HasKnown after.area.present (present_area sign (items ++ Shows number ∷ [])) table
-  known_glyph number None found fine after st' table has = absurd (none≢some 7 (sym (offence-undefined sign items number found) ∙ fine))
+  known_glyph number None found fine after st' table has = absurd (none≢some 7 (sym (offence-undefined never_big sign items number found) ∙ fine))
   known_glyph number (Some cell) found fine after st' table has =
       let spot : Spot = record { at = standing sign items; put = Glyph cell } in
       let area = present_area sign items in
@@ -102,7 +108,7 @@ module _ (sign : SignData) (items : List Meaning) (state : State) (st : IsStateO
       (subst (λ a. HasKnown state.attributes.page_just a table) (sym grown) (glyph_known state.attributes.page_just area spot page_is table refl has))
 
   -- an item that begins no area and ends no line
-  pub known_same : (x : Meaning) → offence sign items x ≡ None → (after : State) → IsStateOf sign (items ++ x ∷ []) after → begins_area x ≡ false → ends_line x ≡ false
+  pub known_same : (x : Meaning) → unsized_offence sign items x ≡ None → (after : State) → IsStateOf sign (items ++ x ∷ []) after → begins_area x ≡ false → ends_line x ≡ false
       → (table : LineTable) → HasKnown (next_group state x) (present_area sign items) table → HasKnown after.area.present (present_area sign (items ++ x ∷ [])) table
   known_same (Shows number) fine after st' stays open' table has = known_glyph number (cell_numbered (standing sign items).font number) refl fine after st' table has
   known_same (Faulty code) fine after st' stays open' table has = known_stays (Faulty code) after st' refl (present_area-nothing sign items (Faulty code) refl refl) table has
@@ -124,7 +130,7 @@ module _ (sign : SignData) (items : List Meaning) (state : State) (st : IsStateO
   known_same (Does (Fore colour)) fine after st' stays open' table has = known_stays (Does (Fore colour)) after st' refl (present_area-nothing sign items (Does (Fore colour)) refl refl) table has
 
   -- an item that ends a line of the group in force
-  module _ (x : Meaning) (ends : ends_line x ≡ true) (fine : offence sign items x ≡ None) where
+  module _ (x : Meaning) (ends : ends_line x ≡ true) (fine : unsized_offence sign items x ≡ None) where
     places_end : has_place x ≡ true
     places_end = let (gap, same) = line_end x ends in ap has_place same
 

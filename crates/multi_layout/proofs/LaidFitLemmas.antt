@@ -6,7 +6,7 @@ use Rattle.multi_layout.specs.Address.{Spot, area_of, in_area, in_group, is_brea
 use Rattle.multi_layout.specs.Filling.{filled}
 use Rattle.multi_layout.specs.Fit as plain
 use Rattle.multi_layout.specs.Fit.{fit, line_fits}
-use Rattle.multi_layout.specs.Laid.{fill_at, laid, laid_group, laid_too_big}
+use Rattle.multi_layout.specs.Laid.{fill_at, laid, laid_group, too_big}
 use Rattle.multi_layout.specs.Line.{height_of}
 use Rattle.multi_layout.proofs.FilledOnLemmas.{HasWidth, groups_laid, one_more}
 use Rattle.multi_layout.proofs.GroupLaidLemmas.{in_areas}
@@ -30,7 +30,7 @@ module _ (setting : LineFill) (width : ℕ) (all : List Spot) (s : Spot) (placed
       || not (fit (height_of (lines_of (group 2))) (height_of (lines_of (group 3))) (height_of (lines_of (group 4))) s.at.rectangle.height)
 
   -- it is too big just where, as laid out, its line doesn't fit, or its area
-  pub too_big_laid : laid_too_big setting all s ≡ ((is_glyph s && not (line_fits s.at.rectangle.width (after_last is_break (in_group s.at.page_just laid_with)))) || not (plain.area_fits s.at.rectangle.height laid_with))
+  pub too_big_laid : too_big setting all s ≡ ((is_glyph s && not (line_fits s.at.rectangle.width (after_last is_break (in_group s.at.page_just laid_with)))) || not (plain.area_fits s.at.rectangle.height laid_with))
   too_big_laid =
       let groups : (j : ℕ) → filled (Some width) (in_group j (in_area s.at.area (all ++ s ∷ []))) ≡ in_group j laid_with = λ j. sym (groups_laid setting width s.at.area (all ++ s ∷ []) s refl same j) in
       ap (λ o. by_groups (λ j. laid_group o j (area_of s all ++ s ∷ []))) fill

@@ -18,6 +18,7 @@ pub mod FillLawLemmas
 pub mod FillLemmas
 pub mod FillListLemmas
 pub mod FillSplitLemmas
+pub mod FilledAreaLemmas
 pub mod FilledBehindLemmas
 pub mod FilledCharacterLemmas
 pub mod FilledEndedLemmas
@@ -25,11 +26,17 @@ pub mod FilledJudgedLemmas
 pub mod FilledKeptLemmas
 pub mod FilledOnLemmas
 pub mod FilledOrderLemmas
+pub mod FilledPassLemmas
+pub mod FilledReadLemmas
+pub mod FilledRoomLemmas
+pub mod FilledStartLemmas
 pub mod FilledStateLemmas
 pub mod FilledSumLemmas
+pub mod FilledTableLemmas
 pub mod FilledTagLemmas
 pub mod FillingExamples
 pub mod FitLemmas
+pub mod FullLemmas
 pub mod GroupHeightLemmas
 pub mod GroupLaidLemmas
 pub mod GroupSumLemmas
@@ -51,12 +58,15 @@ pub mod LocateLemmas
 pub mod MeaningLemmas
 pub mod NarrowLemmas
 pub mod OffenceLemmas
+pub mod OrderlyLemmas
 pub mod PageDrawLemmas
 pub mod PageLoopLemmas
 pub mod PagesLemmas
+pub mod PagesTurnLemmas
 pub mod PaintLemmas
 pub mod PictureExamples
 pub mod PictureLemmas
+pub mod PieceLemmas
 pub mod PlaceExamples
 pub mod PlaceLemmas
 pub mod PlacingLemmas
@@ -65,6 +75,7 @@ pub mod RectangleLemmas
 pub mod RoomLemmas
 pub mod RunLemmas
 pub mod RunReadLemmas
+pub mod SkipLemmas
 pub mod SplitLemmas
 pub mod SpotsLemmas
 pub mod StandingLemmas
@@ -76,4 +87,5 @@ pub mod UnfilledLemmas
 pub mod VerdictExamples
 pub mod VerdictLemmas
 pub mod WalkLemmas
+pub mod WholeAreaLemmas
 pub mod WordLemmas

@@ -16,12 +16,13 @@ use Rattle.multi_layout.specs.declared.times.Shown.TheVariants.{Page, Off}
 use Rattle.multi_layout.specs.Address.{standing}
 use Rattle.multi_layout.specs.KnownItem.{meant_by}
 use Rattle.multi_layout.specs.Meaning.{Meaning, Does, is_new_page, meaning, meanings}
-use Rattle.multi_layout.specs.State.{IsStateOf}
+use Rattle.multi_layout.specs.State.{attributes_of}
 use Rattle.multi_layout.specs.Times.{Times, cycle, ended_times, page_times, shown, shown_within, times_at}
-use Rattle.multi_layout.specs.Verdict.{Accepted, IsCycle, IsVerdict}
-use Rattle.multi_layout.specs.Walk.{IsBetween, IsFirst, IsRead}
+use Rattle.multi_layout.specs.Verdict.{Accepted, IsCycle, IsVerdict, pages_of}
+use Rattle.multi_layout.specs.Walk.{IsPassing, IsFirst, IsItemRead}
 use Rattle.multi_layout.proofs.AcceptedLemmas.{accepted_is, cycle_is}
 use Rattle.multi_layout.proofs.JudgedLemmas.{cycle-stays, cycle-grows}
+use Rattle.multi_layout.proofs.SkipLemmas.{same_unplaced}
 use Rattle.multi_layout.proofs.TimesLemmas.{cycle_push, ended_count, shown_always, shown_modulo, shown_off, shown_on, times_are, times_are_all, times_count}
 use Rattle.multi_layout.proofs.WalkLemmas.{room, within}
 
@@ -29,14 +30,25 @@ use Rattle.multi_layout.proofs.WalkLemmas.{room, within}
 pub record Searched (sign : SignData) (octets : List ℕ) (time : ℕ) (cursor : Cursor) : Type 0 where
   pub before : List Item
   pub behind : List Item
-  pub between : IsBetween sign octets before behind cursor
+  pub between : IsPassing sign octets before behind cursor
   pub whole : (reading octets).items ≡ before ++ behind
   pub began : cursor.state.cycle ≤ time
 
 -- THE PRESENT PAGE
 
+-- the state has the pages and times of these items, and the values in force behind them
+pub record IsClockOf (sign : SignData) (items : List Meaning) (state : State) : Type 0 where
+  pub pages : state.pages ≡ pages_of items
+  pub times : state.cycle ≡ cycle (ended_times sign items)
+  pub attributes : state.attributes ≡ attributes_of (standing sign items)
+
+clock_of : {sign : SignData} {octets : List ℕ} {before behind : List Item} {cursor : Cursor} → IsPassing sign octets before behind cursor → IsClockOf sign (map meaning before) cursor.state
+clock_of {sign} {octets} {before} {behind} {cursor} p =
+    let (here, times, pages) = same_unplaced sign (map meaning before) in
+    record { pages = p.state_is.pages ∙ pages; times = p.state_is.times ∙ ap cycle times; attributes = p.state_is.attributes ∙ ap attributes_of here }
+
 -- the state is that of these items, and the page in which they end began at this time or before it
-module _ (sign : SignData) (items : List Meaning) (state : State) (st : IsStateOf sign items state) (time : ℕ) (began : state.cycle ≤ time) where
+module _ (sign : SignData) (items : List Meaning) (state : State) (st : IsClockOf sign items state) (time : ℕ) (began : state.cycle ≤ time) where
   -- the page's times
   abbrev here : Times
   here = times_at (standing sign items)
@@ -65,7 +77,7 @@ module _ (sign : SignData) (items : List Meaning) (state : State) (st : IsStateO
       shown_off pages (ended_times sign items) more here is time (omega (arith, st.times, on_is)) (omega (arith, st.times, on_is, off_is))
 
   -- behind one more item the present page began at the time or before it, if the one that a new page ends was over
-  began_more : (x : Meaning) (new : State) → IsStateOf sign (items ++ x ∷ []) new
+  began_more : (x : Meaning) (new : State) → IsClockOf sign (items ++ x ∷ []) new
       → (is_new_page x ≡ true → state.cycle + state.attributes.on + state.attributes.off ≤ time) → new.cycle ≤ time
   began_more x new st_new over = elim (cases_Bool (is_new_page x)) [
     | inl e ↦ omega (arith, over e, st_new.times, st.times, cycle-grows sign items x e, on_is, off_is)
@@ -87,7 +99,7 @@ module _ {sign : SignData} {octets : List ℕ} {time : ℕ} {cursor : Cursor} (s
   Times_from more = page_times sign (meanings octets) ≡ ended_times sign passed ++ times_at (standing sign passed) ∷ more
 
   pub within_octets : cursor.at ≤ length octets
-  within_octets = within sign octets s.before s.behind cursor s.between
+  within_octets = within sign octets s.before s.behind cursor.at s.between.placed
 
   -- at the end the present page is the last
   times_end : s.behind ≡ [] → Times_from []
@@ -98,14 +110,14 @@ module _ {sign : SignData} {octets : List ℕ} {time : ℕ} {cursor : Cursor} (s
   -- and the cycle ends with it
   cycle_end : s.behind ≡ [] → cycle (page_times sign (meanings octets)) ≡ cursor.state.cycle + cursor.state.attributes.on + cursor.state.attributes.off
   cycle_end end =
-      let st = s.between.state_is in
+      let st = clock_of s.between in
       let all = ap cycle (times_end end) ∙ cycle_push (ended_times sign passed) (times_at (standing sign passed)) in
       omega (arith, all, st.times, on_is sign passed cursor.state st time s.began, off_is sign passed cursor.state st time s.began)
 
   -- an item stands behind the cursor, of which this was read
-  module _ (item : Item) (rest : List Item) (is : s.behind ≡ item ∷ rest) (next : NextItem) (read : IsRead item next) where
-    between_read : IsBetween sign octets s.before (item ∷ rest) cursor
-    between_read = subst (λ (l : List Item). IsBetween sign octets s.before l cursor) is s.between
+  module _ (item : Item) (rest : List Item) (is : s.behind ≡ item ∷ rest) (next : NextItem) (read : IsItemRead item next) where
+    between_read : IsPassing sign octets s.before (item ∷ rest) cursor
+    between_read = subst (λ (l : List Item). IsPassing sign octets s.before l cursor) is s.between
 
     split : (reading octets).items ≡ s.before ++ item ∷ rest
     split = s.whole ∙ ap (λ l. s.before ++ l) is
@@ -119,7 +131,7 @@ module _ {sign : SignData} {octets : List ℕ} {time : ℕ} {cursor : Cursor} (s
         (more, ap (page_times sign) items ∙ times)
 
     -- the search goes on behind it
-    searched_behind : (new : Cursor) → IsBetween sign octets (s.before ++ item ∷ []) rest new
+    searched_behind : (new : Cursor) → IsPassing sign octets (s.before ++ item ∷ []) rest new
         → (is_new_page (meant_by next.item) ≡ true → cursor.state.cycle + cursor.state.attributes.on + cursor.state.attributes.off ≤ time)
         → Searched sign octets time new
     searched_behind new b over = record {
@@ -127,12 +139,12 @@ module _ {sign : SignData} {octets : List ℕ} {time : ℕ} {cursor : Cursor} (s
       behind = rest;
       between = b;
       whole = split ∙ sym (append_assoc s.before (item ∷ []) rest);
-      began = began_more sign passed cursor.state s.between.state_is time s.began (meaning item) new.state
-          (subst (λ ms. IsStateOf sign ms new.state) (map-append meaning s.before (item ∷ [])) b.state_is) (λ e. over (ap is_new_page (sym read.meant) ∙ e));
+      began = began_more sign passed cursor.state (clock_of s.between) time s.began (meaning item) new.state
+          (subst (λ ms. IsClockOf sign ms new.state) (map-append meaning s.before (item ∷ [])) (clock_of b)) (λ e. over (ap is_new_page (sym read.meant) ∙ e));
     }
 
     fits : (cursor.at + next.len ≤ length octets) × (1 ≤ next.len)
-    fits = (omega (arith, read.len, room sign octets s.before rest item cursor between_read), omega (arith, read.len, spelling_some item))
+    fits = (omega (arith, read.len, room sign octets s.before rest item cursor.at between_read.placed), omega (arith, read.len, spelling_some item))
 
   -- this was read of the next item
   module _ (next : NextItem) (first : IsFirst s.behind (Some next)) where
@@ -142,7 +154,7 @@ module _ {sign : SignData} {octets : List ℕ} {time : ℕ} {cursor : Cursor} (s
 
     -- the search goes on behind it, if the page that it ends was over
     pub searched_more : (new : Cursor)
-        → ((before rest : List Item) (item : Item) → IsBetween sign octets before (item ∷ rest) cursor → IsRead item next → IsBetween sign octets (before ++ item ∷ []) rest new)
+        → ((before rest : List Item) (item : Item) → IsPassing sign octets before (item ∷ rest) cursor → IsItemRead item next → IsPassing sign octets (before ++ item ∷ []) rest new)
         → (is_new_page (meant_by next.item) ≡ true → cursor.state.cycle + cursor.state.attributes.on + cursor.state.attributes.off ≤ time)
         → Searched sign octets time new
     searched_more new passes over =
@@ -157,9 +169,9 @@ module _ {sign : SignData} {octets : List ℕ} {time : ℕ} {cursor : Cursor} (s
     -- what it shows the string shows
     shown_by : (more : List Times) → Times_from more → {shown : Shown} → answer ≡ Some shown → shown ≡ shown_within (page_times sign (meanings octets)) time
     shown_by more is found = elim (cases_lt time (cursor.state.cycle + cursor.state.attributes.on)) [
-      | inl until ↦ let e = on until in let w = on_here sign passed cursor.state s.between.state_is time s.began _ more is until in cc
+      | inl until ↦ let e = on until in let w = on_here sign passed cursor.state (clock_of s.between) time s.began _ more is until in cc
       | inr from ↦ elim (cases_lt time (cursor.state.cycle + cursor.state.attributes.on + cursor.state.attributes.off)) [
-        | inl until ↦ let e = off from until in let w = off_here sign passed cursor.state s.between.state_is time s.began _ more is from until in cc
+        | inl until ↦ let e = off from until in let w = off_here sign passed cursor.state (clock_of s.between) time s.began _ more is from until in cc
         | inr from ↦ let e = over from in absurd cc
       ]
     ]

@@ -1,28 +1,31 @@
 -- The lines of an accepted string are no wider than the sign, and its groups no higher.
-use Rattle.std.proofs.Common.{◌≡◌, ℕ, ◌+◌, ◌≤◌, Bool, true, false, cond, not, ◌&&◌, ◌||◌, ◌==◌, length, map, List, [], ◌∷◌, ◌++◌, refl, sym, ap, subst, ◌∙◌, arith, inl, inr, append-nil}
+use Rattle.std.proofs.Common.{◌≡◌, ℕ, ◌+◌, ◌≤◌, Bool, true, false, cond, not, ◌&&◌, ◌||◌, ◌==◌, length, List, [], ◌∷◌, ◌++◌, refl, sym, ap, subst, ◌∙◌, arith, inl, inr, append_assoc, append-nil, length-append}
 use Rattle.std.specs.Prelude.{nat_le}
 use Rattle.std.specs.List.{All, after_last, sum_by}
 use Rattle.std.proofs.lemmas.Bool.{cases_Bool, cases_eq, false≢true, le-leb, ne_eqb}
 use Rattle.std.proofs.lemmas.Bool.Decides.{nat_tests}
 use Rattle.std.proofs.lemmas.List.Elements.{All-cons, All-drop, All-filter, All-head, All-nil, All-tail, filter-append}
-use Rattle.multi_token.specs.Spelling.{Item}
 use Rattle.sign_font.specs.Sign.{SignData}
 use Rattle.sign_font.specs.Sound.{IsSound}
+use Rattle.sign_font.specs.declared.parts.LineFill.TheVariants.{Off}
+use Rattle.multi_layout.specs.Laid.{too_big}
 use Rattle.multi_layout.specs.Address.{Spot, in_group, is_break, is_glyph, lines_of, segment, spots, standing}
-use Rattle.multi_layout.specs.Fit.{fit, line_fits}
+use Rattle.multi_layout.specs.Fit.{area_fits, fit, line_fits}
 use Rattle.multi_layout.specs.Line.{glyph_width, height_of, width_of}
-use Rattle.multi_layout.specs.Meaning.{meaning}
+use Rattle.multi_layout.specs.Meaning.{Meaning}
 use Rattle.multi_layout.specs.State.{present_area}
 use Rattle.multi_layout.specs.Table.{IsNarrow, IsNarrowArea}
-use Rattle.multi_layout.specs.Verdict.{offences}
+use Rattle.multi_layout.specs.Walk.{IsFine}
 use Rattle.multi_layout.proofs.BehindLemmas.{after_last_push}
-use Rattle.multi_layout.proofs.GroupSumLemmas.{glyph_put, own_group}
+use Rattle.multi_layout.proofs.FillLemmas.{segment_grows}
+use Rattle.multi_layout.proofs.WordLemmas.{push_ind}
+use Rattle.multi_layout.proofs.GroupSumLemmas.{own_group}
 use Rattle.multi_layout.proofs.InForceLemmas.{area_wide, rectangle_width_within, rectangle_within}
 use Rattle.multi_layout.proofs.PlaceLemmas.{each_just, fit_each, part_most, sum_least}
 use Rattle.multi_layout.proofs.RoomLemmas.{area_fits_always, holds_always}
 
 -- the present line of each group fits a width
-abbrev LinesFit : ℕ → List Spot → Type 0
+abbrev pub LinesFit : ℕ → List Spot → Type 0
 LinesFit width area = (just : ℕ) → line_fits width (after_last is_break (in_group just area)) ≡ true
 
 line_none : (width : ℕ) → line_fits width [] ≡ true
@@ -35,13 +38,9 @@ line_where false b e = absurd (false≢true (sym e))
 
 -- the present line of the group that a placing item joins
 joined : (before : List Spot) (area : List Spot) (s : Spot) (big : Bool) (glyph : Bool) → is_glyph s ≡ glyph → (is_glyph s || is_break s) ≡ true
-    → ((glyph && not (line_fits s.at.rectangle.width (after_last is_break (in_group s.at.page_just area) ++ s ∷ []))) || big) ≡ false
+    → ((glyph && not (line_fits s.at.rectangle.width (after_last is_break (in_group s.at.page_just (area ++ s ∷ []))))) || big) ≡ false
     → line_fits s.at.rectangle.width (after_last is_break (in_group s.at.page_just (area ++ s ∷ []))) ≡ true
-joined before area s big true g placing small =
-    let broken : is_break s ≡ false = (glyph_put s.at s.put g).0 in
-    let whole : after_last is_break (in_group s.at.page_just (area ++ s ∷ [])) ≡ after_last is_break (in_group s.at.page_just area) ++ s ∷ [] =
-    ap (after_last is_break) (own_group s.at.page_just area s refl) ∙ after_last_push is_break (in_group s.at.page_just area) s ∙ ap (λ b. cond b [] (after_last is_break (in_group s.at.page_just area) ++ s ∷ [])) broken in
-    ap (line_fits s.at.rectangle.width) whole ∙ line_where (line_fits s.at.rectangle.width (after_last is_break (in_group s.at.page_just area) ++ s ∷ [])) big small
+joined before area s big true g placing small = line_where (line_fits s.at.rectangle.width (after_last is_break (in_group s.at.page_just (area ++ s ∷ [])))) big small
 joined before area s big false g placing small =
     let broken : is_break s ≡ true = sym (ap (λ b. b || is_break s) g) ∙ placing in
     let whole : after_last is_break (in_group s.at.page_just (area ++ s ∷ [])) ≡ [] =
@@ -49,7 +48,7 @@ joined before area s big false g placing small =
     ap (line_fits s.at.rectangle.width) whole ∙ line_none s.at.rectangle.width
 
 -- behind the items of an accepted string the present line of each group fits the rectangle in force
-lines_fit_always : (sign : SignData) (items : List Item) → offences sign items ≡ [] → LinesFit (standing sign (map meaning items)).rectangle.width (present_area sign (map meaning items))
+lines_fit_always : (sign : SignData) (items : List Meaning) → IsFine sign items → LinesFit (standing sign items).rectangle.width (present_area sign items)
 lines_fit_always sign =
     holds_always sign (λ r area. LinesFit r.width area) (λ r just. line_none r.width)
     (λ before put placing small old just.
@@ -81,19 +80,20 @@ wide_segment just (s ∷ line) all =
     first_true true b e = refl
     first_true false b e = absurd (false≢true e)
 
-module _ (sign : SignData) (sound : IsSound sign) (items : List Item) (none : offences sign items ≡ []) where
+module _ (sign : SignData) (sound : IsSound sign) (items : List Meaning) (fits : LinesFit (standing sign items).rectangle.width (present_area sign items))
+    (high : area_fits (standing sign items).rectangle.height (present_area sign items) ≡ true) (across : (standing sign items).rectangle.width ≤ sign.width) (down : (standing sign items).rectangle.height ≤ sign.height) where
   -- the present line of each group is narrow
-  narrow : (just : ℕ) → IsNarrow (after_last is_break (in_group just (present_area sign (map meaning items))))
+  narrow : (just : ℕ) → IsNarrow (after_last is_break (in_group just (present_area sign items)))
   narrow just =
-      let spots = present_area sign (map meaning items) in
+      let spots = present_area sign items in
       let line = after_last is_break (in_group just spots) in
-      let width = (standing sign (map meaning items)).rectangle.width in
-      let within = rectangle_width_within sign items none in
-      let parts = line_each (width_of (segment 2 line)) (width_of (segment 3 line)) (width_of (segment 4 line)) (width_of (segment 5 line)) width (lines_fit_always sign items none just) in
+      let width = (standing sign items).rectangle.width in
+      let within = across in
+      let parts = line_each (width_of (segment 2 line)) (width_of (segment 3 line)) (width_of (segment 4 line)) (width_of (segment 5 line)) width (fits just) in
       let widest = sound.width.1 in
       let wide : All (λ (s : Spot). is_glyph s ≡ true → 1 ≤ glyph_width s) line =
       All-drop (λ (s : Spot). is_glyph s ≡ true → 1 ≤ glyph_width s) _ (in_group just spots)
-      (All-filter (λ t. t.at.page_just == just) (λ (s : Spot). is_glyph s ≡ true → 1 ≤ glyph_width s) spots (area_wide sign sound sound.font (map meaning items))) in
+      (All-filter (λ t. t.at.page_just == just) (λ (s : Spot). is_glyph s ≡ true → 1 ≤ glyph_width s) spots (area_wide sign sound sound.font items)) in
       let many : length (segment 5 line) ≤ sum_by glyph_width (segment 5 line) = sum_least glyph_width (segment 5 line) (wide_segment 5 line wide) in
       record {
         width = each_just (λ just. width_of (segment just line) ≤ 1024) (omega (arith, parts.0, within, widest)) (omega (arith, parts.0, within, widest)) (omega (arith, parts.0, within, widest)) (omega (arith, parts.1, within, widest));
@@ -101,13 +101,31 @@ module _ (sign : SignData) (sound : IsSound sign) (items : List Item) (none : of
       }
 
   -- and no group is higher than a sign
-  height : (just : ℕ) → 2 ≤ just → just ≤ 4 → height_of (lines_of (in_group just (present_area sign (map meaning items)))) ≤ 1024
-  height just low high =
-      let spots = present_area sign (map meaning items) in
+  height : (just : ℕ) → 2 ≤ just → just ≤ 4 → height_of (lines_of (in_group just (present_area sign items))) ≤ 1024
+  height just low top =
+      let spots = present_area sign items in
       let tall = λ (just : ℕ). height_of (lines_of (in_group just spots)) in
-      let most = (standing sign (map meaning items)).rectangle.height in
-      let room : tall just ≤ most = part_most tall just most low high (fit_each (tall 2) (tall 3) (tall 4) most (area_fits_always sign items none)) in
-      omega (arith, room, rectangle_within sign items none, sound.height.1)
+      let most = (standing sign items).rectangle.height in
+      let room : tall just ≤ most = part_most tall just most low top (fit_each (tall 2) (tall 3) (tall 4) most high) in
+      omega (arith, room, down, sound.height.1)
 
-  pub narrow_area : IsNarrowArea (present_area sign (map meaning items))
-  narrow_area = λ just low high. (narrow just, height just low high)
+  pub narrow_of : IsNarrowArea (present_area sign items)
+  narrow_of = λ just low top. (narrow just, height just low top)
+
+-- and so is that behind the items of an accepted string
+pub narrow_area : (sign : SignData) → IsSound sign → (items : List Meaning) → IsFine sign items → IsNarrowArea (present_area sign items)
+narrow_area sign sound items none =
+    narrow_of sign sound items (lines_fit_always sign items none) (area_fits_always sign items none)
+    (rectangle_width_within sign (too_big Off) items none) (rectangle_within sign (too_big Off) items none)
+
+-- and the front of a narrow line
+front_width : (just : ℕ) (line behind : List Spot) → width_of (segment just line) ≤ width_of (segment just (line ++ behind))
+front_width just line = push_ind (λ behind. width_of (segment just line) ≤ width_of (segment just (line ++ behind)))
+    (omega (arith, ap (λ l. width_of (segment just l)) (append-nil line)))
+    (λ behind s ih. omega (arith, ih, segment_grows just (line ++ behind) s, ap (λ l. width_of (segment just l)) (append_assoc line behind (s ∷ []))))
+
+pub narrow_front : (line behind : List Spot) → IsNarrow (line ++ behind) → IsNarrow line
+narrow_front line behind whole = record {
+  width = λ just low high. omega (arith, front_width just line behind, whole.width just low high);
+  characters = omega (arith, whole.characters, ap length (filter-append (λ t. is_glyph t && (t.at.line_just == 5)) line behind), length-append (segment 5 line) (segment 5 behind));
+}

@@ -5,7 +5,7 @@ use Rattle.std.proofs.lemmas.Bool.{eq-eqb}
 use Rattle.std.proofs.lemmas.List.{length-append, map-append}
 use Rattle.std.proofs.lemmas.List.Elements.{All-head, All-tail}
 use Rattle.multi_token.specs.Counted.{Counted, RisesBetween}
-use Rattle.multi_token.specs.Spelling.{Item, IsReading, spelling, spell}
+use Rattle.multi_token.specs.Spelling.{IsReading, Item, spell, spelling}
 use Rattle.multi_token.proofs.ReadingLemmas.{none_found, spelling_some}
 use Rattle.multi_token.proofs.SpellingLemmas.{one_reading}
 use Rattle.multi_token.proofs.StepLemmas.{rises_more, rises_then}
@@ -21,58 +21,76 @@ use Rattle.multi_layout.specs.Address.{Standing, spots, standing, put_at}
 use Rattle.multi_layout.specs.Drawn.{has_colour}
 use Rattle.multi_layout.specs.Drawn as drawn
 use Rattle.multi_layout.specs.Limits.{plane_octets}
-use Rattle.multi_layout.specs.Meaning.{Meaning, Shows, Does, Faulty, BeginsPage, EndsArea, EndsPage, begins_area, is_new_page, meaning}
+use Rattle.multi_layout.specs.Meaning.{Meaning, Shows, Does, Faulty, BeginsPage, EndsArea, EndsPage, begins_area, is_new_page}
 use Rattle.multi_layout.specs.Paging.{IsFilledFew, IsPagePassed}
 use Rattle.multi_layout.specs.Passes.{HasCounted, IsAreaRead, IsDrawnTo, IsFilledBy, BeginsNoArea, first_steps, whole_area}
 use Rattle.multi_layout.specs.Picture.{in_plane, shown_colour}
 use Rattle.multi_layout.specs.State.{present_area}
 use Rattle.multi_layout.specs.Verdict.{pages_of}
-use Rattle.multi_layout.specs.Walk.{IsAccepted, IsBetween}
+use Rattle.multi_layout.specs.Walk.{IsAccepted, IsBetween, items_of, laid_meanings, meant, Piece, spell_of}
 use Rattle.multi_layout.proofs.DrawLemmas.{no_page}
 use Rattle.multi_layout.proofs.DrawnLemmas.{covered_begins, covered_ends, covered_same}
 use Rattle.multi_layout.proofs.SpotsLemmas.{same_page_behind, next_page_behind}
 use Rattle.multi_layout.proofs.StateLemmas.{present_area-new}
-use Rattle.multi_layout.proofs.WalkLemmas.{spell-append}
+use Rattle.multi_layout.proofs.WalkLemmas.{spell_of-append}
 
 -- ONE PLACE
 
-same_front : (xs ys zs ws : List Item) → xs ++ ys ≡ zs ++ ws → length (spell xs) ≡ length (spell zs) → xs ≡ zs
+same_front : (xs ys zs ws : List Piece) → xs ++ ys ≡ zs ++ ws → length (spell_of xs) ≡ length (spell_of zs) → xs ≡ zs
 same_front [] ys [] ws e n = refl
-same_front [] ys (z ∷ zs) ws e n = absurd (omega (arith, n, spelling_some z, length-append (spelling z) (spell zs)))
-same_front (x ∷ xs) ys [] ws e n = absurd (omega (arith, n, spelling_some x, length-append (spelling x) (spell xs)))
+same_front [] ys (z ∷ zs) ws e n = absurd (omega (arith, n, spelling_some z.item, length-append (spelling z.item) (spell_of zs)))
+same_front (x ∷ xs) ys [] ws e n = absurd (omega (arith, n, spelling_some x.item, length-append (spelling x.item) (spell_of xs)))
 same_front (x ∷ xs) ys (z ∷ zs) ws e n =
     let head : x ≡ z = cc in
     let tail : xs ++ ys ≡ zs ++ ws = cc in
-    let long : length (spelling x) ≡ length (spelling z) = ap (λ y. length (spelling y)) head in
-    let more = same_front xs ys zs ws tail (omega (arith, n, long, length-append (spelling x) (spell xs), length-append (spelling z) (spell zs))) in
+    let long : length (spelling x.item) ≡ length (spelling z.item) = ap (λ (y : Piece). length (spelling y.item)) head in
+    let more = same_front xs ys zs ws tail (omega (arith, n, long, length-append (spelling x.item) (spell_of xs), length-append (spelling z.item) (spell_of zs))) in
     ap (λ y. y ∷ xs) head ∙ ap (λ l. z ∷ l) more
 
--- a string has the same items whatever says that it is accepted
-one_list : (sign : SignData) (octets : List ℕ) (items items' : List Item) → IsAccepted sign octets items → IsAccepted sign octets items' → items ≡ items'
-one_list sign octets items items' a a' =
+-- pieces are the same with the same items and meanings
+same_pieces : (xs ys : List Piece) → items_of xs ≡ items_of ys → map meant xs ≡ map meant ys → xs ≡ ys
+same_pieces [] [] e f = refl
+same_pieces [] (y ∷ ys) e f = cc
+same_pieces (x ∷ xs) [] e f = cc
+same_pieces (x ∷ xs) (y ∷ ys) e f =
+    let item : x.item ≡ y.item = cc in
+    let as' : x.as_laid ≡ y.as_laid = cc in
+    let items : items_of xs ≡ items_of ys = cc in
+    let meants : map meant xs ≡ map meant ys = cc in
+    let more = same_pieces xs ys items meants in
+    λ i. record { item = item i; as_laid = as' i } ∷ more i
+
+-- a string has the same pieces whatever says that it is accepted
+one_list : (sign : SignData) (octets : List ℕ) (before behind before' behind' : List Piece) (cursor cursor' : Cursor) → IsBetween sign octets before behind cursor → IsBetween sign octets before' behind' cursor'
+    → before ++ behind ≡ before' ++ behind'
+one_list sign octets before behind before' behind' cursor cursor' b b' =
     let read = λ (l : List Item) (x : IsAccepted sign octets l). let r : IsReading octets l [] = record { each = x.each; spelled = x.spelled ∙ sym (append-nil (spell l)); ends = none_found [] refl } in r in
-    (one_reading octets items items' [] [] (read items a) (read items' a')).0
+    let items = items_of before ++ items_of behind in
+    let items' = items_of before' ++ items_of behind' in
+    let one = (one_reading octets items items' [] [] (read items b.placed.accepted) (read items' b'.placed.accepted)).0 in
+    let same = map-append (λ (p : Piece). p.item) before behind ∙ one ∙ sym (map-append (λ (p : Piece). p.item) before' behind') in
+    same_pieces (before ++ behind) (before' ++ behind') same (b.laid ∙ ap (laid_meanings sign) same ∙ sym b'.laid)
 
 -- a cursor stands behind the same items whatever says so
-pub one_place : (sign : SignData) (octets : List ℕ) (before behind before' behind' : List Item) (cursor : Cursor) → IsBetween sign octets before behind cursor → IsBetween sign octets before' behind' cursor → before ≡ before'
+pub one_place : (sign : SignData) (octets : List ℕ) (before behind before' behind' : List Piece) (cursor : Cursor) → IsBetween sign octets before behind cursor → IsBetween sign octets before' behind' cursor → before ≡ before'
 one_place sign octets before behind before' behind' cursor b b' =
-    same_front before behind before' behind' (one_list sign octets (before ++ behind) (before' ++ behind') b.accepted b'.accepted) (sym b.place ∙ b'.place)
+    same_front before behind before' behind' (one_list sign octets before behind before' behind' cursor cursor b b') (sym b.placed.place ∙ b'.placed.place)
 
 -- AREAS OF A PAGE
 
 -- these items of a page are drawn, and those behind them are left
-pub record PageDrawn (sign : SignData) (octets : List ℕ) (before behind : List Item) (layer : Layer) (cursor : Cursor) (plane : BitPlane) : Type 0 where
-  pub done : List Item
-  pub left : List Item
+pub record PageDrawn (sign : SignData) (octets : List ℕ) (before behind : List Piece) (layer : Layer) (cursor : Cursor) (plane : BitPlane) : Type 0 where
+  pub done : List Piece
+  pub left : List Piece
   pub split : behind ≡ done ++ left
   pub between : IsBetween sign octets (before ++ done) left cursor
-  pub page : (standing sign (map meaning (before ++ done))).page ≡ (standing sign (map meaning before)).page
-  pub drawn : IsDrawnTo sign layer (map meaning (before ++ behind)) (map meaning (before ++ done)) plane
+  pub page : (standing sign (map meant (before ++ done))).page ≡ (standing sign (map meant before)).page
+  pub drawn : IsDrawnTo sign layer (map meant (before ++ behind)) (map meant (before ++ done)) plane
 
 -- and an area begins behind them
-pub record PageSoFar (sign : SignData) (octets : List ℕ) (before behind : List Item) (layer : Layer) (cursor : Cursor) (plane : BitPlane) : Type 0 where
+pub record PageSoFar (sign : SignData) (octets : List ℕ) (before behind : List Piece) (layer : Layer) (cursor : Cursor) (plane : BitPlane) : Type 0 where
   pub so : PageDrawn sign octets before behind layer cursor plane
-  pub begins : present_area sign (map meaning (before ++ so.done)) ≡ []
+  pub begins : present_area sign (map meant (before ++ so.done)) ≡ []
 
 -- where a page begins, no area has an item yet
 pub nothing_placed : (sign : SignData) (before : List Meaning) → BeginsPage before → present_area sign before ≡ []
@@ -92,39 +110,39 @@ plain_page (Faulty code) plain = refl
 
 module _ (sign : SignData) where
   -- items behind which no area begins leave the page
-  pages_on : (before items : List Item) → BeginsNoArea items → (standing sign (map meaning (before ++ items))).page ≡ (standing sign (map meaning before)).page
-  pages_on before [] plain = ap (λ l. (standing sign (map meaning l)).page) (append-nil before)
+  pages_on : (before items : List Piece) → BeginsNoArea items → (standing sign (map meant (before ++ items))).page ≡ (standing sign (map meant before)).page
+  pages_on before [] plain = ap (λ l. (standing sign (map meant l)).page) (append-nil before)
   pages_on before (x ∷ items) plain =
-      let first : is_new_page (meaning x) ≡ false = plain_page (meaning x) (All-head (λ y. begins_area (meaning y) ≡ false) x items plain) in
-      ap (λ l. (standing sign (map meaning l)).page) (sym (append_assoc before (x ∷ []) items))
-      ∙ pages_on (before ++ x ∷ []) items (All-tail (λ y. begins_area (meaning y) ≡ false) x items plain)
-      ∙ ap (λ ms. (standing sign ms).page) (map-append meaning before (x ∷ []))
-      ∙ same_page_behind sign (map meaning before) (meaning x) first
+      let first : is_new_page (meant x) ≡ false = plain_page (meant x) (All-head (λ y. begins_area (meant y) ≡ false) x items plain) in
+      ap (λ l. (standing sign (map meant l)).page) (sym (append_assoc before (x ∷ []) items))
+      ∙ pages_on (before ++ x ∷ []) items (All-tail (λ y. begins_area (meant y) ≡ false) x items plain)
+      ∙ ap (λ ms. (standing sign ms).page) (map-append meant before (x ∷ []))
+      ∙ same_page_behind sign (map meant before) (meant x) first
 
-module _ (sign : SignData) (octets : List ℕ) (before behind : List Item) (layer : Layer) where
-  pub page_begins : (cursor : Cursor) (plane : BitPlane) (on : Bool) → IsBetween sign octets before behind cursor → BeginsPage (map meaning before) → on ≡ (shown_colour sign cursor.state.attributes.back == layer.colour)
+module _ (sign : SignData) (octets : List ℕ) (before behind : List Piece) (layer : Layer) where
+  pub page_begins : (cursor : Cursor) (plane : BitPlane) (on : Bool) → IsBetween sign octets before behind cursor → BeginsPage (map meant before) → on ≡ (shown_colour sign cursor.state.attributes.back == layer.colour)
       → ((x y : ℕ) → x < plane.width → y < plane.height → is_lit plane x y ≡ on) → PageSoFar sign octets before behind layer cursor plane
   page_begins cursor plane on b begins colour pixels =
       let none : before ++ [] ≡ before = append-nil before in
-      let back : (standing sign (map meaning before)).back ≡ cursor.state.attributes.back = sym (ap (λ (a : Attributes). a.back) b.state_is.attributes) in
+      let back : (standing sign (map meant before)).back ≡ cursor.state.attributes.back = sym (ap (λ (a : Attributes). a.back) b.state_is.attributes) in
       record {
         so = record {
           done = [];
           left = behind;
           split = refl;
           between = subst (λ l. IsBetween sign octets l behind cursor) (sym none) b;
-          page = ap (λ l. (standing sign (map meaning l)).page) none;
-          drawn = subst (λ l. IsDrawnTo sign layer (map meaning (before ++ behind)) (map meaning l) plane) (sym none)
+          page = ap (λ l. (standing sign (map meant l)).page) none;
+          drawn = subst (λ l. IsDrawnTo sign layer (map meant (before ++ behind)) (map meant l) plane) (sym none)
               (λ x y across down. pixels x y across down ∙ colour ∙ ap (λ n. shown_colour sign n == layer.colour) (sym back)
-              ∙ sym (covered_begins sign layer.phase layer.colour (spots sign (map meaning (before ++ behind))) x y (map meaning before) begins));
+              ∙ sym (covered_begins sign layer.phase layer.colour (spots sign (map meant (before ++ behind))) x y (map meant before) begins));
         };
-        begins = ap (λ l. present_area sign (map meaning l)) none ∙ nothing_placed sign (map meaning before) begins;
+        begins = ap (λ l. present_area sign (map meant l)) none ∙ nothing_placed sign (map meant before) begins;
       }
 
   module _ (cursor : Cursor) (plane : BitPlane) (s : PageDrawn sign octets before behind layer cursor plane) where
     -- an area more
-    pub page_area : (area rest : List Item) → s.left ≡ area ++ rest → BeginsNoArea area → (cursor' : Cursor) (plane' : BitPlane) → IsBetween sign octets ((before ++ s.done) ++ area) rest cursor'
-        → (IsDrawnTo sign layer (map meaning ((before ++ s.done) ++ (area ++ rest))) (map meaning (before ++ s.done)) plane → IsDrawnTo sign layer (map meaning ((before ++ s.done) ++ (area ++ rest))) (map meaning ((before ++ s.done) ++ area)) plane')
+    pub page_area : (area rest : List Piece) → s.left ≡ area ++ rest → BeginsNoArea area → (cursor' : Cursor) (plane' : BitPlane) → IsBetween sign octets ((before ++ s.done) ++ area) rest cursor'
+        → (IsDrawnTo sign layer (map meant ((before ++ s.done) ++ (area ++ rest))) (map meant (before ++ s.done)) plane → IsDrawnTo sign layer (map meant ((before ++ s.done) ++ (area ++ rest))) (map meant ((before ++ s.done) ++ area)) plane')
         → (d : PageDrawn sign octets before behind layer cursor' plane') × (d.done ≡ s.done ++ area) × (d.left ≡ rest)
     page_area area rest is plain cursor' plane' between drawn =
         let assoc : (before ++ s.done) ++ area ≡ before ++ (s.done ++ area) = append_assoc before s.done area in
@@ -134,35 +152,35 @@ module _ (sign : SignData) (octets : List ℕ) (before behind : List Item) (laye
             left = rest;
             split = s.split ∙ ap (λ l. s.done ++ l) is ∙ sym (append_assoc s.done area rest);
             between = subst (λ l. IsBetween sign octets l rest cursor') assoc between;
-            page = ap (λ l. (standing sign (map meaning l)).page) (sym assoc) ∙ pages_on sign (before ++ s.done) area plain ∙ s.page;
-            drawn = subst (λ l. IsDrawnTo sign layer (map meaning (before ++ behind)) (map meaning l) plane') assoc
-                (subst (λ l. IsDrawnTo sign layer (map meaning l) (map meaning ((before ++ s.done) ++ area)) plane') (sym all)
-                (drawn (subst (λ l. IsDrawnTo sign layer (map meaning l) (map meaning (before ++ s.done)) plane) all s.drawn)));
+            page = ap (λ l. (standing sign (map meant l)).page) (sym assoc) ∙ pages_on sign (before ++ s.done) area plain ∙ s.page;
+            drawn = subst (λ l. IsDrawnTo sign layer (map meant (before ++ behind)) (map meant l) plane') assoc
+                (subst (λ l. IsDrawnTo sign layer (map meant l) (map meant ((before ++ s.done) ++ area)) plane') (sym all)
+                (drawn (subst (λ l. IsDrawnTo sign layer (map meant l) (map meant (before ++ s.done)) plane) all s.drawn)));
           },
           refl,
           refl,
         )
 
     -- the rest of the string covers nothing of the page where the page ends
-    pub page_shown : EndsPage (map meaning s.left) → (pages : ℕ) → pages ≡ pages_of (map meaning before) → drawn.Lights plane (λ column row. in_plane sign (map meaning (before ++ behind)) (pages - 1) layer.phase layer.colour column row)
+    pub page_shown : EndsPage (map meant s.left) → (pages : ℕ) → pages ≡ pages_of (map meant before) → drawn.Lights plane (λ column row. in_plane sign (map meant (before ++ behind)) (pages - 1) layer.phase layer.colour column row)
     page_shown ends pages count = λ column row across down.
-        let done = map meaning (before ++ s.done) in
-        let all : map meaning (before ++ behind) ≡ done ++ map meaning s.left = ap (λ l. map meaning (before ++ l)) s.split ∙ ap (map meaning) (sym (append_assoc before s.done s.left)) ∙ map-append meaning (before ++ s.done) s.left in
-        let here : (standing sign done).page ≡ pages - 1 = omega (arith, s.page, count, page_of sign (map meaning before)) in
+        let done = map meant (before ++ s.done) in
+        let all : map meant (before ++ behind) ≡ done ++ map meant s.left = ap (λ l. map meant (before ++ l)) s.split ∙ ap (map meant) (sym (append_assoc before s.done s.left)) ∙ map-append meant (before ++ s.done) s.left in
+        let here : (standing sign done).page ≡ pages - 1 = omega (arith, s.page, count, page_of sign (map meant before)) in
         s.drawn column row across down
         ∙ ap (λ ms. has_colour sign (standing sign done).page layer.phase layer.colour (spots sign ms) (spots sign done) column row) all
-        ∙ sym (covered_ends sign done (map meaning s.left) layer.phase layer.colour column row ends)
-        ∙ ap (λ n. in_plane sign (done ++ map meaning s.left) n layer.phase layer.colour column row) here
+        ∙ sym (covered_ends sign done (map meant s.left) layer.phase layer.colour column row ends)
+        ∙ ap (λ n. in_plane sign (done ++ map meant s.left) n layer.phase layer.colour column row) here
         ∙ ap (λ ms. in_plane sign ms (pages - 1) layer.phase layer.colour column row) (sym all)
 
-    pub same_pages : (pages : ℕ) → pages ≡ pages_of (map meaning before) → cursor.state.pages ≡ pages
-    same_pages pages count = omega (arith, s.page, count, s.between.state_is.pages, page_of sign (map meaning before), page_of sign (map meaning (before ++ s.done)))
+    pub same_pages : (pages : ℕ) → pages ≡ pages_of (map meant before) → cursor.state.pages ≡ pages
+    same_pages pages count = omega (arith, s.page, count, s.between.state_is.pages, page_of sign (map meant before), page_of sign (map meant (before ++ s.done)))
 
     -- the end of the string
-    pub last_passed : (start : Cursor) → start.state.pages ≡ pages_of (map meaning before) → start.at ≤ cursor.at → s.left ≡ [] → IsPagePassed sign octets before behind start cursor
+    pub last_passed : (start : Cursor) → start.state.pages ≡ pages_of (map meant before) → start.at ≤ cursor.at → s.left ≡ [] → IsPagePassed sign octets before behind start cursor
     last_passed start count on none = record { page = s.done; rest = s.left; split = s.split; between = s.between; on = on; ends = inl (none, same_pages start.state.pages count) }
 
-    module _ (item : Item) (rest : List Item) (is : s.left ≡ item ∷ rest) (new : Cursor) (between : IsBetween sign octets ((before ++ s.done) ++ item ∷ []) rest new) where
+    module _ (item : Piece) (rest : List Piece) (is : s.left ≡ item ∷ rest) (new : Cursor) (between : IsBetween sign octets ((before ++ s.done) ++ item ∷ []) rest new) where
       assoc : (before ++ s.done) ++ item ∷ [] ≡ before ++ (s.done ++ item ∷ [])
       assoc = append_assoc before s.done (item ∷ [])
 
@@ -170,11 +188,11 @@ module _ (sign : SignData) (octets : List ℕ) (before behind : List Item) (laye
       split' = s.split ∙ ap (λ l. s.done ++ l) is ∙ sym (append_assoc s.done (item ∷ []) rest)
 
       -- a new page
-      pub page_passed : (start : Cursor) → start.state.pages ≡ pages_of (map meaning before) → start.at ≤ new.at → meaning item ≡ Does NewPage → IsPagePassed sign octets before behind start new
+      pub page_passed : (start : Cursor) → start.state.pages ≡ pages_of (map meant before) → start.at ≤ new.at → meant item ≡ Does NewPage → IsPagePassed sign octets before behind start new
       page_passed start count on turns =
-          let begins : map meaning ((before ++ s.done) ++ item ∷ []) ≡ map meaning (before ++ s.done) ++ Does NewPage ∷ [] = map-append meaning (before ++ s.done) (item ∷ []) ∙ ap (λ m. map meaning (before ++ s.done) ++ m ∷ []) turns in
-          let more : (standing sign (map meaning ((before ++ s.done) ++ item ∷ []))).page ≡ (standing sign (map meaning (before ++ s.done))).page + 1 =
-          ap (λ ms. (standing sign ms).page) begins ∙ next_page_behind sign (map meaning (before ++ s.done)) in
+          let begins : map meant ((before ++ s.done) ++ item ∷ []) ≡ map meant (before ++ s.done) ++ Does NewPage ∷ [] = map-append meant (before ++ s.done) (item ∷ []) ∙ ap (λ m. map meant (before ++ s.done) ++ m ∷ []) turns in
+          let more : (standing sign (map meant ((before ++ s.done) ++ item ∷ []))).page ≡ (standing sign (map meant (before ++ s.done))).page + 1 =
+          ap (λ ms. (standing sign ms).page) begins ∙ next_page_behind sign (map meant (before ++ s.done)) in
           record {
             page = s.done ++ item ∷ [];
             rest = rest;
@@ -182,31 +200,31 @@ module _ (sign : SignData) (octets : List ℕ) (before behind : List Item) (laye
             between = subst (λ l. IsBetween sign octets l rest new) assoc between;
             on = on;
             ends = inr (
-              subst (λ l. BeginsPage (map meaning l)) assoc (inr (map meaning (before ++ s.done), begins)),
-              omega (arith, count, s.page, more, between.state_is.pages, page_of sign (map meaning before), page_of sign (map meaning ((before ++ s.done) ++ item ∷ []))),
+              subst (λ l. BeginsPage (map meant l)) assoc (inr (map meant (before ++ s.done), begins)),
+              omega (arith, count, s.page, more, between.state_is.pages, page_of sign (map meant before), page_of sign (map meant ((before ++ s.done) ++ item ∷ []))),
             );
           }
 
       -- a rectangle
-      pub page_goes_on : begins_area (meaning item) ≡ true → is_new_page (meaning item) ≡ false → put_at sign.defaults (standing sign (map meaning (before ++ s.done))) (meaning item) ≡ None → PageSoFar sign octets before behind layer new plane
+      pub page_goes_on : begins_area (meant item) ≡ true → is_new_page (meant item) ≡ false → put_at sign.defaults (standing sign (map meant (before ++ s.done))) (meant item) ≡ None → PageSoFar sign octets before behind layer new plane
       page_goes_on area page puts =
-          let one : map meaning ((before ++ s.done) ++ item ∷ []) ≡ map meaning (before ++ s.done) ++ meaning item ∷ [] = map-append meaning (before ++ s.done) (item ∷ []) in
-          let all = spots sign (map meaning (before ++ behind)) in
-          let stays = same_page_behind sign (map meaning (before ++ s.done)) (meaning item) page in
-          let drawn : IsDrawnTo sign layer (map meaning (before ++ behind)) (map meaning (before ++ s.done) ++ meaning item ∷ []) plane =
+          let one : map meant ((before ++ s.done) ++ item ∷ []) ≡ map meant (before ++ s.done) ++ meant item ∷ [] = map-append meant (before ++ s.done) (item ∷ []) in
+          let all = spots sign (map meant (before ++ behind)) in
+          let stays = same_page_behind sign (map meant (before ++ s.done)) (meant item) page in
+          let drawn : IsDrawnTo sign layer (map meant (before ++ behind)) (map meant (before ++ s.done) ++ meant item ∷ []) plane =
           (λ x y across down. s.drawn x y across down
-          ∙ sym (covered_same sign layer.phase layer.colour all x y (map meaning (before ++ s.done)) (meaning item) (standing sign (map meaning (before ++ s.done))).page (inl puts))
-          ∙ ap (λ p. has_colour sign p layer.phase layer.colour all (spots sign (map meaning (before ++ s.done) ++ meaning item ∷ [])) x y) (sym stays)) in
+          ∙ sym (covered_same sign layer.phase layer.colour all x y (map meant (before ++ s.done)) (meant item) (standing sign (map meant (before ++ s.done))).page (inl puts))
+          ∙ ap (λ p. has_colour sign p layer.phase layer.colour all (spots sign (map meant (before ++ s.done) ++ meant item ∷ [])) x y) (sym stays)) in
           record {
             so = record {
               done = s.done ++ item ∷ [];
               left = rest;
               split = split';
               between = subst (λ l. IsBetween sign octets l rest new) assoc between;
-              page = ap (λ l. (standing sign (map meaning l)).page) (sym assoc) ∙ ap (λ ms. (standing sign ms).page) one ∙ stays ∙ s.page;
-              drawn = subst (λ l. IsDrawnTo sign layer (map meaning (before ++ behind)) (map meaning l) plane) assoc (subst (λ ms. IsDrawnTo sign layer (map meaning (before ++ behind)) ms plane) (sym one) drawn);
+              page = ap (λ l. (standing sign (map meant l)).page) (sym assoc) ∙ ap (λ ms. (standing sign ms).page) one ∙ stays ∙ s.page;
+              drawn = subst (λ l. IsDrawnTo sign layer (map meant (before ++ behind)) (map meant l) plane) assoc (subst (λ ms. IsDrawnTo sign layer (map meant (before ++ behind)) ms plane) (sym one) drawn);
             };
-            begins = ap (λ l. present_area sign (map meaning l)) (sym assoc) ∙ ap (present_area sign) one ∙ present_area-new sign (map meaning (before ++ s.done)) (meaning item) area;
+            begins = ap (λ l. present_area sign (map meant l)) (sym assoc) ∙ ap (present_area sign) one ∙ present_area-new sign (map meant (before ++ s.done)) (meant item) area;
           }
 
 -- what begins an area and no page is a rectangle, which puts nothing
@@ -223,42 +241,42 @@ new_page_is (Faulty code) is = cc
 new_page_is (Does NewPage) is = refl
 new_page_is (Does _) is = cc
 
-pub first_begins : (item : Item) (rest : List Item) → EndsArea (map meaning (item ∷ rest)) → begins_area (meaning item) ≡ true
+pub first_begins : (item : Piece) (rest : List Piece) → EndsArea (map meant (item ∷ rest)) → begins_area (meant item) ≡ true
 first_begins item rest (inl none) = cc
-first_begins item rest (inr (x, more, begins, is)) = let same : x ≡ meaning item = cc in ap begins_area (sym same) ∙ begins
+first_begins item rest (inr (x, more, begins, is)) = let same : x ≡ meant item = cc in ap begins_area (sym same) ∙ begins
 
-pub first_ends : (item : Item) (rest : List Item) → is_new_page (meaning item) ≡ true → EndsPage (map meaning (item ∷ rest))
-first_ends item rest is = inr (map meaning rest, ap (λ m. m ∷ map meaning rest) (new_page_is (meaning item) is))
+pub first_ends : (item : Piece) (rest : List Piece) → is_new_page (meant item) ≡ true → EndsPage (map meant (item ∷ rest))
+first_ends item rest is = inr (map meant rest, ap (λ m. m ∷ map meant rest) (new_page_is (meant item) is))
 
 -- A ROUND
 
 -- an area was read and drawn
-pub record Round (sign : SignData) (octets : List ℕ) (before behind : List Item) (layer : Layer) (old new : Cursor) (plane : BitPlane) (end : ℕ) (source source' : Counted) : Type 0 where
+pub record Round (sign : SignData) (octets : List ℕ) (before behind : List Piece) (layer : Layer) (old new : Cursor) (plane : BitPlane) (end : ℕ) (source source' : Counted) : Type 0 where
   pub so : PageDrawn sign octets before behind layer new plane
-  pub ends : EndsArea (map meaning so.left)
+  pub ends : EndsArea (map meant so.left)
   pub at : new.at ≡ end
   pub on : old.at ≤ end
-  pub steps : RisesBetween source source' 0 (9 * (end - old.at) + first_steps so.left)
+  pub steps : RisesBetween source source' 0 (9 * (end - old.at) + first_steps (items_of so.left))
 
-pub round : (sign : SignData) (octets : List ℕ) (before behind : List Item) (layer : Layer) (cursor : Cursor) (plane : BitPlane) (s : PageSoFar sign octets before behind layer cursor plane)
+pub round : (sign : SignData) (octets : List ℕ) (before behind : List Piece) (layer : Layer) (cursor : Cursor) (plane : BitPlane) (s : PageSoFar sign octets before behind layer cursor plane)
     → (read : AreaLines) (source source' : Counted) → IsAreaRead sign (before ++ s.so.done) s.so.left cursor read source source' → (new : Cursor) (plane' : BitPlane)
-    → ((earlier area rest : List Item) → IsBetween sign octets earlier (area ++ rest) cursor → BeginsNoArea area → read.end ≡ cursor.at + length (spell area) → HasCounted (whole_area sign earlier (area ++ rest)) read.lines
+    → ((earlier area rest : List Piece) → IsBetween sign octets earlier (area ++ rest) cursor → BeginsNoArea area → read.end ≡ cursor.at + length (spell_of area) → HasCounted (whole_area sign earlier (area ++ rest)) read.lines
     → IsBetween sign octets (earlier ++ area) rest new)
-    → ((earlier area rest : List Item) → IsBetween sign octets earlier (area ++ rest) cursor → BeginsNoArea area → read.end ≡ cursor.at + length (spell area) → HasCounted (whole_area sign earlier (area ++ rest)) read.lines
-    → IsDrawnTo sign layer (map meaning (earlier ++ (area ++ rest))) (map meaning earlier) plane → IsDrawnTo sign layer (map meaning (earlier ++ (area ++ rest))) (map meaning (earlier ++ area)) plane')
+    → ((earlier area rest : List Piece) → IsBetween sign octets earlier (area ++ rest) cursor → BeginsNoArea area → read.end ≡ cursor.at + length (spell_of area) → HasCounted (whole_area sign earlier (area ++ rest)) read.lines
+    → IsDrawnTo sign layer (map meant (earlier ++ (area ++ rest))) (map meant earlier) plane → IsDrawnTo sign layer (map meant (earlier ++ (area ++ rest))) (map meant (earlier ++ area)) plane')
     → Round sign octets before behind layer cursor new plane' read.end source source'
 round sign octets before behind layer cursor plane s read source source' a new plane' passed drawn =
     let b : IsBetween sign octets (before ++ s.so.done) (a.area ++ a.rest) cursor = subst (λ l. IsBetween sign octets (before ++ s.so.done) l cursor) a.split s.so.between in
     let table : HasCounted (whole_area sign (before ++ s.so.done) (a.area ++ a.rest)) read.lines = subst (λ l. HasCounted (whole_area sign (before ++ s.so.done) l) read.lines) a.split a.table in
     let between = passed (before ++ s.so.done) a.area a.rest b a.plain a.end table in
     let (d, done, left) = page_area sign octets before behind layer cursor plane s.so a.area a.rest a.split a.plain new plane' between (drawn (before ++ s.so.done) a.area a.rest b a.plain a.end table) in
-    let long : length (spell a.area) ≡ read.end - cursor.at = omega (arith, a.end) in
+    let long : length (spell_of a.area) ≡ read.end - cursor.at = omega (arith, a.end) in
     record {
       so = d;
-      ends = subst (λ l. EndsArea (map meaning l)) (sym left) a.ends;
-      at = omega (arith, between.place, b.place, a.end, ap length (spell-append (before ++ s.so.done) a.area), length-append (spell (before ++ s.so.done)) (spell a.area));
+      ends = subst (λ l. EndsArea (map meant l)) (sym left) a.ends;
+      at = omega (arith, between.placed.place, b.placed.place, a.end, ap length (spell_of-append (before ++ s.so.done) a.area), length-append (spell_of (before ++ s.so.done)) (spell_of a.area));
       on = omega (arith, a.end);
-      steps = subst (λ n. RisesBetween source source' 0 (9 * n + first_steps d.left)) long (subst (λ l. RisesBetween source source' 0 (9 * length (spell a.area) + first_steps l)) (sym left) a.steps);
+      steps = subst (λ n. RisesBetween source source' 0 (9 * n + first_steps (items_of d.left))) long (subst (λ l. RisesBetween source source' 0 (9 * length (spell_of a.area) + first_steps (items_of l))) (sym left) a.steps);
     }
 
 -- STEPS
@@ -274,21 +292,21 @@ pub no_less : (x y k : ℕ) → x ≤ y → x ≤ y + k
 no_less x y k within = omega (arith, within)
 
 -- the steps over the string to its end
-pub string_end : (a b c d e : Counted) (start at end : ℕ) (left : List Item) → start ≤ at → at ≤ end → left ≡ [] → RisesBetween a b 0 (18 * (at - start)) → RisesBetween b c 0 (9 * (end - at) + first_steps left) → RisesBetween c d 0 (9 * (end - at)) → RisesBetween d e 0 1
+pub string_end : (a b c d e : Counted) (start at end : ℕ) (left : List Piece) → start ≤ at → at ≤ end → left ≡ [] → RisesBetween a b 0 (18 * (at - start)) → RisesBetween b c 0 (9 * (end - at) + first_steps (items_of left)) → RisesBetween c d 0 (9 * (end - at)) → RisesBetween d e 0 1
     → RisesBetween a e 0 (18 * (end - start) + 2)
 string_end a b c d e start at end left on more none w x y z =
-    let one : first_steps left ≡ 1 = ap first_steps none in
-    let all = rises_then a d e 0 _ 0 1 (rises_then a c d 0 _ 0 (9 * (end - at)) (rises_then a b c 0 (18 * (at - start)) 0 (9 * (end - at) + first_steps left) w x) y) z in
+    let one : first_steps (items_of left) ≡ 1 = ap (λ l. first_steps (items_of l)) none in
+    let all = rises_then a d e 0 _ 0 1 (rises_then a c d 0 _ 0 (9 * (end - at)) (rises_then a b c 0 (18 * (at - start)) 0 (9 * (end - at) + first_steps (items_of left)) w x) y) z in
     rises_more a e 0 _ (18 * (end - start) + 2) (omega (arith, one, on, more)) all
 
 -- the steps over the string behind one more item
-pub string_more : (a b c d e f : Counted) (start at end len : ℕ) (item : Item) (rest left : List Item) → start ≤ at → at ≤ end → left ≡ item ∷ rest → len ≡ length (spelling item)
-    → RisesBetween a b 0 (18 * (at - start)) → RisesBetween b c 0 (9 * (end - at) + first_steps left) → RisesBetween c d 0 (9 * (end - at)) → RisesBetween d e 0 (2 * len - 1) → RisesBetween e f 0 8
+pub string_more : (a b c d e f : Counted) (start at end len : ℕ) (item : Piece) (rest left : List Piece) → start ≤ at → at ≤ end → left ≡ item ∷ rest → len ≡ length (spelling item.item)
+    → RisesBetween a b 0 (18 * (at - start)) → RisesBetween b c 0 (9 * (end - at) + first_steps (items_of left)) → RisesBetween c d 0 (9 * (end - at)) → RisesBetween d e 0 (2 * len - 1) → RisesBetween e f 0 8
     → RisesBetween a f 0 (18 * (end + len - start))
 string_more a b c d e f start at end len item rest left on more some is v w x y z =
-    let first : first_steps left ≡ 2 * length (spelling item) - 1 = ap first_steps some in
-    let all = rises_then a e f 0 _ 0 8 (rises_then a d e 0 _ 0 (2 * len - 1) (rises_then a c d 0 _ 0 (9 * (end - at)) (rises_then a b c 0 (18 * (at - start)) 0 (9 * (end - at) + first_steps left) v w) x) y) z in
-    rises_more a f 0 _ (18 * (end + len - start)) (omega (arith, first, on, more, is, spelling_some item)) all
+    let first : first_steps (items_of left) ≡ 2 * length (spelling item.item) - 1 = ap (λ l. first_steps (items_of l)) some in
+    let all = rises_then a e f 0 _ 0 8 (rises_then a d e 0 _ 0 (2 * len - 1) (rises_then a c d 0 _ 0 (9 * (end - at)) (rises_then a b c 0 (18 * (at - start)) 0 (9 * (end - at) + first_steps (items_of left)) v w) x) y) z in
+    rises_more a f 0 _ (18 * (end + len - start)) (omega (arith, first, on, more, is, spelling_some item.item)) all
 
 -- the steps over the plane of the areas of a page so far, with the fill where it begins
 pub record PageFilled (sign : SignData) (plane plane' : BitPlane) (octets : ℕ) : Type 0 where

@@ -27,7 +27,7 @@ use Rattle.multi_layout.specs.Sums.{area_sum}
 use Rattle.multi_layout.specs.Table.{group_lines, table_of}
 use Rattle.multi_layout.proofs.CellLemmas.{covers}
 use Rattle.multi_layout.proofs.DrawnLemmas.{covered_glyph}
-use Rattle.multi_layout.specs.Offence.{clashes, offence}
+use Rattle.multi_layout.specs.Offence.{clashes, unsized_offence}
 use Rattle.multi_layout.proofs.AreaSumLemmas.{no_back, no_clash}
 use Rattle.multi_layout.proofs.JudgedLemmas.{cell_of_font, no_conflict}
 use Rattle.multi_layout.proofs.PlaceLemmas.{line_is_there}
@@ -56,7 +56,7 @@ module _ (sign : SignData) (before : List Meaning) (state : State) (st : IsState
       (placed : (earlier all : List Spot) (spot : Spot) → is_glyph spot ≡ true → state.attributes ≡ attributes_of spot.at → glyph_width spot ≡ c.width → state.area ≡ area_sum (area_of spot earlier)
       → group_lines state.attributes.page_just lines ≡ table_of (lines_of (group_of spot all)) → count_by is_break (group_of spot earlier) < length (lines_of (group_of spot all)) → list_any (clashes spot) (line_before earlier spot) ≡ false
       → state.area.present ≤ state.attributes.page_just → place ≡ place_of earlier all spot)
-      (fine : offence sign before (Shows number) ≡ None) where
+      (fine : unsized_offence sign before (Shows number) ≡ None) where
     -- the place is the character's
     place_is : (cell : CellData) → cell_numbered (standing sign before).font number ≡ Some cell → sized (standing sign before).font cell ≡ c
         → place ≡ place_of (spots sign before) (spots sign (before ++ Shows number ∷ rest)) (record { at = standing sign before; put = Glyph cell })

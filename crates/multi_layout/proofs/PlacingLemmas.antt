@@ -2,6 +2,8 @@
 use Rattle.std.proofs.Common.{◌≡◌, ℕ, ◌+◌, ◌*◌, ◌≤◌, Bool, true, false, cond, not, List, [], ◌∷◌, ◌++◌, length, Option, Some, None, refl, sym, ap, ◌∙◌, arith}
 use Rattle.std.specs.List.{All, after_last, list_any}
 use Rattle.multi_tag.specs.declared.tag.Tag.TheVariants.{NewLine}
+use Rattle.sign_font.specs.declared.parts.LineFill.TheVariants.{Off}
+use Rattle.multi_layout.specs.Laid.{too_big}
 use Rattle.sign_font.specs.Cell.{SizedCell}
 use Rattle.sign_font.specs.Sign.{SignData, cell_in, info_of}
 use Rattle.multi_layout.specs.declared.area.Area.{Area}
@@ -10,12 +12,12 @@ use Rattle.multi_layout.specs.declared.line.Character.{Character}
 use Rattle.multi_layout.specs.declared.state.State.{State}
 use Rattle.multi_layout.specs.Address.{Break, Glyph, Spot, area_of, in_group, is_break, is_glyph, spots, standing}
 use Rattle.multi_layout.specs.Meaning.{Meaning, Shows, Does}
-use Rattle.multi_layout.specs.Offence.{clashes, conflicts, offence, too_big}
+use Rattle.multi_layout.specs.Offence.{clashes, conflicts, never_big, offence, unsized_offence}
 use Rattle.multi_layout.specs.State.{IsStateOf, present_area}
 use Rattle.multi_layout.specs.Sums.{IsBelow, IsBreak, IsCharacter, IsPlacing, area_sum}
 use Rattle.multi_layout.proofs.AreaSumLemmas.{area_placing, no_back, no_clash, present_behind}
 use Rattle.multi_layout.proofs.JudgedLemmas.{cell_found, character-conflict, character-too_big, character-fits, state-character, break-conflict, break-too_big, break-fits, state-break}
-use Rattle.multi_layout.proofs.OffenceLemmas.{offence-character}
+use Rattle.multi_layout.proofs.OffenceLemmas.{offence-break, offence-character}
 
 -- what isn't refused, and what is
 not_true : (f b : Bool) → f ≡ not b → f ≡ true → b ≡ false
@@ -66,12 +68,12 @@ module _ (sign : SignData) (items : List Meaning) (state : State) (st : IsStateO
       → (area : Area)
       → ((xs : List Spot) (s : Spot) → All IsPlacing xs → state.area ≡ area_sum xs → IsCharacter s character → s.at.page_just ≡ state.attributes.page_just → state.area.present ≤ state.attributes.page_just
       → list_any (clashes s) (after_last is_break (in_group state.attributes.page_just xs)) ≡ false → area ≡ area_sum (xs ++ s ∷ []))
-      → IsBelow (1024 * length items + 1024) area → offence sign items (Shows number) ≡ None → IsStateOf sign (items ++ Shows number ∷ []) (record state { area = area })
+      → IsBelow (1024 * length items + 1024) area → unsized_offence sign items (Shows number) ≡ None → IsStateOf sign (items ++ Shows number ∷ []) (record state { area = area })
   character-accepted number c some character just spacing wide font area sum below fine =
       let (cell, found, width) = cell_found sign items state st number c some in
       let s : Spot = record { at = standing sign items; put = Glyph cell } in
       let before = spots sign items in
-      let free = no_conflict (conflicts before s) (too_big before s) (sym (offence-character sign items number cell found) ∙ fine) in
+      let free = no_conflict (conflicts before s) false (sym (offence-character never_big sign items number cell found) ∙ fine) in
       let apart = no_clash before s state.attributes.page_just refl page_is free in
       let order = no_back before s state.attributes.page_just state.area.present page_is (ap (λ (a : Area). a.present) st.area) free in
       let grown = sum (present_area sign items) s placing st.area (is_character c character just spacing wide font cell width) page_is order apart in
@@ -79,7 +81,7 @@ module _ (sign : SignData) (items : List Meaning) (state : State) (st : IsStateO
 
   module _ (number : ℕ) (c : SizedCell) (some : cell_in sign state.attributes.font.number number ≡ Some c) (r : Bool)
       (answer : (before : List Spot) (s : Spot) → state.area ≡ area_sum (area_of s before) → is_glyph s ≡ true → s.at.page_just ≡ state.attributes.page_just → s.at.line_just ≡ state.attributes.line_just → r ≡ conflicts before s) where
-    pub character-exit-conflict : r ≡ true → offence sign items (Shows number) ≡ Some 11
+    pub character-exit-conflict : r ≡ true → offence Off sign items (Shows number) ≡ Some 11
     character-exit-conflict is =
         let (cell, found, width) = cell_found sign items state st number c some in
         character-conflict sign items state st number cell found
@@ -89,8 +91,8 @@ module _ (sign : SignData) (items : List Meaning) (state : State) (st : IsStateO
         (sum : (xs : List Spot) (s : Spot) → All IsPlacing xs → state.area ≡ area_sum xs → IsCharacter s character → s.at.page_just ≡ state.attributes.page_just → state.area.present ≤ state.attributes.page_just
         → list_any (clashes s) (after_last is_break (in_group state.attributes.page_just xs)) ≡ false → area ≡ area_sum (xs ++ s ∷ []))
         (f : Bool)
-        (fits : (before : List Spot) (s : Spot) → is_glyph s ≡ true → area ≡ area_sum (area_of s before ++ s ∷ []) → area.present ≡ s.at.page_just → s.at.rectangle.width ≡ state.attributes.rectangle.width → s.at.rectangle.height ≡ state.attributes.rectangle.height → f ≡ not (too_big before s)) where
-      pub character-exit-too_big : r ≡ false → f ≡ false → offence sign items (Shows number) ≡ Some 5
+        (fits : (before : List Spot) (s : Spot) → is_glyph s ≡ true → area ≡ area_sum (area_of s before ++ s ∷ []) → area.present ≡ s.at.page_just → s.at.rectangle.width ≡ state.attributes.rectangle.width → s.at.rectangle.height ≡ state.attributes.rectangle.height → f ≡ not (too_big Off before s)) where
+      pub character-exit-too_big : r ≡ false → f ≡ false → offence Off sign items (Shows number) ≡ Some 5
       character-exit-too_big is big =
           let (cell, found, width) = cell_found sign items state st number c some in
           let s : Spot = record { at = standing sign items; put = Glyph cell } in
@@ -101,10 +103,10 @@ module _ (sign : SignData) (items : List Meaning) (state : State) (st : IsStateO
           let grown = sum (present_area sign items) s placing st.area (is_character c character just spacing wide font cell width) page_is order apart in
           let present = present_behind (present_area sign items) s state.area area st.area grown (omega (arith, order, page_is)) in
           character-too_big sign items state st number cell found (sym (answer before s st.area refl page_is line_is) ∙ is)
-          (not_false f (too_big before s) (fits before s refl grown present width_is height_is) big)
+          (not_false f (too_big Off before s) (fits before s refl grown present width_is height_is) big)
 
       pub character-exit-fits : r ≡ false → f ≡ true → IsBelow (1024 * length items + 1024) area
-          → (offence sign items (Shows number) ≡ None) × IsStateOf sign (items ++ Shows number ∷ []) (record state { area = area })
+          → (offence Off sign items (Shows number) ≡ None) × IsStateOf sign (items ++ Shows number ∷ []) (record state { area = area })
       character-exit-fits is fine below =
           let (cell, found, width) = cell_found sign items state st number c some in
           let s : Spot = record { at = standing sign items; put = Glyph cell } in
@@ -115,24 +117,36 @@ module _ (sign : SignData) (items : List Meaning) (state : State) (st : IsStateO
           let grown = sum (present_area sign items) s placing st.area (is_character c character just spacing wide font cell width) page_is order apart in
           let present = present_behind (present_area sign items) s state.area area st.area grown (omega (arith, order, page_is)) in (
             character-fits sign items state st number cell found (sym (answer before s st.area refl page_is line_is) ∙ is)
-                (not_true f (too_big before s) (fits before s refl grown present width_is height_is) fine),
+                (not_true f (too_big Off before s) (fits before s refl grown present width_is height_is) fine),
             state-character sign items state st number cell found area grown below,
           )
+
+  -- an `nl` that doesn't offend
+  pub break-accepted : (gap : Option ℕ) (area : Area)
+      → ((xs : List Spot) (s : Spot) → All IsPlacing xs → state.area ≡ area_sum xs → IsBreak s gap state.attributes.font → s.at.page_just ≡ state.attributes.page_just → state.area.present ≤ state.attributes.page_just → area ≡ area_sum (xs ++ s ∷ []))
+      → IsBelow (1024 * length items + 1024) area → unsized_offence sign items (Does (NewLine gap)) ≡ None → IsStateOf sign (items ++ Does (NewLine gap) ∷ []) (record state { area = area })
+  break-accepted gap area sum below fine =
+      let s : Spot = record { at = standing sign items; put = Break gap } in
+      let before = spots sign items in
+      let free = no_conflict (conflicts before s) false (sym (offence-break never_big sign items gap) ∙ fine) in
+      let ends : IsBreak s gap state.attributes.font = record { put = refl; font = font_is } in
+      let order = no_back before s state.attributes.page_just state.area.present page_is (ap (λ (a : Area). a.present) st.area) free in
+      state-break sign items state st gap area (sum (present_area sign items) s placing st.area ends page_is order) below
 
   module _ (gap : Option ℕ) (r : Bool)
       (answer : (before : List Spot) (s : Spot) → state.area ≡ area_sum (area_of s before) → is_glyph s ≡ false → s.at.page_just ≡ state.attributes.page_just → r ≡ conflicts before s) where
     ended : Spot
     ended = record { at = standing sign items; put = Break gap }
 
-    pub break-exit-conflict : r ≡ true → offence sign items (Does (NewLine gap)) ≡ Some 11
+    pub break-exit-conflict : r ≡ true → offence Off sign items (Does (NewLine gap)) ≡ Some 11
     break-exit-conflict is =
         break-conflict sign items state st gap (sym (answer (spots sign items) (record { at = standing sign items; put = Break gap }) st.area refl page_is) ∙ is)
 
     module _ (area : Area)
         (sum : (xs : List Spot) (s : Spot) → All IsPlacing xs → state.area ≡ area_sum xs → IsBreak s gap state.attributes.font → s.at.page_just ≡ state.attributes.page_just → state.area.present ≤ state.attributes.page_just → area ≡ area_sum (xs ++ s ∷ []))
         (f : Bool)
-        (fits : (before : List Spot) (s : Spot) → is_break s ≡ true → area ≡ area_sum (area_of s before ++ s ∷ []) → s.at.rectangle.height ≡ state.attributes.rectangle.height → f ≡ not (too_big before s)) where
-      pub break-exit-too_big : r ≡ false → f ≡ false → offence sign items (Does (NewLine gap)) ≡ Some 5
+        (fits : (before : List Spot) (s : Spot) → is_break s ≡ true → area ≡ area_sum (area_of s before ++ s ∷ []) → s.at.rectangle.height ≡ state.attributes.rectangle.height → f ≡ not (too_big Off before s)) where
+      pub break-exit-too_big : r ≡ false → f ≡ false → offence Off sign items (Does (NewLine gap)) ≡ Some 5
       break-exit-too_big is big =
           let s : Spot = record { at = standing sign items; put = Break gap } in
           let before = spots sign items in
@@ -140,10 +154,10 @@ module _ (sign : SignData) (items : List Meaning) (state : State) (st : IsStateO
           let order = no_back before s state.attributes.page_just state.area.present page_is (ap (λ (a : Area). a.present) st.area) (sym (answer before s st.area refl page_is) ∙ is) in
           let grown = sum (present_area sign items) s placing st.area ends page_is order in
           break-too_big sign items state st gap (sym (answer before s st.area refl page_is) ∙ is)
-          (not_false f (too_big before s) (fits before s refl grown height_is) big)
+          (not_false f (too_big Off before s) (fits before s refl grown height_is) big)
 
       pub break-exit-fits : r ≡ false → f ≡ true → IsBelow (1024 * length items + 1024) area
-          → (offence sign items (Does (NewLine gap)) ≡ None) × IsStateOf sign (items ++ Does (NewLine gap) ∷ []) (record state { area = area })
+          → (offence Off sign items (Does (NewLine gap)) ≡ None) × IsStateOf sign (items ++ Does (NewLine gap) ∷ []) (record state { area = area })
       break-exit-fits is fine below =
           let s : Spot = record { at = standing sign items; put = Break gap } in
           let before = spots sign items in
@@ -151,6 +165,6 @@ module _ (sign : SignData) (items : List Meaning) (state : State) (st : IsStateO
           let order = no_back before s state.attributes.page_just state.area.present page_is (ap (λ (a : Area). a.present) st.area) (sym (answer before s st.area refl page_is) ∙ is) in
           let grown = sum (present_area sign items) s placing st.area ends page_is order in (
             break-fits sign items state st gap (sym (answer before s st.area refl page_is) ∙ is)
-                (not_true f (too_big before s) (fits before s refl grown height_is) fine),
+                (not_true f (too_big Off before s) (fits before s refl grown height_is) fine),
             state-break sign items state st gap area grown below,
           )

@@ -1,22 +1,24 @@
 -- The present area behind the items of an accepted string fits the rectangle in force, and has no more lines than the sign
 -- has rows.
-use Rattle.std.proofs.Common.{◌≡◌, ℕ, ◌+◌, ◌≤◌, Bool, true, false, cond, not, ◌&&◌, ◌||◌, length, map, List, [], ◌∷◌, ◌++◌, Option, Some, None, refl, sym, ap, subst, ◌∙◌, arith}
+use Rattle.std.proofs.Common.{◌≡◌, ℕ, ◌+◌, ◌≤◌, Bool, true, false, cond, not, ◌&&◌, ◌||◌, length, List, [], ◌∷◌, ◌++◌, Option, Some, None, refl, sym, ap, subst, ◌∙◌, arith}
 use Rattle.std.specs.Prelude.{IsSome}
+use Rattle.std.specs.List.{after_last}
 use Rattle.std.specs.Option.{option_map, unwrap_or}
 use Rattle.std.proofs.lemmas.Bool.{false≢true, le-leb}
 use Rattle.multi_tag.specs.declared.tag.Tag.TheVariants.{NewPage, NewLine, LineJust, PageJust, Font, CharSpacing, CharSpacingEnd, PageTime, Flash, FlashEnd, Fore, Back, Rect, HexChar}
-use Rattle.multi_token.specs.Spelling.{Item}
+use Rattle.sign_font.specs.declared.parts.LineFill.TheVariants.{Off}
 use Rattle.sign_font.specs.Sign.{SignData, CellData, font_numbered, cell_numbered}
 use Rattle.sign_font.specs.Sound.{IsSound}
 use Rattle.multi_layout.specs.declared.attributes.Rectangle.{Rectangle}
-use Rattle.multi_layout.specs.Meaning.{Meaning, Shows, Does, Faulty, meaning, begins_area}
+use Rattle.multi_layout.specs.Meaning.{Meaning, Shows, Does, Faulty, begins_area}
 use Rattle.multi_layout.specs.Attributes.{given_rectangle, whole_sign}
-use Rattle.multi_layout.specs.Address.{Standing, standing, Put, Glyph, Break, Cover, Spot, put_at, spots, is_glyph, is_break, in_group, lines_of, line_before}
+use Rattle.multi_layout.specs.Address.{Standing, area_of, standing, Put, Glyph, Break, Cover, Spot, put_at, spots, is_glyph, is_break, in_group, lines_of}
 use Rattle.multi_layout.specs.Fit.{area_fits, line_fits}
-use Rattle.multi_layout.specs.Offence.{conflicts, offence, too_big}
+use Rattle.multi_layout.specs.Laid.{too_big}
+use Rattle.multi_layout.specs.Offence.{conflicts, offence}
 use Rattle.multi_layout.specs.State.{present_area}
-use Rattle.multi_layout.specs.Verdict.{offences}
-use Rattle.multi_layout.proofs.InForceLemmas.{accepted_ind, area_high, rectangle_within}
+use Rattle.multi_layout.specs.Walk.{IsFine}
+use Rattle.multi_layout.proofs.InForceLemmas.{area_high, each_ind, rectangle_within}
 use Rattle.multi_layout.proofs.OffenceLemmas.{offence-undefined, offence-character, offence-break}
 use Rattle.multi_layout.proofs.PlaceLemmas.{lines_within}
 use Rattle.multi_layout.proofs.StandingLemmas.{standing_push}
@@ -37,7 +39,7 @@ none≢some n e = cc
 -- area of an accepted string
 module _ (sign : SignData) (P : Rectangle → List Spot → Type 0) (first : (r : Rectangle) → P r [])
     (joins : (before : List Meaning) (put : Put) → let spot : Spot = record { at = standing sign before; put = put } in
-    (is_glyph spot || is_break spot) ≡ true → too_big (spots sign before) spot ≡ false → P spot.at.rectangle (present_area sign before) → P spot.at.rectangle (present_area sign before ++ spot ∷ [])) where
+    (is_glyph spot || is_break spot) ≡ true → too_big Off (spots sign before) spot ≡ false → P spot.at.rectangle (present_area sign before) → P spot.at.rectangle (present_area sign before ++ spot ∷ [])) where
   -- it holds of the area of these items in the rectangle in force
   abbrev Holds : List Meaning → Type 0
   Holds items = P (standing sign items).rectangle (present_area sign items)
@@ -70,26 +72,26 @@ module _ (sign : SignData) (P : Rectangle → List Spot → Type 0) (first : (r 
     -- a placing item joins it
     holds_placing : (put : Put) → let spot : Spot = record { at = standing sign before; put = put } in
         given_rectangle sign x ≡ None → begins_area x ≡ false → put_at sign.defaults (standing sign before) x ≡ Some put → (is_glyph spot || is_break spot) ≡ true
-        → too_big (spots sign before) spot ≡ false → Holds before → Holds (before ++ x ∷ [])
+        → too_big Off (spots sign before) spot ≡ false → Holds before → Holds (before ++ x ∷ [])
     holds_placing put gives stays puts placing small old =
         let spot : Spot = record { at = standing sign before; put = put } in
         holds_by (present_area sign before ++ spot ∷ []) gives (present_area-placing sign before x put stays puts placing) (joins before put placing small old)
 
   module _ (before : List Meaning) where
-    holds_character : (number : ℕ) (o : Option CellData) → cell_numbered (standing sign before).font number ≡ o → offence sign before (Shows number) ≡ None → Holds before → Holds (before ++ Shows number ∷ [])
-    holds_character number None found none old = absurd (none≢some 7 (sym (offence-undefined sign before number found) ∙ none))
+    holds_character : (number : ℕ) (o : Option CellData) → cell_numbered (standing sign before).font number ≡ o → offence Off sign before (Shows number) ≡ None → Holds before → Holds (before ++ Shows number ∷ [])
+    holds_character number None found none old = absurd (none≢some 7 (sym (offence-undefined (too_big Off) sign before number found) ∙ none))
     holds_character number (Some cell) found none old =
         let spot : Spot = record { at = standing sign before; put = Glyph cell } in
         let spots_before = spots sign before in
         holds_placing before (Shows number) (Glyph cell) refl refl (ap (option_map Glyph) found) refl
-        (not_big (conflicts spots_before spot) (too_big spots_before spot) (sym (offence-character sign before number cell found) ∙ none)) old
+        (not_big (conflicts spots_before spot) (too_big Off spots_before spot) (sym (offence-character (too_big Off) sign before number cell found) ∙ none)) old
 
-    holds_break : (gap : Option ℕ) → offence sign before (Does (NewLine gap)) ≡ None → Holds before → Holds (before ++ Does (NewLine gap) ∷ [])
+    holds_break : (gap : Option ℕ) → offence Off sign before (Does (NewLine gap)) ≡ None → Holds before → Holds (before ++ Does (NewLine gap) ∷ [])
     holds_break gap none old =
         let spot : Spot = record { at = standing sign before; put = Break gap } in
         let spots_before = spots sign before in
         holds_placing before (Does (NewLine gap)) (Break gap) refl refl refl refl
-        (not_big (conflicts spots_before spot) (too_big spots_before spot) (sym (offence-break sign before gap) ∙ none)) old
+        (not_big (conflicts spots_before spot) (too_big Off spots_before spot) (sym (offence-break (too_big Off) sign before gap) ∙ none)) old
 
     holds_cover : (colour : Option ℕ) → Holds before → Holds (before ++ Does (Back colour) ∷ [])
     holds_cover colour old =
@@ -97,7 +99,7 @@ module _ (sign : SignData) (P : Rectangle → List Spot → Type 0) (first : (r 
         holds_by before (Does (Back colour)) (present_area sign before) refl (present_area-cover sign before (Does (Back colour)) (Cover here.page (unwrap_or colour sign.defaults.back)) refl refl refl) old
 
   -- it holds behind one more item that doesn't offend
-  next_holds : (before : List Meaning) (x : Meaning) → offence sign before x ≡ None → Holds before → Holds (before ++ x ∷ [])
+  next_holds : (before : List Meaning) (x : Meaning) → offence Off sign before x ≡ None → Holds before → Holds (before ++ x ∷ [])
   next_holds before (Shows number) none old = holds_character before number (cell_numbered (standing sign before).font number) refl none old
   next_holds before (Does (NewLine gap)) none old = holds_break before gap none old
   next_holds before (Does NewPage) none old = holds_new before (Does NewPage) refl
@@ -115,8 +117,8 @@ module _ (sign : SignData) (P : Rectangle → List Spot → Type 0) (first : (r 
   next_holds before (Does (Fore colour)) none old = holds_same before (Does (Fore colour)) refl refl refl old
   next_holds before (Faulty code) none old = holds_same before (Faulty code) refl refl refl old
 
-  pub holds_always : (items : List Item) → offences sign items ≡ [] → P (standing sign (map meaning items)).rectangle (present_area sign (map meaning items))
-  holds_always = accepted_ind sign Holds first_holds next_holds
+  pub holds_always : (items : List Meaning) → IsFine sign items → P (standing sign items).rectangle (present_area sign items)
+  holds_always = each_ind sign (offence Off sign) Holds first_holds next_holds
 
 -- an area without items fits
 fits_none : (height : ℕ) → area_fits height [] ≡ true
@@ -133,23 +135,41 @@ line_where : (a b : Bool) → (not a || b) ≡ false → a ≡ true
 line_where true b e = refl
 line_where false b e = absurd (false≢true (sym e))
 
--- behind the items of an accepted string the present area fits the rectangle in force
-pub area_fits_always : (sign : SignData) (items : List Item) → offences sign items ≡ [] → area_fits (standing sign (map meaning items)).rectangle.height (present_area sign (map meaning items)) ≡ true
-area_fits_always sign =
-    holds_always sign (λ r area. area_fits r.height area ≡ true) (λ r. fits_none r.height)
-    (λ before put placing small old.
+-- an area fits a rectangle
+abbrev Fitting : Rectangle → List Spot → Type 0
+Fitting r area = area_fits r.height area ≡ true
+
+fits_joined : (sign : SignData) (before : List Meaning) (put : Put) → let spot : Spot = record { at = standing sign before; put = put } in
+    (is_glyph spot || is_break spot) ≡ true → too_big Off (spots sign before) spot ≡ false → Fitting spot.at.rectangle (present_area sign before) → Fitting spot.at.rectangle (present_area sign before ++ spot ∷ [])
+fits_joined sign before put placing small old =
     let spot : Spot = record { at = standing sign before; put = put } in
-    fits_where (is_glyph spot && not (line_fits spot.at.rectangle.width (line_before (spots sign before) spot ++ spot ∷ []))) (area_fits spot.at.rectangle.height (present_area sign before ++ spot ∷ [])) small)
+    fits_where (is_glyph spot && not (line_fits spot.at.rectangle.width (after_last is_break (in_group spot.at.page_just (area_of spot (spots sign before) ++ spot ∷ []))))) (area_fits spot.at.rectangle.height (present_area sign before ++ spot ∷ [])) small
+
+-- behind one more item that doesn't offend the present area fits the rectangle in force, if it does before it
+pub fits_next : (sign : SignData) (before : List Meaning) (x : Meaning) → offence Off sign before x ≡ None → area_fits (standing sign before).rectangle.height (present_area sign before) ≡ true
+    → area_fits (standing sign (before ++ x ∷ [])).rectangle.height (present_area sign (before ++ x ∷ [])) ≡ true
+fits_next sign = next_holds sign Fitting (λ r. fits_none r.height) (fits_joined sign)
+
+-- before the first item it does
+pub fits_first : (sign : SignData) → area_fits (standing sign []).rectangle.height (present_area sign []) ≡ true
+fits_first sign = first_holds sign Fitting (λ r. fits_none r.height) (fits_joined sign)
+
+-- behind the items of an accepted string the present area fits the rectangle in force
+pub area_fits_always : (sign : SignData) (items : List Meaning) → IsFine sign items → area_fits (standing sign items).rectangle.height (present_area sign items) ≡ true
+area_fits_always sign = holds_always sign Fitting (λ r. fits_none r.height) (fits_joined sign)
 
 -- ---- room for the lines of an area
 
-module _ (sign : SignData) (sound : IsSound sign) (some : IsSome (font_numbered sign sign.defaults.font)) (items : List Item) (none : offences sign items ≡ []) where
-  -- behind the items of an accepted string the present area has no more lines than a sign has rows
-  pub room : length (lines_of (in_group 2 (present_area sign (map meaning items)))) + length (lines_of (in_group 3 (present_area sign (map meaning items))))
-      + length (lines_of (in_group 4 (present_area sign (map meaning items)))) ≤ 128
-  room =
-      let ms = map meaning items in
-      let height = (standing sign ms).rectangle.height in
-      let area = present_area sign ms in
-      let lines = lines_within height area (area_fits_always sign items none) (area_high sign sound some ms) in
-      omega (arith, lines, rectangle_within sign items none, sound.height.1)
+module _ (sign : SignData) (sound : IsSound sign) (some : IsSome (font_numbered sign sign.defaults.font)) (items : List Meaning) where
+  -- a present area that fits has no more lines than a sign has rows
+  pub room_of : area_fits (standing sign items).rectangle.height (present_area sign items) ≡ true → (standing sign items).rectangle.height ≤ sign.height
+      → length (lines_of (in_group 2 (present_area sign items))) + length (lines_of (in_group 3 (present_area sign items)))
+      + length (lines_of (in_group 4 (present_area sign items))) ≤ 128
+  room_of fits within =
+      let lines = lines_within (standing sign items).rectangle.height (present_area sign items) fits (area_high sign sound some items) in
+      omega (arith, lines, within, sound.height.1)
+
+  -- and so has that behind the items of an accepted string
+  pub room : IsFine sign items → length (lines_of (in_group 2 (present_area sign items))) + length (lines_of (in_group 3 (present_area sign items)))
+      + length (lines_of (in_group 4 (present_area sign items))) ≤ 128
+  room none = room_of (area_fits_always sign items none) (rectangle_within sign (too_big Off) items none)

@@ -4,6 +4,8 @@ use Rattle.std.specs.Prelude.{nat_le, nat_lt}
 use Rattle.std.specs.List.{All, AllPass, after_last, list_any}
 use Rattle.std.specs.Option.{option_map_or, unwrap_or}
 use Rattle.std.proofs.lemmas.Bool.{cases_eq, eq-eqb, le-leb, le-ltb, lt-leb, ne_eqb}
+use Rattle.sign_font.specs.declared.parts.LineFill.TheVariants.{Off}
+use Rattle.multi_layout.specs.Laid.{too_big}
 use Rattle.sign_font.specs.Cell.{SizedCell}
 use Rattle.sign_font.specs.Sign.{SignData, cell_in}
 use Rattle.multi_layout.specs.declared.area.Area.{Area}
@@ -16,7 +18,7 @@ use Rattle.multi_layout.specs.Address.{Spot, area_of, in_group, is_break, is_gly
 use Rattle.multi_layout.specs.Fit.{area_fits, fit, line_fits}
 use Rattle.multi_layout.specs.Line.{average, height_of, width_of}
 use Rattle.multi_layout.specs.Meaning.{Meaning, Shows}
-use Rattle.multi_layout.specs.Offence.{clashes, conflicts, offence, too_big}
+use Rattle.multi_layout.specs.Offence.{clashes, conflicts, offence}
 use Rattle.multi_layout.specs.Run.{IsRun, kept_fits, kept_group_height, kept_height, kept_width, lengthened, lengthened_area, lengthened_line, line_in_force}
 use Rattle.multi_layout.specs.State.{IsStateOf}
 use Rattle.multi_layout.specs.Sums.{IsBelow, IsCharacter, IsPlacing, area_sum, group_sum, height_before, line_sum, segment_sum, width_before}
@@ -204,7 +206,7 @@ module _ (sign : SignData) (items : List Meaning) (state : State) (st : IsStateO
   -- whether it fits
   fits_behind : (before : List Spot) (s : Spot) → is_glyph s ≡ true → longer ≡ area_sum (area_of s before ++ s ∷ []) → longer.present ≡ s.at.page_just
       → s.at.rectangle.width ≡ state.attributes.rectangle.width → s.at.rectangle.height ≡ state.attributes.rectangle.height
-      → nat_le ((line_in_force state).part.width + (gap + cell.width)) room ≡ not (too_big before s)
+      → nat_le ((line_in_force state).part.width + (gap + cell.width)) room ≡ not (too_big Off before s)
   fits_behind before s glyph sum present w h =
       let more = area_of s before ++ s ∷ [] in
       let line = lengthened_line ((line_in_force state).part.width + (gap + cell.width)) ((line_in_force state).part.count + 1) (line_in_force state) in
@@ -216,13 +218,13 @@ module _ (sign : SignData) (items : List Meaning) (state : State) (st : IsStateO
       ∙ fits_character before s s.at.page_just state.attributes.rectangle.width state.attributes.rectangle.height
       (nat_le ((line_in_force state).part.width + (gap + cell.width)) room) true glyph refl w h fits_line fits_area
 
-  pub run_too_big : room < (line_in_force state).part.width + (gap + cell.width) → offence sign items (Shows number) ≡ Some 5
+  pub run_too_big : room < (line_in_force state).part.width + (gap + cell.width) → offence Off sign items (Shows number) ≡ Some 5
   run_too_big more =
       character-exit-too_big sign items state st number cell found false agrees seen longer refl refl refl refl sum_behind
       (nat_le ((line_in_force state).part.width + (gap + cell.width)) room) fits_behind refl (lt-leb ((line_in_force state).part.width + (gap + cell.width)) room more)
 
   pub run_goes_on : (line_in_force state).part.width + (gap + cell.width) ≤ room → IsBelow (1024 * length items + 1024) longer
-      → (offence sign items (Shows number) ≡ None) × IsStateOf sign (items ++ Shows number ∷ []) (lengthened ((line_in_force state).part.width + (gap + cell.width)) ((line_in_force state).part.count + 1) state)
+      → (offence Off sign items (Shows number) ≡ None) × IsStateOf sign (items ++ Shows number ∷ []) (lengthened ((line_in_force state).part.width + (gap + cell.width)) ((line_in_force state).part.count + 1) state)
   run_goes_on fits below =
       character-exit-fits sign items state st number cell found false agrees seen longer refl refl refl refl sum_behind
       (nat_le ((line_in_force state).part.width + (gap + cell.width)) room) fits_behind refl (le-leb ((line_in_force state).part.width + (gap + cell.width)) room fits) below

@@ -22,10 +22,11 @@ use Rattle.multi_layout.specs.Codes.{code_of, error_of}
 use Rattle.multi_layout.specs.Meaning.{meaning}
 use Rattle.multi_layout.specs.Progress.{ReadSoFar}
 use Rattle.multi_layout.specs.Run.{IsRun, lengthened, line_in_force}
+use Rattle.multi_layout.specs.State.{IsUnfilledOf}
 use Rattle.multi_layout.specs.Sums.{IsBelow}
 use Rattle.multi_layout.specs.Verdict.{IsVerdict, Refused}
 use Rattle.multi_layout.proofs.JudgedLemmas.{judged-undefined}
-use Rattle.multi_layout.proofs.ReadLemmas.{read_more, ready_here, refused_here}
+use Rattle.multi_layout.proofs.ReadLemmas.{ready_here, unfilled_more, unfilled_refused}
 use Rattle.multi_layout.proofs.RunLemmas.{longer_below, run_goes_on, run_stays, run_too_big}
 
 -- a cell of which the width is known
@@ -37,7 +38,7 @@ pub no_cell : (o : Option SizedCell) → None ≡ option_map (λ (c : SizedCell)
 no_cell None e = refl
 no_cell (Some c) e = absurd (cc)
 
-module _ (sign : SignData) (octets : List ℕ) (at : ℕ) (state : State) (r : ReadSoFar sign octets at state) (octet : ℕ)
+module _ (sign : SignData) (octets : List ℕ) (at : ℕ) (state : State) (r : ReadSoFar sign octets at (IsUnfilledOf sign state)) (octet : ℕ)
     (short : length octets < 2 ^ 63) (here : slice_get octets at ≡ Some octet) (plain : IsPlain octet) where
   abbrev token : Token
   token = record { at = at; len = 1; kind = kinds.Char octet }
@@ -47,29 +48,29 @@ module _ (sign : SignData) (octets : List ℕ) (at : ℕ) (state : State) (r : R
 
   pub octet_undefined : None ≡ option_map (λ (c : SizedCell). c.width) (cell_in sign state.attributes.font.number octet) → IsVerdict sign octets (Refused 7 at)
   octet_undefined none =
-      refused_here sign octets at state r token refl stands 7 (judged-undefined sign (map meaning r.items) state r.state_is octet (no_cell (cell_in sign state.attributes.font.number octet) none))
+      unfilled_refused sign octets at state r token refl stands 7 (judged-undefined sign (map meaning r.items) state r.is.state_is octet (no_cell (cell_in sign state.attributes.font.number octet) none))
 
   module _ (gap room : ℕ) (run : IsRun state gap room) (wide : ℕ) (some : 1 ≤ wide) (width_is : Some wide ≡ option_map (λ (c : SizedCell). c.width) (cell_in sign state.attributes.font.number octet)) where
     pub octet_too_big : room < (line_in_force state).part.width + (gap + wide) → IsVerdict sign octets (Refused 5 at)
     octet_too_big more =
         let (cell, found, is) = cell_of_width (cell_in sign state.attributes.font.number octet) wide width_is in
-        refused_here sign octets at state r token refl stands 5
-        (run_too_big sign (map meaning r.items) state r.state_is gap room run octet cell found (omega (arith, some, is)) (omega (arith, more, is)))
+        unfilled_refused sign octets at state r token refl stands 5
+        (run_too_big sign (map meaning r.items) state r.is.state_is gap room run octet cell found (omega (arith, some, is)) (omega (arith, more, is)))
 
     pub octet_goes_on : wide ≤ 64 → (line_in_force state).part.width + (gap + wide) ≤ room
-        → ReadSoFar sign octets (at + 1) (lengthened ((line_in_force state).part.width + (gap + wide)) ((line_in_force state).part.count + 1) state)
+        → ReadSoFar sign octets (at + 1) (IsUnfilledOf sign (lengthened ((line_in_force state).part.width + (gap + wide)) ((line_in_force state).part.count + 1) state))
     octet_goes_on narrow fits =
         let (cell, found, is) = cell_of_width (cell_in sign state.attributes.font.number octet) wide width_is in
-        let st = r.state_is in
+        let st = r.is.state_is in
         let below : IsBelow (1024 * length (map meaning r.items) + 1024) (lengthened ((line_in_force state).part.width + (gap + cell.width)) ((line_in_force state).part.count + 1) state).area =
         longer_below (1024 * length (map meaning r.items)) ((line_in_force state).part.width + (gap + cell.width)) ((line_in_force state).part.count + 1) state.area st.below
         (omega (arith, st.below.group.line.part.width, run.narrow, narrow, is)) (omega (arith, st.below.group.line.part.count)) in
         let behind = run_goes_on sign (map meaning r.items) state st gap room run octet cell found (omega (arith, some, is)) (omega (arith, fits, is)) below in
-        let longer = read_more sign octets at state r token refl stands (lengthened ((line_in_force state).part.width + (gap + cell.width)) ((line_in_force state).part.count + 1) state) behind.0 behind.1 in
+        let longer = unfilled_more sign octets at state r token refl stands (lengthened ((line_in_force state).part.width + (gap + cell.width)) ((line_in_force state).part.count + 1) state) behind.0 behind.1 in
         rw is longer
 
 -- the same, where the run began in a state whose segment has been lengthened since
-module _ (sign : SignData) (octets : List ℕ) (at : ℕ) (state : State) (width count : ℕ) (r : ReadSoFar sign octets at (lengthened width count state)) where
+module _ (sign : SignData) (octets : List ℕ) (at : ℕ) (state : State) (width count : ℕ) (r : ReadSoFar sign octets at (IsUnfilledOf sign (lengthened width count state))) where
   pub length_now : length octets < 2 ^ 32 → (width ≤ 2 ^ 62) × (count ≤ 2 ^ 62)
   length_now fewer =
       let small = ready_here sign octets at (lengthened width count state) r fewer in
@@ -81,7 +82,7 @@ module _ (sign : SignData) (octets : List ℕ) (at : ℕ) (state : State) (width
     more_too_big more =
         octet_too_big sign octets at (lengthened width count state) r octet short here plain gap room (run_stays state gap room width count run) wide some width_is more
 
-    pub more_goes_on : wide ≤ 64 → width + (gap + wide) ≤ room → ReadSoFar sign octets (at + 1) (lengthened (width + (gap + wide)) (count + 1) state)
+    pub more_goes_on : wide ≤ 64 → width + (gap + wide) ≤ room → ReadSoFar sign octets (at + 1) (IsUnfilledOf sign (lengthened (width + (gap + wide)) (count + 1) state))
     more_goes_on narrow fits =
         octet_goes_on sign octets at (lengthened width count state) r octet short here plain gap room (run_stays state gap room width count run) wide some width_is narrow fits
 
@@ -90,9 +91,9 @@ behind_first e = cc
 
 -- a text of a run: octets without brackets, each with a cell, all within the room
 module _ (sign : SignData) (octets : List ℕ) (state : State) (short : length octets < 2 ^ 63) (gap room : ℕ) (run : IsRun state gap room) where
-  pub text_goes_on : (text rest widths : List ℕ) (at width count : ℕ) → ReadSoFar sign octets at (lengthened width count state) → drop at octets ≡ text ++ rest → All IsPlain text
+  pub text_goes_on : (text rest widths : List ℕ) (at width count : ℕ) → ReadSoFar sign octets at (IsUnfilledOf sign (lengthened width count state)) → drop at octets ≡ text ++ rest → All IsPlain text
       → map (width_in sign state.attributes.font.number) text ≡ map Some widths → All (IsWithin 1 64) widths → width + sum_by (λ w. gap + w) widths ≤ room
-      → ReadSoFar sign octets (at + length text) (lengthened (width + sum_by (λ w. gap + w) widths) (count + length text) state)
+      → ReadSoFar sign octets (at + length text) (IsUnfilledOf sign (lengthened (width + sum_by (λ w. gap + w) widths) (count + length text) state))
   text_goes_on [] rest [] at width count r e plain each within fits =
       let to : at + 0 ≡ at = omega arith in
       let wider : width + 0 ≡ width = omega arith in
@@ -132,13 +133,13 @@ split_at : (text : List ℕ) (at : ℕ) → at < length text → text ≡ take a
 split_at text at h = sym (take-append-drop at text) ∙ ap (λ behind. take at text ++ behind) (drop_more text at 0 h)
 
 -- a text behind a character with the same attributes
-module _ (sign : SignData) (octets : List ℕ) (at : ℕ) (state : State) (r : ReadSoFar sign octets at state) (short : length octets < 2 ^ 63) (gap left : ℕ)
+module _ (sign : SignData) (octets : List ℕ) (at : ℕ) (state : State) (r : ReadSoFar sign octets at (IsUnfilledOf sign state)) (short : length octets < 2 ^ 63) (gap left : ℕ)
     (run : IsRun state gap ((line_in_force state).part.width + left)) where
   abbrev width_of : ℕ → Option ℕ
   width_of = width_in sign state.attributes.font.number
 
   pub text_read : (text rest : List ℕ) → drop at octets ≡ text ++ rest → All IsPlain text → (pixels : ℕ) → HasWidth width_of gap text pixels → pixels ≤ left
-      → ReadSoFar sign octets (at + length text) (lengthened ((line_in_force state).part.width + pixels) ((line_in_force state).part.count + length text) state)
+      → ReadSoFar sign octets (at + length text) (IsUnfilledOf sign (lengthened ((line_in_force state).part.width + pixels) ((line_in_force state).part.count + length text) state))
   text_read text rest here plain pixels has narrow =
       let together = has.together in
       rw together (text_goes_on sign octets state short gap ((line_in_force state).part.width + left) run text rest has.widths at (line_in_force state).part.width (line_in_force state).part.count r here plain has.each has.within (omega (arith, narrow, together)))
@@ -156,7 +157,7 @@ module _ (sign : SignData) (octets : List ℕ) (at : ℕ) (state : State) (r : R
     plain_before : All IsPlain before
     plain_before = All-take IsPlain place text plain
 
-    behind : ReadSoFar sign octets (at + place) (lengthened ((line_in_force state).part.width + fits.pixels) ((line_in_force state).part.count + place) state)
+    behind : ReadSoFar sign octets (at + place) (IsUnfilledOf sign (lengthened ((line_in_force state).part.width + fits.pixels) ((line_in_force state).part.count + place) state))
     behind = rw size at (text_read before (slice_index text place ∷ (drop (place + 1) text ++ rest)) apart plain_before fits.pixels fits.wide fits.narrow)
 
     found : slice_get octets (at + place) ≡ Some (slice_index text place)

@@ -6,15 +6,17 @@ use Rattle.std.proofs.lemmas.Bool.Decides.{nat_tests}
 use Rattle.multi_tag.specs.declared.tag.FontPick.{FontPick}
 use Rattle.multi_tag.specs.declared.tag.Tag.{Tag}
 use Rattle.multi_tag.specs.declared.tag.Tag.TheVariants.{NewPage, NewLine, LineJust, PageJust, Font, CharSpacing, CharSpacingEnd, PageTime, Flash, FlashEnd, Fore, Back, Rect, HexChar}
+use Rattle.sign_font.specs.declared.parts.LineFill.TheVariants.{Off}
 use Rattle.sign_font.specs.declared.font.FontInfo.{FontInfo}
 use Rattle.sign_font.specs.Sign.{SignData, FontData, font_numbered, info_of}
 use Rattle.sign_font.specs.Sound.{IsSound}
+use Rattle.multi_layout.specs.Laid.{too_big}
 use Rattle.multi_layout.specs.declared.attributes.Attributes.{Attributes}
 use Rattle.multi_layout.specs.declared.state.State.{State}
 use Rattle.multi_layout.specs.Address.{standing}
 use Rattle.multi_layout.specs.Attributes.{is_inside}
 use Rattle.multi_layout.specs.Meaning.{Meaning, Does}
-use Rattle.multi_layout.specs.Offence.{offence}
+use Rattle.multi_layout.specs.Offence.{offence, offence_by}
 use Rattle.multi_layout.specs.State.{IsKnown, IsSimple, IsStateOf, attributes_of, standing_behind}
 use Rattle.multi_layout.specs.Sums.{IsBelow}
 use Rattle.multi_layout.proofs.BoundLemmas.{below_more}
@@ -68,11 +70,11 @@ module _ (sign : SignData) (items : List Meaning) (state : State) (st : IsStateO
   After tag = attributes ≡ attributes_of (standing_behind sign (standing sign items) (Does tag))
 
   abbrev pub CheckedData : Tag → Type 0
-  CheckedData tag = (offence sign items (Does tag) ≡ None) × IsStateOf sign (items ++ Does tag ∷ []) (record state { attributes = attributes })
+  CheckedData tag = (offence Off sign items (Does tag) ≡ None) × IsStateOf sign (items ++ Does tag ∷ []) (record state { attributes = attributes })
 
   -- a simple tag: it doesn't offend, and the values in force change
   pub judged-simple : (tag : Tag) → IsSimple tag → IsKnown tag → After tag → CheckedData tag
-  unfolding offence
+  unfolding offence_by
   judged-simple NewPage s k is = absurd s
   judged-simple (NewLine gap) s k is = absurd s
   judged-simple (Font pick) s k is = absurd s
@@ -130,7 +132,7 @@ module _ (sign : SignData) (items : List Meaning) (state : State) (st : IsStateO
 
   -- a font: the values in force have its numbers
   pub judged-font : (pick : Option FontPick) (font : FontData) → (standing_behind sign (standing sign items) (Does (Font pick))).font ≡ font → font_numbered sign font.number ≡ Some font
-      → attributes ≡ record state.attributes { font = info_of font } → offence sign items (Does (Font pick)) ≡ None → CheckedData (Font pick)
+      → attributes ≡ record state.attributes { font = info_of font } → offence Off sign items (Does (Font pick)) ≡ None → CheckedData (Font pick)
   judged-font pick font new own is fine =
       let x = Does (Font pick) in
       let after : attributes ≡ attributes_of (standing_behind sign (standing sign items) x) =
@@ -148,7 +150,7 @@ module _ (sign : SignData) (items : List Meaning) (state : State) (st : IsStateO
 pub judged-default_font : (sign : SignData) (items : List Meaning) (state : State) (st : IsStateOf sign items state) (sound : IsSound sign) (info : FontInfo)
     → option_map info_of (font_numbered sign sign.defaults.font) ≡ Some info
     → CheckedData sign items state st sound (record state.attributes { font = info }) (Font None)
-unfolding offence
+unfolding offence_by
 judged-default_font sign items state st sound info is =
     let (font, found, same) = font_of_info (font_numbered sign sign.defaults.font) info is in
     let none : FontData = record { number = 0; version = 0; height = 0; char_spacing = 0; line_spacing = 0; cells = [] } in
@@ -159,8 +161,8 @@ no_info : (o : Option FontData) → option_map info_of o ≡ None → o ≡ None
 no_info None e = refl
 no_info (Some font) e = cc
 
-pub judged-no_font : (sign : SignData) (items : List Meaning) (pick : FontPick) → option_map info_of (font_numbered sign pick.number) ≡ None → offence sign items (Does (Font (Some pick))) ≡ Some 6
-judged-no_font sign items pick none = offence-no_font sign items pick (no_info (font_numbered sign pick.number) none)
+pub judged-no_font : (sign : SignData) (items : List Meaning) (pick : FontPick) → option_map info_of (font_numbered sign pick.number) ≡ None → offence Off sign items (Does (Font (Some pick))) ≡ Some 6
+judged-no_font sign items pick none = offence-no_font (too_big Off) sign items pick (no_info (font_numbered sign pick.number) none)
 
 -- the version that is asked for is another, where the font doesn't agree with it
 other_version : (o : Option ℕ) (n : ℕ) → option_map_or (λ v. not (v == n)) o false ≡ not (option_map_or (λ v. v == n) o true)
@@ -169,13 +171,13 @@ other_version (Some v) n = refl
 
 -- a font of another version
 pub judged-version : (sign : SignData) (items : List Meaning) (pick : FontPick) (info : FontInfo) → option_map info_of (font_numbered sign pick.number) ≡ Some info
-    → option_map_or (λ v. v == info.version) pick.version true ≡ false → offence sign items (Does (Font (Some pick))) ≡ Some 13
+    → option_map_or (λ v. v == info.version) pick.version true ≡ false → offence Off sign items (Does (Font (Some pick))) ≡ Some 13
 judged-version sign items pick info is differs =
     let (font, found, same) = font_of_info (font_numbered sign pick.number) info is in
     let versions : font.version ≡ info.version = ap (λ (i : FontInfo). i.version) (sym same) in
     let test : option_map_or (λ v. not (v == font.version)) pick.version false ≡ true =
     ap (λ n. option_map_or (λ v. not (v == n)) pick.version false) versions ∙ other_version pick.version info.version ∙ ap not differs in
-    offence-font sign items pick font found ∙ ap (λ b. cond {A = Option ℕ} b (Some 13) None) test
+    offence-font (too_big Off) sign items pick font found ∙ ap (λ b. cond {A = Option ℕ} b (Some 13) None) test
 
 -- the font that is asked for, in its version
 pub judged-picked : (sign : SignData) (items : List Meaning) (state : State) (st : IsStateOf sign items state) (sound : IsSound sign) (pick : FontPick) (info : FontInfo)
@@ -189,7 +191,7 @@ judged-picked sign items state st sound pick info is agrees =
     judged-font sign items state st sound (record state.attributes { font = info }) (Some pick) font
     (ap (λ o. unwrap_or o (standing sign items).font) found)
     (found_again sign pick.number font found) (ap (λ (i : FontInfo). let a : Attributes = record state.attributes { font = i } in a) same)
-    (offence-font sign items pick font found ∙ ap (λ b. cond {A = Option ℕ} b (Some 13) None) test)
+    (offence-font (too_big Off) sign items pick font found ∙ ap (λ b. cond {A = Option ℕ} b (Some 13) None) test)
 
 -- RECTANGLES
 

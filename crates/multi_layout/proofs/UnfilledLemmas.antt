@@ -1,28 +1,14 @@
 -- Where lines aren't filled, all is as it was.
-use Rattle.std.proofs.Common.{◌≡◌, Bool, true, false, cond, not, ◌&&◌, ◌||◌, List, [], ◌∷◌, ◌++◌, length, refl, ap, ◌∙◌, append_assoc}
+use Rattle.std.proofs.Common.{◌≡◌, Bool, true, false, cond, List, [], ◌∷◌, ◌++◌, length, refl, ap, ◌∙◌, append_assoc}
 use Rattle.std.specs.Prelude.{slice_index_or}
-use Rattle.std.specs.List.{after_last}
 use Rattle.std.proofs.lemmas.List.{get_or_at}
 use Rattle.sign_font.specs.declared.parts.LineFill.TheVariants.{Off}
-use Rattle.multi_layout.specs.Address.{Spot, is_glyph, is_break, group_of, area_of, in_group, line_before}
-use Rattle.multi_layout.specs.Fit.{line_fits}
-use Rattle.multi_layout.specs.Fit as old_fit
-use Rattle.multi_layout.specs.Offence as old
-use Rattle.multi_layout.proofs.AreaSumLemmas.{present_line}
+use Rattle.multi_layout.specs.Address.{Spot, is_glyph, group_of}
 use Rattle.multi_layout.proofs.WordLemmas.{push_ind, each_after_push}
-use Rattle.multi_layout.specs.Laid.{laid_too_big, laid_spot, laid}
+use Rattle.multi_layout.specs.Laid.{laid_spot, laid}
 use Rattle.multi_layout.proofs.GroupLaidLemmas.{members_with, own_member}
 
-line_if : (before : List Spot) (s : Spot) (b : Bool) → is_glyph s ≡ b
-    → (b && not (line_fits s.at.rectangle.width (after_last is_break (in_group s.at.page_just (area_of s before ++ s ∷ []))))) ≡ (b && not (line_fits s.at.rectangle.width (line_before before s ++ s ∷ [])))
-line_if before s true e = ap (λ l. not (line_fits s.at.rectangle.width l)) (present_line before s s.at.page_just e refl)
-line_if before s false e = refl
-
--- the same items are too big
-pub too_big_off : (before : List Spot) (s : Spot) → laid_too_big Off before s ≡ old.too_big before s
-too_big_off before s = ap (λ b. b || not (old_fit.area_fits s.at.rectangle.height (area_of s before ++ s ∷ []))) (line_if before s (is_glyph s) refl)
-
-spot_if : (all some more : List Spot) (x : Spot) (b : Bool) → is_glyph x ≡ b → all ≡ some ++ x ∷ more → cond b (slice_index_or (group_of x all) (length (group_of x some)) x) x ≡ x
+pub spot_if : (all some more : List Spot) (x : Spot) (b : Bool) → is_glyph x ≡ b → all ≡ some ++ x ∷ more → cond b (slice_index_or (group_of x all) (length (group_of x some)) x) x ≡ x
 spot_if all some more x false e is = refl
 spot_if all some more x true e is =
     ap (λ l. slice_index_or l (length (group_of x some)) x) (ap (group_of x) is ∙ members_with x.at.area x.at.page_just some more x (own_member Off all x e))

@@ -4,11 +4,11 @@ use Rattle.multi_token.specs.Reading.{reading, read_items, read_item}
 use Rattle.multi_tag.specs.TagOf.{tag_of}
 use Rattle.sign_font.specs.Sample.{sample}
 use Rattle.multi_layout.specs.Address.{standing, spots}
-use Rattle.multi_layout.specs.Offence.{offence}
+use Rattle.multi_layout.specs.Offence.{offence_by}
 use Rattle.multi_layout.specs.Verdict.{Verdict, Accepted, Refused, verdict, verdict_on}
 
 unfoldable judged : List ℕ → Verdict
-unfolding verdict verdict_on offence spots standing reading read_items read_item tag_of
+unfolding verdict verdict_on offence_by spots standing reading read_items read_item tag_of
 judged octets = verdict sample octets
 
 one_character_fits : judged (codes "A") ≡ Accepted 1

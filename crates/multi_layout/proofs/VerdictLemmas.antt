@@ -23,7 +23,7 @@ one_verdict sign octets v = (
 )
 
 -- the offences behind one more item
-pub offences_push : (sign : SignData) (items : List Item) (item : Item) (o : Option ℕ) → offences sign items ≡ [] → offence sign (map meaning items) (meaning item) ≡ o
+pub offences_push : (sign : SignData) (items : List Item) (item : Item) (o : Option ℕ) → offences sign items ≡ [] → offence sign.line_fill sign (map meaning items) (meaning item) ≡ o
     → offences sign (items ++ item ∷ []) ≡ cons_option (option_map (λ code. (code, length (spell items))) o) []
 offences_push sign items item o none is =
     some_after_push (fault_at sign) items item

@@ -1,6 +1,6 @@
 -- The next item of an accepted string.
 use Rattle.std.proofs.Common.{◌≡◌, ℕ, ◌+◌, ◌^◌, ◌<◌, ◌≤◌, List, [], ◌∷◌, ◌++◌, length, drop, map, Some, None, refl, sym, ap, subst, ◌∙◌, arith, append_assoc, append-nil}
-use Rattle.std.specs.List.{All}
+use Rattle.std.specs.List.{All, cons_option}
 use Rattle.std.proofs.lemmas.List.{length-append, map-append}
 use Rattle.std.proofs.lemmas.List.Concat.{flat_map-append}
 use Rattle.std.proofs.lemmas.List.Elements.{All-head, All-tail}
@@ -9,16 +9,21 @@ use Rattle.multi_token.specs.Spelling.{Item, IsItem, spelling, spell, HasNoItem}
 use Rattle.multi_token.specs.Tokens.{IsTokenOf, item_of}
 use Rattle.multi_token.proofs.ReadingLemmas.{spelling_some}
 use Rattle.multi_token.proofs.SpellingLemmas.{one_item_begins}
+use Rattle.sign_font.specs.declared.parts.LineFill.TheVariants.{Off}
 use Rattle.sign_font.specs.Sign.{SignData}
+use Rattle.multi_layout.specs.Words.{each_after, some_after}
+use Rattle.multi_layout.specs.Laid.{too_big}
 use Rattle.multi_layout.specs.declared.cursor.Cursor.{Cursor}
+use Rattle.multi_layout.specs.LaidItems.{laid_item}
 use Rattle.multi_layout.specs.Meaning.{Faulty, meaning}
-use Rattle.multi_layout.specs.Offence.{offence}
+use Rattle.multi_layout.specs.Offence.{offence, unsized_offence}
 use Rattle.multi_layout.specs.State.{IsReady, IsStateOf}
 use Rattle.multi_layout.specs.Verdict.{fault_at, offences}
-use Rattle.multi_layout.specs.Walk.{IsAccepted, IsBetween}
+use Rattle.multi_layout.specs.Walk.{IsAccepted, IsBetween, IsFine, IsOrderly, IsPlaced, Piece, items_of, laid_meanings, meant, spell_of}
+use Rattle.multi_layout.proofs.InForceLemmas.{none_front, none_last}
 use Rattle.multi_layout.proofs.JudgedLemmas.{ready}
 use Rattle.multi_layout.proofs.OffenceLemmas.{offence-faulty}
-use Rattle.multi_layout.proofs.WordLemmas.{none_mapped, none_of, right_nil, some_after-append}
+use Rattle.multi_layout.proofs.WordLemmas.{each_after-append, each_after_length, left_nil, none_mapped, none_of, push_ind, right_nil, some_after-append, some_after_push}
 
 drop_front : (xs ys : List ℕ) → drop (length xs) (xs ++ ys) ≡ ys
 drop_front [] ys = refl
@@ -40,47 +45,43 @@ pub length-meanings : (items : List Item) → length (map meaning items) ≡ len
 length-meanings [] = refl
 length-meanings (x ∷ items) = ap (λ n. Prim.Native.Nat.suc n) (length-meanings items)
 
-module _ (sign : SignData) (octets : List ℕ) (before behind : List Item) (cursor : Cursor) (b : IsBetween sign octets before behind cursor) where
-  -- what stands from the cursor on
-  pub ahead : drop cursor.at octets ≡ spell behind
+module _ (sign : SignData) (octets : List ℕ) (before behind : List Item) (at : ℕ) (p : IsPlaced sign octets before behind at) where
+  -- what stands from the offset on
+  pub ahead : drop at octets ≡ spell behind
   ahead =
-      ap (λ n. drop n octets) b.place
-      ∙ ap (drop (length (spell before))) (b.accepted.spelled ∙ spell-append before behind)
+      ap (λ n. drop n octets) p.place
+      ∙ ap (drop (length (spell before))) (p.accepted.spelled ∙ spell-append before behind)
       ∙ drop_front (spell before) (spell behind)
 
   total : length octets ≡ length (spell before) + length (spell behind)
-  total = ap length (b.accepted.spelled ∙ spell-append before behind) ∙ length-append (spell before) (spell behind)
+  total = ap length (p.accepted.spelled ∙ spell-append before behind) ∙ length-append (spell before) (spell behind)
 
-  pub within : cursor.at ≤ length octets
-  within = omega (arith, b.place, total)
+  pub within : at ≤ length octets
+  within = omega (arith, p.place, total)
 
   -- the items so far are few
-  pub few_between : length (map meaning before) ≤ 2 ^ 32
-  few_between = omega (arith, few before, total, b.accepted.short, length-meanings before)
-
-  -- the state is small enough
-  pub ready_between : IsReady cursor.state
-  ready_between = ready sign (map meaning before) cursor.state b.state_is few_between
+  pub few_placed : length before ≤ 2 ^ 32
+  few_placed = omega (arith, few before, total, p.accepted.short)
 
   -- at the end there is no item
-  pub none_at_end : cursor.at ≡ length octets → behind ≡ []
-  none_at_end end = none behind (omega (arith, total, b.place))
+  pub none_at_end : at ≡ length octets → behind ≡ []
+  none_at_end end = none behind (omega (arith, total, p.place))
     where
       none : (items : List Item) → length (spell items) ≤ 0 → items ≡ []
       none [] h = refl
       none (x ∷ items) h = absurd (omega (arith, h, spelling_some x, length-append (spelling x) (spell items)))
 
   -- before the end an item stands
-  pub never_broken : cursor.at < length octets → HasNoItem (drop cursor.at octets) → ⊥
-  never_broken before_end none = broken behind (All-right IsItem before behind b.accepted.each) ahead (omega (arith, total, b.place))
+  pub never_broken : at < length octets → HasNoItem (drop at octets) → ⊥
+  never_broken before_end none = broken behind (All-right IsItem before behind p.accepted.each) ahead (omega (arith, total, p.place))
     where
-      broken : (items : List Item) → All IsItem items → drop cursor.at octets ≡ spell items → 1 ≤ length (spell items) → ⊥
+      broken : (items : List Item) → All IsItem items → drop at octets ≡ spell items → 1 ≤ length (spell items) → ⊥
       broken [] each e h = absurd (omega (arith, h))
       broken (x ∷ items) each e h = none x (spell items) (All-head IsItem x items each, e)
 
   -- a token that stands here is the first item
-  pub first_is : (t : Token) → t.at ≡ cursor.at → IsTokenOf octets t → (rest : List Item) × (behind ≡ item_of octets t ∷ rest)
-  first_is t here stands = first behind (All-right IsItem before behind b.accepted.each) (sym ahead ∙ ap (λ n. drop n octets) (sym here) ∙ stands.begins.1)
+  pub first_is : (t : Token) → t.at ≡ at → IsTokenOf octets t → (rest : List Item) × (behind ≡ item_of octets t ∷ rest)
+  first_is t here stands = first behind (All-right IsItem before behind p.accepted.each) (sym ahead ∙ ap (λ n. drop n octets) (sym here) ∙ stands.begins.1)
     where
       first : (items : List Item) → All IsItem items → spell items ≡ spelling (item_of octets t) ++ drop (t.at + t.len) octets → (rest : List Item) × (items ≡ item_of octets t ∷ rest)
       first [] each e = absurd (omega (arith, ap length e, spelling_some (item_of octets t), length-append (spelling (item_of octets t)) (drop (t.at + t.len) octets)))
@@ -88,30 +89,117 @@ module _ (sign : SignData) (octets : List ℕ) (before behind : List Item) (curs
           let same = one_item_begins x (item_of octets t) (spell items) (drop (t.at + t.len) octets) (All-head IsItem x items each) stands.begins.0 e in
           (items, ap (λ y. y ∷ items) same.0)
 
--- the next item doesn't offend
-module _ (sign : SignData) (octets : List ℕ) (before rest : List Item) (item : Item) (cursor : Cursor) (b : IsBetween sign octets before (item ∷ rest) cursor) where
-  pub never_offends : offence sign (map meaning before) (meaning item) ≡ None
-  never_offends =
+-- none of some items offends, so the last doesn't, nor any before it
+pub last_fine : (sign : SignData) (items : List Item) (item : Item) → offences sign (items ++ item ∷ []) ≡ []
+    → (offences sign items ≡ []) × (offence sign.line_fill sign (map meaning items) (meaning item) ≡ None)
+last_fine sign items item none =
+    let parts = sym (some_after_push (fault_at sign) items item) ∙ none in
+    let here = none_of (fault_at sign items item) [] (right_nil (offences sign items) _ parts) in
+    (left_nil (offences sign items) _ parts, none_mapped (λ code. (code, length (spell items))) (offence sign.line_fill sign (map meaning items) (meaning item)) here)
+
+-- the next item of an accepted string
+module _ (sign : SignData) (octets : List ℕ) (before rest : List Item) (item : Item) (at : ℕ) (p : IsPlaced sign octets before (item ∷ rest) at) where
+  -- it doesn't offend
+  pub none_offends : offence sign.line_fill sign (map meaning before) (meaning item) ≡ None
+  none_offends =
       let later = some_after-append (fault_at sign) before (item ∷ rest) in
-      let none = right_nil (offences sign before) _ (sym later ∙ b.accepted.none) in
+      let none = right_nil (offences sign before) _ (sym later ∙ p.accepted.none) in
       let here = none_of (fault_at sign (before ++ []) item) _ none in
       let at : fault_at sign before item ≡ None = ap (λ l. fault_at sign l item) (sym (append-nil before)) ∙ here in
-      none_mapped (λ code. (code, length (spell before))) (offence sign (map meaning before) (meaning item)) at
+      none_mapped (λ code. (code, length (spell before))) (offence sign.line_fill sign (map meaning before) (meaning item)) at
 
   -- and so it is no tag with an error
   pub never_faulty : (code : ℕ) → meaning item ≡ Faulty code → ⊥
   never_faulty code e =
-      let wrong : Some code ≡ None = sym (offence-faulty sign (map meaning before) code) ∙ ap (offence sign (map meaning before)) (sym e) ∙ never_offends in
+      let wrong : Some code ≡ None = sym (offence-faulty (too_big sign.line_fill) sign (map meaning before) code) ∙ ap (offence sign.line_fill sign (map meaning before)) (sym e) ∙ none_offends in
       absurd cc
 
-  -- behind it the cursor stands before the rest
-  pub between_more : (new : Cursor) → new.at ≡ cursor.at + length (spelling item) → IsStateOf sign (map meaning before ++ meaning item ∷ []) new.state
-      → IsBetween sign octets (before ++ item ∷ []) rest new
-  between_more new at st = record {
-    accepted = subst (IsAccepted sign octets) (sym (append_assoc before (item ∷ []) rest)) b.accepted;
-    place = omega (arith, at, b.place, ap length (spell-append before (item ∷ [])), length-append (spell before) (spell (item ∷ [])), ap length (append-nil (spelling item)));
-    state_is = subst (λ ms. IsStateOf sign ms new.state) (sym (map-append meaning before (item ∷ []))) st;
+  -- behind it the rest stands
+  pub placed_more : (new : ℕ) → new ≡ at + length (spelling item) → IsPlaced sign octets (before ++ item ∷ []) rest new
+  placed_more new to = record {
+    accepted = subst (IsAccepted sign octets) (sym (append_assoc before (item ∷ []) rest)) p.accepted;
+    place = omega (arith, to, p.place, ap length (spell-append before (item ∷ [])), length-append (spell before) (spell (item ∷ [])), ap length (append-nil (spelling item)));
   }
 
-  pub room : cursor.at + length (spelling item) ≤ length octets
-  room = omega (arith, b.place, ap length (b.accepted.spelled ∙ spell-append before (item ∷ rest)), length-append (spell before) (spell (item ∷ rest)), length-append (spelling item) (spell rest))
+  pub room : at + length (spelling item) ≤ length octets
+  room = omega (arith, p.place, ap length (p.accepted.spelled ∙ spell-append before (item ∷ rest)), length-append (spell before) (spell (item ∷ rest)), length-append (spelling item) (spell rest))
+
+-- the items of an accepted string don't offend where lines aren't filled
+pub fine_items : (sign : SignData) → sign.line_fill ≡ Off → (items : List Item) → offences sign items ≡ [] → IsFine sign (map meaning items)
+fine_items sign off = push_ind (λ items. offences sign items ≡ [] → IsFine sign (map meaning items)) (λ none. refl) step
+  where
+    step : (items : List Item) (item : Item) → (offences sign items ≡ [] → IsFine sign (map meaning items)) → offences sign (items ++ item ∷ []) ≡ [] → IsFine sign (map meaning (items ++ item ∷ []))
+    step items item ih none =
+        let parts = sym (some_after_push (fault_at sign) items item) ∙ none in
+        let here : offence Off sign (map meaning items) (meaning item) ≡ None =
+        subst (λ setting. offence setting sign (map meaning items) (meaning item) ≡ None) off
+        (none_mapped (λ code. (code, length (spell items))) (offence sign.line_fill sign (map meaning items) (meaning item)) (none_of (fault_at sign items item) [] (right_nil (offences sign items) _ parts))) in
+        ap (some_after (offence Off sign)) (map-append meaning items (item ∷ []))
+        ∙ some_after_push (offence Off sign) (map meaning items) (meaning item)
+        ∙ ap (λ l. l ++ cons_option (offence Off sign (map meaning items) (meaning item)) []) (ih (left_nil (offences sign items) _ parts))
+        ∙ ap (λ o. cons_option o []) here
+
+-- PIECES
+
+pub spell_of-append : (xs ys : List Piece) → spell_of (xs ++ ys) ≡ spell_of xs ++ spell_of ys
+spell_of-append xs ys = ap spell (map-append (λ (p : Piece). p.item) xs ys) ∙ spell-append (items_of xs) (items_of ys)
+
+pub few_pieces : (pieces : List Piece) → length (map meant pieces) ≡ length (items_of pieces)
+few_pieces [] = refl
+few_pieces (p ∷ pieces) = ap (λ n. Prim.Native.Nat.suc n) (few_pieces pieces)
+
+module _ (sign : SignData) (octets : List ℕ) (before behind : List Piece) (cursor : Cursor) (b : IsBetween sign octets before behind cursor) where
+  -- the items so far are few
+  pub few_between : length (map meant before) ≤ 2 ^ 32
+  few_between = omega (arith, few_placed sign octets (items_of before) (items_of behind) cursor.at b.placed, few_pieces before)
+
+  -- the state is small enough
+  pub ready_between : IsReady cursor.state
+  ready_between = ready sign (map meant before) cursor.state b.state_is few_between
+
+  pub within_between : cursor.at ≤ length octets
+  within_between = within sign octets (items_of before) (items_of behind) cursor.at b.placed
+
+-- the next item
+module _ (sign : SignData) (octets : List ℕ) (before rest : List Piece) (item : Piece) (cursor : Cursor) (b : IsBetween sign octets before (item ∷ rest) cursor) where
+  -- it doesn't offend by more than its size
+  pub never_offends : unsized_offence sign (map meant before) (meant item) ≡ None
+  never_offends =
+      none_last sign (unsized_offence sign) (map meant before) (meant item)
+      (none_front sign (unsized_offence sign) (map meant before ++ meant item ∷ []) (map meant rest)
+      (subst (IsOrderly sign) (map-append meant before (item ∷ rest) ∙ sym (append_assoc (map meant before) (meant item ∷ []) (map meant rest))) b.orderly))
+
+  -- behind it the cursor stands before the rest
+  pub between_more : (new : Cursor) → new.at ≡ cursor.at + length (spelling item.item) → IsStateOf sign (map meant before ++ meant item ∷ []) new.state
+      → IsBetween sign octets (before ++ item ∷ []) rest new
+  between_more new at st =
+      let again : before ++ item ∷ rest ≡ (before ++ item ∷ []) ++ rest = sym (append_assoc before (item ∷ []) rest) in
+      record {
+        placed = subst (λ l. IsPlaced sign octets l (items_of rest) new.at) (sym (map-append (λ (p : Piece). p.item) before (item ∷ [])))
+            (placed_more sign octets (items_of before) (items_of rest) item.item cursor.at b.placed new.at at);
+        laid = subst (λ l. map meant l ≡ laid_meanings sign (items_of l)) again b.laid;
+        orderly = subst (λ l. IsOrderly sign (map meant l)) again b.orderly;
+        state_is = subst (λ ms. IsStateOf sign ms new.state) (sym (map-append meant before (item ∷ []))) st;
+      }
+
+-- AS THEY ARE LAID OUT
+
+same_head : {X : Type 0} (xs ys as' bs : List X) (a b : X) → length xs ≡ length ys → xs ++ a ∷ as' ≡ ys ++ b ∷ bs → a ≡ b
+same_head [] [] as' bs a b n e = cc
+same_head [] (y ∷ ys) as' bs a b n e = absurd (omega (arith, n))
+same_head (x ∷ xs) [] as' bs a b n e = absurd (omega (arith, n))
+same_head (x ∷ xs) (y ∷ ys) as' bs a b n e = same_head xs ys as' bs a b (omega (arith, n)) (cc)
+
+-- what an item is laid out as, by its place among all
+pub laid_here : (sign : SignData) (before rest : List Piece) (piece : Piece) → map meant (before ++ piece ∷ rest) ≡ laid_meanings sign (items_of (before ++ piece ∷ rest))
+    → meant piece ≡ laid_item sign.line_fill sign (map meaning (items_of (before ++ piece ∷ rest))) (map meaning (items_of before)) (meaning piece.item)
+laid_here sign before rest piece laid =
+    let all = map meaning (items_of (before ++ piece ∷ rest)) in
+    let f = laid_item sign.line_fill sign all in
+    let ms = map meaning (items_of before) in
+    let split : all ≡ ms ++ meaning piece.item ∷ map meaning (items_of rest) = ap (map meaning) (map-append (λ (p : Piece). p.item) before (piece ∷ rest)) ∙ map-append meaning (items_of before) (piece.item ∷ items_of rest) in
+    let parts : laid_meanings sign (items_of (before ++ piece ∷ rest)) ≡ each_after f ms ++ f ms (meaning piece.item) ∷ each_after (λ more. f (ms ++ meaning piece.item ∷ more)) (map meaning (items_of rest)) =
+    ap (each_after f) split ∙ each_after-append f ms (meaning piece.item ∷ map meaning (items_of rest)) ∙ ap (λ l. each_after f ms ++ f l (meaning piece.item) ∷ each_after (λ more. f (ms ++ meaning piece.item ∷ more)) (map meaning (items_of rest))) (append-nil ms) in
+    same_head (map meant before) (each_after f ms) (map meant rest) _ (meant piece) (f ms (meaning piece.item))
+    (few_pieces before ∙ sym (length-meanings (items_of before)) ∙ sym (each_after_length f ms))
+    (sym (map-append meant before (piece ∷ rest)) ∙ laid ∙ parts)

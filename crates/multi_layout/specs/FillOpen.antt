@@ -1,7 +1,7 @@
 -- Where lines are filled, the open line fits.
 use Rattle.std.specs.Prelude.{◌≡◌, ℕ, true, List, Option, Some, None}
-use Rattle.std.specs.List.{after_last, count_by}
-use Rattle.multi_layout.specs.Address.{Spot, is_break, is_glyph, in_group}
+use Rattle.std.specs.List.{after_last}
+use Rattle.multi_layout.specs.Address.{Spot, is_break, in_group}
 use Rattle.multi_layout.specs.Fit.{line_fits}
 use Rattle.multi_layout.specs.Filling.{filled}
 
@@ -13,7 +13,3 @@ OpenFits (Some width) group = line_fits width (after_last is_break (filled (Some
 -- the open line of each group of an area fits (own)
 abbrev pub AllOpenFit : Option ℕ → List Spot → Type 0
 AllOpenFit fill area = (just : ℕ) → OpenFits fill (in_group just area)
-
--- how many characters stand on a line (own)
-abbrev pub standing_on : List Spot → ℕ
-standing_on line = count_by is_glyph line

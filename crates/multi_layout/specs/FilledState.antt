@@ -1,5 +1,5 @@
 -- What is kept of the items that were read, where lines are filled (own).
-use Rattle.std.specs.Prelude.{◌≡◌, Bool, true, false, ◌*◌, ◌^◌, List, [], ◌∷◌, ◌++◌, length, Some, None, Result, Ok, Err}
+use Rattle.std.specs.Prelude.{◌≡◌, ℕ, ◌≤◌, Option, Bool, true, false, ◌*◌, ◌^◌, List, [], ◌∷◌, ◌++◌, length, Some, None, Result, Ok, Err}
 use Rattle.std.specs.List.{after_last}
 use Rattle.multi_tag.specs.declared.tag.Tag.{Tag}
 use Rattle.multi_tag.specs.declared.tag.Tag.TheVariants.{NewPage, NewLine, Rect}
@@ -7,14 +7,15 @@ use Rattle.sign_font.specs.declared.parts.LineFill.TheVariants.{Words}
 use Rattle.sign_font.specs.Sign.{SignData}
 use Rattle.multi_layout.specs.declared.fault.SyntaxError.{SyntaxError}
 use Rattle.multi_layout.specs.declared.filled.Filled.{Filled}
+use Rattle.multi_layout.specs.declared.line.Line.{Line}
 use Rattle.multi_layout.specs.Address.{in_group, is_break, standing}
 use Rattle.multi_layout.specs.Codes.{code_of}
 use Rattle.multi_layout.specs.Filling.{filled}
 use Rattle.multi_layout.specs.FillOpen.{AllOpenFit}
-use Rattle.multi_layout.specs.FillSums.{IsSplitBelow, split_sum}
-use Rattle.multi_layout.specs.FilledVerdict.{filled_offence}
+use Rattle.multi_layout.specs.FillSums.{EndsLine, IsSplitBelow, split_sum}
+use Rattle.multi_layout.specs.Offence.{offence}
 use Rattle.multi_layout.specs.LaidItems.{laid_items}
-use Rattle.multi_layout.specs.Meaning.{Meaning}
+use Rattle.multi_layout.specs.Meaning.{Meaning, Shows}
 use Rattle.multi_layout.specs.State.{IsReady, IsStateOf, present_area}
 use Rattle.multi_layout.specs.Sums.{IsLineBelow, line_sum}
 
@@ -28,6 +29,11 @@ pub record IsFilledOf (sign : SignData) (items : List Meaning) (kept : Filled) :
   pub order_below : IsLineBelow (1024 * length items) kept.order
   pub fits : AllOpenFit (Some (standing sign items).rectangle.width) (present_area sign items)
 
+-- lines are filled, and this is what is kept of these items (own)
+pub record IsFilledFor (sign : SignData) (kept : Filled) (items : List Meaning) : Type 0 where
+  pub words : sign.line_fill ≡ Words
+  pub of : IsFilledOf sign items kept
+
 -- it is small enough that no sum overflows, and its justifications are known ones (own)
 pub record IsFilledReady (kept : Filled) : Type 0 where
   pub state : IsReady kept.state
@@ -36,8 +42,8 @@ pub record IsFilledReady (kept : Filled) : Type 0 where
 
 -- one more item is judged: it doesn't offend and this is then what is kept of the items with it, or it offends by this error (own)
 abbrev pub IsFilledJudged : SignData → List Meaning → Meaning → Result (Unit {0}) SyntaxError → Filled → Type 0
-IsFilledJudged sign items item (Ok done) kept = (filled_offence Words sign items item ≡ None) × IsFilledOf sign (items ++ item ∷ []) kept
-IsFilledJudged sign items item (Err error) kept = filled_offence Words sign items item ≡ Some (code_of error)
+IsFilledJudged sign items item (Ok done) kept = (offence Words sign items item ≡ None) × IsFilledOf sign (items ++ item ∷ []) kept
+IsFilledJudged sign items item (Err error) kept = offence Words sign items item ≡ Some (code_of error)
 
 -- whatever the items before are, if the old is what is kept of them, the item is judged behind them, and the new is what is kept then (own)
 abbrev pub JudgesFilled : SignData → Filled → Meaning → Result (Unit {0}) SyntaxError → Filled → Type 0
@@ -49,3 +55,14 @@ begins_line NewPage = true
 begins_line (NewLine gap) = true
 begins_line (Rect x y w h) = true
 begins_line tag = false
+
+-- one more character is passed that doesn't offend: this is then what is kept of the items with it, its group is the present one,
+-- the other groups stay as they are laid out, and its own has the lines that it had, or one more (own)
+pub record IsFilledBehind (sign : SignData) (items : List Meaning) (number : ℕ) (old new : Filled) (ended : Option Line) : Type 0 where
+  pub of : IsFilledOf sign (items ++ Shows number ∷ []) new
+  pub present : new.state.area.present ≡ old.state.attributes.page_just
+  pub order : old.state.area.present ≤ old.state.attributes.page_just
+  pub others : (just : ℕ) → (just ≡ old.state.attributes.page_just → ⊥)
+      → in_group just (present_area sign (laid_items Words sign (items ++ Shows number ∷ []) (items ++ Shows number ∷ []))) ≡ in_group just (present_area sign (laid_items Words sign items items))
+  pub own : EndsLine (in_group old.state.attributes.page_just (present_area sign (laid_items Words sign items items)))
+      (in_group old.state.attributes.page_just (present_area sign (laid_items Words sign (items ++ Shows number ∷ []) (items ++ Shows number ∷ [])))) ended

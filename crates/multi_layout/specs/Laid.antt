@@ -23,8 +23,8 @@ abbrev pub laid_fits : Option ℕ → ℕ → List Spot → Bool
 laid_fits fill height area = fit (height_of (lines_of (laid_group fill 2 area))) (height_of (lines_of (laid_group fill 3 area))) (height_of (lines_of (laid_group fill 4 area))) height
 
 -- textTooBig: the line of a character doesn't fit, or the area no longer does
-abbrev pub laid_too_big : LineFill → List Spot → Spot → Bool
-laid_too_big setting before spot =
+abbrev pub too_big : LineFill → List Spot → Spot → Bool
+too_big setting before spot =
     let area = area_of spot before ++ spot ∷ [] in
     let fill = fill_at setting spot.at in
     (is_glyph spot && not (line_fits spot.at.rectangle.width (after_last is_break (laid_group fill spot.at.page_just area))))

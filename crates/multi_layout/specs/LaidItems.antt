@@ -22,3 +22,7 @@ laid_item setting sign all before item = laid_of item (option_map (laid_spot set
 -- some items from the first on, as they are laid out among all (own)
 abbrev pub laid_items : LineFill → SignData → List Meaning → List Meaning → List Meaning
 laid_items setting sign all some = each_after (laid_item setting sign all) some
+
+-- the items of a string as a sign lays them out (own)
+abbrev pub laid_out : SignData → List Meaning → List Meaning
+laid_out sign items = laid_items sign.line_fill sign items items

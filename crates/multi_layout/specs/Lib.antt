@@ -6,8 +6,8 @@ pub mod Drawn
 pub mod FillLaw
 pub mod FillOpen
 pub mod FillSums
+pub mod FilledRead
 pub mod FilledState
-pub mod FilledVerdict
 pub mod Filling
 pub mod Fit
 pub mod KnownItem

@@ -1,26 +1,25 @@
 -- The drawing of pages, one after the other.
 use Rattle.std.specs.Prelude.{◌≡◌, ◌⊎◌, ℕ, ◌+◌, ◌-◌, ◌*◌, ◌≤◌, ◌==◌, List, [], ◌++◌, map, if◌then◌else◌}
 use Rattle.multi_token.specs.Counted.{Counted, RisesBetween}
-use Rattle.multi_token.specs.Spelling.{Item}
 use Rattle.page_plane.specs.Plane.{BitPlane}
 use Rattle.sign_font.specs.Sign.{SignData, tallest}
 use Rattle.multi_layout.specs.declared.cursor.Cursor.{Cursor}
 use Rattle.multi_layout.specs.Limits.{plane_octets}
-use Rattle.multi_layout.specs.Meaning.{meaning, BeginsPage}
-use Rattle.multi_layout.specs.Walk.{IsBetween}
+use Rattle.multi_layout.specs.Meaning.{BeginsPage}
+use Rattle.multi_layout.specs.Walk.{IsBetween, meant, Piece}
 
 -- the cursor stands where a page of an accepted string begins (own)
 abbrev pub IsPageStart : SignData → List ℕ → Cursor → Type 0
-IsPageStart sign octets cursor = (before behind : List Item) × IsBetween sign octets before behind cursor × BeginsPage (map meaning before)
+IsPageStart sign octets cursor = (before behind : List Piece) × IsBetween sign octets before behind cursor × BeginsPage (map meant before)
 
 -- the page that begins at the old cursor is passed: the new one stands behind the `np` that ends it, or at the end of the string (own)
-pub record IsPagePassed (sign : SignData) (octets : List ℕ) (before behind : List Item) (old new : Cursor) : Type 0 where
-  pub page : List Item
-  pub rest : List Item
+pub record IsPagePassed (sign : SignData) (octets : List ℕ) (before behind : List Piece) (old new : Cursor) : Type 0 where
+  pub page : List Piece
+  pub rest : List Piece
   pub split : behind ≡ page ++ rest
   pub between : IsBetween sign octets (before ++ page) rest new
   pub on : old.at ≤ new.at
-  pub ends : ((rest ≡ []) × (new.state.pages ≡ old.state.pages)) ⊎ (BeginsPage (map meaning (before ++ page)) × (new.state.pages ≡ old.state.pages + 1))
+  pub ends : ((rest ≡ []) × (new.state.pages ≡ old.state.pages)) ⊎ (BeginsPage (map meant (before ++ page)) × (new.state.pages ≡ old.state.pages + 1))
 
 -- the steps over the string from cursor to cursor: each octet is read at most twice for the table of its area's lines, and at most
 -- twice to draw; at the end of the string each of both takes one more (own)

@@ -2,7 +2,7 @@
 use Rattle.std.specs.Prelude.{◌≡◌, ℕ, ◌+◌, ◌-◌, ◌*◌, ◌^◌, ◌≤◌, Bool, true, false, nat_lt, List, [], ◌∷◌, ◌++◌, map, length, if◌then◌else◌}
 use Rattle.std.specs.List.{All}
 use Rattle.multi_token.specs.Counted.{Counted, RisesBetween}
-use Rattle.multi_token.specs.Spelling.{Item, spelling, spell}
+use Rattle.multi_token.specs.Spelling.{Item, spelling}
 use Rattle.multi_tag.specs.declared.tag.Tag.{Tag}
 use Rattle.multi_tag.specs.declared.tag.Tag.TheVariants.{Back, NewLine}
 use Rattle.page_plane.specs.Plane.{BitPlane}
@@ -15,22 +15,16 @@ use Rattle.multi_layout.specs.declared.table.LineTable.{LineTable}
 use Rattle.multi_layout.specs.Address.{Spot, spots, standing, in_group, lines_of, in_area}
 use Rattle.multi_layout.specs.Drawn.{Lights, has_colour}
 use Rattle.multi_layout.specs.Limits.{plane_octets}
-use Rattle.multi_layout.specs.Meaning.{Meaning, Does, Shows, EndsArea, begins_area, meaning}
+use Rattle.multi_layout.specs.Meaning.{Meaning, Does, Shows, EndsArea, begins_area, has_place}
 use Rattle.multi_layout.specs.State.{present_area}
 use Rattle.multi_layout.specs.Sums.{ended_lines}
-use Rattle.multi_layout.specs.Walk.{IsBetween}
+use Rattle.multi_layout.specs.Walk.{IsBetween, items_of, meant, Piece, spell_of}
 use Rattle.multi_layout.specs.Table.{IsOrdered, group_lines, table_of}
 
 -- the item ends a line (NTCIP 1203 v03, MULTI tag 'nl')
 abbrev pub ends_line : Meaning → Bool
 ends_line (Does (NewLine gap)) = true
 ends_line _ = false
-
--- the item has a place in a group: a character or the end of a line (NTCIP 1203 v03, MULTI tag 'nl')
-abbrev pub has_place : Meaning → Bool
-has_place (Shows number) = true
-has_place (Does (NewLine gap)) = true
-has_place _ = false
 
 -- the page justification of the group to which the next item belongs, if it has a place, or else that of the present group (own)
 abbrev pub next_group : State → Meaning → ℕ
@@ -58,8 +52,8 @@ abbrev pub HasRoom : List Spot → Type 0
 HasRoom area = length (lines_of (in_group 2 area)) + length (lines_of (in_group 3 area)) + length (lines_of (in_group 4 area)) ≤ 128
 
 -- no area begins behind these items (own)
-abbrev pub BeginsNoArea : List Item → Type 0
-BeginsNoArea area = All (λ item. begins_area (meaning item) ≡ false) area
+abbrev pub BeginsNoArea : List Piece → Type 0
+BeginsNoArea area = All (λ item. begins_area (meant item) ≡ false) area
 
 -- a tag that sets no background (own)
 abbrev pub IsQuiet : Tag → Type 0
@@ -67,16 +61,16 @@ IsQuiet (Back given) = ⊥
 IsQuiet tag = Unit {0}
 
 -- the placing items of the area in which the next item stands, those behind that item too (own)
-abbrev pub whole_area : SignData → List Item → List Item → List Spot
-whole_area sign before behind = in_area (standing sign (map meaning before)).area (spots sign (map meaning (before ++ behind)))
+abbrev pub whole_area : SignData → List Piece → List Piece → List Spot
+whole_area sign before behind = in_area (standing sign (map meant before)).area (spots sign (map meant (before ++ behind)))
 
 -- the table has the counted lines of the area in which the first of the items behind stands (own)
 abbrev pub HasArea : SignData → List Meaning → List Meaning → LineTable → Type 0
 HasArea sign before behind lines = HasCounted (in_area (standing sign before).area (spots sign (before ++ behind))) lines
 
 -- the table has the lines that are known before these items, where the cursor stands (own)
-abbrev pub IsKnownBefore : SignData → List Item → Cursor → LineTable → Type 0
-IsKnownBefore sign before cursor lines = HasKnown cursor.state.area.present (present_area sign (map meaning before)) lines
+abbrev pub IsKnownBefore : SignData → List Piece → Cursor → LineTable → Type 0
+IsKnownBefore sign before cursor lines = HasKnown cursor.state.area.present (present_area sign (map meant before)) lines
 
 -- the steps that reading the first of these items takes at most, and one at the end (own)
 abbrev pub first_steps : List Item → ℕ
@@ -84,17 +78,17 @@ first_steps [] = 1
 first_steps (item ∷ rest) = 2 * length (spelling item) - 1
 
 -- the area that begins at the cursor was read: these are its items, and those behind it (own)
-pub record IsAreaRead (sign : SignData) (before behind : List Item) (cursor : Cursor) (read : AreaLines) (source source' : Counted) : Type 0 where
-  pub area : List Item
-  pub rest : List Item
+pub record IsAreaRead (sign : SignData) (before behind : List Piece) (cursor : Cursor) (read : AreaLines) (source source' : Counted) : Type 0 where
+  pub area : List Piece
+  pub rest : List Piece
   pub split : behind ≡ area ++ rest
   pub plain : BeginsNoArea area
-  pub ends : EndsArea (map meaning rest)
-  pub end : read.end ≡ cursor.at + length (spell area)
+  pub ends : EndsArea (map meant rest)
+  pub end : read.end ≡ cursor.at + length (spell_of area)
   pub table : HasCounted (whole_area sign before behind) read.lines
   pub ordered : IsOrdered read.lines
   pub low : IsLow read.lines
-  pub steps : RisesBetween source source' 0 (9 * length (spell area) + first_steps rest)
+  pub steps : RisesBetween source source' 0 (9 * length (spell_of area) + first_steps (items_of rest))
 
 -- the plane shows what these items put on their page, of all the items of the string (own)
 abbrev pub IsDrawnTo : SignData → Layer → List Meaning → List Meaning → BitPlane → Type 0
@@ -102,9 +96,9 @@ IsDrawnTo sign layer items before plane =
     Lights plane (has_colour sign (standing sign before).page layer.phase layer.colour (spots sign items) (spots sign before))
 
 -- if the old plane shows what the items before these put on their page, the new one shows what these put on it too (own)
-abbrev pub DrawsOn : SignData → Layer → List Item → List Item → List Item → BitPlane → BitPlane → Type 0
+abbrev pub DrawsOn : SignData → Layer → List Piece → List Piece → List Piece → BitPlane → BitPlane → Type 0
 DrawsOn sign layer before these rest old new =
-    IsDrawnTo sign layer (map meaning (before ++ (these ++ rest))) (map meaning before) old → IsDrawnTo sign layer (map meaning (before ++ (these ++ rest))) (map meaning (before ++ these)) new
+    IsDrawnTo sign layer (map meant (before ++ (these ++ rest))) (map meant before) old → IsDrawnTo sign layer (map meant (before ++ (these ++ rest))) (map meant (before ++ these)) new
 
 -- the same of a character by its number, whatever of the string is behind it (own)
 abbrev pub DrawsGlyph : SignData → Layer → List Meaning → ℕ → List Meaning → BitPlane → BitPlane → Type 0
@@ -112,9 +106,9 @@ DrawsGlyph sign layer before number rest old new =
     IsDrawnTo sign layer (before ++ Shows number ∷ rest) before old → IsDrawnTo sign layer (before ++ Shows number ∷ rest) (before ++ Shows number ∷ []) new
 
 -- so it is wherever the cursor stands before the items of an area that was read, and other items (own)
-abbrev pub OverArea : SignData → List ℕ → Cursor → AreaLines → (List Item → List Item → List Item → Type 0) → Type 0
+abbrev pub OverArea : SignData → List ℕ → Cursor → AreaLines → (List Piece → List Piece → List Piece → Type 0) → Type 0
 OverArea sign octets cursor read So =
-    (before area rest : List Item) → IsBetween sign octets before (area ++ rest) cursor → BeginsNoArea area → read.end ≡ cursor.at + length (spell area)
+    (before area rest : List Piece) → IsBetween sign octets before (area ++ rest) cursor → BeginsNoArea area → read.end ≡ cursor.at + length (spell_of area)
     → HasCounted (whole_area sign before (area ++ rest)) read.lines → So before area rest
 
 -- these octets of a page took at most these steps over the plane: a row for each row of each character, and a fill for each

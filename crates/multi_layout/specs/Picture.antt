@@ -5,6 +5,7 @@ use Rattle.std.specs.Option.{unwrap_or}
 use Rattle.sign_font.specs.declared.parts.Defaults.{Defaults}
 use Rattle.sign_font.specs.Cell as cells
 use Rattle.sign_font.specs.Sign.{SignData, sized}
+use Rattle.multi_layout.specs.LaidItems.{laid_out}
 use Rattle.multi_layout.specs.Meaning.{Meaning, meanings}
 use Rattle.multi_layout.specs.declared.attributes.FlashTimes.{FlashTimes}
 use Rattle.multi_layout.specs.Address.{Put, Glyph, Break, Cover, Spot, spots}
@@ -65,11 +66,11 @@ unfoldable pub in_plane : SignData → List Meaning → ℕ → ℕ → ℕ → 
 unfolding things
 in_plane sign items page phase colour column row = shown_colour sign (colour_of sign.defaults (things sign phase items) page column row) == colour
 
--- a pixel has a colour while this is shown; in an off time every pixel has colour 0 (own)
+-- a pixel has a colour while this is shown of the items as they are laid out; in an off time every pixel has colour 0 (own)
 abbrev pub pixel_at : SignData → List Meaning → Shown → ℕ → ℕ → ℕ → Bool
-pixel_at sign items (Page page phase) colour column row = in_plane sign items page phase colour column row
+pixel_at sign items (Page page phase) colour column row = in_plane sign (laid_out sign items) page phase colour column row
 pixel_at sign items Off colour column row = colour == 0
 
 -- the plane of a colour of a page of a string at a phase: a test of column and row (NTCIP 1203 v03, MULTI)
 abbrev pub picture : SignData → List ℕ → ℕ → ℕ → ℕ → ℕ → ℕ → Bool
-picture sign octets page phase colour column row = in_plane sign (meanings octets) page phase colour column row
+picture sign octets page phase colour column row = in_plane sign (laid_out sign (meanings octets)) page phase colour column row

@@ -5,6 +5,7 @@ use Rattle.sign_font.specs.Sign.{SignData}
 use Rattle.multi_layout.specs.declared.place.Place.{Place}
 use Rattle.multi_layout.specs.Meaning.{Meaning}
 use Rattle.multi_layout.specs.Address.{Spot, spots, group_of, lines_of, line_before, segment, is_glyph, is_break}
+use Rattle.multi_layout.specs.Laid.{laid}
 use Rattle.multi_layout.specs.Line.{height_of, width_of, glyph_width}
 use Rattle.multi_layout.specs.Words.{some_after}
 
@@ -36,9 +37,9 @@ place_of before all spot =
           + (height_of (take (k + 1) lines) - spot.at.font.height);
     }
 
--- the place of each character of a string, in their order (own)
+-- the place of each character of a string that stands, in their order; a dropped space stands nowhere (own)
 unfoldable pub places : SignData → List Meaning → List Place
 unfolding spots place_of
 places sign items =
-    let all = spots sign items in
+    let all = laid sign.line_fill (spots sign items) (spots sign items) in
     some_after (λ before spot. if is_glyph spot then Some (place_of before all spot) else None) all

@@ -8,31 +8,30 @@ use Rattle.multi_layout.specs.declared.state.State.{State}
 use Rattle.multi_layout.specs.declared.verdict.Offence.{Offence}
 use Rattle.multi_layout.specs.Codes.{code_of}
 use Rattle.multi_layout.specs.Limits.{check_limit}
-use Rattle.multi_layout.specs.Meaning.{meaning}
-use Rattle.multi_layout.specs.State.{IsStateOf}
-use Rattle.multi_layout.specs.Verdict.{IsVerdict, Refused, offences}
+use Rattle.multi_layout.specs.Meaning.{Meaning, meaning}
+use Rattle.multi_layout.specs.Verdict.{Accepted, IsCycle, IsVerdict, Refused, offences}
 
--- the items before an offset, none of which offends, and their state (own)
-pub record ReadSoFar (sign : SignData) (octets : List ℕ) (at : ℕ) (state : State) : Type 0 where
+-- the items before an offset, none of which offends, and what is kept of them (own)
+pub record ReadSoFar (sign : SignData) (octets : List ℕ) (at : ℕ) (IsKept : List Meaning → Type 0) : Type 0 where
   pub items : List Item
   pub each : All IsItem items
   pub front : octets ≡ spell items ++ drop at octets
   pub place : at ≡ length (spell items)
   pub within : at ≤ length octets
   pub none : offences sign items ≡ []
-  pub state_is : IsStateOf sign (map meaning items) state
+  pub is : IsKept (map meaning items)
   pub few : length items ≤ at
 
 -- the items before an offset are judged, and each of their octets took one to nine steps (own)
-pub record IsBehind (sign : SignData) (octets : List ℕ) (at : ℕ) (state : State) (source : Counted) : Type 0 where
-  pub so_far : ReadSoFar sign octets at state
+pub record IsBehind (sign : SignData) (octets : List ℕ) (at : ℕ) (IsKept : List Meaning → Type 0) (source : Counted) : Type 0 where
+  pub so_far : ReadSoFar sign octets at IsKept
   pub same : source.octets ≡ octets
   pub least : at ≤ source.steps
   pub most : source.steps ≤ 9 * at
 
 -- the items before an offset are judged, and the octet there is read, for one step more (own)
-pub record IsAt (sign : SignData) (octets : List ℕ) (at : ℕ) (first : Option ℕ) (state : State) (source : Counted) : Type 0 where
-  pub so_far : ReadSoFar sign octets at state
+pub record IsAt (sign : SignData) (octets : List ℕ) (at : ℕ) (first : Option ℕ) (IsKept : List Meaning → Type 0) (source : Counted) : Type 0 where
+  pub so_far : ReadSoFar sign octets at IsKept
   pub octet : first ≡ slice_get octets at
   pub same : source.octets ≡ octets
   pub least : at + 1 ≤ source.steps
@@ -44,3 +43,9 @@ pub record IsRefused (sign : SignData) (octets : List ℕ) (offence : Offence) (
   pub same : source.octets ≡ octets
   pub least : offence.at + 1 ≤ source.steps
   pub most : source.steps ≤ check_limit (length octets)
+
+-- the string is accepted with the pages and times of this state, whose cycle is short (own)
+pub record IsAcceptedWith (sign : SignData) (octets : List ℕ) (state : State) : Type 0 where
+  pub verdict : IsVerdict sign octets (Accepted state.pages)
+  pub cycle : IsCycle sign octets (state.cycle + state.attributes.on + state.attributes.off)
+  pub short : state.cycle ≤ 510 * state.pages

@@ -3,6 +3,7 @@ use Rattle.std.specs.Prelude.{◌≡◌, ◌+◌, ◌*◌, ◌^◌, ◌≤◌, L
 use Rattle.std.specs.Option.{unwrap_or}
 use Rattle.multi_tag.specs.declared.tag.Tag.{Tag}
 use Rattle.multi_tag.specs.declared.tag.Tag.TheVariants.{NewPage, NewLine, LineJust, PageJust, Font, Rect}
+use Rattle.sign_font.specs.declared.parts.LineFill.TheVariants.{Off}
 use Rattle.sign_font.specs.Sign.{SignData, font_numbered, info_of}
 use Rattle.multi_layout.specs.declared.attributes.Attributes.{Attributes}
 use Rattle.multi_layout.specs.declared.fault.SyntaxError.{SyntaxError}
@@ -65,6 +66,11 @@ pub record IsStateOf (sign : SignData) (items : List Meaning) (state : State) : 
   pub below : IsBelow (1024 * length items) state.area
   pub short : state.cycle ≤ 510 * state.pages
 
+-- lines aren't filled, and the state is that of these items (own)
+pub record IsUnfilledOf (sign : SignData) (state : State) (items : List Meaning) : Type 0 where
+  pub off : sign.line_fill ≡ Off
+  pub state_is : IsStateOf sign items state
+
 -- the state is small enough that no sum overflows, and its justifications are known ones (own)
 pub record IsReady (state : State) : Type 0 where
   pub line_just : (2 ≤ state.attributes.line_just) × (state.attributes.line_just ≤ 5)
@@ -72,10 +78,10 @@ pub record IsReady (state : State) : Type 0 where
   pub below : IsBelow (2 ^ 62) state.area
   pub short : state.cycle ≤ 510 * state.pages
 
--- one more item is judged: it doesn't offend and the state is then that of the items with it, or it offends by this error (own)
+-- one more item is judged where lines aren't filled: it doesn't offend and the state is then that of the items with it, or it offends by this error (own)
 abbrev pub IsJudged : SignData → List Meaning → Meaning → Result (Unit {0}) SyntaxError → State → Type 0
-IsJudged sign items item (Ok done) state = (offence sign items item ≡ None) × IsStateOf sign (items ++ item ∷ []) state
-IsJudged sign items item (Err error) state = offence sign items item ≡ Some (code_of error)
+IsJudged sign items item (Ok done) state = (offence Off sign items item ≡ None) × IsStateOf sign (items ++ item ∷ []) state
+IsJudged sign items item (Err error) state = offence Off sign items item ≡ Some (code_of error)
 
 -- whatever the items before are, if the old state is theirs, the item is judged behind them, and the new state is the one then (own)
 abbrev pub Judges : SignData → State → Meaning → Result (Unit {0}) SyntaxError → State → Type 0

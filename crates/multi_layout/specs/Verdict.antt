@@ -13,7 +13,7 @@ use Rattle.multi_layout.specs.Words.{some_after}
 -- the error of an item and the offset of its first octet, if it offends after the items before it (NTCIP 1203 v03,
 -- dmsMultiSyntaxErrorPosition; that it counts from 0 is own)
 abbrev pub fault_at : SignData → List Item → Item → Option (ℕ × ℕ)
-fault_at sign before item = option_map (λ code. (code, length (spell before))) (offence sign (map meaning before) (meaning item))
+fault_at sign before item = option_map (λ code. (code, length (spell before))) (offence sign.line_fill sign (map meaning before) (meaning item))
 
 -- the error and the offset of each item that offends after the items before it (own)
 abbrev pub offences : SignData → List Item → List (ℕ × ℕ)
@@ -61,5 +61,5 @@ OneVerdict = (sign : SignData) (octets : List ℕ) (v : Verdict) → IsVerdict s
 -- a law: a refusal for an item stands for every string with the same octets up to the end of that item (own)
 abbrev pub RefusalStands : Type 0
 RefusalStands = (sign : SignData) (before : List Item) (item : Item) (code : ℕ) (rest : List ℕ)
-    → All IsItem (before ++ item ∷ []) → offences sign before ≡ [] → offence sign (map meaning before) (meaning item) ≡ Some code
+    → All IsItem (before ++ item ∷ []) → offences sign before ≡ [] → offence sign.line_fill sign (map meaning before) (meaning item) ≡ Some code
     → verdict sign (spell (before ++ item ∷ []) ++ rest) ≡ Refused code (length (spell before))

@@ -3,10 +3,12 @@
 ghost use Rattle.std.specs.Prelude.{◌≡◌, ℕ, ◌+◌, ◌^◌, ◌≤◌, true, false, not, List, [], ◌∷◌, ◌++◌};
 ghost use Rattle.std.specs.List.{All, after_last, list_any};
 ghost use Rattle.std.specs.Option.{option_map_or, unwrap_or};
+ghost use Rattle.sign_font.specs.declared.parts.LineFill.TheVariants.{Off};
 ghost use Rattle.multi_layout.specs.Address.{Spot, is_glyph, is_break, area_of, in_group, lines_of};
 ghost use Rattle.multi_layout.specs.Fit.{area_fits, fit};
+ghost use Rattle.multi_layout.specs.Laid.{too_big};
 ghost use Rattle.multi_layout.specs.Line.{average, height_of};
-ghost use Rattle.multi_layout.specs.Offence.{clashes, conflicts, too_big};
+ghost use Rattle.multi_layout.specs.Offence.{clashes, conflicts};
 ghost use Rattle.multi_layout.specs.Run.{IsBehindOne, IsOpen, IsOpenArea, kept_fits, kept_fits_height, kept_group_height, kept_height, lengthened_area};
 ghost use Rattle.multi_layout.specs.Sums.{group_sum, area_sum, area_sum_in, IsPlacing, IsCharacter, IsBreak, IsGroupBelow, IsBelow};
 
@@ -237,7 +239,7 @@ impl Area {
         ensures kept { result ≡ true → (kept_fits width self.now.group.line ≡ true) × (kept_fits_height height self.now ≡ true) }
         ensures fits { (before : List Spot) (s : Spot) → is_glyph s ≡ true → self.now ≡ area_sum (area_of s before ++ s ∷ [])
             → self.now.present ≡ s.at.page_just → s.at.rectangle.width ≡ width → s.at.rectangle.height ≡ height
-            → result ≡ not (too_big before s) }
+            → result ≡ not (too_big Off before s) }
     {
         self.group.line.fits(width) & self.fits_height(height)
     }
@@ -246,7 +248,7 @@ impl Area {
     pub(crate) fn fits_with_break(&self, height: u16) -> bool
         requires below { IsBelow (2 ^ 62 + 1024) self.now }
         ensures { (before : List Spot) (s : Spot) → is_break s ≡ true → self.now ≡ area_sum (area_of s before ++ s ∷ [])
-            → s.at.rectangle.height ≡ height → result ≡ not (too_big before s) }
+            → s.at.rectangle.height ≡ height → result ≡ not (too_big Off before s) }
     {
         self.fits_height(height)
     }

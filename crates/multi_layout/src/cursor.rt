@@ -1,12 +1,16 @@
 //! The way through an accepted string, from item to item.
 
-ghost use Rattle.std.specs.Prelude.{◌≡◌, ℕ, ◌+◌, ◌-◌, ◌*◌, ◌<◌, ◌^◌, [], ◌∷◌, ◌++◌, List, Some, IfSome, IfNone, length};
+ghost use Rattle.std.specs.Prelude.{◌≡◌, false, None, ℕ, ◌+◌, ◌-◌, ◌*◌, ◌<◌, ◌^◌, [], ◌∷◌, ◌++◌, List, Some, IfSome, IfNone, length, map};
 ghost use Rattle.multi_token.specs.Counted.{RisesBetween};
 ghost use Rattle.multi_token.specs.Spelling as spelled;
 ghost use Rattle.sign_font.specs.Cell.{SizedCell};
 ghost use Rattle.sign_font.specs.Sign.{SignData, cell_in};
 ghost use Rattle.sign_font.specs.Sound.{IsSound};
-ghost use Rattle.multi_layout.specs.Walk.{GoesBehind, IsAccepted, IsBefore, IsBetween, IsCursor, IsFirst, IsRead};
+ghost use Rattle.multi_layout.specs.KnownItem.{IsKnownItem, meant_by};
+ghost use Rattle.multi_layout.specs.Meaning.{Meaning, has_place, meaning};
+ghost use Rattle.multi_layout.specs.Offence.{unsized_offence};
+ghost use Rattle.multi_layout.specs.State.{IsReady, IsStateOf};
+ghost use Rattle.multi_layout.specs.Walk.{GoesBehind, IsAccepted, IsBefore, IsBetween, IsFirst, IsOrderly, IsPassing, IsPassingBefore, IsPlaced, IsRead, IsWithin, laid_meanings, PassesOn, Piece, pieces_of};
 
 use crate::item::{KnownItem, read_item};
 use crate::judge::judge_tag;
@@ -32,8 +36,9 @@ pub(crate) struct NextItem {
 impl Cursor {
     /// The cursor before the first item.
     pub(crate) fn new(sign: &Terms<'_>) -> Cursor
-        ensures between { (octets : List ℕ) (items : List spelled.Item) → IsAccepted sign.now octets items
-            → IsBetween sign.now octets [] items result }
+        ensures between { (octets : List ℕ) (items : List spelled.Item) → IsAccepted sign.now octets items → IsOrderly sign.now (laid_meanings sign.now items)
+            → IsBetween sign.now octets [] (pieces_of sign.now items) result }
+        ensures passing { (octets : List ℕ) (items : List spelled.Item) → IsAccepted sign.now octets items → IsPassing sign.now octets [] items result }
         ensures sound { IsSound sign.now }
     {
         Cursor {
@@ -44,9 +49,9 @@ impl Cursor {
 
     /// Reads the next item, or `None` at the end.
     pub(crate) fn next_item(&self, source: &mut Source<'_>) -> Option<NextItem>
-        requires { (sign : SignData) × IsCursor sign source.old.octets self.now }
+        requires { (sign : SignData) × IsWithin sign source.old.octets self.now.at }
         ensures first { (sign : SignData) (before behind : List spelled.Item)
-            → IsBetween sign source.old.octets before behind self.now → IsFirst behind result }
+            → IsPlaced sign source.old.octets before behind self.now.at → IsFirst behind result }
         ensures steps { IfSome result (λ next. RisesBetween source.old source.new 0 (2 * next.len - 1)) }
         ensures end_steps { IfNone result (RisesBetween source.old source.new 0 1) }
     {
@@ -61,6 +66,44 @@ impl Cursor {
                 item,
                 len: token.len,
             }),
+            Err(_) => unreachable!(),
+        }
+    }
+
+    /// Goes behind the next item, of which this was read, and lays nothing out.
+    pub(crate) fn skip(&mut self, sign: &Terms<'_>, source: &mut Source<'_>, next: NextItem)
+        requires { IsPassingBefore sign.now source.old.octets next self.old }
+        ensures passed { PassesOn sign.now source.old.octets next self.old self.new }
+        ensures at { self.new.at ≡ self.old.at + next.len }
+        ensures steps { RisesBetween source.old source.new 0 1 }
+    {
+        if next.item.has_place() {
+            self.at += next.len;
+            return;
+        }
+        self.skip_tag(sign, source, next.item);
+        self.at += next.len;
+    }
+
+    /// Puts what a tag says into force that places nothing, as the next item does. It isn't put into its callers' code, since
+    /// characters are many more.
+    #[inline(never)]
+    fn skip_tag(&mut self, sign: &Terms<'_>, source: &mut Source<'_>, item: KnownItem)
+        requires known { IsKnownItem item }
+        requires ready { IsReady self.old.state }
+        requires unplaced { has_place (meant_by item) ≡ false }
+        requires fine { (items : List Meaning) × IsStateOf sign.now items self.old.state × (unsized_offence sign.now items (meant_by item) ≡ None) }
+        ensures passed { (items : List Meaning) → IsStateOf sign.now items self.old.state → IsStateOf sign.now (items ++ meant_by item ∷ []) self.new.state }
+        ensures at { self.new.at ≡ self.old.at }
+        ensures steps { RisesBetween source.old source.new 0 1 }
+    {
+        let KnownItem::Tag(tag) = item else {
+            // A character is placed.
+            unreachable!();
+        };
+        match judge_tag(sign, &mut self.state, source, tag) {
+            Ok(()) => {}
+            // No item of an accepted string offends.
             Err(_) => unreachable!(),
         }
     }
@@ -81,22 +124,16 @@ impl Cursor {
                 };
                 self.pass_character(number, width, next.len);
             }
-            KnownItem::Tag(tag) => self.pass_tag(sign, source, tag, next.len),
-        }
-    }
-
-    /// Goes behind the next item, a tag of so many octets. It isn't put into its callers' code, since characters are many more.
-    #[inline(never)]
-    fn pass_tag(&mut self, sign: &Terms<'_>, source: &mut Source<'_>, tag: Tag, len: usize)
-        requires { IsBefore sign.now source.old.octets (record { item = KnownItem.Tag tag; len = len }) self.old }
-        ensures passed { GoesBehind sign.now source.old.octets (record { item = KnownItem.Tag tag; len = len }) self.old self.new }
-        ensures at { self.new.at ≡ self.old.at + len }
-        ensures steps { RisesBetween source.old source.new 0 1 }
-    {
-        match judge_tag(sign, &mut self.state, source, tag) {
-            Ok(()) => self.at += len,
-            // No item of an accepted string offends.
-            Err(_) => unreachable!(),
+            KnownItem::Tag(tag) => match tag {
+                Tag::NewLine(gap) => {
+                    self.state.pass_break(gap);
+                    self.at += next.len;
+                }
+                _ => {
+                    self.skip_tag(sign, source, next.item);
+                    self.at += next.len;
+                }
+            },
         }
     }
 
@@ -104,7 +141,7 @@ impl Cursor {
     pub(crate) fn pass_character(&mut self, number: u16, width: u8, len: usize)
         requires { (sign : SignData) × (octets : List ℕ)
             × IsBefore sign octets (record { item = KnownItem.Char number; len = len }) self.old }
-        ensures passed { (sign : SignData) (octets : List ℕ) (before rest : List spelled.Item) (item : spelled.Item) (cell : SizedCell)
+        ensures passed { (sign : SignData) (octets : List ℕ) (before rest : List Piece) (item : Piece) (cell : SizedCell)
             → IsBetween sign octets before (item ∷ rest) self.old → IsRead item (record { item = KnownItem.Char number; len = len })
             → cell_in sign self.old.state.attributes.font.number number ≡ Some cell → width ≡ cell.width
             → IsBetween sign octets (before ++ item ∷ []) rest self.new }

@@ -1,29 +1,31 @@
 //! The drawing of a page into one plane: each area is read for the table of its lines, and then to put its cells.
 
-ghost use Rattle.std.specs.Prelude.{◌≡◌, ℕ, ◌+◌, ◌-◌, ◌*◌, ◌≤◌, [], ◌∷◌, ◌++◌, List, Option, false, length, map, ◌==◌};
+ghost use Rattle.std.specs.Prelude.{◌^◌, ◌≡◌, ℕ, ◌+◌, ◌-◌, ◌*◌, ◌≤◌, [], ◌∷◌, ◌++◌, List, Option, false, length, map, ◌==◌};
 ghost use Rattle.std.specs.Option.{unwrap_or};
 ghost use Rattle.multi_token.specs.Counted.{RisesBetween};
-ghost use Rattle.multi_token.specs.Spelling as spelled;
 ghost use Rattle.sign_font.specs.Sound.{IsSound};
+ghost use Rattle.multi_layout.specs.Sums.{IsBelow};
 ghost use Rattle.multi_layout.specs.Drawn.{Lights};
-ghost use Rattle.multi_layout.specs.Meaning.{begins_area, meaning};
+ghost use Rattle.multi_layout.specs.Meaning.{begins_area};
 ghost use Rattle.multi_layout.specs.Pages.{IsSized};
 ghost use Rattle.multi_layout.specs.Paging.{IsFilledFew, IsPagePassed, IsPageStart, IsReadTwice};
 ghost use Rattle.multi_layout.specs.Passes.{DrawsOn, HasCounted, IsFilledBy, OverArea, IsLow, BeginsNoArea, IsQuiet, whole_area};
 ghost use Rattle.multi_layout.specs.Limits.{plane_octets};
 ghost use Rattle.multi_layout.specs.Picture.{in_plane, shown_colour};
 ghost use Rattle.multi_layout.specs.Table.{IsOrdered};
-ghost use Rattle.multi_layout.specs.Walk.{GoesBehind, IsBetween, IsRead};
+ghost use Rattle.multi_layout.specs.Walk.{GoesBehind, IsBetween, IsItemRead, IsRead, meant, Piece, spell_of};
 
 use crate::cursor::{Cursor, NextItem};
 use crate::item::KnownItem;
 use crate::paint::{Layer, put_character};
+use crate::place::is_full;
 use crate::read::{AreaLines, read_area};
 use crate::table::LineTable;
 use crate::terms::Terms;
 use multi_tag::Tag;
 use multi_token::Source;
 use page_plane::Plane;
+use sign_font::LineFill;
 
 /// Draws the page that begins at a cursor, and gives the cursor behind it.
 pub(crate) fn draw_page(
@@ -35,9 +37,9 @@ pub(crate) fn draw_page(
 ) -> Cursor
     requires begins { IsPageStart sign.now source.old.octets cursor }
     requires size { IsSized plane.old sign.now }
-    ensures drawn { (before behind : List spelled.Item) → IsBetween sign.now source.old.octets before behind cursor
-        → Lights plane.new (λ column row. in_plane sign.now (map meaning (before ++ behind)) (cursor.state.pages - 1) layer.phase layer.colour column row) }
-    ensures passed { (before behind : List spelled.Item) → IsBetween sign.now source.old.octets before behind cursor
+    ensures drawn { (before behind : List Piece) → IsBetween sign.now source.old.octets before behind cursor
+        → Lights plane.new (λ column row. in_plane sign.now (map meant (before ++ behind)) (cursor.state.pages - 1) layer.phase layer.colour column row) }
+    ensures passed { (before behind : List Piece) → IsBetween sign.now source.old.octets before behind cursor
         → IsPagePassed sign.now source.old.octets before behind cursor result }
     ensures size { (plane.new.width ≡ plane.old.width) × (plane.new.height ≡ plane.old.height) }
     ensures kept { source.new.octets ≡ source.old.octets }
@@ -70,8 +72,8 @@ fn draw_area(
     plane: &mut Plane,
 )
     requires sound { IsSound sign.now }
-    requires known { (before area rest : List spelled.Item) × IsBetween sign.now source.old.octets before (area ++ rest) cursor.old
-        × BeginsNoArea area × (read.now.end ≡ cursor.old.at + length (spelled.spell area)) × HasCounted (whole_area sign.now before (area ++ rest)) read.now.lines }
+    requires known { (before area rest : List Piece) × IsBetween sign.now source.old.octets before (area ++ rest) cursor.old
+        × BeginsNoArea area × (read.now.end ≡ cursor.old.at + length (spell_of area)) × HasCounted (whole_area sign.now before (area ++ rest)) read.now.lines }
     requires low { IsLow read.now.lines }
     requires ordered { IsOrdered read.now.lines }
     requires size { IsSized plane.old sign.now }
@@ -85,7 +87,51 @@ fn draw_area(
             // The area goes on.
             unreachable!();
         };
+        let next = lay(sign, cursor, &read.lines, next);
         draw_item(sign, source, cursor, next, &read.lines, layer, plane);
+    }
+}
+
+/// The next item as it is laid out: a space that is dropped is the end of its line.
+fn lay(sign: &Terms<'_>, cursor: &Cursor, lines: &LineTable, next: NextItem) -> NextItem
+    requires ordered { IsOrdered lines.now }
+    requires stands { (octets : List ℕ) × (before rest : List Piece) × (item : Piece) × IsBetween sign.now octets before (item ∷ rest) cursor.now }
+    ensures read { (octets : List ℕ) (before rest : List Piece) (item : Piece) → IsBetween sign.now octets before (item ∷ rest) cursor.now
+        → HasCounted (whole_area sign.now before (item ∷ rest)) lines.now → IsItemRead item.item next → IsRead item result }
+    ensures len { result.len ≡ next.len }
+{
+    match sign.line_fill() {
+        LineFill::Off => next,
+        LineFill::Words => lay_filled(sign, cursor, lines, next),
+    }
+}
+
+/// The same where lines are filled.
+fn lay_filled(sign: &Terms<'_>, cursor: &Cursor, lines: &LineTable, next: NextItem) -> NextItem
+    requires sound { IsSound sign.now }
+    requires ordered { IsOrdered lines.now }
+    requires line_just { (2 ≤ cursor.now.state.attributes.line_just) × (cursor.now.state.attributes.line_just ≤ 5) }
+    requires page_just { (2 ≤ cursor.now.state.attributes.page_just) × (cursor.now.state.attributes.page_just ≤ 4) }
+    requires below { IsBelow (2 ^ 43) cursor.now.state.area }
+    ensures read { (octets : List ℕ) (before rest : List Piece) (item : Piece) → IsBetween sign.now octets before (item ∷ rest) cursor.now
+        → HasCounted (whole_area sign.now before (item ∷ rest)) lines.now → IsItemRead item.item next → IsRead item result }
+    ensures len { result.len ≡ next.len }
+{
+    let KnownItem::Char(_) = next.item else {
+        return next;
+    };
+    let attributes = &cursor.state.attributes;
+    if is_full(
+        attributes,
+        &cursor.state.area,
+        lines.group(attributes.page_just),
+    ) {
+        NextItem {
+            item: KnownItem::Tag(Tag::NewLine(None)),
+            len: next.len,
+        }
+    } else {
+        next
     }
 }
 
@@ -100,14 +146,14 @@ fn draw_item(
     plane: &mut Plane,
 )
     requires sound { IsSound sign.now }
-    requires known { (before rest : List spelled.Item) × (item : spelled.Item) × IsBetween sign.now source.old.octets before (item ∷ rest) cursor.old
+    requires known { (before rest : List Piece) × (item : Piece) × IsBetween sign.now source.old.octets before (item ∷ rest) cursor.old
         × IsRead item next × HasCounted (whole_area sign.now before (item ∷ rest)) lines.now }
     requires low { IsLow lines.now }
     requires ordered { IsOrdered lines.now }
     requires size { IsSized plane.old sign.now }
     ensures passed { GoesBehind sign.now source.old.octets next cursor.old cursor.new }
-    ensures drawn { (before rest : List spelled.Item) (item : spelled.Item) → IsBetween sign.now source.old.octets before (item ∷ rest) cursor.old
-        → IsRead item next → begins_area (meaning item) ≡ false → HasCounted (whole_area sign.now before (item ∷ rest)) lines.now
+    ensures drawn { (before rest : List Piece) (item : Piece) → IsBetween sign.now source.old.octets before (item ∷ rest) cursor.old
+        → IsRead item next → begins_area (meant item) ≡ false → HasCounted (whole_area sign.now before (item ∷ rest)) lines.now
         → DrawsOn sign.now layer before (item ∷ []) rest plane.old plane.new }
     ensures at { cursor.new.at ≡ cursor.old.at + next.len }
     ensures steps { RisesBetween source.old source.new 0 8 }

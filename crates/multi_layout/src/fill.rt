@@ -1,11 +1,11 @@
 //! Lines that are filled by words: the open line is broken at its last space, which is dropped.
 
-ghost use Rattle.std.specs.Prelude.{◌≡◌, ℕ, ◌+◌, ◌^◌, ◌≤◌, true, false, List, [], ◌∷◌, ◌++◌, Some};
+ghost use Rattle.std.specs.Prelude.{◌≡◌, ℕ, ◌+◌, ◌^◌, ◌≤◌, true, false, List, [], ◌∷◌, ◌++◌, Some, IfSome};
 ghost use Rattle.std.specs.List.{All, AllPass, after_last, list_any};
 ghost use Rattle.sign_font.specs.Sign.{info_of};
 ghost use Rattle.multi_layout.specs.Address.{Spot, is_break, is_glyph};
 ghost use Rattle.multi_layout.specs.Fit.{line_fits};
-ghost use Rattle.multi_layout.specs.FillSums.{IsFilledOn, IsSplitBelow, OnFilled, split_sum};
+ghost use Rattle.multi_layout.specs.FillSums.{EndsLine, FillsArea, IsSplitBelow, OnFilled, split_sum};
 ghost use Rattle.multi_layout.specs.Filling.{dropped, filled, is_space};
 ghost use Rattle.multi_layout.specs.Offence.{clashes};
 ghost use Rattle.multi_layout.specs.Sums.{IsBelow, IsCharacter, IsGroupBelow, IsLineBelow, IsPlacing, area_sum, group_sum, line_sum};
@@ -44,41 +44,50 @@ impl Group {
 
     /// Adds a character, where lines are filled to a width. Where it doesn't fit the present line, the line is ended: before
     /// the character, a space that is dropped, or else at its last space. Without one it stays, and doesn't fit. The parts are
-    /// those of the present line around its last space, and then those of the new present line.
+    /// those of the present line around its last space, and then those of the new present line. The answer is the line that it
+    /// ended, if it did.
     pub(crate) fn fill_character(
         &mut self,
         split: &mut Option<Split>,
         width: u16,
         character: &Character,
         space: bool,
-    )
+    ) -> Option<Line>
         requires known { character.now.just ≤ 5 }
         requires below { IsGroupBelow (2 ^ 62) self.old }
         requires parts { IsSplitBelow (2 ^ 62) split.old }
         ensures sum { OnFilled width self.old split.old character.now space (λ group s. self.new ≡ group_sum (filled (Some width) (group ++ s ∷ []))) }
         ensures split { OnFilled width self.old split.old character.now space
             (λ group s. split.new ≡ split_sum (after_last is_break (filled (Some width) (group ++ s ∷ [])))) }
+        ensures ended { OnFilled width self.old split.old character.now space
+            (λ group s. EndsLine (filled (Some width) group) (filled (Some width) (group ++ s ∷ [])) result) }
         ensures grows { (k : ℕ) → IsGroupBelow k self.old → IsSplitBelow k split.old → IsGroupBelow (k + 1024) self.new × IsSplitBelow (k + 1024) split.new }
+        ensures small { IfSome result (IsLineBelow (2 ^ 62)) }
     {
         let mut line = self.line;
         line.add(character);
         if line.fits(width) {
             *split = split_with(*split, &self.line, character, space);
             self.line = line;
-            return;
+            return None;
         }
         if space {
+            let ended = self.line;
             self.add_break(None, &character.font);
             *split = None;
-            return;
+            return Some(ended);
         }
         match *split {
             Some(parts) => {
                 self.break_at(&parts);
                 self.line.add(character);
                 *split = None;
+                Some(parts.before)
             }
-            None => self.line = line,
+            None => {
+                self.line = line;
+                None
+            }
         }
     }
 }
@@ -93,24 +102,20 @@ impl Area {
         width: u16,
         character: &Character,
         space: bool,
-    )
+    ) -> Option<Line>
         requires page_just { (2 ≤ page_just) × (page_just ≤ 4) }
         requires known { character.now.just ≤ 5 }
         requires below { IsBelow (2 ^ 62) self.old }
         requires parts { IsSplitBelow (2 ^ 62) split.old }
-        ensures sum { (old new group : List Spot) (s : Spot) → All IsPlacing old → All IsPlacing group → self.old ≡ area_sum old → self.old.present ≤ page_just
-            → IsFilledOn page_just width group s old new → IsCharacter s character.now → is_space s ≡ space
-            → line_fits width (after_last is_break (filled (Some width) group)) ≡ true
-            → list_any (clashes s) (after_last is_break (filled (Some width) group)) ≡ false
-            → (self.old.present ≡ page_just → split.old ≡ split_sum (after_last is_break (filled (Some width) group)))
-            → (self.new ≡ area_sum new) × (split.new ≡ split_sum (after_last is_break (filled (Some width) (group ++ s ∷ [])))) }
+        ensures sum { FillsArea page_just width self.old split.old character.now space self.new split.new result }
         ensures grows { (k : ℕ) → IsBelow k self.old → IsSplitBelow k split.old → IsBelow (k + 1024) self.new × IsSplitBelow (k + 1024) split.new }
+        ensures small { IfSome result (IsLineBelow (2 ^ 62)) }
     {
         if page_just > self.present {
             *split = None;
         }
         self.go_on(page_just);
-        self.group.fill_character(split, width, character, space);
+        self.group.fill_character(split, width, character, space)
     }
 }
 

@@ -1,26 +1,30 @@
 //! What is kept of the items that were read, where lines are filled by words.
 
-ghost use Rattle.std.specs.Prelude.{◌≡◌, ℕ, ◌+◌, ◌^◌, ◌≤◌, true, false, List, [], ◌∷◌, ◌++◌, Some};
+ghost use Rattle.std.specs.Prelude.{◌≡◌, ℕ, ◌+◌, ◌^◌, ◌≤◌, true, false, List, [], ◌∷◌, ◌++◌, None, Some, IfSome};
 ghost use Rattle.std.specs.List.{AllPass, list_any};
-ghost use Rattle.multi_token.specs.Counted.{RisesBetween};
+ghost use Rattle.multi_token.specs.Counted.{RisesBetween, charged};
+ghost use Rattle.multi_token.specs.Tokens.{item_spelled};
+ghost use Rattle.sign_font.specs.declared.parts.LineFill.TheVariants.{Words};
 ghost use Rattle.sign_font.specs.Cell.{SizedCell};
 ghost use Rattle.sign_font.specs.Sign.{SignData, cell_in};
 ghost use Rattle.multi_layout.specs.Address.{Spot, is_glyph};
-ghost use Rattle.multi_layout.specs.FilledState.{IsFilledJudged, IsFilledOf, IsFilledReady, JudgesFilled, begins_line};
-ghost use Rattle.multi_layout.specs.Meaning.{Does, Meaning, Shows};
-ghost use Rattle.multi_layout.specs.Offence.{clashes};
-ghost use Rattle.multi_layout.specs.State.{IsKnown};
+ghost use Rattle.multi_layout.specs.FilledState.{IsFilledBehind, IsFilledJudged, IsFilledOf, IsFilledReady, JudgesFilled, begins_line};
+ghost use Rattle.multi_layout.specs.LaidItems.{laid_items};
+ghost use Rattle.multi_layout.specs.Meaning.{Does, Meaning, Shows, meaning};
+ghost use Rattle.multi_layout.specs.Offence.{clashes, offence};
+ghost use Rattle.multi_layout.specs.State.{IsKnown, IsStateOf, present_area};
 ghost use Rattle.multi_layout.specs.Sums.{IsCharacter, IsLineBelow, line_sum};
 
 use crate::attributes::Rectangle;
 use crate::fault::SyntaxError;
 use crate::fill::Split;
+use crate::item::{KnownItem, tag_item};
 use crate::judge::judge_tag;
 use crate::line::{Character, Line};
 use crate::state::State;
 use crate::terms::Terms;
 use multi_tag::Tag;
-use multi_token::Source;
+use multi_token::{Bracketed, Source};
 
 /// The running state behind some items of a string, where lines are filled.
 #[derive(Clone, Copy, Debug, PartialEq, Eq)]
@@ -34,6 +38,40 @@ pub(crate) struct Filled {
 }
 
 impl Filled {
+    /// What is kept where an area begins, from the state there.
+    pub(crate) fn new(state: State) -> Filled
+        ensures { (sign : SignData) (items : List Meaning) → IsStateOf sign (laid_items Words sign items items) state
+            → present_area sign items ≡ [] → IsFilledOf sign items result }
+    {
+        Filled {
+            state,
+            split: None,
+            order: Line::new(),
+        }
+    }
+
+    /// Judges what begins with this bracket.
+    pub(crate) fn judge_spelled(
+        &mut self,
+        sign: &Terms<'_>,
+        source: &mut Source<'_>,
+        bracket: u8,
+        spelled: Bracketed<'_>,
+    ) -> Result<(), SyntaxError>
+        requires { IsFilledReady self.old }
+        ensures judged { JudgesFilled sign.now self.old (meaning (item_spelled bracket spelled.entry)) result self.new }
+        ensures steps { RisesBetween source.old source.new 0 8 }
+    {
+        match spelled {
+            Bracketed::Doubled => self.judge_character(sign, source, u16::from(bracket)),
+            Bracketed::Tag(body) => match tag_item(body) {
+                Ok(KnownItem::Tag(tag)) => self.judge_tag(sign, source, tag),
+                Ok(KnownItem::Char(number)) => self.judge_character(sign, source, number),
+                Err(error) => Err(error),
+            },
+        }
+    }
+
     /// Judges what a tag says.
     pub(crate) fn judge_tag(
         &mut self,
@@ -63,6 +101,7 @@ impl Filled {
     ) -> Result<(), SyntaxError>
         requires ready { IsFilledReady self.old }
         ensures judged { JudgesFilled sign.now self.old (Shows number) result self.new }
+        ensures step { number ≤ 255 → source.new ≡ charged source.old 1 }
         ensures steps { RisesBetween source.old source.new 0 8 }
     {
         let font = self.state.attributes.font.number;
@@ -95,6 +134,23 @@ impl Filled {
         } else {
             Err(SyntaxError::TextTooBig)
         }
+    }
+
+    /// Goes behind a character of an accepted string, whose cell has this width in pixels. The answer is the line that it ended, if
+    /// it did.
+    pub(crate) fn pass_cell(&mut self, number: u16, width: u8) -> Option<Line>
+        requires ready { IsFilledReady self.old }
+        ensures passed { (sign : SignData) (items : List Meaning) (cell : SizedCell) → IsFilledOf sign items self.old
+            → cell_in sign self.old.state.attributes.font.number number ≡ Some cell → width ≡ cell.width
+            → offence Words sign items (Shows number) ≡ None → IsFilledBehind sign items number self.old self.new result }
+        ensures small { IfSome result (IsLineBelow (2 ^ 62)) }
+    {
+        let attributes = self.state.attributes;
+        let (page_just, present) = (attributes.page_just, self.state.area.present);
+        let character = attributes.character(width);
+        self.order = order_behind(&self.order, page_just == present, &character);
+        let width = attributes.rectangle.width;
+        self.state.area.fill_character(&mut self.split, page_just, width, &character, number == 32)
     }
 }
 

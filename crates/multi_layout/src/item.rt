@@ -6,9 +6,9 @@ ghost use Rattle.multi_token.specs.Spelling as spelled;
 ghost use Rattle.multi_token.specs.Tokens.{IsTokenOf, item_of};
 ghost use Rattle.multi_layout.specs.Codes.{code_of};
 ghost use Rattle.multi_layout.specs.KnownItem.{IsKnownItem, meant_by};
-ghost use Rattle.multi_layout.specs.Meaning.{Faulty, begins_area, is_new_page, meaning, meaning_of_tag};
+ghost use Rattle.multi_layout.specs.Meaning.{begins_area, Faulty, has_place, is_new_page, meaning, meaning_of_tag};
 ghost use Rattle.multi_layout.specs.State.{IsKnown};
-ghost use Rattle.multi_layout.specs.Passes.{ends_line, has_place};
+ghost use Rattle.multi_layout.specs.Passes.{ends_line};
 
 use crate::fault::SyntaxError;
 use multi_tag::{Tag, TagFault, read_body, read_tag};

@@ -1,5 +1,6 @@
 //! What holds of the definitions.
 
+ghost use Rattle.multi_layout.specs.FillLaw.{KeepsBreaks};
 ghost use Rattle.multi_layout.specs.Fit.{SmallerFits};
 ghost use Rattle.multi_layout.specs.Verdict.{OneVerdict, RefusalStands};
 
@@ -17,4 +18,10 @@ pub fn refusal_stands()
 /// A law of the definitions: what fits still fits when its parts shrink.
 pub fn smaller_fits()
     ensures { SmallerFits }
+{}
+
+/// A law of the definitions: where lines are filled, one more character keeps every break of its group, and adds at most one,
+/// in the last line.
+pub fn keeps_breaks()
+    ensures { KeepsBreaks }
 {}

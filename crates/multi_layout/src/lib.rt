@@ -29,10 +29,11 @@ mod table;
 mod terms;
 mod times;
 mod verdict;
+mod words;
 
 pub use checked::Checked;
 pub use fault::{Fault, SyntaxError};
-pub use laws::{one_verdict, refusal_stands, smaller_fits};
+pub use laws::{keeps_breaks, one_verdict, refusal_stands, smaller_fits};
 pub use pages::{PageView, Pages};
 pub use times::Shown;
 pub use verdict::{check, check_with};

@@ -4,6 +4,7 @@ ghost use Rattle.std.specs.Prelude.{◌≡◌, ◌+◌, ◌-◌, ◌*◌, ◌<�
 ghost use Rattle.std.specs.Borrow.{sem};
 ghost use Rattle.multi_token.specs.Counted.{RisesBetween};
 ghost use Rattle.multi_token.specs.Reading.{reading};
+ghost use Rattle.multi_layout.specs.LaidItems.{laid_out};
 ghost use Rattle.multi_layout.specs.Drawn.{Lights};
 ghost use Rattle.multi_layout.specs.Limits.{drawing_limit, plane_limit, reading_limit};
 ghost use Rattle.multi_layout.specs.Meaning.{meanings};
@@ -11,7 +12,7 @@ ghost use Rattle.multi_layout.specs.Pages.{IsSized, IsTurned, page_count};
 ghost use Rattle.multi_layout.specs.Paging.{IsFilledFew, IsPageStart, IsReadTwice};
 ghost use Rattle.multi_layout.specs.Picture.{picture};
 ghost use Rattle.multi_layout.specs.Verdict.{pages_of};
-ghost use Rattle.multi_layout.specs.Walk.{IsAccepted};
+ghost use Rattle.multi_layout.specs.Walk.{IsAccepted, IsOrderly};
 
 use crate::checked::Checked;
 use crate::cursor::Cursor;
@@ -146,6 +147,7 @@ impl<'a> Checked<'a> {
 /// The cursor where a page begins, read from the front of the string.
 fn page_start(sign: &Terms<'_>, source: &mut Source<'_>, page: u8) -> Cursor
     requires accepted { IsAccepted sign.now source.old.octets (reading source.old.octets).items }
+    requires orderly { IsOrderly sign.now (laid_out sign.now (meanings source.old.octets)) }
     requires page { page < pages_of (meanings source.old.octets) }
     ensures begins { IsPageStart sign.now source.old.octets result }
     ensures page { result.state.pages ≡ page + 1 }
@@ -157,7 +159,7 @@ fn page_start(sign: &Terms<'_>, source: &mut Source<'_>, page: u8) -> Cursor
         let Some(next) = cursor.next_item(source) else {
             unreachable!();
         };
-        cursor.pass(sign, source, next);
+        cursor.skip(sign, source, next);
     }
     cursor
 }

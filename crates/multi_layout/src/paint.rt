@@ -2,9 +2,9 @@
 
 ghost use Rattle.std.specs.Prelude.{◌≡◌, ℕ, ◌+◌, ◌^◌, ◌≤◌, ◌==◌, [], ◌∷◌, ◌++◌, List, Some, None};
 ghost use Rattle.sign_font.specs.Sign.{cell_in};
-ghost use Rattle.sign_font.specs.Sound.{IsSound, IsSoundSize};
+ghost use Rattle.sign_font.specs.Sound.{IsSound, IsSoundSize, IsWithin};
 ghost use Rattle.multi_layout.specs.Meaning.{Meaning, Shows};
-ghost use Rattle.multi_layout.specs.Offence.{offence};
+ghost use Rattle.multi_layout.specs.Offence.{unsized_offence};
 ghost use Rattle.multi_layout.specs.Passes.{DrawsGlyph, HasArea, IsLow};
 ghost use Rattle.multi_layout.specs.Picture.{is_lit_at, shown_colour};
 ghost use Rattle.multi_layout.specs.State.{IsStateOf};
@@ -71,15 +71,15 @@ pub(crate) fn put_character(
     layer: Layer,
     plane: &mut Plane,
 )
-    requires line_just { (2 ≤ state.now.attributes.line_just) × (state.now.attributes.line_just ≤ 5) }
-    requires page_just { (2 ≤ state.now.attributes.page_just) × (state.now.attributes.page_just ≤ 4) }
+    requires line_just { IsWithin 2 5 state.now.attributes.line_just }
+    requires page_just { IsWithin 2 4 state.now.attributes.page_just }
     requires below { IsBelow (2 ^ 43) state.now.area }
     requires low { IsLow lines.now }
     requires ordered { IsOrdered lines.now }
     requires size { IsSoundSize cell.now }
     requires height { cell.now.height ≡ state.now.attributes.font.height }
     ensures drawn { (before rest : List Meaning) (number : ℕ) → IsStateOf sign.now before state.now
-        → cell_in sign.now state.now.attributes.font.number number ≡ Some cell.now → offence sign.now before (Shows number) ≡ None
+        → cell_in sign.now state.now.attributes.font.number number ≡ Some cell.now → unsized_offence sign.now before (Shows number) ≡ None
         → HasArea sign.now before (Shows number ∷ rest) lines.now
         → DrawsGlyph sign.now layer before number rest plane.old plane.new }
     ensures counted { plane.old.steps ≤ plane.new.steps }

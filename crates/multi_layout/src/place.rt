@@ -3,12 +3,12 @@
 ghost use Rattle.std.specs.Prelude.{◌≡◌, ℕ, ◌+◌, ◌-◌, ◌^◌, ◌<◌, ◌≤◌, ◌==◌, true, false, if◌then◌else◌, length, List, [], ◌∷◌, ◌++◌, Some, slice_get};
 ghost use Rattle.std.specs.List.{All, count_by, list_any};
 ghost use Rattle.multi_layout.specs.declared.table.CountedLine.{CountedLine};
-ghost use Rattle.multi_layout.specs.Address.{Spot, is_glyph, is_break, area_of, group_of, line_before, lines_of, segment};
+ghost use Rattle.multi_layout.specs.Address.{Spot, is_glyph, is_break, area_of, group_of, in_group, line_before, lines_of, segment};
 ghost use Rattle.multi_layout.specs.Line.{glyph_width, width_of, height_of};
 ghost use Rattle.multi_layout.specs.Offence.{clashes};
 ghost use Rattle.multi_layout.specs.Place.{start, spread, place_of};
 ghost use Rattle.multi_layout.specs.State.{attributes_of};
-ghost use Rattle.multi_layout.specs.Sums.{segment_sum, line_sum, area_sum, IsSegmentBelow, IsLineBelow, IsBelow};
+ghost use Rattle.multi_layout.specs.Sums.{segment_sum, line_sum, area_sum, IsSegmentBelow, IsLineBelow, IsBelow, IsPlacing};
 ghost use Rattle.multi_layout.specs.Table.{table_of, column_in};
 
 use crate::area::Area;
@@ -47,6 +47,21 @@ pub(crate) fn place_at(
         column: column_at(attributes, &group.line, &line, width),
         row: row_at(attributes, height(lines), u64::from(line.bottom)),
     }
+}
+
+/// Whether the present line of the group in force has all its characters, so that one more piece ends it; `lines` are the counted
+/// lines of the group.
+pub(crate) fn is_full(attributes: &Attributes, area: &Area, lines: &[CountedLine]) -> bool
+    requires line_just { (2 ≤ attributes.now.line_just) × (attributes.now.line_just ≤ 5) }
+    requires below { IsBelow (2 ^ 43) area.now }
+    ensures full { (front back spots : List Spot) (y : Spot) → area.now ≡ area_sum spots → area.now.present ≤ attributes.now.page_just
+        → in_group attributes.now.page_just spots ≡ front → lines.now ≡ table_of (lines_of (front ++ y ∷ back)) → IsPlacing y
+        → (is_glyph y ≡ true → (y.at.line_just ≡ attributes.now.line_just) × (1 ≤ glyph_width y)) → result ≡ is_break y }
+{
+    let just = attributes.line_just;
+    let group = area.group_for(attributes.page_just);
+    let line = line_at(lines, group.ended);
+    group.line.width(just) == line.width(just)
 }
 
 /// The counted line behind so many ended ones.

@@ -7,7 +7,7 @@ ghost use Rattle.multi_layout.specs.Codes.{error_of};
 ghost use Rattle.multi_layout.specs.Meaning.{Meaning};
 ghost use Rattle.multi_layout.specs.Progress.{IsAt, IsBehind, IsRefused};
 ghost use Rattle.multi_layout.specs.Run.{IsBehindCharacter, IsRun, lengthened, line_in_force};
-ghost use Rattle.multi_layout.specs.State.{IsReady, IsStateOf};
+ghost use Rattle.multi_layout.specs.State.{IsReady, IsStateOf, IsUnfilledOf};
 
 use crate::fault::SyntaxError;
 use crate::state::State;
@@ -63,9 +63,9 @@ pub(crate) fn judge_run(
     at: usize,
 ) -> Result<(usize, Option<u8>), Offence>
     requires short { length source.old.octets < 2 ^ 32 }
-    requires behind { IsBehind sign.now source.old.octets at state.old source.old }
+    requires behind { IsBehind sign.now source.old.octets at (IsUnfilledOf sign.now state.old) source.old }
     requires character { IsBehindCharacter state.old }
-    ensures at { IfOk result (λ to. (at ≤ to.0) × IsAt sign.now source.old.octets to.0 to.1 state.new source.new) }
+    ensures at { IfOk result (λ to. (at ≤ to.0) × IsAt sign.now source.old.octets to.0 to.1 (IsUnfilledOf sign.now state.new) source.new) }
     ensures refused { IfErr result (λ offence. IsRefused sign.now source.old.octets offence source.new) }
 {
     let run = state.run();

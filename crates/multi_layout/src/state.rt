@@ -6,6 +6,7 @@ ghost use Rattle.sign_font.specs.Sound.{IsSound};
 use crate::area::Area;
 use crate::attributes::{Attributes, whole_sign};
 use crate::terms::Terms;
+use multi_tag::Tag;
 
 /// The running state behind some items of a string.
 #[derive(Clone, Copy, Debug, PartialEq, Eq)]
@@ -22,8 +23,8 @@ impl State {
     ghost use Rattle.std.specs.Prelude.{List, ◌∷◌, ◌++◌, Some, None};
     ghost use Rattle.sign_font.specs.Cell.{SizedCell};
     ghost use Rattle.sign_font.specs.Sign.{SignData, cell_in};
-    ghost use Rattle.multi_layout.specs.Meaning.{Meaning, Shows};
-    ghost use Rattle.multi_layout.specs.Offence.{offence};
+    ghost use Rattle.multi_layout.specs.Meaning.{Does, Meaning, Shows};
+    ghost use Rattle.multi_layout.specs.Offence.{unsized_offence};
     ghost use Rattle.multi_layout.specs.State.{IsReady, IsStateOf};
 
     /// The state before the first item.
@@ -51,11 +52,21 @@ impl State {
         }
     }
 
+    /// Goes behind an `nl` of an accepted string, with the gap that it gives.
+    pub(crate) fn pass_break(&mut self, gap: Option<u8>)
+        requires ready { IsReady self.old }
+        ensures passed { (sign : SignData) (items : List Meaning) → IsStateOf sign items self.old
+            → unsized_offence sign items (Does (Tag.NewLine gap)) ≡ None → IsStateOf sign (items ++ Does (Tag.NewLine gap) ∷ []) self.new }
+    {
+        let page_just = self.attributes.page_just;
+        self.area.add_break(page_just, gap, &self.attributes.font);
+    }
+
     /// Goes behind a character of an accepted string, whose cell has this width in pixels.
     pub(crate) fn pass_character(&mut self, width: u8)
         requires ready { IsReady self.old }
         ensures passed { (sign : SignData) (items : List Meaning) (number : ℕ) (cell : SizedCell) → IsStateOf sign items self.old
-            → cell_in sign self.old.attributes.font.number number ≡ Some cell → width ≡ cell.width → offence sign items (Shows number) ≡ None
+            → cell_in sign self.old.attributes.font.number number ≡ Some cell → width ≡ cell.width → unsized_offence sign items (Shows number) ≡ None
             → IsStateOf sign (items ++ Shows number ∷ []) self.new }
     {
         let character = self.attributes.character(width);

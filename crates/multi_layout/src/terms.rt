@@ -9,7 +9,7 @@ ghost use Rattle.sign_font.specs.Text.{HasWidth, IsTextFault, place_of, width_in
 
 use crate::run::Run;
 use multi_token::Source;
-use sign_font::{Cell, Defaults, FontInfo, Sign, TextFault};
+use sign_font::{Cell, Defaults, FontInfo, LineFill, Sign, TextFault};
 use std::marker::Model;
 
 /// A sign, seen with these defaults in place of its own. It doesn't refuse them.
@@ -70,6 +70,14 @@ impl<'a> Terms<'a> {
         ensures sound { IsSound self.now }
     {
         self.sign.classic()
+    }
+
+    /// Whether lines are filled by words.
+    pub(crate) fn line_fill(&self) -> LineFill
+        ensures line_fill { result ≡ self.now.line_fill }
+        ensures sound { IsSound self.now }
+    {
+        self.sign.line_fill()
     }
 
     /// The most pages of a string: 1 to 255.

@@ -1,4 +1,5 @@
 mod defaults;
+mod filling;
 mod wide;
 
 use crate::{Shown, check};

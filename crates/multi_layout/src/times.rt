@@ -58,7 +58,7 @@ fn find_page(sign: &Terms<'_>, source: &mut Source<'_>, time: u64) -> Shown
                 return shown;
             }
         }
-        cursor.pass(sign, source, next);
+        cursor.skip(sign, source, next);
     }
     match shown_in(&cursor.state, time) {
         Some(shown) => shown,

@@ -3,12 +3,13 @@
 ghost use Rattle.std.specs.Prelude.{◌≡◌, ℕ, ◌+◌, ◌^◌, ◌<◌, ◌≤◌, ◌*◌, ◌-◌, ◌⊎◌, [], length, slice_get, IfOk, IfErr, OnOk, None, Some};
 ghost use Rattle.multi_token.specs.Counted.{charged, RisesBetween};
 ghost use Rattle.multi_token.specs.Tokens.{IsTokenOf, item_of};
+ghost use Rattle.sign_font.specs.declared.parts.LineFill.TheVariants.{Off};
 ghost use Rattle.sign_font.specs.Defaults.{default_fault, under};
 ghost use Rattle.multi_layout.specs.Codes.{code_of};
 ghost use Rattle.multi_layout.specs.Limits.{check_limit};
-ghost use Rattle.multi_layout.specs.Progress.{IsAt, IsBehind, IsRefused};
-ghost use Rattle.multi_layout.specs.State.{IsStateOf};
-ghost use Rattle.multi_layout.specs.Verdict.{Accepted, IsCycle, IsVerdict, Refused};
+ghost use Rattle.multi_layout.specs.Progress.{IsAcceptedWith, IsAt, IsRefused};
+ghost use Rattle.multi_layout.specs.State.{IsStateOf, IsUnfilledOf};
+ghost use Rattle.multi_layout.specs.Verdict.{Accepted, IsVerdict, Refused};
 
 use crate::checked::Checked;
 use crate::fault::{Fault, SyntaxError};
@@ -16,8 +17,9 @@ use crate::judge::{judge_character, judge_spelled};
 use crate::run::judge_run;
 use crate::state::State;
 use crate::terms::Terms;
+use crate::words::judge_filled;
 use multi_token::{Source, read_bracket};
-use sign_font::{Defaults, Sign};
+use sign_font::{Defaults, LineFill, Sign};
 
 /// The first error of a string, and the offset of its item.
 #[derive(Clone, Copy)]
@@ -95,14 +97,35 @@ pub fn check_with<'a>(
     }
 }
 
-/// Goes from the state before the first item to that behind the last of an accepted string, or to the first offence.
+/// Goes from the state before the first item to one with the pages and times of an accepted string, or to the first offence.
 fn judge(sign: &Terms<'_>, state: &mut State, source: &mut Source<'_>) -> Result<(), Offence>
     requires start { IsStateOf sign.now [] state.old }
     requires fresh { source.old.steps ≡ 0 }
     requires short { length source.old.octets < 2 ^ 32 }
-    ensures accepted { OnOk result (IsVerdict sign.now source.old.octets (Accepted state.new.pages)
-        × IsCycle sign.now source.old.octets (state.new.cycle + state.new.attributes.on + state.new.attributes.off)
-        × (state.new.cycle ≤ 510 * state.new.pages)) }
+    ensures accepted { OnOk result (IsAcceptedWith sign.now source.old.octets state.new) }
+    ensures refused { IfErr result (λ offence. IsVerdict sign.now source.old.octets (Refused (code_of offence.error) offence.at)) }
+    ensures kept { source.new.octets ≡ source.old.octets }
+    ensures steps { OnOk result (length source.old.octets + 1 ≤ source.new.steps) }
+    ensures fault_steps { IfErr result (λ offence. offence.at + 1 ≤ source.new.steps) }
+    ensures most { source.new.steps ≤ check_limit (length source.old.octets) }
+{
+    match sign.line_fill() {
+        LineFill::Off => judge_unfilled(sign, state, source),
+        LineFill::Words => judge_filled(sign, state, source),
+    }
+}
+
+/// The same where lines aren't filled.
+fn judge_unfilled(
+    sign: &Terms<'_>,
+    state: &mut State,
+    source: &mut Source<'_>,
+) -> Result<(), Offence>
+    requires start { IsStateOf sign.now [] state.old }
+    requires off { sign.now.line_fill ≡ Off }
+    requires fresh { source.old.steps ≡ 0 }
+    requires short { length source.old.octets < 2 ^ 32 }
+    ensures accepted { OnOk result (IsAcceptedWith sign.now source.old.octets state.new) }
     ensures refused { IfErr result (λ offence. IsVerdict sign.now source.old.octets (Refused (code_of offence.error) offence.at)) }
     ensures kept { source.new.octets ≡ source.old.octets }
     ensures steps { OnOk result (length source.old.octets + 1 ≤ source.new.steps) }
@@ -133,8 +156,8 @@ fn judge_from(
     first: u8,
 ) -> Result<(usize, Option<u8>), Offence>
     requires short { length source.old.octets < 2 ^ 32 }
-    requires at { IsAt sign.now source.old.octets at (Some first) state.old source.old }
-    ensures at { IfOk result (λ to. (at < to.0) × IsAt sign.now source.old.octets to.0 to.1 state.new source.new) }
+    requires at { IsAt sign.now source.old.octets at (Some first) (IsUnfilledOf sign.now state.old) source.old }
+    ensures at { IfOk result (λ to. (at < to.0) × IsAt sign.now source.old.octets to.0 to.1 (IsUnfilledOf sign.now state.new) source.new) }
     ensures refused { IfErr result (λ offence. IsRefused sign.now source.old.octets offence source.new) }
 {
     if first == b'[' || first == b']' {
@@ -158,8 +181,8 @@ fn judge_bracket(
 ) -> Result<(usize, Option<u8>), Offence>
     requires bracket { (first ≡ 91) ⊎ (first ≡ 93) }
     requires short { length source.old.octets < 2 ^ 32 }
-    requires at { IsAt sign.now source.old.octets at (Some first) state.old source.old }
-    ensures at { IfOk result (λ to. (at < to.0) × IsAt sign.now source.old.octets to.0 to.1 state.new source.new) }
+    requires at { IsAt sign.now source.old.octets at (Some first) (IsUnfilledOf sign.now state.old) source.old }
+    ensures at { IfOk result (λ to. (at < to.0) × IsAt sign.now source.old.octets to.0 to.1 (IsUnfilledOf sign.now state.new) source.new) }
     ensures refused { IfErr result (λ offence. IsRefused sign.now source.old.octets offence source.new) }
     // each octet up to the one behind is read once, and beside that at most 8 cells are looked at
     ensures steps { IfOk result (λ to. source.new.steps ≤ source.old.steps + (to.0 - at) + 8) }

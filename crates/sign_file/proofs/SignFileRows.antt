@@ -1,6 +1,6 @@
 -- Worked examples of sign files, computed.
 use Rattle.std.proofs.Common.{◌≡◌, ℕ, List, [], ◌∷◌, ◌++◌, None, Some, false, refl, codes}
-use Rattle.sign_font.specs.declared.parts.LineFill.TheVariants.{Off}
+use Rattle.sign_font.specs.declared.parts.LineFill.TheVariants.{Off, Words}
 use Rattle.sign_font.specs.Sign.{SignData}
 use Rattle.message_store.specs.Slot.{PermanentData}
 use Rattle.sign_file.specs.SignFile.{FileData, file_of_octets}
@@ -50,6 +50,15 @@ a_permanent_message_has_priority_1 : file_of_octets (a_file (codes "width = 12")
     ≡ Some (its_file 12 1 (record { multi = 65 ∷ []; priority = 1; beacon = 0; pixel = 2 } ∷ []))
 unfolding sign_file_on_literals its_sign
 a_permanent_message_has_priority_1 = refl
+
+lines_are_filled_by_words : file_of_octets (a_file (codes "width = 12\nline_fill = \"words\"") (codes "1") (codes "65") (codes "5e80") [])
+    ≡ Some (record { sign = record (its_sign 12) { line_fill = Words }; limits = record { slots = 1; bytes = 4; max_string = 64 }; permanents = [] })
+unfolding sign_file_on_literals its_sign
+lines_are_filled_by_words = refl
+
+lines_filled_otherwise_are_no_file : file_of_octets (a_file (codes "width = 12\nline_fill = \"letters\"") (codes "1") (codes "65") (codes "5e80") []) ≡ None
+unfolding sign_file_on_literals
+lines_filled_otherwise_are_no_file = refl
 
 a_missing_width_is_no_file : file_of_octets (a_file (codes "") (codes "1") (codes "65") (codes "5e80") []) ≡ None
 unfolding sign_file_on_literals

@@ -4,6 +4,8 @@ use Rattle.std.specs.Str.{bytes_eq}
 use Rattle.hex.specs.Hex.{decode_of}
 use Rattle.hex.specs.declared.error.FromHexError.{FromHexError}
 use Rattle.toml.specs.Data.{Data, Items, no_items, item, Members, get_member, as_integer, as_str, as_bool, as_array, as_table}
+use Rattle.sign_font.specs.declared.parts.LineFill.{LineFill}
+use Rattle.sign_font.specs.declared.parts.LineFill.TheVariants.{Off, Words}
 use Rattle.sign_file.specs.declared.fault.FileFault.{FileFault}
 use Rattle.sign_file.specs.declared.fault.FileFault.TheVariants.{Bad, Memory}
 
@@ -58,6 +60,22 @@ scheme_of text =
     if bytes_eq text (codes "monochrome") then Some false
     else if bytes_eq text (codes "classic") then Some true
     else None
+
+-- Whether a text says that lines are broken between words; it may say that they are or that they aren't (own).
+abbrev pub line_fill_named : List ℕ → Option LineFill
+line_fill_named text =
+    if bytes_eq text (codes "none") then Some Off
+    else if bytes_eq text (codes "words") then Some Words
+    else None
+
+-- How lines are filled, not at all where its key isn't there (own).
+abbrev pub line_fill_of : Option Data → Option LineFill
+line_fill_of None = Some Off
+line_fill_of (Some value) = as_str value >>= line_fill_named
+
+-- How lines are filled by the text at a key, not at all where the key isn't there (own).
+abbrev pub line_fill_at : List ℕ → Members → Option LineFill
+line_fill_at key members = line_fill_of (get_member key members)
 
 -- The octets that a text has in hexadecimal, if it has (own).
 abbrev pub if_decoded : Result (List ℕ) FromHexError → Option (List ℕ)

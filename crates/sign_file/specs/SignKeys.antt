@@ -4,7 +4,7 @@ use Rattle.toml.specs.Data.{Members, get_member}
 use Rattle.sign_font.specs.declared.parts.LineFill.TheVariants.{Off}
 use Rattle.sign_font.specs.Sign.{CellData, FontData, SignData}
 use Rattle.sign_font.specs.declared.parts.Defaults.{Defaults}
-use Rattle.sign_file.specs.Keys.{◌>>=◌, entry_of, flag_at, list_at, number_at, number_or, octets_at, scheme_of, text_at}
+use Rattle.sign_file.specs.Keys.{◌>>=◌, entry_of, flag_at, line_fill_at, list_at, number_at, number_or, octets_at, scheme_of, text_at}
 
 -- The keys of `[[font.cell]]` (NTCIP 1203 v03, object characterTable).
 unfoldable pub cell_of_table : Members → Option CellData
@@ -66,6 +66,7 @@ sign_of_table members = do
   max_pages ← number_at 255 (codes "max_pages") members
   beacons ← flag_at (codes "beacons") members
   pixel_service ← flag_at (codes "pixel_service") members
+  line_fill ← line_fill_at (codes "line_fill") members
   table ← get_member (codes "defaults") members
   defaults ← entry_of defaults_of_table table
   fonts ← list_at font_of_table (codes "font") members
@@ -76,7 +77,7 @@ sign_of_table members = do
     max_pages = max_pages;
     beacons = beacons;
     pixel_service = pixel_service;
-    line_fill = Off;
+    line_fill = line_fill;
     defaults = defaults;
     fonts = fonts;
   })

@@ -4,10 +4,11 @@ ghost use Rattle.std.specs.Prelude.{◌≡◌, ◌++◌, ◌∷◌, [], Option, 
 ghost use Rattle.std.specs.Option.{option_copied};
 ghost use Rattle.toml.specs.Data.{Members, get_member};
 ghost use Rattle.toml.specs.View.{array_view, table_view, view};
-ghost use Rattle.sign_file.specs.Keys.{Gives, each_of, entry_of, flag_at, list_at, number_at, number_or, octets_at, scheme_of, text_at};
+ghost use Rattle.sign_file.specs.Keys.{Gives, each_of, entry_of, flag_at, line_fill_at, line_fill_named, list_at, number_at, number_or, octets_at, scheme_of, text_at};
 
 use crate::fault::FileFault;
 use hex::FromHexError;
+use sign_font::LineFill;
 use std::alloc::Global;
 use toml::value::Array;
 use toml::{Table, Value};
@@ -105,6 +106,29 @@ pub(crate) fn scheme_of(text: &str) -> Option<bool>
         Some(true)
     } else {
         None
+    }
+}
+
+/// Whether a text says that lines are broken between words; it may say that they are or that they aren't.
+fn line_fill_named(text: &str) -> Option<LineFill>
+    ensures { result ≡ line_fill_named text.now }
+{
+    if text == "none" {
+        Some(LineFill::Off)
+    } else if text == "words" {
+        Some(LineFill::Words)
+    } else {
+        None
+    }
+}
+
+/// How lines are filled by the text at a key, not at all where the key isn't there.
+pub(crate) fn line_fill_at(table: &Table, key: &str) -> Option<LineFill>
+    ensures { result ≡ line_fill_at key.now (table_view table.now) }
+{
+    match member(table, key) {
+        None => Some(LineFill::Off),
+        Some(value) => line_fill_named(value.as_str()?),
     }
 }
 

@@ -3,12 +3,13 @@
 //! [`read_sign_file`] gives what a file says, or the [`FileFault`] for which there is nothing to give. It judges no limit:
 //! [`sign_font::Sign::new`] makes a sign of [`SignFile::sign`], or refuses it.
 //!
-//! A number is a whole number of the type of its field, `scheme` is `"monochrome"` or `"classic"`, and `bits` is a text
-//! of octets in hexadecimal. A key must be there unless its default stands in parentheses. Other keys are ignored.
+//! A number is a whole number of the type of its field, `scheme` is `"monochrome"` or `"classic"`, `line_fill` is `"none"` or
+//! `"words"`, and `bits` is a text of octets in hexadecimal. A key must be there unless its default stands in parentheses.
+//! Other keys are ignored.
 //!
 //! | Table | Keys |
 //! |---|---|
-//! | the document | `width`, `height`, `scheme`, `max_pages`, `beacons` (false), `pixel_service` (false), `slots`, `bytes`, `max_string`, and the tables `[defaults]`, `[[font]]` (none), `[[permanent]]` (none) |
+//! | the document | `width`, `height`, `scheme`, `max_pages`, `beacons` (false), `pixel_service` (false), `line_fill` (none), `slots`, `bytes`, `max_string`, and the tables `[defaults]`, `[[font]]` (none), `[[permanent]]` (none) |
 //! | `[defaults]` | `font`, `line`, `page`, `page_on`, `page_off`, `flash_on`, `flash_off`, `fore`, `back` |
 //! | `[[font]]` | `number`, `version` (0), `height`, `char_spacing`, `line_spacing`, and the tables `[[font.cell]]` (none) |
 //! | `[[font.cell]]` | `number`, `width`, `bits` |

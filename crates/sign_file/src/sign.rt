@@ -8,7 +8,8 @@ ghost use Rattle.sign_file.specs.SignKeys.{cell_of_table, defaults_of_table, fon
 
 use crate::fault::FileFault;
 use crate::keys::{
-    Entry, flag_at, list_at, member, octets_at, scheme_of, text_at, u8_at, u16_at, u16_or,
+    Entry, flag_at, line_fill_at, list_at, member, octets_at, scheme_of, text_at, u8_at, u16_at,
+    u16_or,
 };
 use sign_font::{CellPart, Defaults, FontPart, LineFill, SignParts};
 use std::alloc::Global;
@@ -90,6 +91,7 @@ pub(crate) fn parts_of(alloc: Global, table: &Table) -> Result<SignParts, FileFa
     let max_pages = u8_at(table, "max_pages").ok_or(FileFault::Bad)?;
     let beacons = flag_at(table, "beacons").ok_or(FileFault::Bad)?;
     let pixel_service = flag_at(table, "pixel_service").ok_or(FileFault::Bad)?;
+    let line_fill = line_fill_at(table, "line_fill").ok_or(FileFault::Bad)?;
     let value = member(table, "defaults").ok_or(FileFault::Bad)?;
     let inner = value.as_table().ok_or(FileFault::Bad)?;
     let defaults = defaults_of(inner).ok_or(FileFault::Bad)?;
@@ -101,7 +103,7 @@ pub(crate) fn parts_of(alloc: Global, table: &Table) -> Result<SignParts, FileFa
         max_pages,
         beacons,
         pixel_service,
-        line_fill: LineFill::Off,
+        line_fill,
         defaults,
         fonts,
     })

@@ -1,6 +1,6 @@
 use crate::{FileFault, SignFile, read_sign_file};
 use message_store::{Permanent, StoreLimits};
-use sign_font::{CellPart, Defaults, FontPart};
+use sign_font::{CellPart, Defaults, FontPart, LineFill};
 use std::alloc::Global;
 use std::process::Abort;
 use std::test::Fail;
@@ -198,6 +198,7 @@ fn an_absent_key_has_its_default(rt: HostRuntime) -> Result<(), Fail> {
         return Ok(());
     };
     assert!(rt; !file.sign.classic && !file.sign.beacons && !file.sign.pixel_service);
+    assert_eq!(rt; file.sign.line_fill, LineFill::Off);
     let ([font], [message]) = (file.sign.fonts.as_slice(), file.permanents.as_slice()) else {
         assert!(rt; false, "there is one font and one message");
         return Ok(());
@@ -278,7 +279,7 @@ fn a_key_is_there_and_of_its_kind(rt: HostRuntime) -> Result<(), Fail> {
         ("pixel_service = true", "pixel_service = \"no\"", false),
         (
             "max_pages = 2",
-            "max_pages = 2\nline_fill = 5\nother = {}",
+            "max_pages = 2\nline_fills = 5\nother = {}",
             true,
         ),
         ("[defaults]", "[other]", false),
@@ -296,6 +297,38 @@ fn a_key_is_there_and_of_its_kind(rt: HostRuntime) -> Result<(), Fail> {
         ("[[permanent]]", "[permanent]", false),
         ("[[permanent]]", "[other]", true),
         ("[[permanent]]", "[[permanent]]\nother = 0", true),
+    ];
+    check_changed(&rt, rt.alloc(), WHOLE, &rows)
+}
+
+#[test]
+fn lines_are_filled_as_the_file_says(rt: HostRuntime) -> Result<(), Fail> {
+    let old = "pixel_service = true";
+    for (key, line_fill) in [
+        ("", LineFill::Off),
+        ("line_fill = \"none\"", LineFill::Off),
+        ("line_fill = \"words\"", LineFill::Words),
+        ("line_fill = 'words'", LineFill::Words),
+    ] {
+        let Ok(file) = read_with(&rt, rt.alloc(), WHOLE, old, key)? else {
+            assert!(rt; false, "{key} is read");
+            return Ok(());
+        };
+        assert_eq!(rt; file.sign.line_fill, line_fill, "{key}");
+    }
+    let rows = [
+        (old, "line_fill = \"\"", false),
+        (old, "line_fill = \"letters\"", false),
+        (old, "line_fill = \"words \"", false),
+        (old, "line_fill = \"Words\"", false),
+        (old, "line_fill = \"NONE\"", false),
+        (old, "line_fill = 0", false),
+        (old, "line_fill = true", false),
+        (old, "line_fill = false", false),
+        (old, "line_fill = [\"words\"]", false),
+        (old, "line_fill = {}", false),
+        (old, "LINE_FILL = \"letters\"", true),
+        ("font = 1\n", "font = 1\nline_fill = \"letters\"\n", true),
     ];
     check_changed(&rt, rt.alloc(), WHOLE, &rows)
 }

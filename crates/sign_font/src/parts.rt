@@ -16,7 +16,7 @@ pub struct SignParts {
     pub beacons: bool,
     /// Whether the sign has a pixel service.
     pub pixel_service: bool,
-    /// Whether the sign breaks lines that no longer fit between words. It is kept and told; no text is broken yet.
+    /// Whether the sign breaks lines that no longer fit between words.
     pub line_fill: LineFill,
     /// What holds unless a message says otherwise.
     pub defaults: Defaults,
@@ -25,7 +25,7 @@ pub struct SignParts {
 }
 
 /// Whether lines that no longer fit are broken between words. This is a setting of the sign, for which NTCIP 1203 v03 has no
-/// object (own). No text is broken yet.
+/// object (own).
 #[derive(Clone, Copy, Debug, PartialEq, Eq)]
 pub enum LineFill {
     /// They aren't broken.

@@ -1,15 +1,16 @@
-use Rattle.std.proofs.Common.{◌≡◌, ℕ, ◌^◌, List, [], ◌∷◌, ◌++◌, map, Option, Some, None, refl, sym, ap, ◌∙◌, subst, arith}
+use Rattle.std.proofs.Common.{◌≡◌, ℕ, ◌^◌, List, [], ◌∷◌, ◌++◌, map, Option, Some, None, sym, ap, ◌∙◌, subst, arith}
 use Rattle.multi_token.proofs.ReadingLemmas.{spelling_some}
 use Rattle.sign_font.specs.Sign.{cell_in}
+use Rattle.multi_layout.specs.Walk.{meant}
 use Rattle.multi_layout.specs.Address.{spots, standing, in_area}
 use Rattle.multi_layout.specs.KnownItem.{meant_by}
-use Rattle.multi_layout.specs.Limits.{plane_octets}
-use Rattle.multi_layout.specs.Meaning.{Meaning, Shows, Does, begins_area, meaning}
-use Rattle.multi_layout.specs.Offence.{offence}
+use Rattle.multi_layout.specs.Meaning.{begins_area, Does, has_place, Meaning, Shows}
+use Rattle.multi_layout.specs.Offence.{unsized_offence}
 use Rattle.multi_layout.specs.Passes.{HasCounted, IsDrawnTo}
-use Rattle.multi_layout.proofs.DrawLemmas.{low_between, cell_height, map_split, four_octets, tag_drawn, rows_few, fill_few}
+use Rattle.multi_layout.proofs.DrawLemmas.{low_between, cell_height, map_split, four_octets, tag_drawn, rows_few, tag_filled}
 use Rattle.multi_layout.proofs.BoundLemmas.{below_more}
-use Rattle.multi_layout.proofs.JudgedLemmas.{judged-undefined}
+use Rattle.multi_layout.proofs.JudgedLemmas.{unsized-undefined}
+use Rattle.multi_layout.proofs.PieceLemmas.{itself}
 use Rattle.multi_layout.proofs.WalkLemmas.{never_offends}
 use Rattle.multi_layout.proofs.draw.draw_item.Goals as goal
 
@@ -17,11 +18,11 @@ pub unreachable-requires : goal.unreachable-requires
 unreachable-requires c =
     let sign = c.args.sign.now in
     let (before, rest, item, b, read, counted) = c.requires.known in
-    let shows : meaning item ≡ Shows c.in-Char.number = read.meant ∙ ap meant_by c.in-Char.is in
+    let shows : meant item ≡ Shows c.in-Char.number = read.meant ∙ ap meant_by c.in-Char.is in
     let none : cell_in sign c.args.cursor.now.state.attributes.font.number c.in-Char.number ≡ None = sym c.cell.ensures.cell ∙ c.in_default.is in
-    let offends = judged-undefined sign (map meaning before) c.args.cursor.now.state b.state_is c.in-Char.number none in
+    let offends = unsized-undefined sign (map meant before) c.args.cursor.now.state b.state_is c.in-Char.number none in
     let fine = never_offends sign c.args.source.now.octets before rest item c.args.cursor.now b in
-    let wrong : ◌≡◌ {A = Option ℕ} (Some 7) None = sym offends ∙ ap (offence sign (map meaning before)) (sym shows) ∙ fine in
+    let wrong : ◌≡◌ {A = Option ℕ} (Some 7) None = sym offends ∙ ap (unsized_offence sign (map meant before)) (sym shows) ∙ fine in
     cc
 
 pub put_character-requires-clause-below : goal.put_character-requires-clause-below
@@ -34,7 +35,7 @@ put_character-requires-clause-height c =
     let sign = c.args.sign.now in
     let (before, rest, item, b, read, counted) = c.requires.known in
     let found : cell_in sign c.args.cursor.now.state.attributes.font.number c.in-Char.number ≡ Some c.in-Some.cell = sym c.cell.ensures.cell ∙ c.in-Some.is in
-    (cell_height sign (map meaning before) c.args.cursor.now.state b.state_is c.in-Char.number c.in-Some.cell found).0
+    (cell_height sign (map meant before) c.args.cursor.now.state b.state_is c.in-Char.number c.in-Some.cell found).0
 
 pub returns-in-Some-clause-passed : goal.returns-in-Some-clause-passed
 returns-in-Some-clause-passed c = λ before rest item b read.
@@ -45,41 +46,43 @@ returns-in-Some-clause-passed c = λ before rest item b read.
 pub returns-in-Some-clause-drawn : goal.returns-in-Some-clause-drawn
 returns-in-Some-clause-drawn c = λ before rest item b read plain counted drawn.
     let sign = c.args.sign.now in
-    let shows : meaning item ≡ Shows c.in-Char.number = read.meant ∙ ap meant_by c.in-Char.is in
+    let shows : meant item ≡ Shows c.in-Char.number = read.meant ∙ ap meant_by c.in-Char.is in
     let found : cell_in sign c.args.cursor.now.state.attributes.font.number c.in-Char.number ≡ Some c.in-Some.cell = sym c.cell.ensures.cell ∙ c.in-Some.is in
     let all = map_split before rest item (Shows c.in-Char.number) shows in
     let one = map_split before [] item (Shows c.in-Char.number) shows in
-    let k = (standing sign (map meaning before)).area in
-    let fine = ap (offence sign (map meaning before)) (sym shows) ∙ never_offends sign c.args.source.now.octets before rest item c.args.cursor.now b in
-    let put = c.put_character.ensures.drawn (map meaning before) (map meaning rest) c.in-Char.number b.state_is found fine
+    let k = (standing sign (map meant before)).area in
+    let fine = ap (unsized_offence sign (map meant before)) (sym shows) ∙ never_offends sign c.args.source.now.octets before rest item c.args.cursor.now b in
+    let put = c.put_character.ensures.drawn (map meant before) (map meant rest) c.in-Char.number b.state_is found fine
     (subst (λ (ms : List Meaning). HasCounted (in_area k (spots sign ms)) c.args.lines.now) all counted)
-    (subst (λ (ms : List Meaning). IsDrawnTo sign c.args.layer ms (map meaning before) c.args.plane.now) all drawn) in
-    subst (λ (ms : List Meaning). IsDrawnTo sign c.args.layer ms (map meaning (before ++ item ∷ [])) c.put_character.new.plane) (sym all)
-    (subst (λ (ms : List Meaning). IsDrawnTo sign c.args.layer (map meaning before ++ Shows c.in-Char.number ∷ map meaning rest) ms c.put_character.new.plane) (sym one) put)
+    (subst (λ (ms : List Meaning). IsDrawnTo sign c.args.layer ms (map meant before) c.args.plane.now) all drawn) in
+    subst (λ (ms : List Meaning). IsDrawnTo sign c.args.layer ms (map meant (before ++ item ∷ [])) c.put_character.new.plane) (sym all)
+    (subst (λ (ms : List Meaning). IsDrawnTo sign c.args.layer (map meant before ++ Shows c.in-Char.number ∷ map meant rest) ms c.put_character.new.plane) (sym one) put)
 
 pub returns-in-Some-clause-fills : goal.returns-in-Some-clause-fills
 returns-in-Some-clause-fills c =
     let sign = c.args.sign.now in
     let (before, rest, item, b, read, counted) = c.requires.known in
     let found : cell_in sign c.args.cursor.now.state.attributes.font.number c.in-Char.number ≡ Some c.in-Some.cell = sym c.cell.ensures.cell ∙ c.in-Some.is in
-    let tall = (cell_height sign (map meaning before) c.args.cursor.now.state b.state_is c.in-Char.number c.in-Some.cell found).1 in
-    rows_few sign c.args.plane.now c.put_character.new.plane c.args.next.len c.in-Some.cell.height (omega (arith, read.len, spelling_some item)) tall
+    let tall = (cell_height sign (map meant before) c.args.cursor.now.state b.state_is c.in-Char.number c.in-Some.cell found).1 in
+    rows_few sign c.args.plane.now c.put_character.new.plane c.args.next.len c.in-Some.cell.height (omega (arith, read.len, spelling_some item.item)) tall
     c.put_character.ensures.counted c.put_character.ensures.steps c.put_character.ensures.width c.put_character.ensures.height
 
 pub returns-in-Tag-clause-drawn : goal.returns-in-Tag-clause-drawn
 returns-in-Tag-clause-drawn c = λ before rest item b read plain counted drawn.
     let sign = c.args.sign.now in
-    let does : meaning item ≡ Does c.in-Tag.tag = read.meant ∙ ap meant_by c.in-Tag.is in
+    let does : meant item ≡ Does c.in-Tag.tag = read.meant ∙ ap meant_by c.in-Tag.is in
     let all = map_split before rest item (Does c.in-Tag.tag) does in
     let one = map_split before [] item (Does c.in-Tag.tag) does in
-    let put = tag_drawn sign c.args.layer (map meaning before) (map meaning rest) c.in-Tag.tag c.args.plane.now c.draw_tag.new.plane (ap begins_area (sym does) ∙ plain) c.draw_tag.ensures.back c.draw_tag.ensures.quiet
-    (subst (λ (ms : List Meaning). IsDrawnTo sign c.args.layer ms (map meaning before) c.args.plane.now) all drawn) in
-    subst (λ (ms : List Meaning). IsDrawnTo sign c.args.layer ms (map meaning (before ++ item ∷ [])) c.draw_tag.new.plane) (sym all)
-    (subst (λ (ms : List Meaning). IsDrawnTo sign c.args.layer (map meaning before ++ Does c.in-Tag.tag ∷ map meaning rest) ms c.draw_tag.new.plane) (sym one) put)
+    let put = tag_drawn sign c.args.layer (map meant before) (map meant rest) c.in-Tag.tag c.args.plane.now c.draw_tag.new.plane (ap begins_area (sym does) ∙ plain) c.draw_tag.ensures.back c.draw_tag.ensures.quiet
+    (subst (λ (ms : List Meaning). IsDrawnTo sign c.args.layer ms (map meant before) c.args.plane.now) all drawn) in
+    subst (λ (ms : List Meaning). IsDrawnTo sign c.args.layer ms (map meant (before ++ item ∷ [])) c.draw_tag.new.plane) (sym all)
+    (subst (λ (ms : List Meaning). IsDrawnTo sign c.args.layer (map meant before ++ Does c.in-Tag.tag ∷ map meant rest) ms c.draw_tag.new.plane) (sym one) put)
 
 pub returns-in-Tag-clause-fills : goal.returns-in-Tag-clause-fills
 returns-in-Tag-clause-fills c =
     let sign = c.args.sign.now in
     let (before, rest, item, b, read, counted) = c.requires.known in
-    let four = four_octets item c.in-Tag.tag (read.meant ∙ ap meant_by c.in-Tag.is) in
-    fill_few sign c.args.plane.now c.draw_tag.new.plane c.args.next.len (plane_octets sign) (omega (arith, read.len, four)) c.draw_tag.ensures.counted c.draw_tag.ensures.steps refl c.draw_tag.ensures.width c.draw_tag.ensures.height
+    let does : meant item ≡ Does c.in-Tag.tag = read.meant ∙ ap meant_by c.in-Tag.is in
+    tag_filled sign c.args.plane.now c.draw_tag.new.plane c.args.next.len c.in-Tag.tag
+    (λ given is. let raw = (itself b (ap has_place (does ∙ ap Does is))).1 in omega (arith, read.len, four_octets item.item c.in-Tag.tag (raw ∙ does)))
+    c.draw_tag.ensures.counted c.draw_tag.ensures.steps c.draw_tag.ensures.quiet c.draw_tag.ensures.width c.draw_tag.ensures.height

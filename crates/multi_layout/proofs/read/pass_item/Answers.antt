@@ -1,9 +1,9 @@
 use Rattle.std.proofs.Common.{◌≡◌, ◌^◌, ◌≤◌, map, true, false, sym, ap, ◌∙◌, arith, subst}
 use Rattle.std.specs.List.{after_last}
+use Rattle.multi_layout.specs.Walk.{meant}
 use Rattle.multi_layout.specs.declared.area.Group.{Group}
 use Rattle.multi_layout.specs.Address.{in_group, is_break}
 use Rattle.multi_layout.specs.KnownItem.{meant_by}
-use Rattle.multi_layout.specs.Meaning.{meaning}
 use Rattle.multi_layout.specs.Passes.{HasKnown, HasRoom, ends_line}
 use Rattle.multi_layout.specs.State.{present_area}
 use Rattle.multi_layout.proofs.AreaLinesLemmas.{closed_low, items_with, next_fine, next_state, present_low, present_narrow, present_placing, present_room}
@@ -17,13 +17,13 @@ leave_group-requires-clause-below c = let (before, rest, item, b, read, known) =
 pub leave_group-requires-clause-known : goal.leave_group-requires-clause-known
 leave_group-requires-clause-known c =
     let (before, rest, item, b, read, known) = c.requires.known in
-    let ms = map meaning before in
-    (present_area c.args.sign.now ms, present_placing c.args.sign.now ms, b.state_is.area, known, present_room c.requires.sound b, present_narrow c.requires.sound b)
+    let ms = map meant before in
+    (present_area c.args.sign.now ms, present_placing c.args.sign.now ms, b.state_is.area, known, present_room c.requires.sound c.requires.off b, present_narrow c.requires.sound c.requires.off b)
 
 pub leave_group-requires-clause-order : goal.leave_group-requires-clause-order
 leave_group-requires-clause-order c =
     let (before, rest, item, b, read, known) = c.requires.known in
-    order c.args.sign.now (map meaning before) c.args.cursor.now.state b.state_is (meant_by c.args.next.item) (next_fine b read)
+    order c.args.sign.now (map meant before) c.args.cursor.now.state b.state_is (meant_by c.args.next.item) (next_fine b read)
 
 pub of-requires-clause-known : goal.of-requires-clause-known
 of-requires-clause-known c =
@@ -35,14 +35,14 @@ of-requires-clause-narrow c =
     let (before, rest, item, b, read, known) = c.requires.known in
     let sign = c.args.sign.now in
     let state = c.args.cursor.now.state in
-    let ms = map meaning before in
+    let ms = map meant before in
     let x = meant_by c.args.next.item in
     let ends : ends_line x ≡ true = sym c.ends_line.ensures ∙ c.if-ends_line.true in
     let on = in_order sign ms state b.state_is x ends (next_fine b read) in
     let page = b.state_is.page_just in (
       after_last is_break (in_group state.attributes.page_just (present_area sign ms)),
       ap (λ (g : Group). g.line) (c.group_for-group.ensures.sum (present_area sign ms) b.state_is.area on),
-      (present_narrow c.requires.sound b state.attributes.page_just page.0 page.1).0,
+      (present_narrow c.requires.sound c.requires.off b state.attributes.page_just page.0 page.1).0,
     )
 
 pub of-requires-clause-low : goal.of-requires-clause-low
@@ -54,7 +54,7 @@ of-requires-clause-low c =
     let ends : ends_line x ≡ true = sym c.ends_line.ensures ∙ c.if-ends_line.true in
     let behind = c.pass.ensures.passed before rest item b read in
     let page = b.state_is.page_just in
-    closed_low c.requires.sound behind state.attributes.page_just page.0 page.1 (present_then sign (map meaning before) state b.state_is x ends (next_fine b read) c.pass.new.self.state (next_state b read behind))
+    closed_low c.requires.sound c.requires.off behind state.attributes.page_just page.0 page.1 (present_then sign (map meant before) state b.state_is x ends (next_fine b read) c.pass.new.self.state (next_state b read behind))
 
 pub push-requires-clause-known : goal.push-requires-clause-known
 push-requires-clause-known c =
@@ -64,7 +64,7 @@ push-requires-clause-known c =
     let x = meant_by c.args.next.item in
     let ends : ends_line x ≡ true = sym c.ends_line.ensures ∙ c.if-ends_line.true in
     let behind = c.pass.ensures.passed before rest item b read in
-    let present = present_then sign (map meaning before) state b.state_is x ends (next_fine b read) c.pass.new.self.state (next_state b read behind) in
+    let present = present_then sign (map meant before) state b.state_is x ends (next_fine b read) c.pass.new.self.state (next_state b read behind) in
     let page = b.state_is.page_just in
     (omega (arith, present, page), omega (arith, present, page))
 
@@ -73,11 +73,11 @@ push-requires-clause-room c =
     let (before, rest, item, b, read, known) = c.requires.known in
     let sign = c.args.sign.now in
     let state = c.args.cursor.now.state in
-    let ms = map meaning before in
+    let ms = map meant before in
     let x = meant_by c.args.next.item in
     let ends : ends_line x ≡ true = sym c.ends_line.ensures ∙ c.if-ends_line.true in
     let left = c.leave_group.ensures.known (present_area sign ms) (present_placing sign ms) b.state_is.area known in
-    let room = present_room c.requires.sound (c.pass.ensures.passed before rest item b read) in
+    let room = present_room c.requires.sound c.requires.off (c.pass.ensures.passed before rest item b read) in
     room_for sign ms state b.state_is x ends (next_fine b read) c.leave_group.new.lines left c.leave_group.ensures.ordered (subst (λ l. HasRoom (present_area sign l)) (items_with b read) room)
 
 pub push-requires-clause-last : goal.push-requires-clause-last
@@ -85,7 +85,7 @@ push-requires-clause-last c = λ just later high.
     let (before, rest, item, b, read, known) = c.requires.known in
     let sign = c.args.sign.now in
     let state = c.args.cursor.now.state in
-    let ms = map meaning before in
+    let ms = map meant before in
     let x = meant_by c.args.next.item in
     let ends : ends_line x ≡ true = sym c.ends_line.ensures ∙ c.if-ends_line.true in
     let left = c.leave_group.ensures.known (present_area sign ms) (present_placing sign ms) b.state_is.area known in
@@ -97,7 +97,7 @@ pub returns-then-ends_line-clause-known : goal.returns-then-ends_line-clause-kno
 returns-then-ends_line-clause-known c = λ before rest item b read known.
     let sign = c.args.sign.now in
     let state = c.args.cursor.now.state in
-    let ms = map meaning before in
+    let ms = map meant before in
     let x = meant_by c.args.next.item in
     let area = present_area sign ms in
     let ends : ends_line x ≡ true = sym c.ends_line.ensures ∙ c.if-ends_line.true in
@@ -119,14 +119,14 @@ returns-then-ends_line-clause-low c = λ low.
     let ends : ends_line x ≡ true = sym c.ends_line.ensures ∙ c.if-ends_line.true in
     let behind = c.pass.ensures.passed before rest item b read in
     let page = b.state_is.page_just in
-    let most = closed_low c.requires.sound behind state.attributes.page_just page.0 page.1 (present_then sign (map meaning before) state b.state_is x ends (next_fine b read) c.pass.new.self.state (next_state b read behind)) in
+    let most = closed_low c.requires.sound c.requires.off behind state.attributes.page_just page.0 page.1 (present_then sign (map meant before) state b.state_is x ends (next_fine b read) c.pass.new.self.state (next_state b read behind)) in
     let bottom : c.of.result.bottom ≤ 2 ^ 43 = omega (arith, c.of.ensures.bottom, most) in
     pushed_low c.pass.new.self.state.area.present c.of.result c.leave_group.new.lines c.push.new.self c.push.ensures.pushed bottom (c.leave_group.ensures.low low)
 
 pub returns-else-ends_line-clause-known : goal.returns-else-ends_line-clause-known
 returns-else-ends_line-clause-known c = λ before rest item b read known.
     let sign = c.args.sign.now in
-    let ms = map meaning before in
+    let ms = map meant before in
     let x = meant_by c.args.next.item in
     let left = c.leave_group.ensures.known (present_area sign ms) (present_placing sign ms) b.state_is.area known in
     let behind = c.pass-else-ends_line.ensures.passed before rest item b read in

@@ -10,7 +10,7 @@ pub returns-in-Some-shown_in-clause-shown : goal.returns-in-Some-shown_in-clause
 returns-in-Some-shown_in-clause-shown c =
     let i = c.loop-next.invariant in
     let s = i.searched in
-    let first = (rw i.octets at c.in-Some.ensures.first) c.args.sign.now s.before s.behind s.between in
+    let first = (rw i.octets at c.in-Some.ensures.first) c.args.sign.now s.before s.behind s.between.placed in
     let e = c.shown_in.ensures in
     shown_at_page s e.on e.off e.ended c.in-Some.next first (sym c.ends_page.ensures ∙ c.if-ends_page.true) c.in-Some-shown_in.is
 
@@ -19,7 +19,7 @@ returns-in-Some-shown_in-clause-steps c =
     let i = c.loop-next.invariant in
     let s = i.searched in
     let len = c.in-Some.next.len in
-    let first = (rw i.octets at c.in-Some.ensures.first) c.args.sign.now s.before s.behind s.between in
+    let first = (rw i.octets at c.in-Some.ensures.first) c.args.sign.now s.before s.behind s.between.placed in
     let fits = next_fits s c.in-Some.next first in
     let k = rises_then c.args.source.now c.loop-next.source c.next_item.new.source 0 (9 * c.loop-next.cursor.at) 0 (2 * len - 1) i.steps c.in-Some.ensures.steps in
     (k.0, k.1, omega (arith, k.2, fits), k.3)
@@ -28,9 +28,9 @@ pub loop-next-smaller : goal.loop-next-smaller
 loop-next-smaller c =
     let i = c.loop-next.invariant in
     let s = i.searched in
-    let first = (rw i.octets at c.in-Some.ensures.first) c.args.sign.now s.before s.behind s.between in
+    let first = (rw i.octets at c.in-Some.ensures.first) c.args.sign.now s.before s.behind s.between.placed in
     let fits = next_fits s c.in-Some.next first in
-    omega (arith, fits, c.pass.ensures.at)
+    omega (arith, fits, c.skip.ensures.at)
 
 pub loop-next-preserved : goal.loop-next-preserved
 loop-next-preserved c =
@@ -38,26 +38,26 @@ loop-next-preserved c =
     let s = i.searched in
     let next = c.in-Some.next in
     let cursor = c.loop-next.cursor in
-    let pass = c.pass.ensures in
-    let first = (rw i.octets at c.in-Some.ensures.first) c.args.sign.now s.before s.behind s.between in
+    let skip = c.skip.ensures in
+    let first = (rw i.octets at c.in-Some.ensures.first) c.args.sign.now s.before s.behind s.between.placed in
     let fits = next_fits s next first in
     let same : c.next_item.new.source.octets ≡ c.args.source.now.octets = ap (λ (s : Counted). s.octets) c.in-Some.ensures.steps.3 ∙ i.octets in
     let k = rises_then c.args.source.now c.loop-next.source c.next_item.new.source 0 (9 * cursor.at) 0 (2 * next.len - 1) i.steps c.in-Some.ensures.steps in
-    let all = rises_then c.args.source.now c.next_item.new.source c.pass.new.source 0 (9 * cursor.at + (2 * next.len - 1)) 0 8 k pass.steps in
+    let all = rises_then c.args.source.now c.next_item.new.source c.skip.new.source 0 (9 * cursor.at + (2 * next.len - 1)) 0 1 k skip.steps in
     record {
-      searched = searched_more s next first c.pass.new.self (rw same at pass.passed) (elim c.if-ends_page.branch [
+      searched = searched_more s next first c.skip.new.self (rw same at skip.passed) (elim c.if-ends_page.branch [
         | then-ends_page+in_default-shown_in w ↦ λ _. over_here s w.shown_in.ensures.on w.shown_in.ensures.off w.shown_in.ensures.ended w.in_default-shown_in.is
         | else-ends_page w ↦ λ e. absurd (false≢true (sym w.if-ends_page.false ∙ c.ends_page.ensures ∙ e))
       ]);
-      octets = ap (λ (s : Counted). s.octets) pass.steps.3 ∙ same;
-      steps = (all.0, all.1, omega (arith, all.2, fits, pass.at), all.3);
+      octets = ap (λ (s : Counted). s.octets) skip.steps.3 ∙ same;
+      steps = (all.0, all.1, omega (arith, all.2, fits, skip.at), all.3);
     }
 
 pub unreachable-requires : goal.unreachable-requires
 unreachable-requires c =
     let i = c.loop-next.invariant in
     let s = i.searched in
-    let end = (rw i.octets at c.in_default.ensures.first) c.args.sign.now s.before s.behind s.between in
+    let end = (rw i.octets at c.in_default.ensures.first) c.args.sign.now s.before s.behind s.between.placed in
     let e = c.shown_in-2.ensures in
     never_over s e.on e.off e.ended end c.requires.within c.in-None.is
 
@@ -65,7 +65,7 @@ pub returns-clause-shown : goal.returns-clause-shown
 returns-clause-shown c =
     let i = c.loop-next.invariant in
     let s = i.searched in
-    let end = (rw i.octets at c.in_default.ensures.first) c.args.sign.now s.before s.behind s.between in
+    let end = (rw i.octets at c.in_default.ensures.first) c.args.sign.now s.before s.behind s.between.placed in
     let e = c.shown_in-2.ensures in
     shown_at_end s e.on e.off e.ended end c.in-Some-shown_in-2.is
 

@@ -9,7 +9,8 @@ use Rattle.multi_token.proofs.PlaceLemmas.{single_token}
 use Rattle.multi_layout.specs.Codes.{code_of}
 use Rattle.multi_layout.specs.Meaning.{meaning}
 use Rattle.multi_layout.specs.Progress.{ReadSoFar}
-use Rattle.multi_layout.proofs.ReadLemmas.{read_more, refused_here}
+use Rattle.multi_layout.specs.State.{IsUnfilledOf}
+use Rattle.multi_layout.proofs.ReadLemmas.{unfilled_more, unfilled_refused}
 use Rattle.multi_layout.proofs.verdict.judge_from.Goals as goal
 
 pub judge_run-requires-clause-behind : goal.judge_run-requires-clause-behind
@@ -22,15 +23,15 @@ judge_run-requires-clause-behind c =
     let plain : IsPlain c.args.first = (λ e. omega arith, λ e. omega arith) in
     let token : Token = record { at = c.args.at; len = 1; kind = kinds.Char c.args.first } in
     let stands : IsTokenOf xs token = single_token xs c.args.at c.args.first (omega (arith, c.requires.short)) here plain in
-    let judged = rw c.from.ensures at (c.in-Ok.ensures.judged (map meaning i.so_far.items) i.so_far.state_is) in
+    let judged = rw c.from.ensures at (c.in-Ok.ensures.judged (map meaning i.so_far.items) i.so_far.is.state_is) in
     let octet : c.from.result ≤ 255 = omega (arith, c.from.ensures) in
     let same : c.judge_character.new.source.octets ≡ xs = ap (λ (s : Counted). s.octets) (c.judge_character.ensures.step octet) in
     let step : c.judge_character.new.source.steps ≡ (charged c.args.source.now 1).steps = ap (λ (s : Counted). s.steps) (c.judge_character.ensures.step octet) in
     let least = i.least in
     let most = i.most in
     record {
-      so_far = subst (λ o. ReadSoFar sign o (c.args.at + 1) c.judge_character.new.state) (sym same)
-          (read_more sign xs c.args.at c.args.state.now i.so_far token refl stands c.judge_character.new.state judged.0 judged.1);
+      so_far = subst (λ o. ReadSoFar sign o (c.args.at + 1) (IsUnfilledOf sign c.judge_character.new.state)) (sym same)
+          (unfilled_more sign xs c.args.at c.args.state.now i.so_far token refl stands c.judge_character.new.state judged.0 judged.1);
       same = refl;
       least = omega arith;
       most = omega arith;
@@ -49,11 +50,11 @@ returns-in-Err-clause-refused c =
     let octet : c.from.result ≤ 255 = omega (arith, c.from.ensures) in
     let same : c.judge_character.new.source.octets ≡ xs = ap (λ (s : Counted). s.octets) (c.judge_character.ensures.step octet) in
     let step : c.judge_character.new.source.steps ≡ (charged c.args.source.now 1).steps = ap (λ (s : Counted). s.steps) (c.judge_character.ensures.step octet) in
-    let offends = rw c.from.ensures at (c.in-Err.ensures.judged (map meaning i.so_far.items) i.so_far.state_is) in
+    let offends = rw c.from.ensures at (c.in-Err.ensures.judged (map meaning i.so_far.items) i.so_far.is.state_is) in
     let least = i.least in
     let most = i.most in
     record {
-      verdict = refused_here sign xs c.args.at c.args.state.now i.so_far token refl stands (code_of c.in-Err.error) offends;
+      verdict = unfilled_refused sign xs c.args.at c.args.state.now i.so_far token refl stands (code_of c.in-Err.error) offends;
       same = same;
       least = omega arith;
       most = omega arith;

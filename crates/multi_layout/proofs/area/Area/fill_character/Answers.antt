@@ -22,6 +22,7 @@ returns-clause-sum c old new group s placing placing' e order on is space fits a
     ] in (
       area_filled old new group s c.args.page_just c.args.width on c.go_on.new.self _ turned refl refl refl (c.fill_character.ensures.sum group s placing' is space fits apart own split),
       c.fill_character.ensures.split group s placing' is space fits apart own split,
+      c.fill_character.ensures.ended group s placing' is space fits apart own split,
     )
 
 pub returns-clause-grows : goal.returns-clause-grows

@@ -4,7 +4,7 @@ use Rattle.multi_layout.specs.Address.{is_break}
 use Rattle.multi_layout.specs.Filling.{filled}
 use Rattle.multi_layout.specs.FillSums.{IsSplitBelow, split_sum}
 use Rattle.multi_layout.specs.Sums.{IsLineBelow}
-use Rattle.multi_layout.proofs.FillGroupLemmas.{breaks_split, breaks_sum, drops_split, drops_sum, next_line, present_glyphs, present_line, stands_line, stands_sum, stays_line, stays_sum}
+use Rattle.multi_layout.proofs.FillGroupLemmas.{breaks_ended, breaks_split, breaks_sum, drops_ended, drops_split, drops_sum, next_line, present_glyphs, present_line, stands_ended, stands_line, stands_sum, stays_ended, stays_line, stays_sum}
 use Rattle.multi_layout.proofs.FillSplitLemmas.{split_none}
 use Rattle.multi_layout.proofs.area.Group.fill_character.Goals as goal
 
@@ -92,3 +92,34 @@ returns-in-None-clause-split c group s placing is space fits apart e o =
     let grown = c.add.ensures.sum _ s (present_glyphs w group s c.args.character.now placing is fits apart self e) is (present_line w group s c.args.character.now placing is fits apart self e) apart in
     c.in-None.is ∙ split_none (after_last is_break (filled (Some w) group)) s (space ∙ c.if-space.false) (sym c.in-None.is ∙ o)
     ∙ ap split_sum (sym (stays_line w group s c.args.character.now placing is fits apart self e c.add.new.self grown c.fits.result c.fits.ensures.sum c.if-fits.false (space ∙ c.if-space.false) (sym c.in-None.is ∙ o)))
+
+pub returns-then-fits-clause-ended : goal.returns-then-fits-clause-ended
+returns-then-fits-clause-ended c group s placing is space fits apart e o =
+    let w = c.args.width in
+    let self = c.args.self.now in
+    let grown = c.add.ensures.sum _ s (present_glyphs w group s c.args.character.now placing is fits apart self e) is (present_line w group s c.args.character.now placing is fits apart self e) apart in
+    stands_ended w group s c.args.character.now placing is fits apart self e c.add.new.self grown c.fits.result c.fits.ensures.sum c.if-fits.true
+
+pub returns-then-space-clause-ended : goal.returns-then-space-clause-ended
+returns-then-space-clause-ended c group s placing is space fits apart e o =
+    let w = c.args.width in
+    let self = c.args.self.now in
+    let grown = c.add.ensures.sum _ s (present_glyphs w group s c.args.character.now placing is fits apart self e) is (present_line w group s c.args.character.now placing is fits apart self e) apart in
+    drops_ended w group s c.args.character.now placing is fits apart self e c.add.new.self grown c.fits.result c.fits.ensures.sum c.if-fits.false (space ∙ c.if-space.true)
+
+pub returns-in-Some-clause-ended : goal.returns-in-Some-clause-ended
+returns-in-Some-clause-ended c group s placing is space fits apart e o =
+    let w = c.args.width in
+    let self = c.args.self.now in
+    let grown = c.add.ensures.sum _ s (present_glyphs w group s c.args.character.now placing is fits apart self e) is (present_line w group s c.args.character.now placing is fits apart self e) apart in
+    breaks_ended w group s c.args.character.now placing is fits apart self e c.add.new.self grown c.fits.result c.fits.ensures.sum c.if-fits.false (space ∙ c.if-space.false) c.in-Some.parts (sym c.in-Some.is ∙ o)
+
+pub returns-in-None-clause-ended : goal.returns-in-None-clause-ended
+returns-in-None-clause-ended c group s placing is space fits apart e o =
+    let w = c.args.width in
+    let self = c.args.self.now in
+    let grown = c.add.ensures.sum _ s (present_glyphs w group s c.args.character.now placing is fits apart self e) is (present_line w group s c.args.character.now placing is fits apart self e) apart in
+    stays_ended w group s c.args.character.now placing is fits apart self e c.add.new.self grown c.fits.result c.fits.ensures.sum c.if-fits.false (space ∙ c.if-space.false) (sym c.in-None.is ∙ o)
+
+pub returns-in-Some-clause-small : goal.returns-in-Some-clause-small
+returns-in-Some-clause-small c = (subst (IsSplitBelow (2 ^ 62)) c.in-Some.is c.requires.parts).0

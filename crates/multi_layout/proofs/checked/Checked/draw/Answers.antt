@@ -2,7 +2,7 @@ use Rattle.std.proofs.Common.{◌≡◌, ◌-◌, ◌*◌, length, ap, arith}
 use Rattle.std.proofs.lemmas.Bool.Decides.{nat_tests}
 use Rattle.multi_token.specs.Counted.{Counted}
 use Rattle.multi_token.proofs.StepLemmas.{rises_more}
-use Rattle.multi_layout.proofs.AcceptedLemmas.{accepted_is}
+use Rattle.multi_layout.proofs.AcceptedLemmas.{accepted_orderly, accepted_is}
 use Rattle.multi_layout.proofs.PagesLemmas.{drawing_fills, drawing_reads}
 use Rattle.multi_layout.proofs.checked.Checked.draw.Goals as goal
 
@@ -16,6 +16,11 @@ pub page_start-cursor-requires-clause-accepted : goal.page_start-cursor-requires
 page_start-cursor-requires-clause-accepted c =
     let s = c.self.inside in
     (accepted_is s.terms s.source.octets s.pages c.self.invariant.0 c.self.invariant.2).0
+
+pub page_start-cursor-requires-clause-orderly : goal.page_start-cursor-requires-clause-orderly
+page_start-cursor-requires-clause-orderly c =
+    let s = c.self.inside in
+    accepted_orderly s.terms s.source.octets (accepted_is s.terms s.source.octets s.pages c.self.invariant.0 c.self.invariant.2).0
 
 pub page_start-cursor-requires-clause-page : goal.page_start-cursor-requires-clause-page
 page_start-cursor-requires-clause-page c =

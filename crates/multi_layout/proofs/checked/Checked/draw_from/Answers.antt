@@ -1,4 +1,4 @@
-use Rattle.std.proofs.Common.{◌-◌, ◌++◌}
+use Rattle.std.proofs.Common.{◌-◌}
 use Rattle.multi_layout.proofs.PagesLemmas.{shows_picture, turned}
 use Rattle.multi_layout.proofs.checked.Checked.draw_from.Goals as goal
 
@@ -11,7 +11,7 @@ returns-clause-drawn c =
     let octets = c.self.inside.source.octets in
     let (before, behind, b, begins) = rw (← c.self.view_is) at c.requires.begins in
     rw (← c.self.view_is)
-    (shows_picture c.draw_page.new.plane sign octets (before ++ behind) (c.args.cursor.state.pages - 1) c.args.layer.phase c.args.layer.colour b.accepted (c.draw_page.ensures.drawn before behind b))
+    (shows_picture c.draw_page.new.plane sign octets before behind c.args.cursor (c.args.cursor.state.pages - 1) c.args.layer.phase c.args.layer.colour b (c.draw_page.ensures.drawn before behind b))
 
 pub returns-clause-turned : goal.returns-clause-turned
 returns-clause-turned c =

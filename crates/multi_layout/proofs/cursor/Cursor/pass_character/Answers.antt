@@ -1,6 +1,7 @@
 use Rattle.std.proofs.Common.{◌≡◌, ◌+◌, [], ◌∷◌, ◌++◌, map, None, sym, ap, ◌∙◌, subst}
-use Rattle.multi_layout.specs.Meaning.{Meaning, Shows, meaning}
-use Rattle.multi_layout.specs.Offence.{offence}
+use Rattle.multi_layout.specs.Walk.{meant}
+use Rattle.multi_layout.specs.Meaning.{Meaning, Shows}
+use Rattle.multi_layout.specs.Offence.{unsized_offence}
 use Rattle.multi_layout.specs.State.{IsStateOf}
 use Rattle.multi_layout.proofs.WalkLemmas.{ready_between, never_offends, between_more}
 use Rattle.multi_layout.proofs.cursor.Cursor.pass_character.Goals as goal
@@ -13,8 +14,8 @@ pass_character-requires c =
 
 pub returns-clause-passed : goal.returns-clause-passed
 returns-clause-passed c = λ sign octets before rest item cell b read found width.
-    let fine : offence sign (map meaning before) (Shows c.args.number) ≡ None =
-    ap (offence sign (map meaning before)) (sym read.meant) ∙ never_offends sign octets before rest item c.args.self.now b in
-    let st = c.pass_character.ensures.passed sign (map meaning before) c.args.number cell b.state_is found width fine in
+    let fine : unsized_offence sign (map meant before) (Shows c.args.number) ≡ None =
+    ap (unsized_offence sign (map meant before)) (sym read.meant) ∙ never_offends sign octets before rest item c.args.self.now b in
+    let st = c.pass_character.ensures.passed sign (map meant before) c.args.number cell b.state_is found width fine in
     between_more sign octets before rest item c.args.self.now b _ (ap (λ n. c.args.self.now.at + n) read.len)
-    (subst (λ (m : Meaning). IsStateOf sign (map meaning before ++ m ∷ []) c.pass_character.new.self) (sym read.meant) st)
+    (subst (λ (m : Meaning). IsStateOf sign (map meant before ++ m ∷ []) c.pass_character.new.self) (sym read.meant) st)

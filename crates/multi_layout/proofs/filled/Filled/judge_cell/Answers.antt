@@ -17,7 +17,7 @@ returns-then-fits-fits_height c = record {
       let (below, split) = c.fill_character.ensures.grows (1024 * length items) (subst (λ n. IsBelow (1024 * n) c.args.self.now.state.area) (laid_count sign items) of.state_is.below) of.split_below in
       exit_fits sign items c.args.self.now of c.args.number cell some c.clashes.result c.clashes.ensures.clashes _ refl c.if-page_just-present.false
       c.character-character.result (ap (λ (k : Character). k.just) c.character-character.ensures) (ap (λ (k : Character). k.spacing) c.character-character.ensures)
-      (ap (λ (k : Character). k.width) c.character-character.ensures ∙ wide) (ap (λ (k : Character). k.font) c.character-character.ensures) _ _ (λ cell found. c.fill_character.ensures.sum)
+      (ap (λ (k : Character). k.width) c.character-character.ensures ∙ wide) (ap (λ (k : Character). k.font) c.character-character.ensures) _ _ c.fill_character.result (λ cell found. c.fill_character.ensures.sum)
       c.fits.result c.fits_height.result c.fits.ensures.sum c.fits_height.ensures.sum c.if-fits-fits_height.true
       c.order_behind-self.result c.order_behind-self.ensures.sum below split (c.order_behind-self.ensures.grows (1024 * length items) of.order_below);
 }
@@ -27,6 +27,6 @@ returns-else-fits-fits_height c = record {
   judged = λ sign items cell of some wide.
       exit_too_big sign items c.args.self.now of c.args.number cell some c.clashes.result c.clashes.ensures.clashes _ refl c.if-page_just-present.false
       c.character-character.result (ap (λ (k : Character). k.just) c.character-character.ensures) (ap (λ (k : Character). k.spacing) c.character-character.ensures)
-      (ap (λ (k : Character). k.width) c.character-character.ensures ∙ wide) (ap (λ (k : Character). k.font) c.character-character.ensures) _ _ (λ cell found. c.fill_character.ensures.sum)
+      (ap (λ (k : Character). k.width) c.character-character.ensures ∙ wide) (ap (λ (k : Character). k.font) c.character-character.ensures) _ _ c.fill_character.result (λ cell found. c.fill_character.ensures.sum)
       c.fits.result c.fits_height.result c.fits.ensures.sum c.fits_height.ensures.sum c.if-fits-fits_height.false;
 }

@@ -1,4 +1,4 @@
-use Rattle.multi_layout.proofs.PagesLemmas.{all_drawn, all_read}
+use Rattle.multi_layout.proofs.PagesTurnLemmas.{all_drawn, all_read}
 use Rattle.multi_layout.proofs.pages.Pages.finish.Goals as goal
 
 pub returns-clause-size : goal.returns-clause-size

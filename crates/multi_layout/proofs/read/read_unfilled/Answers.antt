@@ -1,18 +1,19 @@
-use Rattle.std.proofs.Common.{◌≡◌, ◌+◌, ◌++◌, map, refl, sym, ap, ◌∙◌, arith}
+use Rattle.std.proofs.Common.{List, ◌≡◌, ◌+◌, ◌++◌, map, refl, sym, ap, ◌∙◌, arith}
 use Rattle.multi_token.specs.Counted.{Counted}
 use Rattle.multi_token.proofs.StepLemmas.{charged-zero}
 use Rattle.multi_layout.specs.declared.area.Area.{Area}
-use Rattle.multi_layout.specs.Meaning.{meaning}
 use Rattle.multi_layout.specs.State.{present_area}
+use Rattle.multi_layout.specs.Walk.{IsBetween, items_of, meant, Piece}
 use Rattle.multi_layout.proofs.AreaLinesLemmas.{nothing_read, so_between, so_first, pass_on, so_advances, read_on, steps_on, area_read, present_room, present_low, present_narrow, present_placing}
+use Rattle.multi_layout.proofs.PieceLemmas.{ends_pieces, first_unfilled}
 use Rattle.multi_layout.proofs.KnownLinesLemmas.{counted_at_end}
-use Rattle.multi_layout.proofs.read.read_area.Goals as goal
+use Rattle.multi_layout.proofs.read.read_unfilled.Goals as goal
 
 pub loop-next-init : goal.loop-next-init
 loop-next-init c =
     let sign = c.args.sign.now in
     record {
-      so_far = λ before behind b begins. nothing_read sign c.args.source.now.octets before behind c.args.cursor c.clear.new.self b begins c.clear.ensures.none c.clear.ensures.ordered;
+      so_far = λ before behind b begins. nothing_read sign c.args.source.now.octets before behind c.args.cursor c.args.read.now.lines b begins c.requires.none c.requires.ordered;
       forward = omega arith;
       steps = (0, omega arith, omega arith, sym (charged-zero c.args.source.now));
     }
@@ -25,7 +26,7 @@ next_plain-requires c =
     let (before, behind, b, begins) = c.requires.begins in
     let so = i.so_far before behind b begins in
     let same : c.loop-next.source.octets ≡ octets = ap (λ (s : Counted). s.octets) i.steps.3 in
-    (sign, (before ++ so.items, so.left, so_between so same))
+    (sign, (items_of (before ++ so.items), items_of so.left, (so_between so same).placed))
 
 pub pass_item-requires-clause-known : goal.pass_item-requires-clause-known
 pass_item-requires-clause-known c =
@@ -36,7 +37,7 @@ pass_item-requires-clause-known c =
     let so = i.so_far before behind b begins in
     let same : c.loop-next.source.octets ≡ octets = ap (λ (s : Counted). s.octets) i.steps.3 in
     let same_2 : c.next_plain.new.source.octets ≡ octets = ap (λ (s : Counted). s.octets) c.in-Some.ensures.steps.3 ∙ same in
-    let (item, rest, first, read) = c.in-Some.ensures.first sign (before ++ so.items) so.left (so_between so same) in
+    let (item, rest, first, read) = first_unfilled (so_between so same) c.requires.off c.in-Some.next (c.in-Some.ensures.first sign (items_of (before ++ so.items)) (items_of so.left) (so_between so same).placed) in
     (before ++ so.items, rest, item, so_first so same_2 item rest first, read, so.known)
 
 pub pass_item-requires-clause-ordered : goal.pass_item-requires-clause-ordered
@@ -53,7 +54,7 @@ loop-next-smaller c =
     let so = i.so_far before behind b begins in
     let same : c.loop-next.source.octets ≡ octets = ap (λ (s : Counted). s.octets) i.steps.3 in
     let same_2 : c.next_plain.new.source.octets ≡ octets = ap (λ (s : Counted). s.octets) c.in-Some.ensures.steps.3 ∙ same in
-    let p = pass_on so c.in-Some.next c.pass_item.new.cursor same same_2 (c.in-Some.ensures.first sign) c.pass_item.ensures.passed in
+    let p = pass_on so c.in-Some.next c.pass_item.new.cursor same same_2 (λ earlier behind x. first_unfilled x c.requires.off c.in-Some.next (c.in-Some.ensures.first sign (items_of earlier) (items_of behind) x.placed)) c.pass_item.ensures.passed in
     let on = so_advances so p c.pass_item.ensures.at in
     omega (arith, on)
 
@@ -65,7 +66,7 @@ loop-next-preserved c =
     let i = c.loop-next.invariant in
     let same : c.loop-next.source.octets ≡ octets = ap (λ (s : Counted). s.octets) i.steps.3 in
     let same_2 : c.next_plain.new.source.octets ≡ octets = ap (λ (s : Counted). s.octets) c.in-Some.ensures.steps.3 ∙ same in
-    let found = c.in-Some.ensures.first sign in
+    let found = λ (earlier behind : List Piece) (x : IsBetween sign c.loop-next.source.octets earlier behind c.loop-next.cursor). first_unfilled x c.requires.off c.in-Some.next (c.in-Some.ensures.first sign (items_of earlier) (items_of behind) x.placed) in
     let (before, behind, b, begins) = c.requires.begins in
     let so = i.so_far before behind b begins in
     let p = pass_on so c.in-Some.next c.pass_item.new.cursor same same_2 found c.pass_item.ensures.passed in
@@ -99,8 +100,8 @@ end_group-requires-clause-known c =
     let sign = c.args.sign.now in
     let (before, behind, b, begins) = c.requires.begins in
     let so = c.loop-next.invariant.so_far before behind b begins in
-    let ms = map meaning (before ++ so.items) in
-    (present_area sign ms, present_placing sign ms, so.between.state_is.area, so.known, present_room c.requires.sound so.between, present_narrow c.requires.sound so.between)
+    let ms = map meant (before ++ so.items) in
+    (present_area sign ms, present_placing sign ms, so.between.state_is.area, so.known, present_room c.requires.sound c.requires.off so.between, present_narrow c.requires.sound c.requires.off so.between)
 
 pub returns : goal.returns
 returns c =
@@ -111,12 +112,12 @@ returns c =
     record {
       read = λ before behind b begins.
           let so = i.so_far before behind b begins in
-          let ms = map meaning (before ++ so.items) in
+          let ms = map meant (before ++ so.items) in
           let area = present_area sign ms in
           let present = c.loop-next.cursor.state.area.present in
           let is = ap (λ (a : Area). a.present) so.between.state_is.area in
-          let ends = c.in_default.ensures.ends sign (before ++ so.items) so.left (so_between so same) in
+          let ended = c.in_default.ensures.ends sign (items_of (before ++ so.items)) (items_of so.left) (so_between so same).placed in
           let known = c.end_group.ensures.known (present + 1) area (omega arith) (present_placing sign ms) so.between.state_is.area so.known in
           let counted = counted_at_end area c.end_group.new.lines (present + 1) (omega (arith, is)) (omega (arith, is, so.between.state_is.below.known)) known in
-          area_read so c.args.cursor _ c.args.source.now c.loop-next.source c.next_plain.new.source b.place ends.0 counted c.end_group.ensures.ordered (c.end_group.ensures.low so.low) refl i.steps ends.1;
+          area_read so c.args.cursor _ c.args.source.now c.loop-next.source c.next_plain.new.source b.placed.place (ends_pieces (so_between so same) ended.0) counted c.end_group.ensures.ordered (c.end_group.ensures.low so.low) refl i.steps ended.1;
     }

@@ -1,17 +1,15 @@
 use Rattle.std.proofs.Common.{◌≡◌, ◌≤◌, ◌-◌, ◌*◌, List, [], map, length}
 use Rattle.multi_token.specs.Counted.{RisesBetween}
-use Rattle.multi_token.specs.Spelling as spelled
-use Rattle.multi_layout.specs.Meaning.{meaning}
 use Rattle.multi_layout.specs.State.{present_area}
-use Rattle.multi_layout.specs.Walk.{IsBetween}
-use Rattle.multi_layout.proofs.AreaLinesLemmas.{SoFar}
-use Rattle.multi_layout.proofs.read.read_area.Given as goal
+use Rattle.multi_layout.specs.Walk.{IsBetween, meant, Piece}
+use Rattle.multi_layout.proofs.FilledAreaLemmas.{SoFarFilled}
+use Rattle.multi_layout.proofs.read.read_filled.Given as goal
 
 -- the table has the ended lines of the items so far, and each octet of them took at most nine steps
 abbrev pub invariant-loop-next : goal.invariant-loop-next
 invariant-loop-next l = record {
-  so_far : (before behind : List spelled.Item) → IsBetween l.sign l.initial.source.octets before behind l.initial.cursor
-      → present_area l.sign (map meaning before) ≡ [] → SoFar l.sign l.initial.source.octets before behind l.cursor l.read.lines;
+  so_far : (before behind : List Piece) → IsBetween l.sign l.initial.source.octets before behind l.initial.cursor
+      → present_area l.sign (map meant before) ≡ [] → SoFarFilled l.sign l.initial.source.octets before behind l.cursor.at l.kept l.read.lines;
   forward : l.initial.cursor.at ≤ l.cursor.at;
   steps : RisesBetween l.initial.source l.source 0 (9 * (l.cursor.at - l.initial.cursor.at));
 }

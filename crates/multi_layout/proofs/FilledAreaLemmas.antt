@@ -1,0 +1,193 @@
+-- The first reading of an area whose lines are filled: the table of its lines, item by item.
+use Rattle.std.proofs.Common.{◌≡◌, ℕ, ◌+◌, ◌-◌, ◌*◌, ◌^◌, ◌<◌, ◌≤◌, false, cond, length, map, List, [], ◌∷◌, ◌++◌, Some, refl, sym, ap, subst, ◌∙◌, arith, append_assoc, append-nil, length-append}
+use Rattle.std.specs.List.{All}
+use Rattle.std.proofs.lemmas.List.{map-append}
+use Rattle.std.proofs.lemmas.List.Elements.{All-nil, All-push}
+use Rattle.multi_token.specs.Counted.{Counted, RisesBetween}
+use Rattle.multi_token.specs.Spelling.{Item}
+use Rattle.multi_token.proofs.ReadingLemmas.{spelling_some}
+use Rattle.multi_token.proofs.StepLemmas.{rises_then}
+use Rattle.sign_font.specs.declared.parts.LineFill.{LineFill}
+use Rattle.sign_font.specs.declared.parts.LineFill.TheVariants.{Words}
+use Rattle.sign_font.specs.Sign.{SignData}
+use Rattle.multi_layout.specs.declared.cursor.Cursor.{Cursor}
+use Rattle.multi_layout.specs.declared.cursor.NextItem.{NextItem}
+use Rattle.multi_layout.specs.declared.filled.Filled.{Filled}
+use Rattle.multi_layout.specs.declared.read.AreaLines.{AreaLines}
+use Rattle.multi_layout.specs.declared.table.LineTable.{LineTable}
+use Rattle.multi_layout.specs.Address.{Standing, in_area, spots, standing}
+use Rattle.multi_layout.specs.FilledRead.{IsNextRead, IsReadFilled}
+use Rattle.multi_layout.specs.FilledState.{IsFilledOf}
+use Rattle.multi_layout.specs.KnownItem.{meant_by}
+use Rattle.multi_layout.specs.LaidItems.{laid_items}
+use Rattle.multi_layout.specs.Meaning.{EndsArea, Meaning, begins_area, meaning}
+use Rattle.multi_layout.specs.Passes.{BeginsNoArea, HasCounted, HasKnown, IsAreaRead, IsLow, first_steps, whole_area}
+use Rattle.multi_layout.specs.State.{IsStateOf, present_area}
+use Rattle.multi_layout.specs.Table.{IsOrdered, group_lines, table_of}
+use Rattle.multi_layout.specs.Verdict.{fault_at, offences}
+use Rattle.multi_layout.specs.Walk.{IsBetween, IsFirst, IsItemRead, IsPlaced, items_of, laid_meanings, meant, Piece, spell_of}
+use Rattle.multi_layout.proofs.FilledStartLemmas.{area_empty, laid_empty, state_begins}
+use Rattle.multi_layout.proofs.KnownLinesLemmas.{known_none}
+use Rattle.multi_layout.proofs.LaidItemLemmas.{are_laid}
+use Rattle.multi_layout.proofs.PieceLemmas.{ends_laid, first_piece, laid_front, plain_laid}
+use Rattle.multi_layout.proofs.StandingLemmas.{standing_push}
+use Rattle.multi_layout.proofs.WalkLemmas.{few_placed, placed_more, spell_of-append, within}
+use Rattle.multi_layout.proofs.WholeAreaLemmas.{counted_whole}
+use Rattle.multi_layout.proofs.WordLemmas.{left_nil, some_after-append}
+
+abbrev item_at : Piece → Item
+item_at piece = piece.item
+
+-- the reading so far: the pieces read and left, none of which begins an area, and what is kept of the items up to there
+pub record SoFarFilled (sign : SignData) (octets : List ℕ) (before behind : List Piece) (at : ℕ) (kept : Filled) (lines : LineTable) : Type 0 where
+  pub pieces : List Piece
+  pub left : List Piece
+  pub split : behind ≡ pieces ++ left
+  pub plain : BeginsNoArea pieces
+  pub same_area : (standing sign (map meaning (items_of (before ++ pieces)))).area ≡ (standing sign (map meant before)).area
+  pub laid : map meant ((before ++ pieces) ++ left) ≡ laid_meanings sign (items_of ((before ++ pieces) ++ left))
+  pub placed : IsPlaced sign octets (items_of (before ++ pieces)) (items_of left) at
+  pub read : IsReadFilled sign (items_of (before ++ pieces)) kept.state.area.present kept lines
+
+-- before the first item
+module _ {sign : SignData} (words : sign.line_fill ≡ Words) {octets : List ℕ} {before behind : List Piece} {cursor : Cursor} (b : IsBetween sign octets before behind cursor)
+    (begins : present_area sign (map meant before) ≡ []) where
+  abbrev ms : List Meaning
+  ms = map meaning (items_of before)
+
+  abbrev rest : List Meaning
+  rest = map meaning (items_of behind)
+
+  front : map meant before ≡ laid_items Words sign (ms ++ rest) ms
+  front = laid_front sign before behind b.laid ∙ ap (λ (setting : LineFill). laid_items setting sign (ms ++ rest) ms) words
+
+  none : present_area sign (laid_items Words sign (ms ++ rest) ms) ≡ []
+  none = ap (present_area sign) (sym front) ∙ begins
+
+  no_items : present_area sign ms ≡ []
+  no_items = area_empty Words sign ms rest none
+
+  no_laid : present_area sign (laid_items Words sign ms ms) ≡ []
+  no_laid = subst (λ l. present_area sign (laid_items Words sign l ms) ≡ []) (append-nil ms) (laid_empty Words sign ms [] no_items)
+
+  state : IsStateOf sign (laid_items Words sign ms ms) cursor.state
+  state = state_begins Words sign ms rest cursor.state none (subst (λ l. IsStateOf sign l cursor.state) front b.state_is)
+
+  pub nothing_filled : (kept : Filled)
+      → ((sign : SignData) (items : List Meaning) → IsStateOf sign (laid_items Words sign items items) cursor.state → present_area sign items ≡ [] → IsFilledOf sign items kept)
+      → (lines : LineTable) → ((just : ℕ) → group_lines just lines ≡ []) → IsOrdered lines → SoFarFilled sign octets before behind cursor.at kept lines
+  nothing_filled kept made lines empty ordered =
+      let all : before ++ [] ≡ before = append-nil before in
+      record {
+        pieces = [];
+        left = behind;
+        split = refl;
+        plain = All-nil (λ item. begins_area (meant item) ≡ false);
+        same_area = ap (λ l. (standing sign (map meaning (items_of l))).area) all ∙ sym (ap (λ (s : Standing). s.area) (ap (standing sign) front ∙ (are_laid Words sign (ms ++ rest) ms rest refl).0));
+        laid = subst (λ l. map meant (l ++ behind) ≡ laid_meanings sign (items_of (l ++ behind))) (sym all) b.laid;
+        placed = subst (λ l. IsPlaced sign octets (items_of l) (items_of behind) cursor.at) (sym all) b.placed;
+        read = subst (λ l. IsReadFilled sign (items_of l) kept.state.area.present kept lines) (sym all) (record {
+          fine = record {
+            none = left_nil (offences sign (items_of before)) _ (sym (some_after-append (fault_at sign) (items_of before) (items_of behind)) ∙ b.placed.accepted.none);
+            few = few_placed sign octets (items_of before) (items_of behind) cursor.at b.placed;
+          };
+          of = made sign ms state no_items;
+          known = subst (λ a. HasKnown kept.state.area.present a lines) (sym no_laid) (λ just least most. empty just ∙ ap table_of (sym (known_none kept.state.area.present just [] refl)));
+          ordered = ordered;
+          low = λ just least most. subst (All (λ l. l.bottom ≤ 2 ^ 43)) (sym (empty just)) (All-nil (λ l. l.bottom ≤ 2 ^ 43));
+        });
+      }
+
+-- one more item
+module _ {sign : SignData} {octets : List ℕ} {before behind : List Piece} {at : ℕ} {kept : Filled} {lines : LineTable} (so : SoFarFilled sign octets before behind at kept lines) where
+  pub record NextFilled (next : NextItem) : Type 0 where
+    pub piece : Piece
+    pub rest : List Piece
+    pub first : so.left ≡ piece ∷ rest
+    pub read : IsItemRead piece.item next
+
+  abbrev done : List Piece
+  done = before ++ so.pieces
+
+  pub filled_first : (next : NextItem) → IsFirst (items_of so.left) (Some next) → NextFilled next
+  filled_first next first =
+      let (piece, rest, is, read) = first_piece so.left next first in
+      record { piece = piece; rest = rest; first = is; read = read }
+
+  module _ {next : NextItem} (n : NextFilled next) where
+    placed_here : IsPlaced sign octets (items_of done) (n.piece.item ∷ items_of n.rest) at
+    placed_here = subst (λ l. IsPlaced sign octets (items_of done) (items_of l) at) n.first so.placed
+
+    placed_then : (new : ℕ) → new ≡ at + next.len → IsPlaced sign octets (items_of done ++ n.piece.item ∷ []) (items_of n.rest) new
+    placed_then new to = placed_more sign octets (items_of done) (items_of n.rest) n.piece.item at placed_here new (omega (arith, to, n.read.len))
+
+    -- it doesn't offend
+    pub next_filled : IsNextRead sign (items_of done) n.piece.item next.item
+    next_filled =
+        let p = placed_then (at + next.len) refl in
+        record {
+          meant = n.read.meant;
+          known = n.read.known;
+          fine = record {
+            none = left_nil (offences sign (items_of done ++ n.piece.item ∷ [])) _ (sym (some_after-append (fault_at sign) (items_of done ++ n.piece.item ∷ []) (items_of n.rest)) ∙ p.accepted.none);
+            few = few_placed sign octets (items_of done ++ n.piece.item ∷ []) (items_of n.rest) (at + next.len) p;
+          };
+        }
+
+    -- the reading goes on, and not past the end
+    pub filled_advances : (new : ℕ) → new ≡ at + next.len → (at < new) × (new ≤ length octets)
+    filled_advances new to = (omega (arith, to, spelling_some n.piece.item, n.read.len), within sign octets (items_of done ++ n.piece.item ∷ []) (items_of n.rest) new (placed_then new to))
+
+    pub filled_on : (new : ℕ) → new ≡ at + next.len → begins_area (meant_by next.item) ≡ false → (kept' : Filled) (lines' : LineTable)
+        → IsReadFilled sign (items_of done ++ n.piece.item ∷ []) kept'.state.area.present kept' lines' → SoFarFilled sign octets before behind new kept' lines'
+    filled_on new to plain kept' lines' read =
+        let again : done ++ n.piece ∷ [] ≡ before ++ (so.pieces ++ n.piece ∷ []) = append_assoc before so.pieces (n.piece ∷ []) in
+        let items : items_of done ++ n.piece.item ∷ [] ≡ items_of (before ++ (so.pieces ++ n.piece ∷ [])) = sym (map-append item_at done (n.piece ∷ [])) ∙ ap items_of again in
+        let ms = map meaning (items_of done) in
+        let m = meaning n.piece.item in
+        let plain' : begins_area m ≡ false = ap begins_area n.read.meant ∙ plain in
+        let here : map meaning (items_of (before ++ (so.pieces ++ n.piece ∷ []))) ≡ ms ++ m ∷ [] = ap (map meaning) (sym items) ∙ map-append meaning (items_of done) (n.piece.item ∷ []) in
+        let stands : (standing sign (ms ++ m ∷ [])).area ≡ (standing sign ms).area + cond (begins_area m) 1 0 = ap (λ (s : Standing). s.area) (standing_push sign ms m) in
+        let stays : cond {A = ℕ} (begins_area m) 1 0 ≡ 0 = ap (λ b. cond b 1 0) plain' in
+        let same : (standing sign (ms ++ m ∷ [])).area ≡ (standing sign ms).area = omega (arith, stands, stays) in
+        let laid : map meant (done ++ n.piece ∷ n.rest) ≡ laid_meanings sign (items_of (done ++ n.piece ∷ n.rest)) = subst (λ l. map meant (done ++ l) ≡ laid_meanings sign (items_of (done ++ l))) n.first so.laid in
+        let all : done ++ n.piece ∷ n.rest ≡ (before ++ (so.pieces ++ n.piece ∷ [])) ++ n.rest = sym (append_assoc done (n.piece ∷ []) n.rest) ∙ ap (λ l. l ++ n.rest) again in
+        record {
+          pieces = so.pieces ++ n.piece ∷ [];
+          left = n.rest;
+          split = so.split ∙ ap (λ l. so.pieces ++ l) n.first ∙ sym (append_assoc so.pieces (n.piece ∷ []) n.rest);
+          plain = All-push (λ item. begins_area (meant item) ≡ false) so.pieces n.piece so.plain (plain_laid sign done n.rest n.piece laid plain');
+          same_area = ap (λ l. (standing sign l).area) here ∙ same ∙ so.same_area;
+          laid = subst (λ l. map meant l ≡ laid_meanings sign (items_of l)) all laid;
+          placed = subst (λ l. IsPlaced sign octets l (items_of n.rest) new) items (placed_then new to);
+          read = subst (λ l. IsReadFilled sign l kept'.state.area.present kept' lines') items read;
+        }
+
+  -- the end of the area
+  pub filled_read : sign.line_fill ≡ Words → (start : Cursor) (read : AreaLines) (source source' source'' : Counted) → start.at ≡ length (spell_of before) → EndsArea (map meaning (items_of so.left))
+      → HasCounted (present_area sign (laid_items Words sign (map meaning (items_of done)) (map meaning (items_of done)))) read.lines → IsOrdered read.lines → IsLow read.lines → read.end ≡ at
+      → RisesBetween source source' 0 (9 * (at - start.at)) → RisesBetween source' source'' 0 (first_steps (items_of so.left)) → IsAreaRead sign before behind start read source source''
+  filled_read words start read source source' source'' place ends counted ordered low end earlier last =
+      let ms = map meaning (items_of done) in
+      let rest = map meaning (items_of so.left) in
+      let octets_of : length (spell_of done) ≡ length (spell_of before) + length (spell_of so.pieces) = ap length (spell_of-append before so.pieces) ∙ length-append (spell_of before) (spell_of so.pieces) in
+      let long : at ≡ start.at + length (spell_of so.pieces) = omega (arith, so.placed.place, octets_of, place) in
+      let pieces : before ++ behind ≡ done ++ so.left = ap (λ l. before ++ l) so.split ∙ sym (append_assoc before so.pieces so.left) in
+      let items : map meaning (items_of (done ++ so.left)) ≡ ms ++ rest = ap (map meaning) (map-append item_at done so.left) ∙ map-append meaning (items_of done) (items_of so.left) in
+      let all : map meant (before ++ behind) ≡ laid_items Words sign (ms ++ rest) (ms ++ rest) =
+      ap (map meant) pieces ∙ so.laid ∙ ap (λ l. laid_items sign.line_fill sign l l) items ∙ ap (λ (setting : LineFill). laid_items setting sign (ms ++ rest) (ms ++ rest)) words in
+      let whole : whole_area sign before behind ≡ in_area (standing sign ms).area (spots sign (laid_items Words sign (ms ++ rest) (ms ++ rest))) =
+      ap (λ k. in_area k (spots sign (map meant (before ++ behind)))) (sym so.same_area) ∙ ap (λ l. in_area (standing sign ms).area (spots sign l)) all in
+      let steps : 9 * (at - start.at) ≡ 9 * length (spell_of so.pieces) = omega (arith, long) in
+      record {
+        area = so.pieces;
+        rest = so.left;
+        split = so.split;
+        plain = so.plain;
+        ends = ends_laid sign done so.left so.laid ends;
+        end = end ∙ long;
+        table = subst (λ a. HasCounted a read.lines) (sym whole) (counted_whole sign ms rest ends read.lines counted);
+        ordered = ordered;
+        low = low;
+        steps = rises_then source source' source'' 0 (9 * length (spell_of so.pieces)) 0 (first_steps (items_of so.left)) (subst (RisesBetween source source' 0) steps earlier) last;
+      }

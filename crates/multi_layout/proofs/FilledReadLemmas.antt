@@ -1,0 +1,85 @@
+-- The verdict from the items read so far, where lines are filled.
+use Rattle.std.proofs.Common.{◌≡◌, ℕ, ◌+◌, ◌*◌, ◌^◌, ◌<◌, ◌≤◌, List, [], ◌∷◌, ◌++◌, length, map, Some, None, sym, ap, subst, ◌∙◌, arith, append-nil}
+use Rattle.std.specs.List.{after_last}
+use Rattle.multi_token.specs.declared.token.Token.{Token}
+use Rattle.multi_token.specs.Tokens.{IsTokenOf, item_of}
+use Rattle.sign_font.specs.declared.parts.LineFill.TheVariants.{Words}
+use Rattle.sign_font.specs.Sign.{SignData}
+use Rattle.multi_layout.specs.declared.filled.Filled.{Filled}
+use Rattle.multi_layout.specs.declared.state.State.{State}
+use Rattle.multi_layout.specs.Address.{Spot, Standing, in_group, is_break, standing}
+use Rattle.multi_layout.specs.Filling.{filled}
+use Rattle.multi_layout.specs.FillOpen.{AllOpenFit}
+use Rattle.multi_layout.specs.FillSums.{split_sum}
+use Rattle.multi_layout.specs.FilledState.{IsFilledFor, IsFilledOf, IsFilledReady}
+use Rattle.multi_layout.specs.LaidItems.{laid_items}
+use Rattle.multi_layout.specs.Meaning.{Meaning, meaning}
+use Rattle.multi_layout.specs.Offence.{offence}
+use Rattle.multi_layout.specs.Progress.{IsAcceptedWith, ReadSoFar}
+use Rattle.multi_layout.specs.State.{IsStateOf, present_area}
+use Rattle.multi_layout.specs.Sums.{line_sum}
+use Rattle.multi_layout.specs.Times.{cycle, ended_times}
+use Rattle.multi_layout.specs.Verdict.{IsVerdict, Refused, pages_of}
+use Rattle.multi_layout.proofs.BoundLemmas.{line_more, none_below, split_more}
+use Rattle.multi_layout.proofs.FillLemmas.{nothing_fits}
+use Rattle.multi_layout.proofs.FilledJudgedLemmas.{attributes_here}
+use Rattle.multi_layout.proofs.FilledKeptLemmas.{laid_count}
+use Rattle.multi_layout.proofs.FilledStateLemmas.{pages_at, same_times}
+use Rattle.multi_layout.proofs.JudgedLemmas.{ready}
+use Rattle.multi_layout.proofs.LaidItemLemmas.{are_laid}
+use Rattle.multi_layout.proofs.ReadLemmas.{accepted_at_end, cycle_at_end, few_here, read_more, refused_here}
+
+-- what is kept where an area begins
+pub filled_start : (sign : SignData) (items : List Meaning) (state : State) → IsStateOf sign (laid_items Words sign items items) state → present_area sign items ≡ []
+    → IsFilledOf sign items (record { state = state; split = None; order = line_sum [] })
+filled_start sign items state st none =
+    let width = (standing sign items).rectangle.width in
+    record {
+      state_is = st;
+      split_is = sym (ap (λ (area : List Spot). split_sum (after_last is_break (filled (Some width) (in_group state.area.present area)))) none);
+      order_is = sym (ap (λ (area : List Spot). line_sum (after_last is_break (in_group state.area.present area))) none);
+      split_below = tt;
+      order_below = none_below (1024 * length items);
+      fits = subst (AllOpenFit (Some width)) (sym none) (λ just. nothing_fits width);
+    }
+
+module _ (sign : SignData) (items : List Meaning) (kept : Filled) (of : IsFilledOf sign items kept) where
+  -- what is kept of few items is small enough
+  pub filled_ready : length items ≤ 2 ^ 32 → IsFilledReady kept
+  filled_ready few = record {
+    state = ready sign (laid_items Words sign items items) kept.state of.state_is (omega (arith, few, laid_count sign items));
+    split = split_more (1024 * length items) (2 ^ 62) kept.split (omega (arith, few)) of.split_below;
+    order = line_more (1024 * length items) (2 ^ 62) kept.order (omega (arith, few)) of.order_below;
+  }
+
+  -- it has their pages and times
+  pub kept_pages : kept.state.pages ≡ pages_of items
+  kept_pages = of.state_is.pages ∙ pages_at sign (laid_items Words sign items items) items (ap (λ (s : Standing). s.page) (are_laid Words sign items items [] (sym (append-nil items))).0)
+
+  pub kept_times : kept.state.cycle ≡ cycle (ended_times sign items)
+  kept_times = of.state_is.times ∙ ap cycle (same_times Words sign items items [] (sym (append-nil items)))
+
+module _ (sign : SignData) (octets : List ℕ) (at : ℕ) (kept : Filled) (r : ReadSoFar sign octets at (IsFilledFor sign kept)) where
+  pub filled_ready_here : length octets < 2 ^ 32 → IsFilledReady kept
+  filled_ready_here short = filled_ready sign (map meaning r.items) kept r.is.of (few_here sign octets at (IsFilledFor sign kept) r short)
+
+  pub filled_at_end : length octets ≡ at → IsAcceptedWith sign octets kept.state
+  filled_at_end end =
+      let items = map meaning r.items in
+      record {
+        verdict = accepted_at_end sign octets at (IsFilledFor sign kept) r end kept.state.pages (kept_pages sign items kept r.is.of);
+        cycle = cycle_at_end sign octets at (IsFilledFor sign kept) r end kept.state (kept_times sign items kept r.is.of) (attributes_here sign items kept r.is.of);
+        short = r.is.of.state_is.short;
+      }
+
+  module _ (t : Token) (here : t.at ≡ at) (stands : IsTokenOf octets t) where
+    pub filled_more : (new : Filled) → offence Words sign (map meaning r.items) (meaning (item_of octets t)) ≡ None → IsFilledOf sign (map meaning r.items ++ meaning (item_of octets t) ∷ []) new
+        → ReadSoFar sign octets (at + t.len) (IsFilledFor sign new)
+    filled_more new fine of =
+        read_more sign octets at (IsFilledFor sign kept) r t here stands (IsFilledFor sign new)
+        (subst (λ setting. offence setting sign (map meaning r.items) (meaning (item_of octets t)) ≡ None) (sym r.is.words) fine) (record { words = r.is.words; of = of })
+
+    pub filled_refused : (code : ℕ) → offence Words sign (map meaning r.items) (meaning (item_of octets t)) ≡ Some code → IsVerdict sign octets (Refused code at)
+    filled_refused code offends =
+        refused_here sign octets at (IsFilledFor sign kept) r t here stands code
+        (subst (λ setting. offence setting sign (map meaning r.items) (meaning (item_of octets t)) ≡ Some code) (sym r.is.words) offends)

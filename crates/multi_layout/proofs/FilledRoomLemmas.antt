@@ -1,0 +1,110 @@
+-- Where lines are filled, the present area of an accepted string, as it is laid out, fits the rectangle in force.
+use Rattle.std.proofs.Common.{◌≡◌, ℕ, Bool, true, false, not, ◌||◌, List, [], ◌∷◌, ◌++◌, ◌≤◌, map, Option, Some, None, refl, sym, ap, subst, ◌∙◌, append-nil}
+use Rattle.std.specs.List.{after_last}
+use Rattle.std.proofs.lemmas.List.{map-append}
+use Rattle.multi_token.specs.Spelling.{Item}
+use Rattle.multi_tag.specs.declared.tag.Tag.{Tag}
+use Rattle.sign_font.specs.declared.parts.LineFill.TheVariants.{Words}
+use Rattle.sign_font.specs.Sign.{SignData, CellData, cell_numbered}
+use Rattle.sign_font.specs.Sound.{IsSound}
+use Rattle.multi_layout.specs.declared.filled.Filled.{Filled}
+use Rattle.multi_layout.specs.Address.{Standing, in_group, is_break, spots, standing}
+use Rattle.multi_layout.specs.FilledState.{IsFilledOf}
+use Rattle.multi_layout.specs.Filling.{filled}
+use Rattle.multi_layout.specs.Fit.{area_fits, line_fits}
+use Rattle.multi_layout.specs.Laid.{too_big}
+use Rattle.multi_layout.specs.LaidItems.{laid_items}
+use Rattle.multi_layout.specs.Meaning.{Does, Faulty, Meaning, Shows, meaning}
+use Rattle.multi_layout.specs.Offence.{conflicts, first_code, never_big, offence}
+use Rattle.multi_layout.specs.Passes.{HasRoom}
+use Rattle.multi_layout.specs.State.{present_area}
+use Rattle.multi_layout.specs.Table.{IsNarrowArea}
+use Rattle.multi_layout.specs.Verdict.{offences}
+use Rattle.multi_layout.proofs.FilledCharacterLemmas.{area_with, offends_by, offends_without, shown}
+use Rattle.multi_layout.proofs.FilledTagLemmas.{offends_as_laid}
+use Rattle.multi_layout.proofs.InForceLemmas.{rectangle_width_within, rectangle_within}
+use Rattle.multi_layout.proofs.LaidItemLemmas.{are_laid}
+use Rattle.multi_layout.proofs.LaidTagLemmas.{laid_tag}
+use Rattle.multi_layout.proofs.NarrowLemmas.{narrow_of}
+use Rattle.multi_layout.proofs.OffenceLemmas.{offence-faulty}
+use Rattle.multi_layout.proofs.RoomLemmas.{fits_first, fits_next, room_of}
+use Rattle.multi_layout.proofs.OrderlyLemmas.{orderly_items}
+use Rattle.multi_layout.proofs.WholeAreaLemmas.{laid_group_is}
+use Rattle.multi_layout.proofs.StandingLemmas.{standing_push}
+use Rattle.multi_layout.proofs.WalkLemmas.{last_fine}
+use Rattle.multi_layout.proofs.WordLemmas.{push_ind}
+
+module _ (sign : SignData) where
+  abbrev pub laid : List Meaning → List Meaning
+  laid items = laid_items Words sign items items
+
+  -- the present area fits
+  abbrev Fits : List Meaning → Type 0
+  Fits items = area_fits (standing sign items).rectangle.height (present_area sign (laid items)) ≡ true
+
+  here : (items : List Meaning) → standing sign (laid items) ≡ standing sign items
+  here items = (are_laid Words sign items items [] (sym (append-nil items))).0
+
+  fits_of : (a b c : Bool) → first_code ((c, 11) ∷ (not a || not b, 5) ∷ []) ≡ None → b ≡ true
+  fits_of true true c e = refl
+  fits_of true false true e = cc
+  fits_of true false false e = cc
+  fits_of false b true e = cc
+  fits_of false b false e = cc
+
+  fits_character : (items : List Meaning) (number : ℕ) → offence Words sign items (Shows number) ≡ None → (o : Option CellData) → cell_numbered (standing sign items).font number ≡ o → Fits (items ++ Shows number ∷ [])
+  fits_character items number fine None e = let wrong : ◌≡◌ {A = Option ℕ} (Some 7) None = sym (offends_without sign items number e) ∙ fine in absurd cc
+  fits_character items number fine (Some cell) e =
+      let s = shown sign items number cell e in
+      let new = area_with sign items number cell e in
+      ap (λ (t : Standing). area_fits t.rectangle.height new) (standing_push sign items (Shows number))
+      ∙ fits_of (line_fits s.at.rectangle.width (after_last is_break (in_group s.at.page_just new))) (area_fits s.at.rectangle.height new) (conflicts (spots sign items) s) (sym (offends_by sign items number cell e) ∙ fine)
+
+  fits_tag : (items : List Meaning) (tag : Tag) → offence Words sign items (Does tag) ≡ None → Fits items → Fits (items ++ Does tag ∷ [])
+  fits_tag items tag fine fits =
+      let old = ap (λ (t : Standing). area_fits t.rectangle.height (present_area sign (laid items))) (here items) ∙ fits in
+      let new = fits_next sign (laid items) (Does tag) (sym (offends_as_laid sign items tag) ∙ fine) old in
+      let is = laid_tag Words sign items tag in
+      let same : standing sign (items ++ Does tag ∷ []) ≡ standing sign (laid items ++ Does tag ∷ []) = sym (here (items ++ Does tag ∷ [])) ∙ ap (standing sign) is in
+      (λ i. area_fits (same i).rectangle.height (present_area sign (is i))) ∙ new
+
+  pub laid_fits_next : (items : List Meaning) (x : Meaning) → offence Words sign items x ≡ None → Fits items → Fits (items ++ x ∷ [])
+  laid_fits_next items (Shows number) fine fits = fits_character items number fine (cell_numbered (standing sign items).font number) refl
+  laid_fits_next items (Does tag) fine fits = fits_tag items tag fine fits
+  laid_fits_next items (Faulty code) fine fits = let wrong : ◌≡◌ {A = Option ℕ} (Some code) None = sym (offence-faulty (too_big Words) sign items code) ∙ fine in absurd cc
+
+  -- behind the items of an accepted string it does
+  pub laid_fits_always : sign.line_fill ≡ Words → (items : List Item) → offences sign items ≡ [] → Fits (map meaning items)
+  laid_fits_always words = push_ind (λ items. offences sign items ≡ [] → Fits (map meaning items)) (λ none. fits_first sign) step
+    where
+      step : (items : List Item) (item : Item) → (offences sign items ≡ [] → Fits (map meaning items)) → offences sign (items ++ item ∷ []) ≡ [] → Fits (map meaning (items ++ item ∷ []))
+      step items item ih none =
+          let (earlier, here) = last_fine sign items item none in
+          let fine : offence Words sign (map meaning items) (meaning item) ≡ None = subst (λ setting. offence setting sign (map meaning items) (meaning item) ≡ None) words here in
+          subst Fits (sym (map-append meaning items (item ∷ []))) (laid_fits_next (map meaning items) (meaning item) fine (ih earlier))
+
+-- the lines of that area are few and narrow
+module _ (sign : SignData) (sound : IsSound sign) (words : sign.line_fill ≡ Words) (items : List Item) (none : offences sign items ≡ []) where
+  abbrev ms : List Meaning
+  ms = map meaning items
+
+  stands : standing sign (laid sign ms) ≡ standing sign ms
+  stands = here sign ms
+
+  high : area_fits (standing sign (laid sign ms)).rectangle.height (present_area sign (laid sign ms)) ≡ true
+  high = ap (λ (t : Standing). area_fits t.rectangle.height (present_area sign (laid sign ms))) stands ∙ laid_fits_always sign words items none
+
+  down : (standing sign (laid sign ms)).rectangle.height ≤ sign.height
+  down = subst (λ (t : Standing). t.rectangle.height ≤ sign.height) (sym stands) (rectangle_within sign never_big ms (orderly_items sign items none))
+
+  across : (standing sign (laid sign ms)).rectangle.width ≤ sign.width
+  across = subst (λ (t : Standing). t.rectangle.width ≤ sign.width) (sym stands) (rectangle_width_within sign never_big ms (orderly_items sign items none))
+
+  pub laid_room : HasRoom (present_area sign (laid sign ms))
+  laid_room = room_of sign sound sound.font (laid sign ms) high down
+
+  pub laid_narrow : (kept : Filled) → IsFilledOf sign ms kept → IsNarrowArea (present_area sign (laid sign ms))
+  laid_narrow kept of =
+      let group : (j : ℕ) → in_group j (present_area sign (laid sign ms)) ≡ filled (Some (standing sign ms).rectangle.width) (in_group j (present_area sign ms)) = laid_group_is sign ms in
+      narrow_of sign sound (laid sign ms)
+      (λ j. (λ i. line_fits (stands i).rectangle.width (after_last is_break (group j i))) ∙ of.fits j) high across down

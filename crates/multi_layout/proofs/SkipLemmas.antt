@@ -1,0 +1,201 @@
+-- The items of a string that place nothing: they alone tell what is in force, and the pages and their times.
+use Rattle.std.proofs.Common.{◌≡◌, ℕ, ◌+◌, ◌*◌, ◌≤◌, Bool, true, false, cond, not, inl, inr, List, [], ◌∷◌, ◌++◌, length, map, Option, Some, None, refl, sym, ap, subst, ◌∙◌, arith, append-nil}
+use Rattle.std.specs.Prelude.{nat_lt}
+use Rattle.std.specs.List.{cons_option, count_by}
+use Rattle.std.proofs.lemmas.List.{length-append, map-append}
+use Rattle.std.proofs.lemmas.List.Elements.{filter-append}
+use Rattle.std.proofs.lemmas.List.Sums.{sum_by_push}
+use Rattle.multi_token.specs.Spelling.{Item}
+use Rattle.multi_tag.specs.declared.tag.Tag.{Tag}
+use Rattle.multi_tag.specs.declared.tag.Tag.TheVariants.{NewPage, NewLine, LineJust, PageJust, Font, CharSpacing, CharSpacingEnd, PageTime, Flash, FlashEnd, Fore, Back, Rect, HexChar}
+use Rattle.sign_font.specs.declared.parts.LineFill.{LineFill}
+use Rattle.sign_font.specs.Sign.{SignData, font_numbered}
+use Rattle.multi_layout.specs.declared.cursor.Cursor.{Cursor}
+use Rattle.multi_layout.specs.declared.cursor.NextItem.{NextItem}
+use Rattle.multi_layout.specs.declared.state.State.{State}
+use Rattle.multi_layout.specs.Address.{Standing, spots, standing}
+use Rattle.multi_layout.specs.KnownItem.{meant_by}
+use Rattle.multi_layout.specs.Meaning.{BeginsPage, Does, Faulty, Meaning, Shows, has_place, is_new_page, meaning}
+use Rattle.multi_layout.specs.Offence.{first_code, offence, offence_by, unsized_offence}
+use Rattle.multi_layout.specs.State.{IsReady, IsStateOf, attributes_of, present_area, standing_behind}
+use Rattle.multi_layout.specs.Sums.{area_sum}
+use Rattle.multi_layout.specs.Times.{cycle, ended_times, times_at}
+use Rattle.multi_layout.specs.Verdict.{pages_of}
+use Rattle.multi_layout.specs.Walk.{IsPassing, IsItemRead, unplaced}
+use Rattle.multi_layout.proofs.BoundLemmas.{below_more}
+use Rattle.multi_layout.proofs.JudgedLemmas.{ready}
+use Rattle.multi_layout.proofs.StandingLemmas.{standing_push}
+use Rattle.multi_layout.proofs.StateLemmas.{present_area-new}
+use Rattle.multi_layout.proofs.WalkLemmas.{few_placed, length-meanings, none_offends, placed_more}
+use Rattle.multi_layout.proofs.WordLemmas.{push_ind, some_after_push}
+
+-- where the present area is empty, the state is that of all items with these pages, times and values in force
+pub state_moved : (sign : SignData) (one other : List Meaning) (state : State) → standing sign one ≡ standing sign other → ended_times sign one ≡ ended_times sign other → pages_of one ≡ pages_of other
+    → length one ≤ length other → present_area sign one ≡ [] → present_area sign other ≡ [] → IsStateOf sign one state → IsStateOf sign other state
+state_moved sign one other state here times pages long none none' st = record {
+  pages = st.pages ∙ pages;
+  times = st.times ∙ ap cycle times;
+  attributes = st.attributes ∙ ap attributes_of here;
+  area = st.area ∙ ap area_sum (none ∙ sym none');
+  font = subst (λ (s : Standing). font_numbered sign s.font.number ≡ Some s.font) here st.font;
+  line_just = st.line_just;
+  page_just = st.page_just;
+  below = below_more (1024 * length one) (1024 * length other) state.area (omega (arith, long)) st.below;
+  short = st.short;
+}
+
+-- ONE MORE ITEM
+
+unplaced_if : (ms : List Meaning) (x : Meaning) (b : Bool) → has_place x ≡ b → unplaced (ms ++ x ∷ []) ≡ unplaced ms ++ cond (not b) (x ∷ []) []
+unplaced_if ms x b e = filter-append (λ x. not (has_place x)) ms (x ∷ []) ∙ ap (λ b. unplaced ms ++ cond (not b) (x ∷ []) []) e
+
+-- an item that is placed leaves them
+pub unplaced_stays : (ms : List Meaning) (x : Meaning) → has_place x ≡ true → unplaced (ms ++ x ∷ []) ≡ unplaced ms
+unplaced_stays ms x e = unplaced_if ms x true e ∙ append-nil (unplaced ms)
+
+-- another joins them
+pub unplaced_grows : (ms : List Meaning) (x : Meaning) → has_place x ≡ false → unplaced (ms ++ x ∷ []) ≡ unplaced ms ++ x ∷ []
+unplaced_grows ms x e = unplaced_if ms x false e
+
+-- what is placed begins no page, and leaves all that is in force
+placed_behind : (sign : SignData) (at : Standing) (x : Meaning) → has_place x ≡ true → (standing_behind sign at x ≡ at) × (is_new_page x ≡ false)
+placed_behind sign at (Shows number) e = ((λ i. record at { page = plus_zero at.page i; area = plus_zero at.area i }), refl)
+  where
+    plus_zero : (n : ℕ) → n + 0 ≡ n
+    plus_zero n = omega arith
+placed_behind sign at (Does (NewLine gap)) e = ((λ i. record at { page = plus_zero at.page i; area = plus_zero at.area i }), refl)
+  where
+    plus_zero : (n : ℕ) → n + 0 ≡ n
+    plus_zero n = omega arith
+placed_behind sign at _ e = absurd cc
+
+module _ (sign : SignData) where
+  -- the same is in force, at the same times, on the same page
+  abbrev Same : List Meaning → Type 0
+  Same ms = (standing sign (unplaced ms) ≡ standing sign ms) × (ended_times sign (unplaced ms) ≡ ended_times sign ms) × (pages_of (unplaced ms) ≡ pages_of ms)
+
+  times_push : (ms : List Meaning) (x : Meaning) → ended_times sign (ms ++ x ∷ []) ≡ ended_times sign ms ++ cons_option (cond (is_new_page x) (Some (times_at (standing sign ms))) None) []
+  times_push ms x = some_after_push (λ before item. cond (is_new_page item) (Some (times_at (standing sign before))) None) ms x
+
+  pages_push : (ms : List Meaning) (x : Meaning) → pages_of (ms ++ x ∷ []) ≡ pages_of ms + cond (is_new_page x) 1 0
+  pages_push ms x = omega (arith, sum_by_push (λ y. cond (is_new_page y) 1 0) ms x)
+
+  same_if : (ms : List Meaning) (x : Meaning) (b : Bool) → has_place x ≡ b → Same ms → Same (ms ++ x ∷ [])
+  same_if ms x true e (here, times, pages) =
+      let (stays, no_page) = placed_behind sign (standing sign ms) x e in
+      let is = unplaced_stays ms x e in (
+        ap (standing sign) is ∙ here ∙ sym (standing_push sign ms x ∙ stays),
+        ap (ended_times sign) is ∙ times ∙ sym (times_push ms x ∙ ap (λ b. ended_times sign ms ++ cons_option (cond b (Some (times_at (standing sign ms))) None) []) no_page ∙ append-nil (ended_times sign ms)),
+        omega (arith, ap pages_of is, pages, pages_push ms x, ap {B = ℕ} (λ b. cond b 1 0) no_page),
+      )
+  same_if ms x false e (here, times, pages) =
+      let is = unplaced_grows ms x e in (
+        ap (standing sign) is ∙ standing_push sign (unplaced ms) x ∙ ap (λ s. standing_behind sign s x) here ∙ sym (standing_push sign ms x),
+        ap (ended_times sign) is ∙ times_push (unplaced ms) x ∙ (λ i. times i ++ cons_option (cond (is_new_page x) (Some (times_at (here i))) None) []) ∙ sym (times_push ms x),
+        omega (arith, ap pages_of is, pages_push (unplaced ms) x, pages, pages_push ms x),
+      )
+
+  pub same_unplaced : (ms : List Meaning) → Same ms
+  same_unplaced = push_ind Same (refl, refl, refl) (λ ms x. same_if ms x (has_place x) refl)
+
+  -- an item that places nothing offends behind them just where it does behind all
+  pub offends_unplaced : (setting : LineFill) (ms : List Meaning) (x : Meaning) → has_place x ≡ false → unsized_offence sign (unplaced ms) x ≡ offence setting sign ms x
+  unfolding offence_by
+  offends_unplaced setting ms (Shows number) e = absurd cc
+  offends_unplaced setting ms (Does (NewLine gap)) e = absurd cc
+  offends_unplaced setting ms (Faulty code) e = refl
+  offends_unplaced setting ms (Does NewPage) e =
+      let pages : count_by is_new_page (unplaced ms) ≡ count_by is_new_page ms = omega (arith, (same_unplaced ms).2) in
+      ap (λ n. first_code ((nat_lt sign.max_pages (n + 2), 12) ∷ [])) pages
+  offends_unplaced setting ms (Does (Back colour)) e = refl
+  offends_unplaced setting ms (Does (LineJust just)) e = refl
+  offends_unplaced setting ms (Does (PageJust just)) e = refl
+  offends_unplaced setting ms (Does (Font None)) e = refl
+  offends_unplaced setting ms (Does (Font (Some pick))) e = refl
+  offends_unplaced setting ms (Does (CharSpacing pixels)) e = refl
+  offends_unplaced setting ms (Does CharSpacingEnd) e = refl
+  offends_unplaced setting ms (Does (PageTime on off)) e = refl
+  offends_unplaced setting ms (Does (Flash off_first on off)) e = refl
+  offends_unplaced setting ms (Does FlashEnd) e = refl
+  offends_unplaced setting ms (Does (Fore colour)) e = refl
+  offends_unplaced setting ms (Does (Rect x y w h)) e = refl
+  offends_unplaced setting ms (Does (HexChar number)) e = refl
+
+  few_unplaced : (ms : List Meaning) → length (unplaced ms) ≤ length ms
+  few_unplaced = push_ind (λ ms. length (unplaced ms) ≤ length ms) (omega arith) (λ ms x ih. one ms x (has_place x) refl ih)
+    where
+      one : (ms : List Meaning) (x : Meaning) (b : Bool) → has_place x ≡ b → length (unplaced ms) ≤ length ms → length (unplaced (ms ++ x ∷ [])) ≤ length (ms ++ x ∷ [])
+      one ms x true e ih = omega (arith, ih, ap length (unplaced_stays ms x e), length-append ms (x ∷ []))
+      one ms x false e ih = omega (arith, ih, ap length (unplaced_grows ms x e), length-append (unplaced ms) (x ∷ []), length-append ms (x ∷ []))
+
+  -- where a page begins, the state is that of all
+  empty : (ms : List Meaning) → BeginsPage ms → (present_area sign ms ≡ []) × BeginsPage (unplaced ms)
+  unfolding spots
+  empty ms (inl none) = (ap (present_area sign) none, inl (ap unplaced none))
+  empty ms (inr (earlier, is)) = (ap (present_area sign) is ∙ present_area-new sign earlier (Does NewPage) refl, inr (unplaced earlier, ap unplaced is ∙ unplaced_grows earlier (Does NewPage) refl))
+
+  pub settled_at : (ms laid : List Meaning) (state : State) → standing sign laid ≡ standing sign ms → ended_times sign laid ≡ ended_times sign ms → pages_of laid ≡ pages_of ms → length ms ≤ length laid
+      → BeginsPage ms → BeginsPage laid → IsStateOf sign (unplaced ms) state → IsStateOf sign laid state
+  settled_at ms laid state here' times' pages' long begins begins' =
+      let (here, times, pages) = same_unplaced ms in
+      state_moved sign (unplaced ms) laid state (here ∙ sym here') (times ∙ sym times') (pages ∙ sym pages')
+      (omega (arith, few_unplaced ms, long)) (empty (unplaced ms) (empty ms begins).1).0 (empty laid begins').0
+
+-- each tag but `nl` places nothing
+pub tag_unplaced : (tag : Tag) → ((gap : Option ℕ) → tag ≡ NewLine gap → ⊥) → has_place (Does tag) ≡ false
+tag_unplaced (NewLine gap) other = absurd (other gap refl)
+tag_unplaced _ other = refl
+
+-- and where an error is more than its size, it is its error
+pub sized : (setting : LineFill) (sign : SignData) (ms : List Meaning) (x : Meaning) → has_place x ≡ false → offence setting sign ms x ≡ unsized_offence sign ms x
+unfolding offence_by
+sized setting sign ms (Shows number) e = absurd cc
+sized setting sign ms (Does (NewLine gap)) e = absurd cc
+sized setting sign ms (Faulty code) e = refl
+sized setting sign ms (Does NewPage) e = refl
+sized setting sign ms (Does (Back colour)) e = refl
+sized setting sign ms (Does (LineJust just)) e = refl
+sized setting sign ms (Does (PageJust just)) e = refl
+sized setting sign ms (Does (Font None)) e = refl
+sized setting sign ms (Does (Font (Some pick))) e = refl
+sized setting sign ms (Does (CharSpacing pixels)) e = refl
+sized setting sign ms (Does CharSpacingEnd) e = refl
+sized setting sign ms (Does (PageTime on off)) e = refl
+sized setting sign ms (Does (Flash off_first on off)) e = refl
+sized setting sign ms (Does FlashEnd) e = refl
+sized setting sign ms (Does (Fore colour)) e = refl
+sized setting sign ms (Does (Rect x y w h)) e = refl
+sized setting sign ms (Does (HexChar number)) e = refl
+
+-- THE WAY
+
+module _ {sign : SignData} {octets : List ℕ} {before rest : List Item} {item : Item} {cursor : Cursor} (p : IsPassing sign octets before (item ∷ rest) cursor) {next : NextItem} (read : IsItemRead item next) where
+  pub ready_passing : IsReady cursor.state
+  ready_passing =
+      ready sign (unplaced (map meaning before)) cursor.state p.state_is
+      (omega (arith, few_unplaced sign (map meaning before), length-meanings before, few_placed sign octets before (item ∷ rest) cursor.at p.placed))
+
+  pub fine_passing : has_place (meant_by next.item) ≡ false → unsized_offence sign (unplaced (map meaning before)) (meant_by next.item) ≡ None
+  fine_passing e =
+      offends_unplaced sign sign.line_fill (map meaning before) (meant_by next.item) e
+      ∙ ap (offence sign.line_fill sign (map meaning before)) (sym read.meant) ∙ none_offends sign octets before rest item cursor.at p.placed
+
+  passing_with : (new : Cursor) → new.at ≡ cursor.at + next.len → IsStateOf sign (unplaced (map meaning before ++ meaning item ∷ [])) new.state → IsPassing sign octets (before ++ item ∷ []) rest new
+  passing_with new at st = record {
+    placed = placed_more sign octets before rest item cursor.at p.placed new.at (omega (arith, at, read.len));
+    state_is = subst (λ ms. IsStateOf sign (unplaced ms) new.state) (sym (map-append meaning before (item ∷ []))) st;
+  }
+
+  -- behind an item that is placed the state stays
+  pub passing_placed : (new : Cursor) → has_place (meant_by next.item) ≡ true → new.at ≡ cursor.at + next.len → new.state ≡ cursor.state → IsPassing sign octets (before ++ item ∷ []) rest new
+  passing_placed new e at same =
+      passing_with new at (subst (IsStateOf sign (unplaced (map meaning before ++ meaning item ∷ []))) (sym same)
+      (subst (λ ms. IsStateOf sign ms cursor.state) (sym (unplaced_stays (map meaning before) (meaning item) (ap has_place read.meant ∙ e))) p.state_is))
+
+  -- behind another it is that with it
+  pub passing_tag : (new : Cursor) → has_place (meant_by next.item) ≡ false → new.at ≡ cursor.at + next.len
+      → IsStateOf sign (unplaced (map meaning before) ++ meant_by next.item ∷ []) new.state → IsPassing sign octets (before ++ item ∷ []) rest new
+  passing_tag new e at st =
+      passing_with new at
+      (subst (λ ms. IsStateOf sign ms new.state)
+      (ap (λ m. unplaced (map meaning before) ++ m ∷ []) (sym read.meant) ∙ sym (unplaced_grows (map meaning before) (meaning item) (ap has_place read.meant ∙ e))) st)

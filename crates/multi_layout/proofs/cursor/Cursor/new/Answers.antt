@@ -1,0 +1,16 @@
+use Rattle.std.proofs.Common.{List, [], refl, sym, subst, ◌∙◌, ap}
+use Rattle.multi_token.specs.Spelling.{Item}
+use Rattle.multi_layout.specs.Walk.{IsOrderly, IsPlaced, laid_meanings}
+use Rattle.multi_layout.proofs.PieceLemmas.{pieces_are}
+use Rattle.multi_layout.proofs.cursor.Cursor.new.Goals as goal
+
+pub returns-clause-between : goal.returns-clause-between
+returns-clause-between c = λ octets items accepted orderly.
+    let sign = c.args.sign.now in
+    let (same, means) = pieces_are sign items in
+    record {
+      placed = subst (λ (l : List Item). IsPlaced sign octets [] l 0) (sym same) (record { accepted = accepted; place = refl });
+      laid = means ∙ ap (laid_meanings sign) (sym same);
+      orderly = subst (IsOrderly sign) (sym means) orderly;
+      state_is = c.new.ensures.start;
+    }

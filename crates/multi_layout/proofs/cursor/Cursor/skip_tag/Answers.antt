@@ -1,0 +1,18 @@
+use Rattle.std.proofs.Common.{◌≡◌, Some, None, sym, ap, ◌∙◌}
+use Rattle.sign_font.specs.declared.parts.LineFill.TheVariants.{Off}
+use Rattle.multi_layout.specs.Codes.{code_of}
+use Rattle.multi_layout.specs.KnownItem.{meant_by}
+use Rattle.multi_layout.specs.Meaning.{Does, has_place}
+use Rattle.multi_layout.specs.Offence.{unsized_offence}
+use Rattle.multi_layout.proofs.SkipLemmas.{sized}
+use Rattle.multi_layout.proofs.cursor.Cursor.skip_tag.Goals as goal
+
+pub unreachable-requires-in-Err : goal.unreachable-requires-in-Err
+unreachable-requires-in-Err c =
+    let sign = c.args.sign.now in
+    let (items, st, fine) = c.requires.fine in
+    let offends = c.in-Err.ensures.judged items st in
+    let is = ap meant_by c.in-Tag.is in
+    let plain = sized Off sign items (Does c.in-Tag.tag) (ap has_place (sym is) ∙ c.requires.unplaced) in
+    let wrong : Some (code_of c.in-Err.field-0) ≡ None = sym offends ∙ plain ∙ ap (unsized_offence sign items) (sym is) ∙ fine in
+    cc

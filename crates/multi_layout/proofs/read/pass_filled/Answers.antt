@@ -1,0 +1,51 @@
+use Rattle.std.proofs.Common.{subst}
+use Rattle.multi_layout.specs.FilledRead.{IsNextRead, IsReadFilled}
+use Rattle.multi_layout.specs.KnownItem.{meant_by}
+use Rattle.multi_layout.specs.Passes.{next_group}
+use Rattle.multi_layout.proofs.FilledPassLemmas.{group_left, next_order, read_below, read_lines}
+use Rattle.multi_layout.proofs.read.pass_filled.Goals as goal
+
+pub leave_group-requires-clause-below : goal.leave_group-requires-clause-below
+leave_group-requires-clause-below c =
+    let (before, item, r, next) = c.requires.known in
+    read_below c.requires.sound c.requires.words r
+
+pub leave_group-requires-clause-known : goal.leave_group-requires-clause-known
+leave_group-requires-clause-known c =
+    let (before, item, r, next) = c.requires.known in
+    read_lines c.requires.sound c.requires.words r
+
+pub leave_group-requires-clause-order : goal.leave_group-requires-clause-order
+leave_group-requires-clause-order c =
+    let (before, item, r, next) = c.requires.known in
+    next_order c.requires.words r.of c.args.item next
+
+pub pass_shown-requires-clause-known : goal.pass_shown-requires-clause-known
+pass_shown-requires-clause-known c =
+    let (before, item, r, next) = c.requires.known in
+    let r' = group_left r (meant_by c.args.item) c.leave_group.new.lines c.leave_group.ensures.known c.leave_group.ensures.ordered c.leave_group.ensures.low in
+    let left = subst (λ k. IsReadFilled c.args.sign.now before (next_group c.args.kept.now.state (meant_by k)) c.args.kept.now c.leave_group.new.lines) c.in-Char.is r' in
+    let read = subst (IsNextRead c.args.sign.now before item) c.in-Char.is next in
+    (before, item, left, read)
+
+pub pass_tag-requires-clause-known : goal.pass_tag-requires-clause-known
+pass_tag-requires-clause-known c =
+    let (before, item, r, next) = c.requires.known in
+    let r' = group_left r (meant_by c.args.item) c.leave_group.new.lines c.leave_group.ensures.known c.leave_group.ensures.ordered c.leave_group.ensures.low in
+    let left = subst (λ k. IsReadFilled c.args.sign.now before (next_group c.args.kept.now.state (meant_by k)) c.args.kept.now c.leave_group.new.lines) c.in-Tag.is r' in
+    let read = subst (IsNextRead c.args.sign.now before item) c.in-Tag.is next in
+    (before, item, left, read)
+
+pub returns-in-Char-clause-known : goal.returns-in-Char-clause-known
+returns-in-Char-clause-known c = λ before item r next.
+    let r' = group_left r (meant_by c.args.item) c.leave_group.new.lines c.leave_group.ensures.known c.leave_group.ensures.ordered c.leave_group.ensures.low in
+    let left = subst (λ k. IsReadFilled c.args.sign.now before (next_group c.args.kept.now.state (meant_by k)) c.args.kept.now c.leave_group.new.lines) c.in-Char.is r' in
+    let read = subst (IsNextRead c.args.sign.now before item) c.in-Char.is next in
+    c.pass_shown.ensures.known before item left read
+
+pub returns-in-Tag-clause-known : goal.returns-in-Tag-clause-known
+returns-in-Tag-clause-known c = λ before item r next.
+    let r' = group_left r (meant_by c.args.item) c.leave_group.new.lines c.leave_group.ensures.known c.leave_group.ensures.ordered c.leave_group.ensures.low in
+    let left = subst (λ k. IsReadFilled c.args.sign.now before (next_group c.args.kept.now.state (meant_by k)) c.args.kept.now c.leave_group.new.lines) c.in-Tag.is r' in
+    let read = subst (IsNextRead c.args.sign.now before item) c.in-Tag.is next in
+    c.pass_tag.ensures.known before item left read
