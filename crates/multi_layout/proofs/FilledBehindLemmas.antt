@@ -15,17 +15,16 @@ use Rattle.multi_layout.specs.declared.state.State.{State}
 use Rattle.multi_layout.specs.Address.{Break, Cover, Spot, Standing, in_area, in_group, is_break, spots, standing}
 use Rattle.multi_layout.specs.Filling.{filled}
 use Rattle.multi_layout.specs.FilledState.{IsFilledJudged, IsFilledOf, begins_line}
-use Rattle.multi_layout.specs.FillSums.{split_sum}
+use Rattle.multi_layout.specs.FillSums.{order_sum, split_sum}
 use Rattle.multi_layout.specs.Fit.{line_fits}
 use Rattle.multi_layout.specs.Laid.{too_big}
 use Rattle.multi_layout.specs.LaidItems.{laid_items}
 use Rattle.multi_layout.specs.Meaning.{Meaning, Does}
 use Rattle.multi_layout.specs.Offence.{conflicts, offence}
 use Rattle.multi_layout.specs.State.{IsJudged, IsStateOf, present_area, standing_behind}
-use Rattle.multi_layout.specs.Sums.{line_sum}
 use Rattle.multi_layout.specs.Words.{largest}
 use Rattle.multi_layout.proofs.AreaSumLemmas.{in_group_other, no_back}
-use Rattle.multi_layout.proofs.BoundLemmas.{line_more, none_below, split_more}
+use Rattle.multi_layout.proofs.BoundLemmas.{split_more}
 use Rattle.multi_layout.proofs.FillLemmas.{nothing_fits}
 use Rattle.multi_layout.proofs.FilledOnLemmas.{largest_laid}
 use Rattle.multi_layout.proofs.FilledTagLemmas.{offends_as_laid}
@@ -70,20 +69,18 @@ module _ (sign : SignData) (items : List Meaning) (kept : Filled) (of : IsFilled
       record {
         state_is = laid_state;
         split_is = of.split_is ∙ sym (λ i. split_sum (after_last is_break (filled (Some (width i)) (in_group (present i) (area i)))));
-        order_is = of.order_is ∙ sym (λ i. line_sum (after_last is_break (in_group (present i) (area i))));
+        order_is = of.order_is ∙ sym (λ i. order_sum (after_last is_break (in_group (present i) (area i))));
         split_below = split_more (1024 * length items) (1024 * length more) kept.split count of.split_below;
-        order_below = line_more (1024 * length items) (1024 * length more) kept.order count of.order_below;
         fits = λ j. (λ i. line_fits (width i) (after_last is_break (filled (Some (width i)) (in_group j (area i))))) ∙ of.fits j;
       }
 
   -- an area begins
-  begins : present_area sign more ≡ [] → IsFilledOf sign more (record { state = state; split = None; order = line_sum [] })
+  begins : present_area sign more ≡ [] → IsFilledOf sign more (record { state = state; split = None; order = order_sum [] })
   begins area = record {
     state_is = laid_state;
     split_is = sym (ap (λ l. split_sum (after_last is_break (filled (Some (standing sign more).rectangle.width) (in_group state.area.present l)))) area);
-    order_is = sym (ap (λ l. line_sum (after_last is_break (in_group state.area.present l))) area);
+    order_is = sym (ap (λ l. order_sum (after_last is_break (in_group state.area.present l))) area);
     split_below = tt;
-    order_below = none_below (1024 * length more);
     fits = λ j. ap (λ l. line_fits (standing sign more).rectangle.width (after_last is_break (filled (Some (standing sign more).rectangle.width) (in_group j l)))) area ∙ nothing_fits (standing sign more).rectangle.width;
   }
 
@@ -134,13 +131,12 @@ module _ (sign : SignData) (items : List Meaning) (kept : Filled) (of : IsFilled
       ∙ ap (after_last is_break) (filled_break nl.at.rectangle.width group nl (placing_group nl.at.page_just (present_area sign items) (area_placing (spots sign items) nl)) refl)
       ∙ after_last_push is_break (filled (Some nl.at.rectangle.width) group) nl
 
-  ends : IsFilledOf sign behind (record { state = state; split = None; order = line_sum [] })
+  ends : IsFilledOf sign behind (record { state = state; split = None; order = order_sum [] })
   ends = record {
     state_is = laid_state sign items kept of (NewLine gap) state st;
     split_is = sym (ap (λ j. split_sum (after_last is_break (filled (Some (standing sign behind).rectangle.width) (in_group j (present_area sign behind))))) present ∙ ap split_sum soft);
-    order_is = sym (ap (λ j. line_sum (after_last is_break (in_group j (present_area sign behind)))) present ∙ ap line_sum hard);
+    order_is = sym (ap (λ j. order_sum (after_last is_break (in_group j (present_area sign behind)))) present ∙ ap order_sum hard);
     split_below = tt;
-    order_below = none_below (1024 * length behind);
     fits = λ j. elim (cases_eq nl.at.page_just j) [
       | inl same ↦
           ap (λ j. line_fits (standing sign behind).rectangle.width (after_last is_break (filled (Some (standing sign behind).rectangle.width) (in_group j (present_area sign behind))))) (sym same)
@@ -196,7 +192,7 @@ module _ (sign : SignData) (items : List Meaning) (kept : Filled) (of : IsFilled
   judged-stays tag (Ok done) state e j = (offends_as_laid sign items tag ∙ j.0, stays sign items kept of tag state j.1 (area_stays tag e) (width_stays tag e))
 
   begins_of : (tag : Tag) (state : State) → begins_line tag ≡ true → offence Off sign laid (Does tag) ≡ None → IsStateOf sign (laid ++ Does tag ∷ []) state
-      → IsFilledOf sign (items ++ Does tag ∷ []) (record { state = state; split = None; order = line_sum [] })
+      → IsFilledOf sign (items ++ Does tag ∷ []) (record { state = state; split = None; order = order_sum [] })
   begins_of NewPage state e fine st = begins sign items kept of NewPage state st (present_area-new sign items (Does NewPage) refl)
   begins_of (NewLine gap) state e fine st = ends sign items kept of gap fine state st
   begins_of (Rect x y w h) state e fine st = begins sign items kept of (Rect x y w h) state st (present_area-new sign items (Does (Rect x y w h)) refl)
@@ -213,6 +209,6 @@ module _ (sign : SignData) (items : List Meaning) (kept : Filled) (of : IsFilled
   begins_of (HexChar number) state e fine st = cc
 
   pub judged-begins : (tag : Tag) (result : Result (Unit {0}) SyntaxError) (state : State) → begins_line tag ≡ true → IsJudged sign laid (Does tag) result state
-      → IsFilledJudged sign items (Does tag) result (record { state = state; split = None; order = line_sum [] })
+      → IsFilledJudged sign items (Does tag) result (record { state = state; split = None; order = order_sum [] })
   judged-begins tag (Err error) state e j = offends_as_laid sign items tag ∙ j
   judged-begins tag (Ok done) state e j = (offends_as_laid sign items tag ∙ j.0, begins_of tag state e j.0 j.1)

@@ -12,7 +12,7 @@ use Rattle.multi_layout.specs.declared.attributes.Attributes.{Attributes}
 use Rattle.multi_layout.specs.declared.filled.Filled.{Filled}
 use Rattle.multi_layout.specs.Address.{Glyph, Spot, Standing, area_of, group_of, in_group, is_break, spots, standing}
 use Rattle.multi_layout.specs.Filling.{filled, is_space}
-use Rattle.multi_layout.specs.FillSums.{EndsLine, FillsArea, split_sum}
+use Rattle.multi_layout.specs.FillSums.{EndsLine, FillsArea, order_sum, split_sum}
 use Rattle.multi_layout.specs.Fit.{area_fits, line_fits}
 use Rattle.multi_layout.specs.FilledState.{IsFilledOf}
 use Rattle.multi_layout.specs.LaidItems.{laid_items}
@@ -55,7 +55,7 @@ module _ (sign : SignData) (items : List Meaning) (kept : Filled) (of : IsFilled
       offends_without sign items number (ap (λ (s : Standing). cell_numbered s.font number) (sym here) ∙ without)
 
   module _ (number : ℕ) (c : SizedCell) (some : cell_in sign kept.state.attributes.font.number number ≡ Some c) (clash : Bool)
-      (clashing : (line : List Spot) (s : Spot) → kept.order ≡ line_sum line → s.at.line_just ≡ kept.state.attributes.line_just → clash ≡ list_any (clashes s) line) where
+      (clashing : (line : List Spot) (s : Spot) → kept.order ≡ order_sum line → s.at.line_just ≡ kept.state.attributes.line_just → clash ≡ list_any (clashes s) line) where
     -- whether it conflicts is told by what is kept
     pub conflict_is : (cell : CellData) (found : cell_numbered (standing sign items).font number ≡ Some cell) → conflicts (spots sign items) (shown sign items number cell found)
         ≡ (nat_lt kept.state.attributes.page_just kept.state.area.present || ((kept.state.attributes.page_just == kept.state.area.present) && clash))

@@ -1,6 +1,6 @@
 -- What is kept behind one more character, where lines are filled.
 use Rattle.std.proofs.Common.{◌≡◌, ℕ, ◌+◌, ◌*◌, ◌≤◌, Bool, true, false, cond, not, ◌&&◌, ◌||◌, ◌==◌, nat_lt, inl, inr, List, [], ◌∷◌, ◌++◌, length, Option, Some, None, refl, sym, ap, subst, ◌∙◌, arith}
-use Rattle.std.specs.List.{All, AllPass, after_last, find, list_any}
+use Rattle.std.specs.List.{All, after_last, find, list_any}
 use Rattle.std.specs.Option.{option_map}
 use Rattle.std.proofs.lemmas.Bool.{cases_Bool, cases_eq, eq-eqb, eqb-true, false≢true}
 use Rattle.std.proofs.lemmas.List.{length-append}
@@ -13,22 +13,23 @@ use Rattle.multi_layout.specs.declared.attributes.Attributes.{Attributes}
 use Rattle.multi_layout.specs.declared.fill.Split.{Split}
 use Rattle.multi_layout.specs.declared.filled.Filled.{Filled}
 use Rattle.multi_layout.specs.declared.line.Character.{Character}
+use Rattle.multi_layout.specs.declared.filled.Order.{Order}
 use Rattle.multi_layout.specs.declared.line.Line.{Line}
-use Rattle.multi_layout.specs.Address.{Glyph, Spot, Standing, group_of, in_group, is_break, is_glyph, put_at, spots, standing}
+use Rattle.multi_layout.specs.Address.{Glyph, Spot, Standing, group_of, in_group, is_break, put_at, spots, standing}
 use Rattle.multi_layout.specs.Filling.{filled, is_space}
 use Rattle.multi_layout.specs.FilledState.{IsFilledBehind, IsFilledOf}
-use Rattle.multi_layout.specs.FillSums.{EndsLine, IsSplitBelow, split_sum}
+use Rattle.multi_layout.specs.FillSums.{EndsLine, IsSplitBelow, order_sum, split_sum}
 use Rattle.multi_layout.specs.Fit.{area_fits, line_fits}
 use Rattle.multi_layout.specs.LaidItems.{laid_item, laid_items}
 use Rattle.multi_layout.specs.Meaning.{Meaning, Shows}
 use Rattle.multi_layout.specs.Offence.{clashes, conflicts, first_code, offence}
 use Rattle.multi_layout.specs.State.{present_area}
-use Rattle.multi_layout.specs.Sums.{IsBelow, IsCharacter, IsLineBelow, IsPlacing, area_sum, line_sum}
-use Rattle.multi_layout.proofs.AreaSumLemmas.{area_placing, group_behind, in_group_other, no_back, no_clash}
+use Rattle.multi_layout.specs.Sums.{IsBelow, IsCharacter, IsPlacing, area_sum, line_sum}
+use Rattle.multi_layout.proofs.AreaSumLemmas.{group_behind, in_group_other, no_back, no_clash}
 use Rattle.multi_layout.proofs.FilledCharacterLemmas.{area_with, doesn't_fit, goes_behind, offends_by, offends_without, present_is, shown}
 use Rattle.multi_layout.proofs.FilledJudgedLemmas.{Fills, attributes_here, conflict_is, filled_fits, filled_grown, filled_too_big, found_here, shown_character}
 use Rattle.multi_layout.proofs.FilledStateLemmas.{filled_state}
-use Rattle.multi_layout.proofs.GroupSumLemmas.{own_group, present_glyphs, present_push}
+use Rattle.multi_layout.proofs.GroupSumLemmas.{own_group, present_push}
 use Rattle.multi_layout.proofs.StandingLemmas.{standing_push}
 use Rattle.multi_layout.proofs.StateLemmas.{present_area-placing}
 use Rattle.multi_layout.proofs.WordLemmas.{each_after_length}
@@ -89,30 +90,30 @@ module _ (sign : SignData) (items : List Meaning) (number : ℕ) (cell : CellDat
 
     -- the order of the characters since the hard break
     pub order_with : (goes_on : Bool) → goes_on ≡ (kept.state.attributes.page_just == kept.state.area.present) → kept.state.attributes.page_just ≡ s.at.page_just
-        → (character : Character) → IsCharacter s character → (order' : Line)
-        → ((line : List Spot) (s : Spot) → AllPass is_glyph line → IsCharacter s character → list_any (clashes s) line ≡ false
-        → (goes_on ≡ true → kept.order ≡ line_sum line) → (goes_on ≡ false → line ≡ []) → order' ≡ line_sum (line ++ s ∷ []))
-        → order' ≡ line_sum (after_last is_break (in_group s.at.page_just (present_area sign more)))
+        → (character : Character) → IsCharacter s character → (order' : Order)
+        → ((line : List Spot) (s : Spot) → s.at.line_just ≡ character.just → list_any (clashes s) line ≡ false
+        → (goes_on ≡ true → kept.order ≡ order_sum line) → (goes_on ≡ false → line ≡ []) → order' ≡ order_sum (line ++ s ∷ []))
+        → order' ≡ order_sum (after_last is_break (in_group s.at.page_just (present_area sign more)))
     order_with goes_on goes at character is order' sum =
         let all = spots sign items in
         let just = s.at.page_just in
         let line = after_last is_break (group_of s all) in
-        sum line s (present_glyphs just (present_area sign items) (area_placing all s)) is (no_clash all s just refl refl apart)
-        (λ e. of.order_is ∙ ap (λ j. line_sum (after_last is_break (in_group j (present_area sign items)))) (sym (eqb-true kept.state.attributes.page_just kept.state.area.present (sym goes ∙ e)) ∙ at))
+        sum line s (sym is.just) (no_clash all s just refl refl apart)
+        (λ e. of.order_is ∙ ap (λ j. order_sum (after_last is_break (in_group j (present_area sign items)))) (sym (eqb-true kept.state.attributes.page_just kept.state.area.present (sym goes ∙ e)) ∙ at))
         (λ e. ap (after_last is_break) (group_behind just (present_area sign items) (elim (cases_eq kept.state.attributes.page_just kept.state.area.present) [
           | inl same ↦ absurd (false≢true (sym e ∙ goes ∙ eq-eqb kept.state.attributes.page_just kept.state.area.present same))
           | inr differ ↦ omega (arith, back, at, differ, present_is sign items number cell found kept.state of.state_is)
         ])))
-        ∙ ap line_sum (sym (present_push (group_of s all) s refl) ∙ ap (after_last is_break) (sym own))
+        ∙ ap order_sum (sym (present_push (group_of s all) s refl) ∙ ap (after_last is_break) (sym own))
 
     -- what is kept is that of the items with it
-    pub kept_with : (area' : Area) (split' : Option Split) (order' : Line) → area' ≡ area_sum (area_with sign items number cell found)
+    pub kept_with : (area' : Area) (split' : Option Split) (order' : Order) → area' ≡ area_sum (area_with sign items number cell found)
         → split' ≡ split_sum (after_last is_break (filled (Some s.at.rectangle.width) (group_of s (spots sign items) ++ s ∷ [])))
-        → order' ≡ line_sum (after_last is_break (in_group s.at.page_just (present_area sign more)))
-        → IsBelow (1024 * length items + 1024) area' → IsSplitBelow (1024 * length items + 1024) split' → IsLineBelow (1024 * length items + 1024) order'
+        → order' ≡ order_sum (after_last is_break (in_group s.at.page_just (present_area sign more)))
+        → IsBelow (1024 * length items + 1024) area' → IsSplitBelow (1024 * length items + 1024) split'
         → line_fits s.at.rectangle.width (after_last is_break (filled (Some s.at.rectangle.width) (group_of s (spots sign items) ++ s ∷ []))) ≡ true
         → IsFilledOf sign more (record { state = record kept.state { area = area' }; split = split'; order = order' })
-    kept_with area' split' order' area split order below split_below order_below fits =
+    kept_with area' split' order' area split order below split_below fits =
         let present : area'.present ≡ s.at.page_just = ap (λ (a : Area). a.present) area ∙ (goes_behind sign items number cell found apart).last in
         let count : 1024 * length more ≡ 1024 * length items + 1024 = omega (arith, length-append items (Shows number ∷ [])) in
         let laid : 1024 * length (laid_items Words sign more more) ≡ 1024 * length items + 1024 = ap (λ n. 1024 * n) (laid_count sign more) ∙ count in
@@ -120,9 +121,8 @@ module _ (sign : SignData) (items : List Meaning) (number : ℕ) (cell : CellDat
         record {
           state_is = filled_state Words sign items number cell found kept.state area' of.state_is area (subst (λ n. IsBelow n area') (sym laid) below);
           split_is = split ∙ sym (λ i. split_sum (after_last is_break (filled (Some (width_more i)) (group_is i))));
-          order_is = order ∙ ap (λ j. line_sum (after_last is_break (in_group j (present_area sign more)))) (sym present);
+          order_is = order ∙ ap (λ j. order_sum (after_last is_break (in_group j (present_area sign more)))) (sym present);
           split_below = subst (λ n. IsSplitBelow n split') (sym count) split_below;
-          order_below = subst (λ n. IsLineBelow n order') (sym count) order_below;
           fits = λ j. elim (cases_eq s.at.page_just j) [
             | inl same ↦
                 let group : in_group j (present_area sign more) ≡ group_of s (spots sign items) ++ s ∷ [] = ap (λ j. in_group j (present_area sign more)) (sym same) ∙ own in
@@ -145,7 +145,7 @@ module _ (sign : SignData) (items : List Meaning) (kept : Filled) (of : IsFilled
 
 -- a character is judged whose cell was found and which doesn't conflict
 module _ (sign : SignData) (items : List Meaning) (kept : Filled) (of : IsFilledOf sign items kept) (number : ℕ) (c : SizedCell) (some : cell_in sign kept.state.attributes.font.number number ≡ Some c)
-    (clash : Bool) (clashing : (line : List Spot) (s : Spot) → kept.order ≡ line_sum line → s.at.line_just ≡ kept.state.attributes.line_just → clash ≡ list_any (clashes s) line)
+    (clash : Bool) (clashing : (line : List Spot) (s : Spot) → kept.order ≡ order_sum line → s.at.line_just ≡ kept.state.attributes.line_just → clash ≡ list_any (clashes s) line)
     (goes_on : Bool) (goes : goes_on ≡ (kept.state.attributes.page_just == kept.state.area.present)) (free : (nat_lt kept.state.attributes.page_just kept.state.area.present || (goes_on && clash)) ≡ false)
     (character : Character) (just : character.just ≡ kept.state.attributes.line_just) (spacing : character.spacing ≡ kept.state.attributes.spacing) (wide : character.width ≡ c.width)
     (font : character.font ≡ kept.state.attributes.font) (area' : Area) (split' : Option Split) (ended : Option Line)
@@ -164,12 +164,12 @@ module _ (sign : SignData) (items : List Meaning) (kept : Filled) (of : IsFilled
       filled_too_big sign items kept of number c some cell found apart character is' (number == 32) (spaces_is sign items number cell found) area' split' ended (fills cell found) f h line height is
 
   -- it fits
-  pub exit_fits : (f && h) ≡ true → (order' : Line)
-      → ((line : List Spot) (s : Spot) → AllPass is_glyph line → IsCharacter s character → list_any (clashes s) line ≡ false
-      → (goes_on ≡ true → kept.order ≡ line_sum line) → (goes_on ≡ false → line ≡ []) → order' ≡ line_sum (line ++ s ∷ []))
-      → IsBelow (1024 * length items + 1024) area' → IsSplitBelow (1024 * length items + 1024) split' → IsLineBelow (1024 * length items + 1024) order'
+  pub exit_fits : (f && h) ≡ true → (order' : Order)
+      → ((line : List Spot) (s : Spot) → s.at.line_just ≡ character.just → list_any (clashes s) line ≡ false
+      → (goes_on ≡ true → kept.order ≡ order_sum line) → (goes_on ≡ false → line ≡ []) → order' ≡ order_sum (line ++ s ∷ []))
+      → IsBelow (1024 * length items + 1024) area' → IsSplitBelow (1024 * length items + 1024) split'
       → (offence Words sign items (Shows number) ≡ None) × IsFilledOf sign (items ++ Shows number ∷ []) (record { state = record kept.state { area = area' }; split = split'; order = order' })
-  exit_fits is order' sum below split_below order_below =
+  exit_fits is order' sum below split_below =
       let (cell, found, width) = found_here sign items kept of number c some in
       let s : Spot = shown sign items number cell found in
       let at = ap (λ (a : Attributes). a.page_just) (attributes_here sign items kept of) in
@@ -184,7 +184,7 @@ module _ (sign : SignData) (items : List Meaning) (kept : Filled) (of : IsFilled
       let fits = ap (λ (a : Attributes). line_fits a.rectangle.width last) (sym (attributes_here sign items kept of)) ∙ sym (line last line_is) ∙ first_true f h is in
       let order = order_with sign items number cell found kept of apart goes_on goes at character is' order' sum in (
         filled_fits sign items kept of number c some cell found apart character is' (number == 32) space area' split' ended (fills cell found) f h line height is,
-        kept_with sign items number cell found kept of apart area' split' order' area split order below split_below order_below fits,
+        kept_with sign items number cell found kept of apart area' split' order' area split order below split_below fits,
       )
 
 -- a character is passed that doesn't offend
@@ -193,15 +193,15 @@ module _ (sign : SignData) (items : List Meaning) (kept : Filled) (of : IsFilled
     (character : Character) (just : character.just ≡ kept.state.attributes.line_just) (spacing : character.spacing ≡ kept.state.attributes.spacing) (wide : character.width ≡ c.width)
     (font : character.font ≡ kept.state.attributes.font) (area' : Area) (split' : Option Split) (ended : Option Line)
     (fills : (cell : CellData) (found : cell_numbered (standing sign items).font number ≡ Some cell) → Fills sign items kept of number c some character (number == 32) area' split' ended kept.state.attributes.page_just kept.state.attributes.rectangle.width)
-    (order' : Line) (sum : (line : List Spot) (s : Spot) → AllPass is_glyph line → IsCharacter s character → list_any (clashes s) line ≡ false
-    → (goes_on ≡ true → kept.order ≡ line_sum line) → (goes_on ≡ false → line ≡ []) → order' ≡ line_sum (line ++ s ∷ [])) where
+    (order' : Order) (sum : (line : List Spot) (s : Spot) → s.at.line_just ≡ character.just → list_any (clashes s) line ≡ false
+    → (goes_on ≡ true → kept.order ≡ order_sum line) → (goes_on ≡ false → line ≡ []) → order' ≡ order_sum (line ++ s ∷ [])) where
   first_of : (a b : Bool) → (not a || not b) ≡ false → a ≡ true
   first_of true b e = refl
   first_of false b e = cc
 
-  pub passed_behind : IsBelow (1024 * length items + 1024) area' → IsSplitBelow (1024 * length items + 1024) split' → IsLineBelow (1024 * length items + 1024) order'
+  pub passed_behind : IsBelow (1024 * length items + 1024) area' → IsSplitBelow (1024 * length items + 1024) split'
       → IsFilledBehind sign items number kept (record { state = record kept.state { area = area' }; split = split'; order = order' }) ended
-  passed_behind below split_below order_below =
+  passed_behind below split_below =
       let (cell, found, width) = found_here sign items kept of number c some in
       let s : Spot = shown sign items number cell found in
       let w = s.at.rectangle.width in
@@ -215,7 +215,7 @@ module _ (sign : SignData) (items : List Meaning) (kept : Filled) (of : IsFilled
       let line_fits' = ap (λ l. line_fits w (after_last is_break l)) (sym on.after) ∙ first_of (line_fits w (after_last is_break (in_group s.at.page_just new))) (area_fits s.at.rectangle.height new) fit in
       let order = order_with sign items number cell found kept of apart goes_on goes at character is' order' sum in
       record {
-        of = kept_with sign items number cell found kept of apart area' split' order' area split order below split_below order_below line_fits';
+        of = kept_with sign items number cell found kept of apart area' split' order' area split order below split_below line_fits';
         present = ap (λ (a : Area). a.present) area ∙ on.last ∙ sym at;
         order = omega (arith, at, back sign items number cell found kept of apart);
         others = λ j other. on.others j (λ e. other (e ∙ sym at));

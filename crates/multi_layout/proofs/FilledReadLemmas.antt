@@ -1,8 +1,12 @@
 -- The verdict from the items read so far, where lines are filled.
-use Rattle.std.proofs.Common.{◌≡◌, ℕ, ◌+◌, ◌*◌, ◌^◌, ◌<◌, ◌≤◌, List, [], ◌∷◌, ◌++◌, length, map, Some, None, sym, ap, subst, ◌∙◌, arith, append-nil}
+use Rattle.std.proofs.Common.{◌≡◌, ℕ, ◌+◌, ◌*◌, ◌^◌, ◌<◌, ◌≤◌, List, [], ◌∷◌, ◌++◌, length, map, slice_get, Some, None, refl, sym, ap, subst, ◌∙◌, arith, append-nil}
 use Rattle.std.specs.List.{after_last}
+use Rattle.multi_token.specs.Counted.{Counted}
 use Rattle.multi_token.specs.declared.token.Token.{Token}
+use Rattle.multi_token.specs.declared.token.Kind.TheVariants as kinds
+use Rattle.multi_token.specs.Spelling.{IsPlain}
 use Rattle.multi_token.specs.Tokens.{IsTokenOf, item_of}
+use Rattle.multi_token.proofs.PlaceLemmas.{single_token}
 use Rattle.sign_font.specs.declared.parts.LineFill.TheVariants.{Words}
 use Rattle.sign_font.specs.Sign.{SignData}
 use Rattle.multi_layout.specs.declared.filled.Filled.{Filled}
@@ -10,36 +14,34 @@ use Rattle.multi_layout.specs.declared.state.State.{State}
 use Rattle.multi_layout.specs.Address.{Spot, Standing, in_group, is_break, standing}
 use Rattle.multi_layout.specs.Filling.{filled}
 use Rattle.multi_layout.specs.FillOpen.{AllOpenFit}
-use Rattle.multi_layout.specs.FillSums.{split_sum}
+use Rattle.multi_layout.specs.FillSums.{order_sum, split_sum}
 use Rattle.multi_layout.specs.FilledState.{IsFilledFor, IsFilledOf, IsFilledReady}
 use Rattle.multi_layout.specs.LaidItems.{laid_items}
-use Rattle.multi_layout.specs.Meaning.{Meaning, meaning}
+use Rattle.multi_layout.specs.Meaning.{Meaning, Shows, meaning}
 use Rattle.multi_layout.specs.Offence.{offence}
-use Rattle.multi_layout.specs.Progress.{IsAcceptedWith, ReadSoFar}
-use Rattle.multi_layout.specs.State.{IsStateOf, present_area}
-use Rattle.multi_layout.specs.Sums.{line_sum}
+use Rattle.multi_layout.specs.Progress.{IsAt, IsTold, ReadSoFar}
+use Rattle.multi_layout.specs.State.{IsStateOf, present_area, whole_times}
 use Rattle.multi_layout.specs.Times.{cycle, ended_times}
 use Rattle.multi_layout.specs.Verdict.{IsVerdict, Refused, pages_of}
-use Rattle.multi_layout.proofs.BoundLemmas.{line_more, none_below, split_more}
+use Rattle.multi_layout.proofs.BoundLemmas.{split_more}
 use Rattle.multi_layout.proofs.FillLemmas.{nothing_fits}
 use Rattle.multi_layout.proofs.FilledJudgedLemmas.{attributes_here}
 use Rattle.multi_layout.proofs.FilledKeptLemmas.{laid_count}
 use Rattle.multi_layout.proofs.FilledStateLemmas.{pages_at, same_times}
 use Rattle.multi_layout.proofs.JudgedLemmas.{ready}
 use Rattle.multi_layout.proofs.LaidItemLemmas.{are_laid}
-use Rattle.multi_layout.proofs.ReadLemmas.{accepted_at_end, cycle_at_end, few_here, read_more, refused_here}
+use Rattle.multi_layout.proofs.ReadLemmas.{accepted_at_end, at_end, cycle_at_end, few_here, read_more, refused_here}
 
 -- what is kept where an area begins
 pub filled_start : (sign : SignData) (items : List Meaning) (state : State) → IsStateOf sign (laid_items Words sign items items) state → present_area sign items ≡ []
-    → IsFilledOf sign items (record { state = state; split = None; order = line_sum [] })
+    → IsFilledOf sign items (record { state = state; split = None; order = order_sum [] })
 filled_start sign items state st none =
     let width = (standing sign items).rectangle.width in
     record {
       state_is = st;
       split_is = sym (ap (λ (area : List Spot). split_sum (after_last is_break (filled (Some width) (in_group state.area.present area)))) none);
-      order_is = sym (ap (λ (area : List Spot). line_sum (after_last is_break (in_group state.area.present area))) none);
+      order_is = sym (ap (λ (area : List Spot). order_sum (after_last is_break (in_group state.area.present area))) none);
       split_below = tt;
-      order_below = none_below (1024 * length items);
       fits = subst (AllOpenFit (Some width)) (sym none) (λ just. nothing_fits width);
     }
 
@@ -49,7 +51,6 @@ module _ (sign : SignData) (items : List Meaning) (kept : Filled) (of : IsFilled
   filled_ready few = record {
     state = ready sign (laid_items Words sign items items) kept.state of.state_is (omega (arith, few, laid_count sign items));
     split = split_more (1024 * length items) (2 ^ 62) kept.split (omega (arith, few)) of.split_below;
-    order = line_more (1024 * length items) (2 ^ 62) kept.order (omega (arith, few)) of.order_below;
   }
 
   -- it has their pages and times
@@ -63,15 +64,6 @@ module _ (sign : SignData) (octets : List ℕ) (at : ℕ) (kept : Filled) (r : R
   pub filled_ready_here : length octets < 2 ^ 32 → IsFilledReady kept
   filled_ready_here short = filled_ready sign (map meaning r.items) kept r.is.of (few_here sign octets at (IsFilledFor sign kept) r short)
 
-  pub filled_at_end : length octets ≡ at → IsAcceptedWith sign octets kept.state
-  filled_at_end end =
-      let items = map meaning r.items in
-      record {
-        verdict = accepted_at_end sign octets at (IsFilledFor sign kept) r end kept.state.pages (kept_pages sign items kept r.is.of);
-        cycle = cycle_at_end sign octets at (IsFilledFor sign kept) r end kept.state (kept_times sign items kept r.is.of) (attributes_here sign items kept r.is.of);
-        short = r.is.of.state_is.short;
-      }
-
   module _ (t : Token) (here : t.at ≡ at) (stands : IsTokenOf octets t) where
     pub filled_more : (new : Filled) → offence Words sign (map meaning r.items) (meaning (item_of octets t)) ≡ None → IsFilledOf sign (map meaning r.items ++ meaning (item_of octets t) ∷ []) new
         → ReadSoFar sign octets (at + t.len) (IsFilledFor sign new)
@@ -83,3 +75,33 @@ module _ (sign : SignData) (octets : List ℕ) (at : ℕ) (kept : Filled) (r : R
     filled_refused code offends =
         refused_here sign octets at (IsFilledFor sign kept) r t here stands code
         (subst (λ setting. offence setting sign (map meaning r.items) (meaning (item_of octets t)) ≡ Some code) (sym r.is.words) offends)
+
+-- one more octet that stands for itself
+module _ (sign : SignData) (octets : List ℕ) (at : ℕ) (kept : Filled) (r : ReadSoFar sign octets at (IsFilledFor sign kept)) (octet : ℕ) (short : length octets < 2 ^ 63) (here : slice_get octets at ≡ Some octet) (plain : IsPlain octet) where
+  abbrev token : Token
+  token = record { at = at; len = 1; kind = kinds.Char octet }
+
+  stands : IsTokenOf octets token
+  stands = single_token octets at octet short here plain
+
+  pub octet_judged : (new : Filled) → (offence Words sign (map meaning r.items) (Shows octet) ≡ None) × IsFilledOf sign (map meaning r.items ++ Shows octet ∷ []) new → ReadSoFar sign octets (at + 1) (IsFilledFor sign new)
+  octet_judged new judged = filled_more sign octets at kept r token refl stands new judged.0 judged.1
+
+  pub octet_refused : (code : ℕ) → offence Words sign (map meaning r.items) (Shows octet) ≡ Some code → IsVerdict sign octets (Refused code at)
+  octet_refused code offends = filled_refused sign octets at kept r token refl stands code offends
+
+-- what is told of a string where all its items are read
+pub filled_told : (sign : SignData) (octets : List ℕ) (at : ℕ) (kept : Filled) (source : Counted) → IsAt sign octets at None (IsFilledFor sign kept) source → IsTold sign octets kept.state.pages (whole_times kept.state) source
+filled_told sign octets at kept source i =
+    let end = at_end octets at i.so_far.within (sym i.octet) in
+    let items = map meaning i.so_far.items in
+    let of = i.so_far.is.of in
+    let least = i.least in
+    let most = i.most in
+    record {
+      verdict = accepted_at_end sign octets at (IsFilledFor sign kept) i.so_far end kept.state.pages (kept_pages sign items kept of);
+      cycle = cycle_at_end sign octets at (IsFilledFor sign kept) i.so_far end kept.state (kept_times sign items kept of) (attributes_here sign items kept of);
+      same = i.same;
+      least = omega (arith, least, end);
+      most = omega (arith, most, end);
+    }

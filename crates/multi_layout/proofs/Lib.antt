@@ -1,5 +1,6 @@
 pub mod AcceptedLemmas
 pub mod AreaDrawLemmas
+pub mod AtLemmas
 pub mod AreaFillLemmas
 pub mod AreaLemmas
 pub mod AreaLinesLemmas
@@ -28,12 +29,14 @@ pub mod FilledOnLemmas
 pub mod FilledOrderLemmas
 pub mod FilledPassLemmas
 pub mod FilledReadLemmas
+pub mod FilledRunLemmas
 pub mod FilledRoomLemmas
 pub mod FilledStartLemmas
 pub mod FilledStateLemmas
 pub mod FilledSumLemmas
 pub mod FilledTableLemmas
 pub mod FilledTagLemmas
+pub mod FilledTextLemmas
 pub mod FillingExamples
 pub mod FitLemmas
 pub mod FullLemmas

@@ -79,11 +79,11 @@ largest_glyph f line s h g =
     ∙ largest_push f line s
     ∙ ap (λ l. max (largest f l) (f s)) (sym (bearers_glyphs line h))
 
-cond_zero : (b : Bool) (n : ℕ) → n ≡ 0 → cond b n 0 ≡ 0
+pub cond_zero : (b : Bool) (n : ℕ) → n ≡ 0 → cond b n 0 ≡ 0
 cond_zero true n e = e
 cond_zero false n e = refl
 
-any_more : {X : Type 0} (p : X → Bool) (xs : List X) (x : X) → list_any p (xs ++ x ∷ []) ≡ (list_any p xs || p x)
+pub any_more : {X : Type 0} (p : X → Bool) (xs : List X) (x : X) → list_any p (xs ++ x ∷ []) ≡ (list_any p xs || p x)
 any_more p xs x = list_any-append p xs (x ∷ []) ∙ ap (λ b. list_any p xs || b) (Rattle.std.proofs.Math.Bool.or-false (p x))
 
 or_true : (b : Bool) → (b || true) ≡ true

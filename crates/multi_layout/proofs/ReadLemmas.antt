@@ -7,6 +7,7 @@ use Rattle.std.proofs.lemmas.List.{length-append, length-drop, drop_all, map-app
 use Rattle.std.proofs.lemmas.List.Concat.{flat_map-append}
 use Rattle.std.proofs.lemmas.List.Elements.{All-push, All-nil}
 use Rattle.std.proofs.lemmas.List.Sums.{sum_by-append}
+use Rattle.multi_token.specs.Counted.{Counted}
 use Rattle.multi_token.specs.declared.token.Token.{Token}
 use Rattle.multi_token.specs.Spelling.{Item, IsItem, spelling, spell, HasNoItem, IsReading}
 use Rattle.multi_token.specs.Tokens.{IsTokenOf, item_of}
@@ -18,8 +19,8 @@ use Rattle.multi_layout.specs.declared.state.State.{State}
 use Rattle.multi_layout.specs.Address.{standing}
 use Rattle.multi_layout.specs.Meaning.{Meaning, meaning}
 use Rattle.multi_layout.specs.Offence.{offence}
-use Rattle.multi_layout.specs.Progress.{ReadSoFar}
-use Rattle.multi_layout.specs.State.{IsReady, IsStateOf, IsUnfilledOf, attributes_of}
+use Rattle.multi_layout.specs.Progress.{IsAt, IsTold, ReadSoFar}
+use Rattle.multi_layout.specs.State.{IsReady, IsStateOf, IsUnfilledOf, attributes_of, whole_times}
 use Rattle.multi_layout.specs.Times.{Times, cycle, ended_times, page_times, times_at}
 use Rattle.multi_layout.specs.Verdict.{Accepted, IsCycle, IsVerdict, Refused, broken, of_first, pages_of, verdict, verdict_on}
 use Rattle.multi_layout.proofs.JudgedLemmas.{ready}
@@ -129,3 +130,18 @@ module _ (sign : SignData) (octets : List ℕ) (at : ℕ) (state : State) (r : R
     unfilled_refused code offends =
         refused_here sign octets at (IsUnfilledOf sign state) r t here stands code
         (subst (λ setting. offence setting sign (map meaning r.items) (meaning (item_of octets t)) ≡ Some code) (sym r.is.off) offends)
+
+-- what is told of a string where all its items are read
+pub unfilled_told : (sign : SignData) (octets : List ℕ) (at : ℕ) (state : State) (source : Counted) → IsAt sign octets at None (IsUnfilledOf sign state) source → IsTold sign octets state.pages (whole_times state) source
+unfilled_told sign octets at state source i =
+    let end = at_end octets at i.so_far.within (sym i.octet) in
+    let of = i.so_far.is.state_is in
+    let least = i.least in
+    let most = i.most in
+    record {
+      verdict = accepted_at_end sign octets at (IsUnfilledOf sign state) i.so_far end state.pages of.pages;
+      cycle = cycle_at_end sign octets at (IsUnfilledOf sign state) i.so_far end state of.times of.attributes;
+      same = i.same;
+      least = omega (arith, least, end);
+      most = omega (arith, most, end);
+    }

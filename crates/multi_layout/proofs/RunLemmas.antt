@@ -80,7 +80,7 @@ kept_area_fits spots area height placing e known =
 
 -- ---- one more character of the segment
 
-or_same : (b : Bool) → b ≡ (b || b)
+pub or_same : (b : Bool) → b ≡ (b || b)
 or_same true = refl
 or_same false = refl
 
@@ -157,7 +157,7 @@ longer_below k width count area below wide many = record {
 }
 
 -- a number below 5 isn't 5
-not_full : (n : ℕ) → ((n == 5) && nat_lt n 5) ≡ false
+pub not_full : (n : ℕ) → ((n == 5) && nat_lt n 5) ≡ false
 not_full n = elim (cases_eq n 5) [
   | inl five ↦ rw five refl
   | inr other ↦ rw (ne_eqb n 5 other) refl

@@ -1,9 +1,9 @@
 -- One more octet of a run, in the string that is read.
-use Rattle.std.proofs.Common.{◌≡◌, ℕ, suc, ◌+◌, ◌*◌, ◌^◌, ◌<◌, ◌≤◌, List, [], ◌∷◌, ◌++◌, length, map, drop, take, slice_get, Option, Some, None, refl, sym, ap, ◌∙◌, append_assoc, length-take, arith}
+use Rattle.std.proofs.Common.{◌≡◌, ℕ, suc, ◌+◌, ◌*◌, ◌^◌, ◌<◌, ◌≤◌, List, [], ◌∷◌, ◌++◌, length, map, drop, take, slice_get, Option, Some, None, refl, sym, ap, ◌∙◌, append_assoc, arith}
 use Rattle.std.specs.List.{All, sum_by}
 use Rattle.std.specs.Option.{option_map}
 use Rattle.std.specs.Prelude.{slice_index, slice_range}
-use Rattle.std.proofs.lemmas.List.{drop_more, take-append-drop}
+use Rattle.std.proofs.lemmas.List.{drop_more, length-take-le, take-append-drop}
 use Rattle.std.proofs.lemmas.List.Elements.{All-head, All-tail, All-take}
 use Rattle.std.proofs.lemmas.List.Sums.{sum_by-append}
 use Rattle.multi_token.specs.Spelling.{IsPlain}
@@ -86,7 +86,7 @@ module _ (sign : SignData) (octets : List ℕ) (at : ℕ) (state : State) (width
     more_goes_on narrow fits =
         octet_goes_on sign octets at (lengthened width count state) r octet short here plain gap room (run_stays state gap room width count run) wide some width_is narrow fits
 
-behind_first : {x y : ℕ} {xs ys : List ℕ} → x ∷ xs ≡ y ∷ ys → xs ≡ ys
+pub behind_first : {x y : ℕ} {xs ys : List ℕ} → x ∷ xs ≡ y ∷ ys → xs ≡ ys
 behind_first e = cc
 
 -- a text of a run: octets without brackets, each with a cell, all within the room
@@ -129,8 +129,31 @@ stands_behind octets (first ∷ before) behind at octet e =
     let to : at + 1 + length before ≡ at + suc (length before) = omega arith in
     rw (← to) (stands_behind octets before behind (at + 1) octet (behind_first (sym (drop_read octets at first here) ∙ e)))
 
+-- what stands behind a list in another
+pub drop_behind : (octets before behind : List ℕ) (at : ℕ) → drop at octets ≡ before ++ behind → drop (at + length before) octets ≡ behind
+drop_behind octets [] behind at e = let to : at + 0 ≡ at = omega arith in rw to e
+drop_behind octets (first ∷ before) behind at e =
+    let here : slice_get octets at ≡ Some first = read_drop octets at first (before ++ behind) e in
+    let to : at + 1 + length before ≡ at + suc (length before) = omega arith in
+    rw (← to) (drop_behind octets before behind (at + 1) (behind_first (sym (drop_read octets at first here) ∙ e)))
+
 split_at : (text : List ℕ) (at : ℕ) → at < length text → text ≡ take at text ++ slice_index text at ∷ drop (at + 1) text
 split_at text at h = sym (take-append-drop at text) ∙ ap (λ behind. take at text ++ behind) (drop_more text at 0 h)
+
+-- an octet of a text that stands at an offset, and what stands from a place in it
+pub octet_stands : (octets text rest : List ℕ) (at place : ℕ) → drop at octets ≡ text ++ rest → place < length text → slice_get octets (at + place) ≡ Some (slice_index text place)
+octet_stands octets text rest at place here within =
+    let size : length (take place text) ≡ place = length-take-le place text (omega (arith, within)) in
+    let apart : drop at octets ≡ take place text ++ slice_index text place ∷ (drop (place + 1) text ++ rest) =
+    here ∙ ap (λ xs. xs ++ rest) (split_at text place within) ∙ append_assoc (take place text) (slice_index text place ∷ drop (place + 1) text) rest in
+    rw size at (stands_behind octets (take place text) (drop (place + 1) text ++ rest) at (slice_index text place) apart)
+
+pub rest_stands : (octets text rest : List ℕ) (at place : ℕ) → drop at octets ≡ text ++ rest → place ≤ length text → drop (at + place) octets ≡ drop place text ++ rest
+rest_stands octets text rest at place here within =
+    let size : length (take place text) ≡ place = length-take-le place text within in
+    let apart : drop at octets ≡ take place text ++ (drop place text ++ rest) =
+    here ∙ ap (λ xs. xs ++ rest) (sym (take-append-drop place text)) ∙ append_assoc (take place text) (drop place text) rest in
+    rw size at (drop_behind octets (take place text) (drop place text ++ rest) at apart)
 
 -- a text behind a character with the same attributes
 module _ (sign : SignData) (octets : List ℕ) (at : ℕ) (state : State) (r : ReadSoFar sign octets at (IsUnfilledOf sign state)) (short : length octets < 2 ^ 63) (gap left : ℕ)
@@ -152,7 +175,7 @@ module _ (sign : SignData) (octets : List ℕ) (at : ℕ) (state : State) (r : R
     apart = here ∙ ap (λ xs. xs ++ rest) (split_at text place fits.stands) ∙ append_assoc before (slice_index text place ∷ drop (place + 1) text) rest
 
     size : length before ≡ place
-    size = let h = fits.stands in simp length-take (omega arith)
+    size = length-take-le place text (let h = fits.stands in omega (arith, h))
 
     plain_before : All IsPlain before
     plain_before = All-take IsPlain place text plain
@@ -161,7 +184,7 @@ module _ (sign : SignData) (octets : List ℕ) (at : ℕ) (state : State) (r : R
     behind = rw size at (text_read before (slice_index text place ∷ (drop (place + 1) text ++ rest)) apart plain_before fits.pixels fits.wide fits.narrow)
 
     found : slice_get octets (at + place) ≡ Some (slice_index text place)
-    found = rw size at (stands_behind octets before (drop (place + 1) text ++ rest) at (slice_index text place) apart)
+    found = octet_stands octets text rest at place here fits.stands
 
     is_plain : IsPlain (slice_index text place)
     is_plain = plain place 0 fits.stands

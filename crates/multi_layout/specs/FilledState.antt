@@ -12,21 +12,19 @@ use Rattle.multi_layout.specs.Address.{in_group, is_break, standing}
 use Rattle.multi_layout.specs.Codes.{code_of}
 use Rattle.multi_layout.specs.Filling.{filled}
 use Rattle.multi_layout.specs.FillOpen.{AllOpenFit}
-use Rattle.multi_layout.specs.FillSums.{EndsLine, IsSplitBelow, split_sum}
+use Rattle.multi_layout.specs.FillSums.{EndsLine, IsSplitBelow, order_sum, split_sum}
 use Rattle.multi_layout.specs.Offence.{offence}
 use Rattle.multi_layout.specs.LaidItems.{laid_items}
 use Rattle.multi_layout.specs.Meaning.{Meaning, Shows}
 use Rattle.multi_layout.specs.State.{IsReady, IsStateOf, present_area}
-use Rattle.multi_layout.specs.Sums.{IsLineBelow, line_sum}
 
 -- it is what is kept of these items: the state of the items as they are laid out, the parts of the present line around its last
--- space, and the line of all characters of the present group since the last `nl`; no sum overflows, and the open lines fit (own)
+-- space, and the order of all characters of the present group since the last `nl`; no sum overflows, and the open lines fit (own)
 pub record IsFilledOf (sign : SignData) (items : List Meaning) (kept : Filled) : Type 0 where
   pub state_is : IsStateOf sign (laid_items Words sign items items) kept.state
   pub split_is : kept.split ≡ split_sum (after_last is_break (filled (Some (standing sign items).rectangle.width) (in_group kept.state.area.present (present_area sign items))))
-  pub order_is : kept.order ≡ line_sum (after_last is_break (in_group kept.state.area.present (present_area sign items)))
+  pub order_is : kept.order ≡ order_sum (after_last is_break (in_group kept.state.area.present (present_area sign items)))
   pub split_below : IsSplitBelow (1024 * length items) kept.split
-  pub order_below : IsLineBelow (1024 * length items) kept.order
   pub fits : AllOpenFit (Some (standing sign items).rectangle.width) (present_area sign items)
 
 -- lines are filled, and this is what is kept of these items (own)
@@ -38,7 +36,6 @@ pub record IsFilledFor (sign : SignData) (kept : Filled) (items : List Meaning) 
 pub record IsFilledReady (kept : Filled) : Type 0 where
   pub state : IsReady kept.state
   pub split : IsSplitBelow (2 ^ 62) kept.split
-  pub order : IsLineBelow (2 ^ 62) kept.order
 
 -- one more item is judged: it doesn't offend and this is then what is kept of the items with it, or it offends by this error (own)
 abbrev pub IsFilledJudged : SignData → List Meaning → Meaning → Result (Unit {0}) SyntaxError → Filled → Type 0

@@ -7,6 +7,7 @@ pub mod FillLaw
 pub mod FillOpen
 pub mod FillSums
 pub mod FilledRead
+pub mod FilledRun
 pub mod FilledState
 pub mod Filling
 pub mod Fit

@@ -4,7 +4,6 @@ use Rattle.std.specs.List.{All}
 use Rattle.multi_token.specs.Counted.{Counted}
 use Rattle.multi_token.specs.Spelling.{Item, IsItem, spell}
 use Rattle.sign_font.specs.Sign.{SignData}
-use Rattle.multi_layout.specs.declared.state.State.{State}
 use Rattle.multi_layout.specs.declared.verdict.Offence.{Offence}
 use Rattle.multi_layout.specs.Codes.{code_of}
 use Rattle.multi_layout.specs.Limits.{check_limit}
@@ -44,8 +43,11 @@ pub record IsRefused (sign : SignData) (octets : List ℕ) (offence : Offence) (
   pub least : offence.at + 1 ≤ source.steps
   pub most : source.steps ≤ check_limit (length octets)
 
--- the string is accepted with the pages and times of this state, whose cycle is short (own)
-pub record IsAcceptedWith (sign : SignData) (octets : List ℕ) (state : State) : Type 0 where
-  pub verdict : IsVerdict sign octets (Accepted state.pages)
-  pub cycle : IsCycle sign octets (state.cycle + state.attributes.on + state.attributes.off)
-  pub short : state.cycle ≤ 510 * state.pages
+-- all items are judged and none offends, these are the string's pages and the times of them together, and each octet and the end was
+-- read (own)
+pub record IsTold (sign : SignData) (octets : List ℕ) (pages tenths : ℕ) (source : Counted) : Type 0 where
+  pub verdict : IsVerdict sign octets (Accepted pages)
+  pub cycle : IsCycle sign octets tenths
+  pub same : source.octets ≡ octets
+  pub least : length octets + 1 ≤ source.steps
+  pub most : source.steps ≤ check_limit (length octets)

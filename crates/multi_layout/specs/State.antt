@@ -1,5 +1,5 @@
 -- What is kept of the items that were read (own).
-use Rattle.std.specs.Prelude.{◌≡◌, ◌+◌, ◌*◌, ◌^◌, ◌≤◌, List, [], ◌∷◌, ◌++◌, length, Some, None, Result, Ok, Err, if◌then◌else◌}
+use Rattle.std.specs.Prelude.{◌≡◌, ℕ, ◌+◌, ◌*◌, ◌^◌, ◌≤◌, List, [], ◌∷◌, ◌++◌, length, Some, None, Result, Ok, Err, if◌then◌else◌}
 use Rattle.std.specs.Option.{unwrap_or}
 use Rattle.multi_tag.specs.declared.tag.Tag.{Tag}
 use Rattle.multi_tag.specs.declared.tag.Tag.TheVariants.{NewPage, NewLine, LineJust, PageJust, Font, Rect}
@@ -65,6 +65,10 @@ pub record IsStateOf (sign : SignData) (items : List Meaning) (state : State) : 
   pub page_just : (2 ≤ state.attributes.page_just) × (state.attributes.page_just ≤ 4)
   pub below : IsBelow (1024 * length items) state.area
   pub short : state.cycle ≤ 510 * state.pages
+
+-- the times of all pages of a string that ends in this state, in tenths of a second (own)
+abbrev pub whole_times : State → ℕ
+whole_times state = state.cycle + state.attributes.on + state.attributes.off
 
 -- lines aren't filled, and the state is that of these items (own)
 pub record IsUnfilledOf (sign : SignData) (state : State) (items : List Meaning) : Type 0 where

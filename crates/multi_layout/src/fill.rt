@@ -5,14 +5,24 @@ ghost use Rattle.std.specs.List.{All, AllPass, after_last, list_any};
 ghost use Rattle.sign_font.specs.Sign.{info_of};
 ghost use Rattle.multi_layout.specs.Address.{Spot, is_break, is_glyph};
 ghost use Rattle.multi_layout.specs.Fit.{line_fits};
-ghost use Rattle.multi_layout.specs.FillSums.{EndsLine, FillsArea, IsSplitBelow, OnFilled, split_sum};
-ghost use Rattle.multi_layout.specs.Filling.{dropped, filled, is_space};
+ghost use Rattle.multi_layout.specs.FillSums.{FillsArea, FillsGroup, IsSplitBelow, split_sum};
+ghost use Rattle.multi_layout.specs.Filling.{dropped, is_space};
 ghost use Rattle.multi_layout.specs.Offence.{clashes};
+ghost use Rattle.multi_layout.specs.Run.{kept_fits};
 ghost use Rattle.multi_layout.specs.Sums.{IsBelow, IsCharacter, IsGroupBelow, IsLineBelow, IsPlacing, area_sum, group_sum, line_sum};
 
 use crate::area::{Area, Group};
 use crate::line::{Character, Line};
 use sign_font::FontInfo;
+
+/// What became of a character that was put where lines are filled.
+#[derive(Clone, Copy)]
+pub(crate) struct Placed {
+    /// Whether its line fits.
+    pub(crate) fits: bool,
+    /// The line that it ended, if it did.
+    pub(crate) ended: Option<Line>,
+}
 
 /// The parts of the open line around its last space.
 #[derive(Clone, Copy, Debug, PartialEq, Eq)]
@@ -44,50 +54,57 @@ impl Group {
 
     /// Adds a character, where lines are filled to a width. Where it doesn't fit the present line, the line is ended: before
     /// the character, a space that is dropped, or else at its last space. Without one it stays, and doesn't fit. The parts are
-    /// those of the present line around its last space, and then those of the new present line. The answer is the line that it
-    /// ended, if it did.
+    /// those of the present line around its last space, and then those of the new present line.
+    #[inline(always)]
     pub(crate) fn fill_character(
         &mut self,
         split: &mut Option<Split>,
         width: u16,
         character: &Character,
         space: bool,
-    ) -> Option<Line>
+    ) -> Placed
         requires known { character.now.just ≤ 5 }
         requires below { IsGroupBelow (2 ^ 62) self.old }
         requires parts { IsSplitBelow (2 ^ 62) split.old }
-        ensures sum { OnFilled width self.old split.old character.now space (λ group s. self.new ≡ group_sum (filled (Some width) (group ++ s ∷ []))) }
-        ensures split { OnFilled width self.old split.old character.now space
-            (λ group s. split.new ≡ split_sum (after_last is_break (filled (Some width) (group ++ s ∷ [])))) }
-        ensures ended { OnFilled width self.old split.old character.now space
-            (λ group s. EndsLine (filled (Some width) group) (filled (Some width) (group ++ s ∷ [])) result) }
+        ensures sum { FillsGroup width self.old split.old character.now space self.new split.new result.ended }
+        ensures fits { (line : List Spot) → self.new.line ≡ line_sum line → result.fits ≡ line_fits width line }
+        ensures kept_fits { result.fits ≡ kept_fits width self.new.line }
         ensures grows { (k : ℕ) → IsGroupBelow k self.old → IsSplitBelow k split.old → IsGroupBelow (k + 1024) self.new × IsSplitBelow (k + 1024) split.new }
-        ensures small { IfSome result (IsLineBelow (2 ^ 62)) }
+        ensures small { IfSome result.ended (IsLineBelow (2 ^ 62)) }
     {
-        let mut line = self.line;
-        line.add(character);
-        if line.fits(width) {
-            *split = split_with(*split, &self.line, character, space);
-            self.line = line;
-            return None;
+        let before = self.line;
+        self.line.add(character);
+        if self.line.fits(width) {
+            grow(split, &before, character, space);
+            return Placed {
+                fits: true,
+                ended: None,
+            };
         }
         if space {
-            let ended = self.line;
+            self.line = before;
             self.add_break(None, &character.font);
             *split = None;
-            return Some(ended);
+            return Placed {
+                fits: self.line.fits(width),
+                ended: Some(before),
+            };
         }
         match *split {
             Some(parts) => {
+                self.line = before;
                 self.break_at(&parts);
                 self.line.add(character);
                 *split = None;
-                Some(parts.before)
+                Placed {
+                    fits: self.line.fits(width),
+                    ended: Some(parts.before),
+                }
             }
-            None => {
-                self.line = line;
-                None
-            }
+            None => Placed {
+                fits: false,
+                ended: None,
+            },
         }
     }
 }
@@ -95,6 +112,7 @@ impl Group {
 impl Area {
     /// Adds a character, where lines are filled to a width, with this page justification in force, which isn't before that of the
     /// present group. The parts are those of the present line around its last space, and then those of the new present line.
+    #[inline(always)]
     pub(crate) fn fill_character(
         &mut self,
         split: &mut Option<Split>,
@@ -102,14 +120,16 @@ impl Area {
         width: u16,
         character: &Character,
         space: bool,
-    ) -> Option<Line>
+    ) -> Placed
         requires page_just { (2 ≤ page_just) × (page_just ≤ 4) }
         requires known { character.now.just ≤ 5 }
         requires below { IsBelow (2 ^ 62) self.old }
         requires parts { IsSplitBelow (2 ^ 62) split.old }
-        ensures sum { FillsArea page_just width self.old split.old character.now space self.new split.new result }
+        ensures sum { FillsArea page_just width self.old split.old character.now space self.new split.new result.ended }
+        ensures fits { (line : List Spot) → self.new.group.line ≡ line_sum line → result.fits ≡ line_fits width line }
+        ensures kept_fits { result.fits ≡ kept_fits width self.new.group.line }
         ensures grows { (k : ℕ) → IsBelow k self.old → IsSplitBelow k split.old → IsBelow (k + 1024) self.new × IsSplitBelow (k + 1024) split.new }
-        ensures small { IfSome result (IsLineBelow (2 ^ 62)) }
+        ensures small { IfSome result.ended (IsLineBelow (2 ^ 62)) }
     {
         if page_just > self.present {
             *split = None;
@@ -119,36 +139,24 @@ impl Area {
     }
 }
 
-/// The parts of a line around its last space, with one more character.
-fn split_with(
-    split: Option<Split>,
-    line: &Line,
-    character: &Character,
-    space: bool,
-) -> Option<Split>
+/// Adds a character to the parts of a line around its last space.
+fn grow(split: &mut Option<Split>, line: &Line, character: &Character, space: bool)
     requires known { character.now.just ≤ 5 }
-    requires below { IsSplitBelow (2 ^ 62) split }
+    requires below { IsSplitBelow (2 ^ 62) split.old }
     ensures sum { (before : List Spot) (s : Spot) → AllPass is_glyph before → IsCharacter s character.now → is_space s ≡ space
-        → list_any (clashes s) before ≡ false → line.now ≡ line_sum before → split ≡ split_sum before → result ≡ split_sum (before ++ s ∷ []) }
-    ensures grows { (k : ℕ) → IsLineBelow k line.now → IsSplitBelow k split → IsSplitBelow (k + 1024) result }
+        → list_any (clashes s) before ≡ false → line.now ≡ line_sum before → split.old ≡ split_sum before → split.new ≡ split_sum (before ++ s ∷ []) }
+    ensures grows { (k : ℕ) → IsLineBelow k line.now → IsSplitBelow k split.old → IsSplitBelow (k + 1024) split.new }
 {
     if space {
-        return Some(Split {
+        *split = Some(Split {
             before: *line,
             font: character.font,
             behind: Line::new(),
         });
+        return;
     }
     match split {
-        Some(parts) => {
-            let mut behind = parts.behind;
-            behind.add(character);
-            Some(Split {
-                before: parts.before,
-                font: parts.font,
-                behind,
-            })
-        }
-        None => None,
+        Some(parts) => parts.behind.add(character),
+        None => {}
     }
 }

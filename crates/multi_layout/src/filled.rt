@@ -1,26 +1,28 @@
 //! What is kept of the items that were read, where lines are filled by words.
 
-ghost use Rattle.std.specs.Prelude.{◌≡◌, ℕ, ◌+◌, ◌^◌, ◌≤◌, true, false, List, [], ◌∷◌, ◌++◌, None, Some, IfSome};
-ghost use Rattle.std.specs.List.{AllPass, list_any};
+ghost use Rattle.std.specs.Prelude.{◌≡◌, ◌^◌, ◌≤◌, true, false, List, [], ◌∷◌, ◌++◌, None, Some, IfSome, OnOk};
+ghost use Rattle.std.specs.List.{list_any};
 ghost use Rattle.multi_token.specs.Counted.{RisesBetween, charged};
 ghost use Rattle.multi_token.specs.Tokens.{item_spelled};
 ghost use Rattle.sign_font.specs.declared.parts.LineFill.TheVariants.{Words};
 ghost use Rattle.sign_font.specs.Cell.{SizedCell};
 ghost use Rattle.sign_font.specs.Sign.{SignData, cell_in};
-ghost use Rattle.multi_layout.specs.Address.{Spot, is_glyph};
+ghost use Rattle.multi_layout.specs.Address.{Spot};
+ghost use Rattle.multi_layout.specs.FilledRun.{FitsHere};
 ghost use Rattle.multi_layout.specs.FilledState.{IsFilledBehind, IsFilledJudged, IsFilledOf, IsFilledReady, JudgesFilled, begins_line};
+ghost use Rattle.multi_layout.specs.FillSums.{order_sum};
 ghost use Rattle.multi_layout.specs.LaidItems.{laid_items};
 ghost use Rattle.multi_layout.specs.Meaning.{Does, Meaning, Shows, meaning};
 ghost use Rattle.multi_layout.specs.Offence.{clashes, offence};
 ghost use Rattle.multi_layout.specs.State.{IsKnown, IsStateOf, present_area};
-ghost use Rattle.multi_layout.specs.Sums.{IsCharacter, IsLineBelow, line_sum};
+ghost use Rattle.multi_layout.specs.Sums.{IsLineBelow};
 
 use crate::attributes::Rectangle;
 use crate::fault::SyntaxError;
 use crate::fill::Split;
 use crate::item::{KnownItem, tag_item};
 use crate::judge::judge_tag;
-use crate::line::{Character, Line};
+use crate::line::Line;
 use crate::state::State;
 use crate::terms::Terms;
 use multi_tag::Tag;
@@ -33,8 +35,48 @@ pub(crate) struct Filled {
     pub(crate) state: State,
     /// The parts of the present line around its last space.
     pub(crate) split: Option<Split>,
-    /// The characters of the present group since the last `nl`, dropped spaces too: the order of justifications is judged by them.
-    pub(crate) order: Line,
+    /// That of the characters of the present group since the last `nl`, dropped spaces too.
+    pub(crate) order: Order,
+}
+
+/// What the order of line justifications is judged by.
+#[derive(Clone, Copy, Debug, PartialEq, Eq)]
+pub(crate) struct Order {
+    /// The largest line justification of the characters; 0 where there is none.
+    pub(crate) largest: u8,
+    /// Whether a character isn't full.
+    pub(crate) has_parts: bool,
+}
+
+impl Order {
+    /// That of no character.
+    fn new() -> Order
+        ensures { result ≡ order_sum [] }
+    {
+        Order {
+            largest: 0,
+            has_parts: false,
+        }
+    }
+
+    /// Whether a character with this line justification has a segment before that of an earlier one, or one of them is full and
+    /// the other isn't.
+    fn clashes(&self, just: u8) -> bool
+        ensures { (line : List Spot) (s : Spot) → self.now ≡ order_sum line → s.at.line_just ≡ just → result ≡ list_any (clashes s) line }
+    {
+        (just < self.largest) | ((just == 5) & self.has_parts)
+    }
+
+    /// That with one more character, which doesn't clash with those before it. These are none where its group doesn't go on.
+    fn with(&self, goes_on: bool, just: u8) -> Order
+        ensures { (line : List Spot) (s : Spot) → s.at.line_just ≡ just → list_any (clashes s) line ≡ false
+            → (goes_on ≡ true → self.now ≡ order_sum line) → (goes_on ≡ false → line ≡ []) → result ≡ order_sum (line ++ s ∷ []) }
+    {
+        Order {
+            largest: just,
+            has_parts: (just < 5) | (goes_on & self.has_parts),
+        }
+    }
 }
 
 impl Filled {
@@ -46,7 +88,7 @@ impl Filled {
         Filled {
             state,
             split: None,
-            order: Line::new(),
+            order: Order::new(),
         }
     }
 
@@ -87,9 +129,24 @@ impl Filled {
         let judged = judge_tag(sign, &mut self.state, source, tag);
         if begins_line(tag) {
             self.split = None;
-            self.order = Line::new();
+            self.order = Order::new();
         }
         judged
+    }
+
+    /// Judges an octet that stands for itself.
+    pub(crate) fn judge_octet(
+        &mut self,
+        sign: &Terms<'_>,
+        source: &mut Source<'_>,
+        octet: u8,
+    ) -> Result<(), SyntaxError>
+        requires ready { IsFilledReady self.old }
+        ensures judged { JudgesFilled sign.now self.old (Shows octet) result self.new }
+        ensures fits { OnOk result (FitsHere self.new) }
+        ensures step { source.new ≡ charged source.old 1 }
+    {
+        self.judge_character(sign, source, u16::from(octet))
     }
 
     /// Judges a character: whether its font has a cell for it, and whether it may stand on its line and fits.
@@ -101,6 +158,7 @@ impl Filled {
     ) -> Result<(), SyntaxError>
         requires ready { IsFilledReady self.old }
         ensures judged { JudgesFilled sign.now self.old (Shows number) result self.new }
+        ensures fits { OnOk result (FitsHere self.new) }
         ensures step { number ≤ 255 → source.new ≡ charged source.old 1 }
         ensures steps { RisesBetween source.old source.new 0 8 }
     {
@@ -117,6 +175,7 @@ impl Filled {
         ensures judged { (sign : SignData) (items : List Meaning) (cell : SizedCell) → IsFilledOf sign items self.old
             → cell_in sign self.old.state.attributes.font.number number ≡ Some cell → width ≡ cell.width
             → IsFilledJudged sign items (Shows number) result self.new }
+        ensures fits { OnOk result (FitsHere self.new) }
     {
         let attributes = self.state.attributes;
         let (page_just, present) = (attributes.page_just, self.state.area.present);
@@ -126,10 +185,17 @@ impl Filled {
             return Err(SyntaxError::TagConflict);
         }
         let character = attributes.character(width);
-        self.order = order_behind(&self.order, page_just == present, &character);
+        self.order = self.order.with(page_just == present, attributes.line_just);
         let Rectangle { width, height, .. } = attributes.rectangle;
-        self.state.area.fill_character(&mut self.split, page_just, width, &character, number == 32);
-        if self.state.area.group.line.fits(width) & self.state.area.fits_height(height) {
+        let area = &mut self.state.area;
+        let placed = area.fill_character(
+            &mut self.split,
+            page_just,
+            width,
+            &character,
+            number == 32,
+        );
+        if placed.fits & self.state.area.fits_height(height) {
             Ok(())
         } else {
             Err(SyntaxError::TextTooBig)
@@ -148,9 +214,17 @@ impl Filled {
         let attributes = self.state.attributes;
         let (page_just, present) = (attributes.page_just, self.state.area.present);
         let character = attributes.character(width);
-        self.order = order_behind(&self.order, page_just == present, &character);
+        self.order = self.order.with(page_just == present, attributes.line_just);
         let width = attributes.rectangle.width;
-        self.state.area.fill_character(&mut self.split, page_just, width, &character, number == 32)
+        let area = &mut self.state.area;
+        let placed = area.fill_character(
+            &mut self.split,
+            page_just,
+            width,
+            &character,
+            number == 32,
+        );
+        placed.ended
     }
 }
 
@@ -159,17 +233,4 @@ fn begins_line(tag: Tag) -> bool
     ensures { result ≡ begins_line tag }
 {
     matches!(tag, Tag::NewPage | Tag::NewLine(_) | Tag::Rect { .. })
-}
-
-/// The characters since the last hard break, with one more; those before it are none where its group doesn't go on.
-fn order_behind(order: &Line, goes_on: bool, character: &Character) -> Line
-    requires known { character.now.just ≤ 5 }
-    requires below { IsLineBelow (2 ^ 62) order.now }
-    ensures sum { (line : List Spot) (s : Spot) → AllPass is_glyph line → IsCharacter s character.now → list_any (clashes s) line ≡ false
-        → (goes_on ≡ true → order.now ≡ line_sum line) → (goes_on ≡ false → line ≡ []) → result ≡ line_sum (line ++ s ∷ []) }
-    ensures grows { (k : ℕ) → IsLineBelow k order.now → IsLineBelow (k + 1024) result }
-{
-    let mut line = if goes_on { *order } else { Line::new() };
-    line.add(character);
-    line
 }

@@ -14,6 +14,7 @@ mod cursor;
 mod draw;
 mod fault;
 mod fill;
+mod fill_run;
 mod filled;
 mod item;
 mod judge;

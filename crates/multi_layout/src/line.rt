@@ -208,8 +208,9 @@ impl Line {
         requires known { (2 ≤ self.now.present) × (self.now.present ≤ 5) }
         requires below { IsLineBelow (2 ^ 62) self.now }
         requires fits { kept_fits width self.now ≡ true }
-        ensures { (line : List Spot) (pixels count : ℕ) → self.now ≡ line_sum line → 1 ≤ pixels
+        ensures room { (line : List Spot) (pixels count : ℕ) → self.now ≡ line_sum line → 1 ≤ pixels
             → kept_fits width (lengthened_line pixels count self.now) ≡ nat_le pixels result }
+        ensures most { result ≤ width }
     {
         let width = u64::from(width);
         match self.present {

@@ -30,8 +30,9 @@ impl State {
     pub(crate) fn run(&self) -> Run
         requires behind { IsBehindCharacter self.now }
         requires ready { IsReady self.now }
-        ensures { (items : List Meaning) (sign : SignData) → IsStateOf sign items self.now
+        ensures run { (items : List Meaning) (sign : SignData) → IsStateOf sign items self.now
             → IsRun self.now result.gap ((line_in_force self.now).part.width + result.left) }
+        ensures left { result.left < 2 ^ 16 }
     {
         let attributes = &self.attributes;
         let line = &self.area.group.line;
@@ -44,7 +45,7 @@ impl State {
     }
 
     /// Adds a width and a number of characters to the present segment.
-    fn lengthen(&mut self, width: u64, count: u64)
+    pub(crate) fn lengthen(&mut self, width: u64, count: u64)
         requires width { (line_in_force self.old).part.width + width < 2 ^ 64 }
         requires count { (line_in_force self.old).part.count + count < 2 ^ 64 }
         ensures { self.new ≡ lengthened ((line_in_force self.old).part.width + width) ((line_in_force self.old).part.count + count) self.old }

@@ -25,7 +25,7 @@ impl State {
     ghost use Rattle.sign_font.specs.Sign.{SignData, cell_in};
     ghost use Rattle.multi_layout.specs.Meaning.{Does, Meaning, Shows};
     ghost use Rattle.multi_layout.specs.Offence.{unsized_offence};
-    ghost use Rattle.multi_layout.specs.State.{IsReady, IsStateOf};
+    ghost use Rattle.multi_layout.specs.State.{IsReady, IsStateOf, whole_times};
 
     /// The state before the first item.
     pub(crate) fn new(sign: &Terms<'_>) -> State
@@ -77,7 +77,7 @@ impl State {
     /// The times of all pages of a string that ends here, in tenths of a second.
     pub(crate) fn whole_cycle(self) -> u32
         requires short { self.cycle ≤ 510 * self.pages }
-        ensures { result ≡ self.cycle + self.attributes.on + self.attributes.off }
+        ensures { result ≡ whole_times self }
     {
         self.cycle + u32::from(self.attributes.on) + u32::from(self.attributes.off)
     }

@@ -1,15 +1,15 @@
 //! The sign that a string is for, with the defaults in force for that string.
 
-ghost use Rattle.std.specs.Prelude.{◌≡◌, ◌+◌, ◌≤◌, Some, None, IfErr, IfOk, IfSome, OnOk, length, option_map};
+ghost use Rattle.std.specs.Prelude.{◌≡◌, ◌+◌, ◌≤◌, min, Some, None, IfErr, IfOk, IfSome, OnOk, length, option_map};
 ghost use Rattle.multi_token.specs.Counted.{charged, RisesBetween};
 ghost use Rattle.sign_font.specs.Defaults.{default_fault, under};
 ghost use Rattle.sign_font.specs.Sign.{cell_in, font_numbered, info_of};
 ghost use Rattle.sign_font.specs.Sound.{IsSound, IsSoundSize, IsWithin};
-ghost use Rattle.sign_font.specs.Text.{HasWidth, IsTextFault, place_of, width_in};
+ghost use Rattle.sign_font.specs.Text.{HasWidth, IsFrontOf, IsTextFault, place_of, width_in};
 
 use crate::run::Run;
 use multi_token::Source;
-use sign_font::{Cell, Defaults, FontInfo, LineFill, Sign, TextFault};
+use sign_font::{Cell, Defaults, FontInfo, LineFill, Sign, TextFault, TextFront};
 use std::marker::Model;
 
 /// A sign, seen with these defaults in place of its own. It doesn't refuse them.
@@ -142,6 +142,22 @@ impl<'a> Terms<'a> {
         ensures sound { IsSound self.now }
     {
         self.sign.text_width(source, font, text, run.gap, run.left)
+    }
+
+    /// The front of a text of a run in the font of a number: up to the first octet that has no cell or for which too little is left.
+    /// Each cell that is looked up is one step.
+    pub(crate) fn run_front(
+        &self,
+        source: &mut Source<'_>,
+        font: u8,
+        run: Run,
+        text: &[u8],
+    ) -> TextFront
+        ensures front { IsFrontOf (width_in self.now font) run.gap run.left text.now result }
+        ensures steps { source.new ≡ charged source.old (min (result.len + 1) (length text.now)) }
+        ensures sound { IsSound self.now }
+    {
+        self.sign.text_front(source, font, text, run.gap, run.left)
     }
 
     /// The width in pixels of the cell of a number in the font of a number, if both are defined. Either way an octet is one step,

@@ -2,12 +2,9 @@
 
 ghost use Rattle.std.specs.Prelude.{◌≡◌, ◌+◌, ◌-◌, ◌^◌, ◌<◌, ◌≤◌, ◌⊎◌, [], length, IfOk, IfErr, OnOk, Some};
 ghost use Rattle.sign_font.specs.declared.parts.LineFill.TheVariants.{Words};
-ghost use Rattle.multi_layout.specs.Codes.{code_of};
+ghost use Rattle.multi_layout.specs.FilledRun.{FitsHere};
 ghost use Rattle.multi_layout.specs.FilledState.{IsFilledFor};
-ghost use Rattle.multi_layout.specs.Limits.{check_limit};
-ghost use Rattle.multi_layout.specs.Progress.{IsAcceptedWith, IsAt, IsRefused};
-ghost use Rattle.multi_layout.specs.State.{IsStateOf};
-ghost use Rattle.multi_layout.specs.Verdict.{IsVerdict, Refused};
+ghost use Rattle.multi_layout.specs.Progress.{IsTold, IsAt, IsBehind, IsRefused};
 
 use crate::fault::SyntaxError;
 use crate::filled::Filled;
@@ -16,24 +13,24 @@ use crate::terms::Terms;
 use crate::verdict::Offence;
 use multi_token::{Source, read_bracket};
 
-/// Goes from the state before the first item to one with the pages and times of an accepted string, or to the first offence.
-pub(crate) fn judge_filled(
-    sign: &Terms<'_>,
-    state: &mut State,
-    source: &mut Source<'_>,
-) -> Result<(), Offence>
-    requires start { IsStateOf sign.now [] state.old }
+/// What is told of an accepted string.
+#[derive(Clone, Copy)]
+pub(crate) struct Told {
+    /// The number of its pages.
+    pub(crate) pages: u8,
+    /// The times of all its pages, in tenths of a second.
+    pub(crate) cycle: u32,
+}
+
+/// Judges all items of a string from the left, up to the first one that offends.
+pub(crate) fn judge_filled(sign: &Terms<'_>, source: &mut Source<'_>) -> Result<Told, Offence>
     requires words { sign.now.line_fill ≡ Words }
     requires fresh { source.old.steps ≡ 0 }
     requires short { length source.old.octets < 2 ^ 32 }
-    ensures accepted { OnOk result (IsAcceptedWith sign.now source.old.octets state.new) }
-    ensures refused { IfErr result (λ offence. IsVerdict sign.now source.old.octets (Refused (code_of offence.error) offence.at)) }
-    ensures kept { source.new.octets ≡ source.old.octets }
-    ensures steps { OnOk result (length source.old.octets + 1 ≤ source.new.steps) }
-    ensures fault_steps { IfErr result (λ offence. offence.at + 1 ≤ source.new.steps) }
-    ensures most { source.new.steps ≤ check_limit (length source.old.octets) }
+    ensures accepted { IfOk result (λ told. IsTold sign.now source.old.octets told.pages told.cycle source.new) }
+    ensures refused { IfErr result (λ offence. IsRefused sign.now source.old.octets offence source.new) }
 {
-    let mut kept = Filled::new(*state);
+    let mut kept = Filled::new(State::new(sign));
     let mut at = 0;
     let mut next = source.read(at);
     while let Some(first) = next {
@@ -45,12 +42,14 @@ pub(crate) fn judge_filled(
             Err(offence) => return Err(offence),
         }
     }
-    *state = kept.state;
-    Ok(())
+    Ok(Told {
+        pages: kept.state.pages,
+        cycle: kept.state.whole_cycle(),
+    })
 }
 
-/// Judges the item that begins with this octet at an offset, which was read. It gives the offset behind, and the octet read
-/// there.
+/// Judges what begins with this octet at an offset, which was read: an item that begins with a bracket, or all characters up to
+/// one. It gives the offset behind, and the octet read there.
 fn filled_from(
     sign: &Terms<'_>,
     kept: &mut Filled,
@@ -66,13 +65,42 @@ fn filled_from(
     if first == b'[' || first == b']' {
         return filled_bracket(sign, kept, source, at, first);
     }
-    match kept.judge_character(sign, source, u16::from(first)) {
-        Ok(()) => Ok((at + 1, source.read(at + 1))),
+    match kept.judge_octet(sign, source, first) {
+        Ok(()) => filled_text(sign, kept, source, at + 1),
         Err(error) => Err(Offence { error, at }),
     }
 }
 
-/// The same of an item that begins with a bracket.
+/// Judges the characters behind one, up to a bracket or the end: the offset, and the octet read there.
+fn filled_text(
+    sign: &Terms<'_>,
+    kept: &mut Filled,
+    source: &mut Source<'_>,
+    at: usize,
+) -> Result<(usize, Option<u8>), Offence>
+    requires short { length source.old.octets < 2 ^ 32 }
+    requires behind { IsBehind sign.now source.old.octets at (IsFilledFor sign.now kept.old) source.old }
+    requires fits { FitsHere kept.old }
+    ensures at { IfOk result (λ to. (at ≤ to.0) × IsAt sign.now source.old.octets to.0 to.1 (IsFilledFor sign.now kept.new) source.new) }
+    ensures refused { IfErr result (λ offence. IsRefused sign.now source.old.octets offence source.new) }
+{
+    let (text, next) = source.read_plain(at, usize::MAX);
+    let mut done = kept.take_text(sign, source, text);
+    while done < text.len() {
+        if let Err(error) = kept.judge_octet(sign, source, text[done]) {
+            return Err(Offence {
+                error,
+                at: at + done,
+            });
+        }
+        done += 1;
+        done += kept.take_text(sign, source, &text[done..]);
+    }
+    Ok((at + text.len(), next))
+}
+
+/// Judges the item that begins with this bracket at an offset, which was read. It gives the offset behind, and the octet read
+/// there.
 fn filled_bracket(
     sign: &Terms<'_>,
     kept: &mut Filled,

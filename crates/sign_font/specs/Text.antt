@@ -1,8 +1,10 @@
 -- The width of a text.
-use Rattle.std.specs.Prelude.{◌≡◌, ℕ, ◌+◌, ◌<◌, ◌≤◌, List, All, length, map, take, slice_index, Option, Some, None, option_map}
+use Rattle.std.specs.Prelude.{◌≡◌, ℕ, ◌+◌, ◌-◌, ◌<◌, ◌≤◌, List, ◌∷◌, ◌++◌, All, length, map, take, slice_index, Option, Some, None, option_map}
 use Rattle.std.specs.List.{sum_by}
 use Rattle.sign_font.specs.declared.text.TextFault.{TextFault}
 use Rattle.sign_font.specs.declared.text.TextFault.TheVariants as faults
+use Rattle.sign_font.specs.declared.text.TextFront.{TextFront}
+use Rattle.sign_font.specs.declared.text.TextSpace.{TextSpace}
 use Rattle.sign_font.specs.Sign.{FontData, SignData, cell_in, cell_numbered}
 use Rattle.sign_font.specs.Sound.{IsWithin}
 
@@ -38,3 +40,35 @@ IsTextFault width_of gap room text (faults.TooWide at) = (before : FitsBefore wi
 abbrev pub place_of : TextFault → ℕ
 place_of (faults.Undefined at) = at
 place_of (faults.TooWide at) = at
+
+-- an octet is no space (own)
+abbrev pub IsNoSpace : ℕ → Type 0
+IsNoSpace octet = octet ≡ 32 → ⊥
+
+-- where the last space of a text of so many pixels stands, and what stands before it and behind it (own)
+pub record IsLastSpace (width_of : ℕ → Option ℕ) (gap : ℕ) (text : List ℕ) (pixels : ℕ) (space : TextSpace) : Type 0 where
+  pub before : List ℕ
+  pub behind : List ℕ
+  pub parts : text ≡ before ++ 32 ∷ behind
+  pub last : All IsNoSpace behind
+  pub at : space.at ≡ length before
+  pub wide : HasWidth width_of gap before space.before
+  pub width : ℕ
+  pub found : width_of 32 ≡ Some width
+  pub sound : IsWithin 1 64 width
+  pub through : space.through ≡ space.before + (gap + width)
+  pub within : space.through ≤ pixels
+  pub rest : HasWidth width_of gap behind (pixels - space.through)
+
+-- what is told of the last space of a text of so many pixels; nothing, if no octet of it is a space (own)
+abbrev pub HasLastSpace : (ℕ → Option ℕ) → ℕ → List ℕ → ℕ → Option TextSpace → Type 0
+HasLastSpace width_of gap text pixels None = All IsNoSpace text
+HasLastSpace width_of gap text pixels (Some space) = IsLastSpace width_of gap text pixels space
+
+-- the longest front of a text whose octets have widths, and that is no wider than the room; and its last space (own)
+pub record IsFrontOf (width_of : ℕ → Option ℕ) (gap room : ℕ) (text : List ℕ) (front : TextFront) : Type 0 where
+  pub within : front.len ≤ length text
+  pub wide : HasWidth width_of gap (take front.len text) front.width
+  pub narrow : front.width ≤ room
+  pub space : HasLastSpace width_of gap (take front.len text) front.width front.space
+  pub longest : front.len < length text → (width : ℕ) → width_of (slice_index text front.len) ≡ Some width → room < front.width + (gap + width)

@@ -4,12 +4,12 @@ ghost use Rattle.std.specs.Prelude.{◌≡◌, ◌≤◌, ℕ, min, length, IfEr
 ghost use Rattle.multi_token.specs.Counted.{RisesBetween};
 ghost use Rattle.sign_font.specs.Sign.{font_of, info_of, cell_numbered, sized};
 ghost use Rattle.sign_font.specs.Sound.{IsSoundFont, IsSoundSize, IsWithin};
-ghost use Rattle.sign_font.specs.Text.{HasWidth, IsTextFault, width_numbered};
+ghost use Rattle.sign_font.specs.Text.{HasWidth, IsFrontOf, IsTextFault, width_numbered};
 
 use crate::cell::{Cell, Glyph};
 use crate::glyphs::Glyphs;
 use crate::parts::FontPart;
-use crate::text::TextFault;
+use crate::text::{TextFault, TextFront, TextSpace};
 use multi_token::Source;
 use std::alloc::{AllocError, Global};
 use std::marker::Model;
@@ -135,5 +135,37 @@ impl Font {
             at += 1;
         }
         Ok(room - left)
+    }
+
+    /// The front of a text with this gap before each of its characters, within the room.
+    pub(crate) fn text_front(&self, text: &[u8], gap: u8, room: u64) -> TextFront
+        ensures front { IsFrontOf (width_numbered self.now) gap room text.now result }
+    {
+        let mut front = TextFront {
+            len: 0,
+            width: 0,
+            space: None,
+        };
+        while front.len < text.len() {
+            let octet = text[front.len];
+            let Some(width) = self.cell_width(octet) else {
+                return front;
+            };
+            let wide = u64::from(gap) + u64::from(width);
+            if wide > room - front.width {
+                return front;
+            }
+            let through = front.width + wide;
+            if octet == b' ' {
+                front.space = Some(TextSpace {
+                    at: front.len,
+                    before: front.width,
+                    through,
+                });
+            }
+            front.width = through;
+            front.len += 1;
+        }
+        front
     }
 }

@@ -3,8 +3,8 @@
 //! A sign is made from [`SignParts`], the numbers of a file that somebody wrote by hand. If they are outside a limit,
 //! [`Sign::new`] refuses them with the first [`SignFault`]. An accepted [`Sign`] is exactly what was written.
 //!
-//! Only [`Sign::font`], [`Sign::cell`], [`Sign::cell_width`] and [`Sign::text_width`] look up its fonts and their cells, and
-//! each look counts as one step. A cell whose number is above 255 is found by at most 8 looks.
+//! Only [`Sign::font`], [`Sign::cell`], [`Sign::cell_width`], [`Sign::text_width`] and [`Sign::text_front`] look up its fonts
+//! and their cells, and each look counts as one step. A cell whose number is above 255 is found by at most 8 looks.
 #![tactic(auto)]
 
 mod bits;
@@ -25,7 +25,7 @@ pub use font::FontInfo;
 pub use parts::{CellPart, Defaults, FontPart, LineFill, SignParts};
 pub use sample::sample_sign;
 pub use sign::Sign;
-pub use text::TextFault;
+pub use text::{TextFault, TextFront, TextSpace};
 
 #[cfg(test)]
 mod tests;

@@ -1,13 +1,13 @@
 //! A sign, which is made once and never changes.
 
-ghost use Rattle.std.specs.Prelude.{◌≡◌, ℕ, ◌+◌, ◌<◌, ◌≤◌, All, Any, length, IfOk, IfErr, IfSome, IfNone, OnOk, None, map, option_map};
+ghost use Rattle.std.specs.Prelude.{◌≡◌, ℕ, ◌+◌, ◌<◌, ◌≤◌, min, All, Any, length, IfOk, IfErr, IfSome, IfNone, OnOk, None, map, option_map};
 ghost use Rattle.std.specs.Option.{option_copied};
 ghost use Rattle.multi_token.specs.Counted.{charged, RisesBetween};
 ghost use Rattle.sign_font.specs.Sign.{sign_of, font_of, font_numbered, info_of, cell_in, tallest};
 ghost use Rattle.sign_font.specs.Defaults.{default_fault, under};
 ghost use Rattle.sign_font.specs.Limits.{first_fault};
 ghost use Rattle.sign_font.specs.Sound.{IsSound, IsSoundFont, IsSoundSize, IsWithin};
-ghost use Rattle.sign_font.specs.Text.{HasWidth, IsTextFault, place_of, width_in};
+ghost use Rattle.sign_font.specs.Text.{HasWidth, IsFrontOf, IsTextFault, place_of, width_in};
 
 use crate::cell::Cell;
 use crate::fault::{DefaultFault, SignFault};
@@ -15,15 +15,15 @@ use crate::font::{Font, FontInfo};
 use crate::fonts::Fonts;
 use crate::limits::{are_known, first_fault};
 use crate::parts::{Defaults, FontPart, LineFill, SignParts};
-use crate::text::TextFault;
+use crate::text::{TextFault, TextFront};
 use multi_token::Source;
 use std::alloc::{AllocError, Global};
 use std::marker::Model;
 
 /// A sign within its limits, with its fonts (own).
 ///
-/// Only `font`, `cell`, `cell_width` and `text_width` look up its fonts and their cells, and each look counts as one step.
-/// `cell` and `cell_width` take up to 8 looks for a number above 255. All other calls take no step.
+/// Only `font`, `cell`, `cell_width`, `text_width` and `text_front` look up its fonts and their cells, and each look counts as
+/// one step. `cell` and `cell_width` take up to 8 looks for a number above 255. All other calls take no step.
 #[derive(Drop)]
 pub struct Sign {
     width: u16,
@@ -290,6 +290,43 @@ impl Sign {
             Some(font) => font.text_width(text, gap, room),
             None if text.is_empty() => Ok(0),
             None => Err(TextFault::Undefined(0)),
+        }
+    }
+
+    /// The front of a text, with this gap before each of its characters, by the cells of its octets in the font of a number: its
+    /// octets up to the first that has no cell, or with which the text is wider than the room. It is empty if the sign has no
+    /// such font.
+    ///
+    /// Each cell that is looked up takes one step. None is looked up behind the octet that ends the front.
+    pub fn text_front(
+        &self,
+        source: &mut Source<'_>,
+        font: u8,
+        text: &[u8],
+        gap: u8,
+        room: u64,
+    ) -> TextFront
+        ensures front { IsFrontOf (width_in self.now font) gap room text.now result }
+        ensures steps { source.new ≡ charged source.old (min (result.len + 1) (length text.now)) }
+        ensures sound { IsSound self.now }
+    {
+        let front = self.front_of(font, text, gap, room);
+        source.charge(front.len as u64 + u64::from(front.len < text.len()));
+        front
+    }
+
+    /// The front of a text, for no step: whoever calls this counts.
+    fn front_of(&self, font: u8, text: &[u8], gap: u8, room: u64) -> TextFront
+        ensures front { IsFrontOf (width_in self.now font) gap room text.now result }
+        ensures sound { IsSound self.now }
+    {
+        match self.find_font(font) {
+            Some(font) => font.text_front(text, gap, room),
+            None => TextFront {
+                len: 0,
+                width: 0,
+                space: None,
+            },
         }
     }
 

@@ -1,7 +1,7 @@
 use crate::sample::sample_sign;
 use crate::{
     CellPart, DefaultFault, Defaults, FontInfo, FontPart, LineFill, Sign, SignFault, SignParts,
-    TextFault,
+    TextFault, TextFront, TextSpace,
 };
 use multi_token::Source;
 use std::alloc::{AllocError, Global};
@@ -257,6 +257,46 @@ fn a_text_is_as_wide_as_its_cells_and_gaps(rt: HostRuntime) -> Result<(), Fail> 
         assert_eq!(rt; source.steps(), steps, "over {text:?}");
     }
     Ok(())
+}
+
+#[test]
+fn the_front_of_a_text_ends_where_it_no_longer_fits(rt: HostRuntime) -> Result<(), Fail> {
+    let sign = Sign::new(rt.alloc(), with_widths(rt.alloc())?)?;
+    // in font 2 an A is 2 columns wide, a B is 3 and a space is 33; there is no octet 0, and no font 9
+    let first = TextSpace {
+        at: 1,
+        before: 3,
+        through: 37,
+    };
+    let second = TextSpace {
+        at: 3,
+        before: 41,
+        through: 75,
+    };
+    let rows: [(u8, &[u8], u8, u64, TextFront, u64); 11] = [
+        (2, b"", 5, 0, front(0, 0, None), 0),
+        (2, b"AB", 1, 7, front(2, 7, None), 2),
+        (2, b"AB", 1, 6, front(1, 3, None), 2),
+        (2, b"AB", 1, 2, front(0, 0, None), 1),
+        (2, b"A\0B", 0, 9, front(1, 2, None), 2),
+        (2, b"A B A", 1, 900, front(5, 78, Some(second)), 5),
+        (2, b"A B A", 1, 77, front(4, 75, Some(second)), 5),
+        (2, b"A B A", 1, 74, front(3, 41, Some(first)), 4),
+        (2, b"A B A", 1, 36, front(1, 3, None), 2),
+        (9, b"", 0, 0, front(0, 0, None), 0),
+        (9, b"AB", 0, 9, front(0, 0, None), 1),
+    ];
+    for (font, text, gap, room, expected, steps) in rows {
+        let mut source = Source::new(b"");
+        let found = sign.text_front(&mut source, font, text, gap, room);
+        assert_eq!(rt; found, expected, "of {text:?}");
+        assert_eq!(rt; source.steps(), steps, "over {text:?}");
+    }
+    Ok(())
+}
+
+fn front(len: usize, width: u64, space: Option<TextSpace>) -> TextFront {
+    TextFront { len, width, space }
 }
 
 #[test]

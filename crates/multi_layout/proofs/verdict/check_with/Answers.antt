@@ -1,19 +1,27 @@
-use Rattle.std.proofs.Common.{ℕ, ◌+◌, ◌^◌, ◌<◌, List, length, sym, subst}
+use Rattle.std.proofs.Common.{ℕ, ◌≡◌, ◌^◌, ◌<◌, List, length, sym, subst}
+use Rattle.multi_token.specs.Counted.{Counted}
 use Rattle.sign_font.specs.Sign.{SignData}
+use Rattle.multi_layout.specs.Progress.{IsTold}
 use Rattle.multi_layout.specs.Verdict.{Accepted, IsCycle, IsVerdict}
 use Rattle.multi_layout.proofs.verdict.check_with.Goals as goal
 
-pub invariant_of-result : goal.invariant_of-result
-invariant_of-result c =
-    let sign = c.new-terms.result in
-    let accepted = c.in-Ok.ensures.accepted in
-    let kept = sym c.judge.ensures.kept in
-    let times = sym c.whole_cycle.ensures in (
-      subst (λ (o : List ℕ). IsVerdict sign o (Accepted c.judge.new.state.pages)) kept accepted.verdict,
-      subst (λ (n : ℕ). IsCycle sign c.judge.new.source.octets n) times (subst (λ (o : List ℕ). IsCycle sign o (c.judge.new.state.cycle + c.judge.new.state.attributes.on + c.judge.new.state.attributes.off)) kept accepted.cycle),
-      subst (λ (o : List ℕ). length o < 2 ^ 32) kept c.requires.short,
+-- what is told of an accepted string holds of the source that comes back
+checked : (sign : SignData) (octets : List ℕ) (pages tenths cycle : ℕ) (source : Counted) → length octets < 2 ^ 32 → cycle ≡ tenths → IsTold sign octets pages tenths source
+    → IsVerdict sign source.octets (Accepted pages) × IsCycle sign source.octets cycle × (length source.octets < 2 ^ 32)
+checked sign octets pages tenths cycle source short is told =
+    let kept = sym told.same in (
+      subst (λ (o : List ℕ). IsVerdict sign o (Accepted pages)) kept told.verdict,
+      subst (λ (n : ℕ). IsCycle sign source.octets n) (sym is) (subst (λ (o : List ℕ). IsCycle sign o tenths) kept told.cycle),
+      subst (λ (o : List ℕ). length o < 2 ^ 32) kept short,
     )
+
+pub invariant_of-result : goal.invariant_of-result
+invariant_of-result c = checked c.new-terms.result c.args.source.octets _ _ c.whole_cycle.result c.judge_unfilled.new.source c.requires.short c.whole_cycle.ensures c.in-Ok.ensures.accepted
 
 pub returns-in-Ok-clause-accepted : goal.returns-in-Ok-clause-accepted
 returns-in-Ok-clause-accepted c =
-    (c.judge.new.state.pages, subst (λ (s : SignData). IsVerdict s c.args.source.octets (Accepted c.judge.new.state.pages)) c.new-terms.ensures c.in-Ok.ensures.accepted.verdict)
+    (c.judge_unfilled.new.state.pages, subst (λ (s : SignData). IsVerdict s c.args.source.octets (Accepted c.judge_unfilled.new.state.pages)) c.new-terms.ensures c.in-Ok.ensures.accepted.verdict)
+
+pub returns-in-Ok-judge_filled-clause-accepted : goal.returns-in-Ok-judge_filled-clause-accepted
+returns-in-Ok-judge_filled-clause-accepted c =
+    (c.in-Ok-judge_filled.told.pages, subst (λ (s : SignData). IsVerdict s c.args.source.octets (Accepted c.in-Ok-judge_filled.told.pages)) c.new-terms.ensures c.in-Ok-judge_filled.ensures.accepted.verdict)

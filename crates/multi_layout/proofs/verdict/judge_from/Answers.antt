@@ -1,61 +1,28 @@
-use Rattle.std.proofs.Common.{◌≡◌, ◌≤◌, ◌+◌, Some, map, slice_get, refl, sym, ap, arith, subst}
-use Rattle.std.proofs.lemmas.Option.{slice_get_within}
-use Rattle.multi_token.specs.Counted.{Counted, charged}
-use Rattle.multi_token.specs.Spelling.{IsPlain}
-use Rattle.multi_token.specs.Tokens.{IsTokenOf}
-use Rattle.multi_token.specs.declared.token.Token.{Token}
-use Rattle.multi_token.specs.declared.token.Kind.TheVariants as kinds
-use Rattle.multi_token.proofs.PlaceLemmas.{single_token}
+use Rattle.std.proofs.Common.{◌≡◌, ◌≤◌, None, Some, map, sym, subst, arith}
+use Rattle.sign_font.specs.declared.parts.LineFill.{LineFill}
 use Rattle.multi_layout.specs.Codes.{code_of}
-use Rattle.multi_layout.specs.Meaning.{meaning}
-use Rattle.multi_layout.specs.Progress.{ReadSoFar}
+use Rattle.multi_layout.specs.Meaning.{Shows, meaning}
+use Rattle.multi_layout.specs.Offence.{offence}
 use Rattle.multi_layout.specs.State.{IsUnfilledOf}
-use Rattle.multi_layout.proofs.ReadLemmas.{unfilled_more, unfilled_refused}
+use Rattle.multi_layout.proofs.AtLemmas.{octet_behind, octet_offends}
 use Rattle.multi_layout.proofs.verdict.judge_from.Goals as goal
 
 pub judge_run-requires-clause-behind : goal.judge_run-requires-clause-behind
 judge_run-requires-clause-behind c =
-    let i = c.requires.at in
+    let r = c.requires.at.so_far in
     let sign = c.args.sign.now in
-    let xs = c.args.source.now.octets in
-    let here : slice_get xs c.args.at ≡ Some c.args.first = sym i.octet in
-    let before = slice_get_within xs c.args.at c.args.first here in
-    let plain : IsPlain c.args.first = (λ e. omega arith, λ e. omega arith) in
-    let token : Token = record { at = c.args.at; len = 1; kind = kinds.Char c.args.first } in
-    let stands : IsTokenOf xs token = single_token xs c.args.at c.args.first (omega (arith, c.requires.short)) here plain in
-    let judged = rw c.from.ensures at (c.in-Ok.ensures.judged (map meaning i.so_far.items) i.so_far.is.state_is) in
     let octet : c.from.result ≤ 255 = omega (arith, c.from.ensures) in
-    let same : c.judge_character.new.source.octets ≡ xs = ap (λ (s : Counted). s.octets) (c.judge_character.ensures.step octet) in
-    let step : c.judge_character.new.source.steps ≡ (charged c.args.source.now 1).steps = ap (λ (s : Counted). s.steps) (c.judge_character.ensures.step octet) in
-    let least = i.least in
-    let most = i.most in
-    record {
-      so_far = subst (λ o. ReadSoFar sign o (c.args.at + 1) (IsUnfilledOf sign c.judge_character.new.state)) (sym same)
-          (unfilled_more sign xs c.args.at c.args.state.now i.so_far token refl stands c.judge_character.new.state judged.0 judged.1);
-      same = refl;
-      least = omega arith;
-      most = omega arith;
-    }
+    let (fine, of) = rw c.from.ensures at (c.in-Ok.ensures.judged (map meaning r.items) r.is.state_is) in
+    octet_behind sign c.args.source.now.octets c.args.at c.args.first (IsUnfilledOf sign c.args.state.now) c.args.source.now c.requires.at c.requires.short
+    (λ e. omega arith, λ e. omega arith) c.judge_character.new.source (c.judge_character.ensures.step octet) (IsUnfilledOf sign c.judge_character.new.state)
+    (subst (λ (setting : LineFill). offence setting sign (map meaning r.items) (Shows c.args.first) ≡ None) (sym r.is.off) fine) (record { off = r.is.off; state_is = of })
 
 pub returns-in-Err-clause-refused : goal.returns-in-Err-clause-refused
 returns-in-Err-clause-refused c =
-    let i = c.requires.at in
+    let r = c.requires.at.so_far in
     let sign = c.args.sign.now in
-    let xs = c.args.source.now.octets in
-    let here : slice_get xs c.args.at ≡ Some c.args.first = sym i.octet in
-    let before = slice_get_within xs c.args.at c.args.first here in
-    let plain : IsPlain c.args.first = (λ e. omega arith, λ e. omega arith) in
-    let token : Token = record { at = c.args.at; len = 1; kind = kinds.Char c.args.first } in
-    let stands : IsTokenOf xs token = single_token xs c.args.at c.args.first (omega (arith, c.requires.short)) here plain in
     let octet : c.from.result ≤ 255 = omega (arith, c.from.ensures) in
-    let same : c.judge_character.new.source.octets ≡ xs = ap (λ (s : Counted). s.octets) (c.judge_character.ensures.step octet) in
-    let step : c.judge_character.new.source.steps ≡ (charged c.args.source.now 1).steps = ap (λ (s : Counted). s.steps) (c.judge_character.ensures.step octet) in
-    let offends = rw c.from.ensures at (c.in-Err.ensures.judged (map meaning i.so_far.items) i.so_far.is.state_is) in
-    let least = i.least in
-    let most = i.most in
-    record {
-      verdict = unfilled_refused sign xs c.args.at c.args.state.now i.so_far token refl stands (code_of c.in-Err.error) offends;
-      same = same;
-      least = omega arith;
-      most = omega arith;
-    }
+    let offends = rw c.from.ensures at (c.in-Err.ensures.judged (map meaning r.items) r.is.state_is) in
+    octet_offends sign c.args.source.now.octets c.args.at c.args.first (IsUnfilledOf sign c.args.state.now) c.args.source.now c.requires.at c.requires.short
+    (λ e. omega arith, λ e. omega arith) c.judge_character.new.source (c.judge_character.ensures.step octet) c.in-Err.error
+    (subst (λ (setting : LineFill). offence setting sign (map meaning r.items) (Shows c.args.first) ≡ Some (code_of c.in-Err.error)) (sym r.is.off) offends)

@@ -1,99 +1,40 @@
-use Rattle.std.proofs.Common.{◌≡◌, ◌+◌, ◌-◌, ◌++◌, [], ◌∷◌, None, Some, map, slice_get, sym, ap, ◌∙◌, arith, subst}
-use Rattle.std.proofs.lemmas.Option.{slice_get_within}
-use Rattle.multi_token.specs.Counted.{Counted, charged}
-use Rattle.multi_token.proofs.ReadingLemmas.{spelling_some}
-use Rattle.multi_token.specs.Spelling.{Item}
-use Rattle.multi_token.specs.Tokens.{item_of, item_spelled, octets_of}
-use Rattle.multi_token.proofs.PlaceLemmas.{bracketed_token}
-use Rattle.sign_font.specs.declared.parts.LineFill.TheVariants.{Words}
+use Rattle.std.proofs.Common.{◌≡◌, None, Some, map, sym, subst}
+use Rattle.multi_token.specs.Tokens.{item_spelled}
+use Rattle.sign_font.specs.declared.parts.LineFill.{LineFill}
 use Rattle.multi_layout.specs.Codes.{code_of}
-use Rattle.multi_layout.specs.Meaning.{Meaning, meaning}
+use Rattle.multi_layout.specs.FilledState.{IsFilledFor}
+use Rattle.multi_layout.specs.Meaning.{meaning}
 use Rattle.multi_layout.specs.Offence.{offence}
-use Rattle.multi_layout.specs.FilledState.{IsFilledFor, IsFilledOf}
-use Rattle.multi_layout.proofs.ReadLemmas.{refused_at_bracket}
-use Rattle.multi_layout.proofs.FilledReadLemmas.{filled_more, filled_ready_here, filled_refused}
+use Rattle.multi_layout.proofs.AtLemmas.{bracket_behind, bracket_offends, broken_refused}
+use Rattle.multi_layout.proofs.FilledReadLemmas.{filled_ready_here}
 use Rattle.multi_layout.proofs.words.filled_bracket.Goals as goal
 
 pub returns-in_default-clause-refused : goal.returns-in_default-clause-refused
 returns-in_default-clause-refused c =
-    let i = c.requires.at in
-    let xs = c.args.source.now.octets in
-    let here : slice_get xs c.args.at ≡ Some c.args.first = sym i.octet in
-    let before = slice_get_within xs c.args.at c.args.first here in
-    let k = c.in_default.ensures.fault_steps in
-    let rises : c.read_bracket.new.source.steps ≡ (charged c.args.source.now k.0).steps = ap (λ (s : Counted). s.steps) k.3 in
-    let few = k.2 in
-    let least = i.least in
-    let most = i.most in
-    record {
-      verdict = refused_at_bracket c.args.sign.now xs c.args.at (IsFilledFor c.args.sign.now c.args.kept.now) i.so_far before c.in_default.ensures.none_stands;
-      same = ap (λ (s : Counted). s.octets) k.3;
-      least = omega arith;
-      most = omega arith;
-    }
+    broken_refused c.args.sign.now c.args.source.now.octets c.args.at c.args.first (IsFilledFor c.args.sign.now c.args.kept.now) c.args.source.now c.requires.at c.requires.short
+    c.read_bracket.new.source c.in_default.ensures.fault_steps c.in_default.ensures.none_stands
 
 pub judge_spelled-requires : goal.judge_spelled-requires
 judge_spelled-requires c =
-    let i = c.requires.at in
-    filled_ready_here c.args.sign.now c.args.source.now.octets c.args.at c.args.kept.now i.so_far c.requires.short
+    filled_ready_here c.args.sign.now c.args.source.now.octets c.args.at c.args.kept.now c.requires.at.so_far c.requires.short
 
 pub returns-clause-at : goal.returns-clause-at
 returns-clause-at c =
-    let i = c.requires.at in
+    let r = c.requires.at.so_far in
     let sign = c.args.sign.now in
-    let xs = c.args.source.now.octets in
-    let (t, here, len, token, item) = bracketed_token xs c.args.at c.args.first c.in-Ok.spelled c.in-Ok.ensures.spelled in
-    let stepped = c.in-Ok.ensures.steps in
-    let same : c.read_bracket.new.source.octets ≡ xs = ap (λ (s : Counted). s.octets) stepped in
-    let k = c.judge_spelled.ensures.steps in
-    let judged = c.in_default-judge_spelled.ensures.judged (map meaning i.so_far.items) i.so_far.is.of in
-    let item' : meaning (item_spelled c.args.first c.in-Ok.spelled) ≡ meaning (item_of xs t) = ap meaning (sym item) in
-    let rises : c.read_bracket.new.source.steps ≡ (charged c.args.source.now (octets_of c.in-Ok.spelled - 1)).steps = ap (λ (s : Counted). s.steps) stepped in
-    let tag_steps : c.judge_spelled.new.source.steps ≡ (charged c.read_bracket.new.source k.0).steps = ap (λ (s : Counted). s.steps) k.3 in
-    let octets : c.judge_spelled.new.source.octets ≡ xs = ap (λ (s : Counted). s.octets) k.3 ∙ same in
-    let size : t.len ≡ c.len.result = len ∙ sym c.len.ensures in
-    let read : c.read.new.self.steps ≡ (charged c.judge_spelled.new.source 1).steps = ap (λ (s : Counted). s.steps) c.read.ensures.step in
-    let within = token.within in
-    let long = token.len in
-    let some = spelling_some (item_of xs t) in
-    let short = c.requires.short in
-    let few = k.2 in
-    let least = i.least in
-    let most = i.most in (
-      omega arith,
-      record {
-        so_far = rw size at (filled_more sign xs c.args.at c.args.kept.now i.so_far t here token c.judge_spelled.new.self
-            (subst (λ (m : Meaning). offence Words sign (map meaning i.so_far.items) m ≡ None) item' judged.0)
-            (subst (λ (m : Meaning). IsFilledOf sign (map meaning i.so_far.items ++ m ∷ []) c.judge_spelled.new.self) item' judged.1));
-        octet = c.read.ensures.octet ∙ ap (λ o. slice_get o (c.args.at + c.len.result)) octets;
-        same = ap (λ (s : Counted). s.octets) c.read.ensures.step ∙ octets;
-        least = omega arith;
-        most = omega arith;
-      },
-    )
+    let item = meaning (item_spelled c.args.first c.in-Ok.spelled) in
+    let (fine, of) = c.in_default-judge_spelled.ensures.judged (map meaning r.items) r.is.of in
+    bracket_behind sign c.args.source.now.octets c.args.at c.args.first (IsFilledFor sign c.args.kept.now) c.args.source.now c.requires.at c.requires.short
+    c.in-Ok.spelled c.in-Ok.ensures.spelled c.read_bracket.new.source c.in-Ok.ensures.steps c.judge_spelled.new.source c.judge_spelled.ensures.steps (IsFilledFor sign c.judge_spelled.new.self)
+    (subst (λ (setting : LineFill). offence setting sign (map meaning r.items) item ≡ None) (sym r.is.words) fine) (record { words = r.is.words; of = of })
+    c.len.result c.len.ensures c.read.result c.read.new.self c.read.ensures.octet c.read.ensures.step
 
 pub returns-in-Err-clause-refused : goal.returns-in-Err-clause-refused
 returns-in-Err-clause-refused c =
-    let i = c.requires.at in
+    let r = c.requires.at.so_far in
     let sign = c.args.sign.now in
-    let xs = c.args.source.now.octets in
-    let (t, here, len, token, item) = bracketed_token xs c.args.at c.args.first c.in-Ok.spelled c.in-Ok.ensures.spelled in
-    let stepped = c.in-Ok.ensures.steps in
-    let same : c.read_bracket.new.source.octets ≡ xs = ap (λ (s : Counted). s.octets) stepped in
-    let k = c.judge_spelled.ensures.steps in
-    let rises : c.read_bracket.new.source.steps ≡ (charged c.args.source.now (octets_of c.in-Ok.spelled - 1)).steps = ap (λ (s : Counted). s.steps) stepped in
-    let tag_steps : c.judge_spelled.new.source.steps ≡ (charged c.read_bracket.new.source k.0).steps = ap (λ (s : Counted). s.steps) k.3 in
-    let offends = c.in-Err.ensures.judged (map meaning i.so_far.items) i.so_far.is.of in
-    let within = token.within in
-    let long = token.len in
-    let some = spelling_some (item_of xs t) in
-    let few = k.2 in
-    let least = i.least in
-    let most = i.most in
-    record {
-      verdict = filled_refused sign xs c.args.at c.args.kept.now i.so_far t here token (code_of c.in-Err.error)
-          (ap (λ (item : Item). offence Words sign (map meaning i.so_far.items) (meaning item)) item ∙ offends);
-      same = ap (λ (s : Counted). s.octets) k.3 ∙ same;
-      least = omega arith;
-      most = omega arith;
-    }
+    let item = meaning (item_spelled c.args.first c.in-Ok.spelled) in
+    let offends = c.in-Err.ensures.judged (map meaning r.items) r.is.of in
+    bracket_offends sign c.args.source.now.octets c.args.at c.args.first (IsFilledFor sign c.args.kept.now) c.args.source.now c.requires.at c.requires.short
+    c.in-Ok.spelled c.in-Ok.ensures.spelled c.read_bracket.new.source c.in-Ok.ensures.steps c.judge_spelled.new.source c.judge_spelled.ensures.steps c.in-Err.error
+    (subst (λ (setting : LineFill). offence setting sign (map meaning r.items) item ≡ Some (code_of c.in-Err.error)) (sym r.is.words) offends)

@@ -19,11 +19,9 @@ returns-clause-sum c old new group s placing placing' e order on is space fits a
     let split : c.if-page_just-self.split ≡ split_sum (after_last is_break (filled (Some c.args.width) group)) = elim c.if-page_just-self.branch [
       | then-page_just-self w ↦ w.split-is ∙ nothing_yet old group c.args.page_just c.args.width on.before c.args.self.now e w.if-page_just-self.true
       | else-page_just-self w ↦ w.split-is ∙ o (omega (arith, order, w.if-page_just-self.false))
-    ] in (
-      area_filled old new group s c.args.page_just c.args.width on c.go_on.new.self _ turned refl refl refl (c.fill_character.ensures.sum group s placing' is space fits apart own split),
-      c.fill_character.ensures.split group s placing' is space fits apart own split,
-      c.fill_character.ensures.ended group s placing' is space fits apart own split,
-    )
+    ] in
+    let (grown, parts, ended) = c.fill_character.ensures.sum group s placing' is space fits apart own split in
+    (area_filled old new group s c.args.page_just c.args.width on c.go_on.new.self _ turned refl refl refl grown, parts, ended)
 
 pub returns-clause-grows : goal.returns-clause-grows
 returns-clause-grows c k below parts =

@@ -12,23 +12,25 @@ pub returns-then-fits-clause-sum : goal.returns-then-fits-clause-sum
 returns-then-fits-clause-sum c group s placing is space fits apart e o =
     let w = c.args.width in
     let self = c.args.self.now in
-    let grown = c.add.ensures.sum _ s (present_glyphs w group s c.args.character.now placing is fits apart self e) is (present_line w group s c.args.character.now placing is fits apart self e) apart in
-    stands_sum w group s c.args.character.now placing is fits apart self e c.add.new.self grown c.fits.result c.fits.ensures.sum c.if-fits.true
-
-pub returns-then-fits-clause-split : goal.returns-then-fits-clause-split
-returns-then-fits-clause-split c group s placing is space fits apart e o =
-    let w = c.args.width in
-    let self = c.args.self.now in
     let glyphs = present_glyphs w group s c.args.character.now placing is fits apart self e in
     let line = present_line w group s c.args.character.now placing is fits apart self e in
-    let grown = c.add.ensures.sum _ s glyphs is line apart in
-    c.split_with.ensures.sum _ s glyphs is space apart line o
-    ∙ ap split_sum (sym (stands_line w group s c.args.character.now placing is fits apart self e c.add.new.self grown c.fits.result c.fits.ensures.sum c.if-fits.true))
+    let grown = c.add.ensures.sum _ s glyphs is line apart in (
+      stands_sum w group s c.args.character.now placing is fits apart self e c.add.new.self grown c.fits.result c.fits.ensures.sum c.if-fits.true,
+      c.grow.ensures.sum _ s glyphs is space apart line o
+          ∙ ap split_sum (sym (stands_line w group s c.args.character.now placing is fits apart self e c.add.new.self grown c.fits.result c.fits.ensures.sum c.if-fits.true)),
+      stands_ended w group s c.args.character.now placing is fits apart self e c.add.new.self grown c.fits.result c.fits.ensures.sum c.if-fits.true,
+    )
+
+pub returns-then-fits-clause-fits : goal.returns-then-fits-clause-fits
+returns-then-fits-clause-fits c = λ line e. sym c.if-fits.true ∙ c.fits.ensures.sum line e
+
+pub returns-then-fits-clause-kept_fits : goal.returns-then-fits-clause-kept_fits
+returns-then-fits-clause-kept_fits c = sym c.if-fits.true ∙ c.fits.ensures.kept
 
 pub returns-then-fits-clause-grows : goal.returns-then-fits-clause-grows
 returns-then-fits-clause-grows c k below split = (
   record { ended = omega (arith, below.ended); closed = omega (arith, below.closed); line = c.add.ensures.grows k below.line },
-  c.split_with.ensures.grows k below.line split,
+  c.grow.ensures.grows k below.line split,
 )
 
 pub returns-then-space-clause-sum : goal.returns-then-space-clause-sum
@@ -36,14 +38,11 @@ returns-then-space-clause-sum c group s placing is space fits apart e o =
     let w = c.args.width in
     let self = c.args.self.now in
     let grown = c.add.ensures.sum _ s (present_glyphs w group s c.args.character.now placing is fits apart self e) is (present_line w group s c.args.character.now placing is fits apart self e) apart in
-    drops_sum w group s c.args.character.now placing is fits apart self e c.add.new.self grown c.fits.result c.fits.ensures.sum c.if-fits.false (space ∙ c.if-space.true) c.add_break.new.self c.add_break.ensures.sum
-
-pub returns-then-space-clause-split : goal.returns-then-space-clause-split
-returns-then-space-clause-split c group s placing is space fits apart e o =
-    let w = c.args.width in
-    let self = c.args.self.now in
-    let grown = c.add.ensures.sum _ s (present_glyphs w group s c.args.character.now placing is fits apart self e) is (present_line w group s c.args.character.now placing is fits apart self e) apart in
-    drops_split w group s c.args.character.now placing is fits apart self e c.add.new.self grown c.fits.result c.fits.ensures.sum c.if-fits.false (space ∙ c.if-space.true)
+    let dropped = space ∙ c.if-space.true in (
+      drops_sum w group s c.args.character.now placing is fits apart self e c.add.new.self grown c.fits.result c.fits.ensures.sum c.if-fits.false dropped c.add_break.new.self c.add_break.ensures.sum,
+      drops_split w group s c.args.character.now placing is fits apart self e c.add.new.self grown c.fits.result c.fits.ensures.sum c.if-fits.false dropped,
+      drops_ended w group s c.args.character.now placing is fits apart self e c.add.new.self grown c.fits.result c.fits.ensures.sum c.if-fits.false dropped,
+    )
 
 pub returns-then-space-clause-grows : goal.returns-then-space-clause-grows
 returns-then-space-clause-grows c k below split = (c.add_break.ensures.grows k below, tt)
@@ -57,18 +56,14 @@ returns-in-Some-clause-sum c group s placing is space fits apart e o =
     let w = c.args.width in
     let self = c.args.self.now in
     let grown = c.add.ensures.sum _ s (present_glyphs w group s c.args.character.now placing is fits apart self e) is (present_line w group s c.args.character.now placing is fits apart self e) apart in
+    let word = space ∙ c.if-space.false in
     let parts = sym c.in-Some.is ∙ o in
-    let next = next_line w group s c.args.character.now placing is fits apart self e c.add.new.self grown c.fits.result c.fits.ensures.sum c.if-fits.false (space ∙ c.if-space.false) c.in-Some.parts parts c.break_at.new.self c.break_at.ensures.sum in
-    breaks_sum w group s c.args.character.now placing is fits apart self e c.add.new.self grown c.fits.result c.fits.ensures.sum c.if-fits.false (space ∙ c.if-space.false) c.in-Some.parts parts c.break_at.new.self c.break_at.ensures.sum
-    c.add-in-Some.new.self (c.add-in-Some.ensures.sum _ s next.0 is next.1 next.2)
-
-pub returns-in-Some-clause-split : goal.returns-in-Some-clause-split
-returns-in-Some-clause-split c group s placing is space fits apart e o =
-    let w = c.args.width in
-    let self = c.args.self.now in
-    let grown = c.add.ensures.sum _ s (present_glyphs w group s c.args.character.now placing is fits apart self e) is (present_line w group s c.args.character.now placing is fits apart self e) apart in
-    let parts = sym c.in-Some.is ∙ o in
-    breaks_split w group s c.args.character.now placing is fits apart self e c.add.new.self grown c.fits.result c.fits.ensures.sum c.if-fits.false (space ∙ c.if-space.false) c.in-Some.parts parts c.break_at.new.self c.break_at.ensures.sum
+    let next = next_line w group s c.args.character.now placing is fits apart self e c.add.new.self grown c.fits.result c.fits.ensures.sum c.if-fits.false word c.in-Some.parts parts c.break_at.new.self c.break_at.ensures.sum in (
+      breaks_sum w group s c.args.character.now placing is fits apart self e c.add.new.self grown c.fits.result c.fits.ensures.sum c.if-fits.false word c.in-Some.parts parts c.break_at.new.self c.break_at.ensures.sum
+          c.add-in-Some.new.self (c.add-in-Some.ensures.sum _ s next.0 is next.1 next.2),
+      breaks_split w group s c.args.character.now placing is fits apart self e c.add.new.self grown c.fits.result c.fits.ensures.sum c.if-fits.false word c.in-Some.parts parts c.break_at.new.self c.break_at.ensures.sum,
+      breaks_ended w group s c.args.character.now placing is fits apart self e c.add.new.self grown c.fits.result c.fits.ensures.sum c.if-fits.false word c.in-Some.parts parts,
+    )
 
 pub returns-in-Some-clause-grows : goal.returns-in-Some-clause-grows
 returns-in-Some-clause-grows c k below split =
@@ -78,48 +73,31 @@ returns-in-Some-clause-grows c k below split =
       tt,
     )
 
+pub returns-in-Some-clause-small : goal.returns-in-Some-clause-small
+returns-in-Some-clause-small c = (subst (IsSplitBelow (2 ^ 62)) c.in-Some.is c.requires.parts).0
+
 pub returns-in-None-clause-sum : goal.returns-in-None-clause-sum
 returns-in-None-clause-sum c group s placing is space fits apart e o =
     let w = c.args.width in
     let self = c.args.self.now in
     let grown = c.add.ensures.sum _ s (present_glyphs w group s c.args.character.now placing is fits apart self e) is (present_line w group s c.args.character.now placing is fits apart self e) apart in
-    stays_sum w group s c.args.character.now placing is fits apart self e c.add.new.self grown c.fits.result c.fits.ensures.sum c.if-fits.false (space ∙ c.if-space.false) (sym c.in-None.is ∙ o)
+    let word = space ∙ c.if-space.false in
+    let none = sym c.in-None.is ∙ o in (
+      stays_sum w group s c.args.character.now placing is fits apart self e c.add.new.self grown c.fits.result c.fits.ensures.sum c.if-fits.false word none,
+      c.in-None.is ∙ split_none (after_last is_break (filled (Some w) group)) s word none
+          ∙ ap split_sum (sym (stays_line w group s c.args.character.now placing is fits apart self e c.add.new.self grown c.fits.result c.fits.ensures.sum c.if-fits.false word none)),
+      stays_ended w group s c.args.character.now placing is fits apart self e c.add.new.self grown c.fits.result c.fits.ensures.sum c.if-fits.false word none,
+    )
 
-pub returns-in-None-clause-split : goal.returns-in-None-clause-split
-returns-in-None-clause-split c group s placing is space fits apart e o =
-    let w = c.args.width in
-    let self = c.args.self.now in
-    let grown = c.add.ensures.sum _ s (present_glyphs w group s c.args.character.now placing is fits apart self e) is (present_line w group s c.args.character.now placing is fits apart self e) apart in
-    c.in-None.is ∙ split_none (after_last is_break (filled (Some w) group)) s (space ∙ c.if-space.false) (sym c.in-None.is ∙ o)
-    ∙ ap split_sum (sym (stays_line w group s c.args.character.now placing is fits apart self e c.add.new.self grown c.fits.result c.fits.ensures.sum c.if-fits.false (space ∙ c.if-space.false) (sym c.in-None.is ∙ o)))
+pub returns-in-None-clause-fits : goal.returns-in-None-clause-fits
+returns-in-None-clause-fits c = λ line e. sym c.if-fits.false ∙ c.fits.ensures.sum line e
 
-pub returns-then-fits-clause-ended : goal.returns-then-fits-clause-ended
-returns-then-fits-clause-ended c group s placing is space fits apart e o =
-    let w = c.args.width in
-    let self = c.args.self.now in
-    let grown = c.add.ensures.sum _ s (present_glyphs w group s c.args.character.now placing is fits apart self e) is (present_line w group s c.args.character.now placing is fits apart self e) apart in
-    stands_ended w group s c.args.character.now placing is fits apart self e c.add.new.self grown c.fits.result c.fits.ensures.sum c.if-fits.true
+pub returns-in-None-clause-kept_fits : goal.returns-in-None-clause-kept_fits
+returns-in-None-clause-kept_fits c = sym c.if-fits.false ∙ c.fits.ensures.kept
 
-pub returns-then-space-clause-ended : goal.returns-then-space-clause-ended
-returns-then-space-clause-ended c group s placing is space fits apart e o =
-    let w = c.args.width in
-    let self = c.args.self.now in
-    let grown = c.add.ensures.sum _ s (present_glyphs w group s c.args.character.now placing is fits apart self e) is (present_line w group s c.args.character.now placing is fits apart self e) apart in
-    drops_ended w group s c.args.character.now placing is fits apart self e c.add.new.self grown c.fits.result c.fits.ensures.sum c.if-fits.false (space ∙ c.if-space.true)
+pub fits-requires-then-space : goal.fits-requires-then-space
+fits-requires-then-space c = record { below = (c.add_break.ensures.grows (2 ^ 62) c.requires.below).line }
 
-pub returns-in-Some-clause-ended : goal.returns-in-Some-clause-ended
-returns-in-Some-clause-ended c group s placing is space fits apart e o =
-    let w = c.args.width in
-    let self = c.args.self.now in
-    let grown = c.add.ensures.sum _ s (present_glyphs w group s c.args.character.now placing is fits apart self e) is (present_line w group s c.args.character.now placing is fits apart self e) apart in
-    breaks_ended w group s c.args.character.now placing is fits apart self e c.add.new.self grown c.fits.result c.fits.ensures.sum c.if-fits.false (space ∙ c.if-space.false) c.in-Some.parts (sym c.in-Some.is ∙ o)
-
-pub returns-in-None-clause-ended : goal.returns-in-None-clause-ended
-returns-in-None-clause-ended c group s placing is space fits apart e o =
-    let w = c.args.width in
-    let self = c.args.self.now in
-    let grown = c.add.ensures.sum _ s (present_glyphs w group s c.args.character.now placing is fits apart self e) is (present_line w group s c.args.character.now placing is fits apart self e) apart in
-    stays_ended w group s c.args.character.now placing is fits apart self e c.add.new.self grown c.fits.result c.fits.ensures.sum c.if-fits.false (space ∙ c.if-space.false) (sym c.in-None.is ∙ o)
-
-pub returns-in-Some-clause-small : goal.returns-in-Some-clause-small
-returns-in-Some-clause-small c = (subst (IsSplitBelow (2 ^ 62)) c.in-Some.is c.requires.parts).0
+pub fits-requires-in-Some : goal.fits-requires-in-Some
+fits-requires-in-Some c =
+    record { below = c.add-in-Some.ensures.grows (2 ^ 62) (subst (IsLineBelow (2 ^ 62)) (sym c.break_at.ensures.line) (subst (IsSplitBelow (2 ^ 62)) c.in-Some.is c.requires.parts).1) }

@@ -1,5 +1,5 @@
 use Rattle.std.proofs.Common.{None, subst, sym, ◌∙◌}
-use Rattle.multi_layout.specs.declared.line.Line.{Line}
+use Rattle.multi_layout.specs.declared.filled.Order.{Order}
 use Rattle.multi_layout.specs.FilledState.{IsFilledJudged}
 use Rattle.multi_layout.specs.LaidItems.{laid_items}
 use Rattle.sign_font.specs.declared.parts.LineFill.TheVariants.{Words}
@@ -11,7 +11,7 @@ pub returns-then-begins_line-clause-judged : goal.returns-then-begins_line-claus
 returns-then-begins_line-clause-judged c = λ items of.
     let sign = c.args.sign.now in
     let judged = c.judge_tag-judged.ensures.judged (laid_items Words sign items items) of.state_is in
-    subst (λ (l : Line). IsFilledJudged sign items (Does c.args.tag) c.judge_tag-judged.result (record { state = c.judge_tag-judged.new.state; split = None; order = l })) (sym c.new-self.ensures.sum)
+    subst (λ (l : Order). IsFilledJudged sign items (Does c.args.tag) c.judge_tag-judged.result (record { state = c.judge_tag-judged.new.state; split = None; order = l })) (sym c.new-self.ensures)
     (judged-begins sign items c.args.self.now of c.args.tag c.judge_tag-judged.result c.judge_tag-judged.new.state (sym c.begins_line.ensures ∙ c.if-begins_line.true) judged)
 
 pub returns-else-begins_line-clause-judged : goal.returns-else-begins_line-clause-judged

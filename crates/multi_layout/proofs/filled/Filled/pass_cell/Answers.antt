@@ -7,10 +7,10 @@ use Rattle.multi_layout.proofs.filled.Filled.pass_cell.Goals as goal
 pub returns : goal.returns
 returns c = record {
   passed = λ sign items cell of some wide fine.
-      let (below, split) = c.fill_character.ensures.grows (1024 * length items) (subst (λ n. IsBelow (1024 * n) c.args.self.now.state.area) (laid_count sign items) of.state_is.below) of.split_below in
+      let (below, split) = c.fill_character-placed.ensures.grows (1024 * length items) (subst (λ n. IsBelow (1024 * n) c.args.self.now.state.area) (laid_count sign items) of.state_is.below) of.split_below in
       passed_behind sign items c.args.self.now of c.args.number cell some fine _ refl
       c.character-character.result (ap (λ (k : Character). k.just) c.character-character.ensures) (ap (λ (k : Character). k.spacing) c.character-character.ensures)
-      (ap (λ (k : Character). k.width) c.character-character.ensures ∙ wide) (ap (λ (k : Character). k.font) c.character-character.ensures) _ _ c.fill_character.result (λ cell found. c.fill_character.ensures.sum)
-      c.order_behind-self.result c.order_behind-self.ensures.sum below split (c.order_behind-self.ensures.grows (1024 * length items) of.order_below);
-  small = c.fill_character.ensures.small;
+      (ap (λ (k : Character). k.width) c.character-character.ensures ∙ wide) (ap (λ (k : Character). k.font) c.character-character.ensures) _ _ c.fill_character-placed.result.ended (λ cell found. c.fill_character-placed.ensures.sum)
+      c.with-self.result (λ line s just. c.with-self.ensures line s (just ∙ ap (λ (k : Character). k.just) c.character-character.ensures)) below split;
+  small = c.fill_character-placed.ensures.small;
 }

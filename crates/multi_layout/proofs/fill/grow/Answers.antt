@@ -1,7 +1,7 @@
 use Rattle.std.proofs.Common.{sym, ◌∙◌, subst}
 use Rattle.multi_layout.specs.FillSums.{IsSplitBelow}
 use Rattle.multi_layout.proofs.FillSplitLemmas.{line_below, split_none, split_space, split_word}
-use Rattle.multi_layout.proofs.fill.split_with.Goals as goal
+use Rattle.multi_layout.proofs.fill.grow.Goals as goal
 
 pub returns-then-space-clause-sum : goal.returns-then-space-clause-sum
 returns-then-space-clause-sum c before s glyphs is space apart line split =
@@ -18,4 +18,4 @@ returns-in-Some-clause-grows c k line below =
 
 pub returns-in-None-clause-sum : goal.returns-in-None-clause-sum
 returns-in-None-clause-sum c before s glyphs is space apart line split =
-    split_none before s (space ∙ c.if-space.false) (sym c.in-None.is ∙ split)
+    c.in-None.is ∙ split_none before s (space ∙ c.if-space.false) (sym c.in-None.is ∙ split)
