@@ -2,6 +2,7 @@
 use Rattle.std.specs.Prelude.{◌≡◌, ◌↔◌, ℕ, ◌+◌, List, [], ◌∷◌, ◌++◌, map, length, Option, Some}
 use Rattle.std.specs.List.{All, count_by}
 use Rattle.std.specs.Option.{option_map}
+use Rattle.multi_token.specs.Broken.{StaysBroken}
 use Rattle.multi_token.specs.Spelling.{Item, IsItem, spell, IsReading}
 use Rattle.multi_token.specs.Reading.{reading}
 use Rattle.sign_font.specs.Sign.{SignData}
@@ -63,3 +64,9 @@ abbrev pub RefusalStands : Type 0
 RefusalStands = (sign : SignData) (before : List Item) (item : Item) (code : ℕ) (rest : List ℕ)
     → All IsItem (before ++ item ∷ []) → offences sign before ≡ [] → offence sign.line_fill sign (map meaning before) (meaning item) ≡ Some code
     → verdict sign (spell (before ++ item ∷ []) ++ rest) ≡ Refused code (length (spell before))
+
+-- a law: a refusal for a bracket that stays broken stands for every string with the same octets up to there (own)
+abbrev pub BrokenBracketStands : Type 0
+BrokenBracketStands = (sign : SignData) (before : List Item) (bracket more : List ℕ)
+    → All IsItem before → offences sign before ≡ [] → StaysBroken bracket
+    → verdict sign (spell before ++ (bracket ++ more)) ≡ Refused 3 (length (spell before))

@@ -2,7 +2,7 @@
 
 ghost use Rattle.multi_layout.specs.FillLaw.{KeepsBreaks};
 ghost use Rattle.multi_layout.specs.Fit.{SmallerFits};
-ghost use Rattle.multi_layout.specs.Verdict.{OneVerdict, RefusalStands};
+ghost use Rattle.multi_layout.specs.Verdict.{BrokenBracketStands, OneVerdict, RefusalStands};
 
 /// A law of the definitions: every string has exactly one verdict.
 pub fn one_verdict()
@@ -13,6 +13,12 @@ pub fn one_verdict()
 /// that item.
 pub fn refusal_stands()
     ensures { RefusalStands }
+{}
+
+/// A law of the definitions: if a string is refused for a bracket that stays broken, so is every string with the same octets up
+/// to where nothing can mend it any more.
+pub fn broken_bracket_stands()
+    ensures { BrokenBracketStands }
 {}
 
 /// A law of the definitions: what fits still fits when its parts shrink.

@@ -34,7 +34,7 @@ mod words;
 
 pub use checked::Checked;
 pub use fault::{Fault, SyntaxError};
-pub use laws::{keeps_breaks, one_verdict, refusal_stands, smaller_fits};
+pub use laws::{broken_bracket_stands, keeps_breaks, one_verdict, refusal_stands, smaller_fits};
 pub use pages::{PageView, Pages};
 pub use times::Shown;
 pub use verdict::{check, check_with};

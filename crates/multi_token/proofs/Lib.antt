@@ -1,3 +1,4 @@
+pub mod BrokenLemmas
 pub mod PlaceLemmas
 pub mod ReadingLemmas
 pub mod SpellingLemmas

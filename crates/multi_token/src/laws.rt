@@ -1,5 +1,6 @@
 //! What holds of every spelling.
 
+ghost use Rattle.multi_token.specs.Broken.{OpenIsMended, OpenOrBroken};
 ghost use Rattle.multi_token.specs.Spelling.{NoSpellingBeginsAnother, OneReading};
 ghost use Rattle.multi_token.specs.Reading.{EachStringHasAReading};
 
@@ -16,4 +17,12 @@ pub fn each_string_has_a_reading()
 /// A law of the definitions: a string has no two readings.
 pub fn one_reading()
     ensures { OneReading }
+{}
+
+/// A law of the definitions: a bracket with which no item begins is open, so that what follows can make an item of it, or it stays
+/// broken whatever follows. Open are a `]` at the end of a string, and a `[` with nothing but octets of a body between it and the
+/// end.
+pub fn what_can_be_mended()
+    ensures broken { OpenOrBroken }
+    ensures mended { OpenIsMended }
 {}

@@ -13,7 +13,9 @@ mod laws;
 mod source;
 mod token;
 
-pub use laws::{each_string_has_a_reading, no_spelling_begins_another, one_reading};
+pub use laws::{
+    each_string_has_a_reading, no_spelling_begins_another, one_reading, what_can_be_mended,
+};
 pub use source::Source;
 pub use token::{Bracketed, Kind, Token, TokenFault, next_token, read_bracket};
 
