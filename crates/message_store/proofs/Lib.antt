@@ -1,7 +1,8 @@
+pub mod CrcLemmas
 pub mod LimitsLemmas
 pub mod PoolLemmas
-pub mod WholeLemmas
-pub mod StoredLemmas
-pub mod WorkLemmas
-pub mod CrcLemmas
+pub mod ShortLemmas
 pub mod StoreRows
+pub mod StoredLemmas
+pub mod WholeLemmas
+pub mod WorkLemmas

@@ -81,7 +81,7 @@ module _ (width : ℕ) where
   longer_twice xs ys None = refl
   longer_twice xs ys (Some c) = ap (λ l. let d : CutAt Spot = record c { behind = l } in Some d) (sym (append_assoc c.behind xs ys))
 
-  -- the first character that no longer fits: the line is soft_break at its last space, which may be that character
+  -- the first character that no longer fits: the line is broken at its last space, which may be that character
   pub broken_first : (cs : List Spot) (s : Spot) → line_fits width cs ≡ true → line_fits width (cs ++ s ∷ []) ≡ false → soft_break width (cs ++ s ∷ []) ≡ cut_at_last is_space (cs ++ s ∷ [])
   broken_first cs s fits wide =
       let more = cs ++ s ∷ [] in
@@ -107,7 +107,7 @@ module _ (width : ℕ) where
       ∙ longer_twice (drop (most cs) cs) (s ∷ []) (cut_at_last is_space (take (most cs) cs))
       ∙ ap (option_map (longer (s ∷ []))) (sym (broken_wide cs wide))
 
-  -- what is soft_break are the characters, less nothing
+  -- what is broken off are the characters, less nothing
   parts_of : (n : ℕ) (cs : List Spot) (o : Option (CutAt Spot)) → cut_at_last is_space (take n cs) ≡ o → (c : CutAt Spot) → option_map (longer (drop n cs)) o ≡ Some c → cs ≡ c.before ++ c.item ∷ c.behind
   parts_of n cs None found c e = absurd cc
   parts_of n cs (Some d) found c e =
@@ -140,7 +140,7 @@ module _ (width : ℕ) where
 
   -- THE LAST LINE
 
-  -- the lines that are soft_break off, and the last line
+  -- the lines that are broken off, and the last line
   pub record Filled : Type 0 where
     pub closed : List Spot
     pub open' : List Spot
@@ -181,7 +181,7 @@ module _ (width : ℕ) where
 
   -- ONE MORE CHARACTER
 
-  -- a line, soft_break at its last space where it doesn't fit
+  -- a line, broken at its last space where it doesn't fit
   abbrev pub broken_here : List Spot → Option (CutAt Spot)
   broken_here line = cond (line_fits width line) None (cut_at_last is_space line)
 
@@ -214,7 +214,7 @@ module _ (width : ℕ) where
       ∙ ap (λ l. c.before ++ dropped c.item ∷ l) (ih c.behind (omega (arith, shorter cs c e, h)) fits)
       ∙ sym (append_assoc c.before (dropped c.item ∷ last.closed) (relaid (last.open' ++ s ∷ [])))
 
-  -- one more character behind characters whose last line fits: every break is kept, and the last line is soft_break at its last space
+  -- one more character behind characters whose last line fits: every break is kept, and the last line is broken at its last space
   -- where it no longer fits
   pub fill_push : (n : ℕ) (cs : List Spot) (s : Spot) → length cs < n → line_fits width (parts n cs).open' ≡ true
       → fill n width (cs ++ s ∷ []) ≡ (parts n cs).closed ++ relaid ((parts n cs).open' ++ s ∷ [])

@@ -98,7 +98,7 @@ module _ (width : ℕ) where
       ∙ ap (λ l. l ++ s ∷ []) (sym (append_assoc (front g) (last_parts g).closed (last_parts g).open'))
       ∙ ap (λ l. l ++ s ∷ []) (sym (filled_is g placing))
 
-  -- one more character: what is ended stays, and the open line with it is soft_break at its last space where it doesn't fit
+  -- one more character: what is ended stays, and the open line with it is broken at its last space where it doesn't fit
   pub filled_character : (g : List Spot) (s : Spot) → All IsPlacing g → is_glyph s ≡ true → line_fits width (open_line g) ≡ true
       → filled (Some width) (g ++ s ∷ []) ≡ ended g ++ relaid width (open_line g ++ s ∷ [])
   filled_character g s placing is fits =

@@ -1,4 +1,4 @@
--- Lines filled by words: characters that are too wide for a line are soft_break at spaces (NTCIP 1203 v03, MULTI; how is own).
+-- Lines filled by words: characters that are too wide for a line are broken at spaces (NTCIP 1203 v03, MULTI; how is own).
 use Rattle.std.specs.Prelude.{ℕ, zero, suc, ◌+◌, Bool, false, ◌==◌, List, [], ◌∷◌, ◌++◌, length, take, drop, Option, Some, None, if◌then◌else◌}
 use Rattle.std.specs.List.{filter, flat_map, last_or}
 use Rattle.std.specs.Option.{unwrap_or, option_map, option_map_or}
@@ -45,7 +45,7 @@ is_space spot = of spot.put
 abbrev pub dropped : Spot → Spot
 dropped space = record space { put = Break None }
 
--- where characters that don't fit one line are soft_break: at the last space among the longest prefix that fits and the
+-- where characters that don't fit one line are broken: at the last space among the longest prefix that fits and the
 -- character behind it; so where that character is a space it is this one, and else the last space that fits (own)
 abbrev pub soft_break : ℕ → List Spot → Option (CutAt Spot)
 soft_break width characters =
@@ -53,12 +53,12 @@ soft_break width characters =
     if line_fits width characters then None
     else option_map (longer (drop most characters)) (cut_at_last is_space (take most characters))
 
--- the characters with a line soft_break off, where they are soft_break, and the rest filled in the same way (own)
+-- the characters with a line broken off, where they are broken, and the rest filled in the same way (own)
 abbrev pub broken_off : (List Spot → List Spot) → List Spot → Option (CutAt Spot) → List Spot
 broken_off fill characters None = characters
 broken_off fill characters (Some c) = c.before ++ dropped c.item ∷ fill c.behind
 
--- characters between hard breaks with at most n lines soft_break off (own)
+-- characters between hard breaks with at most n lines broken off (own)
 abbrev pub fill : ℕ → ℕ → List Spot → List Spot
 fill zero width characters = characters
 fill (suc n) width characters = broken_off (fill n width) characters (soft_break width characters)
@@ -67,7 +67,7 @@ fill (suc n) width characters = broken_off (fill n width) characters (soft_break
 abbrev pub filled_line : ℕ → List Spot → List Spot
 filled_line width line = fill (length (filter is_glyph line)) width (filter is_glyph line) ++ filter is_break line
 
--- a group with each line filled to a width, if lines are filled; where characters are too wide and have no space to be soft_break
+-- a group with each line filled to a width, if lines are filled; where characters are too wide and have no space to be broken
 -- at they stay on one line, which doesn't fit (own)
 abbrev pub filled : Option ℕ → List Spot → List Spot
 filled None group = group

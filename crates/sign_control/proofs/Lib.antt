@@ -1,5 +1,6 @@
 pub mod BudgetLemmas
 pub mod CountLemmas
 pub mod FrameLemmas
+pub mod HeadlineLemmas
 mod StepExamples
 pub mod StepLemmas

@@ -5,5 +5,6 @@ pub mod Time
 pub mod Step
 pub mod Counts
 pub mod Run
+pub mod Headline
 pub mod Report
 pub mod Lending

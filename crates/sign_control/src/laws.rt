@@ -1,9 +1,17 @@
 //! Laws of the step of commands, which no call has to be trusted for.
 
+ghost use Rattle.sign_control.specs.Headline.{Headline};
 ghost use Rattle.sign_control.specs.Run.{EveryRunStaysWithin};
 
 /// After every command of every list of them the used bytes are at most the store's budget, the used slots at most its
 /// slots, and used and free bytes together are the budget.
 pub fn every_run_stays_within()
     ensures { EveryRunStaysWithin }
+{}
+
+/// After every list of commands, from the making of a controller on: the store is within its budget and its slots; each command
+/// took at most the check limit of the longest text, 36,865 steps; the text that is shown is accepted by the defaults with
+/// which it is shown; and a frame shows a page of that text, or an off time, in which each pixel has one colour.
+pub fn headline()
+    ensures { Headline }
 {}

@@ -21,7 +21,7 @@ mod report;
 pub use command::{Command, DefaultField, Reply};
 pub use controller::Controller;
 pub use frame::Frame;
-pub use laws::every_run_stays_within;
+pub use laws::{every_run_stays_within, headline};
 pub use report::Report;
 
 #[cfg(test)]
