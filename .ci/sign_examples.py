@@ -1,0 +1,74 @@
+"""Reads the examples of signs/, and the signs that they are asked on. signs/README.md says how they are written."""
+import os
+import re
+import subprocess
+import sys
+from pathlib import Path
+
+PROGRAM = "crates/signctl/out/signctl"
+ROW = re.compile(
+    r"(?P<options>(?:--(?:colour|clock) \d+ )*)(?:(?P<times>\d+) times )?(?P<string>.*)"
+    r" => (?P<answer>ok \d+|error \d+ \d+|page \d+ phase \d+|off)"
+)
+
+
+def fail(*lines):
+    """Ends the script that runs."""
+    sys.exit(f"{Path(sys.argv[0]).name}: " + "\n".join(lines))
+
+
+def build():
+    """Goes to the top of the repository, and builds the program if its sources have changed."""
+    os.chdir(Path(__file__).resolve().parent.parent)
+    subprocess.run(["bin/signctl", "--help"], stdout=subprocess.DEVNULL, check=True)
+
+
+class Example:
+    """A string, how the program is asked for it, and the lines of its answer."""
+
+    def __init__(self, place, change, row):
+        self.place = f"{place}: {row[0]}"
+        self.change = change
+        self.framed = row["answer"].startswith(("page", "off"))
+        self.words = ["show" if self.framed else "check", *row["options"].split()]
+        self.string = "" if row["string"] == "(empty)" else row["string"] * int(row["times"] or 1)
+        self.answer = [row["answer"]]
+
+
+def examples_of(path):
+    """The examples of a file."""
+    examples, change, framed, drawn = [], None, [], False
+    for number, line in enumerate(path.read_text().splitlines(), 1):
+        place = f"{path}:{number}"
+        row = ROW.fullmatch(line)
+        if row:
+            examples.append(Example(place, change, row))
+            if drawn:
+                framed, drawn = [], False
+            if examples[-1].framed:
+                framed.append(examples[-1])
+        elif re.fullmatch(r"    [.#]+", line) and framed:
+            drawn = True
+            for example in framed:
+                example.answer.append(line[4:])
+        elif line.startswith("with "):
+            change = line.removeprefix("with ")
+        elif line and not line.startswith("# "):
+            fail(f"{place}: what is this line?")
+    for example in examples:
+        if example.framed and len(example.answer) == 1:
+            fail(f"{example.place}: its frame has no rows")
+    return examples
+
+
+def sign_with(path, change):
+    """The sign of a file, one of whose keys, or one piece of whose text, may be changed."""
+    sign = path.read_text()
+    if change:
+        old, arrow, new = change.partition(" -> ")
+        key = re.escape(change.split(" = ")[0])
+        pattern = re.escape(old) if arrow else f"^{key} = .*$"
+        sign, found = re.subn(pattern, lambda _: new if arrow else change, sign, flags=re.MULTILINE)
+        if found != 1:
+            fail(f"{path}: `{change}` changes {found} places")
+    return sign
