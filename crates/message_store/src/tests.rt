@@ -2,6 +2,7 @@
 
 mod bounds;
 mod calls;
+mod memory;
 mod pool;
 
 use crate::{Judged, MsgRef, Permanent, Store, StoreLimits, message_crc};

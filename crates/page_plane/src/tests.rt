@@ -4,7 +4,7 @@ use crate::{Memory, Plane};
 use std::alloc::Global;
 use std::process::Abort;
 
-/// The one plane of a test, which `.ci/refused-plane` refuses.
+/// The plane of a test, whose memory `.ci/refused-calls` refuses.
 fn made(rt: &impl Abort, plane: Result<Plane, Memory>) -> Plane
     ensures { plane ≡ Ok result }
 {

@@ -2,6 +2,7 @@ use crate::{FileFault, SignFile, read_sign_file};
 use message_store::{Permanent, StoreLimits};
 use sign_font::{CellPart, Defaults, FontPart, LineFill};
 use std::alloc::Global;
+use std::fmt::Write;
 use std::process::Abort;
 use std::test::Fail;
 
@@ -97,12 +98,10 @@ fn check_changed(
     Ok(())
 }
 
+/// `.ci/refused-calls` refuses its memory.
 #[test]
 fn a_sign_file_is_read_as_it_is_written(rt: HostRuntime) {
-    let Ok(file) = read_sign_file(rt.alloc(), WHOLE.as_bytes()) else {
-        assert!(rt; false, "the file is read");
-        return;
-    };
+    let file = read_sign_file(rt.alloc(), WHOLE.as_bytes()).expect(&rt, "a file");
     let sign = &file.sign;
     assert!(rt;
         sign.width == 12 && sign.height == 7 && sign.max_pages == 2,
@@ -163,6 +162,42 @@ fn fonts_and_their_cells_are_read_in_their_order(rt: HostRuntime) {
     assert!(rt; is(a, 65, 3, &[0x5e, 0x80]), "the first cell");
     assert!(rt; is(i, 73, 1, &[0xe0]), "the second cell");
     assert!(rt; second.cells.is_empty(), "the second font has no cells");
+}
+
+/// A file with 16 fonts of 255 cells each and 255 permanent messages, each cell of one pixel and each text its own.
+fn largest(alloc: Global) -> Result<String, Fail> {
+    let mut file = LEAST.replace(
+        alloc,
+        "font = [ { number = 1, height = 3, char_spacing = 1, line_spacing = 1 } ]\n",
+        "",
+    )?;
+    for font in 1..17 {
+        file.push_str("[[font]]\nheight = 1\nchar_spacing = 1\nline_spacing = 1\n")?;
+        write!(file, "number = {font}\ncell = [\n")?;
+        for number in 1..256 {
+            writeln!(file, "{{ number = {number}, width = 1, bits = \"80\" }},")?;
+        }
+        file.push_str("]\n")?;
+    }
+    for number in 1..256 {
+        write!(file, "[[permanent]]\nmulti = \"{number}\"\n")?;
+    }
+    Ok(file)
+}
+
+#[test]
+fn the_largest_sign_file_is_read(rt: HostRuntime) -> Result<(), Fail> {
+    let text = largest(rt.alloc())?;
+    let Ok(file) = read_sign_file(rt.alloc(), text.as_str().as_bytes()) else {
+        panic!(rt; "the file is read");
+    };
+    assert_eq!(rt; (file.sign.fonts.len(), file.permanents.len()), (16, 255));
+    for font in file.sign.fonts.iter() {
+        assert_eq!(rt; font.cells.len(), 255, "the cells of font {}", font.number);
+    }
+    let last = file.permanents.last().ok_or("no message")?;
+    assert!(rt; is_message(last, b"255", 1, 0, 0), "the last message");
+    Ok(())
 }
 
 /// Whether a permanent message is this text with these numbers.

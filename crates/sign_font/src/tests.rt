@@ -155,6 +155,70 @@ fn the_sample_says_what_was_written(rt: HostRuntime) -> Result<(), Fail> {
     Ok(())
 }
 
+/// 16 fonts of 255 cells each, with numbers from 1 and every pixel of 64 by 64 lit, on 1,024 columns and 128 rows.
+fn largest(alloc: Global) -> Result<SignParts, AllocError> {
+    let mut parts = with_fonts(alloc, 16)?;
+    parts.width = 1024;
+    parts.height = 128;
+    for font in parts.fonts.iter_mut() {
+        font.height = 64;
+        font.cells = full_cells(alloc)?;
+    }
+    Ok(parts)
+}
+
+/// The cells 1 to 255, each with every pixel of 64 by 64 lit.
+fn full_cells(alloc: Global) -> Result<Vec<CellPart>, AllocError> {
+    let mut cells = Vec::new(alloc);
+    for number in 1..256u16 {
+        cells.push(CellPart {
+            number,
+            width: 64,
+            bits: Vec::from_elem(alloc, 0xff, 512)?,
+        })?;
+    }
+    Ok(cells)
+}
+
+#[test]
+fn the_largest_sign_has_all_its_cells(rt: HostRuntime) -> Result<(), Fail> {
+    let sign = Sign::new(rt.alloc(), largest(rt.alloc())?)?;
+    assert_eq!(rt;
+        (sign.width(), sign.height(), sign.tallest()),
+        (1024, 128, 64)
+    );
+    for font in 1..17u8 {
+        for number in 1..256u16 {
+            let mut source = Source::new(b"");
+            let cell = sign.cell(&mut source, font, number).ok_or("no cell")?;
+            assert_eq!(rt;
+                cell.rows(),
+                [u64::MAX; 64].as_slice(),
+                "cell {number} of font {font}"
+            );
+        }
+    }
+    Ok(())
+}
+
+/// `.ci/refused-calls` refuses its memory.
+#[test]
+fn only_making_a_sign_takes_memory(rt: HostRuntime) {
+    let parts = sample_sign(rt.alloc()).expect(&rt, "the parts");
+    let sign = Sign::new(rt.alloc(), parts).expect(&rt, "a sign");
+    let mut source = Source::new(b"");
+    assert!(rt; sign.font(&mut source, 2).is_some());
+    assert!(rt; sign.cell(&mut source, 2, 65).is_some());
+    // of the five cells the third is looked at, and then the fifth, above which there is none
+    assert_eq!(rt; look(&sign, 1, 65535), (None, 2));
+    // an A of 3 columns and an I of one, each with a gap of one before it
+    assert_eq!(rt; sign.text_width(&mut source, 1, b"AI", 1, 9), Ok(6));
+    let found = sign.text_front(&mut source, 1, b"AIA", 1, 6);
+    assert_eq!(rt; found, front(2, 6, None));
+    assert!(rt; sign.refuses(&sign.defaults()).is_none());
+    assert_eq!(rt; sign.font_of(&sign.defaults()), sign.default_font());
+}
+
 #[test]
 fn a_sign_fills_lines_as_it_was_written(rt: HostRuntime) -> Result<(), Fail> {
     for line_fill in [LineFill::Off, LineFill::Words] {

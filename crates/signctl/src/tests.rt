@@ -2,6 +2,7 @@ mod lending;
 mod run;
 mod show;
 mod sign_files;
+mod streams;
 
 use crate::fault::ToolFault;
 use crate::main_with::main_with;
@@ -250,23 +251,6 @@ fn an_input_has_a_greatest_length(rt: HostRuntime) {
         assert!(rt;
             reader.reads == 16_777_217,
             "the reads at {octets} octets in lines of {letters}"
-        );
-    }
-}
-
-#[test]
-fn a_failed_read_ends_the_run_behind_the_whole_lines(rt: HostRuntime) {
-    let alloc = rt.alloc();
-    let input = b"A\nI\nA\n";
-    for k in 0..input.len() + 1 {
-        let mut output = Vec::new(alloc);
-        let mut reader = FailingReader(&input[..k]);
-        let result = run_tool(alloc, Mode::Check, true, &mut reader, &mut output);
-        assert!(rt; result == Err(ToolFault::Read), "the end after {k}");
-        let want = b"ok 1\nok 1\nok 1\n";
-        assert!(rt;
-            output.as_slice() == &want[..k / 2 * 5],
-            "what is written after {k}"
         );
     }
 }

@@ -50,13 +50,14 @@ fn code_with(alloc: Global, longest: u16, fields: [u8; 3]) -> Result<u8, AllocEr
     Ok(code(alloc, limits(1, 0, longest), messages))
 }
 
-/// The code of a store with this many permanent messages.
+/// The code of a store with the largest limits and this many permanent messages of 4,096 octets.
 fn code_of_many(alloc: Global, count: u16) -> Result<u8, AllocError> {
+    let long = Vec::from_elem(alloc, b'A', 4096)?;
     let mut messages = Vec::new(alloc);
     for _ in 0..count {
-        messages.push(permanent(alloc, b"")?)?;
+        messages.push(permanent(alloc, &long)?)?;
     }
-    Ok(code(alloc, limits(1, 4, 64), messages))
+    Ok(code(alloc, limits(1000, 1_000_000, 4096), messages))
 }
 
 #[test]

@@ -8,7 +8,7 @@ use std::alloc::{AllocError, Global};
 use std::process::Abort;
 use std::test::Fail;
 
-/// The store of a test in which `.ci/refused-store` refuses memory.
+/// The store of a test in which `.ci/refused-calls` refuses memory.
 fn made(rt: &impl Abort, store: Result<Store, StoreMade>) -> Store
     ensures { store ≡ Ok result }
 {

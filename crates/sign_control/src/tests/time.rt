@@ -1,7 +1,10 @@
 //! Durations, and what follows them.
 
-use super::{AT_FIRST, CURRENT, SHOWING_A, are_told, is_row, sample, sign_with, with_valid_a};
+use super::{
+    AT_FIRST, CURRENT, SHOW_A, SHOWING_A, are_told, is_row, sample, sign_with, with_valid_a,
+};
 use crate::{Command, Reply, Report};
+use multi_layout::Shown;
 use sign_font::sample_sign;
 use std::test::Fail;
 
@@ -65,6 +68,41 @@ fn what_has_no_end_goes_on(rt: HostRuntime) -> Result<(), Fail> {
         ..AT_FIRST
     };
     assert!(rt; controller.report() == after, "the clock");
+    Ok(())
+}
+
+#[test]
+fn the_clock_stays_at_its_last_value(rt: HostRuntime) -> Result<(), Fail> {
+    let mut controller = with_valid_a(rt.alloc())?;
+    let shows = [(Command::Activate(SHOW_A), Reply::Shown)];
+    assert!(rt; are_told(&mut controller, &shows), "it is shown");
+    controller.display.clock = u64::MAX - 2;
+    for (tenths, clock) in [
+        (1, u64::MAX - 1),
+        (0, u64::MAX - 1),
+        (2, u64::MAX),
+        (1, u64::MAX),
+        (u32::MAX, u64::MAX),
+    ] {
+        let ticks = [(Command::Tick(tenths), Reply::Ticked)];
+        assert!(rt; are_told(&mut controller, &ticks), "a tick of {tenths}");
+        let after = Report { clock, ..SHOWING_A };
+        assert!(rt; controller.report() == after, "the report after {tenths}");
+        let shown = controller.frame(1).shown;
+        assert!(rt;
+            shown
+                == Shown::Page {
+                    page: 0,
+                    phase: clock
+                },
+            "the frame after {tenths}"
+        );
+    }
+    // The priority of what is shown, 200, is more than the 128 of the first activation.
+    let again = [0xff, 0xff, 200, 3, 0, 1, 0x9a, 0x66, 0x7f, 0, 0, 1];
+    let shows = [(Command::Activate(again), Reply::Shown)];
+    assert!(rt; are_told(&mut controller, &shows), "it is shown again");
+    assert!(rt; controller.report() == SHOWING_A, "the clock is 0 again");
     Ok(())
 }
 

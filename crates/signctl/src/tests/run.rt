@@ -81,27 +81,6 @@ impl Write for OctetCounter {
     }
 }
 
-/// How many octets the first lines of a text have.
-fn octets_of(text: &[u8], lines: usize) -> usize {
-    let mut left = lines;
-    let mut octets = 0usize;
-    for octet in text {
-        if left == 0 {
-            return octets;
-        }
-        if *octet == b'\n' {
-            left -= 1;
-        }
-        octets = octets.saturating_add(1);
-    }
-    octets
-}
-
-/// How many lines end in a text.
-fn lines_in(text: &[u8]) -> usize {
-    text.iter().filter(|octet| **octet == b'\n').count()
-}
-
 /// What a script on the sample sign writes, and how it ends.
 fn run(alloc: Global, input: &[u8]) -> (Vec<u8>, Result<(), ToolFault>) {
     let mut reader = input;
@@ -161,25 +140,29 @@ fn a_script_ends_at_its_first_fault(rt: HostRuntime) -> Result<(), Fail> {
 }
 
 #[test]
-fn a_script_has_a_greatest_length(rt: HostRuntime) {
+fn each_mode_has_a_greatest_length(rt: HostRuntime) {
     let alloc = rt.alloc();
-    // The line, octets, octets that are written, and the end.
-    let rows: [(&'static [u8], u64, u64, Result<(), ToolFault>); 3] = [
+    let show = Mode::Show {
+        colour: 1,
+        clock: 0,
+    };
+    let endless = Err(ToolFault::InputTooLong);
+    // The mode, the line, octets, octets that are written, and the end.
+    let rows: [(Mode, &'static [u8], u64, u64, Result<(), ToolFault>); 5] = [
         (
+            Mode::Run,
             b"tick 1",
             16_777_216,
             16_777_215,
             Err(ToolFault::BadLine { line: 2_396_746 }),
         ),
-        (
-            b"tick 1",
-            16_777_217,
-            16_777_215,
-            Err(ToolFault::InputTooLong),
-        ),
-        (b"", u64::MAX, 0, Err(ToolFault::InputTooLong)),
+        (Mode::Run, b"tick 1", 16_777_217, 16_777_215, endless),
+        (Mode::Run, b"", u64::MAX, 0, endless),
+        // Each empty line is answered with 5 octets, or with a frame of 106.
+        (Mode::Check, b"", u64::MAX, 83_886_080, endless),
+        (show, b"", u64::MAX, 1_778_384_896, endless),
     ];
-    for (line, octets, written, end) in rows {
+    for (mode, line, octets, written, end) in rows {
         let mut reader = LineRepeater {
             line,
             column: 0,
@@ -187,7 +170,7 @@ fn a_script_has_a_greatest_length(rt: HostRuntime) {
             reads: 0,
         };
         let mut writer = OctetCounter(0);
-        let result = run_tool(alloc, Mode::Run, true, &mut reader, &mut writer);
+        let result = run_tool(alloc, mode, true, &mut reader, &mut writer);
         assert!(rt; result == end, "the end of {octets} octets of {line:?}");
         assert_eq!(rt;
             writer.0,
@@ -199,49 +182,6 @@ fn a_script_has_a_greatest_length(rt: HostRuntime) {
             16_777_217,
             "the reads of {octets} octets of {line:?}"
         );
-    }
-}
-
-#[test]
-fn a_failed_read_ends_a_script_after_its_whole_lines(rt: HostRuntime) {
-    let alloc = rt.alloc();
-    for k in 0..MINUTE.len() + 1 {
-        let mut output = Vec::new(alloc);
-        let mut reader = FailingReader(&MINUTE[..k]);
-        let result = run_tool(alloc, Mode::Run, true, &mut reader, &mut output);
-        assert!(rt; result == Err(ToolFault::Read), "the end after {k}");
-        let replies = octets_of(MINUTE_REPLIES, lines_in(&MINUTE[..k]));
-        assert_eq!(rt; output.len(), replies, "how much is written after {k}");
-        assert!(rt;
-            MINUTE_REPLIES.starts_with(&output),
-            "what is written after {k}"
-        );
-    }
-}
-
-#[test]
-fn a_failed_write_ends_a_script_after_a_front_of_its_replies(rt: HostRuntime) {
-    let alloc = rt.alloc();
-    for fails in [false, true] {
-        for room in 0..MINUTE_REPLIES.len() + 1 {
-            let mut reader = MINUTE;
-            let mut writer = NarrowWriter {
-                taken: Vec::new(alloc),
-                room,
-                fails,
-            };
-            let result = run_tool(alloc, Mode::Run, true, &mut reader, &mut writer);
-            let end = if room < MINUTE_REPLIES.len() {
-                Err(ToolFault::Write)
-            } else {
-                Ok(())
-            };
-            assert!(rt; result == end, "the end after {room}");
-            assert!(rt;
-                writer.taken.as_slice() == &MINUTE_REPLIES[..room],
-                "what is written after {room}"
-            );
-        }
     }
 }
 

@@ -1,6 +1,6 @@
 //! `signctl show` on the sample sign: its words, its ends, and one plane for all lines.
 
-use super::{NarrowWriter, main_output, run_behind, sign_files};
+use super::{main_output, run_behind, sign_files};
 use crate::fault::ToolFault;
 use crate::tool::{Mode, run_tool};
 use std::test::Fail;
@@ -108,29 +108,6 @@ fn one_plane_serves_all_lines(rt: HostRuntime) -> Result<(), Fail> {
     assert!(rt; output.as_slice() == want.as_slice(), "what is written");
     assert!(rt; result == Ok(()), "the end");
     Ok(())
-}
-
-#[test]
-fn a_failed_write_ends_a_frame(rt: HostRuntime) {
-    let alloc = rt.alloc();
-    let mode = Mode::Show {
-        colour: 1,
-        clock: 0,
-    };
-    let mut reader = b"\n\n".as_slice();
-    let mut writer = NarrowWriter {
-        taken: Vec::new(alloc),
-        room: 120,
-        fails: true,
-    };
-    let result = run_tool(alloc, mode, true, &mut reader, &mut writer);
-    assert!(rt; result == Err(ToolFault::Write), "the end");
-    let (head, pixels) = writer.taken.split_at(15.min(writer.taken.len()));
-    assert!(rt;
-        head == "page 0 phase 0\n".as_bytes() && pixels.starts_with(DARK.as_bytes()),
-        "what is written"
-    );
-    assert!(rt; writer.taken.len() == 120, "how much is written");
 }
 
 #[test]

@@ -293,11 +293,12 @@ fn a_long_line_and_a_bad_sign_have_an_order(rt: HostRuntime) -> Result<(), Fail>
 #[test]
 fn an_input_without_a_mark_has_a_greatest_length(rt: HostRuntime) {
     let alloc = rt.alloc();
-    for (octets, end) in [
-        (16_777_216, BAD),
-        (16_777_217, Err(ToolFault::InputTooLong)),
+    for (letters, octets, end) in [
+        (8_191, 16_777_216, BAD),
+        (8_191, 16_777_217, Err(ToolFault::InputTooLong)),
+        (0, u64::MAX, Err(ToolFault::InputTooLong)),
     ] {
-        let mut reader = LineMaker::new(8_191, octets);
+        let mut reader = LineMaker::new(letters, octets);
         let mut output = Vec::new(alloc);
         let result = run_tool(alloc, Mode::Check, false, &mut reader, &mut output);
         assert!(rt; result == end, "the end at {octets} octets");
