@@ -8,7 +8,7 @@ ghost use Rattle.sign_font.specs.Defaults.{default_fault, under};
 ghost use Rattle.multi_layout.specs.Codes.{code_of};
 ghost use Rattle.multi_layout.specs.Limits.{check_limit};
 ghost use Rattle.multi_layout.specs.Progress.{IsTold, IsAt, IsRefused};
-ghost use Rattle.multi_layout.specs.State.{IsUnfilledOf, whole_times};
+ghost use Rattle.multi_layout.specs.State.{IsStateOf, IsUnfilledOf, whole_times};
 ghost use Rattle.multi_layout.specs.Verdict.{Accepted, IsVerdict, Refused};
 
 use crate::checked::Checked;
@@ -81,49 +81,39 @@ pub fn check_with<'a>(
 {
     let terms = Terms::new(sign, defaults);
     let mut source = source;
-    match terms.line_fill() {
-        LineFill::Off => {
-            let mut state = State::new(&terms);
-            match judge_unfilled(&terms, &mut state, &mut source) {
-                Ok(()) => Ok(Checked {
-                    pages: state.pages,
-                    cycle: state.whole_cycle(),
-                    terms,
-                    source,
-                }),
-                Err(offence) => Err(offence.fault(source)),
-            }
-        }
-        LineFill::Words => match judge_filled(&terms, &mut source) {
-            Ok(told) => Ok(Checked {
-                pages: told.pages,
-                cycle: told.cycle,
-                terms,
-                source,
-            }),
-            Err(offence) => Err(offence.fault(source)),
-        },
-    }
-}
-
-impl Offence {
-    /// The fault that tells it, with the source.
-    #[inline(always)]
-    fn fault(self, source: Source<'_>) -> Fault<'_>
-        ensures code { result.code ≡ code_of self.error }
-        ensures at { result.at ≡ self.at }
-        ensures source { result.source ≡ source.entry }
-    {
-        Fault {
-            code: self.error.code(),
-            at: self.at,
+    let mut state = State::new(&terms);
+    match judge(&terms, &mut state, &mut source) {
+        Ok(()) => Ok(Checked {
+            pages: state.pages,
+            cycle: state.whole_cycle(),
+            terms,
             source,
-        }
+        }),
+        Err(offence) => Err(Fault {
+            code: offence.error.code(),
+            at: offence.at,
+            source,
+        }),
     }
 }
 
-/// Judges all items of a string whose lines aren't filled: from the state before the first one to that behind the last, or to the
-/// first that offends.
+/// Goes from the state before the first item to that behind the last of an accepted string, or to the first item that offends.
+#[inline(always)]
+fn judge(sign: &Terms<'_>, state: &mut State, source: &mut Source<'_>) -> Result<(), Offence>
+    requires start { IsStateOf sign.now [] state.old }
+    requires fresh { source.old.steps ≡ 0 }
+    requires short { length source.old.octets < 2 ^ 32 }
+    ensures accepted { OnOk result (IsTold sign.now source.old.octets state.new.pages (whole_times state.new) source.new) }
+    ensures small { OnOk result (state.new.cycle ≤ 510 * state.new.pages) }
+    ensures refused { IfErr result (λ offence. IsRefused sign.now source.old.octets offence source.new) }
+{
+    match sign.line_fill() {
+        LineFill::Off => judge_unfilled(sign, state, source),
+        LineFill::Words => judge_filled(sign, state, source),
+    }
+}
+
+/// The same where lines aren't filled.
 fn judge_unfilled(
     sign: &Terms<'_>,
     state: &mut State,

@@ -1,10 +1,11 @@
 //! The verdict on a string where lines are filled by words, in one reading from the left.
 
-ghost use Rattle.std.specs.Prelude.{◌≡◌, ◌+◌, ◌-◌, ◌^◌, ◌<◌, ◌≤◌, ◌⊎◌, [], length, IfOk, IfErr, OnOk, Some};
+ghost use Rattle.std.specs.Prelude.{◌≡◌, ◌+◌, ◌-◌, ◌*◌, ◌^◌, ◌<◌, ◌≤◌, ◌⊎◌, [], length, IfOk, IfErr, OnOk, Some};
 ghost use Rattle.sign_font.specs.declared.parts.LineFill.TheVariants.{Words};
 ghost use Rattle.multi_layout.specs.FilledRun.{FitsHere};
 ghost use Rattle.multi_layout.specs.FilledState.{IsFilledFor};
 ghost use Rattle.multi_layout.specs.Progress.{IsTold, IsAt, IsBehind, IsRefused};
+ghost use Rattle.multi_layout.specs.State.{whole_times};
 
 use crate::fault::SyntaxError;
 use crate::filled::Filled;
@@ -13,21 +14,18 @@ use crate::terms::Terms;
 use crate::verdict::Offence;
 use multi_token::{Source, read_bracket};
 
-/// What is told of an accepted string.
-#[derive(Clone, Copy)]
-pub(crate) struct Told {
-    /// The number of its pages.
-    pub(crate) pages: u8,
-    /// The times of all its pages, in tenths of a second.
-    pub(crate) cycle: u32,
-}
-
-/// Judges all items of a string from the left, up to the first one that offends.
-pub(crate) fn judge_filled(sign: &Terms<'_>, source: &mut Source<'_>) -> Result<Told, Offence>
+/// Judges all items of a string from the left, up to the first one that offends, and leaves the pages and times of an accepted string
+/// in the state. What else it keeps isn't copied there, since nobody asks for it.
+pub(crate) fn judge_filled(
+    sign: &Terms<'_>,
+    state: &mut State,
+    source: &mut Source<'_>,
+) -> Result<(), Offence>
     requires words { sign.now.line_fill ≡ Words }
     requires fresh { source.old.steps ≡ 0 }
     requires short { length source.old.octets < 2 ^ 32 }
-    ensures accepted { IfOk result (λ told. IsTold sign.now source.old.octets told.pages told.cycle source.new) }
+    ensures accepted { OnOk result (IsTold sign.now source.old.octets state.new.pages (whole_times state.new) source.new) }
+    ensures small { OnOk result (state.new.cycle ≤ 510 * state.new.pages) }
     ensures refused { IfErr result (λ offence. IsRefused sign.now source.old.octets offence source.new) }
 {
     let mut kept = Filled::new(State::new(sign));
@@ -42,10 +40,10 @@ pub(crate) fn judge_filled(sign: &Terms<'_>, source: &mut Source<'_>) -> Result<
             Err(offence) => return Err(offence),
         }
     }
-    Ok(Told {
-        pages: kept.state.pages,
-        cycle: kept.state.whole_cycle(),
-    })
+    state.pages = kept.state.pages;
+    state.cycle = kept.state.cycle;
+    state.attributes = kept.state.attributes;
+    Ok(())
 }
 
 /// Judges what begins with this octet at an offset, which was read: an item that begins with a bracket, or all characters up to

@@ -1,6 +1,6 @@
 //! Characters by their numbers.
 
-use super::{LETTER_A, Verdict, sign, verdict};
+use super::{LETTER_A, sign, verdict};
 use crate::check;
 use multi_token::Source;
 use page_plane::Plane;
@@ -63,37 +63,6 @@ fn rows_of(alloc: Global, sign: &Sign, octets: &[u8], phase: u64) -> Result<[u8;
         }
     }
     Ok(rows)
-}
-
-#[test]
-fn a_character_by_its_number_is_judged_as_any(rt: HostRuntime) -> Result<(), Fail> {
-    let sign = sign(rt.alloc())?;
-    let rows: [(&[u8], Verdict); 18] = [
-        (b"[hc41]", Ok(1)),
-        (b"[HC0041]", Ok(1)),
-        (b"[hc5b]", Ok(1)),
-        (b"[hc5B][hC5D]", Ok(1)),
-        (b"[hc42]", Err((7, 0))),
-        (b"[hc141]", Err((7, 0))),
-        (b"[hcffff]", Err((7, 0))),
-        (b"[hc]", Err((4, 0))),
-        (b"[hc0]", Err((4, 0))),
-        (b"[hc0000]", Err((4, 0))),
-        (b"[hc12345]", Err((4, 0))),
-        (b"[hcG]", Err((4, 0))),
-        // the fault is at the tag's own bracket, wherever it stands
-        (b"A[hc41]AA", Err((5, 8))),
-        (b"AA[hc41][hc41]", Err((5, 8))),
-        (b"A[hc42]A", Err((7, 1))),
-        // it begins and ends a segment as any character does
-        (b"[jl4]A[jl2][hc41]", Err((11, 11))),
-        (b"[jp4][hc41][jp2]A", Err((11, 16))),
-        (b"[fo2][hc49]", Err((7, 5))),
-    ];
-    for (octets, want) in rows {
-        assert_eq!(rt; verdict(&sign, octets), want, "at {octets:?}");
-    }
-    Ok(())
 }
 
 #[test]

@@ -10,7 +10,7 @@ use std::io::{Read, Write};
 use std::test::Fail;
 
 /// A message that is stored, shown for a minute, and ended 5 tenths of a second before the script's last tick.
-const MINUTE: &[u8] = b"\
+pub(super) const MINUTE: &[u8] = b"\
 request 3 1 6
 multi 3 1 A
 priority 3 1 200
@@ -25,7 +25,7 @@ tick 0
 ";
 
 /// The replies to it.
-const MINUTE_REPLIES: &[u8] = b"\
+pub(super) const MINUTE_REPLIES: &[u8] = b"\
 done
 done
 done

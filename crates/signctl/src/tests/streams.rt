@@ -1,6 +1,6 @@
 //! Runs of each mode, by the sample sign and by its file, whose streams fail and whose memory is refused.
 
-use super::{FailingReader, NarrowWriter, sign_files};
+use super::{FailingReader, NarrowWriter, run, sign_files};
 use crate::fault::ToolFault;
 use crate::tool::{Mode, run_script, run_tool};
 use std::alloc::{AllocError, Global};
@@ -105,18 +105,32 @@ const RUN: Run = Run {
     ..CHECK
 };
 
-/// Each mode and `run_script`, with the sample sign and with its file.
-fn runs() -> [Run; 8] {
+const MINUTE: Run = Run {
+    name: "run --sample, a minute",
+    lines: run::MINUTE,
+    output: run::MINUTE_REPLIES,
+    ..RUN
+};
+
+/// Each mode and `run_script`, with the sample sign and with its file, and a message that is shown for a minute.
+fn runs() -> [Run; 10] {
     let script = Run {
         name: "run_script --sample",
         mode: None,
         ..RUN
+    };
+    let minute_script = Run {
+        name: "run_script --sample, a minute",
+        mode: None,
+        ..MINUTE
     };
     [
         CHECK,
         SHOW,
         RUN,
         script,
+        MINUTE,
+        minute_script,
         filed(CHECK, "check"),
         filed(SHOW, "show"),
         filed(RUN, "run"),

@@ -16,12 +16,8 @@ checked sign octets pages tenths cycle source short is told =
     )
 
 pub invariant_of-result : goal.invariant_of-result
-invariant_of-result c = checked c.new-terms.result c.args.source.octets _ _ c.whole_cycle.result c.judge_unfilled.new.source c.requires.short c.whole_cycle.ensures c.in-Ok.ensures.accepted
+invariant_of-result c = checked c.new-terms.result c.args.source.octets _ _ c.whole_cycle.result c.judge.new.source c.requires.short c.whole_cycle.ensures c.in-Ok.ensures.accepted
 
 pub returns-in-Ok-clause-accepted : goal.returns-in-Ok-clause-accepted
 returns-in-Ok-clause-accepted c =
-    (c.judge_unfilled.new.state.pages, subst (λ (s : SignData). IsVerdict s c.args.source.octets (Accepted c.judge_unfilled.new.state.pages)) c.new-terms.ensures c.in-Ok.ensures.accepted.verdict)
-
-pub returns-in-Ok-judge_filled-clause-accepted : goal.returns-in-Ok-judge_filled-clause-accepted
-returns-in-Ok-judge_filled-clause-accepted c =
-    (c.in-Ok-judge_filled.told.pages, subst (λ (s : SignData). IsVerdict s c.args.source.octets (Accepted c.in-Ok-judge_filled.told.pages)) c.new-terms.ensures c.in-Ok-judge_filled.ensures.accepted.verdict)
+    (c.judge.new.state.pages, subst (λ (s : SignData). IsVerdict s c.args.source.octets (Accepted c.judge.new.state.pages)) c.new-terms.ensures c.in-Ok.ensures.accepted.verdict)

@@ -13,13 +13,12 @@ loop-next-init c =
     first_read sign c.args.source.now (IsFilledFor sign c.new-kept.result) (record { words = c.requires.words; of = c.new-kept.ensures sign [] c.new.ensures.start refl }) c.requires.fresh
     c.read-next.result c.read-next.new.self c.read-next.ensures.octet c.read-next.ensures.step
 
-pub whole_cycle-requires : goal.whole_cycle-requires
-whole_cycle-requires c = record { short = c.loop-next.invariant.so_far.is.of.state_is.short }
-
 pub returns-clause-accepted : goal.returns-clause-accepted
 returns-clause-accepted c =
     let sign = c.args.sign.now in
     let octets = c.args.source.now.octets in
     let at = c.loop-next in
-    rw c.whole_cycle.ensures
-    (filled_told sign octets at.at at.kept at.source (subst (λ next. IsAt sign octets at.at next (IsFilledFor sign at.kept) at.source) c.in_default.is at.invariant))
+    filled_told sign octets at.at at.kept at.source (subst (λ next. IsAt sign octets at.at next (IsFilledFor sign at.kept) at.source) c.in_default.is at.invariant)
+
+pub returns-clause-small : goal.returns-clause-small
+returns-clause-small c = c.loop-next.invariant.so_far.is.of.state_is.short
