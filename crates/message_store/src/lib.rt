@@ -27,6 +27,3 @@ pub use message::{MsgRef, Permanent};
 pub use row::Row;
 pub use store::Store;
 pub use work::Judged;
-
-#[cfg(test)]
-mod tests;

@@ -38,6 +38,3 @@ pub use laws::{broken_bracket_stands, keeps_breaks, one_verdict, refusal_stands,
 pub use pages::{PageView, Pages};
 pub use times::Shown;
 pub use verdict::{check, check_with};
-
-#[cfg(test)]
-mod tests;

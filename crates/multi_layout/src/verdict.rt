@@ -97,7 +97,8 @@ pub fn check_with<'a>(
     }
 }
 
-/// Goes from the state before the first item to that behind the last of an accepted string, or to the first item that offends.
+/// Goes from the state before the first item through an accepted string, and leaves its pages and times in the state, or goes to
+/// the first item that offends.
 #[inline(always)]
 fn judge(sign: &Terms<'_>, state: &mut State, source: &mut Source<'_>) -> Result<(), Offence>
     requires start { IsStateOf sign.now [] state.old }

@@ -23,6 +23,3 @@ mod sign;
 
 pub use fault::FileFault;
 pub use file::{SignFile, read_sign_file};
-
-#[cfg(test)]
-mod tests;

@@ -26,6 +26,3 @@ pub use parts::{CellPart, Defaults, FontPart, LineFill, SignParts};
 pub use sample::sample_sign;
 pub use sign::Sign;
 pub use text::{TextFault, TextFront, TextSpace};
-
-#[cfg(test)]
-mod tests;

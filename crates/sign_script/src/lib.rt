@@ -32,6 +32,3 @@ mod verb;
 pub use ask::{Ask, LineFault};
 pub use laws::lines_are_spelled;
 pub use read::read_ask;
-
-#[cfg(test)]
-mod tests;

@@ -1,0 +1,3 @@
+mod control;
+mod script;
+mod store;

@@ -1,0 +1,663 @@
+use multi_token::Source;
+use sign_font::{
+    CellPart, DefaultFault, Defaults, FontInfo, FontPart, LineFill, Sign, SignFault, SignParts,
+    TextFault, TextFront, TextSpace, sample_sign,
+};
+use std::alloc::{AllocError, Global};
+use std::test::Fail;
+
+/// The number of the fault of these parts, or 0 where they make a sign.
+fn code(alloc: Global, parts: SignParts) -> u8 {
+    match Sign::new(alloc, parts) {
+        Ok(_) => 0,
+        Err(fault) => fault.code(),
+    }
+}
+
+/// The sample with other octets for the `A` of its first font.
+fn with_bits(alloc: Global, bits: &[u8]) -> Result<SignParts, AllocError> {
+    let mut parts = sample_sign(alloc)?;
+    if let Some(font) = parts.fonts.first_mut() {
+        if let Some(cell) = font.cells.get_mut(1) {
+            cell.bits = bits.to_vec(alloc)?;
+        }
+    }
+    Ok(parts)
+}
+
+/// The sample with fonts without cells up to this number.
+fn with_fonts(alloc: Global, last: u8) -> Result<SignParts, AllocError> {
+    let mut parts = sample_sign(alloc)?;
+    for number in 3..=last {
+        parts.fonts.push(FontPart {
+            number,
+            version: 0,
+            height: 1,
+            char_spacing: 0,
+            line_spacing: 0,
+            cells: Vec::new(alloc),
+        })?;
+    }
+    Ok(parts)
+}
+
+/// The sample with cells of one lit pixel up to this number in its second font.
+fn with_cells(alloc: Global, last: u16) -> Result<SignParts, AllocError> {
+    let mut parts = sample_sign(alloc)?;
+    if let Some(font) = parts.fonts.get_mut(1) {
+        font.height = 1;
+        font.cells.clear();
+        for number in 1..=last {
+            font.cells.push(CellPart {
+                number,
+                width: 1,
+                bits: [0x80].to_vec(alloc)?,
+            })?;
+        }
+    }
+    Ok(parts)
+}
+
+/// The sample with cells up to number 255 in its second font, each of one row with its first pixel lit, 1 to 64 pixels wide.
+fn with_widths(alloc: Global) -> Result<SignParts, AllocError> {
+    let mut parts = with_fonts(alloc, 3)?;
+    if let Some(font) = parts.fonts.get_mut(1) {
+        font.height = 1;
+        font.cells.clear();
+        for number in 1..256u16 {
+            let width = (number % 64) as u8 + 1;
+            let mut bits = Vec::from_elem(alloc, 0, (usize::from(width) + 7) / 8)?;
+            if let Some(first) = bits.first_mut() {
+                *first = 0x80;
+            }
+            font.cells.push(CellPart {
+                number,
+                width,
+                bits,
+            })?;
+        }
+    }
+    Ok(parts)
+}
+
+/// The same with the numbers 257, 514 and so on up to 65,535 in place of 1, 2 and so on up to 255.
+fn with_wide_numbers(alloc: Global) -> Result<SignParts, AllocError> {
+    let mut parts = with_widths(alloc)?;
+    if let Some(font) = parts.fonts.get_mut(1) {
+        for cell in font.cells.iter_mut() {
+            cell.number = cell.number.wrapping_mul(257);
+        }
+    }
+    Ok(parts)
+}
+
+/// The sample with cells of one row in its second font, of these numbers and up to 8 columns, the first of them lit.
+fn with_numbers(alloc: Global, cells: &[(u16, u8)]) -> Result<SignParts, AllocError> {
+    let mut parts = sample_sign(alloc)?;
+    if let Some(font) = parts.fonts.get_mut(1) {
+        font.height = 1;
+        font.cells.clear();
+        for &(number, width) in cells {
+            font.cells.push(CellPart {
+                number,
+                width,
+                bits: [0x80].to_vec(alloc)?,
+            })?;
+        }
+    }
+    Ok(parts)
+}
+
+/// The width of the cell of a number in the font of a number, and the steps that this takes; `None` and 0 where the width asked
+/// for alone is another, or takes other steps.
+fn look(sign: &Sign, font: u8, number: u16) -> (Option<u8>, u64) {
+    let mut source = Source::new(b"");
+    let width = sign
+        .cell(&mut source, font, number)
+        .map(|cell| cell.width());
+    let mut alone = Source::new(b"");
+    if sign.cell_width(&mut alone, font, number) == width && alone.steps() == source.steps() {
+        (width, source.steps())
+    } else {
+        (None, 0)
+    }
+}
+
+#[test]
+fn the_sample_says_what_was_written(rt: HostRuntime) -> Result<(), Fail> {
+    let sign = Sign::new(rt.alloc(), sample_sign(rt.alloc())?)?;
+    let size = (
+        sign.width(),
+        sign.height(),
+        sign.max_pages(),
+        sign.tallest(),
+    );
+    assert_eq!(rt; size, (12, 7, 2, 5));
+    let has = sign.classic() || sign.beacons() || sign.pixel_service();
+    assert!(rt; !has && sign.line_fill() == LineFill::Off);
+    let own = Defaults {
+        font: 1,
+        line: 3,
+        page: 3,
+        page_on: 30,
+        page_off: 0,
+        flash_on: 5,
+        flash_off: 5,
+        fore: 1,
+        back: 0,
+    };
+    assert_eq!(rt; sign.defaults(), own);
+    let font = sign.default_font();
+    assert_eq!(rt; (font.number, font.version, font.height), (1, 6699, 3));
+    Ok(())
+}
+
+/// 16 fonts of 255 cells each, with numbers from 1 and every pixel of 64 by 64 lit, on 1,024 columns and 128 rows.
+fn largest(alloc: Global) -> Result<SignParts, AllocError> {
+    let mut parts = with_fonts(alloc, 16)?;
+    parts.width = 1024;
+    parts.height = 128;
+    for font in parts.fonts.iter_mut() {
+        font.height = 64;
+        font.cells = full_cells(alloc)?;
+    }
+    Ok(parts)
+}
+
+/// The cells 1 to 255, each with every pixel of 64 by 64 lit.
+fn full_cells(alloc: Global) -> Result<Vec<CellPart>, AllocError> {
+    let mut cells = Vec::new(alloc);
+    for number in 1..256u16 {
+        cells.push(CellPart {
+            number,
+            width: 64,
+            bits: Vec::from_elem(alloc, 0xff, 512)?,
+        })?;
+    }
+    Ok(cells)
+}
+
+#[test]
+fn the_largest_sign_has_all_its_cells(rt: HostRuntime) -> Result<(), Fail> {
+    let sign = Sign::new(rt.alloc(), largest(rt.alloc())?)?;
+    assert_eq!(rt;
+        (sign.width(), sign.height(), sign.tallest()),
+        (1024, 128, 64)
+    );
+    for font in 1..17u8 {
+        for number in 1..256u16 {
+            let mut source = Source::new(b"");
+            let cell = sign.cell(&mut source, font, number).ok_or("no cell")?;
+            assert_eq!(rt;
+                cell.rows(),
+                [u64::MAX; 64].as_slice(),
+                "cell {number} of font {font}"
+            );
+        }
+    }
+    Ok(())
+}
+
+/// `.ci/refused-calls` refuses its memory.
+#[test]
+fn only_making_a_sign_takes_memory(rt: HostRuntime) {
+    let parts = sample_sign(rt.alloc()).expect(&rt, "the parts");
+    let sign = Sign::new(rt.alloc(), parts).expect(&rt, "a sign");
+    let mut source = Source::new(b"");
+    let large = sign.font(&mut source, 2).is_some() & sign.cell(&mut source, 2, 65).is_some();
+    // of the five cells the third is looked at, and then the fifth, above which there is none
+    let wide = look(&sign, 1, 65535) == (None, 2);
+    // an A of 3 columns and an I of one, each with a gap of one before it
+    let whole = sign.text_width(&mut source, 1, b"AI", 1, 9) == Ok(6);
+    let cut = sign.text_front(&mut source, 1, b"AIA", 1, 6) == front(2, 6, None);
+    assert!(rt; large & wide & whole & cut);
+    let own = sign.defaults();
+    assert!(rt; sign.refuses(&own).is_none() && sign.font_of(&own) == sign.default_font());
+}
+
+#[test]
+fn a_sign_fills_lines_as_it_was_written(rt: HostRuntime) -> Result<(), Fail> {
+    for line_fill in [LineFill::Off, LineFill::Words] {
+        let parts = SignParts {
+            line_fill,
+            ..sample_sign(rt.alloc())?
+        };
+        let sign = Sign::new(rt.alloc(), parts)?;
+        assert_eq!(rt; sign.line_fill(), line_fill);
+    }
+    Ok(())
+}
+
+#[test]
+fn a_probe_is_one_step(rt: HostRuntime) -> Result<(), Fail> {
+    let sign = Sign::new(rt.alloc(), sample_sign(rt.alloc())?)?;
+    let mut source = Source::new(b"A");
+    let large = FontInfo {
+        number: 2,
+        version: 0,
+        height: 5,
+        char_spacing: 2,
+        line_spacing: 2,
+    };
+    let fonts = [
+        (1, Some(sign.default_font()), 1),
+        (2, Some(large), 2),
+        (9, None, 3),
+    ];
+    for (font, info, steps) in fonts {
+        let found = sign.font(&mut source, font);
+        assert_eq!(rt; (found, source.steps()), (info, steps), "font {font}");
+    }
+    for (font, number, is_there, steps) in [
+        (1, 65, true, 4),
+        (1, 66, false, 5),
+        (9, 65, false, 6),
+    ] {
+        let found = sign.cell(&mut source, font, number).is_some();
+        assert_eq!(rt; (found, source.steps()), (is_there, steps), "cell {number}");
+    }
+    Ok(())
+}
+
+#[test]
+fn the_cells_of_a_are_drawn_row_by_row(rt: HostRuntime) -> Result<(), Fail> {
+    let sign = Sign::new(rt.alloc(), sample_sign(rt.alloc())?)?;
+    let mut source = Source::new(b"A");
+    let small = sign.cell(&mut source, 1, 65).ok_or("no small A")?;
+    let large = sign.cell(&mut source, 2, 65).ok_or("no large A")?;
+    assert_eq!(rt; small.width(), 3);
+    for (row, bits) in [(0, 0b010), (1, 0b111), (2, 0b101)] {
+        assert_eq!(rt; small.row(row), bits << 61, "row {row}");
+    }
+    assert!(rt; !small.bit(0, 0) && small.bit(1, 0) && !small.bit(2, 0));
+    assert!(rt; small.bit(0, 2) && !small.bit(1, 2) && small.bit(2, 2));
+    assert_eq!(rt; large.width(), 4);
+    for (row, bits) in [
+        (0, 0b0110),
+        (1, 0b1001),
+        (2, 0b1111),
+        (3, 0b1001),
+        (4, 0b1001),
+    ] {
+        assert_eq!(rt; large.row(row), bits << 60, "row {row}");
+    }
+    assert!(rt; !large.bit(0, 0) && large.bit(1, 0) && large.bit(2, 0) && !large.bit(3, 0));
+    Ok(())
+}
+
+#[test]
+fn rows_are_those_of_the_cell_from_the_top(rt: HostRuntime) -> Result<(), Fail> {
+    let sign = Sign::new(rt.alloc(), sample_sign(rt.alloc())?)?;
+    let mut source = Source::new(b"A");
+    let small = sign.cell(&mut source, 1, 65).ok_or("no small A")?;
+    let large = sign.cell(&mut source, 2, 65).ok_or("no large A")?;
+    let rows = [0b010 << 61, 0b111 << 61, 0b101 << 61];
+    assert_eq!(rt; small.rows(), rows.as_slice());
+    let rows = [
+        0b0110 << 60,
+        0b1001 << 60,
+        0b1111 << 60,
+        0b1001 << 60,
+        0b1001 << 60,
+    ];
+    assert_eq!(rt; large.rows(), rows.as_slice());
+    Ok(())
+}
+
+#[test]
+fn a_text_is_as_wide_as_its_cells_and_gaps(rt: HostRuntime) -> Result<(), Fail> {
+    let sign = Sign::new(rt.alloc(), with_widths(rt.alloc())?)?;
+    // in font 2 an A is 2 columns wide and a B is 3; there is no octet 0, and no font 9
+    let rows: [(u8, &[u8], u8, u64, Result<u64, TextFault>, u64); 9] = [
+        (2, b"", 5, 0, Ok(0), 0),
+        (2, b"AB", 1, 7, Ok(7), 2),
+        (2, b"AB", 1, 900, Ok(7), 2),
+        (2, b"AB", 1, 6, Err(TextFault::TooWide(1)), 2),
+        (2, b"AB", 1, 2, Err(TextFault::TooWide(0)), 1),
+        (2, b"A\0B", 0, 9, Err(TextFault::Undefined(1)), 2),
+        (2, b"AA\0", 0, 3, Err(TextFault::TooWide(1)), 2),
+        (9, b"", 0, 0, Ok(0), 0),
+        (9, b"AB", 0, 9, Err(TextFault::Undefined(0)), 1),
+    ];
+    for (font, text, gap, room, width, steps) in rows {
+        let mut source = Source::new(b"");
+        let found = sign.text_width(&mut source, font, text, gap, room);
+        assert_eq!(rt; found, width, "of {text:?}");
+        assert_eq!(rt; source.steps(), steps, "over {text:?}");
+    }
+    Ok(())
+}
+
+#[test]
+fn the_front_of_a_text_ends_where_it_no_longer_fits(rt: HostRuntime) -> Result<(), Fail> {
+    let sign = Sign::new(rt.alloc(), with_widths(rt.alloc())?)?;
+    // in font 2 an A is 2 columns wide, a B is 3 and a space is 33; there is no octet 0, and no font 9
+    let first = TextSpace {
+        at: 1,
+        before: 3,
+        through: 37,
+    };
+    let second = TextSpace {
+        at: 3,
+        before: 41,
+        through: 75,
+    };
+    let rows: [(u8, &[u8], u8, u64, TextFront, u64); 11] = [
+        (2, b"", 5, 0, front(0, 0, None), 0),
+        (2, b"AB", 1, 7, front(2, 7, None), 2),
+        (2, b"AB", 1, 6, front(1, 3, None), 2),
+        (2, b"AB", 1, 2, front(0, 0, None), 1),
+        (2, b"A\0B", 0, 9, front(1, 2, None), 2),
+        (2, b"A B A", 1, 900, front(5, 78, Some(second)), 5),
+        (2, b"A B A", 1, 77, front(4, 75, Some(second)), 5),
+        (2, b"A B A", 1, 74, front(3, 41, Some(first)), 4),
+        (2, b"A B A", 1, 36, front(1, 3, None), 2),
+        (9, b"", 0, 0, front(0, 0, None), 0),
+        (9, b"AB", 0, 9, front(0, 0, None), 1),
+    ];
+    for (font, text, gap, room, expected, steps) in rows {
+        let mut source = Source::new(b"");
+        let found = sign.text_front(&mut source, font, text, gap, room);
+        assert_eq!(rt; found, expected, "of {text:?}");
+        assert_eq!(rt; source.steps(), steps, "over {text:?}");
+    }
+    Ok(())
+}
+
+fn front(len: usize, width: u64, space: Option<TextSpace>) -> TextFront {
+    TextFront { len, width, space }
+}
+
+#[test]
+fn each_octet_finds_its_own_cell_and_width_in_one_step(rt: HostRuntime) -> Result<(), Fail> {
+    let sign = Sign::new(rt.alloc(), with_widths(rt.alloc())?)?;
+    for octet in 0..=255u8 {
+        let number = u16::from(octet);
+        let width = (octet != 0).then_some(octet % 64 + 1);
+        // font 3 has no cells, and there is no font 9
+        let own = look(&sign, 2, number) == (width, 1);
+        let none = look(&sign, 3, number) == (None, 1) && look(&sign, 9, number) == (None, 1);
+        assert!(rt; own && none, "octet {octet}");
+    }
+    assert_eq!(rt; look(&sign, 1, 65), (Some(3), 1), "of the first font");
+    Ok(())
+}
+
+#[test]
+fn each_wide_number_finds_its_own_cell_in_at_most_eight_steps(rt: HostRuntime) -> Result<(), Fail> {
+    let sign = Sign::new(rt.alloc(), with_wide_numbers(rt.alloc())?)?;
+    let mut together = 0;
+    for place in 1..=255u8 {
+        let (width, steps) = look(&sign, 2, u16::from(place).wrapping_mul(257));
+        let own = width == Some(place % 64 + 1) && (1..=8).contains(&steps);
+        assert!(rt; own, "{steps} steps at place {place}");
+        together = steps.wrapping_add(together);
+    }
+    // halves of 255 cells: one is found at the first look, two at the second, and so on up to 128 at the eighth
+    assert_eq!(rt; together, 1793);
+    // the cell in the middle, those in the middle of its halves, and the first and the last cell
+    for (number, steps) in [(32896, 1), (16448, 2), (49344, 2), (257, 8), (65535, 8)] {
+        let (_, taken) = look(&sign, 2, number);
+        assert_eq!(rt; taken, steps, "cell {number}");
+    }
+    for number in [256, 258, 513, 32895, 32897, 65279, 65534] {
+        assert_eq!(rt; look(&sign, 2, number), (None, 8), "no cell {number}");
+    }
+    Ok(())
+}
+
+#[test]
+fn an_octet_never_finds_a_cell_of_a_wide_number(rt: HostRuntime) -> Result<(), Fail> {
+    let sign = Sign::new(rt.alloc(), with_wide_numbers(rt.alloc())?)?;
+    for octet in 0..=255u8 {
+        let mut source = Source::new(b"");
+        let width = sign.text_width(&mut source, 2, &[octet], 0, 99);
+        let none = width == Err(TextFault::Undefined(0)) && source.steps() == 1;
+        assert!(rt;
+            none && look(&sign, 2, u16::from(octet)) == (None, 1),
+            "octet {octet}"
+        );
+    }
+    Ok(())
+}
+
+#[test]
+fn octets_and_wide_numbers_stand_in_one_font(rt: HostRuntime) -> Result<(), Fail> {
+    let cells = [(65, 3), (255, 2), (256, 4), (321, 5), (65535, 1)];
+    let sign = Sign::new(rt.alloc(), with_numbers(rt.alloc(), &cells)?)?;
+    let mut source = Source::new(b"");
+    // of five cells the third is looked at first, and then the fifth; 321 and 577 are 65 and a multiple of 256
+    for (number, width, steps) in [
+        (65, Some(3), 1),
+        (255, Some(2), 1),
+        (256, Some(4), 1),
+        (321, Some(5), 3),
+        (65535, Some(1), 2),
+        (0, None, 1),
+        (66, None, 1),
+        (257, None, 3),
+        (577, None, 3),
+        (65534, None, 3),
+    ] {
+        assert_eq!(rt; look(&sign, 2, number), (width, steps), "cell {number}");
+    }
+    let lit = sign.cell(&mut source, 2, 65535).ok_or("no cell 65,535")?;
+    assert_eq!(rt; (lit.width(), lit.row(0)), (1, 1 << 63));
+    Ok(())
+}
+
+#[test]
+fn a_wide_number_that_is_nowhere_is_not_found(rt: HostRuntime) -> Result<(), Fail> {
+    let sign = Sign::new(rt.alloc(), with_widths(rt.alloc())?)?;
+    // font 2 has the cells 1 to 255, font 3 has none, and there is no font 9
+    for number in [256, 257, 321, 65534, 65535] {
+        let none = look(&sign, 3, number) == (None, 0) && look(&sign, 9, number) == (None, 0);
+        assert!(rt;
+            none && look(&sign, 2, number) == (None, 8),
+            "no cell {number}"
+        );
+    }
+    Ok(())
+}
+
+#[test]
+fn each_number_finds_its_own_font(rt: HostRuntime) -> Result<(), Fail> {
+    let mut source = Source::new(b"A");
+    let sixteen = Sign::new(rt.alloc(), with_fonts(rt.alloc(), 16)?)?;
+    let mut parts = sample_sign(rt.alloc())?;
+    if let Some(font) = parts.fonts.last_mut() {
+        font.number = 255;
+    }
+    let ends = Sign::new(rt.alloc(), parts)?;
+    for number in 0..=255u8 {
+        let of_sixteen = sixteen.font(&mut source, number).map(|font| font.number);
+        let of_ends = ends.font(&mut source, number).map(|font| font.number);
+        let is_there = (1..=16).contains(&number);
+        let own = of_sixteen == is_there.then_some(number);
+        let is_end = number == 1 || number == 255;
+        assert!(rt; own && of_ends == is_end.then_some(number), "font {number}");
+    }
+    let last = ends.cell_width(&mut source, 255, 65) == Some(4);
+    assert!(rt; last && ends.cell_width(&mut source, 1, 65) == Some(3));
+    Ok(())
+}
+
+#[test]
+fn a_size_has_limits(rt: HostRuntime) -> Result<(), Fail> {
+    for (width, height, fault) in [
+        (1024, 128, 0),
+        (1, 1, 0),
+        (1025, 7, 1),
+        (12, 129, 1),
+        (0, 7, 1),
+        (12, 0, 1),
+    ] {
+        let mut parts = sample_sign(rt.alloc())?;
+        parts.width = width;
+        parts.height = height;
+        assert_eq!(rt;
+            code(rt.alloc(), parts),
+            fault,
+            "{width} columns, {height} rows"
+        );
+    }
+    Ok(())
+}
+
+#[test]
+fn fonts_have_limits(rt: HostRuntime) -> Result<(), Fail> {
+    let mut parts = sample_sign(rt.alloc())?;
+    parts.fonts.reverse();
+    assert_eq!(rt; code(rt.alloc(), parts), 2, "fonts in the order 2, 1");
+    let mut parts = sample_sign(rt.alloc())?;
+    parts.fonts.clear();
+    assert_eq!(rt; code(rt.alloc(), parts), 2, "no fonts");
+    for (last, height, fault) in [(16, 1, 0), (17, 1, 2), (3, 64, 0), (3, 0, 2), (3, 65, 2)] {
+        let mut parts = with_fonts(rt.alloc(), last)?;
+        if let Some(font) = parts.fonts.last_mut() {
+            font.height = height;
+        }
+        assert_eq!(rt;
+            code(rt.alloc(), parts),
+            fault,
+            "{last} fonts, {height} rows"
+        );
+    }
+    Ok(())
+}
+
+#[test]
+fn cells_have_limits(rt: HostRuntime) -> Result<(), Fail> {
+    let rows: [(&[u8], u8); 4] = [
+        (&[0x5e, 0x80], 0),
+        (&[0x5e, 0x81], 3),
+        (&[0x5e], 3),
+        (&[0x5e, 0x80, 0x00], 3),
+    ];
+    for (bits, fault) in rows {
+        let parts = with_bits(rt.alloc(), bits)?;
+        assert_eq!(rt; code(rt.alloc(), parts), fault, "{bits:?}");
+    }
+    for (last, fault) in [(255, 0), (256, 3)] {
+        let parts = with_cells(rt.alloc(), last)?;
+        assert_eq!(rt; code(rt.alloc(), parts), fault, "{last} cells");
+    }
+    Ok(())
+}
+
+#[test]
+fn cells_have_rising_numbers(rt: HostRuntime) -> Result<(), Fail> {
+    for (first, second, fault) in [
+        (1, 255, 0),
+        (255, 256, 0),
+        (256, 65535, 0),
+        (0, 1, 3),
+        (256, 256, 3),
+        (321, 65, 3),
+        (65535, 65534, 3),
+    ] {
+        let parts = with_numbers(rt.alloc(), &[(first, 1), (second, 1)])?;
+        assert_eq!(rt;
+            code(rt.alloc(), parts),
+            fault,
+            "cells {first} and {second}"
+        );
+    }
+    Ok(())
+}
+
+#[test]
+fn defaults_have_limits(rt: HostRuntime) -> Result<(), Fail> {
+    let rows = [
+        (1, 3, 3, 1, 0, 0),
+        (3, 3, 3, 1, 0, 4),
+        (1, 1, 3, 1, 0, 4),
+        (1, 6, 3, 1, 0, 4),
+        (1, 3, 1, 1, 0, 4),
+        (1, 3, 5, 1, 0, 4),
+        (1, 3, 3, 10, 0, 4),
+        (1, 3, 3, 1, 10, 4),
+    ];
+    for (font, line, page, fore, back, fault) in rows {
+        let mut parts = sample_sign(rt.alloc())?;
+        parts.defaults.font = font;
+        parts.defaults.line = line;
+        parts.defaults.page = page;
+        parts.defaults.fore = fore;
+        parts.defaults.back = back;
+        assert_eq!(rt;
+            code(rt.alloc(), parts),
+            fault,
+            "font {font}, line {line}, page {page}, colours {fore} on {back}"
+        );
+    }
+    Ok(())
+}
+
+#[test]
+fn the_first_fault_is_answered(rt: HostRuntime) -> Result<(), Fail> {
+    let mut parts = sample_sign(rt.alloc())?;
+    parts.max_pages = 0;
+    assert_eq!(rt; code(rt.alloc(), parts), 5, "no pages");
+    let mut parts = sample_sign(rt.alloc())?;
+    parts.width = 0;
+    parts.max_pages = 0;
+    assert_eq!(rt; code(rt.alloc(), parts), 1, "no columns and no pages");
+    let mut parts = with_bits(rt.alloc(), &[0x5e, 0x81])?;
+    if let Some(font) = parts.fonts.last_mut() {
+        font.height = 65;
+    }
+    assert_eq!(rt;
+        code(rt.alloc(), parts),
+        2,
+        "a bad second font before a bad cell of the first"
+    );
+    assert_eq!(rt; SignFault::Memory.code(), 6);
+    Ok(())
+}
+
+#[test]
+fn defaults_are_refused_by_their_values_first(rt: HostRuntime) -> Result<(), Fail> {
+    let sign = Sign::new(rt.alloc(), sample_sign(rt.alloc())?)?;
+    let own = sign.defaults();
+    let rows = [
+        (1, 3, 3, 1, 0, 0),
+        (2, 3, 3, 1, 0, 0),
+        (1, 5, 2, 9, 9, 0),
+        (0, 3, 3, 1, 0, 9),
+        (3, 3, 3, 1, 0, 10),
+        (1, 1, 3, 1, 0, 9),
+        (1, 6, 3, 1, 0, 9),
+        (1, 3, 1, 1, 0, 9),
+        (1, 3, 5, 1, 0, 9),
+        (1, 3, 3, 10, 0, 9),
+        (1, 3, 3, 1, 10, 9),
+        (3, 1, 3, 1, 0, 9),
+    ];
+    for (font, line, page, fore, back, number) in rows {
+        let defaults = Defaults {
+            font,
+            line,
+            page,
+            fore,
+            back,
+            ..own
+        };
+        let code = sign.refuses(&defaults).map_or(0, DefaultFault::code);
+        assert_eq!(rt; code, number, "{defaults:?}");
+    }
+    Ok(())
+}
+
+#[test]
+fn defaults_that_are_handed_in_name_their_own_font(rt: HostRuntime) -> Result<(), Fail> {
+    let sign = Sign::new(rt.alloc(), sample_sign(rt.alloc())?)?;
+    let large = Defaults {
+        font: 2,
+        ..sign.defaults()
+    };
+    assert!(rt; sign.refuses(&large).is_none());
+    assert_eq!(rt; sign.font_of(&large).number, 2);
+    assert_eq!(rt; sign.default_font().number, 1);
+    Ok(())
+}
