@@ -10,3 +10,4 @@ pub mod SampleSetup
 pub mod Script
 pub mod Streams
 pub mod Tool
+pub mod Fonts

@@ -8,7 +8,7 @@ use crate::octets::push_octet;
 use std::io::Read;
 
 /// The most octets of an input that are taken as lines (own).
-const MAX_INPUT: u32 = 16_777_216;
+pub(crate) const MAX_INPUT: u32 = 16_777_216;
 
 /// The most octets of a line before its end (own).
 pub(crate) const MAX_LINE: usize = 8_300;

@@ -21,6 +21,8 @@
 //! `sign_script` says, and gets its reply. The controller is made once, and each line finds the state that the lines before
 //! it leave. An empty line and one that begins with `#` get no reply.
 //!
+//! `signctl font` reads a font in BDF in place of all that, and writes it as the `[[font]]` table of a sign file.
+//!
 //! A line ends with a line feed, and one carriage return before that is dropped. What is left has at most 8,300 octets.
 //! An input has at most 16,777,216 octets, with those of the sign file. The first fault ends the run, after the answers
 //! to the lines before it, and is said on standard error after `signctl: `:
@@ -33,6 +35,7 @@
 //! | `line N: bad line` | the input ends within the line, or the line is none of a script |
 //! | `input too long` | the input has too many octets |
 //! | `read failed`, `write failed`, `out of memory` | what they say |
+//! | `line N: ` and what is wrong | the line of a font in BDF is wrong, as `font_bdf::BdfProblem` says |
 //!
 //! Lines are counted from 1, from the start of the sign file where there is one.
 //!
@@ -44,6 +47,7 @@ mod block;
 mod check;
 mod fault;
 mod first;
+mod font;
 mod laws;
 mod lines;
 mod main_with;
@@ -60,6 +64,7 @@ mod start;
 #[cfg(test)]
 mod tests;
 mod tool;
+mod whole;
 mod words;
 
 use std::io::BufReader;

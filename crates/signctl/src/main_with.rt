@@ -1,9 +1,11 @@
 //! The tool over streams that are handed in.
 
+use crate::font::run_font;
 use crate::tool::run_tool;
-use crate::words::request_of;
+use crate::words::{Request, request_of};
 use clap::Error;
 use std::alloc::Global;
+use std::fmt::Display;
 use std::io::{Read, Write};
 
 /// The exit status of a run with no fault, and of help (own).
@@ -27,6 +29,17 @@ fn answer_words<W: Write, E: Write>(answer: Error, writer: &mut W, errors: &mut 
     }
 }
 
+/// The exit status of a run, whose fault is written to the errors.
+fn end_of<F: Display + Drop, E: Write>(end: Result<(), F>, errors: &mut E) -> u8 {
+    match end {
+        Ok(()) => DONE,
+        Err(fault) => {
+            let _ = writeln!(errors, "signctl: {fault}");
+            FAULTED
+        }
+    }
+}
+
 /// Runs the tool as the words ask, and gives its exit status (own). The first word is the program's name.
 ///
 /// The status is 0 after a run with no fault, and after help, which is written to `writer`. It is 1 after a fault, which is
@@ -43,11 +56,11 @@ pub fn main_with<R: Read, W: Write, E: Write>(
         Ok(request) => request,
         Err(answer) => return answer_words(answer, writer, errors),
     };
-    match run_tool(alloc, request.mode, request.sample, reader, writer) {
-        Ok(()) => DONE,
-        Err(fault) => {
-            let _ = writeln!(errors, "signctl: {fault}");
-            FAULTED
-        }
+    match request {
+        Request::Lines { mode, sample } => end_of(
+            run_tool(alloc, mode, sample, reader, writer),
+            errors,
+        ),
+        Request::Font(setting) => end_of(run_font(alloc, &setting, reader, writer), errors),
     }
 }

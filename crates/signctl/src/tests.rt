@@ -1,3 +1,4 @@
+mod font;
 mod lending;
 mod run;
 mod show;
@@ -374,11 +375,12 @@ fn a_run_ends_with_its_status_and_text(rt: HostRuntime) {
 #[test]
 fn a_command_line_is_helped_or_refused(rt: HostRuntime) {
     let alloc = rt.alloc();
-    let rows: [(&[&str], u8); 25] = [
+    let rows: [(&[&str], u8); 32] = [
         (&["signctl", "--help"], 0),
         (&["signctl", "check", "--help"], 0),
         (&["signctl", "show", "--help"], 0),
         (&["signctl", "run", "--help"], 0),
+        (&["signctl", "font", "--help"], 0),
         (&["signctl", "help"], 0),
         (&[], 2),
         (&["signctl"], 2),
@@ -395,6 +397,12 @@ fn a_command_line_is_helped_or_refused(rt: HostRuntime) {
         (&["signctl", "show", "--clock", "1", "--clock", "1"], 2),
         (&["signctl", "check", "--colour", "1"], 2),
         (&["signctl", "run", "--colour", "1"], 2),
+        (&["signctl", "font", "--number", "0"], 2),
+        (&["signctl", "font", "--number", "256"], 2),
+        (&["signctl", "font", "--line-spacing", "256"], 2),
+        (&["signctl", "font", "--first", "0"], 2),
+        (&["signctl", "font", "--sample"], 2),
+        (&["signctl", "check", "--number", "1"], 2),
         (&["signctl", "check", "--other"], 2),
         (&["signctl", "--sample"], 2),
         (&["signctl", "check", "--sample", "word"], 2),

@@ -2,14 +2,20 @@
 
 use crate::tool::Mode;
 use clap::{Arg, ArgAction, ArgMatches, Command, Error, value_parser};
+use font_bdf::FontSetting;
 use std::alloc::{AllocError, Global};
 
-/// A run that was asked for (own).
+/// What was asked for (own).
 #[derive(Clone, Copy)]
-pub(crate) struct Request {
-    pub(crate) mode: Mode,
-    /// Whether the sample sign was named. If not, the input begins with a sign file.
-    pub(crate) sample: bool,
+pub(crate) enum Request {
+    /// A run over lines.
+    Lines {
+        mode: Mode,
+        /// Whether the sample sign was named. If not, the input begins with a sign file.
+        sample: bool,
+    },
+    /// The table of a font.
+    Font(FontSetting),
 }
 
 /// `--sample`, which stands in place of a sign file.
@@ -61,6 +67,77 @@ fn run_command<'a>(alloc: Global) -> Result<Command<'a>, AllocError> {
         .arg(sample_flag(alloc))
 }
 
+/// A number of `signctl font`, with its range and what it is if it isn't given.
+fn number_of<'a>(
+    alloc: Global,
+    name: &'a str,
+    help: &'a str,
+    (least, most): (i64, i64),
+    absent: &'a str,
+) -> Arg<'a> {
+    Arg::new(alloc, name)
+        .long(name)
+        .value_name("N")
+        .help(help)
+        .value_parser(value_parser!(u16).range(least..=most))
+        .default_value(absent)
+}
+
+/// The numbers of `signctl font` that a sign file has and BDF hasn't.
+fn with_setting<'a>(alloc: Global, font: Command<'a>) -> Result<Command<'a>, AllocError> {
+    let number = number_of(
+        alloc,
+        "number",
+        "The font's number, 1 to 255",
+        (1, 255),
+        "1",
+    );
+    let version = number_of(
+        alloc,
+        "version",
+        "The font's version, 0 to 65535",
+        (0, 65535),
+        "0",
+    );
+    let columns = number_of(
+        alloc,
+        "char-spacing",
+        "Columns between characters, 0 to 255, by which each cell is narrower than its advance",
+        (0, 255),
+        "1",
+    );
+    let rows = number_of(
+        alloc,
+        "line-spacing",
+        "Rows between lines, 0 to 255",
+        (0, 255),
+        "1",
+    );
+    font.arg(number)?.arg(version)?.arg(columns)?.arg(rows)
+}
+
+/// `signctl font`, which takes a font in BDF.
+fn font_command<'a>(alloc: Global) -> Result<Command<'a>, AllocError> {
+    let first = number_of(
+        alloc,
+        "first",
+        "The lowest character that is taken",
+        (1, 65535),
+        "1",
+    );
+    let last = number_of(
+        alloc,
+        "last",
+        "The highest character that is taken",
+        (1, 65535),
+        "65535",
+    );
+    let font = Command::new(alloc, "font").about(
+        "Reads a font in BDF, and writes it as the [[font]] table of a sign file",
+    );
+    with_setting(alloc, font)?.arg(first)?.arg(last)
+}
+
 /// The command line that the tool takes.
 fn command<'a>(alloc: Global) -> Result<Command<'a>, AllocError> {
     Command::new(alloc, "signctl")
@@ -68,7 +145,8 @@ fn command<'a>(alloc: Global) -> Result<Command<'a>, AllocError> {
         .subcommand_required(true)
         .subcommand(check_command(alloc)?)?
         .subcommand(show_command(alloc)?)?
-        .subcommand(run_command(alloc)?)
+        .subcommand(run_command(alloc)?)?
+        .subcommand(font_command(alloc)?)
 }
 
 /// What is done with each line.
@@ -84,10 +162,30 @@ fn mode_of(matches: &ArgMatches<'_>) -> Mode {
     }
 }
 
+/// The number that is given, or `absent` if there is none.
+fn number_given(font: &ArgMatches<'_>, name: &str, absent: u16) -> u16 {
+    font.get_one(name).unwrap_or(absent)
+}
+
+/// How the table of a font is written.
+fn setting_of(font: &ArgMatches<'_>) -> FontSetting {
+    FontSetting {
+        number: number_given(font, "number", 1).min(255) as u8,
+        version: number_given(font, "version", 0),
+        char_spacing: number_given(font, "char-spacing", 1).min(255) as u8,
+        line_spacing: number_given(font, "line-spacing", 1).min(255) as u8,
+        first: number_given(font, "first", 1),
+        last: number_given(font, "last", 65535),
+    }
+}
+
 /// Reads the words, the program's name first. Help is an `Err` too, and so is refused memory.
 pub(crate) fn request_of<'a>(alloc: Global, words: &'a [&'a str]) -> Result<Request, Error> {
     let matches = command(alloc)?.try_get_matches_from(words)?;
-    Ok(Request {
+    if let Some(font) = matches.subcommand_matches("font") {
+        return Ok(Request::Font(setting_of(font)));
+    }
+    Ok(Request::Lines {
         mode: mode_of(&matches),
         sample: matches
             .subcommand()

@@ -1,0 +1,31 @@
+-- What is written of a font: a table that makes a sign file whole.
+use Rattle.std.specs.Prelude.{ℕ, Bool, true, false, ◌&&◌, ◌==◌, List, [], ◌∷◌, ◌++◌, ◌≡◌, Option, None, Some, is_none, codes}
+use Rattle.sign_font.specs.Limits.{first_fault}
+use Rattle.sign_font.specs.Sign.{FontData, SignData}
+use Rattle.sign_file.specs.SignFile.{FileData, file_of_octets}
+use Rattle.font_bdf.specs.declared.setting.FontSetting.{FontSetting}
+
+-- the keys of a sign file before its fonts (own)
+unfoldable pub front : List ℕ
+front = codes "width = 1024\nheight = 128\nscheme = 'classic'\nmax_pages = 1\nslots = 1\nbytes = 0\nmax_string = 1\n[defaults]\nfont = 1\nline = 3\npage = 3\npage_on = 0\npage_off = 0\nflash_on = 0\nflash_off = 0\nfore = 1\nback = 0\n"
+
+-- whether there is one font, and it has the numbers of a setting (own)
+abbrev pub is_one_font : FontSetting → List FontData → Bool
+is_one_font setting [] = false
+is_one_font setting (font ∷ []) =
+    (font.number == setting.number) && ((font.version == setting.version)
+    && ((font.char_spacing == setting.char_spacing) && (font.line_spacing == setting.line_spacing)))
+is_one_font setting (font ∷ other ∷ fonts) = false
+
+-- the sign whose default font has this number (own)
+abbrev pub with_font : SignData → ℕ → SignData
+with_font sign number = record sign { defaults = record sign.defaults { font = number } }
+
+-- whether there is a sign file with one font, by a setting, whose sign has no fault where this is its default font (own)
+unfoldable pub is_taken : FontSetting → Option FileData → Bool
+is_taken setting None = false
+is_taken setting (Some file) = is_one_font setting file.sign.fonts && is_none (first_fault (with_font file.sign setting.number))
+
+-- a text is the table of one font, by a setting, which signs take: the octets of a sign file that ends with it are read so (own)
+abbrev pub IsFontTable : FontSetting → List ℕ → Type 0
+IsFontTable setting text = is_taken setting (file_of_octets (front ++ text)) ≡ true

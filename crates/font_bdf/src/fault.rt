@@ -1,0 +1,76 @@
+//! Why a font in BDF isn't taken.
+
+use thiserror::Error;
+
+/// Why no tables are written, and the line that says so (own).
+#[derive(Clone, Copy, Debug, PartialEq, Eq, Error)]
+#[error("line {line}: {problem}")]
+pub struct BdfFault {
+    /// The line, counted from 1. It is the last one if the font ends too soon, and 0 if the whole font was read and isn't taken, or
+    /// if there was no memory for its table.
+    pub line: u32,
+    /// What is wrong there.
+    pub problem: BdfProblem,
+}
+
+/// What is wrong with a line of a font in BDF (own).
+#[derive(Clone, Copy, Debug, PartialEq, Eq, Error)]
+pub enum BdfProblem {
+    /// The first line isn't `STARTFONT`.
+    #[error("a font in BDF begins with STARTFONT")]
+    NoStart,
+    /// A bitmap begins, or the font ends, before `FONTBOUNDINGBOX`.
+    #[error("FONTBOUNDINGBOX is missing")]
+    NoBox,
+    /// The box of the font is not 1 to 64 rows high.
+    #[error("the font is {0} rows high, and may have 1 to 64")]
+    BadHeight(i32),
+    /// Numbers are missing, or what stands there are no numbers of 32 bits.
+    #[error("numbers are missing, or aren't whole numbers")]
+    BadNumbers,
+    /// A character ends, or another one begins, before `BITMAP`, or within a bitmap that isn't taken.
+    #[error("BITMAP or ENDCHAR is missing")]
+    NoBitmap,
+    /// `ENCODING`, `DWIDTH` or `BBX` is missing before the bitmap.
+    #[error("ENCODING, DWIDTH or BBX is missing before BITMAP")]
+    NoNumbers,
+    /// The cell of a character is not 1 to 64 columns wide.
+    #[error("the cell is {0} columns wide, and may have 1 to 64")]
+    BadWidth(i64),
+    /// The box of a character has more than 64 columns or rows.
+    #[error("the box of a character may have 0 to 64 columns and rows")]
+    BadBox,
+    /// A row of a bitmap isn't the hexadecimal digits of its box; there may be too few rows.
+    #[error("a row of this box has {0} hexadecimal digits")]
+    BadRow(usize),
+    /// The bitmap has more rows than its box.
+    #[error("the bitmap has more rows than its box, or ENDCHAR is missing")]
+    BadRows,
+    /// A pixel is lit outside the cell.
+    #[error("a pixel is lit outside the cell: column {column} of {width}, row {row} of {height}")]
+    Outside {
+        /// The pixel's column in the cell, counted from 0 at the left.
+        column: i64,
+        /// The pixel's row in the cell, counted from 0 at the top.
+        row: i64,
+        /// Columns of the cell.
+        width: u8,
+        /// Rows of the cell.
+        height: u8,
+    },
+    /// The character is there already.
+    #[error("character {0} is there already")]
+    Twice(u16),
+    /// There are more than 255 characters.
+    #[error("more than 255 characters")]
+    TooMany,
+    /// The font has no end.
+    #[error("ENDFONT is missing")]
+    NoEndOfFont,
+    /// No sign takes the font: its number is 0.
+    #[error("no sign takes a font of this number")]
+    NotTaken,
+    /// Memory was refused.
+    #[error("out of memory")]
+    Memory,
+}

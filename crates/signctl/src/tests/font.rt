@@ -1,0 +1,112 @@
+//! Fonts that are written as tables.
+
+use super::{FailingReader, NarrowWriter, main_output};
+use crate::fault::ToolFault;
+use crate::font::{FontFault, run_font};
+use font_bdf::FontSetting;
+
+/// A font of three rows with an `I`.
+const FONT: &str = "STARTFONT 2.1
+FONTBOUNDINGBOX 1 3 0 0
+STARTCHAR I
+ENCODING 73
+DWIDTH 2 0
+BBX 1 3 0 0
+BITMAP
+80
+80
+80
+ENDCHAR
+ENDFONT
+";
+
+const TABLE: &str = "[[font]]
+number = 1
+version = 0
+height = 3
+char_spacing = 1
+line_spacing = 1
+cell = [
+  { number = 73, width = 1, bits = \"e0\" }, # I
+]
+";
+
+const SETTING: FontSetting = FontSetting {
+    number: 1,
+    version: 0,
+    char_spacing: 1,
+    line_spacing: 1,
+    first: 1,
+    last: 65535,
+};
+
+#[test]
+fn a_font_is_written_as_a_table(rt: HostRuntime) {
+    let rows: [(&[&str], &str, u8, &str, &str); 4] = [
+        (&["signctl", "font"], FONT, 0, TABLE, ""),
+        (
+            &[
+                "signctl",
+                "font",
+                "--first",
+                "65",
+                "--last",
+                "72",
+                "--version",
+                "7",
+                "--number",
+                "255",
+            ],
+            FONT,
+            0,
+            "[[font]]\nnumber = 255\nversion = 7\nheight = 3\nchar_spacing = 1\nline_spacing = 1\ncell = [\n]\n",
+            "",
+        ),
+        (
+            &["signctl", "font", "--char-spacing", "2"],
+            FONT,
+            1,
+            "",
+            "signctl: line 7: the cell is 0 columns wide, and may have 1 to 64\n",
+        ),
+        (
+            &["signctl", "font"],
+            "",
+            1,
+            "",
+            "signctl: line 1: a font in BDF begins with STARTFONT\n",
+        ),
+    ];
+    for (words, input, want, wrote, said) in rows {
+        let (status, output, errors) = main_output(rt.alloc(), words, input.as_bytes());
+        let same = output.as_slice() == wrote.as_bytes() && errors.as_slice() == said.as_bytes();
+        assert!(rt; status == want && same, "at {words:?}");
+    }
+}
+
+#[test]
+fn a_font_ends_where_its_streams_fail(rt: HostRuntime) {
+    let alloc = rt.alloc();
+    for fails in [false, true] {
+        for room in 0..TABLE.len() + 1 {
+            let mut writer = NarrowWriter {
+                taken: Vec::new(alloc),
+                room,
+                fails,
+            };
+            let result = run_font(alloc, &SETTING, &mut FONT.as_bytes(), &mut writer);
+            let is_whole = room == TABLE.len();
+            let end = is_whole == (result == Ok(()))
+                && is_whole != (result == Err(FontFault::Tool(ToolFault::Write)));
+            let front = writer.taken.as_slice() == &TABLE.as_bytes()[..room];
+            assert!(rt; end && front, "room for {room}");
+        }
+    }
+    for read in 0..FONT.len() + 1 {
+        let mut reader = FailingReader(&FONT.as_bytes()[..read]);
+        let mut output = Vec::new(alloc);
+        let result = run_font(alloc, &SETTING, &mut reader, &mut output);
+        let end = result == Err(FontFault::Tool(ToolFault::Read));
+        assert!(rt; end && output.is_empty(), "a failure after {read}");
+    }
+}
