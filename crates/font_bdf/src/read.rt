@@ -231,31 +231,8 @@ impl<'a> Reader<'a> {
     }
 }
 
-/// Reads a font in BDF.
-pub(crate) fn read_font(
-    alloc: Global,
-    octets: &[u8],
-    setting: &FontSetting,
-) -> Result<FontPart, BdfFault> {
-    let mut reader = Reader {
-        alloc,
-        setting,
-        is_started: false,
-        is_ended: false,
-        whole: None,
-        header: None,
-        bitmap: None,
-        cells: Vec::new(alloc),
-    };
-    let mut line = 0u32;
-    for octets in octets.lines() {
-        line = line.saturating_add(1);
-        // A line that is no text is none that is known here.
-        let text = str::from_utf8(octets).unwrap_or("");
-        if let Err(problem) = reader.take(text) {
-            return Err(BdfFault { line, problem });
-        }
-    }
+/// The font of the lines that were read, the last of which has this number.
+fn font_of(reader: Reader<'_>, setting: &FontSetting, line: u32) -> Result<FontPart, BdfFault> {
     let Reader {
         is_started,
         is_ended,
@@ -282,4 +259,32 @@ pub(crate) fn read_font(
         line: line.max(1),
         problem,
     })
+}
+
+/// Reads a font in BDF.
+pub(crate) fn read_font(
+    alloc: Global,
+    octets: &[u8],
+    setting: &FontSetting,
+) -> Result<FontPart, BdfFault> {
+    let mut reader = Reader {
+        alloc,
+        setting,
+        is_started: false,
+        is_ended: false,
+        whole: None,
+        header: None,
+        bitmap: None,
+        cells: Vec::new(alloc),
+    };
+    let mut line = 0u32;
+    for octets in octets.lines() {
+        line = line.saturating_add(1);
+        // A line that is no text is none that is known here.
+        let text = str::from_utf8(octets).unwrap_or("");
+        if let Err(problem) = reader.take(text) {
+            return Err(BdfFault { line, problem });
+        }
+    }
+    font_of(reader, setting, line)
 }
