@@ -1,0 +1,157 @@
+//! What the keys of a sign file owe to each other.
+
+use crate::find::{Findings, What, entry, number_at, tables_at};
+use crate::place::{Entry, Place};
+use std::alloc::AllocError;
+use toml::Table;
+
+/// Looks at the octets of a cell: how many there are, and the bits behind its last pixel.
+fn look_at_bits(
+    found: &mut Findings,
+    at: &Place,
+    cell: &Table,
+    height: i64,
+) -> Result<(), AllocError> {
+    let (Some(width), Some(value)) = (number_at(cell, "width"), cell.get("bits")) else {
+        return Ok(());
+    };
+    let Some(digits) = value.as_str() else {
+        return Ok(());
+    };
+    if !(1..=64).contains(&width) || !(1..=64).contains(&height) {
+        return Ok(());
+    }
+    let pixels = width.saturating_mul(height);
+    let needed = pixels.saturating_add(7) / 8;
+    let octets = digits.len() / 2;
+    if octets as u64 != needed as u64 {
+        return found.fault(
+            at,
+            "bits",
+            &What::Octets {
+                octets,
+                width,
+                height,
+                needed,
+            },
+        );
+    }
+    let spare = needed.saturating_mul(8).saturating_sub(pixels);
+    if is_spare_set(digits.as_bytes(), spare) {
+        return found.fault(at, "bits", &What::SpareBit);
+    }
+    Ok(())
+}
+
+/// Whether one of the last bits, fewer than eight, of hexadecimal digits is set.
+fn is_spare_set(digits: &[u8], spare: i64) -> bool {
+    let [.., high, low] = digits else {
+        return false;
+    };
+    let mut octets = [0];
+    match hex::decode_to_slice([*high, *low], &mut octets) {
+        Ok(()) => (0..spare.min(8)).any(|bit| octets[0] >> bit & 1 == 1),
+        Err(_) => false,
+    }
+}
+
+/// Looks at the order and the number of a font's cells, and at their octets.
+fn look_at_cells(found: &mut Findings, font: Entry, table: &Table) -> Result<(), AllocError> {
+    let cells = tables_at(table, "cell");
+    if cells.len() > 255 {
+        found.fault(&Place::Font(font), "cell", &What::TooMany(cells.len(), 255))?;
+    }
+    let height = number_at(table, "height").unwrap_or(0);
+    let mut last = 0;
+    for (place, value) in cells.iter().enumerate() {
+        if let Some(cell) = value.as_table() {
+            let cell_entry = entry(place, cell);
+            let at = Place::Cell(font, cell_entry);
+            look_at_bits(found, &at, cell, height)?;
+            if let Some(number) = cell_entry.number {
+                if number <= last {
+                    found.fault(&at, "number", &What::NotRising(last))?;
+                }
+                last = number;
+            }
+        }
+    }
+    Ok(())
+}
+
+/// Looks at the order and the number of the fonts, and whether the default font is one of them.
+fn look_at_fonts(found: &mut Findings, table: &Table) -> Result<(), AllocError> {
+    let fonts = tables_at(table, "font");
+    if fonts.is_empty() {
+        found.fault(&Place::Sign, "font", &What::TooMany(0, 16))?;
+    }
+    if fonts.len() > 16 {
+        found.fault(&Place::Sign, "font", &What::TooMany(fonts.len(), 16))?;
+    }
+    let mut last = 0;
+    for (place, value) in fonts.iter().enumerate() {
+        if let Some(font) = value.as_table() {
+            let font_entry = entry(place, font);
+            look_at_cells(found, font_entry, font)?;
+            if let Some(number) = font_entry.number {
+                if number <= last {
+                    found.fault(&Place::Font(font_entry), "number", &What::NotRising(last))?;
+                }
+                last = number;
+            }
+        }
+    }
+    Ok(())
+}
+
+/// Looks whether a font has the number of the default font.
+fn look_at_default(found: &mut Findings, table: &Table) -> Result<(), AllocError> {
+    let Some(value) = table.get("defaults") else {
+        return Ok(());
+    };
+    let Some(defaults) = value.as_table() else {
+        return Ok(());
+    };
+    let Some(number) = number_at(defaults, "font") else {
+        return Ok(());
+    };
+    for value in tables_at(table, "font") {
+        if let Some(font) = value.as_table() {
+            if number_at(font, "number") == Some(number) {
+                return Ok(());
+            }
+        }
+    }
+    found.fault(&Place::Defaults, "font", &What::NoFont(number))
+}
+
+/// Looks at the number of the permanent messages, and at the octets of their texts.
+fn look_at_permanents(found: &mut Findings, table: &Table) -> Result<(), AllocError> {
+    let messages = tables_at(table, "permanent");
+    if messages.len() > 255 {
+        found.fault(
+            &Place::Sign,
+            "permanent",
+            &What::TooMany(messages.len(), 255),
+        )?;
+    }
+    let most = number_at(table, "max_string").unwrap_or(4096);
+    for (place, value) in messages.iter().enumerate() {
+        if let Some(message) = value.as_table() {
+            if let Some(text) = message.get("multi").and_then(|value| value.as_str()) {
+                if text.len() as u64 > most.max(0) as u64 {
+                    let at = Place::Permanent(entry(place, message));
+                    found.fault(&at, "multi", &What::TooLong(text.len(), most))?;
+                }
+            }
+        }
+    }
+    Ok(())
+}
+
+/// Looks at what the keys of a sign file owe to each other.
+pub(crate) fn look_at_order(found: &mut Findings, table: &Table) -> Result<(), AllocError> {
+    look_at_fonts(found, table)?;
+    look_at_default(found, table)?;
+    look_at_permanents(found, table)
+}

@@ -1,0 +1,61 @@
+//! The sign and the message table of a file.
+
+ghost use Rattle.std.specs.Prelude.{◌≡◌, ◌≢◌, IfOk, OnOk, is_some};
+ghost use Rattle.sign_report.specs.Setup.{is_taken};
+
+use message_store::{Store, StoreLimits, StoreMade};
+use sign_file::{FileFault, SignFile, read_sign_file};
+use sign_font::{Sign, SignFault};
+use std::alloc::{AllocError, Global};
+
+/// What a sign file sets up.
+#[derive(Drop)]
+pub(crate) struct Setup {
+    pub(crate) sign: Sign,
+    pub(crate) limits: StoreLimits,
+    /// How many permanent messages there are.
+    pub(crate) permanents: usize,
+}
+
+/// Passes over each fault but that memory was refused.
+fn unless_memory(fault: SignFault) -> Result<(), AllocError>
+    ensures { OnOk result (fault ≢ SignFault.Memory) }
+{
+    match fault {
+        SignFault::Memory => Err(AllocError),
+        _ => Ok(()),
+    }
+}
+
+/// What these octets set up, or `None` if they are no sign file that the program takes.
+pub(crate) fn setup_of(alloc: Global, octets: &[u8]) -> Result<Option<Setup>, AllocError>
+    ensures { IfOk result (λ setup. is_some setup ≡ is_taken octets.now) }
+{
+    let file = match read_sign_file(alloc, octets) {
+        Ok(file) => file,
+        Err(FileFault::Bad) => return Ok(None),
+        Err(FileFault::Memory) => return Err(AllocError),
+    };
+    let SignFile {
+        sign,
+        limits,
+        permanents,
+    } = file;
+    let count = permanents.len();
+    let sign = match Sign::new(alloc, sign) {
+        Ok(sign) => sign,
+        Err(fault) => {
+            unless_memory(fault)?;
+            return Ok(None);
+        }
+    };
+    match Store::new(alloc, limits, permanents) {
+        Ok(_) => Ok(Some(Setup {
+            sign,
+            limits,
+            permanents: count,
+        })),
+        Err(StoreMade::BadLimit) => Ok(None),
+        Err(StoreMade::Memory) => Err(AllocError),
+    }
+}
