@@ -11,3 +11,4 @@ pub mod Script
 pub mod Streams
 pub mod Tool
 pub mod Fonts
+pub mod Signs

@@ -21,7 +21,9 @@
 //! `sign_script` says, and gets its reply. The controller is made once, and each line finds the state that the lines before
 //! it leave. An empty line and one that begins with `#` get no reply.
 //!
-//! `signctl font` reads a font in BDF in place of all that, and writes it as the `[[font]]` table of a sign file.
+//! `signctl sign` reads a sign file alone, and writes what it describes, or all faults that it finds in it. `--font` shows the
+//! characters of a font in place of the description. `signctl font` reads a font in BDF, and writes it as the `[[font]]` table of a
+//! sign file.
 //!
 //! A line ends with a line feed, and one carriage return before that is dropped. What is left has at most 8,300 octets.
 //! An input has at most 16,777,216 octets, with those of the sign file. The first fault ends the run, after the answers
@@ -39,7 +41,8 @@
 //!
 //! Lines are counted from 1, from the start of the sign file where there is one.
 //!
-//! The exit status is 0 with no fault and for help, 1 with a fault, and 2 for a refused command line.
+//! The exit status is 0 with no fault and for help, 1 with a fault, also with one of a sign file that `sign` tells, and 2 for a
+//! refused command line.
 #![tactic(auto)]
 
 mod answer;
@@ -60,6 +63,7 @@ mod reply;
 mod script;
 mod setup;
 mod show;
+mod sign;
 mod start;
 #[cfg(test)]
 mod tests;

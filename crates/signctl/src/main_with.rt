@@ -1,6 +1,7 @@
 //! The tool over streams that are handed in.
 
 use crate::font::run_font;
+use crate::sign::run_sign;
 use crate::tool::run_tool;
 use crate::words::{Request, request_of};
 use clap::Error;
@@ -61,6 +62,11 @@ pub fn main_with<R: Read, W: Write, E: Write>(
             run_tool(alloc, mode, sample, reader, writer),
             errors,
         ),
+        Request::Sign(font) => match run_sign(alloc, font, reader, writer) {
+            Ok(true) => DONE,
+            Ok(false) => FAULTED,
+            Err(fault) => end_of(Err(fault), errors),
+        },
         Request::Font(setting) => end_of(run_font(alloc, &setting, reader, writer), errors),
     }
 }

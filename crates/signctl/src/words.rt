@@ -14,6 +14,8 @@ pub(crate) enum Request {
         /// Whether the sample sign was named. If not, the input begins with a sign file.
         sample: bool,
     },
+    /// What a sign file describes, or the characters of one of its fonts.
+    Sign(Option<u8>),
     /// The table of a font.
     Font(FontSetting),
 }
@@ -65,6 +67,18 @@ fn run_command<'a>(alloc: Global) -> Result<Command<'a>, AllocError> {
             "Reads a sign file, a line %% and a script, and writes the reply to each of its lines",
         )
         .arg(sample_flag(alloc))
+}
+
+/// `signctl sign`, which takes a sign file alone.
+fn sign_command<'a>(alloc: Global) -> Result<Command<'a>, AllocError> {
+    let font = Arg::new(alloc, "font")
+        .long("font")
+        .value_name("N")
+        .help("Shows the characters of this font, 1 to 255")
+        .value_parser(value_parser!(u8).range(1..=255));
+    Command::new(alloc, "sign")
+        .about("Reads a sign file, and says what it describes, or what is wrong with it")
+        .arg(font)
 }
 
 /// A number of `signctl font`, with its range and what it is if it isn't given.
@@ -146,6 +160,7 @@ fn command<'a>(alloc: Global) -> Result<Command<'a>, AllocError> {
         .subcommand(check_command(alloc)?)?
         .subcommand(show_command(alloc)?)?
         .subcommand(run_command(alloc)?)?
+        .subcommand(sign_command(alloc)?)?
         .subcommand(font_command(alloc)?)
 }
 
@@ -184,6 +199,9 @@ pub(crate) fn request_of<'a>(alloc: Global, words: &'a [&'a str]) -> Result<Requ
     let matches = command(alloc)?.try_get_matches_from(words)?;
     if let Some(font) = matches.subcommand_matches("font") {
         return Ok(Request::Font(setting_of(font)));
+    }
+    if let Some(sign) = matches.subcommand_matches("sign") {
+        return Ok(Request::Sign(sign.get_one("font")));
     }
     Ok(Request::Lines {
         mode: mode_of(&matches),
