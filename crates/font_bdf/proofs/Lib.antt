@@ -1,1 +1,7 @@
+pub mod WordLemmas
+pub mod NumberLemmas
+pub mod BitmapLemmas
+pub mod CellLemmas
+pub mod BlockLemmas
 pub mod TableLemmas
+pub mod FontRows

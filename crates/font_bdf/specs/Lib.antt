@@ -1,1 +1,7 @@
+pub mod Bitmap
+pub mod Font
+pub mod Lines
+pub mod Numbers
+pub mod Parts
+pub mod Reading
 pub mod Tables

@@ -1,9 +1,11 @@
 -- What is written of a font: a table that makes a sign file whole.
 use Rattle.std.specs.Prelude.{ℕ, Bool, true, false, ◌&&◌, ◌==◌, List, [], ◌∷◌, ◌++◌, ◌≡◌, Option, None, Some, is_none, codes}
+use Rattle.std.specs.Option.{option_map}
 use Rattle.sign_font.specs.Limits.{first_fault}
 use Rattle.sign_font.specs.Sign.{FontData, SignData}
 use Rattle.sign_file.specs.SignFile.{FileData, file_of_octets}
 use Rattle.font_bdf.specs.declared.setting.FontSetting.{FontSetting}
+use Rattle.font_bdf.specs.Font.{font_of_bdf}
 
 -- the keys of a sign file before its fonts (own)
 unfoldable pub front : List ℕ
@@ -26,6 +28,16 @@ unfoldable pub is_taken : FontSetting → Option FileData → Bool
 is_taken setting None = false
 is_taken setting (Some file) = is_one_font setting file.sign.fonts && is_none (first_fault (with_font file.sign setting.number))
 
--- a text is the table of one font, by a setting, which signs take: the octets of a sign file that ends with it are read so (own)
-abbrev pub IsFontTable : FontSetting → List ℕ → Type 0
-IsFontTable setting text = is_taken setting (file_of_octets (front ++ text)) ≡ true
+-- the fonts of a sign file, where one is read (own)
+unfoldable pub fonts_read : Option FileData → Option (List FontData)
+fonts_read file = option_map (λ f. f.sign.fonts) file
+
+-- a text is the table of one font, by a setting: the octets of a sign file that ends with it are read so, signs take the font, and
+-- it is this one, with all of its cells (own)
+pub record IsTableOf (setting : FontSetting) (font : FontData) (text : List ℕ) : Type 0 where
+  pub taken : is_taken setting (file_of_octets (front ++ text)) ≡ true
+  pub same : fonts_read (file_of_octets (front ++ text)) ≡ Some (font ∷ [])
+
+-- a text is the table of the font that octets are in BDF, by a setting (own)
+abbrev pub IsFontTable : FontSetting → List ℕ → List ℕ → Type 0
+IsFontTable setting octets text = (font : FontData) × (font_of_bdf setting octets ≡ Some font) × IsTableOf setting font text

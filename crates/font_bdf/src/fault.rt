@@ -1,13 +1,15 @@
 //! Why a font in BDF isn't taken.
 
+ghost use Rattle.std.specs.Prelude.{◌≡◌};
+
 use thiserror::Error;
 
 /// Why no tables are written, and the line that says so (own).
 #[derive(Clone, Copy, Debug, PartialEq, Eq, Error)]
 #[error("line {line}: {problem}")]
 pub struct BdfFault {
-    /// The line, counted from 1. It is the last one if the font ends too soon, and 0 if the whole font was read and isn't taken, or
-    /// if there was no memory for its table.
+    /// The line, counted from 1. It is the last one if the font ends too soon, and 0 if the whole font was read and isn't taken. If
+    /// memory was refused, it says nothing.
     pub line: u32,
     /// What is wrong there.
     pub problem: BdfProblem,
@@ -19,13 +21,13 @@ pub enum BdfProblem {
     /// The first line isn't `STARTFONT`.
     #[error("a font in BDF begins with STARTFONT")]
     NoStart,
-    /// A bitmap begins, or the font ends, before `FONTBOUNDINGBOX`.
+    /// A character begins, or the font ends, before `FONTBOUNDINGBOX`.
     #[error("FONTBOUNDINGBOX is missing")]
     NoBox,
     /// The box of the font is not 1 to 64 rows high.
     #[error("the font is {0} rows high, and may have 1 to 64")]
     BadHeight(i32),
-    /// Numbers are missing, or what stands there are no numbers of 32 bits.
+    /// Numbers are missing, or what stands there are no numbers of 1 to 9 digits.
     #[error("numbers are missing, or aren't whole numbers")]
     BadNumbers,
     /// A character ends, or another one begins, before `BITMAP`, or within a bitmap that isn't taken.
@@ -73,4 +75,12 @@ pub enum BdfProblem {
     /// Memory was refused.
     #[error("out of memory")]
     Memory,
+}
+
+/// What is wrong with the line at a place among lines, of which the first is the line `first` of the font.
+pub(crate) fn fault_at(first: usize, place: usize, problem: BdfProblem) -> BdfFault
+    ensures { result.problem ≡ problem }
+{
+    let line = u32::try_from(first.saturating_add(place)).unwrap_or(u32::MAX);
+    BdfFault { line, problem }
 }

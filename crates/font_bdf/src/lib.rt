@@ -1,20 +1,25 @@
 //! Fonts for a sign, from fonts in BDF.
 //!
 //! [`font_tables`] reads a font in BDF, the Glyph Bitmap Distribution Format in which most fonts of pixels are kept, and writes it
-//! as the `[[font]]` table of a sign file.
+//! as the `[[font]]` table of a sign file. [`read_font`] reads it alone.
 //!
 //! A cell is as high as the box of the font, and as wide as its character's advance less the spacing between characters. What is
-//! written was read back as a part of a sign file, and a sign with this font has no fault.
+//! written was read back as a part of a sign file: it has the font that was read, and a sign with this font has no fault.
 #![tactic(auto)]
 
+mod bitmap;
+mod cells;
+mod character;
 mod fault;
-mod glyph;
+mod numbers;
 mod read;
+mod same;
 mod setting;
 mod words;
 mod write;
 
 pub use fault::{BdfFault, BdfProblem};
+pub use read::read_font;
 pub use setting::FontSetting;
 pub use write::font_tables;
 

@@ -1,4 +1,4 @@
-use crate::{BdfFault, BdfProblem, FontSetting, font_tables};
+use crate::{BdfFault, BdfProblem, FontSetting, font_tables, read_font};
 use std::alloc::{AllocError, Global};
 use std::test::Fail;
 
@@ -55,6 +55,10 @@ cell = [
         panic!(rt; "the font is taken");
     };
     assert!(rt; text.as_slice() == table.as_bytes());
+    let Ok(font) = read_font(rt.alloc(), SMALL.as_bytes(), &SETTING) else {
+        panic!(rt; "the font is read");
+    };
+    assert_eq!(rt; font.cells.len(), 2);
     Ok(())
 }
 
@@ -151,6 +155,11 @@ fn a_fault_is_told_by_its_line(rt: HostRuntime) -> Result<(), Fail> {
             Some((23, BdfProblem::Twice(73))),
         ),
         ("ENDFONT\n", "", Some((23, BdfProblem::NoEndOfFont))),
+        (
+            "ENDCHAR\nENDFONT\n",
+            "",
+            Some((22, BdfProblem::NoEndOfFont)),
+        ),
     ];
     for (from, to, fault) in rows {
         let found = told(rt.alloc(), from, to, &SETTING)?;

@@ -1,13 +1,15 @@
 //! A font as a table of a sign file.
 
-ghost use Rattle.std.specs.Prelude.{◌≡◌, ◌++◌, IfOk, OnOk, is_none, map, true};
+ghost use Rattle.std.specs.Prelude.{◌≡◌, ◌≢◌, ◌++◌, ◌∷◌, [], IfErr, IfOk, IsTrue, None, OnOk, is_none, map, true};
 ghost use Rattle.sign_font.specs.Limits.{first_fault};
 ghost use Rattle.sign_font.specs.Sign.{font_of, sign_of};
-ghost use Rattle.sign_file.specs.SignFile.{file_of_octets};
-ghost use Rattle.font_bdf.specs.Tables.{IsFontTable, front, is_one_font, is_taken, with_font};
+ghost use Rattle.font_bdf.specs.Font.{font_of_bdf};
+ghost use Rattle.font_bdf.specs.Reading.{IsLater};
+ghost use Rattle.font_bdf.specs.Tables.{IsFontTable, IsTableOf, front, is_one_font, with_font};
 
 use crate::fault::{BdfFault, BdfProblem};
 use crate::read::read_font;
+use crate::same::is_same_font;
 use crate::setting::FontSetting;
 use itoa::Buffer;
 use sign_file::{FileFault, read_sign_file};
@@ -88,6 +90,16 @@ fn is_one_font(fonts: &[FontPart], setting: &FontSetting) -> bool
     }
 }
 
+/// Whether these fonts are this one.
+fn is_only_font(fonts: &[FontPart], font: &FontPart) -> bool
+    ensures { IsTrue result → map font_of fonts.now ≡ font_of font.now ∷ [] }
+{
+    match fonts {
+        [only] => is_same_font(only, font),
+        _ => false,
+    }
+}
+
 /// The sign file that ends with this table.
 #[tactic(auto, unfolding(crate::specs::Tables::front))]
 fn file_with(alloc: Global, table: &[u8]) -> Result<Vec<u8>, AllocError>
@@ -101,7 +113,8 @@ fn file_with(alloc: Global, table: &[u8]) -> Result<Vec<u8>, AllocError>
 
 /// Makes a sign whose default font has this number.
 fn take_sign(alloc: Global, sign: SignParts, number: u8) -> Result<(), BdfProblem>
-    ensures { OnOk result (is_none (first_fault (with_font (sign_of sign) number)) ≡ true) }
+    ensures sound { OnOk result (is_none (first_fault (with_font (sign_of sign) number)) ≡ true) }
+    ensures problem { IfErr result IsLater }
 {
     let defaults = Defaults {
         font: number,
@@ -114,17 +127,22 @@ fn take_sign(alloc: Global, sign: SignParts, number: u8) -> Result<(), BdfProble
     }
 }
 
-/// Reads the sign file that ends with this table, and makes its sign.
-#[tactic(auto, using(crate::proofs::TableLemmas::taken))]
-fn take_table(alloc: Global, table: &[u8], setting: &FontSetting) -> Result<(), BdfProblem>
-    ensures { OnOk result (is_taken setting.now (file_of_octets (front ++ table.now)) ≡ true) }
+/// Reads the sign file that ends with this table, compares its font with the one that was read, and makes its sign.
+fn take_table(
+    alloc: Global,
+    table: &[u8],
+    font: &FontPart,
+    setting: &FontSetting,
+) -> Result<(), BdfProblem>
+    ensures taken { OnOk result (IsTableOf setting.now (font_of font.now) table.now) }
+    ensures problem { IfErr result IsLater }
 {
     let Ok(octets) = file_with(alloc, table) else {
         return Err(BdfProblem::Memory);
     };
     match read_sign_file(alloc, &octets) {
         Ok(file) => {
-            if !is_one_font(&file.sign.fonts, setting) {
+            if !is_one_font(&file.sign.fonts, setting) || !is_only_font(&file.sign.fonts, font) {
                 return Err(BdfProblem::NotTaken);
             }
             match take_sign(alloc, file.sign, setting.number) {
@@ -139,29 +157,33 @@ fn take_table(alloc: Global, table: &[u8], setting: &FontSetting) -> Result<(), 
 
 /// The table of a font, which signs take.
 fn table_of(alloc: Global, font: &FontPart, setting: &FontSetting) -> Result<Vec<u8>, BdfProblem>
-    ensures { IfOk result (λ table. IsFontTable setting.now table.items) }
+    ensures table { IfOk result (λ table. IsTableOf setting.now (font_of font.now) table.items) }
+    ensures problem { IfErr result IsLater }
 {
     let mut table = Vec::new(alloc);
     let Ok(()) = push_font(&mut table, font) else {
         return Err(BdfProblem::Memory);
     };
-    match take_table(alloc, &table, setting) {
+    match take_table(alloc, &table, font, setting) {
         Ok(()) => Ok(table),
         Err(problem) => Err(problem),
     }
 }
 
-/// Reads a font in BDF, and writes it as the `[[font]]` table of a sign file.
+/// Reads a font in BDF, as [`read_font`] does, and writes it as the `[[font]]` table of a sign file.
 ///
-/// A character is taken if its number, `ENCODING`, is from `first` to `last` of the setting. Its cell is as high as the box of
-/// the font, `FONTBOUNDINGBOX`, and as wide as its advance, `DWIDTH`, less the spacing between characters. Its bitmap stands where
-/// `BBX` says, and must not light a pixel outside the cell. Other lines are passed over.
+/// What is written was read back behind the other keys of a sign file: it has this one font, and a sign takes it.
 ///
-/// The error has the first line that is wrong, and what is wrong there. It is `NotTaken` only for the number 0.
+/// The error has the first line that is wrong, and what is wrong there. It is `NotTaken` only for the number 0. If it is neither
+/// `NotTaken` nor `Memory`, the octets are no font in BDF that is taken with this setting.
 pub fn font_tables(alloc: Global, octets: &[u8], setting: &FontSetting) -> Result<Vec<u8>, BdfFault>
-    ensures table { IfOk result (λ text. IsFontTable setting.now text.items) }
+    ensures table { IfOk result (λ text. IsFontTable setting.now octets.now text.items) }
+    ensures refused { IfErr result (λ fault. fault.problem ≢ BdfProblem.Memory → fault.problem ≢ BdfProblem.NotTaken → font_of_bdf setting.now octets.now ≡ None) }
 {
-    let font = read_font(alloc, octets, setting)?;
+    let font = match read_font(alloc, octets, setting) {
+        Ok(font) => font,
+        Err(fault) => return Err(fault),
+    };
     match table_of(alloc, &font, setting) {
         Ok(table) => Ok(table),
         Err(problem) => Err(BdfFault { line: 0, problem }),

@@ -1,5 +1,6 @@
 mod defaults;
 mod filling;
+mod lending;
 mod wide;
 
 use multi_layout::{Shown, check};

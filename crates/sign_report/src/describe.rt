@@ -4,7 +4,8 @@ use crate::setup::Setup;
 use multi_token::Source;
 use sign_font::{Defaults, FontInfo, LineFill, Sign};
 use std::alloc::AllocError;
-use std::fmt::Write;
+use std::fmt;
+use std::fmt::{Display, Formatter, Write};
 
 /// The classic colours by their numbers (NTCIP 1203 v03, object dmsColorScheme).
 const COLOURS: [&str; 10] = [
@@ -75,31 +76,44 @@ fn describe_defaults(text: &mut String, defaults: &Defaults) -> Result<(), Alloc
     writeln!(text, "default background: {back}, {}", word(&COLOURS, back))
 }
 
-/// Writes the runs of characters that a font has.
-fn describe_characters(text: &mut String, sign: &Sign, font: u8) -> Result<(), AllocError> {
-    let mut source = Source::new(b"");
-    let mut first = None;
-    for number in 1..=65535u16 {
-        let is_there = sign.cell_width(&mut source, font, number).is_some();
-        if is_there && first.is_none() {
-            first = Some(number);
-        }
-        let ends = !is_there || number == 65535;
-        if let (true, Some(start)) = (ends, first) {
-            let end = if is_there {
-                number
-            } else {
-                number.saturating_sub(1)
-            };
-            if start == end {
-                write!(text, " {start}")?;
-            } else {
-                write!(text, " {start}-{end}")?;
+/// The characters that a font of a sign has, as runs of numbers with a space before each (own). Written by `Display`.
+#[derive(Clone, Copy)]
+pub struct Characters<'a> {
+    /// The sign.
+    pub sign: &'a Sign,
+    /// The number of the font.
+    pub font: u8,
+}
+
+impl Display for Characters<'_> {
+    fn fmt<W: Write>(&self, f: &mut Formatter<W>) -> fmt::Result {
+        let mut source = Source::new(b"");
+        let mut first = None;
+        for number in 1..=65535u16 {
+            let is_there = self
+                .sign
+                .cell_width(&mut source, self.font, number)
+                .is_some();
+            if is_there && first.is_none() {
+                first = Some(number);
             }
-            first = None;
+            let ends = !is_there || number == 65535;
+            if let (true, Some(start)) = (ends, first) {
+                let end = if is_there {
+                    number
+                } else {
+                    number.saturating_sub(1)
+                };
+                if start == end {
+                    write!(f, " {start}")?;
+                } else {
+                    write!(f, " {start}-{end}")?;
+                }
+                first = None;
+            }
         }
+        Ok(())
     }
-    writeln!(text)
 }
 
 /// Writes a font and which characters it has.
@@ -119,8 +133,8 @@ fn describe_font(text: &mut String, sign: &Sign, font: FontInfo) -> Result<(), A
         text,
         "font {number}: height {height}, character spacing {char_spacing}, line spacing {line_spacing}"
     )?;
-    write!(text, "font {number}: characters")?;
-    describe_characters(text, sign, number)
+    let characters = Characters { sign, font: number };
+    writeln!(text, "font {number}: characters{characters}")
 }
 
 /// Writes what a sign file describes.

@@ -13,6 +13,7 @@ mod place;
 mod report;
 mod setup;
 
+pub use describe::Characters;
 pub use report::{SignReport, sign_report};
 
 #[cfg(test)]

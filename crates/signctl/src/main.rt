@@ -45,30 +45,9 @@
 //! refused command line.
 #![tactic(auto)]
 
-mod answer;
-mod block;
-mod check;
-mod fault;
-mod first;
-mod font;
-mod laws;
-mod lines;
 mod main_with;
-mod octets;
-mod output;
-mod pixels;
-mod refill;
-mod replies;
-mod reply;
-mod script;
-mod setup;
-mod show;
-mod sign;
-mod start;
 #[cfg(test)]
 mod tests;
-mod tool;
-mod whole;
 mod words;
 
 use std::io::BufReader;

@@ -1,10 +1,8 @@
 //! The tool over streams that are handed in.
 
-use crate::font::run_font;
-use crate::sign::run_sign;
-use crate::tool::run_tool;
 use crate::words::{Request, request_of};
 use clap::Error;
+use sign_tool::{ToolFault, run_explain, run_font, run_sign, run_tool};
 use std::alloc::Global;
 use std::fmt::Display;
 use std::io::{Read, Write};
@@ -41,6 +39,15 @@ fn end_of<F: Display + Drop, E: Write>(end: Result<(), F>, errors: &mut E) -> u8
     }
 }
 
+/// The exit status of a run that tells whether all was taken.
+fn end_of_answer<E: Write>(end: Result<bool, ToolFault>, errors: &mut E) -> u8 {
+    match end {
+        Ok(true) => DONE,
+        Ok(false) => FAULTED,
+        Err(fault) => end_of(Err(fault), errors),
+    }
+}
+
 /// Runs the tool as the words ask, and gives its exit status (own). The first word is the program's name.
 ///
 /// The status is 0 after a run with no fault, and after help, which is written to `writer`. It is 1 after a fault, which is
@@ -62,11 +69,11 @@ pub fn main_with<R: Read, W: Write, E: Write>(
             run_tool(alloc, mode, sample, reader, writer),
             errors,
         ),
-        Request::Sign(font) => match run_sign(alloc, font, reader, writer) {
-            Ok(true) => DONE,
-            Ok(false) => FAULTED,
-            Err(fault) => end_of(Err(fault), errors),
-        },
+        Request::Explain { sample, phase } => {
+            let explained = run_explain(alloc, sample, u64::from(phase), reader, writer);
+            end_of_answer(explained, errors)
+        }
+        Request::Sign(font) => end_of_answer(run_sign(alloc, font, reader, writer), errors),
         Request::Font(setting) => end_of(run_font(alloc, &setting, reader, writer), errors),
     }
 }

@@ -1,14 +1,13 @@
+mod explain;
 mod font;
-mod lending;
 mod run;
 mod show;
 mod sign;
 mod sign_files;
 mod streams;
 
-use crate::fault::ToolFault;
 use crate::main_with::main_with;
-use crate::tool::{Mode, run_tool};
+use sign_tool::{Mode, ToolFault, run_tool};
 use std::alloc::{AllocError, Global};
 use std::io;
 use std::io::{ErrorKind, Read, Write};
@@ -376,12 +375,13 @@ fn a_run_ends_with_its_status_and_text(rt: HostRuntime) {
 #[test]
 fn a_command_line_is_helped_or_refused(rt: HostRuntime) {
     let alloc = rt.alloc();
-    let rows: [(&[&str], u8); 35] = [
+    let rows: [(&[&str], u8); 38] = [
         (&["signctl", "--help"], 0),
         (&["signctl", "check", "--help"], 0),
         (&["signctl", "show", "--help"], 0),
         (&["signctl", "run", "--help"], 0),
         (&["signctl", "font", "--help"], 0),
+        (&["signctl", "explain", "--help"], 0),
         (&["signctl", "sign", "--help"], 0),
         (&["signctl", "help"], 0),
         (&[], 2),
@@ -399,6 +399,8 @@ fn a_command_line_is_helped_or_refused(rt: HostRuntime) {
         (&["signctl", "show", "--clock", "1", "--clock", "1"], 2),
         (&["signctl", "check", "--colour", "1"], 2),
         (&["signctl", "run", "--colour", "1"], 2),
+        (&["signctl", "explain", "--phase", "-1"], 2),
+        (&["signctl", "explain", "--clock", "1"], 2),
         (&["signctl", "sign", "--font", "0"], 2),
         (&["signctl", "sign", "--sample"], 2),
         (&["signctl", "font", "--number", "0"], 2),

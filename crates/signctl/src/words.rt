@@ -1,8 +1,8 @@
 //! What the words of a command line ask for.
 
-use crate::tool::Mode;
 use clap::{Arg, ArgAction, ArgMatches, Command, Error, value_parser};
 use font_bdf::FontSetting;
+use sign_tool::Mode;
 use std::alloc::{AllocError, Global};
 
 /// What was asked for (own).
@@ -13,6 +13,13 @@ pub(crate) enum Request {
         mode: Mode,
         /// Whether the sample sign was named. If not, the input begins with a sign file.
         sample: bool,
+    },
+    /// Each message in words and pictures.
+    Explain {
+        /// Whether the sample sign was named. If not, the input begins with a sign file.
+        sample: bool,
+        /// When pages are drawn, in tenths of a second since each began.
+        phase: u32,
     },
     /// What a sign file describes, or the characters of one of its fonts.
     Sign(Option<u8>),
@@ -67,6 +74,22 @@ fn run_command<'a>(alloc: Global) -> Result<Command<'a>, AllocError> {
             "Reads a sign file, a line %% and a script, and writes the reply to each of its lines",
         )
         .arg(sample_flag(alloc))
+}
+
+/// `signctl explain`.
+fn explain_command<'a>(alloc: Global) -> Result<Command<'a>, AllocError> {
+    let phase = Arg::new(alloc, "phase")
+        .long("phase")
+        .value_name("N")
+        .help("Draws each page as it is N tenths of a second after it began")
+        .value_parser(value_parser!(u32))
+        .default_value("0");
+    Command::new(alloc, "explain")
+        .about(
+            "Reads a sign file, a line %% and messages, and says of each why it is refused, or draws its pages",
+        )
+        .arg(sample_flag(alloc))?
+        .arg(phase)
 }
 
 /// `signctl sign`, which takes a sign file alone.
@@ -160,6 +183,7 @@ fn command<'a>(alloc: Global) -> Result<Command<'a>, AllocError> {
         .subcommand(check_command(alloc)?)?
         .subcommand(show_command(alloc)?)?
         .subcommand(run_command(alloc)?)?
+        .subcommand(explain_command(alloc)?)?
         .subcommand(sign_command(alloc)?)?
         .subcommand(font_command(alloc)?)
 }
@@ -203,10 +227,15 @@ pub(crate) fn request_of<'a>(alloc: Global, words: &'a [&'a str]) -> Result<Requ
     if let Some(sign) = matches.subcommand_matches("sign") {
         return Ok(Request::Sign(sign.get_one("font")));
     }
+    let sample = matches
+        .subcommand()
+        .is_some_and(|(_, inner)| inner.get_flag("sample"));
+    if let Some(explain) = matches.subcommand_matches("explain") {
+        let phase = explain.get_one("phase").unwrap_or(0);
+        return Ok(Request::Explain { sample, phase });
+    }
     Ok(Request::Lines {
         mode: mode_of(&matches),
-        sample: matches
-            .subcommand()
-            .is_some_and(|(_, inner)| inner.get_flag("sample")),
+        sample,
     })
 }

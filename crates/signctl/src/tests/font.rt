@@ -1,9 +1,8 @@
 //! Fonts that are written as tables.
 
 use super::{FailingReader, NarrowWriter, main_output};
-use crate::fault::ToolFault;
-use crate::font::{FontFault, run_font};
 use font_bdf::FontSetting;
+use sign_tool::{FontFault, ToolFault, run_font};
 
 /// A font of three rows with an `I`.
 const FONT: &str = "STARTFONT 2.1

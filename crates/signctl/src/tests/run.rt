@@ -1,9 +1,8 @@
 //! `signctl run` on the sample sign: its ends, its streams, and its words.
 
 use super::{FailingReader, LineMaker, NarrowWriter, main_output};
-use crate::fault::ToolFault;
 use crate::main_with::main_with;
-use crate::tool::{Mode, run_script, run_tool};
+use sign_tool::{Mode, ToolFault, run_script, run_tool};
 use std::alloc::Global;
 use std::io;
 use std::io::{Read, Write};

@@ -1,8 +1,7 @@
 //! `signctl show` on the sample sign: its words, its ends, and one plane for all lines.
 
 use super::{main_output, run_behind, sign_files};
-use crate::fault::ToolFault;
-use crate::tool::{Mode, run_tool};
+use sign_tool::{Mode, ToolFault, run_tool};
 use std::test::Fail;
 
 /// An `A` in the middle of the sample sign.

@@ -1,8 +1,7 @@
 //! Sign files, and what is told of them.
 
 use super::{FailingReader, NarrowWriter, main_output};
-use crate::fault::ToolFault;
-use crate::sign::run_sign;
+use sign_tool::{ToolFault, run_sign};
 
 const FAULTY: &str = "width = 12\nheight = 129\n";
 

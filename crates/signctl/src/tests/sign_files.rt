@@ -1,8 +1,7 @@
 //! Sign files, and the lines behind them.
 
 use super::{FailingReader, LineMaker, check_behind, main_output};
-use crate::fault::ToolFault;
-use crate::tool::{Mode, run_tool};
+use sign_tool::{Mode, ToolFault, run_tool};
 use std::alloc::{AllocError, Global};
 use std::io;
 use std::io::Read;

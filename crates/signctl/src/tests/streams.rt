@@ -1,8 +1,7 @@
 //! Runs of each mode, by the sample sign and by its file, whose streams fail and whose memory is refused.
 
 use super::{FailingReader, NarrowWriter, run, sign_files};
-use crate::fault::ToolFault;
-use crate::tool::{Mode, run_script, run_tool};
+use sign_tool::{Mode, ToolFault, run_script, run_tool};
 use std::alloc::{AllocError, Global};
 use std::io;
 use std::io::{ErrorKind, Read, Write};

@@ -1,0 +1,300 @@
+//! The bitmap of a character, and the pixels that it lights.
+
+ghost use Rattle.std.specs.Prelude.{◌≡◌, ◌<◌, if◌then◌else◌, true, false, IfOk, MatchOption, MatchResult, ◌+ℤ◌, ◌-ℤ◌, ◌≤ℤ◌, ◌^◌, negsuc, pos};
+ghost use Rattle.std.specs.List.{list_all, range_with_len};
+ghost use Rattle.font_bdf.specs.Bitmap.{bits_value, column_of, digits_at, digits_of, drawing_of, hex_value, is_below, is_bit, is_fine, is_good, is_good_row, is_hex, is_inside, is_lit, is_lit_at, is_row, is_set_at, octets_of, row_of, top_of};
+
+use crate::fault::{BdfFault, BdfProblem, fault_at};
+use crate::numbers::PixelBox;
+use crate::words::word_at;
+use std::alloc::{AllocError, Global};
+
+/// The bitmap of a character (BDF, BITMAP).
+#[derive(Clone, Copy)]
+pub(crate) struct Bitmap<'a> {
+    /// The box of the font.
+    pub(crate) whole: PixelBox,
+    /// The box of the character.
+    pub(crate) pixels: PixelBox,
+    /// Its columns.
+    pub(crate) columns: u8,
+    /// The lines of its rows, from the top.
+    pub(crate) rows: &'a [&'a [u8]],
+}
+
+/// What a hexadecimal digit is worth.
+fn hex_value(octet: u8) -> u8
+    ensures { result ≡ hex_value octet }
+{
+    if octet <= 57 {
+        octet.saturating_sub(48)
+    } else if octet <= 70 {
+        octet.saturating_sub(55)
+    } else {
+        octet.saturating_sub(87)
+    }
+}
+
+/// Whether the bit of a column is set in the digits of a row.
+#[tactic(auto, unfolding(crate::specs::Bitmap::is_bit))]
+fn is_bit(digits: &[u8], column: usize) -> bool
+    ensures { result ≡ is_bit digits.now column }
+{
+    let digit = match digits.get(column / 4) {
+        Some(digit) => *digit,
+        None => 0,
+    };
+    (hex_value(digit) >> (3 - column % 4)) & 1 == 1
+}
+
+/// Whether an octet is a hexadecimal digit.
+fn is_hex(octet: u8) -> bool
+    ensures { result ≡ is_hex octet }
+{
+    (octet >= 48 && octet <= 57) || (octet >= 65 && octet <= 70) || (octet >= 97 && octet <= 102)
+}
+
+/// Whether each of these octets is a hexadecimal digit.
+fn are_hex(digits: &[u8]) -> bool
+    ensures { result ≡ list_all is_hex digits.now }
+{
+    digits.iter().all(|octet| is_hex(*octet))
+}
+
+/// How many digits the row of a box of so many columns has.
+fn digits_of(columns: u8) -> usize
+    ensures { result ≡ digits_of columns }
+{
+    2 * ((usize::from(columns) + 7) / 8)
+}
+
+/// Whether these are the digits of a row of so many columns.
+#[tactic(auto, unfolding(crate::specs::Bitmap::is_row))]
+fn is_row(columns: u8, digits: &[u8]) -> bool
+    ensures { result ≡ is_row columns digits.now }
+{
+    digits.len() == digits_of(columns) && are_hex(digits)
+}
+
+impl<'a> Bitmap<'a> {
+    /// The digits of a row.
+    fn digits_at(&self, row: usize) -> &[u8]
+        ensures { result.now ≡ digits_at (drawing_of self.now) row }
+    {
+        match self.rows.get(row) {
+            Some(line) => word_at(line, 0),
+            None => word_at(&[], 0),
+        }
+    }
+
+    /// The column of the cell in which a column of the box stands.
+    fn column_of(&self, column: u8) -> i64
+        ensures { result ≡ column_of (drawing_of self.now) column }
+    {
+        i64::from(self.pixels.x) + i64::from(column)
+    }
+
+    /// The row of the cell in which the upper row of the box stands.
+    fn top_of(&self) -> i64
+        ensures top { result ≡ top_of (drawing_of self.now) }
+        ensures low { negsuc 17179869184 ≤ℤ result }
+        ensures high { result ≤ℤ pos 17179869184 }
+    {
+        upper_edge(self.whole) - upper_edge(self.pixels)
+    }
+
+    /// The row of the cell in which a row of the box stands.
+    fn row_of(&self, row: u32) -> i64
+        ensures { result ≡ row_of (drawing_of self.now) row }
+    {
+        self.top_of() + i64::from(row)
+    }
+
+    /// Whether a pixel of the box stands in the cell.
+    #[tactic(auto, unfolding(crate::specs::Bitmap::is_inside))]
+    fn is_inside(&self, width: u8, height: u8, column: u8, row: u32) -> bool
+        ensures { result ≡ is_inside (drawing_of self.now) width height column row }
+    {
+        is_below(width, self.column_of(column)) && is_below(height, self.row_of(row))
+    }
+
+    /// Whether a pixel of the box is dark or stands in the cell.
+    fn is_fine(&self, width: u8, height: u8, row: u32, column: u8) -> bool
+        ensures { result ≡ is_fine (drawing_of self.now) width height row column }
+    {
+        !is_bit(self.digits_at(row as usize), usize::from(column))
+            || self.is_inside(width, height, column, row)
+    }
+
+    /// The first pixel of a row that is lit outside the cell.
+    fn outside(&self, width: u8, height: u8, row: u32) -> Option<u8>
+        ensures { MatchOption result
+            (list_all (is_fine (drawing_of self.now) width height row) (range_with_len 0 self.now.columns) ≡ true)
+            (λ column. list_all (is_fine (drawing_of self.now) width height row) (range_with_len 0 self.now.columns) ≡ false) }
+    {
+        for column in 0..self.columns {
+            if !self.is_fine(width, height, row, column) {
+                return Some(column);
+            }
+        }
+        None
+    }
+
+    /// Whether a line is a row of the box that lights no pixel outside the cell.
+    #[tactic(auto, unfolding(crate::specs::Bitmap::is_good_row))]
+    fn check_row(&self, width: u8, height: u8, row: u32, first: usize) -> Result<(), BdfFault>
+        ensures { MatchResult result (λ _. is_good_row (drawing_of self.now) width height row ≡ true) (λ _. is_good_row (drawing_of self.now) width height row ≡ false) }
+    {
+        if !is_row(self.columns, self.digits_at(row as usize)) {
+            let digits = digits_of(self.columns);
+            return Err(fault_at(first, row as usize, BdfProblem::BadRow(digits)));
+        }
+        match self.outside(width, height, row) {
+            None => Ok(()),
+            Some(column) => {
+                let problem = BdfProblem::Outside {
+                    column: self.column_of(column),
+                    row: self.row_of(row),
+                    width,
+                    height,
+                };
+                Err(fault_at(first, row as usize, problem))
+            }
+        }
+    }
+
+    /// Whether the bit of a place in the box is set.
+    #[tactic(auto, unfolding(crate::specs::Bitmap::is_set_at))]
+    fn is_set_at(&self, column: i64, row: i64) -> bool
+        ensures { result ≡ is_set_at (drawing_of self.now) column row }
+    {
+        if column < 0 || row < 0 {
+            return false;
+        }
+        let column = column as usize;
+        let row = row as usize;
+        column < usize::from(self.columns)
+            && (row < self.rows.len() && is_bit(self.digits_at(row), column))
+    }
+
+    /// The column of the box in which a column of the cell stands.
+    fn across(&self, column: u8) -> i64
+        ensures { result ≡ pos column -ℤ self.now.pixels.x }
+    {
+        i64::from(column) - i64::from(self.pixels.x)
+    }
+
+    /// The row of the box in which a row of the cell stands.
+    fn down(&self, row: u8) -> i64
+        ensures { result ≡ pos row -ℤ top_of (drawing_of self.now) }
+    {
+        i64::from(row) - self.top_of()
+    }
+
+    /// Whether the pixel of a column and a row of the cell is lit.
+    #[tactic(auto, unfolding(crate::specs::Bitmap::is_lit))]
+    fn is_lit(&self, column: u8, row: u8) -> bool
+        ensures { result ≡ is_lit (drawing_of self.now) column row }
+    {
+        self.is_set_at(self.across(column), self.down(row))
+    }
+
+    /// Whether the pixel at a place among those of the cell is lit.
+    fn is_lit_at(&self, width: u8, height: u8, place: usize) -> bool
+        requires wide { 0 < width }
+        ensures lit { result ≡ is_lit_at (drawing_of self.now) width height place }
+    {
+        let width = usize::from(width);
+        place < width * usize::from(height)
+            && self.is_lit((place % width) as u8, (place / width) as u8)
+    }
+
+    /// Whether each line is a row of the box that lights no pixel outside the cell, and there is one for each row of the box. The
+    /// first of them is the line `first` of the font.
+    #[tactic(auto, unfolding(crate::specs::Bitmap::is_good, crate::specs::Bitmap::is_good_row), using(crate::proofs::BitmapLemmas::all_stops))]
+    pub(crate) fn check_rows(
+        &self,
+        count: u8,
+        width: u8,
+        height: u8,
+        first: usize,
+    ) -> Result<(), BdfFault>
+        ensures { MatchResult result (λ _. is_good (drawing_of self.now) count width height ≡ true) (λ _. is_good (drawing_of self.now) count width height ≡ false) }
+    {
+        for row in 0..self.rows.len() {
+            if row >= usize::from(count) {
+                return Err(fault_at(first, row, BdfProblem::BadRows));
+            }
+            match self.check_row(width, height, row as u32, first) {
+                Ok(()) => {}
+                Err(fault) => return Err(fault),
+            }
+        }
+        if self.rows.len() < usize::from(count) {
+            let digits = digits_of(self.columns);
+            return Err(fault_at(first, self.rows.len(), BdfProblem::BadRow(digits)));
+        }
+        Ok(())
+    }
+
+    /// The pixel at a place among those of the cell, as a bit.
+    fn bit_at(&self, width: u8, height: u8, place: usize) -> u32
+        requires wide { 0 < width }
+        ensures bit { result ≡ (if is_lit_at (drawing_of self.now) width height place then 1 else 0) }
+    {
+        if self.is_lit_at(width, height, place) {
+            1
+        } else {
+            0
+        }
+    }
+
+    /// The octet of eight pixels of the cell from a place on.
+    #[tactic(auto, using(crate::proofs::BitmapLemmas::bits_more, crate::proofs::BitmapLemmas::bits_none))]
+    fn octet_at(&self, width: u8, height: u8, first: usize) -> u8
+        requires wide { 0 < width }
+        requires near { first < 2 ^ 32 }
+        ensures octet { result ≡ bits_value (is_lit_at (drawing_of self.now) width height) first 8 }
+    {
+        let mut octet = 0;
+        for place in 0..8usize {
+            octet = 2 * octet + self.bit_at(width, height, first + place);
+        }
+        octet as u8
+    }
+
+    /// The octets of the pixels of the cell.
+    #[tactic(auto, unfolding(crate::specs::Bitmap::octets_of))]
+    pub(crate) fn octets_of(
+        &self,
+        alloc: Global,
+        width: u8,
+        height: u8,
+    ) -> Result<Vec<u8>, AllocError>
+        requires wide { 0 < width }
+        ensures octets { IfOk result (λ octets. octets.items ≡ octets_of (drawing_of self.now) width height) }
+    {
+        let mut octets = Vec::new(alloc);
+        let count = (usize::from(width) * usize::from(height) + 7) / 8;
+        for place in 0..count {
+            octets.push(self.octet_at(width, height, 8 * place))?;
+        }
+        Ok(octets)
+    }
+}
+
+/// The row above the upper edge of a box, counted from the base line.
+fn upper_edge(pixels: PixelBox) -> i64
+    ensures edge { result ≡ pixels.y +ℤ pixels.height }
+    ensures low { negsuc 4294967296 ≤ℤ result }
+    ensures high { result ≤ℤ pos 4294967296 }
+{
+    i64::from(pixels.y) + i64::from(pixels.height)
+}
+
+/// Whether a number is at least 0 and below a limit.
+fn is_below(limit: u8, number: i64) -> bool
+    ensures { result ≡ is_below limit number }
+{
+    number >= 0 && number < i64::from(limit)
+}

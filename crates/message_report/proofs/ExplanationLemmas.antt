@@ -1,0 +1,56 @@
+-- The parts of an explanation, one behind the other.
+use Rattle.std.proofs.Common.{◌≡◌, ℕ, suc, ◌+◌, ◌<◌, ◌^◌, ◌≤◌, true, false, List, ◌++◌, length, refl, sym, ap, ◌∙◌, arith, append_assoc, subst}
+use Rattle.std.proofs.lemmas.Bool.{le-ltb, lt-ltb}
+use Rattle.sign_font.specs.Sign.{SignData}
+use Rattle.multi_layout.specs.Meaning.{meanings}
+use Rattle.multi_layout.specs.Verdict.{Accepted, IsVerdict, Refused, Verdict, pages_of, verdict}
+use Rattle.multi_layout.proofs.AcceptedLemmas.{accepted_is}
+use Rattle.multi_layout.proofs.VerdictLemmas.{one_verdict}
+use Rattle.message_report.specs.Explanation.{Explains, HasPages, Tells, accepted_text, accepts, head_text, page_text, takes, too_long_text}
+
+-- an accepted string has the pages that its items begin
+pub pages_are : (sign : SignData) (octets : List ℕ) (pages : ℕ) → IsVerdict sign octets (Accepted pages) → length octets < 2 ^ 32 → pages ≡ pages_of (meanings octets)
+pages_are sign octets pages is short = (accepted_is sign octets pages is short).1
+
+-- what was written so far grows by one piece
+pub grown : (start now new done piece more : List ℕ) → now ≡ start ++ done → new ≡ now ++ piece → more ≡ done ++ piece → new ≡ start ++ more
+grown start now new done piece more so_far next is =
+    next ∙ ap (λ l. l ++ piece) so_far ∙ append_assoc start done piece ∙ ap (λ l. start ++ l) (sym is)
+
+-- three pieces that are appended one behind the other
+pub three_more : (start now one two three shown head words page : List ℕ) → now ≡ start ++ shown → one ≡ now ++ head → two ≡ one ++ words → three ≡ two ++ page
+    → three ≡ start ++ (shown ++ head ++ words ++ page)
+three_more start now one two three shown head words page so_far first second third =
+    grown start two three (shown ++ head ++ words) page _ (grown start one two (shown ++ head) words _ (grown start now one shown head _ so_far first refl) second refl) third refl
+
+-- one more page comes behind those before it
+pub pages_more : (sign : SignData) (octets : List ℕ) (phase pages page : ℕ) (shown words : List ℕ) → HasPages sign octets phase pages page shown
+    → HasPages sign octets phase pages (page + 1) (shown ++ head_text page pages ++ words ++ page_text sign octets page phase)
+pages_more sign octets phase pages page shown words has =
+    let next : suc page ≡ page + 1 = omega arith in
+    let more : HasPages sign octets phase pages (suc page) (shown ++ head_text page pages ++ words ++ page_text sign octets page phase) = (shown, words, has, refl) in
+    subst (λ n. HasPages sign octets phase pages n (shown ++ head_text page pages ++ words ++ page_text sign octets page phase)) next more
+
+-- a message of at most 4,096 octets is explained by the one verdict on it
+pub explained : (sign : SignData) (octets line : List ℕ) (phase : ℕ) (v : Verdict) (text : List ℕ) → length line ≤ 4096 → octets ≡ line → IsVerdict sign octets v
+    → Tells sign octets phase v text → Explains sign line phase text
+explained sign octets line phase v text short same is tells =
+    let on_line : IsVerdict sign line v = subst (λ l. IsVerdict sign l v) same is in
+    let one : v ≡ verdict sign line = (one_verdict sign line v).0 on_line in
+    let tells_line : Tells sign line phase v text = subst (λ l. Tells sign l phase v text) same tells in
+    rw (le-ltb _ _ short) (subst (λ w. Tells sign line phase w text) one tells_line)
+
+-- a message with more octets isn't judged
+pub explained_too_long : (sign : SignData) (line : List ℕ) (phase : ℕ) → 4096 < length line → Explains sign line phase too_long_text
+explained_too_long sign line phase long = rw (lt-ltb _ _ long) refl
+
+-- whether a message is taken
+pub taken_by : (sign : SignData) (octets line : List ℕ) (v : Verdict) → length line ≤ 4096 → octets ≡ line → IsVerdict sign octets v → accepts v ≡ takes sign line
+unfolding takes
+taken_by sign octets line v short same is =
+    let on_line : IsVerdict sign line v = subst (λ l. IsVerdict sign l v) same is in
+    rw (le-ltb _ _ short) (ap accepts ((one_verdict sign line v).0 on_line))
+
+pub not_taken : (sign : SignData) (line : List ℕ) → 4096 < length line → false ≡ takes sign line
+unfolding takes
+not_taken sign line long = rw (lt-ltb _ _ long) refl

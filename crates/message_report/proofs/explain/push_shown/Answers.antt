@@ -1,0 +1,16 @@
+use Rattle.std.proofs.Common.{◌≡◌, ◌++◌, refl, sym, ap, ◌∙◌}
+use Rattle.message_report.specs.Explanation.{accepted_text}
+use Rattle.message_report.proofs.ExplanationLemmas
+use Rattle.message_report.proofs.explain.push_shown.Goals as goal
+
+pub returns : goal.returns
+returns c =
+    let string = c.args.checked in
+    let pages = ExplanationLemmas.pages_are string.sign string.source.octets c.pages.result c.pages.ensures c.requires.short in
+    let first = c.in_ok-push_accepted.ensures ∙ ap (λ n. c.args.text.now.items ++ accepted_text n) pages in
+    let (front, between) = c.in_ok-push_message.ensures in
+    let (shown, second, has) = c.in_ok-push_pages.ensures.ok in
+    let (words, third) = c.in_ok-push_legend.ensures in
+    let one = ExplanationLemmas.grown c.args.text.now.items c.push_accepted.new.text.items c.push_message.new.text.items _ front _ first between refl in
+    let two = ExplanationLemmas.grown c.args.text.now.items c.push_message.new.text.items c.push_pages.new.text.items _ shown _ one second refl in
+    (_, ExplanationLemmas.grown c.args.text.now.items c.push_pages.new.text.items c.push_legend.new.text.items _ words _ two third refl, (front, shown, words, has, refl))

@@ -1,0 +1,260 @@
+//! The explanation of a message.
+ghost use Rattle.std.specs.Prelude.{◌≡◌, ◌++◌, ◌<◌, ◌^◌, List, ℕ, length, OnOk, IfOk};
+ghost use Rattle.multi_layout.specs.Pages.{page_count};
+ghost use Rattle.message_report.specs.Explanation.{Explains, HasPages, Tells, takes};
+ghost use Rattle.message_report.specs.Words.{Grows};
+ghost use Rattle.multi_layout.specs.Verdict.{Accepted};
+
+use crate::excerpt::{write_excerpt, write_message};
+use crate::large::large_sign;
+use crate::octets::push_octets;
+use crate::page::push_page;
+use crate::reason::Place;
+use crate::standing::standing_at;
+use crate::verdict::{push_accepted, push_head, push_refused, push_too_long};
+use multi_layout::{Checked, check};
+use multi_token::Source;
+use sign_font::Sign;
+use std::alloc::{AllocError, Global};
+use std::fmt::Write;
+use std::marker::Model;
+
+/// The most octets that a message may have to be judged (own).
+const MAX_MESSAGE: usize = 4_096;
+
+/// A sign whose messages are explained (own).
+#[derive(Drop)]
+pub struct Explainer {
+    sign: Sign,
+    /// A sign with its fonts and defaults and the most pixels and pages, by which is told how much room a message lacks.
+    large: Option<Sign>,
+}
+
+impl Model for Explainer {
+    ghost use Rattle.sign_font.specs.Sign.{SignData};
+
+    ghost Value = { SignData };
+
+    ghost view = { λ e. e.sign };
+}
+
+impl Explainer {
+    /// An explainer for a sign. The error says that memory was refused.
+    pub fn new(alloc: Global, sign: Sign) -> Result<Explainer, AllocError>
+        ensures { IfOk result (λ explainer. explainer ≡ sign) }
+    {
+        let large = large_sign(alloc, &sign)?;
+        Ok(Explainer { sign, large })
+    }
+}
+
+/// Appends words.
+fn push_words(text: &mut Vec<u8>, words: &String) -> Result<(), AllocError>
+    ensures { OnOk result (Grows text.old.items text.new.items) }
+{
+    push_octets(text, words.as_bytes())
+}
+
+/// Appends why a message is refused at a place, with the message and a caret.
+fn push_reason(text: &mut Vec<u8>, place: &Place<'_>, code: u8) -> Result<(), AllocError>
+    ensures { OnOk result (Grows text.old.items text.new.items) }
+{
+    let mut words = String::new(place.alloc);
+    let Ok(()) = write_excerpt(&mut words, place.message, place.at) else {
+        return Err(AllocError);
+    };
+    let Ok(()) = place.write_reason(&mut words, code) else {
+        return Err(AllocError);
+    };
+    // an empty line stands behind each explanation
+    words.push('\n')?;
+    push_words(text, &words)
+}
+
+/// Appends a message.
+fn push_message(text: &mut Vec<u8>, alloc: Global, message: &[u8]) -> Result<(), AllocError>
+    ensures { OnOk result (Grows text.old.items text.new.items) }
+{
+    let mut words = String::new(alloc);
+    let Ok(()) = write_message(&mut words, message) else {
+        return Err(AllocError);
+    };
+    push_words(text, &words)
+}
+
+/// Writes a time in seconds.
+fn write_seconds(words: &mut String, tenths: u8) -> Result<(), AllocError> {
+    write!(words, "{}.{} seconds", tenths / 10, tenths % 10)
+}
+
+/// Appends how long a page is shown, and how long the sign is dark behind it.
+fn push_times(
+    text: &mut Vec<u8>,
+    alloc: Global,
+    sign: &Sign,
+    message: &[u8],
+    page: u8,
+    pages: u8,
+) -> Result<(), AllocError>
+    ensures { OnOk result (Grows text.old.items text.new.items) }
+{
+    let mut words = String::new(alloc);
+    let standing = standing_at(sign, message, message.len(), u32::from(page));
+    let Ok(()) = write_times(&mut words, standing.on, standing.off, pages) else {
+        return Err(AllocError);
+    };
+    push_words(text, &words)
+}
+
+/// Writes the times of a page, in tenths of a second.
+fn write_times(words: &mut String, on: u8, off: u8, pages: u8) -> Result<(), AllocError> {
+    if pages == 1 {
+        return words.push_str(", shown all the time:\n");
+    }
+    words.push_str(", shown for ")?;
+    write_seconds(words, on)?;
+    if off > 0 {
+        words.push_str(", then dark for ")?;
+        write_seconds(words, off)?;
+    }
+    words.push_str(":\n")
+}
+
+/// Appends what the marks of the pictures mean, and what they don't show.
+fn push_legend(
+    text: &mut Vec<u8>,
+    alloc: Global,
+    sign: &Sign,
+    message: &[u8],
+    checked: &Checked<'_>,
+    phase: u64,
+) -> Result<(), AllocError>
+    ensures { OnOk result (Grows text.old.items text.new.items) }
+{
+    let mut words = String::new(alloc);
+    let standing = standing_at(sign, message, message.len(), u32::MAX);
+    let is_still = standing.pages > 1 && checked.cycle() == 0;
+    let Ok(()) = write_legend(
+        &mut words,
+        sign.classic(),
+        is_still,
+        standing.flashes,
+        phase,
+    ) else {
+        return Err(AllocError);
+    };
+    push_words(text, &words)
+}
+
+/// Writes what the marks of the pictures mean.
+fn write_legend(
+    words: &mut String,
+    classic: bool,
+    is_still: bool,
+    flashes: bool,
+    phase: u64,
+) -> Result<(), AllocError> {
+    words.push_str(if classic {
+        "colours: 1 red, 2 yellow, 3 green, 4 cyan, 5 blue, 6 magenta, 7 white, 8 orange, 9 amber, . black\n"
+    } else {
+        "pixels: 1 lit, . dark\n"
+    })?;
+    if is_still {
+        words.push_str("all times are 0, so page 1 is shown all the time\n")?;
+    }
+    if flashes {
+        writeln!(
+            words,
+            "text flashes, and is drawn as it is {phase} tenths of a second after its page began"
+        )?;
+    }
+    // an empty line stands behind each explanation
+    words.push('\n')
+}
+
+/// Appends all pages, each with its times and its picture at a phase.
+fn push_pages(
+    text: &mut Vec<u8>,
+    alloc: Global,
+    sign: &Sign,
+    message: &[u8],
+    checked: &mut Checked<'_>,
+    phase: u64,
+) -> Result<(), AllocError>
+    requires sign { checked.old.sign ≡ sign.now }
+    requires short { length checked.old.source.octets < 2 ^ 32 }
+    ensures ok { OnOk result ((shown : List ℕ) × (text.new.items ≡ text.old.items ++ shown)
+        × HasPages sign.now checked.old.source.octets phase (page_count checked.old) (page_count checked.old) shown) }
+    ensures kept { (checked.new.sign ≡ checked.old.sign) × (checked.new.source.octets ≡ checked.old.source.octets) }
+{
+    let pages = checked.pages();
+    for page in 0..pages {
+        push_head(text, page, pages)?;
+        push_times(text, alloc, sign, message, page, pages)?;
+        push_page(text, alloc, sign, checked, page, phase)?;
+    }
+    Ok(())
+}
+
+/// Appends the explanation of an accepted message.
+fn push_shown(
+    text: &mut Vec<u8>,
+    alloc: Global,
+    sign: &Sign,
+    message: &[u8],
+    checked: Checked<'_>,
+    phase: u64,
+) -> Result<(), AllocError>
+    requires sign { checked.sign ≡ sign.now }
+    requires short { length checked.source.octets < 2 ^ 32 }
+    ensures { OnOk result ((told : List ℕ) × (text.new.items ≡ text.old.items ++ told)
+        × Tells sign.now checked.entry.source.octets phase (Accepted (page_count checked.entry)) told) }
+{
+    let mut checked = checked;
+    push_accepted(text, checked.pages())?;
+    push_message(text, alloc, message)?;
+    push_pages(text, alloc, sign, message, &mut checked, phase)?;
+    push_legend(text, alloc, sign, message, &checked, phase)?;
+    Ok(())
+}
+
+impl Explainer {
+    /// Appends the explanation of a message: the sign's verdict on it, and where it is refused and why, or else its pages, each with
+    /// its times and its picture in all colours at once. A picture shows the page as it is at the phase, in tenths of a second since
+    /// the page began. The answer is whether the sign takes the message.
+    ///
+    /// A message with more than 4,096 octets isn't judged, and not taken. The error says that memory was refused.
+    pub fn explain(
+        &self,
+        alloc: Global,
+        message: &[u8],
+        phase: u64,
+        text: &mut Vec<u8>,
+    ) -> Result<bool, AllocError>
+        ensures told { OnOk result ((told : List ℕ) × (text.new.items ≡ text.old.items ++ told) × Explains self.now message.now phase told) }
+        ensures taken { IfOk result (λ taken. taken ≡ takes self.now message.now) }
+    {
+        if message.len() > MAX_MESSAGE {
+            push_too_long(text)?;
+            return Ok(false);
+        }
+        match check(&self.sign, Source::new(message)) {
+            Ok(checked) => {
+                push_shown(text, alloc, &self.sign, message, checked, phase)?;
+                Ok(true)
+            }
+            Err(fault) => {
+                let place = Place {
+                    alloc,
+                    sign: &self.sign,
+                    large: self.large.as_ref(),
+                    message,
+                    at: fault.at,
+                };
+                push_refused(text, fault.code, fault.at)?;
+                push_reason(text, &place, fault.code)?;
+                Ok(false)
+            }
+        }
+    }
+}

@@ -1,0 +1,65 @@
+//! The largest sign with the fonts and defaults of another, for how much room a message needs.
+
+use crate::room::{COLUMNS, ROWS};
+use multi_token::Source;
+use sign_font::{CellPart, FontInfo, FontPart, Sign, SignFault, SignParts};
+use std::alloc::{AllocError, Global};
+
+/// The cells of a font, without a lit pixel: only their widths are needed.
+fn blank_cells(alloc: Global, sign: &Sign, font: FontInfo) -> Result<Vec<CellPart>, AllocError> {
+    let mut source = Source::new(b"");
+    let mut cells = Vec::new(alloc);
+    for number in 1..=65535u16 {
+        if let Some(width) = sign.cell_width(&mut source, font.number, number) {
+            let pixels = usize::from(width) * usize::from(font.height);
+            let bits = Vec::from_elem(alloc, 0, pixels.div_ceil(8))?;
+            cells.push(CellPart {
+                number,
+                width,
+                bits,
+            })?;
+        }
+    }
+    Ok(cells)
+}
+
+/// The fonts of a sign, with blank cells.
+fn blank_fonts(alloc: Global, sign: &Sign) -> Result<Vec<FontPart>, AllocError> {
+    let mut source = Source::new(b"");
+    let mut fonts = Vec::new(alloc);
+    for number in 1..=255u8 {
+        if let Some(font) = sign.font(&mut source, number) {
+            let cells = blank_cells(alloc, sign, font)?;
+            fonts.push(FontPart {
+                number,
+                version: font.version,
+                height: font.height,
+                char_spacing: font.char_spacing,
+                line_spacing: font.line_spacing,
+                cells,
+            })?;
+        }
+    }
+    Ok(fonts)
+}
+
+/// A sign with the most pixels and pages, and with the fonts and defaults of another.
+pub(crate) fn large_sign(alloc: Global, sign: &Sign) -> Result<Option<Sign>, AllocError> {
+    let parts = SignParts {
+        width: COLUMNS,
+        height: ROWS,
+        classic: sign.classic(),
+        max_pages: 255,
+        beacons: sign.beacons(),
+        pixel_service: sign.pixel_service(),
+        line_fill: sign.line_fill(),
+        defaults: sign.defaults(),
+        fonts: blank_fonts(alloc, sign)?,
+    };
+    match Sign::new(alloc, parts) {
+        Ok(large) => Ok(Some(large)),
+        Err(SignFault::Memory) => Err(AllocError),
+        // It is within the limits that its pattern is within.
+        Err(_) => Ok(None),
+    }
+}

@@ -1,0 +1,26 @@
+//! Octets that are appended.
+ghost use Rattle.std.specs.Prelude.{◌≡◌, ◌++◌, ◌∷◌, [], OnOk, decimal};
+
+use itoa::Buffer;
+use std::alloc::AllocError;
+
+/// Appends an octet.
+pub(crate) fn push_octet(text: &mut Vec<u8>, octet: u8) -> Result<(), AllocError>
+    ensures { OnOk result (text.new.items ≡ text.old.items ++ octet ∷ []) }
+{
+    Ok(text.push(octet)?)
+}
+
+/// Appends octets.
+pub(crate) fn push_octets(text: &mut Vec<u8>, octets: &[u8]) -> Result<(), AllocError>
+    ensures { OnOk result (text.new.items ≡ text.old.items ++ octets.now) }
+{
+    text.extend_from_slice(octets)
+}
+
+/// Appends a number in decimal.
+pub(crate) fn push_number(text: &mut Vec<u8>, number: u64) -> Result<(), AllocError>
+    ensures { OnOk result (text.new.items ≡ text.old.items ++ decimal number) }
+{
+    push_octets(text, Buffer::new().format(number).as_bytes())
+}

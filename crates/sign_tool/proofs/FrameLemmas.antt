@@ -1,0 +1,157 @@
+-- The rows of a frame, one after the other.
+use Rattle.std.proofs.Common.{◌≡◌, ℕ, zero, suc, ◌+◌, ◌-◌, ◌*◌, ◌/◌, ◌%◌, ◌<◌, ◌≤◌, ◌==◌, Bool, List, [], ◌∷◌, ◌++◌, get_or, length, map, take, drop, slice_set, refl, sym, ap, ◌∙◌, arith, append_assoc, append-nil}
+use Rattle.std.specs.Int.{bit_at}
+use Rattle.std.specs.List.{flat_map, range_with_len}
+use Rattle.std.proofs.lemmas.Grind.{flat_map-append}
+use Rattle.std.proofs.lemmas.List.{take_more_set, take-append-drop, take-append-le}
+use Rattle.std.proofs.lemmas.List.FromFn.{length-map-range_with_len, take-map-range_with_len}
+use Rattle.page_plane.specs.Octets.{is_bit_set}
+use Rattle.page_plane.specs.Plane.{BitPlane, is_lit}
+use Rattle.sign_font.specs.Sign.{SignData}
+use Rattle.multi_layout.specs.declared.times.Shown.{Shown}
+use Rattle.multi_layout.specs.Drawn.{Lights}
+use Rattle.multi_layout.specs.Meaning.{meanings}
+use Rattle.multi_layout.specs.Pages.{IsSized}
+use Rattle.multi_layout.specs.Picture.{pixel_at}
+use Rattle.multi_layout.specs.Times.{shown}
+use Rattle.multi_layout.specs.Verdict.{Accepted, IsVerdict}
+use Rattle.sign_tool.specs.Frame.{frame_text, head_text, pixel_text, pixels_text, row_text, rows_text, show_answer}
+use Rattle.sign_tool.proofs.ReplyLemmas.{answer_accepted}
+
+-- ROWS
+
+-- what was written so far grows by one piece
+pub grown : (start now new done piece more : List ℕ) → now ≡ start ++ done → new ≡ now ++ piece → more ≡ done ++ piece → new ≡ start ++ more
+grown start now new done piece more so_far next is =
+    next ∙ ap (λ l. l ++ piece) so_far ∙ append_assoc start done piece ∙ ap (λ l. start ++ l) (sym is)
+
+-- functions that agree on a range have the same values there
+map_same : (f g : ℕ → ℕ) (a n : ℕ) → ((k : ℕ) → k < a + n → f k ≡ g k) → map f (range_with_len a n) ≡ map g (range_with_len a n)
+map_same f g a zero same = refl
+map_same f g a (suc n) same =
+    ap (λ x. x ∷ map f (range_with_len (a + 1) n)) (same a (omega arith))
+    ∙ ap (λ l. g a ∷ l) (map_same f g (a + 1) n (λ k below. same k (omega arith)))
+
+flat_map_same : (f g : ℕ → List ℕ) (a n : ℕ) → ((k : ℕ) → k < a + n → f k ≡ g k) → flat_map f (range_with_len a n) ≡ flat_map g (range_with_len a n)
+flat_map_same f g a zero same = refl
+flat_map_same f g a (suc n) same =
+    ap (λ x. x ++ flat_map f (range_with_len (a + 1) n)) (same a (omega arith))
+    ∙ ap (λ l. g a ++ l) (flat_map_same f g (a + 1) n (λ k below. same k (omega arith)))
+
+flat_map_more : (f : ℕ → List ℕ) (a n j : ℕ) → a + n ≡ j → flat_map f (range_with_len a (suc n)) ≡ flat_map f (range_with_len a n) ++ f j
+flat_map_more f a zero j is = append-nil (f a) ∙ ap f (omega (arith, is))
+flat_map_more f a (suc n) j is =
+    ap (λ l. f a ++ l) (flat_map_more f (a + 1) n j (omega (arith, is)))
+    ∙ sym (append_assoc (f a) (flat_map f (range_with_len (a + 1) n)) (f j))
+
+-- functions that agree on two ranges have the same values there
+map_moved : (f g : ℕ → ℕ) (a b n : ℕ) → ((i j k : ℕ) → k < n → i ≡ a + k → j ≡ b + k → f i ≡ g j) → map f (range_with_len a n) ≡ map g (range_with_len b n)
+map_moved f g a b zero same = refl
+map_moved f g a b (suc n) same =
+    ap (λ x. x ∷ map f (range_with_len (a + 1) n)) (same a b 0 (omega arith) (omega arith) (omega arith))
+    ∙ ap (λ l. g b ∷ l) (map_moved f g (a + 1) (b + 1) n (λ i j k below at to. same i j (k + 1) (omega arith) (omega arith) (omega arith)))
+
+-- the values on a range are those on its front and those behind it
+map_parts : (f : ℕ → ℕ) (a b n m : ℕ) → b ≡ a + n → map f (range_with_len a (n + m)) ≡ map f (range_with_len a n) ++ map f (range_with_len b m)
+map_parts f a b zero m is =
+    ap (λ k. map f (range_with_len a k)) (let none : 0 + m ≡ m = omega arith in none)
+    ∙ ap (λ i. map f (range_with_len i m)) (let same : a ≡ b = omega (arith, is) in same)
+map_parts f a b (suc n) m is =
+    ap (λ k. map f (range_with_len a k)) (let next : suc n + m ≡ suc (n + m) = omega arith in next)
+    ∙ ap (λ l. f a ∷ l) (map_parts f (a + 1) b n m (omega (arith, is)))
+
+-- the first pixels of the octets of a row, from the left
+abbrev pub bits_text : List ℕ → ℕ → List ℕ
+bits_text octets count = map (λ place. pixel_text (is_bit_set octets place)) (range_with_len 0 count)
+
+-- the bit at a place is one of the octet that stands there
+bit_of : (octets : List ℕ) (k octet place j : ℕ) → place / 8 ≡ k → place % 8 ≡ j → octet ≡ get_or octets k 0 → is_bit_set octets place ≡ (bit_at octet (7 - j) == 1)
+unfolding is_bit_set
+bit_of octets k octet place j at rest is = rw (at, rest, is) refl
+
+-- an octet has eight more pixels
+pub bits_more : (octets : List ℕ) (k octet : ℕ) → octet ≡ get_or octets k 0
+    → bits_text octets (8 * (k + 1)) ≡ bits_text octets (8 * k) ++ map (λ j. pixel_text (bit_at octet (7 - j) == 1)) (range_with_len 0 8)
+bits_more octets k octet is =
+    let f : ℕ → ℕ = λ place. pixel_text (is_bit_set octets place) in
+    let next : 8 * (k + 1) ≡ 8 * k + 8 = omega arith in
+    ap (bits_text octets) next ∙ map_parts f 0 (8 * k) (8 * k) 8 (omega arith)
+    ∙ ap (λ l. bits_text octets (8 * k) ++ l) (map_moved f (λ j. pixel_text (bit_at octet (7 - j) == 1)) (8 * k) 0 8 (λ i j n below at to.
+    ap pixel_text (bit_of octets k octet i j (omega arith) (omega arith) is)))
+
+-- an octet has eight more pixels, which are written behind those of the octets before it
+pub pixels_more : (rows : List (List ℕ)) (octets eight : List ℕ) (k octet : ℕ) → k < length rows → octet ≡ get_or octets k 0
+    → eight ≡ map (λ j. pixel_text (bit_at octet (7 - j) == 1)) (range_with_len 0 8)
+    → flat_map (λ x. x) (take k rows) ≡ bits_text octets (8 * k)
+    → flat_map (λ x. x) (take (k + 1) (slice_set rows k eight)) ≡ bits_text octets (8 * (k + 1))
+pixels_more rows octets eight k octet below at is so_far =
+    ap (flat_map (λ x. x)) (take_more_set rows k eight below)
+    ∙ flat_map-append (λ x. x) (take k rows) (eight ∷ [])
+    ∙ ap (λ l. l ++ (eight ++ [])) so_far
+    ∙ ap (λ l. bits_text octets (8 * k) ++ l) (append-nil eight ∙ is)
+    ∙ sym (bits_more octets k octet at)
+
+-- the octets of a row begin with its pixels
+pub row_of_pixels : (lit : ℕ → ℕ → Bool) (rows : List (List ℕ)) (octets all : List ℕ) (width row n : ℕ) → n ≡ (width + 7) / 8
+    → ((x : ℕ) → x < width → is_bit_set octets x ≡ lit x row) → all ≡ flat_map (λ x. x) rows
+    → flat_map (λ x. x) (take n rows) ≡ bits_text octets (8 * n) → take width all ≡ pixels_text lit row width
+row_of_pixels lit rows octets all width row n count same is written =
+    let f : ℕ → ℕ = λ place. pixel_text (is_bit_set octets place) in
+    let size : length (bits_text octets (8 * n)) ≡ 8 * n = length-map-range_with_len f 0 (8 * n) in
+    ap (take width) (is ∙ ap (flat_map (λ x. x)) (sym (take-append-drop n rows)) ∙ flat_map-append (λ x. x) (take n rows) (drop n rows)
+    ∙ ap (λ l. l ++ flat_map (λ x. x) (drop n rows)) written)
+    ∙ take-append-le width (bits_text octets (8 * n)) (flat_map (λ x. x) (drop n rows)) (omega (arith, size, count))
+    ∙ take-map-range_with_len f 0 (8 * n) width (omega (arith, count))
+    ∙ map_same f (λ column. pixel_text (lit column row)) 0 width (λ x below. ap pixel_text (same x (omega arith)))
+
+-- no row is written at first
+pub rows_none : (lit : ℕ → ℕ → Bool) (width : ℕ) → rows_text lit width 0 ≡ []
+unfolding rows_text
+rows_none lit width = refl
+
+-- one more row comes behind those above it
+pub rows_more : (lit : ℕ → ℕ → Bool) (width row : ℕ) → rows_text lit width (row + 1) ≡ rows_text lit width row ++ row_text lit width row
+unfolding rows_text
+rows_more lit width row =
+    let next : row + 1 ≡ suc row = omega arith in
+    ap (λ n. flat_map (row_text lit width) (range_with_len 0 n)) next ∙ flat_map_more (row_text lit width) 0 row row (omega arith)
+
+-- what lights the same pixels has the same rows
+rows_same : (lit other : ℕ → ℕ → Bool) (width height : ℕ) → ((column row : ℕ) → column < width → row < height → lit column row ≡ other column row)
+    → rows_text lit width height ≡ rows_text other width height
+unfolding rows_text
+rows_same lit other width height same =
+    flat_map_same (row_text lit width) (row_text other width) 0 height (λ row above.
+    ap (λ l. l ++ 10 ∷ []) (map_same (λ k. pixel_text (lit k row)) (λ k. pixel_text (other k row)) 0 width (λ column left. ap pixel_text (same column row (omega arith) (omega arith)))))
+
+-- FRAMES
+
+-- the head and the rows of a plane that shows what is shown are a frame
+pub frame_of : (old now : List ℕ) (sign : SignData) (octets : List ℕ) (clock colour : ℕ) (s : Shown) (plane : BitPlane)
+    → s ≡ shown sign octets clock → Lights plane (pixel_at sign (meanings octets) s colour) → IsSized plane sign → now ≡ old ++ head_text s
+    → now ++ rows_text (is_lit plane) plane.width plane.height ≡ old ++ frame_text sign octets colour (shown sign octets clock)
+frame_of old now sign octets clock colour s plane is shows sized written =
+    let pixels = pixel_at sign (meanings octets) s colour in
+    let rows : rows_text (is_lit plane) plane.width plane.height ≡ rows_text pixels sign.width sign.height =
+    rows_same (is_lit plane) pixels plane.width plane.height shows
+    ∙ ap (λ w. rows_text pixels w plane.height) sized.0
+    ∙ ap (rows_text pixels sign.width) sized.1 in
+    ap (λ l. l ++ rows_text (is_lit plane) plane.width plane.height) written
+    ∙ append_assoc old (head_text s) (rows_text (is_lit plane) plane.width plane.height)
+    ∙ ap (λ l. old ++ (head_text s ++ l)) rows
+    ∙ ap (λ x. old ++ frame_text sign octets colour x) is
+
+-- what a sign shows of an octet list is what an equal one shows of an equal list
+same_frame : (judge sign : SignData) (octets line : List ℕ) (colour clock : ℕ) → judge ≡ sign → octets ≡ line
+    → frame_text judge octets colour (shown judge octets clock) ≡ frame_text sign line colour (shown sign line clock)
+same_frame judge sign octets line colour clock same_sign same_octets =
+    ap (λ (s : SignData). frame_text s octets colour (shown s octets clock)) same_sign
+    ∙ ap (λ l. frame_text sign l colour (shown sign l clock)) same_octets
+
+-- the frame of an accepted string answers its line
+pub answer_of_frame : (old : List ℕ) (sign judge : SignData) (line octets : List ℕ) (pages colour clock : ℕ) → length line ≤ 4096 → judge ≡ sign → octets ≡ line → IsVerdict sign octets (Accepted pages)
+    → old ++ frame_text judge octets colour (shown judge octets clock) ≡ old ++ show_answer sign colour clock line
+answer_of_frame old sign judge line octets pages colour clock short same_sign same_octets is =
+    let text = frame_text sign line colour (shown sign line clock) in
+    let answer : show_answer sign colour clock line ≡ text = answer_accepted (λ pages. text) sign line sign octets pages short refl same_octets is in
+    ap (λ l. old ++ l) (same_frame judge sign octets line colour clock same_sign same_octets ∙ sym answer)

@@ -1,0 +1,281 @@
+-- A run that answers line by line, from a first line on.
+use Rattle.std.proofs.Common.{◌≡◌, ℕ, ◌+◌, ◌-◌, ◌<◌, ◌≤◌, true, false, List, [], ◌∷◌, ◌++◌, Option, None, Some, IfSome, Ok, Err, length, take, map, refl, sym, ap, ◌∙◌, subst, arith, append_assoc, append-nil}
+use Rattle.std.specs.Prelude.{nat_lt}
+use Rattle.std.proofs.lemmas.Bool.{lt-ltb, le-ltb}
+use Rattle.std.proofs.lemmas.List.{length-append, take_all, take_at}
+use Rattle.std.specs.Io.KnownBytes.{Consumes, Appends, IsAtEnd}
+use Rattle.std.proofs.KnownBytes.{Consumes-trans, Consumes-whole, Appends-trans}
+use Rattle.sign_tool.specs.declared.answer.LineAnswer.{LineAnswer}
+use Rattle.sign_tool.specs.declared.answer.LineAnswer.TheVariants.{Text, BadLine}
+use Rattle.sign_tool.specs.declared.fault.ToolFault.{ToolFault}
+use Rattle.sign_tool.specs.declared.fault.ToolFault.TheVariants as faults
+use Rattle.sign_tool.specs.Lines.{Cut, cut, input_limit, IsOneLine, octets_of, text_of}
+use Rattle.sign_tool.specs.Output.{Outcome, ended, after, answered, outcome, output_of_whole}
+use Rattle.sign_tool.specs.declared.lines.NextLine.TheVariants as next
+use Rattle.sign_tool.specs.Streams.{TakesLine, WritesWhole}
+use Rattle.sign_tool.specs.Runs.{AnswersLine, IsFront, IsWritten, Runs}
+use Rattle.sign_tool.proofs.CutLemmas.{AreLines, AreLines-more, octets_of-more, cut-line, cut-lines, cut-unfinished, take-past, nat_lt-past}
+
+-- the answers to all the lines that may come
+abbrev pub AllAnswers : Type 0
+AllAnswers = List (List ℕ) → List (Option (List ℕ))
+
+-- what stands behind these octets, where a reader tells
+pub told : (a b : Option (List ℕ)) (bs : List ℕ) (P : List ℕ → Type 0) → Consumes a b bs → ((ys : List ℕ) → P (bs ++ ys)) → IfSome a P
+told None b bs P c h = tt
+told (Some x) None bs P c h = absurd c
+told (Some x) (Some y) bs P c h = subst P (sym c) (h y)
+
+-- what holds of any octets
+pub if_some_always : (input : Option (List ℕ)) (P : List ℕ → Type 0) → ((octets : List ℕ) → P octets) → IfSome input P
+if_some_always None P h = tt
+if_some_always (Some octets) P h = h octets
+
+-- ---- one line
+
+module _ (answers : AllAnswers) (number limit : ℕ) where
+  pub outcome-line : (behind : AllAnswers) (line rest text : List ℕ) (left : ℕ) → IsOneLine line → limit ≡ length line + 1 + left → length (text_of line) ≤ 8300
+      → ((lines : List (List ℕ)) → answers (text_of line ∷ lines) ≡ Some text ∷ behind lines)
+      → outcome answers number limit ((line ++ 10 ∷ []) ++ rest) ≡ after text (outcome behind (number + 1) left rest)
+  unfolding outcome answered
+  outcome-line behind line rest text left one fits short says =
+      let regrouped : take limit ((line ++ 10 ∷ []) ++ rest) ≡ line ++ 10 ∷ take left rest =
+      take-past (line ++ 10 ∷ []) rest limit left (omega (arith, length-append line (10 ∷ []))) ∙ append_assoc line (10 ∷ []) (take left rest) in
+      let past : nat_lt limit (length ((line ++ 10 ∷ []) ++ rest)) ≡ nat_lt left (length rest) =
+      nat_lt-past limit left (length line + 1) (length rest) _ (omega arith) (omega (arith, length-append line (10 ∷ []), length-append (line ++ 10 ∷ []) rest)) in
+      rw (regrouped, past, cut-line line (take left rest) one, le-ltb _ _ short, says) refl
+
+  pub outcome-bad : (line rest : List ℕ) (left : ℕ) → IsOneLine line → limit ≡ length line + 1 + left → length (text_of line) ≤ 8300
+      → ((lines : List (List ℕ)) → (others : List (Option (List ℕ))) × (answers (text_of line ∷ lines) ≡ None ∷ others))
+      → outcome answers number limit ((line ++ 10 ∷ []) ++ rest) ≡ ended (Some (faults.BadLine number))
+  unfolding outcome answered
+  outcome-bad line rest left one fits short says =
+      let regrouped : take limit ((line ++ 10 ∷ []) ++ rest) ≡ line ++ 10 ∷ take left rest =
+      take-past (line ++ 10 ∷ []) rest limit left (omega (arith, length-append line (10 ∷ []))) ∙ append_assoc line (10 ∷ []) (take left rest) in
+      rw (regrouped, cut-line line (take left rest) one, le-ltb _ _ short, (says (map text_of (cut (take left rest)).whole)).1) refl
+
+  pub outcome-long : (line rest : List ℕ) → IsOneLine line → length line + 1 ≤ limit → 8300 < length (text_of line)
+      → outcome answers number limit ((line ++ 10 ∷ []) ++ rest) ≡ ended (Some (faults.LineTooLong number))
+  unfolding outcome answered
+  outcome-long line rest one fits long =
+      let left = limit - length line - 1 in
+      let regrouped : take limit ((line ++ 10 ∷ []) ++ rest) ≡ line ++ 10 ∷ take left rest =
+      take-past (line ++ 10 ∷ []) rest limit left (omega (arith, length-append line (10 ∷ []))) ∙ append_assoc line (10 ∷ []) (take left rest) in
+      rw (regrouped, cut-line line (take left rest) one, lt-ltb _ _ long) refl
+
+  pub outcome-unfinished : (line : List ℕ) → IsOneLine line → length line ≤ limit → 0 < length line → outcome answers number limit line ≡ ended (Some (faults.BadLine number))
+  unfolding outcome answered
+  outcome-unfinished [] one fits some = absurd (omega arith)
+  outcome-unfinished (c ∷ line) one fits some =
+      let whole : take limit (c ∷ line) ≡ c ∷ line = take_all limit (c ∷ line) fits in
+      rw (whole, cut-unfinished (c ∷ line) one, le-ltb _ _ fits) refl
+
+  pub outcome-end : outcome answers number limit [] ≡ ended None
+  unfolding outcome answered cut
+  outcome-end =
+      let none : take {A = ℕ} limit [] ≡ [] = take_all {A = ℕ} limit [] (omega arith) in
+      let short : nat_lt limit 0 ≡ false = le-ltb limit 0 (omega arith) in
+      rw (none, short) refl
+
+  pub outcome-past : (line rest : List ℕ) (octet : ℕ) → IsOneLine line → length line ≡ limit → outcome answers number limit ((line ++ octet ∷ []) ++ rest) ≡ ended (Some faults.InputTooLong)
+  unfolding outcome answered
+  outcome-past line rest octet one full =
+      let regrouped : take limit ((line ++ octet ∷ []) ++ rest) ≡ line = ap (take limit) (append_assoc line (octet ∷ []) rest) ∙ take_at line (octet ∷ rest) limit full in
+      let past : nat_lt limit (length ((line ++ octet ∷ []) ++ rest)) ≡ true = lt-ltb _ _ (omega (arith, length-append line (octet ∷ []), length-append (line ++ octet ∷ []) rest)) in
+      rw (regrouped, past, cut-unfinished line one) refl
+
+-- ---- the lines so far
+
+-- These lines were taken, and what was sent is the answers to them, whatever comes.
+pub record Progress (first : ℕ) (answers behind : AllAnswers) (number : ℕ) (taken sent : List ℕ) (lines : List (List ℕ)) : Type 0 where
+  pub taken_is : taken ≡ octets_of lines
+  pub each : AreLines lines
+  pub says : (more : List (List ℕ)) (at_end : ℕ → Option ToolFault)
+      → answered first (lines ++ more) (answers (map text_of (lines ++ more))) at_end ≡ after sent (answered number more (behind (map text_of more)) at_end)
+
+pub Progress-none : (first : ℕ) (answers : AllAnswers) → Progress first answers answers first [] [] []
+Progress-none first answers = record { taken_is = refl; each = tt; says = λ more at_end. refl }
+
+module _ (first : ℕ) (answers behind : AllAnswers) (number : ℕ) (taken sent : List ℕ) (lines : List (List ℕ)) (p : Progress first answers behind number taken sent lines) where
+  pub Progress-line : (next : AllAnswers) (line text : List ℕ) → IsOneLine line → length (text_of line) ≤ 8300
+      → ((more : List (List ℕ)) → behind (text_of line ∷ more) ≡ Some text ∷ next more)
+      → Progress first answers next (number + 1) (taken ++ (line ++ 10 ∷ [])) (sent ++ text) (lines ++ line ∷ [])
+  unfolding answered
+  Progress-line next line text one short says = record {
+    taken_is = ap (λ l. l ++ (line ++ 10 ∷ [])) p.taken_is ∙ sym (octets_of-more lines line);
+    each = AreLines-more lines line p.each one;
+    says = λ more at_end.
+        let regrouped : (lines ++ line ∷ []) ++ more ≡ lines ++ line ∷ more = append_assoc lines (line ∷ []) more in
+        let step : answered number (line ∷ more) (behind (map text_of (line ∷ more))) at_end ≡ after text (answered (number + 1) more (next (map text_of more)) at_end) =
+        rw (le-ltb _ _ short, says (map text_of more)) refl in
+        ap (λ ls. answered first ls (answers (map text_of ls)) at_end) regrouped ∙ p.says (line ∷ more) at_end ∙ ap (after sent) step
+        ∙ ap (λ l. let o : Outcome = record { output = l; fault = (answered (number + 1) more (next (map text_of more)) at_end).fault } in o) (sym (append_assoc sent text _));
+  }
+
+  -- what comes for the whole input follows from what comes for the rest
+  pub Progress-outcome : (rest : List ℕ) (left room : ℕ) → length taken + left ≡ room → outcome answers first room (taken ++ rest) ≡ after sent (outcome behind number left rest)
+  unfolding outcome
+  Progress-outcome rest left room fits =
+      let whole : take room (taken ++ rest) ≡ octets_of lines ++ take left rest =
+      take-past taken rest room left (sym fits) ∙ ap (λ l. l ++ take left rest) p.taken_is in
+      let past : nat_lt room (length (taken ++ rest)) ≡ nat_lt left (length rest) =
+      nat_lt-past room left (length taken) (length rest) _ (sym fits) (length-append taken rest) in
+      rw (whole, past, cut-lines lines (take left rest) p.each) (p.says _ _)
+
+  -- an unfinished line is no whole line
+  pub Progress-whole : (line : List ℕ) → IsOneLine line → output_of_whole answers first (taken ++ line) ≡ sent
+  unfolding output_of_whole answered
+  Progress-whole line one =
+      let parts : cut (taken ++ line) ≡ record { whole = lines ++ []; rest = line } =
+      ap (λ l. cut (l ++ line)) p.taken_is ∙ cut-lines lines line p.each ∙ ap (λ (c : Cut). let d : Cut = record { whole = lines ++ c.whole; rest = c.rest } in d) (cut-unfinished line one) in
+      ap (λ (c : Cut). (answered first c.whole (answers (map text_of c.whole)) (λ n. None)).output) parts ∙ ap (λ (o : Outcome). o.output) (p.says [] (λ n. None)) ∙ append-nil sent
+
+-- a run so far: what was taken, what was sent, and how much may still come
+pub record Going (first room : ℕ) (answers behind : AllAnswers) (input now output written : Option (List ℕ)) (number left : ℕ) (taken sent : List ℕ) (lines : List (List ℕ)) : Type 0 where
+  pub takes : Consumes input now taken
+  pub writes : Appends output written sent
+  pub limit : length taken + left ≡ room
+  pub counted : number + left ≤ input_limit + 1
+  pub progress : Progress first answers behind number taken sent lines
+
+-- ---- how a run ends
+
+module _ (first room : ℕ) (answers behind : AllAnswers) (input now new output written : Option (List ℕ)) (number left left' : ℕ) (taken sent line : List ℕ) (lines : List (List ℕ))
+    (go : Going first room answers behind input now output written number left taken sent lines) where
+  -- the run ends with this fault, whatever stands behind what was taken last
+  pub ends : (more : List ℕ) (fault : Option ToolFault) → Consumes now new more → length more ≤ left + 1
+      → IsWritten (outcome answers first room) (output_of_whole answers first) input (taken ++ more) sent fault → Runs (outcome answers first room) (output_of_whole answers first) room input new output written fault
+  ends more fault took few is = record {
+    taken = taken ++ more;
+    sent = sent;
+    takes = Consumes-trans input now new taken more go.takes took;
+    writes = go.writes;
+    most = omega (arith, go.limit, length-append taken more);
+    written = is;
+  }
+
+  -- the whole outcome, from that of what was taken last and stands behind it
+  pub whole : (more : List ℕ) (fault : Option ToolFault) → Consumes now new more
+      → ((ys : List ℕ) → outcome behind number left (more ++ ys) ≡ ended fault)
+      → IfSome input (λ octets. outcome answers first room octets ≡ record { output = sent; fault = fault })
+  whole more fault took is =
+      told input new (taken ++ more) (λ octets. outcome answers first room octets ≡ record { output = sent; fault = fault }) (Consumes-trans input now new taken more go.takes took)
+      (λ ys. ap (outcome answers first room) (append_assoc taken more ys)
+      ∙ Progress-outcome first answers behind number taken sent lines go.progress (more ++ ys) left room go.limit
+      ∙ ap (after sent) (is ys)
+      ∙ ap (λ l. let o : Outcome = record { output = l; fault = fault } in o) (append-nil sent))
+
+  pub ends_too_long : TakesLine now new left left' line (Ok next.TooLong) → Runs (outcome answers first room) (output_of_whole answers first) room input new output written (Some (faults.LineTooLong number))
+  ends_too_long t =
+      let (seen, took, one, few, long) = t in
+      ends (seen ++ 10 ∷ []) _ took (omega (arith, length-append seen (10 ∷ []))) (whole (seen ++ 10 ∷ []) _ took (λ ys. outcome-long behind number left seen ys one few long))
+
+  pub ends_past : TakesLine now new left left' line (Ok next.InputTooLong) → Runs (outcome answers first room) (output_of_whole answers first) room input new output written (Some faults.InputTooLong)
+  ends_past t =
+      let (seen, octet, took, one, full) = t in
+      ends (seen ++ octet ∷ []) _ took (omega (arith, length-append seen (octet ∷ []))) (whole (seen ++ octet ∷ []) _ took (λ ys. outcome-past behind number left seen ys octet one full))
+
+  -- the same where the reader is at its end
+  whole_at_end : (more : List ℕ) (fault : Option ToolFault) → Consumes now new more → IsAtEnd new
+      → outcome behind number left more ≡ ended fault
+      → IfSome input (λ octets. outcome answers first room octets ≡ record { output = sent; fault = fault })
+  whole_at_end more fault took end is =
+      Consumes-whole input new (taken ++ more) (λ octets. outcome answers first room octets ≡ record { output = sent; fault = fault }) (Consumes-trans input now new taken more go.takes took) end
+      (Progress-outcome first answers behind number taken sent lines go.progress more left room go.limit
+      ∙ ap (after sent) is
+      ∙ ap (λ l. let o : Outcome = record { output = l; fault = fault } in o) (append-nil sent))
+
+  pub ends_unfinished : TakesLine now new left left' line (Ok next.Unfinished) → Runs (outcome answers first room) (output_of_whole answers first) room input new output written (Some (faults.BadLine number))
+  ends_unfinished t =
+      let (seen, took, end, one, few, some) = t in
+      ends seen _ took (omega arith) (whole_at_end seen _ took end (outcome-unfinished behind number left seen one few some))
+
+  pub ends_well : TakesLine now new left left' line (Ok next.End) → Runs (outcome answers first room) (output_of_whole answers first) room input new output written None
+  ends_well t = ends [] _ t.0 (omega arith) (whole_at_end [] _ t.0 t.1 (outcome-end behind number left))
+
+  -- what was sent is a front of the output
+  front : (more : List ℕ) → Consumes now new more → IfSome input (λ octets. IsFront sent (outcome answers first room octets).output)
+  front more took =
+      told input new (taken ++ more) (λ octets. IsFront sent (outcome answers first room octets).output) (Consumes-trans input now new taken more go.takes took)
+      (λ ys. (
+        (outcome behind number left (more ++ ys)).output,
+        ap (λ (o : Outcome). o.output) (ap (outcome answers first room) (append_assoc taken more ys)
+            ∙ Progress-outcome first answers behind number taken sent lines go.progress (more ++ ys) left room go.limit),
+      ))
+
+  pub ends_failing : (e : ToolFault) → TakesLine now new left left' line (Err e) → Runs (outcome answers first room) (output_of_whole answers first) room input new output written (Some e)
+  ends_failing faults.Read t =
+      let (seen, took, few, one) = t in
+      ends seen _ took (omega arith) (Progress-whole first answers behind number taken sent lines go.progress seen one)
+  ends_failing faults.Memory t = let (seen, took, few, one) = t in ends seen _ took (omega arith) (front seen took)
+  ends_failing faults.Write t = let (seen, took, few, bad) = t in absurd (let wrong : faults.Write ≡ faults.Memory = bad in cc)
+  ends_failing (faults.LineTooLong n) t = let (seen, took, few, bad) = t in absurd (let wrong : faults.LineTooLong n ≡ faults.Memory = bad in cc)
+  ends_failing (faults.BadLine n) t = let (seen, took, few, bad) = t in absurd (let wrong : faults.BadLine n ≡ faults.Memory = bad in cc)
+  ends_failing faults.InputTooLong t = let (seen, took, few, bad) = t in absurd (let wrong : faults.InputTooLong ≡ faults.Memory = bad in cc)
+  ends_failing (faults.SignRefused n) t = let (seen, took, few, bad) = t in absurd (let wrong : faults.SignRefused n ≡ faults.Memory = bad in cc)
+  ends_failing faults.BadSign t = let (seen, took, few, bad) = t in absurd (let wrong : faults.BadSign ≡ faults.Memory = bad in cc)
+
+  pub ends_bad : (next' : AllAnswers) (old text : List ℕ) → TakesLine now new left left' line (Ok next.Line) → AnswersLine behind next' (text_of line) old text (Ok BadLine)
+      → Runs (outcome answers first room) (output_of_whole answers first) room input new output written (Some (faults.BadLine number))
+  ends_bad next' old text t bad =
+      let (took, one, few, short) = t in
+      ends (line ++ 10 ∷ []) _ took (omega (arith, length-append line (10 ∷ []))) (whole (line ++ 10 ∷ []) _ took (λ ys. outcome-bad behind number left line ys left' one (sym few) short bad.1))
+
+  pub ends_unanswered : (e : ToolFault) → TakesLine now new left left' line (Ok next.Line) → e ≡ faults.Memory → Runs (outcome answers first room) (output_of_whole answers first) room input new output written (Some e)
+  ends_unanswered e t is =
+      let (took, one, few, short) = t in
+      subst (λ f. Runs (outcome answers first room) (output_of_whole answers first) room input new output written (Some f)) (sym is) (ends (line ++ 10 ∷ []) _ took (omega (arith, length-append line (10 ∷ []))) (front (line ++ 10 ∷ []) took))
+
+  -- the line is answered and the answer written
+  pub goes_on : (next' : AllAnswers) (written' : Option (List ℕ)) (text : List ℕ) → TakesLine now new left left' line (Ok next.Line)
+      → AnswersLine behind next' (text_of line) [] text (Ok Text) → Appends written written' text
+      → Going first room answers next' input new output written' (number + 1) left' (taken ++ (line ++ 10 ∷ [])) (sent ++ text) (lines ++ line ∷ [])
+  goes_on next' written' text t says wrote =
+      let (took, one, few, short) = t in
+      let answer : (more : List (List ℕ)) → behind (text_of line ∷ more) ≡ Some text ∷ next' more = λ more. says.2 more ∙ ap (λ l. Some l ∷ next' more) (sym says.1) in
+      record {
+        takes = Consumes-trans input now new taken (line ++ 10 ∷ []) go.takes took;
+        writes = Appends-trans output written written' sent text go.writes wrote;
+        limit = omega (arith, go.limit, length-append taken (line ++ 10 ∷ []), length-append line (10 ∷ []));
+        counted = omega (arith, go.counted);
+        progress = Progress-line first answers behind number taken sent lines go.progress next' line text one short answer;
+      }
+
+pub Runs-cut : (first room : ℕ) (answers behind : AllAnswers) (input new output written written' : Option (List ℕ)) (number left : ℕ) (taken sent text part unsent : List ℕ) (lines : List (List ℕ)) (e : ToolFault)
+    → Consumes input new taken → length taken + left ≡ room → Progress first answers behind number taken (sent ++ text) lines
+    → Appends output written sent → Appends written written' part → part ++ unsent ≡ text → e ≡ faults.Write
+    → Runs (outcome answers first room) (output_of_whole answers first) room input new output written' (Some e)
+Runs-cut first room answers behind input new output written written' number left taken sent text part unsent lines e took limit p wrote wrote' all is =
+    subst (λ f. Runs (outcome answers first room) (output_of_whole answers first) room input new output written' (Some f)) (sym is) record {
+      taken = taken;
+      sent = sent ++ part;
+      takes = took;
+      writes = Appends-trans output written written' sent part wrote wrote';
+      most = omega (arith, limit);
+      written = told input new taken (λ octets. IsFront (sent ++ part) (outcome answers first room octets).output) took (λ ys.
+          let rest = (outcome behind number left ys).output in (
+            unsent ++ rest,
+            ap (λ (o : Outcome). o.output) (Progress-outcome first answers behind number taken (sent ++ text) lines p ys left room limit)
+                ∙ (let regrouped : (sent ++ text) ++ rest ≡ (sent ++ part) ++ (unsent ++ rest) = rw (← all) (simp append_assoc refl) in regrouped),
+          ));
+    }
+
+-- an answer to a line that is known in other words
+pub same_answer : (before behind : AllAnswers) (line line' old old' new : List ℕ) (answer answer' : LineAnswer) → line ≡ line' → old ≡ old' → answer ≡ answer'
+    → AnswersLine before behind line old new (Ok answer) → AnswersLine before behind line' old' new (Ok answer')
+same_answer before behind line line' old old' new answer answer' e f h a =
+    subst (λ l. AnswersLine before behind l old' new (Ok answer')) e (subst (λ o. AnswersLine before behind line o new (Ok answer')) f (subst (λ b. AnswersLine before behind line old new (Ok b)) h a))
+
+module _ (first room : ℕ) (answers behind : AllAnswers) (input now new output written : Option (List ℕ)) (number left left' : ℕ) (taken sent line : List ℕ) (lines : List (List ℕ))
+    (go : Going first room answers behind input now output written number left taken sent lines) where
+  -- the line is answered, and not all of the answer written
+  pub ends_writing : (next' : AllAnswers) (written' : Option (List ℕ)) (text octets : List ℕ) (e : ToolFault) → TakesLine now new left left' line (Ok next.Line)
+      → AnswersLine behind next' (text_of line) [] text (Ok Text) → octets ≡ text → WritesWhole written written' octets (Err e) → Runs (outcome answers first room) (output_of_whole answers first) room input new output written' (Some e)
+  ends_writing next' written' text octets e t says same wrote =
+      let (took, one, few, short) = t in
+      let answer : (more : List (List ℕ)) → behind (text_of line ∷ more) ≡ Some text ∷ next' more = λ more. says.2 more ∙ ap (λ l. Some l ∷ next' more) (sym says.1) in
+      Runs-cut first room answers next' input new output written written' (number + 1) left' (taken ++ (line ++ 10 ∷ [])) sent text wrote.1 wrote.2 (lines ++ line ∷ []) e
+      (Consumes-trans input now new taken (line ++ 10 ∷ []) go.takes took)
+      (omega (arith, go.limit, length-append taken (line ++ 10 ∷ []), length-append line (10 ∷ [])))
+      (Progress-line first answers behind number taken sent lines go.progress next' line text one short answer)
+      go.writes wrote.3 (wrote.4 ∙ same) wrote.0

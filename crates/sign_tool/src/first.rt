@@ -1,0 +1,59 @@
+//! The first line of a block.
+ghost use Rattle.std.specs.Prelude.{◌≡◌, ◌≤◌, length, take};
+ghost use Rattle.sign_tool.specs.Blocks.{AnswersFirst, IsLineEnd};
+ghost use Rattle.sign_tool.specs.Lines.{IsOneLine};
+
+use crate::answer::{Answer, LineAnswer};
+use crate::lines::{MAX_LINE, text_of};
+use memchr::memchr_iter;
+use std::alloc::AllocError;
+
+/// What was done with the first line of a block (own).
+#[derive(Clone, Copy)]
+pub(crate) enum FirstLine {
+    /// It was answered. This is the number of its octets, with its line feed.
+    Answered(usize),
+    /// Nothing: it doesn't end in the block.
+    Open,
+    /// Nothing: it has too many octets.
+    TooLong,
+    /// Nothing: it is bad.
+    Bad,
+}
+
+/// Where the first line feed is, if there is one. The first `seen` octets have none.
+fn line_end(octets: &[u8], seen: usize) -> Option<usize>
+    requires seen { seen ≤ length octets.now }
+    requires none { IsOneLine (take seen octets.now) }
+    ensures { IsLineEnd octets.now result }
+{
+    // Most lines are short, and an iterator looks near first.
+    match memchr_iter(b'\n', &octets[seen..]).next() {
+        Some(end) => Some(seen + end),
+        None => None,
+    }
+}
+
+/// Answers the first line if it ends here, and appends the text of its answer. The first `seen` octets have no line feed.
+pub(crate) fn answer_first<A: Answer>(
+    answer: &mut A,
+    octets: &[u8],
+    seen: usize,
+    text: &mut Vec<u8>,
+) -> Result<FirstLine, AllocError>
+    requires seen { seen ≤ length octets.now }
+    requires none { IsOneLine (take seen octets.now) }
+    ensures first { AnswersFirst (A.answers answer.old) (A.answers answer.new) octets.now text.old.items text.new.items result }
+{
+    let Some(end) = line_end(octets, seen) else {
+        return Ok(FirstLine::Open);
+    };
+    let line = text_of(&octets[..end]);
+    if line.len() > MAX_LINE {
+        return Ok(FirstLine::TooLong);
+    }
+    match answer.answer(line, text)? {
+        LineAnswer::Text => Ok(FirstLine::Answered(end + 1)),
+        LineAnswer::BadLine => Ok(FirstLine::Bad),
+    }
+}

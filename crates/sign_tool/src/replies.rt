@@ -1,0 +1,224 @@
+//! The texts of replies to a script's lines.
+ghost use Rattle.std.specs.Prelude.{◌≡◌, ◌++◌, OnOk, decimal};
+ghost use Rattle.std.specs.Int.{to_be_bytes, w32};
+ghost use Rattle.hex.specs.Hex.{encode_lower};
+ghost use Rattle.message_store.specs.Row.{data_of, row_result};
+ghost use Rattle.sign_tool.specs.Replies.{asked_text, crc_text, defaults_text, errors_text, fault_text, fields_text, numbers_text, octets_text, reply_text, report_text, row_reply, shown_text, table_text};
+
+use crate::octets::push_octets;
+use crate::reply::push_number;
+use message_store::{MsgRef, Row, StoreFault};
+use sign_control::{Reply, Report};
+use sign_font::Defaults;
+use std::alloc::AllocError;
+
+/// Appends octets in hexadecimal.
+#[tactic(auto, unfolding(hex::specs::Hex::encode_with))]
+fn push_hex(text: &mut Vec<u8>, octets: &[u8]) -> Result<(), AllocError>
+    ensures { OnOk result (text.new.items ≡ text.old.items ++ encode_lower octets.now) }
+{
+    for octet in octets {
+        let mut pair = [0; 2];
+        let Ok(()) = hex::encode_to_slice([*octet], &mut pair) else {
+            unreachable!();
+        };
+        push_octets(text, &pair)?;
+    }
+    Ok(())
+}
+
+/// Appends octets in hexadecimal, and no octets as `-`.
+fn push_hex_or_dash(text: &mut Vec<u8>, octets: &[u8]) -> Result<(), AllocError>
+    ensures { OnOk result (text.new.items ≡ text.old.items ++ octets_text octets.now) }
+{
+    if octets.is_empty() {
+        return push_octets(text, b"-");
+    }
+    push_hex(text, octets)
+}
+
+/// Appends a CRC.
+fn push_crc(text: &mut Vec<u8>, crc: u16) -> Result<(), AllocError>
+    ensures { OnOk result (text.new.items ≡ text.old.items ++ crc_text crc) }
+{
+    push_hex(text, &crc.to_be_bytes())
+}
+
+/// Appends numbers in decimal, each after a space.
+fn push_numbers(text: &mut Vec<u8>, numbers: &[u64]) -> Result<(), AllocError>
+    ensures { OnOk result (text.new.items ≡ text.old.items ++ numbers_text numbers.now) }
+{
+    for number in numbers {
+        push_octets(text, b" ")?;
+        push_number(text, *number)?;
+    }
+    Ok(())
+}
+
+/// Appends a label and a number in decimal.
+fn push_labelled(text: &mut Vec<u8>, label: &[u8], number: u64) -> Result<(), AllocError>
+    ensures { OnOk result (text.new.items ≡ text.old.items ++ (label.now ++ decimal number)) }
+{
+    push_octets(text, label)?;
+    push_number(text, number)
+}
+
+/// Appends the refusal of a fault.
+fn push_fault(text: &mut Vec<u8>, code: u8) -> Result<(), AllocError>
+    ensures { OnOk result (text.new.items ≡ text.old.items ++ fault_text code) }
+{
+    push_labelled(text, b"refused ", u64::from(code))?;
+    push_octets(text, b"\n")
+}
+
+/// Appends the reply to a command.
+pub(crate) fn push_reply(text: &mut Vec<u8>, reply: Reply) -> Result<(), AllocError>
+    ensures { OnOk result (text.new.items ≡ text.old.items ++ reply_text reply) }
+{
+    match reply {
+        Reply::Done => push_octets(text, b"done\n"),
+        Reply::Refused(fault) => push_fault(text, fault.code()),
+        Reply::Idle => push_octets(text, b"idle\n"),
+        Reply::Worked {
+            number,
+            status,
+            validate_error,
+            multi_error,
+            multi_position,
+        } => {
+            push_octets(text, b"worked")?;
+            push_numbers(
+                text,
+                &[
+                    u64::from(number),
+                    u64::from(status),
+                    u64::from(validate_error),
+                    u64::from(multi_error),
+                    u64::from(multi_position),
+                ],
+            )?;
+            push_octets(text, b"\n")
+        }
+        Reply::Shown => push_octets(text, b"shown\n"),
+        Reply::NotShown(error) => {
+            push_labelled(text, b"not shown ", u64::from(error))?;
+            push_octets(text, b"\n")
+        }
+        Reply::NotSet(fault) => push_fault(text, fault.code()),
+        Reply::Ticked => push_octets(text, b"ticked\n"),
+        Reply::Ended => push_octets(text, b"ended\n"),
+    }
+}
+
+/// Appends the row of a message that there is.
+fn push_fields(text: &mut Vec<u8>, message: MsgRef, row: &Row<'_>) -> Result<(), AllocError>
+    ensures { OnOk result (text.new.items ≡ text.old.items ++ fields_text message (data_of row.now)) }
+{
+    push_octets(text, b"row")?;
+    push_numbers(
+        text,
+        &[
+            u64::from(message.memory),
+            u64::from(message.number),
+            u64::from(row.status),
+            u64::from(row.priority),
+            u64::from(row.beacon),
+            u64::from(row.pixel),
+        ],
+    )?;
+    push_octets(text, b" ")?;
+    push_crc(text, row.crc)?;
+    push_octets(text, b" ")?;
+    push_hex_or_dash(text, row.owner)?;
+    push_octets(text, b" ")?;
+    push_hex_or_dash(text, row.multi)?;
+    push_octets(text, b"\n")
+}
+
+/// Appends the row of a message, or its refusal.
+pub(crate) fn push_row(
+    text: &mut Vec<u8>,
+    message: MsgRef,
+    row: &Result<Row<'_>, StoreFault>,
+) -> Result<(), AllocError>
+    ensures { OnOk result (text.new.items ≡ text.old.items ++ row_reply message (row_result row.now)) }
+{
+    match row {
+        Ok(row) => push_fields(text, message, row),
+        Err(fault) => push_fault(text, fault.code()),
+    }
+}
+
+/// Appends the part of a report on the message table.
+fn push_table(text: &mut Vec<u8>, report: &Report) -> Result<(), AllocError>
+    ensures { OnOk result (text.new.items ≡ text.old.items ++ table_text report.now) }
+{
+    push_labelled(text, b" used=", u64::from(report.used))?;
+    push_labelled(text, b" free=", u64::from(report.free))
+}
+
+/// Appends the part of a report on what is shown.
+fn push_shown(text: &mut Vec<u8>, report: &Report) -> Result<(), AllocError>
+    ensures { OnOk result (text.new.items ≡ text.old.items ++ shown_text report.now) }
+{
+    push_labelled(text, b" mode=", u64::from(report.mode))?;
+    push_labelled(text, b" shown=", u64::from(report.shown_memory))?;
+    push_labelled(text, b"/", u64::from(report.shown_number))?;
+    push_octets(text, b" crc=")?;
+    push_crc(text, report.crc)
+}
+
+/// Appends the part of a report on time and who asked.
+fn push_asked(text: &mut Vec<u8>, report: &Report) -> Result<(), AllocError>
+    ensures { OnOk result (text.new.items ≡ text.old.items ++ asked_text report.now) }
+{
+    push_labelled(text, b" priority=", u64::from(report.priority))?;
+    push_labelled(text, b" remaining=", u64::from(report.remaining))?;
+    push_octets(text, b" requester=")?;
+    push_hex(text, &report.requester.to_be_bytes())
+}
+
+/// Appends the part of a report on errors, and the clock.
+fn push_errors(text: &mut Vec<u8>, report: &Report) -> Result<(), AllocError>
+    ensures { OnOk result (text.new.items ≡ text.old.items ++ errors_text report.now) }
+{
+    push_labelled(text, b" activate=", u64::from(report.activate))?;
+    push_labelled(text, b" validate=", u64::from(report.validate))?;
+    push_labelled(text, b" multi=", u64::from(report.multi))?;
+    push_labelled(text, b" position=", u64::from(report.position))?;
+    push_labelled(text, b" clock=", report.clock)?;
+    push_octets(text, b"\n")
+}
+
+/// Appends a report.
+pub(crate) fn push_report(text: &mut Vec<u8>, report: &Report) -> Result<(), AllocError>
+    ensures { OnOk result (text.new.items ≡ text.old.items ++ report_text report.now) }
+{
+    push_octets(text, b"report")?;
+    push_table(text, report)?;
+    push_shown(text, report)?;
+    push_asked(text, report)?;
+    push_errors(text, report)
+}
+
+/// Appends the defaults in force.
+pub(crate) fn push_defaults(text: &mut Vec<u8>, defaults: Defaults) -> Result<(), AllocError>
+    ensures { OnOk result (text.new.items ≡ text.old.items ++ defaults_text defaults) }
+{
+    push_octets(text, b"defaults")?;
+    push_numbers(
+        text,
+        &[
+            u64::from(defaults.font),
+            u64::from(defaults.line),
+            u64::from(defaults.page),
+            u64::from(defaults.page_on),
+            u64::from(defaults.page_off),
+            u64::from(defaults.flash_on),
+            u64::from(defaults.flash_off),
+            u64::from(defaults.fore),
+            u64::from(defaults.back),
+        ],
+    )?;
+    push_octets(text, b"\n")
+}

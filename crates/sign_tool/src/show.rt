@@ -1,0 +1,175 @@
+//! The answers that show pages, as rows of characters.
+ghost use Rattle.std.specs.Prelude.{◌≡◌, ◌++◌, OnOk, IfOk, Some, map};
+ghost use Rattle.page_plane.specs.Plane.{is_lit};
+ghost use Rattle.multi_layout.specs.Drawn.{Lights};
+ghost use Rattle.multi_layout.specs.Meaning.{meanings};
+ghost use Rattle.multi_layout.specs.Pages.{IsSized};
+ghost use Rattle.multi_layout.specs.Picture.{pixel_at};
+ghost use Rattle.multi_layout.specs.Times.{shown};
+ghost use Rattle.sign_tool.specs.Frame.{frame_text, head_text, rows_text, show_answer};
+
+use crate::answer::{Answer, LineAnswer};
+use crate::octets::{push_octet, push_octets};
+use crate::pixels::write_changed;
+use crate::reply::{MAX_STRING, push_number, push_refused, push_too_long};
+use multi_layout::{Checked, Shown, check};
+use multi_token::Source;
+use page_plane::Plane;
+use sign_font::Sign;
+use std::alloc::{AllocError, Global};
+use std::marker::Model;
+
+/// Answers each line by its verdict, and an accepted one by what the sign shows of it.
+///
+/// One plane is used for all lines.
+#[derive(Drop)]
+pub(crate) struct Shower {
+    sign: Sign,
+    plane: Plane,
+    colour: u8,
+    /// In tenths of a second.
+    clock: u32,
+}
+
+impl Model for Shower {
+    ghost use Rattle.multi_layout.specs.Pages.{IsSized};
+    ghost use Rattle.sign_tool.specs.Frame.{ShowerData};
+
+    ghost Value = { ShowerData };
+
+    ghost view = { λ s. record { sign = s.sign; colour = s.colour; clock = s.clock } };
+
+    ghost invariant = { λ s. IsSized s.plane s.sign };
+}
+
+impl Shower {
+    /// With a plane of the sign's size.
+    pub(crate) fn new(
+        alloc: Global,
+        sign: Sign,
+        colour: u8,
+        clock: u32,
+    ) -> Result<Shower, AllocError>
+        ensures { IfOk result (λ shower. shower ≡ record { sign = sign; colour = colour; clock = clock }) }
+    {
+        let Ok(plane) = Plane::new(alloc, sign.width(), sign.height()) else {
+            return Err(AllocError);
+        };
+        Ok(Shower {
+            sign,
+            plane,
+            colour,
+            clock,
+        })
+    }
+}
+
+/// The most octets of a row of pixels.
+const MAX_ROW: usize = 128;
+
+/// Appends the pixel rows from the top. Many rows are like the one above, whose pixels stay as they are written.
+pub(crate) fn push_rows(text: &mut Vec<u8>, plane: &Plane) -> Result<(), AllocError>
+    ensures { OnOk result (text.new.items ≡ text.old.items ++ rows_text (is_lit plane.now) plane.now.width plane.now.height) }
+{
+    let width = usize::from(plane.width());
+    let mut pixels = [[0; 8]; MAX_ROW];
+    let mut before: &[u8] = &[];
+    for row in 0..plane.height() {
+        let octets = plane.row(row);
+        write_changed(&mut pixels, before, octets);
+        push_octets(text, &pixels.as_flattened()[..width])?;
+        push_octet(text, b'\n')?;
+        before = octets;
+    }
+    Ok(())
+}
+
+/// Appends the first line of a frame.
+pub(crate) fn push_head(text: &mut Vec<u8>, shown: Shown) -> Result<(), AllocError>
+    ensures { OnOk result (text.new.items ≡ text.old.items ++ head_text shown) }
+{
+    let Shown::Page { page, phase } = shown else {
+        return push_octets(text, b"off\n");
+    };
+    push_octets(text, b"page ")?;
+    push_number(text, u64::from(page))?;
+    push_octets(text, b" phase ")?;
+    push_number(text, phase)?;
+    push_octets(text, b"\n")
+}
+
+/// Finds what a string shows at a clock, and draws its plane of a colour.
+fn draw_shown(checked: &mut Checked<'_>, clock: u32, colour: u8, plane: &mut Plane) -> Shown
+    requires size { IsSized plane.old checked.old.sign }
+    ensures shown { result ≡ shown checked.old.sign checked.old.source.octets clock }
+    ensures drawn { Lights plane.new (pixel_at checked.old.sign (meanings checked.old.source.octets) result colour) }
+    ensures size { IsSized plane.new checked.old.sign }
+{
+    let shown = checked.locate(u64::from(clock));
+    match shown {
+        Shown::Page { page, phase } => {
+            if !checked.draw(page, phase, colour, plane) {
+                // A page that is shown is one of the string's.
+                unreachable!();
+            }
+        }
+        Shown::Off => plane.fill(colour == 0),
+    }
+    shown
+}
+
+/// Appends the frame of a string.
+fn push_frame(
+    text: &mut Vec<u8>,
+    checked: &mut Checked<'_>,
+    clock: u32,
+    colour: u8,
+    plane: &mut Plane,
+) -> Result<(), AllocError>
+    requires size { IsSized plane.old checked.old.sign }
+    ensures ok { OnOk result (text.new.items ≡ text.old.items
+        ++ frame_text checked.old.sign checked.old.source.octets colour (shown checked.old.sign checked.old.source.octets clock)) }
+    ensures size { IsSized plane.new checked.old.sign }
+{
+    let shown = draw_shown(checked, clock, colour, plane);
+    push_head(text, shown)?;
+    push_rows(text, plane)
+}
+
+/// Appends the answer to the line.
+fn push_shown(
+    sign: &Sign,
+    clock: u32,
+    colour: u8,
+    line: &[u8],
+    plane: &mut Plane,
+    text: &mut Vec<u8>,
+) -> Result<(), AllocError>
+    requires size { IsSized plane.old sign.now }
+    ensures ok { OnOk result (text.new.items ≡ text.old.items ++ show_answer sign.now colour clock line.now) }
+    ensures size { IsSized plane.new sign.now }
+{
+    if line.len() > MAX_STRING {
+        return push_too_long(text);
+    }
+    match check(sign, Source::new(line)) {
+        Ok(mut checked) => push_frame(text, &mut checked, clock, colour, plane),
+        Err(fault) => push_refused(text, fault.code, fault.at),
+    }
+}
+
+impl Answer for Shower {
+    ghost answers = { λ s lines. map (λ line. Some (show_answer s.sign s.colour s.clock line)) lines };
+
+    fn answer(&mut self, line: &[u8], text: &mut Vec<u8>) -> Result<LineAnswer, AllocError> {
+        push_shown(
+            &self.sign,
+            self.clock,
+            self.colour,
+            line,
+            &mut self.plane,
+            text,
+        )?;
+        Ok(LineAnswer::Text)
+    }
+}

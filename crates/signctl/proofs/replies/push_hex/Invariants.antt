@@ -1,6 +1,0 @@
-use Rattle.std.proofs.Common.{◌≡◌, ◌++◌, drop}
-use Rattle.hex.specs.Hex.{encode_lower}
-use Rattle.signctl.proofs.replies.push_hex.Given as goal
-
-abbrev pub invariant-loop-octet : goal.invariant-loop-octet
-invariant-loop-octet l = l.text.items ++ encode_lower (drop l.octet-index l.octets) ≡ l.fn.text.items ++ encode_lower l.octets

@@ -1,9 +1,0 @@
-use Rattle.std.proofs.Common.{◌≡◌, ◌++◌, ◌*◌, length, take}
-use Rattle.std.specs.List.{flat_map}
-use Rattle.page_plane.specs.Plane.{is_lit}
-use Rattle.signctl.specs.Frame.{rows_text}
-use Rattle.signctl.proofs.FrameLemmas.{bits_text}
-use Rattle.signctl.proofs.show.push_rows.Given as goal
-
-abbrev pub invariant-loop-row : goal.invariant-loop-row
-invariant-loop-row l = (l.text.items ≡ l.fn.text.items ++ rows_text (is_lit l.plane) l.plane.width l.row) × (flat_map (λ x. x) (take (length l.before) l.pixels) ≡ bits_text l.before (8 * length l.before))
