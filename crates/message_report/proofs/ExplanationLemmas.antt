@@ -1,21 +1,17 @@
 -- The parts of an explanation, one behind the other.
-use Rattle.std.proofs.Common.{◌≡◌, ℕ, suc, ◌+◌, ◌<◌, ◌^◌, ◌≤◌, true, false, List, ◌++◌, length, refl, sym, ap, ◌∙◌, arith, append_assoc, subst}
+use Rattle.std.proofs.Common.{◌≡◌, ℕ, suc, ◌+◌, ◌<◌, ◌^◌, ◌≤◌, false, List, ◌++◌, length, refl, ap, arith, subst}
 use Rattle.std.proofs.lemmas.Bool.{le-ltb, lt-ltb}
 use Rattle.sign_font.specs.Sign.{SignData}
 use Rattle.multi_layout.specs.Meaning.{meanings}
-use Rattle.multi_layout.specs.Verdict.{Accepted, IsVerdict, Refused, Verdict, pages_of, verdict}
+use Rattle.multi_layout.specs.Verdict.{Accepted, IsVerdict, Verdict, pages_of, verdict}
 use Rattle.multi_layout.proofs.AcceptedLemmas.{accepted_is}
 use Rattle.multi_layout.proofs.VerdictLemmas.{one_verdict}
-use Rattle.message_report.specs.Explanation.{Explains, HasPages, Tells, accepted_text, accepts, head_text, page_text, takes, too_long_text}
+use Rattle.octet_text.proofs.TextLemmas.{grown}
+use Rattle.message_report.specs.Explanation.{Explains, HasPages, Tells, accepts, head_text, page_text, takes, too_long_text}
 
 -- an accepted string has the pages that its items begin
 pub pages_are : (sign : SignData) (octets : List ℕ) (pages : ℕ) → IsVerdict sign octets (Accepted pages) → length octets < 2 ^ 32 → pages ≡ pages_of (meanings octets)
 pages_are sign octets pages is short = (accepted_is sign octets pages is short).1
-
--- what was written so far grows by one piece
-pub grown : (start now new done piece more : List ℕ) → now ≡ start ++ done → new ≡ now ++ piece → more ≡ done ++ piece → new ≡ start ++ more
-grown start now new done piece more so_far next is =
-    next ∙ ap (λ l. l ++ piece) so_far ∙ append_assoc start done piece ∙ ap (λ l. start ++ l) (sym is)
 
 -- three pieces that are appended one behind the other
 pub three_more : (start now one two three shown head words page : List ℕ) → now ≡ start ++ shown → one ≡ now ++ head → two ≡ one ++ words → three ≡ two ++ page

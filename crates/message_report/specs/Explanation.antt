@@ -1,16 +1,23 @@
 -- What is told of a message: the verdict on it and its place, and the pages as pictures, with words for people between them.
-use Rattle.std.specs.Prelude.{◌≡◌, ℕ, zero, suc, ◌+◌, Bool, true, false, ◌==◌, nat_lt, List, [], ◌∷◌, ◌++◌, map, length, codes, decimal, if◌then◌else◌}
-use Rattle.std.specs.List.{find, flat_map, range_with_len}
-use Rattle.std.specs.Option.{option_map_or}
+use Rattle.std.specs.Prelude.{◌≡◌, ℕ, zero, suc, ◌+◌, ◌<◌, ◌≤◌, Bool, true, false, ◌==◌, nat_lt, List, [], ◌∷◌, ◌++◌, map, length, codes, decimal, if◌then◌else◌}
+use Rattle.std.specs.List.{flat_map, range_with_len}
 use Rattle.sign_font.specs.Sign.{SignData}
-use Rattle.multi_layout.specs.Picture.{picture}
 use Rattle.multi_layout.specs.Verdict.{Verdict, Accepted, Refused, verdict}
+use Rattle.page_picture.specs.Colours.{ColourData, colour_at, page_colour}
 
 -- PICTURES
 
--- the mark of a pixel: the digit of the first of the colours 1 to 9 that it has, octets 49 to 57, and else a point, octet 46 (own)
-abbrev pub mark : (ℕ → Bool) → ℕ
-mark has = option_map_or (λ colour. 48 + colour) (find has (range_with_len 1 9)) 46
+-- the mark of a colour: its digit, octets 49 to 57, or a point, octet 46, for black (own)
+abbrev pub mark : ℕ → ℕ
+mark colour = if colour == 0 then 46 else 48 + colour
+
+-- the mark of a pixel by the colours of a page (own)
+abbrev pub mark_at : ColourData → ℕ → ℕ → ℕ
+mark_at colours column row = mark (colour_at colours column row)
+
+-- each pixel of a page has a colour from 0 to 9 (own)
+abbrev pub AreDigits : ColourData → Type 0
+AreDigits colours = (column row : ℕ) → column < colours.width → row < colours.height → colour_at colours column row ≤ 9
 
 -- the marks of the first pixels of a row, from the left (own)
 abbrev pub marks : (ℕ → ℕ → ℕ) → ℕ → ℕ → List ℕ
@@ -26,7 +33,7 @@ rows_text at width height = flat_map (row_text at width) (range_with_len 0 heigh
 
 -- the picture of a page at a phase, in all its colours at once (own)
 abbrev pub page_text : SignData → List ℕ → ℕ → ℕ → List ℕ
-page_text sign octets page phase = rows_text (λ column row. mark (λ colour. picture sign octets page phase colour column row)) sign.width sign.height
+page_text sign octets page phase = rows_text (λ column row. mark (page_colour sign octets page phase column row)) sign.width sign.height
 
 -- VERDICTS
 

@@ -1,3 +1,2 @@
 pub mod Explanation
-pub mod Planes
 pub mod Words

@@ -7,13 +7,13 @@ ghost use Rattle.multi_layout.specs.Verdict.{Accepted};
 
 use crate::excerpt::{write_excerpt, write_message};
 use crate::large::large_sign;
-use crate::octets::push_octets;
 use crate::page::push_page;
 use crate::reason::Place;
 use crate::standing::standing_at;
 use crate::verdict::{push_accepted, push_head, push_refused, push_too_long};
 use multi_layout::{Checked, check};
 use multi_token::Source;
+use octet_text::push_octets;
 use sign_font::Sign;
 use std::alloc::{AllocError, Global};
 use std::fmt::Write;

@@ -40,15 +40,16 @@ const TAKEN: [(&str, &str); 14] = [
 ];
 
 /// A tag of the standard that this profile leaves out, and what it is for.
-const LEFT_OUT: [(&str, &str); 7] = [
+const LEFT_OUT: [(&str, &str); 5] = [
     ("cb", "the background colour of characters"),
     ("cr", "a coloured rectangle"),
-    ("f", "a field"),
-    ("g", "a graphic"),
     ("ms", "a maker's own tag"),
     ("/ms", "the end of a maker's own tag"),
     ("mv", "moving text"),
 ];
+
+/// Such tags whose name is one letter.
+const NUMBERED: [(&str, &str); 2] = [("f", "a field"), ("g", "a graphic")];
 
 /// Whether a body begins with a name, in letters of either case.
 fn begins(body: &[u8], name: &str) -> bool {
@@ -73,7 +74,10 @@ pub(crate) fn form_of(body: &[u8]) -> Option<&'static str> {
     found(&TAKEN, body)
 }
 
-/// What the tag is for whose name begins a body, if this profile leaves it out.
+/// What the tag is for whose name begins a body, if this profile leaves it out. A field and a graphic have their number behind one letter.
 pub(crate) fn left_out(body: &[u8]) -> Option<&'static str> {
-    found(&LEFT_OUT, body)
+    match body {
+        [b'f' | b'F' | b'g' | b'G', b'0'..=b'9', ..] => found(&NUMBERED, body),
+        _ => found(&LEFT_OUT, body),
+    }
 }

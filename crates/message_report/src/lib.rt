@@ -8,7 +8,6 @@ mod excerpt;
 mod explain;
 mod forms;
 mod large;
-mod octets;
 mod page;
 mod reason;
 mod room;

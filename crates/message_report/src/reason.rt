@@ -170,7 +170,7 @@ impl Place<'_> {
                 word(&GROUPS, page_just)
             );
         }
-        if line_just == 5 {
+        if line_just == 5 || segment == 5 {
             return text.push_str(
                 "full justification (5) isn't alone on its line; [nl] begins a line\n",
             );

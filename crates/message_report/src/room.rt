@@ -33,9 +33,23 @@ pub(crate) struct Trial<'a> {
     pub(crate) end: usize,
 }
 
+/// How the large sign judges a front.
+#[derive(Clone, Copy, Debug, PartialEq, Eq)]
+enum Fit {
+    /// It takes it.
+    Takes,
+    /// The front is too big.
+    TooBig,
+    /// It refuses it for another reason.
+    Refuses,
+}
+
+/// The number of the error textTooBig (NTCIP 1203 v03, dmsMultiSyntaxError).
+const TEXT_TOO_BIG: u8 = 5;
+
 impl Trial<'_> {
-    /// Whether the large sign takes the front where its last area stands in a rectangle of its own, of this size.
-    fn fits(&self, columns: u16, rows: u16) -> Result<bool, AllocError> {
+    /// How the large sign judges the front where its last area stands in a rectangle of its own, of this size.
+    fn judge(&self, columns: u16, rows: u16) -> Result<Fit, AllocError> {
         let mut text = String::new(self.alloc);
         write!(text, "[tr1,1,{columns},{rows}]")?;
         let mut octets = Vec::new(self.alloc);
@@ -43,16 +57,22 @@ impl Trial<'_> {
         octets.extend_from_slice(text.as_bytes())?;
         octets.extend_from_slice(self.message.get(self.area..self.end).unwrap_or(b""))?;
         if octets.len() > u32::MAX as usize {
-            return Ok(false);
+            return Ok(Fit::Refuses);
         }
-        Ok(check(self.large, Source::new(&octets)).is_ok())
+        Ok(match check(self.large, Source::new(&octets)) {
+            Ok(_) => Fit::Takes,
+            Err(fault) if fault.code == TEXT_TOO_BIG => Fit::TooBig,
+            Err(_) => Fit::Refuses,
+        })
     }
 
-    /// The least number of columns in which it fits, if any do.
-    fn least_columns(&self) -> Result<Option<u16>, AllocError> {
-        if !self.fits(COLUMNS, ROWS)? {
-            return Ok(None);
-        }
+    /// Whether the large sign takes it so.
+    fn fits(&self, columns: u16, rows: u16) -> Result<bool, AllocError> {
+        Ok(self.judge(columns, rows)? == Fit::Takes)
+    }
+
+    /// The least number of columns in which it fits; the most that there are do.
+    fn least_columns(&self) -> Result<u16, AllocError> {
         let (mut least, mut most) = (1, COLUMNS);
         for _ in 0..16u8 {
             let middle = least / 2 + most / 2;
@@ -64,7 +84,7 @@ impl Trial<'_> {
                 }
             }
         }
-        Ok(Some(most))
+        Ok(most)
     }
 
     /// The least number of rows in which it fits these columns, if any do.
@@ -77,10 +97,22 @@ impl Trial<'_> {
         Ok(None)
     }
 
-    /// The front that ends at an offset, if that fits the largest rectangle, and else this one.
-    fn longer(&self, end: usize) -> Result<Trial<'_>, AllocError> {
-        let longer = Trial { end, ..*self };
-        let end = if longer.fits(COLUMNS, ROWS)? {
+    /// The front up to the end of its line, unless another reason than its size refuses that, and else this one.
+    fn whole_line(&self) -> Result<Trial<'_>, AllocError> {
+        let end = end_from(self.message, self.end, true);
+        let line = Trial { end, ..*self };
+        let end = match line.judge(COLUMNS, ROWS)? {
+            Fit::Refuses => self.end,
+            Fit::Takes | Fit::TooBig => end,
+        };
+        Ok(Trial { end, ..*self })
+    }
+
+    /// The front up to the end of its area, if that fits these columns, and else this one.
+    fn whole_area(&self, columns: u16) -> Result<Trial<'_>, AllocError> {
+        let end = end_from(self.message, self.end, false);
+        let area = Trial { end, ..*self };
+        let end = if area.fits(columns, ROWS)? {
             end
         } else {
             self.end
@@ -92,19 +124,19 @@ impl Trial<'_> {
     /// in the same area.
     pub(crate) fn lack(&self, standing: &Standing) -> Result<Lack, AllocError> {
         let columns = standing.width.min(u32::from(COLUMNS)) as u16;
-        let area_end = end_from(self.message, self.end, false);
         if self.fits(columns, ROWS)? {
-            let rows = match self.longer(area_end)?.least_rows(columns)? {
-                None => self.least_rows(columns)?,
-                rows => rows,
-            };
-            return Ok(Lack::Area(rows));
+            let area = self.whole_area(columns)?;
+            return Ok(Lack::Area(area.least_rows(columns)?));
         }
-        let line = self.longer(end_from(self.message, self.end, true))?;
-        match line.least_columns()? {
-            // no width is enough, so the rows are what lacks
-            None => Ok(Lack::Area(None)),
-            least => Ok(Lack::Line(least)),
+        let line = self.whole_line()?;
+        if line.fits(COLUMNS, ROWS)? {
+            return Ok(Lack::Line(Some(line.least_columns()?)));
+        }
+        // If no width is enough for this front, and there are wider ones, its rows are too many.
+        if columns == COLUMNS || self.fits(COLUMNS, ROWS)? {
+            Ok(Lack::Line(None))
+        } else {
+            Ok(Lack::Area(None))
         }
     }
 }

@@ -36,6 +36,15 @@ the line needs 15 pixels, the rectangle has 12
 ",
         ),
         (
+            "[green]",
+            "refused: unsupportedTag (3) at octet 0
+[green]
+^
+the sign takes no tag 'green'; no tag of the standard begins so
+
+",
+        ),
+        (
             "A[nl]A[nl]A",
             "refused: textTooBig (5) at octet 10
 A[nl]A[nl]A

@@ -2,7 +2,7 @@
 ghost use Rattle.std.specs.Prelude.{◌≡◌, ◌++◌, OnOk};
 ghost use Rattle.message_report.specs.Explanation.{accepted_text, head_text, name_of, refused_text, too_long_text};
 
-use crate::octets::{push_number, push_octets};
+use octet_text::{push_number, push_octets};
 use std::alloc::AllocError;
 
 /// The name of an error (NTCIP 1203 v03, dmsMultiSyntaxError).

@@ -1,5 +1,6 @@
-use Rattle.std.proofs.Common.{◌≡◌, ◌++◌, refl, sym, ap, ◌∙◌}
+use Rattle.std.proofs.Common.{◌++◌, refl, ap, ◌∙◌}
 use Rattle.message_report.specs.Explanation.{accepted_text}
+use Rattle.octet_text.proofs.TextLemmas
 use Rattle.message_report.proofs.ExplanationLemmas
 use Rattle.message_report.proofs.explain.push_shown.Goals as goal
 
@@ -11,6 +12,6 @@ returns c =
     let (front, between) = c.in_ok-push_message.ensures in
     let (shown, second, has) = c.in_ok-push_pages.ensures.ok in
     let (words, third) = c.in_ok-push_legend.ensures in
-    let one = ExplanationLemmas.grown c.args.text.now.items c.push_accepted.new.text.items c.push_message.new.text.items _ front _ first between refl in
-    let two = ExplanationLemmas.grown c.args.text.now.items c.push_message.new.text.items c.push_pages.new.text.items _ shown _ one second refl in
-    (_, ExplanationLemmas.grown c.args.text.now.items c.push_pages.new.text.items c.push_legend.new.text.items _ words _ two third refl, (front, shown, words, has, refl))
+    let one = TextLemmas.grown c.args.text.now.items c.push_accepted.new.text.items c.push_message.new.text.items _ front _ first between refl in
+    let two = TextLemmas.grown c.args.text.now.items c.push_message.new.text.items c.push_pages.new.text.items _ shown _ one second refl in
+    (_, TextLemmas.grown c.args.text.now.items c.push_pages.new.text.items c.push_legend.new.text.items _ words _ two third refl, (front, shown, words, has, refl))

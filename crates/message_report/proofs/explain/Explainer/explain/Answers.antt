@@ -1,8 +1,9 @@
-use Rattle.std.proofs.Common.{◌≡◌, ◌++◌, ◌≤◌, ◌<◌, length, refl, sym, ap, ◌∙◌, arith, subst}
+use Rattle.std.proofs.Common.{◌++◌, ◌≤◌, length, refl, sym, ap, ◌∙◌, arith, subst}
 use Rattle.multi_token.specs.Counted.{Counted}
 use Rattle.multi_layout.specs.Meaning.{meanings}
 use Rattle.multi_layout.specs.Verdict.{Accepted, IsVerdict, Refused, pages_of}
-use Rattle.message_report.specs.Explanation.{Explains, Tells, refused_text, takes}
+use Rattle.message_report.specs.Explanation.{Explains, refused_text, takes}
+use Rattle.octet_text.proofs.TextLemmas
 use Rattle.message_report.proofs.ExplanationLemmas
 use Rattle.message_report.proofs.explain.Explainer.explain.Goals as goal
 
@@ -37,7 +38,7 @@ returns-in_ok-push_reason-in-Err-clause-told c =
     let sign = c.self.inside.sign in
     let fault = c.in-Err.fault in
     let (words, second) = c.in_ok-push_reason-in-Err.ensures in
-    let is = ExplanationLemmas.grown c.args.text.now.items c.push_refused.new.text.items c.push_reason.new.text.items (refused_text fault.code fault.at) words _ c.in_ok-push_refused-in-Err.ensures second refl in
+    let is = TextLemmas.grown c.args.text.now.items c.push_refused.new.text.items c.push_reason.new.text.items (refused_text fault.code fault.at) words _ c.in_ok-push_refused-in-Err.ensures second refl in
     (_, is, subst (λ s. Explains s c.args.message.now c.args.phase (refused_text fault.code fault.at ++ words)) c.self.view_is (ExplanationLemmas.explained sign _ c.args.message.now c.args.phase (Refused fault.code fault.at) _ (omega (arith, c.if-message-gt-MAX_MESSAGE.false)) (ap (λ (s : Counted). s.octets) c.new.ensures) c.in-Err.ensures.refused (words, refl)))
 
 pub returns-in_ok-push_reason-in-Err-clause-taken :

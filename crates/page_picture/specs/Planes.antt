@@ -1,6 +1,7 @@
--- What the planes of a page's colours show.
-use Rattle.std.specs.Prelude.{◌≡◌, ℕ, ◌+◌, ◌<◌, List, [], ◌∷◌, if◌then◌else◌}
-use Rattle.page_plane.specs.Plane.{BitPlane, is_lit}
+-- The planes of a page's colours.
+use Rattle.std.specs.Prelude.{◌≡◌, ℕ, ◌+◌, ◌<◌, ◌≤◌, List, [], ◌∷◌, length}
+use Rattle.std.specs.List.{All}
+use Rattle.page_plane.specs.Plane.{BitPlane}
 use Rattle.sign_font.specs.Sign.{SignData}
 use Rattle.multi_layout.specs.Drawn.{Lights}
 use Rattle.multi_layout.specs.Pages.{IsSized}
@@ -15,7 +16,9 @@ HaveColours sign octets page phase colour (plane ∷ planes) = IsSized plane sig
 abbrev pub HasPixel : ℕ → ℕ → BitPlane → Type 0
 HasPixel column row plane = (column < plane.width) × (row < plane.height)
 
--- the mark of a pixel by the planes of successive colours (own)
-abbrev pub first_lit : ℕ → List BitPlane → ℕ → ℕ → ℕ
-first_lit colour [] column row = 46
-first_lit colour (plane ∷ planes) column row = if is_lit plane column row then 48 + colour else first_lit (colour + 1) planes column row
+-- at most nine planes of a size within a sign's limits (own)
+pub record AreSized (width height : ℕ) (planes : List BitPlane) : Type 0 where
+  pub width_range : (1 ≤ width) × (width ≤ 1024)
+  pub height_range : (1 ≤ height) × (height ≤ 128)
+  pub few : length planes ≤ 9
+  pub inside : All (λ plane. (width ≤ plane.width) × (height ≤ plane.height)) planes

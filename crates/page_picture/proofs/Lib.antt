@@ -1,0 +1,2 @@
+pub mod ColourLemmas
+pub mod PpmLemmas
