@@ -5,6 +5,7 @@ use Rattle.std.specs.List.{flat_map, range_with_len}
 use Rattle.std.proofs.lemmas.Grind.{flat_map-append}
 use Rattle.std.proofs.lemmas.List.{take_more_set, take-append-drop, take-append-le}
 use Rattle.std.proofs.lemmas.List.FromFn.{length-map-range_with_len, take-map-range_with_len}
+use Rattle.octet_text.proofs.TextLemmas.{flat_map_more, flat_map_same, map_same}
 use Rattle.page_plane.specs.Octets.{is_bit_set}
 use Rattle.page_plane.specs.Plane.{BitPlane, is_lit}
 use Rattle.sign_font.specs.Sign.{SignData}
@@ -19,30 +20,6 @@ use Rattle.sign_tool.specs.Frame.{frame_text, head_text, pixel_text, pixels_text
 use Rattle.sign_tool.proofs.ReplyLemmas.{answer_accepted}
 
 -- ROWS
-
--- what was written so far grows by one piece
-pub grown : (start now new done piece more : List ℕ) → now ≡ start ++ done → new ≡ now ++ piece → more ≡ done ++ piece → new ≡ start ++ more
-grown start now new done piece more so_far next is =
-    next ∙ ap (λ l. l ++ piece) so_far ∙ append_assoc start done piece ∙ ap (λ l. start ++ l) (sym is)
-
--- functions that agree on a range have the same values there
-map_same : (f g : ℕ → ℕ) (a n : ℕ) → ((k : ℕ) → k < a + n → f k ≡ g k) → map f (range_with_len a n) ≡ map g (range_with_len a n)
-map_same f g a zero same = refl
-map_same f g a (suc n) same =
-    ap (λ x. x ∷ map f (range_with_len (a + 1) n)) (same a (omega arith))
-    ∙ ap (λ l. g a ∷ l) (map_same f g (a + 1) n (λ k below. same k (omega arith)))
-
-flat_map_same : (f g : ℕ → List ℕ) (a n : ℕ) → ((k : ℕ) → k < a + n → f k ≡ g k) → flat_map f (range_with_len a n) ≡ flat_map g (range_with_len a n)
-flat_map_same f g a zero same = refl
-flat_map_same f g a (suc n) same =
-    ap (λ x. x ++ flat_map f (range_with_len (a + 1) n)) (same a (omega arith))
-    ∙ ap (λ l. g a ++ l) (flat_map_same f g (a + 1) n (λ k below. same k (omega arith)))
-
-flat_map_more : (f : ℕ → List ℕ) (a n j : ℕ) → a + n ≡ j → flat_map f (range_with_len a (suc n)) ≡ flat_map f (range_with_len a n) ++ f j
-flat_map_more f a zero j is = append-nil (f a) ∙ ap f (omega (arith, is))
-flat_map_more f a (suc n) j is =
-    ap (λ l. f a ++ l) (flat_map_more f (a + 1) n j (omega (arith, is)))
-    ∙ sym (append_assoc (f a) (flat_map f (range_with_len (a + 1) n)) (f j))
 
 -- functions that agree on two ranges have the same values there
 map_moved : (f g : ℕ → ℕ) (a b n : ℕ) → ((i j k : ℕ) → k < n → i ≡ a + k → j ≡ b + k → f i ≡ g j) → map f (range_with_len a n) ≡ map g (range_with_len b n)

@@ -16,8 +16,8 @@ abbrev pub IsNoFont : FontSetting → List ℕ → BdfProblem → Type 0
 IsNoFont setting octets problem = problem ≢ problems.Memory → problem ≢ problems.NotTaken → font_of_bdf setting octets ≡ None
 
 -- how a run ends whose input isn't taken: memory is the tool's fault (own)
-abbrev pub fault_of : BdfFault → FontFault
-fault_of fault = of fault.problem
+abbrev pub end_of : BdfFault → FontFault
+end_of fault = of fault.problem
   where
     of : BdfProblem → FontFault
     of problems.Memory = faults.Tool Memory

@@ -1,11 +1,13 @@
 -- What is told of a sign file.
-use Rattle.std.specs.Prelude.{◌≡◌, ℕ, Bool, List, Option, Result, Ok, Err}
+use Rattle.std.specs.Prelude.{◌≡◌, ◌⊎◌, ℕ, Bool, List, [], Option, Result, Ok, Err}
 use Rattle.std.specs.Io.KnownBytes.{Appends, Consumes, IsAtEnd}
 use Rattle.sign_report.specs.Setup.{is_taken}
 use Rattle.sign_tool.specs.declared.fault.ToolFault.{ToolFault}
+use Rattle.sign_tool.specs.declared.fault.ToolFault.TheVariants.{Write}
 
--- The whole input is taken as a sign file, some text is written, and the answer is whether the file is taken (own).
+-- The whole input is taken as a sign file, some text is written, and the answer is whether the file is taken; or the run fails, and nothing
+-- is written before the writer fails (own).
 abbrev pub TellsSign : Option (List ℕ) → Option (List ℕ) → Option (List ℕ) → Option (List ℕ) → Result Bool ToolFault → Type 0
 TellsSign old new contents contents' (Ok taken) = (octets : List ℕ) × (text : List ℕ)
     × Consumes old new octets × IsAtEnd new × (taken ≡ is_taken octets) × Appends contents contents' text
-TellsSign old new contents contents' (Err e) = Unit {0}
+TellsSign old new contents contents' (Err e) = Appends contents contents' [] ⊎ (e ≡ Write)

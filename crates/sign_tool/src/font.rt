@@ -1,6 +1,6 @@
 //! A font in BDF, written as the table of a sign file.
 ghost use Rattle.std.specs.Prelude.{◌≡◌};
-ghost use Rattle.sign_tool.specs.Fonts.{WritesTable, fault_of};
+ghost use Rattle.sign_tool.specs.Fonts.{WritesTable, end_of};
 
 use crate::fault::ToolFault;
 use crate::output::write_whole;
@@ -22,8 +22,8 @@ pub enum FontFault {
 }
 
 /// How a run ends whose input isn't taken.
-fn fault_of(fault: BdfFault) -> FontFault
-    ensures { result ≡ fault_of fault }
+fn end_of(fault: BdfFault) -> FontFault
+    ensures { result ≡ end_of fault }
 {
     match fault.problem {
         BdfProblem::Memory => FontFault::Tool(ToolFault::Memory),
@@ -48,7 +48,7 @@ pub fn run_font<R: Read, W: Write>(
     };
     let table = match font_tables(alloc, &octets, setting) {
         Ok(table) => table,
-        Err(fault) => return Err(fault_of(fault)),
+        Err(fault) => return Err(end_of(fault)),
     };
     match write_whole(writer, &table) {
         Ok(()) => Ok(()),

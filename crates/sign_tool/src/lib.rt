@@ -14,7 +14,6 @@ mod first;
 mod font;
 mod laws;
 mod lines;
-mod octets;
 mod output;
 mod pixels;
 mod refill;

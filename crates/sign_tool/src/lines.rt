@@ -4,7 +4,7 @@ ghost use Rattle.sign_tool.specs.Lines.{is_mark, text_of};
 ghost use Rattle.sign_tool.specs.Streams.{TakesOctet, TakesLine};
 
 use crate::fault::ToolFault;
-use crate::octets::push_octet;
+use octet_text::push_octet;
 use std::io::Read;
 
 /// The most octets of an input that are taken as lines (own).

@@ -5,9 +5,8 @@ ghost use Rattle.hex.specs.Hex.{encode_lower};
 ghost use Rattle.message_store.specs.Row.{data_of, row_result};
 ghost use Rattle.sign_tool.specs.Replies.{asked_text, crc_text, defaults_text, errors_text, fault_text, fields_text, numbers_text, octets_text, reply_text, report_text, row_reply, shown_text, table_text};
 
-use crate::octets::push_octets;
-use crate::reply::push_number;
 use message_store::{MsgRef, Row, StoreFault};
+use octet_text::{push_number, push_octets};
 use sign_control::{Reply, Report};
 use sign_font::Defaults;
 use std::alloc::AllocError;

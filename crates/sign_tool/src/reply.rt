@@ -2,22 +2,11 @@
 ghost use Rattle.std.specs.Prelude.{◌≡◌, ◌++◌, OnOk, decimal};
 ghost use Rattle.sign_tool.specs.Reply.{pages_text, refused_text, too_long_text};
 
-use crate::octets::{push_octet, push_octets};
-use itoa::Buffer;
+use octet_text::{push_number, push_octets};
 use std::alloc::AllocError;
 
 /// The most octets that a string may have to be judged (own).
 pub(crate) const MAX_STRING: usize = 4_096;
-
-/// Appends a number in decimal.
-pub(crate) fn push_number(text: &mut Vec<u8>, number: u64) -> Result<(), AllocError>
-    ensures { OnOk result (text.new.items ≡ text.old.items ++ decimal number) }
-{
-    if number < 10 {
-        return push_octet(text, b'0' + number as u8);
-    }
-    push_octets(text, Buffer::new().format(number).as_bytes())
-}
 
 /// Appends how many pages an accepted string has.
 pub(crate) fn push_pages(text: &mut Vec<u8>, pages: u8) -> Result<(), AllocError>

@@ -9,11 +9,11 @@ ghost use Rattle.multi_layout.specs.Times.{shown};
 ghost use Rattle.sign_tool.specs.Frame.{frame_text, head_text, rows_text, show_answer};
 
 use crate::answer::{Answer, LineAnswer};
-use crate::octets::{push_octet, push_octets};
 use crate::pixels::write_changed;
-use crate::reply::{MAX_STRING, push_number, push_refused, push_too_long};
+use crate::reply::{MAX_STRING, push_refused, push_too_long};
 use multi_layout::{Checked, Shown, check};
 use multi_token::Source;
+use octet_text::{push_number, push_octet, push_octets};
 use page_plane::Plane;
 use sign_font::Sign;
 use std::alloc::{AllocError, Global};

@@ -6,9 +6,9 @@ ghost use Rattle.sign_tool.specs.FileSetup.{setup_of_octets};
 
 use crate::fault::ToolFault;
 use crate::lines::{FIRST_LINE, LineStart, NextLine, is_mark, next_line};
-use crate::octets::{push_octet, push_octets};
 use crate::setup::{Setup, make_sample};
 use message_store::Store;
+use octet_text::{push_octet, push_octets};
 use sign_file::{SignFile, read_sign_file};
 use sign_font::Sign;
 use std::alloc::{AllocError, Global};

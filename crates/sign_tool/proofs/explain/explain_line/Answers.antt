@@ -1,4 +1,4 @@
-use Rattle.std.proofs.Common.{◌≡◌, [], ◌∷◌, ◌++◌, ap, ◌∙◌, sym, subst}
+use Rattle.std.proofs.Common.{[], ◌∷◌, ◌++◌, ap, ◌∙◌, subst}
 use Rattle.message_report.specs.Explanation.{Explains, takes}
 use Rattle.std.specs.Io.KnownBytes.{Appends}
 use Rattle.sign_tool.specs.Lines.{text_of}

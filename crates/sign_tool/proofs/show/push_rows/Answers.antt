@@ -1,6 +1,7 @@
 use Rattle.std.proofs.Common.{◌≡◌, ◌++◌, ◌∷◌, [], refl, sym, ap, ◌∙◌, append-nil, append_assoc, take}
 use Rattle.page_plane.specs.Plane.{is_lit}
 use Rattle.sign_tool.specs.Frame.{pixels_text}
+use Rattle.octet_text.proofs.TextLemmas
 use Rattle.sign_tool.proofs.FrameLemmas
 use Rattle.sign_tool.proofs.show.push_rows.Goals as goal
 
@@ -22,4 +23,4 @@ loop-row-preserved c =
     let written : c.push_octets.new.text.items ≡ old ++ pixels_text lit row width =
     c.in_ok-push_octets.ensures ∙ ap (λ n. old ++ take n c.as_flattened.result.now) (c.from-width.ensures ∙ c.width.ensures.value) ∙ ap (λ l. old ++ l) pixels in
     let line = c.in_ok-push_octet.ensures ∙ ap (λ l. l ++ 10 ∷ []) written ∙ append_assoc old (pixels_text lit row width) (10 ∷ []) in
-    (FrameLemmas.grown _ _ _ _ _ _ c.loop-row.invariant.0 line (FrameLemmas.rows_more lit width row), c.write_changed.ensures.written)
+    (TextLemmas.grown _ _ _ _ _ _ c.loop-row.invariant.0 line (FrameLemmas.rows_more lit width row), c.write_changed.ensures.written)
