@@ -6,6 +6,7 @@ pub mod FileLemmas
 mod FileSetupRows
 pub mod FileSetupLemmas
 pub mod FrameLemmas
+pub mod PictureLemmas
 pub mod ReplyLemmas
 pub mod RunLemmas
 pub mod ScriptLemmas

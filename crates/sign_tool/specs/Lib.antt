@@ -13,3 +13,4 @@ pub mod Tool
 pub mod Fonts
 pub mod Signs
 pub mod Explain
+pub mod Pictures

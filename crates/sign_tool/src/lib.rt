@@ -1,8 +1,9 @@
 //! The tool over the core of a message sign's controller, for streams that are handed in.
 //!
 //! [`run_tool`] answers the lines of an input: messages, which are judged or shown, or a script, which drives the controller.
-//! [`run_explain`] explains messages to people, [`run_sign`] a sign file, and [`run_font`] makes a font of a sign file from a font in
-//! BDF. The program `signctl` gives them the standard streams, and its page says what an input is.
+//! [`run_explain`] explains messages to people, [`run_picture`] draws a page of a message, [`run_sign`] tells of a sign file, and
+//! [`run_font`] makes a font of a sign file from a font in BDF. The program `signctl` gives them the standard streams, and its page says
+//! what an input is.
 #![tactic(auto)]
 
 mod answer;
@@ -15,6 +16,7 @@ mod font;
 mod laws;
 mod lines;
 mod output;
+mod picture;
 mod pixels;
 mod refill;
 mod replies;
@@ -31,5 +33,6 @@ pub use explain::run_explain;
 pub use fault::ToolFault;
 pub use font::{FontFault, run_font};
 pub use laws::scripts_run_the_controller;
+pub use picture::{PictureFault, run_picture};
 pub use sign::run_sign;
 pub use tool::{Mode, run_script, run_tool};

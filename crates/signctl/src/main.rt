@@ -21,6 +21,9 @@
 //! `sign_script` says, and gets its reply. The controller is made once, and each line finds the state that the lines before
 //! it leave. An empty line and one that begins with `#` get no reply.
 //!
+//! `signctl picture` reads what `check` reads, with one message, and writes a page of it as a picture in PPM, with 8 by 8 points for each
+//! pixel. `--page` says which page, counted from 1, and `--phase` when, in tenths of a second since the page began.
+//!
 //! `signctl sign` reads a sign file alone, and writes what it describes, or all faults that it finds in it. `--font` shows the
 //! characters of a font in place of the description. `signctl font` reads a font in BDF, and writes it as the `[[font]]` table of a
 //! sign file.
@@ -36,6 +39,10 @@
 //! | `line N: too long` | the line has too many octets |
 //! | `line N: bad line` | the input ends within the line, or the line is none of a script |
 //! | `input too long` | the input has too many octets |
+//! | `no message`, `line N: a second message` | there is none to be drawn, or more than one |
+//! | `refused: error C at octet A; signctl explain tells why` | the sign refuses the message that is to be drawn |
+//! | `too long: a message has at most 4096 octets` | the message that is to be drawn has more |
+//! | `no such page: the last is N` | the message has no such page |
 //! | `read failed`, `write failed`, `out of memory` | what they say |
 //! | `line N: ` and what is wrong | the line of a font in BDF is wrong, as `font_bdf::BdfProblem` says |
 //!

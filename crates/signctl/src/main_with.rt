@@ -2,7 +2,7 @@
 
 use crate::words::{Request, request_of};
 use clap::Error;
-use sign_tool::{ToolFault, run_explain, run_font, run_sign, run_tool};
+use sign_tool::{ToolFault, run_explain, run_font, run_picture, run_sign, run_tool};
 use std::alloc::Global;
 use std::fmt::Display;
 use std::io::{Read, Write};
@@ -53,7 +53,7 @@ fn end_of_answer<E: Write>(end: Result<bool, ToolFault>, errors: &mut E) -> u8 {
 /// The status is 0 after a run with no fault, and after help, which is written to `writer`. It is 1 after a fault, which is
 /// written to `errors` after `signctl: `. It is 2 if the words are refused, or if there is no memory to read them, and then
 /// `errors` gets the reason. What can't be written to `errors` is lost.
-pub fn main_with<R: Read, W: Write, E: Write>(
+pub(crate) fn main_with<R: Read, W: Write, E: Write>(
     alloc: Global,
     words: &[&str],
     reader: &mut R,
@@ -73,6 +73,14 @@ pub fn main_with<R: Read, W: Write, E: Write>(
             let explained = run_explain(alloc, sample, u64::from(phase), reader, writer);
             end_of_answer(explained, errors)
         }
+        Request::Picture {
+            sample,
+            page,
+            phase,
+        } => end_of(
+            run_picture(alloc, sample, page, u64::from(phase), reader, writer),
+            errors,
+        ),
         Request::Sign(font) => end_of_answer(run_sign(alloc, font, reader, writer), errors),
         Request::Font(setting) => end_of(run_font(alloc, &setting, reader, writer), errors),
     }

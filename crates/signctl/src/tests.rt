@@ -1,5 +1,6 @@
 mod explain;
 mod font;
+mod picture;
 mod run;
 mod show;
 mod sign;
@@ -375,13 +376,14 @@ fn a_run_ends_with_its_status_and_text(rt: HostRuntime) {
 #[test]
 fn a_command_line_is_helped_or_refused(rt: HostRuntime) {
     let alloc = rt.alloc();
-    let rows: [(&[&str], u8); 38] = [
+    let rows: [(&[&str], u8); 44] = [
         (&["signctl", "--help"], 0),
         (&["signctl", "check", "--help"], 0),
         (&["signctl", "show", "--help"], 0),
         (&["signctl", "run", "--help"], 0),
         (&["signctl", "font", "--help"], 0),
         (&["signctl", "explain", "--help"], 0),
+        (&["signctl", "picture", "--help"], 0),
         (&["signctl", "sign", "--help"], 0),
         (&["signctl", "help"], 0),
         (&[], 2),
@@ -401,6 +403,11 @@ fn a_command_line_is_helped_or_refused(rt: HostRuntime) {
         (&["signctl", "run", "--colour", "1"], 2),
         (&["signctl", "explain", "--phase", "-1"], 2),
         (&["signctl", "explain", "--clock", "1"], 2),
+        (&["signctl", "picture", "--page", "0"], 2),
+        (&["signctl", "picture", "--page", "256"], 2),
+        (&["signctl", "picture", "--phase", "4294967296"], 2),
+        (&["signctl", "picture", "--colour", "1"], 2),
+        (&["signctl", "check", "--page", "1"], 2),
         (&["signctl", "sign", "--font", "0"], 2),
         (&["signctl", "sign", "--sample"], 2),
         (&["signctl", "font", "--number", "0"], 2),

@@ -21,6 +21,15 @@ pub(crate) enum Request {
         /// When pages are drawn, in tenths of a second since each began.
         phase: u32,
     },
+    /// A page of a message as a picture.
+    Picture {
+        /// Whether the sample sign was named. If not, the input begins with a sign file.
+        sample: bool,
+        /// The page, counted from 0.
+        page: u8,
+        /// When it is drawn, in tenths of a second since it began.
+        phase: u32,
+    },
     /// What a sign file describes, or the characters of one of its fonts.
     Sign(Option<u8>),
     /// The table of a font.
@@ -76,20 +85,41 @@ fn run_command<'a>(alloc: Global) -> Result<Command<'a>, AllocError> {
         .arg(sample_flag(alloc))
 }
 
-/// `signctl explain`.
-fn explain_command<'a>(alloc: Global) -> Result<Command<'a>, AllocError> {
-    let phase = Arg::new(alloc, "phase")
+/// `--phase`, which says when a page is drawn.
+fn phase_option<'a>(alloc: Global) -> Arg<'a> {
+    Arg::new(alloc, "phase")
         .long("phase")
         .value_name("N")
         .help("Draws each page as it is N tenths of a second after it began")
         .value_parser(value_parser!(u32))
-        .default_value("0");
+        .default_value("0")
+}
+
+/// `signctl explain`.
+fn explain_command<'a>(alloc: Global) -> Result<Command<'a>, AllocError> {
     Command::new(alloc, "explain")
         .about(
             "Reads a sign file, a line %% and messages, and says of each why it is refused, or draws its pages",
         )
         .arg(sample_flag(alloc))?
-        .arg(phase)
+        .arg(phase_option(alloc))
+}
+
+/// `signctl picture`, which takes one message.
+fn picture_command<'a>(alloc: Global) -> Result<Command<'a>, AllocError> {
+    let page = Arg::new(alloc, "page")
+        .long("page")
+        .value_name("N")
+        .help("Draws this page of the message, 1 to 255")
+        .value_parser(value_parser!(u8).range(1..=255))
+        .default_value("1");
+    Command::new(alloc, "picture")
+        .about(
+            "Reads a sign file, a line %% and one message, and writes a page of it as a picture in PPM",
+        )
+        .arg(sample_flag(alloc))?
+        .arg(page)?
+        .arg(phase_option(alloc))
 }
 
 /// `signctl sign`, which takes a sign file alone.
@@ -184,6 +214,7 @@ fn command<'a>(alloc: Global) -> Result<Command<'a>, AllocError> {
         .subcommand(show_command(alloc)?)?
         .subcommand(run_command(alloc)?)?
         .subcommand(explain_command(alloc)?)?
+        .subcommand(picture_command(alloc)?)?
         .subcommand(sign_command(alloc)?)?
         .subcommand(font_command(alloc)?)
 }
@@ -233,6 +264,14 @@ pub(crate) fn request_of<'a>(alloc: Global, words: &'a [&'a str]) -> Result<Requ
     if let Some(explain) = matches.subcommand_matches("explain") {
         let phase = explain.get_one("phase").unwrap_or(0);
         return Ok(Request::Explain { sample, phase });
+    }
+    if let Some(picture) = matches.subcommand_matches("picture") {
+        let page: u8 = picture.get_one("page").unwrap_or(1);
+        return Ok(Request::Picture {
+            sample,
+            page: page.saturating_sub(1),
+            phase: picture.get_one("phase").unwrap_or(0),
+        });
     }
     Ok(Request::Lines {
         mode: mode_of(&matches),

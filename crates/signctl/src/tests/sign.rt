@@ -15,7 +15,8 @@ defaults: missing; it should be a table
 font: 0 of at most 16
 ";
 
-const SOUND: &str = "width = 1
+/// A sign of one pixel.
+pub(super) const SOUND: &str = "width = 1
 height = 1
 scheme = 'monochrome'
 max_pages = 1
