@@ -1,6 +1,7 @@
 -- The planes of a page's colours, and the colours that they make.
-use Rattle.std.proofs.Common.{◌≡◌, ℕ, zero, suc, ◌+◌, ◌<◌, ◌≤◌, Bool, true, false, List, [], ◌∷◌, ◌++◌, length, map, refl, sym, ap, ◌∙◌, arith, append_assoc, append-nil, if◌then◌else◌, subst, inl, inr}
+use Rattle.std.proofs.Common.{◌≡◌, ℕ, zero, suc, ◌+◌, ◌<◌, ◌≤◌, Bool, true, false, List, [], ◌∷◌, ◌++◌, length, map, refl, sym, ap, ◌∙◌, arith, if◌then◌else◌, replicate, ◌*◌, subst, inl, inr}
 use Rattle.std.proofs.lemmas.Bool.{cases_Bool}
+use Rattle.std.proofs.lemmas.List.{replicate-append-replicate}
 use Rattle.std.proofs.lemmas.List.Elements.{All-cons}
 use Rattle.std.specs.List.{All, find, flat_map, range_with_len}
 use Rattle.std.specs.Option.{option_map_or}
@@ -94,3 +95,28 @@ pub row_more : (at : ℕ → ℕ → ℕ) (row column : ℕ) → row_values at (
 row_more at row column =
     let next : column + 1 ≡ suc column = omega arith in
     ap (λ n. map (λ k. at k row) (range_with_len 0 n)) next ∙ map_more (λ k. at k row) 0 column column (omega arith)
+
+-- what has the same pixels has the same values
+pub values_same : (at other : ℕ → ℕ → ℕ) (width height : ℕ) → ((column row : ℕ) → column < width → row < height → at column row ≡ other column row)
+    → values at width height ≡ values other width height
+unfolding values
+values_same at other width height same =
+    flat_map_same (row_values at width) (row_values other width) 0 height (λ row above.
+    map_same (λ k. at k row) (λ k. other k row) 0 width (λ column left. same column row (omega (arith, left)) (omega (arith, above))))
+
+zeros : (a n : ℕ) → map {B = ℕ} (λ k. 0) (range_with_len a n) ≡ replicate n 0
+zeros a zero = refl
+zeros a (suc n) = ap (λ l. 0 ∷ l) (zeros (a + 1) n)
+
+zero_rows : (a width n : ℕ) → flat_map {A = ℕ} (λ row. map {B = ℕ} (λ k. 0) (range_with_len 0 width)) (range_with_len a n) ≡ replicate (width * n) 0
+zero_rows a width zero = ap (λ k. replicate k 0) (let none : 0 ≡ width * 0 = omega arith in none)
+zero_rows a width (suc n) =
+    ap (λ l. l ++ flat_map {A = ℕ} (λ row. map {B = ℕ} (λ k. 0) (range_with_len 0 width)) (range_with_len (a + 1) n)) (zeros 0 width)
+    ∙ ap (λ l. replicate width 0 ++ l) (zero_rows (a + 1) width n)
+    ∙ replicate-append-replicate width (width * n) 0
+    ∙ ap (λ k. replicate k 0) (let all : width + width * n ≡ width * suc n = omega arith in all)
+
+-- pixels that are all 0
+pub values_zero : (width height : ℕ) → values (λ column row. 0) width height ≡ replicate (width * height) 0
+unfolding values
+values_zero width height = zero_rows 0 width height

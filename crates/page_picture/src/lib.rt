@@ -9,5 +9,3 @@ mod ppm;
 
 pub use colours::PageColours;
 
-#[cfg(test)]
-mod tests;

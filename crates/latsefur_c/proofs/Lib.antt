@@ -1,0 +1,4 @@
+pub mod SignLemmas
+pub mod RowLemmas
+pub mod SeenLemmas
+pub mod JudgedLemmas

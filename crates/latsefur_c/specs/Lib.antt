@@ -1,0 +1,4 @@
+pub mod Outcome
+pub mod Judged
+pub mod Facts
+pub mod Drawn

@@ -1,0 +1,25 @@
+//! The numbers that say how a call ended.
+
+/// All is done. For a text: it is accepted.
+pub(crate) const DONE: u8 = 0;
+
+/// The text is refused.
+pub(crate) const REFUSED: u8 = 1;
+
+/// Memory was refused.
+pub(crate) const NO_MEMORY: u8 = 2;
+
+/// The octets are no sign file.
+pub(crate) const NO_SIGN_FILE: u8 = 3;
+
+/// The sign of the sign file is outside its limits.
+pub(crate) const SIGN_FAULT: u8 = 4;
+
+/// The buffer is too small.
+pub(crate) const TOO_SMALL: u8 = 5;
+
+/// The text has no such page.
+pub(crate) const NO_PAGE: u8 = 6;
+
+/// The text has 4,294,967,296 octets or more, and isn't judged.
+pub(crate) const TOO_LONG: u8 = 7;
