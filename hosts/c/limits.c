@@ -1,0 +1,432 @@
+/* Holds the library to what latsefur.h says of outcomes and of buffers. `.ci/hosts` runs it, also with sanitizers.
+ *
+ *   limits SIGN_FILE..
+ *
+ * Each sign must accept `A[np]A`. The linker must wrap malloc, realloc and free, so that memory can be refused and counted:
+ * -Wl,--wrap=malloc,--wrap=realloc,--wrap=free. */
+#define _DEFAULT_SOURCE
+#include "latsefur.h"
+
+#include <pthread.h>
+#include <stdio.h>
+#include <stdlib.h>
+#include <string.h>
+#include <sys/mman.h>
+
+enum { MARK = 0xa5, BEHIND = 16, THREADS = 4 };
+
+static unsigned long checks;
+
+#define EXPECT(holds)                                                                      \
+    do {                                                                                   \
+        ++checks;                                                                          \
+        if (!(holds)) {                                                                    \
+            fprintf(stderr, "limits: %s:%d: this doesn't hold: %s\n", path, __LINE__, #holds); \
+            exit(1);                                                                       \
+        }                                                                                  \
+    } while (0)
+
+/* What is tested: the path of a sign file, for the words of a failure, its octets, and what its sign is like. */
+static const char *path;
+static uint8_t *file;
+static size_t file_len;
+static latsefur_sign_facts facts;
+
+/* Memory: while it is watched, blocks that are taken and not given back are counted, and from `left` requests on it is refused. */
+static int is_watched;
+static size_t blocks, left, refused;
+
+void *__real_malloc(size_t size);
+void *__real_realloc(void *old, size_t size);
+void __real_free(void *old);
+void *__wrap_malloc(size_t size);
+void *__wrap_realloc(void *old, size_t size);
+void __wrap_free(void *old);
+
+static int is_refused(void) {
+    if (!is_watched)
+        return 0;
+    if (left == 0) {
+        ++refused;
+        return 1;
+    }
+    --left;
+    return 0;
+}
+
+void *__wrap_malloc(size_t size) {
+    void *made = is_refused() ? NULL : __real_malloc(size);
+    if (is_watched && made)
+        ++blocks;
+    return made;
+}
+
+void *__wrap_realloc(void *old, size_t size) {
+    void *made = is_refused() ? NULL : __real_realloc(old, size);
+    if (is_watched && made && !old)
+        ++blocks;
+    return made;
+}
+
+void __wrap_free(void *old) {
+    if (is_watched && old)
+        --blocks;
+    __real_free(old);
+}
+
+static const uint8_t *octets_of(const char *text) {
+    return (const uint8_t *)text;
+}
+
+/* The exports on a sign file and a text, each by a number, with outputs that have no value yet but marks. */
+typedef struct {
+    latsefur_sign_facts facts;
+    latsefur_verdict verdict, verdicts[2];
+    latsefur_shown shown;
+    uint8_t plane[LATSEFUR_PLANE_SIZE(LATSEFUR_MAX_WIDTH, LATSEFUR_MAX_HEIGHT) + BEHIND];
+    uint8_t colours[LATSEFUR_COLOURS_SIZE(LATSEFUR_MAX_WIDTH, LATSEFUR_MAX_HEIGHT) + BEHIND];
+} outputs;
+
+static outputs out, marked;
+
+typedef enum { SIGN, CHECK, CHECK_ALL, SHOWN_AT, PLANE_AT, PLANE_OF_PAGE, COLOURS_AT, COLOURS_OF_PAGE, EXPORTS } export;
+
+static uint8_t call(export which, const uint8_t *sign, size_t sign_len, const uint8_t *text, size_t text_len) {
+    latsefur_text texts[1];
+    texts[0].octets = text;
+    texts[0].length = text_len;
+    memset(&out, MARK, sizeof out);
+    switch (which) {
+    case SIGN:
+        return latsefur_sign(sign, sign_len, &out.facts);
+    case CHECK:
+        return latsefur_check(sign, sign_len, text, text_len, &out.verdict);
+    case CHECK_ALL:
+        return latsefur_check_all(sign, sign_len, texts, 1, out.verdicts, 2);
+    case SHOWN_AT:
+        return latsefur_shown_at(sign, sign_len, text, text_len, 0, &out.shown);
+    case PLANE_AT:
+        return latsefur_plane_at(sign, sign_len, text, text_len, 0, 1, out.plane, sizeof out.plane);
+    case PLANE_OF_PAGE:
+        return latsefur_plane_of_page(sign, sign_len, text, text_len, 0, 0, 1, out.plane, sizeof out.plane);
+    case COLOURS_AT:
+        return latsefur_colours_at(sign, sign_len, text, text_len, 0, out.colours, sizeof out.colours);
+    default:
+        return latsefur_colours_of_page(sign, sign_len, text, text_len, 0, 0, out.colours, sizeof out.colours);
+    }
+}
+
+static int is_untouched(void) {
+    return memcmp(&out, &marked, sizeof out) == 0;
+}
+
+static int is_marked(const uint8_t *from, size_t count) {
+    size_t i;
+    for (i = 0; i < count; i++)
+        if (from[i] != MARK)
+            return 0;
+    return 1;
+}
+
+static void expect_outcome(uint8_t outcome, const uint8_t *sign, size_t sign_len, const char *text) {
+    int which;
+    for (which = SIGN; which < EXPORTS; which++) {
+        EXPECT(call((export)which, sign, sign_len, octets_of(text), strlen(text)) == outcome);
+        EXPECT(is_untouched());
+    }
+}
+
+/* The sign file with the first number at this key changed to 0. */
+static uint8_t *with_zero(const char *key) {
+    uint8_t *copy = malloc(file_len + 1);
+    char *at;
+    memcpy(copy, file, file_len);
+    copy[file_len] = 0;
+    at = strstr((char *)copy, key);
+    EXPECT(at != NULL);
+    for (at += strlen(key); at[1] >= '0' && at[1] <= '9'; at++)
+        *at = ' ';
+    *at = '0';
+    return copy;
+}
+
+static void test_sign_files(void) {
+    uint8_t *bad;
+    expect_outcome(LATSEFUR_NO_SIGN_FILE, octets_of(""), 0, "A");
+    expect_outcome(LATSEFUR_NO_SIGN_FILE, octets_of("width"), 5, "A");
+    expect_outcome(LATSEFUR_NO_SIGN_FILE, octets_of("\xff\xfe"), 2, "A");
+    expect_outcome(LATSEFUR_NO_SIGN_FILE, file, file_len / 2, "A");
+    bad = with_zero("\nheight = ");
+    expect_outcome(LATSEFUR_SIGN_FAULT, bad, file_len, "A");
+    free(bad);
+    bad = with_zero("\nslots = ");
+    EXPECT(call(CHECK, bad, file_len, octets_of("A"), 1) == LATSEFUR_DONE);
+    free(bad);
+}
+
+static void expect_verdict(const char *text, latsefur_verdict wanted) {
+    latsefur_verdict *verdicts[2];
+    int i;
+    EXPECT(call(CHECK, file, file_len, octets_of(text), strlen(text)) == wanted.outcome);
+    verdicts[0] = &out.verdict;
+    for (i = 0; i < 2; i++) {
+        EXPECT(verdicts[i]->outcome == wanted.outcome);
+        EXPECT(verdicts[i]->pages == wanted.pages && verdicts[i]->cycle == wanted.cycle);
+        EXPECT(verdicts[i]->code == wanted.code && verdicts[i]->at == wanted.at);
+        if (i == 0) {
+            EXPECT(call(CHECK_ALL, file, file_len, octets_of(text), strlen(text)) == LATSEFUR_DONE);
+            verdicts[1] = &out.verdicts[0];
+        }
+    }
+    EXPECT(is_marked((uint8_t *)&out.verdicts[1], sizeof out.verdicts[1]));
+}
+
+static void test_verdicts(void) {
+    latsefur_verdict accepted = {0, 30, LATSEFUR_DONE, 0, 2}, refused_text = {1, 0, LATSEFUR_REFUSED, LATSEFUR_UNSUPPORTED_TAG, 0};
+    expect_verdict("[pt10o5]A[np]A", accepted);
+    expect_verdict("A[zz]", refused_text);
+    accepted.pages = 1;
+    accepted.cycle = 15;
+    expect_verdict("[pt10o5]", accepted);
+    EXPECT(call(CHECK, file, file_len, octets_of(""), 0) == LATSEFUR_DONE);
+    EXPECT(out.verdict.outcome == LATSEFUR_DONE && out.verdict.pages == 1);
+}
+
+static void test_refused(void) {
+    int which;
+    for (which = SHOWN_AT; which < EXPORTS; which++) {
+        EXPECT(call((export)which, file, file_len, octets_of("A[zz]"), 5) == LATSEFUR_REFUSED);
+        EXPECT(is_untouched());
+    }
+}
+
+static void test_check_all(void) {
+    latsefur_text texts[3];
+    latsefur_verdict verdicts[4];
+    int i;
+    for (i = 0; i < 3; i++) {
+        texts[i].octets = octets_of("A[np]A[");
+        texts[i].length = i == 2 ? 0 : 6 + (size_t)i;
+    }
+    memset(verdicts, MARK, sizeof verdicts);
+    EXPECT(latsefur_check_all(file, file_len, texts, 3, verdicts, 2) == LATSEFUR_TOO_SMALL);
+    EXPECT(latsefur_check_all(file, file_len, texts, 1, verdicts, 0) == LATSEFUR_TOO_SMALL);
+    EXPECT(latsefur_check_all(file, file_len, texts, 0, verdicts, 4) == LATSEFUR_DONE);
+    EXPECT(latsefur_check_all(file, file_len, texts, 0, verdicts, 0) == LATSEFUR_DONE);
+    EXPECT(is_marked((uint8_t *)verdicts, sizeof verdicts));
+    EXPECT(latsefur_check_all(file, file_len, texts, 3, verdicts, 4) == LATSEFUR_DONE);
+    EXPECT(verdicts[0].outcome == LATSEFUR_DONE && verdicts[0].pages == 2);
+    EXPECT(verdicts[1].outcome == LATSEFUR_REFUSED && verdicts[1].code == LATSEFUR_UNSUPPORTED_TAG && verdicts[1].at == 6);
+    EXPECT(verdicts[2].outcome == LATSEFUR_DONE && verdicts[2].pages == 1);
+    EXPECT(is_marked((uint8_t *)&verdicts[3], sizeof verdicts[3]));
+}
+
+static void expect_shown(uint64_t clock, latsefur_shown wanted) {
+    const char *text = "[pt10o5]A[np]A";
+    memset(&out, MARK, sizeof out);
+    EXPECT(latsefur_shown_at(file, file_len, octets_of(text), strlen(text), clock, &out.shown) == LATSEFUR_DONE);
+    EXPECT(out.shown.is_on == wanted.is_on);
+    EXPECT(!wanted.is_on || (out.shown.page == wanted.page && out.shown.phase == wanted.phase));
+}
+
+static void test_clocks(void) {
+    latsefur_shown first = {0, 0, 1}, last_of_first = {9, 0, 1}, off = {0, 0, 0}, second = {2, 1, 1}, again = {3, 0, 1};
+    expect_shown(0, first);
+    expect_shown(9, last_of_first);
+    expect_shown(10, off);
+    expect_shown(14, off);
+    expect_shown(17, second);
+    expect_shown(29, off);
+    expect_shown(33, again);
+    expect_shown(UINT64_MAX - UINT64_MAX % 30 + 3, again);
+    EXPECT(latsefur_shown_at(file, file_len, octets_of("A"), 1, UINT64_MAX, &out.shown) == LATSEFUR_DONE);
+    EXPECT(out.shown.is_on == 1 && out.shown.page == 0 && out.shown.phase == UINT64_MAX);
+}
+
+/* A picture must fit exactly, and what is behind it stays. */
+static void test_sizes(void) {
+    const uint8_t *text = octets_of("A[np]A");
+    size_t plane = LATSEFUR_PLANE_SIZE(facts.width, facts.height), colours = LATSEFUR_COLOURS_SIZE(facts.width, facts.height);
+    memset(&out, MARK, sizeof out);
+    EXPECT(latsefur_plane_at(file, file_len, text, 6, 0, 1, out.plane, plane - 1) == LATSEFUR_TOO_SMALL);
+    EXPECT(latsefur_plane_of_page(file, file_len, text, 6, 0, 0, 1, out.plane, plane - 1) == LATSEFUR_TOO_SMALL);
+    EXPECT(latsefur_colours_at(file, file_len, text, 6, 0, out.colours, colours - 1) == LATSEFUR_TOO_SMALL);
+    EXPECT(latsefur_colours_of_page(file, file_len, text, 6, 0, 0, out.colours, colours - 1) == LATSEFUR_TOO_SMALL);
+    EXPECT(latsefur_plane_at(file, file_len, text, 6, 0, 1, out.plane, 0) == LATSEFUR_TOO_SMALL);
+    EXPECT(latsefur_colours_at(file, file_len, text, 6, 0, out.colours, 0) == LATSEFUR_TOO_SMALL);
+    EXPECT(latsefur_plane_of_page(file, file_len, text, 6, 2, 0, 1, out.plane, sizeof out.plane) == LATSEFUR_NO_PAGE);
+    EXPECT(latsefur_colours_of_page(file, file_len, text, 6, 255, 0, out.colours, sizeof out.colours) == LATSEFUR_NO_PAGE);
+    EXPECT(is_untouched());
+    EXPECT(latsefur_plane_at(file, file_len, text, 6, 0, 1, out.plane, plane) == LATSEFUR_DONE);
+    EXPECT(latsefur_colours_at(file, file_len, text, 6, 0, out.colours, colours) == LATSEFUR_DONE);
+    EXPECT(is_marked(out.plane + plane, sizeof out.plane - plane));
+    EXPECT(is_marked(out.colours + colours, sizeof out.colours - colours));
+    memset(&out, MARK, sizeof out);
+    EXPECT(latsefur_plane_of_page(file, file_len, text, 6, 1, 0, 1, out.plane, plane + 1) == LATSEFUR_DONE);
+    EXPECT(latsefur_colours_of_page(file, file_len, text, 6, 1, 0, out.colours, colours + 1) == LATSEFUR_DONE);
+    EXPECT(is_marked(out.plane + plane, sizeof out.plane - plane));
+    EXPECT(is_marked(out.colours + colours, sizeof out.colours - colours));
+}
+
+/* Holds the planes of all colours to the colours, pixel by pixel: those of a clock, and of the page and phase that is shown then. */
+static void expect_picture(const char *text, uint64_t clock, latsefur_shown shown) {
+    static uint8_t plane[sizeof out.plane];
+    size_t text_len = strlen(text), stride = (facts.width + 7u) / 8, octet, lit = 0, colours;
+    unsigned colour, row, column;
+    colours = LATSEFUR_COLOURS_SIZE(facts.width, facts.height);
+    EXPECT(call(COLOURS_AT, octets_of(""), 0, octets_of(""), 0) == LATSEFUR_NO_SIGN_FILE);
+    EXPECT(latsefur_colours_at(file, file_len, octets_of(text), text_len, clock, out.colours, colours) == LATSEFUR_DONE);
+    for (colour = 0; colour <= 10; colour++) {
+        EXPECT(latsefur_plane_at(file, file_len, octets_of(text), text_len, clock, (uint8_t)colour, plane, sizeof plane) == LATSEFUR_DONE);
+        for (row = 0; row < facts.height; row++)
+            for (column = 0; column < 8 * stride; column++) {
+                int is_set = plane[row * stride + column / 8] >> (7 - column % 8) & 1;
+                int has_colour = column < facts.width && out.colours[(size_t)row * facts.width + column] == colour;
+                if (is_set != has_colour)
+                    EXPECT(!"a bit of a plane is another than its pixel's colour");
+                lit += (size_t)is_set;
+            }
+        if (shown.is_on) {
+            memset(out.plane, MARK, sizeof out.plane);
+            EXPECT(latsefur_plane_of_page(file, file_len, octets_of(text), text_len, shown.page, shown.phase, (uint8_t)colour,
+                                          out.plane, sizeof out.plane) == LATSEFUR_DONE);
+            EXPECT(memcmp(out.plane, plane, LATSEFUR_PLANE_SIZE(facts.width, facts.height)) == 0);
+        }
+    }
+    EXPECT(lit == colours); /* each pixel has one colour of 0 to 9 */
+    if (shown.is_on) {
+        static uint8_t page[sizeof out.colours];
+        EXPECT(latsefur_colours_of_page(file, file_len, octets_of(text), text_len, shown.page, shown.phase, page, colours) ==
+               LATSEFUR_DONE);
+        EXPECT(memcmp(page, out.colours, colours) == 0);
+    } else {
+        for (octet = 0; octet < colours; octet++)
+            if (out.colours[octet] != 0)
+                EXPECT(!"a pixel is lit in an off time");
+    }
+}
+
+static void test_pictures(void) {
+    latsefur_shown first = {0, 0, 1}, later = {7, 0, 1}, second = {2, 1, 1}, off = {0, 0, 0};
+    expect_picture("[pt10o5][cf3]A[np][pb4]A", 0, first);
+    expect_picture("[pt10o5][cf3]A[np][pb4]A", 12, off);
+    expect_picture("[pt10o5][cf3]A[np][pb4]A", 17, second);
+    expect_picture("[flt5o5]A[/fl]", 0, first);
+    expect_picture("[flt5o5]A[/fl]", 7, later);
+    expect_picture("", 0, first);
+}
+
+/* A text of 2^32 octets: pages of memory that are never written, so they take none. */
+static void test_too_long(void) {
+    size_t length = (size_t)1 << 32;
+    uint8_t *text = mmap(NULL, length, PROT_READ, MAP_PRIVATE | MAP_ANONYMOUS | MAP_NORESERVE, -1, 0);
+    latsefur_verdict *verdict = &out.verdict;
+    int which, i;
+    EXPECT(text != MAP_FAILED);
+    EXPECT(call(CHECK, file, file_len, text, length) == LATSEFUR_TOO_LONG);
+    for (i = 0; i < 2; i++) {
+        EXPECT(verdict->outcome == LATSEFUR_TOO_LONG && verdict->pages == 0 && verdict->cycle == 0);
+        EXPECT(verdict->code == 0 && verdict->at == 0);
+        if (i == 0)
+            EXPECT(call(CHECK_ALL, file, file_len, text, length) == LATSEFUR_DONE);
+        verdict = &out.verdicts[0];
+    }
+    for (which = SHOWN_AT; which < EXPORTS; which++) {
+        EXPECT(call((export)which, file, file_len, text, length) == LATSEFUR_TOO_LONG);
+        EXPECT(is_untouched());
+    }
+    /* A text of one octet less is judged: no sign has a character of the number 0. */
+    EXPECT(call(CHECK, file, file_len, text, length - 1) == LATSEFUR_REFUSED);
+    EXPECT(out.verdict.code == LATSEFUR_CHARACTER_NOT_DEFINED && out.verdict.at == 0);
+    munmap(text, length);
+}
+
+/* Refuses memory from each request on that a call makes, and counts the blocks that it hasn't given back. */
+static void test_memory(void) {
+    int which;
+    for (which = SIGN; which < EXPORTS; which++) {
+        size_t granted;
+        uint8_t outcome;
+        for (granted = 0;; granted++) {
+            left = granted;
+            refused = blocks = 0;
+            is_watched = 1;
+            outcome = call((export)which, file, file_len, octets_of("A[np]A"), 6);
+            is_watched = 0;
+            EXPECT(blocks == 0);
+            if (outcome == LATSEFUR_DONE)
+                break;
+            EXPECT(outcome == LATSEFUR_NO_MEMORY && refused > 0);
+            EXPECT(is_untouched());
+        }
+        EXPECT(granted > 0);
+    }
+}
+
+/* What a thread has of its own. The texts and the sign file are shared. */
+typedef struct {
+    unsigned wrong;
+    latsefur_verdict verdict;
+    uint8_t plane[LATSEFUR_PLANE_SIZE(LATSEFUR_MAX_WIDTH, LATSEFUR_MAX_HEIGHT)];
+} own;
+
+static void *judge_often(void *given) {
+    own *mine = given;
+    int i;
+    for (i = 0; i < 20; i++) {
+        mine->wrong += latsefur_check(file, file_len, octets_of("A[np]A"), 6, &mine->verdict) != LATSEFUR_DONE;
+        mine->wrong += mine->verdict.pages != 2;
+        memset(mine->plane, MARK, sizeof mine->plane);
+        mine->wrong +=
+            latsefur_plane_at(file, file_len, octets_of("A[np]A"), 6, 0, 1, mine->plane, sizeof mine->plane) != LATSEFUR_DONE;
+        mine->wrong += memcmp(mine->plane, out.plane, sizeof mine->plane) != 0;
+    }
+    return NULL;
+}
+
+static void test_threads(void) {
+    static own owns[THREADS];
+    pthread_t threads[THREADS];
+    int i;
+    EXPECT(call(PLANE_AT, file, file_len, octets_of("A[np]A"), 6) == LATSEFUR_DONE);
+    for (i = 0; i < THREADS; i++)
+        EXPECT(pthread_create(&threads[i], NULL, judge_often, &owns[i]) == 0);
+    for (i = 0; i < THREADS; i++) {
+        EXPECT(pthread_join(threads[i], NULL) == 0);
+        EXPECT(owns[i].wrong == 0);
+    }
+}
+
+static void read_file(void) {
+    FILE *stream = fopen(path, "rb");
+    EXPECT(stream != NULL);
+    file = malloc(1 << 20);
+    file_len = fread(file, 1, 1 << 20, stream);
+    EXPECT(file_len > 0 && file_len < 1 << 20);
+    fclose(stream);
+}
+
+int main(int count, char **paths) {
+    int i;
+    memset(&marked, MARK, sizeof marked);
+    for (i = 1; i < count; i++) {
+        path = paths[i];
+        read_file();
+        EXPECT(latsefur_sign(file, file_len, &facts) == LATSEFUR_DONE);
+        EXPECT(facts.width >= 1 && facts.width <= LATSEFUR_MAX_WIDTH && facts.height >= 1 && facts.height <= LATSEFUR_MAX_HEIGHT);
+        EXPECT(facts.max_pages >= 2 && facts.classic <= 1);
+        test_sign_files();
+        test_verdicts();
+        test_refused();
+        test_check_all();
+        test_clocks();
+        test_sizes();
+        test_pictures();
+        test_too_long();
+        test_memory();
+        test_threads();
+        free(file);
+    }
+    printf("%lu\n", checks);
+    return 0;
+}
