@@ -243,6 +243,21 @@ static void test_clocks(void) {
     EXPECT(out.shown.is_on == 1 && out.shown.page == 0 && out.shown.phase == UINT64_MAX);
 }
 
+/* If several outcomes fit a call, the first in the order of docs/hosts.md is returned. */
+static void test_order(void) {
+    latsefur_text text = {octets_of("A"), 1};
+    memset(&out, MARK, sizeof out);
+    EXPECT(latsefur_check_all(octets_of(""), 0, &text, 1, out.verdicts, 0) == LATSEFUR_TOO_SMALL);
+    EXPECT(latsefur_check_all(octets_of(""), 0, &text, 1, out.verdicts, 1) == LATSEFUR_NO_SIGN_FILE);
+    EXPECT(latsefur_plane_at(octets_of(""), 0, octets_of("A["), 2, 0, 1, out.plane, 0) == LATSEFUR_NO_SIGN_FILE);
+    EXPECT(latsefur_plane_at(file, file_len, octets_of("A["), 2, 0, 1, out.plane, 0) == LATSEFUR_REFUSED);
+    EXPECT(latsefur_plane_of_page(file, file_len, octets_of("A["), 2, 1, 0, 1, out.plane, 0) == LATSEFUR_REFUSED);
+    EXPECT(latsefur_plane_of_page(file, file_len, octets_of("A"), 1, 1, 0, 1, out.plane, 0) == LATSEFUR_NO_PAGE);
+    EXPECT(latsefur_colours_of_page(file, file_len, octets_of("A["), 2, 1, 0, out.colours, 0) == LATSEFUR_REFUSED);
+    EXPECT(latsefur_colours_of_page(file, file_len, octets_of("A"), 1, 1, 0, out.colours, 0) == LATSEFUR_NO_PAGE);
+    EXPECT(is_untouched());
+}
+
 /* A picture must fit exactly, and what is behind it stays. */
 static void test_sizes(void) {
     const uint8_t *text = octets_of("A[np]A");
@@ -420,6 +435,7 @@ int main(int count, char **paths) {
         test_refused();
         test_check_all();
         test_clocks();
+        test_order();
         test_sizes();
         test_pictures();
         test_too_long();

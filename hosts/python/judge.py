@@ -8,6 +8,7 @@
 A message is a line. It ends with a line feed, and a carriage return before that is dropped.
 """
 import argparse
+import re
 import sys
 from ctypes import CDLL, POINTER, Structure, byref, c_char, c_char_p, c_size_t, c_uint8, c_uint16, c_uint32, c_uint64
 from pathlib import Path
@@ -133,10 +134,17 @@ def answer(sign, text, words):
     return [f"ok {verdict.pages}"]
 
 
+def clock_of(word):
+    """A clock in decimal."""
+    if not re.fullmatch("[0-9]+", word) or int(word) >= 2**64:
+        raise ValueError
+    return int(word)
+
+
 def main():
     parser = argparse.ArgumentParser()
     mode = parser.add_mutually_exclusive_group()
-    mode.add_argument("--draw", type=int, metavar="CLOCK")
+    mode.add_argument("--draw", type=clock_of, metavar="CLOCK")
     mode.add_argument("--colours", action="store_true")
     parser.add_argument("sign_file", type=Path)
     words = parser.parse_args()

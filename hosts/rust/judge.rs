@@ -51,7 +51,13 @@ mod latsefur {
     #[link(name = "latsefur", kind = "static")]
     extern "C" {
         fn latsefur_sign(sign_file: Octets, sign_file_len: usize, facts: *mut SignFacts) -> u8;
-        fn latsefur_check(sign_file: Octets, sign_file_len: usize, text: Octets, text_len: usize, verdict: *mut Verdict) -> u8;
+        fn latsefur_check(
+            sign_file: Octets,
+            sign_file_len: usize,
+            text: Octets,
+            text_len: usize,
+            verdict: *mut Verdict,
+        ) -> u8;
         fn latsefur_shown_at(
             sign_file: Octets,
             sign_file_len: usize,
@@ -102,7 +108,11 @@ mod latsefur {
     impl std::error::Error for Fault {}
 
     fn done(outcome: u8) -> Result<(), Fault> {
-        if outcome == DONE { Ok(()) } else { Err(Fault(outcome)) }
+        if outcome == DONE {
+            Ok(())
+        } else {
+            Err(Fault(outcome))
+        }
     }
 
     /// A sign, by the octets of its sign file. Threads may share it.
@@ -121,7 +131,15 @@ mod latsefur {
         /// The verdict on a text.
         pub fn check(&self, text: &[u8]) -> Result<Verdict, Fault> {
             let mut verdict = Verdict::default();
-            match unsafe { latsefur_check(self.file.as_ptr(), self.file.len(), text.as_ptr(), text.len(), &mut verdict) } {
+            match unsafe {
+                latsefur_check(
+                    self.file.as_ptr(),
+                    self.file.len(),
+                    text.as_ptr(),
+                    text.len(),
+                    &mut verdict,
+                )
+            } {
                 DONE | REFUSED => Ok(verdict),
                 outcome => Err(Fault(outcome)),
             }
@@ -131,7 +149,14 @@ mod latsefur {
         pub fn shown_at(&self, text: &[u8], clock: u64) -> Result<Shown, Fault> {
             let mut shown = Shown::default();
             done(unsafe {
-                latsefur_shown_at(self.file.as_ptr(), self.file.len(), text.as_ptr(), text.len(), clock, &mut shown)
+                latsefur_shown_at(
+                    self.file.as_ptr(),
+                    self.file.len(),
+                    text.as_ptr(),
+                    text.len(),
+                    clock,
+                    &mut shown,
+                )
             })?;
             Ok(shown)
         }
@@ -161,7 +186,8 @@ mod latsefur {
 
         /// The colours of an accepted text at a clock, an octet a pixel.
         pub fn colours_at(&self, text: &[u8], clock: u64) -> Result<Vec<u8>, Fault> {
-            let mut colours = vec![0; usize::from(self.facts.width) * usize::from(self.facts.height)];
+            let mut colours =
+                vec![0; usize::from(self.facts.width) * usize::from(self.facts.height)];
             done(unsafe {
                 latsefur_colours_at(
                     self.file.as_ptr(),
@@ -178,7 +204,7 @@ mod latsefur {
     }
 }
 
-use latsefur::{DONE, Sign};
+use latsefur::{Sign, DONE};
 
 type Outcome = Result<(), Box<dyn std::error::Error>>;
 
@@ -203,14 +229,19 @@ fn write_shown(out: &mut impl Write, sign: &Sign, text: &[u8], clock: u64) -> Ou
 fn write_plane(out: &mut impl Write, sign: &Sign, text: &[u8], clock: u64) -> Outcome {
     for row in sign.plane_at(text, clock, 1)?.chunks(sign.stride()) {
         let lit = |column: usize| row[column / 8] >> (7 - column % 8) & 1 == 1;
-        let signs: String = (0..usize::from(sign.facts.width)).map(|column| if lit(column) { '#' } else { '.' }).collect();
+        let signs: String = (0..usize::from(sign.facts.width))
+            .map(|column| if lit(column) { '#' } else { '.' })
+            .collect();
         writeln!(out, "{signs}")?;
     }
     Ok(())
 }
 
 fn write_colours(out: &mut impl Write, sign: &Sign, text: &[u8]) -> Outcome {
-    for row in sign.colours_at(text, 0)?.chunks(usize::from(sign.facts.width)) {
+    for row in sign
+        .colours_at(text, 0)?
+        .chunks(usize::from(sign.facts.width))
+    {
         let digits: String = row.iter().map(|colour| char::from(b'0' + colour)).collect();
         writeln!(out, "{digits}")?;
     }
@@ -251,7 +282,12 @@ fn judge(mode: Mode, path: &str) -> Outcome {
         return Err("the last line has no line feed".into());
     }
     for line in lines {
-        answer(&mut out, &sign, line.strip_suffix(b"\r").unwrap_or(line), mode)?;
+        answer(
+            &mut out,
+            &sign,
+            line.strip_suffix(b"\r").unwrap_or(line),
+            mode,
+        )?;
     }
     Ok(out.flush()?)
 }
