@@ -22,6 +22,3 @@ pub use fault::{BdfFault, BdfProblem};
 pub use read::read_font;
 pub use setting::FontSetting;
 pub use write::font_tables;
-
-#[cfg(test)]
-mod tests;

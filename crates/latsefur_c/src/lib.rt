@@ -14,3 +14,6 @@ mod outcome;
 mod seen;
 mod shown;
 mod sign;
+
+#[cfg(test)]
+mod tests;

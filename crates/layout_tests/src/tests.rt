@@ -1,6 +1,7 @@
 mod defaults;
 mod filling;
 mod lending;
+mod picture;
 mod wide;
 
 use multi_layout::{Shown, check};

@@ -15,6 +15,3 @@ mod standing;
 mod verdict;
 
 pub use explain::Explainer;
-
-#[cfg(test)]
-mod tests;

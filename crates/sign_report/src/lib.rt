@@ -15,6 +15,3 @@ mod setup;
 
 pub use describe::Characters;
 pub use report::{SignReport, sign_report};
-
-#[cfg(test)]
-mod tests;

@@ -1,2 +1,5 @@
+mod bdf;
+mod explain;
 mod file;
 mod font;
+mod report;

@@ -1,4 +1,4 @@
-use crate::{BdfFault, BdfProblem, FontSetting, font_tables, read_font};
+use font_bdf::{BdfFault, BdfProblem, FontSetting, font_tables, read_font};
 use std::alloc::{AllocError, Global};
 use std::test::Fail;
 

@@ -1,4 +1,4 @@
-use crate::sign_report;
+use sign_report::sign_report;
 use std::alloc::{AllocError, Global};
 use std::test::Fail;
 

@@ -1,4 +1,4 @@
-use crate::Explainer;
+use message_report::Explainer;
 use sign_font::{Sign, sample_sign};
 use std::alloc::Global;
 use std::test::Fail;
