@@ -70,7 +70,7 @@ all_judged sign texts old now count all room so_far =
       count = so_far.same;
       room = omega (arith, many, room, so_far.same);
       each = λ place text verdict is found.
-        let within = slice_get_within (map (λ (t : Bor (List ℕ)). t.now) texts) place text is in
-        so_far.each place text verdict (omega (arith, within, many, all)) is found;
+          let within = slice_get_within (map (λ (t : Bor (List ℕ)). t.now) texts) place text is in
+          so_far.each place text verdict (omega (arith, within, many, all)) is found;
       kept = λ place from. so_far.kept place (omega (arith, from, many, all));
     }

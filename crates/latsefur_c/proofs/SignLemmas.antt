@@ -1,6 +1,5 @@
 -- The sign of a sign file.
-use Rattle.std.proofs.Common.{◌≡◌, ◌⊎◌, ℕ, true, false, List, Option, None, Some, IfSome, Result, Err, inl, inr, refl, ap, subst, sym}
-use Rattle.std.specs.Prelude.{is_none}
+use Rattle.std.proofs.Common.{◌≡◌, ℕ, List, Option, None, Some, IfSome, Result, Err, inl, inr, refl}
 use Rattle.sign_font.specs.Limits.{first_fault}
 use Rattle.sign_font.specs.Sign.{SignData}
 use Rattle.sign_font.specs.declared.fault.SignFault.{SignFault}

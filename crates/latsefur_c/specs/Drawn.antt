@@ -1,5 +1,5 @@
 -- What is shown of a text, and the pictures that a host gets.
-use Rattle.std.specs.Prelude.{◌≡◌, ◌⊎◌, ℕ, ◌+◌, ◌*◌, ◌^◌, ◌<◌, ◌≤◌, ◌==◌, Bool, false, List, ◌++◌, drop, length, Some, if◌then◌else◌}
+use Rattle.std.specs.Prelude.{◌≡◌, ◌⊎◌, ℕ, ◌*◌, ◌^◌, ◌<◌, ◌≤◌, Bool, false, List, ◌++◌, drop, length, Some}
 use Rattle.page_plane.specs.Octets.{bit_place, is_bit_set, row_octets}
 use Rattle.sign_font.specs.Sign.{SignData}
 use Rattle.multi_layout.specs.declared.times.Shown.{Shown}
@@ -75,7 +75,7 @@ Draws file text time Is old new outcome =
     (IsUnseen file text time outcome × (new ≡ old))
     ⊎ ((outcome ≡ 2) × (new ≡ old))
     ⊎ ((sign : SignData) × (picture : List ℕ) × (sign_of_file file ≡ Some sign) × IsSeen sign text time × Is sign picture
-        × (((outcome ≡ 5) × (length old < length picture) × (new ≡ old)) ⊎ ((outcome ≡ 0) × (new ≡ picture ++ drop (length picture) old))))
+    × (((outcome ≡ 5) × (length old < length picture) × (new ≡ old)) ⊎ ((outcome ≡ 0) × (new ≡ picture ++ drop (length picture) old))))
 
 -- what is shown, in numbers; in an off time all are 0 (own)
 abbrev pub IsShownAs : Shown → LatsefurShown → Type 0

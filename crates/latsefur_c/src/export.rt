@@ -215,11 +215,5 @@ pub extern "C" fn latsefur_colours_of_page(
 ) -> u8
     ensures drawn { Draws sign_file.now text.now (when.Page page phase) (AreColours text.now (when.Page page phase)) colours.old colours.new result }
 {
-    draw_colours_into(
-        alloc,
-        sign_file,
-        text,
-        When::Page { page, phase },
-        colours,
-    )
+    draw_colours_into(alloc, sign_file, text, When::Page { page, phase }, colours)
 }

@@ -14,6 +14,5 @@ mod outcome;
 mod seen;
 mod shown;
 mod sign;
-
 #[cfg(test)]
 mod tests;

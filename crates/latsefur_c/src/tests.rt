@@ -58,7 +58,10 @@ fn a_text_is_judged(rt: HostRuntime) -> Result<(), Fail> {
 
     let texts: [&[u8]; 2] = [b"A[np]A", b"B"];
     let mut verdicts = [BLANK; 3];
-    assert_eq!(rt; latsefur_check_all(alloc, SIGN, &texts, &mut verdicts[..1]), 5);
+    assert_eq!(rt;
+        latsefur_check_all(alloc, SIGN, &texts, &mut verdicts[..1]),
+        5
+    );
     assert_eq!(rt; latsefur_check_all(alloc, SIGN, &texts, &mut verdicts), 0);
     let [first, second, behind] = &verdicts;
     assert!(rt; is(first, 0, 2, 30, (0, 0)), "the first text");
@@ -77,22 +80,37 @@ fn a_text_is_drawn(rt: HostRuntime) -> Result<(), Fail> {
         is_on: 0,
     };
     assert_eq!(rt; latsefur_shown_at(alloc, SIGN, text, 17, &mut shown), 0);
-    assert!(rt; shown.page == 1 && shown.phase == 2 && shown.is_on == 1, "page 1");
+    assert!(rt;
+        shown.page == 1 && shown.phase == 2 && shown.is_on == 1,
+        "page 1"
+    );
 
     // the rows of the `A` are lit, dark and lit; page 1 has it at the right
     let mut plane = [7; 4];
-    assert_eq!(rt; latsefur_plane_of_page(alloc, SIGN, text, 0, 0, 3, &mut plane), 0);
+    assert_eq!(rt;
+        latsefur_plane_of_page(alloc, SIGN, text, 0, 0, 3, &mut plane),
+        0
+    );
     assert_eq!(rt; plane, [0x80, 0, 0x80, 7]);
     assert_eq!(rt; latsefur_plane_at(alloc, SIGN, text, 17, 3, &mut plane), 0);
     assert_eq!(rt; plane, [1, 0, 1, 7]);
     assert_eq!(rt; latsefur_plane_at(alloc, SIGN, text, 12, 0, &mut plane), 0);
     assert_eq!(rt; plane, [255, 255, 255, 7]);
-    assert_eq!(rt; latsefur_plane_at(alloc, SIGN, text, 17, 3, &mut plane[..2]), 5);
-    assert_eq!(rt; latsefur_plane_of_page(alloc, SIGN, text, 2, 0, 3, &mut plane), 6);
+    assert_eq!(rt;
+        latsefur_plane_at(alloc, SIGN, text, 17, 3, &mut plane[..2]),
+        5
+    );
+    assert_eq!(rt;
+        latsefur_plane_of_page(alloc, SIGN, text, 2, 0, 3, &mut plane),
+        6
+    );
     assert_eq!(rt; plane, [255, 255, 255, 7]);
 
     let mut colours = [7; 25];
-    assert_eq!(rt; latsefur_colours_of_page(alloc, SIGN, text, 0, 0, &mut colours), 0);
+    assert_eq!(rt;
+        latsefur_colours_of_page(alloc, SIGN, text, 0, 0, &mut colours),
+        0
+    );
     let mut want = [0; 25];
     (want[0], want[16], want[24]) = (3, 3, 7);
     assert_eq!(rt; colours, want);

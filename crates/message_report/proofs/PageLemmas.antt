@@ -1,13 +1,10 @@
 -- The rows of a page's marks.
-use Rattle.std.proofs.Common.{◌≡◌, ℕ, zero, suc, ◌+◌, ◌<◌, ◌≤◌, Bool, List, [], ◌∷◌, ◌++◌, map, refl, ap, ◌∙◌, arith, inl, inr}
-use Rattle.std.proofs.lemmas.Bool.{cases_Bool}
-use Rattle.std.specs.List.{find, flat_map, range_with_len}
-use Rattle.std.specs.Option.{option_map_or}
+use Rattle.std.proofs.Common.{◌≡◌, ℕ, suc, ◌+◌, ◌<◌, List, [], ◌∷◌, ◌++◌, map, refl, ap, ◌∙◌, arith}
+use Rattle.std.specs.List.{flat_map, range_with_len}
 use Rattle.sign_font.specs.Sign.{SignData}
-use Rattle.multi_layout.specs.Picture.{picture}
 use Rattle.octet_text.proofs.TextLemmas.{flat_map_more, flat_map_same, map_more, map_same}
 use Rattle.page_picture.specs.Colours.{ColourData, IsPage, page_colour}
-use Rattle.message_report.specs.Explanation.{AreDigits, mark, mark_at, marks, page_text, row_text, rows_text}
+use Rattle.message_report.specs.Explanation.{mark, mark_at, marks, page_text, row_text, rows_text}
 
 -- no row is written at first
 pub rows_none : (at : ℕ → ℕ → ℕ) (width : ℕ) → rows_text at width 0 ≡ []
@@ -43,20 +40,3 @@ pictured sign octets page phase colours is =
     ∙ ap (rows_text (mark_at colours) sign.width) is.height
     ∙ rows_same (mark_at colours) (λ column row. mark (page_colour sign octets page phase column row)) sign.width sign.height (λ column row left above.
     ap mark (is.pixels column row left above))
-
--- what is found among numbers is one of them
-found : (has : ℕ → Bool) (a n : ℕ) → 1 ≤ a → option_map_or (λ colour. colour) (find has (range_with_len a n)) 0 < a + n
-found has a zero one = omega (arith, one)
-found has a (suc n) one =
-    let rest = found has (a + 1) n (omega arith) in
-    elim (cases_Bool (has a)) [
-      | inl is ↦ rw is (omega arith)
-      | inr isn't ↦ rw isn't (omega (arith, rest))
-    ]
-
--- the colours of a page are digits
-pub are_digits : (sign : SignData) (octets : List ℕ) (page phase : ℕ) (colours : ColourData) → IsPage sign octets page phase colours → AreDigits colours
-are_digits sign octets page phase colours is = λ column row left above.
-    let same = is.pixels column row (omega (arith, left, is.width)) (omega (arith, above, is.height)) in
-    let few = found (λ colour. picture sign octets page phase colour column row) 1 9 (omega arith) in
-    omega (arith, same, few)

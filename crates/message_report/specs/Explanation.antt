@@ -1,5 +1,5 @@
 -- What is told of a message: the verdict on it and its place, and the pages as pictures, with words for people between them.
-use Rattle.std.specs.Prelude.{◌≡◌, ℕ, zero, suc, ◌+◌, ◌<◌, ◌≤◌, Bool, true, false, ◌==◌, nat_lt, List, [], ◌∷◌, ◌++◌, map, length, codes, decimal, if◌then◌else◌}
+use Rattle.std.specs.Prelude.{◌≡◌, ℕ, zero, suc, ◌+◌, Bool, true, false, ◌==◌, nat_lt, List, [], ◌∷◌, ◌++◌, map, length, codes, decimal, if◌then◌else◌}
 use Rattle.std.specs.List.{flat_map, range_with_len}
 use Rattle.sign_font.specs.Sign.{SignData}
 use Rattle.multi_layout.specs.Verdict.{Verdict, Accepted, Refused, verdict}
@@ -14,10 +14,6 @@ mark colour = if colour == 0 then 46 else 48 + colour
 -- the mark of a pixel by the colours of a page (own)
 abbrev pub mark_at : ColourData → ℕ → ℕ → ℕ
 mark_at colours column row = mark (colour_at colours column row)
-
--- each pixel of a page has a colour from 0 to 9 (own)
-abbrev pub AreDigits : ColourData → Type 0
-AreDigits colours = (column row : ℕ) → column < colours.width → row < colours.height → colour_at colours column row ≤ 9
 
 -- the marks of the first pixels of a row, from the left (own)
 abbrev pub marks : (ℕ → ℕ → ℕ) → ℕ → ℕ → List ℕ

@@ -1,7 +1,7 @@
 //! A page drawn in all its colours at once.
 ghost use Rattle.std.specs.Prelude.{◌≡◌, ◌++◌, ◌<◌, ◌≤◌, OnOk};
 ghost use Rattle.multi_layout.specs.Pages.{page_count};
-ghost use Rattle.message_report.specs.Explanation.{AreDigits, mark, mark_at, page_text, row_text, rows_text};
+ghost use Rattle.message_report.specs.Explanation.{mark, mark_at, page_text, row_text, rows_text};
 
 use multi_layout::Checked;
 use octet_text::push_octet;
@@ -19,8 +19,7 @@ fn mark(colour: u8) -> u8
 
 /// Appends a row of pixels.
 fn push_row(text: &mut Vec<u8>, colours: &PageColours, row: u16) -> Result<(), AllocError>
-    requires row { row < colours.now.height }
-    requires digits { AreDigits colours.now }
+    requires { row < colours.now.height }
     ensures { OnOk result (text.new.items ≡ text.old.items ++ row_text (mark_at colours.now) colours.now.width row) }
 {
     for column in 0..colours.width() {
@@ -31,7 +30,6 @@ fn push_row(text: &mut Vec<u8>, colours: &PageColours, row: u16) -> Result<(), A
 
 /// Appends the rows of pixels from the top.
 fn push_rows(text: &mut Vec<u8>, colours: &PageColours) -> Result<(), AllocError>
-    requires { AreDigits colours.now }
     ensures { OnOk result (text.new.items ≡ text.old.items ++ rows_text (mark_at colours.now) colours.now.width colours.now.height) }
 {
     for row in 0..colours.height() {

@@ -1,5 +1,5 @@
 -- The planes of a page's colours, and the colours that they make.
-use Rattle.std.proofs.Common.{◌≡◌, ℕ, zero, suc, ◌+◌, ◌<◌, ◌≤◌, Bool, true, false, List, [], ◌∷◌, ◌++◌, length, map, refl, sym, ap, ◌∙◌, arith, if◌then◌else◌, replicate, ◌*◌, subst, inl, inr}
+use Rattle.std.proofs.Common.{◌≡◌, ℕ, zero, suc, ◌+◌, ◌<◌, ◌≤◌, true, false, List, [], ◌∷◌, ◌++◌, length, map, refl, sym, ap, ◌∙◌, arith, replicate, ◌*◌, subst, inl, inr}
 use Rattle.std.proofs.lemmas.Bool.{cases_Bool}
 use Rattle.std.proofs.lemmas.List.{replicate-append-replicate}
 use Rattle.std.proofs.lemmas.List.Elements.{All-cons}
@@ -12,7 +12,7 @@ use Rattle.multi_layout.specs.Drawn.{Lights}
 use Rattle.multi_layout.specs.Pages.{IsSized}
 use Rattle.multi_layout.specs.Picture.{picture}
 use Rattle.octet_text.proofs.TextLemmas.{flat_map_more, flat_map_same, map_more, map_same}
-use Rattle.page_picture.specs.Colours.{IsPage, first_lit, page_colour, row_values, values}
+use Rattle.page_picture.specs.Colours.{IsPage, first_lit, row_values, values}
 use Rattle.page_picture.specs.Planes.{AreSized, HaveColours}
 
 -- PLANES
@@ -61,8 +61,8 @@ is_page sign octets page phase width height planes nine wide high have = record 
   width = wide;
   height = high;
   pixels = λ column row left above.
-    coloured sign octets page phase 1 planes column row left above have
-    ∙ ap (λ n. option_map_or (λ c. c) (find (λ c. picture sign octets page phase c column row) (range_with_len 1 n)) 0) nine;
+      coloured sign octets page phase 1 planes column row left above have
+      ∙ ap (λ n. option_map_or (λ c. c) (find (λ c. picture sign octets page phase c column row) (range_with_len 1 n)) 0) nine;
 }
 
 -- the planes of all nine colours have the sign's size
@@ -73,7 +73,7 @@ are_sized sign octets page phase width height planes sound nine wide high have =
   height_range = (omega (arith, high, sound.height.0), omega (arith, high, sound.height.1));
   few = omega (arith, nine);
   inside = subst (λ w. All (λ plane. (w ≤ plane.width) × (height ≤ plane.height)) planes) (sym wide)
-    (subst (λ h. All (λ plane. (sign.width ≤ plane.width) × (h ≤ plane.height)) planes) (sym high) (all_inside sign octets page phase 1 planes have));
+      (subst (λ h. All (λ plane. (sign.width ≤ plane.width) × (h ≤ plane.height)) planes) (sym high) (all_inside sign octets page phase 1 planes have));
 }
 
 -- VALUES

@@ -18,9 +18,9 @@ shine classic colour =
     else (if colour == 7 then 255 ∷ 255 ∷ 255 ∷ []
     else 255 ∷ 128 ∷ 16 ∷ []))))))))
 
--- what is between the dots (own)
-abbrev pub ground : List ℕ
-ground = 12 ∷ 12 ∷ 12 ∷ []
+-- red, green and blue between the dots (own)
+abbrev pub between : List ℕ
+between = 12 ∷ 12 ∷ 12 ∷ []
 
 -- a pixel is 8 by 8 points, and its dot is round: 6 by 6 points in the middle, without their corners (own)
 unfoldable pub is_in_dot : ℕ → ℕ → Bool
@@ -29,7 +29,7 @@ is_in_dot line point = nat_le 1 line && nat_le line 6 && nat_le 1 point && nat_l
 
 -- a point of a pixel of a colour (own)
 abbrev pub point_of : Bool → ℕ → ℕ → ℕ → List ℕ
-point_of classic colour line point = if is_in_dot line point then shine classic colour else ground
+point_of classic colour line point = if is_in_dot line point then shine classic colour else between
 
 -- the first points of a line of a pixel, from the left (own)
 unfoldable pub dot_line : Bool → ℕ → ℕ → ℕ → List ℕ

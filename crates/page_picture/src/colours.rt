@@ -63,7 +63,8 @@ fn planes_of(
 fn colour_in(planes: &[Plane], column: u16, row: u16) -> u8
     requires few { length planes.now ≤ 9 }
     requires inside { All (HasPixel column row) planes.now }
-    ensures { result ≡ first_lit 1 planes.now column row }
+    ensures colour { result ≡ first_lit 1 planes.now column row }
+    ensures range { result ≤ 9 }
 {
     let mut colour = 1;
     for plane in planes {
@@ -118,7 +119,8 @@ impl PageColours {
     pub fn colour(&self, column: u16, row: u16) -> u8
         requires column { column < self.now.width }
         requires row { row < self.now.height }
-        ensures { result ≡ colour_at self.now column row }
+        ensures colour { result ≡ colour_at self.now column row }
+        ensures range { result ≤ 9 }
     {
         colour_in(&self.planes, column, row)
     }

@@ -8,4 +8,3 @@ mod colours;
 mod ppm;
 
 pub use colours::PageColours;
-

@@ -1,7 +1,7 @@
 //! A picture of a page in PPM.
 ghost use Rattle.std.specs.Prelude.{◌≡◌, ◌++◌, ◌<◌, ◌≤◌, OnOk};
 ghost use Rattle.page_picture.specs.Colours.{colour_at};
-ghost use Rattle.page_picture.specs.Ppm.{dot_line, ground, head_of, is_in_dot, point_of, points, ppm_of, row_points, rows_points, shine};
+ghost use Rattle.page_picture.specs.Ppm.{dot_line, head_of, is_in_dot, point_of, points, ppm_of, row_points, rows_points, shine};
 
 use crate::colours::PageColours;
 use octet_text::{push_number, push_octets};
@@ -11,7 +11,7 @@ use std::alloc::AllocError;
 const SIDE: u8 = 8;
 
 /// Red, green and blue between the dots.
-const GROUND: &[u8] = &[12, 12, 12];
+const BETWEEN: &[u8] = &[12, 12, 12];
 
 /// Red, green and blue of a colour as it shines.
 #[tactic(auto, unfolding(crate::specs::Ppm::shine))]
@@ -55,17 +55,12 @@ fn point_of(classic: bool, colour: u8, line: u8, point: u8) -> &'static [u8]
     if is_in_dot(line, point) {
         shine(classic, colour)
     } else {
-        GROUND
+        BETWEEN
     }
 }
 
 /// Appends a line of a pixel.
-fn push_dot_line(
-    text: &mut Vec<u8>,
-    classic: bool,
-    colour: u8,
-    line: u8,
-) -> Result<(), AllocError>
+fn push_dot_line(text: &mut Vec<u8>, classic: bool, colour: u8, line: u8) -> Result<(), AllocError>
     ensures { OnOk result (text.new.items ≡ text.old.items ++ dot_line classic colour line 8) }
 {
     for point in 0..SIDE {

@@ -1,4 +1,4 @@
-use Rattle.std.proofs.Common.{◌≡◌, ◌≤◌, length, arith, refl, inr, map}
+use Rattle.std.proofs.Common.{◌≡◌, ◌≤◌, length, arith, refl, inr}
 use Rattle.latsefur_c.proofs.JudgedLemmas
 use Rattle.latsefur_c.proofs.export.latsefur_check_all.Goals as goal
 

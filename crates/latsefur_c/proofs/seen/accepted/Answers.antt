@@ -1,4 +1,4 @@
-use Rattle.std.proofs.Common.{◌≡◌, refl, inl, ap, subst}
+use Rattle.std.proofs.Common.{refl, inl, ap, subst}
 use Rattle.multi_token.specs.Counted.{Counted}
 use Rattle.multi_layout.specs.Verdict.{IsVerdict, Refused}
 use Rattle.latsefur_c.proofs.seen.accepted.Goals as goal

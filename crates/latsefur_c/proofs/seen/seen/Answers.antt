@@ -1,8 +1,7 @@
-use Rattle.std.proofs.Common.{◌≡◌, ◌<◌, ◌≤◌, arith, refl, sym}
+use Rattle.std.proofs.Common.{◌<◌, ◌≤◌, arith, refl}
 use Rattle.multi_layout.specs.Meaning.{meanings}
 use Rattle.multi_layout.specs.Verdict.{pages_of}
 use Rattle.multi_layout.proofs.AcceptedLemmas.{accepted_is}
-use Rattle.latsefur_c.specs.Drawn.{HasPage, IsThere, LacksPage, seen}
 use Rattle.latsefur_c.proofs.SeenLemmas
 use Rattle.latsefur_c.proofs.seen.seen.Goals as goal
 

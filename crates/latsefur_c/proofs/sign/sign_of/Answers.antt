@@ -1,4 +1,4 @@
-use Rattle.std.proofs.Common.{◌≡◌, ap, subst, sym}
+use Rattle.std.proofs.Common.{subst, sym}
 use Rattle.sign_file.specs.SignFile.{file_of}
 use Rattle.latsefur_c.specs.Outcome.{HasNoSign}
 use Rattle.latsefur_c.proofs.SignLemmas

@@ -2,10 +2,6 @@ use Rattle.std.proofs.Common.{◌≡◌, ◌++◌, OnOk, subst}
 use Rattle.message_report.proofs.PageLemmas
 use Rattle.message_report.proofs.page.push_page.Goals as goal
 
-pub push_rows-requires : goal.push_rows-requires
-push_rows-requires c =
-    PageLemmas.are_digits c.args.sign.now c.args.checked.now.source.octets c.args.page c.args.phase c.in_ok-colours.colours c.in_ok-colours.ensures.page
-
 pub returns-clause-ok : goal.returns-clause-ok
 returns-clause-ok c =
     let rows = PageLemmas.pictured c.args.sign.now c.args.checked.now.source.octets c.args.page c.args.phase c.in_ok-colours.colours c.in_ok-colours.ensures.page in

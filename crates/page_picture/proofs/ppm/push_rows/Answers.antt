@@ -1,4 +1,4 @@
-use Rattle.std.proofs.Common.{◌≡◌, ◌++◌, sym, ap, ◌∙◌, append-nil}
+use Rattle.std.proofs.Common.{◌++◌, sym, ap, ◌∙◌, append-nil}
 use Rattle.octet_text.proofs.TextLemmas
 use Rattle.page_picture.specs.Colours.{colour_at}
 use Rattle.page_picture.proofs.PpmLemmas

@@ -1,4 +1,3 @@
-use Rattle.std.proofs.Common.{◌≡◌}
 use Rattle.page_picture.proofs.ColourLemmas
 use Rattle.page_picture.proofs.colours.PageColours.new.Goals as goal
 

@@ -1,5 +1,5 @@
-use Rattle.std.proofs.Common.{◌≡◌, ◌++◌, sym, ap, ◌∙◌}
-use Rattle.page_picture.specs.Colours.{colour_at, row_values, values}
+use Rattle.std.proofs.Common.{◌++◌, sym, ap, ◌∙◌}
+use Rattle.page_picture.specs.Colours.{colour_at, row_values}
 use Rattle.page_picture.proofs.ColourLemmas
 use Rattle.page_picture.proofs.colours.PageColours.octets.Goals as goal
 
