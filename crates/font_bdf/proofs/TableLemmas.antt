@@ -1,17 +1,18 @@
 -- A table behind the other keys of a sign file.
-use Rattle.std.proofs.Common.{◌≡◌, ℕ, true, List, [], ◌∷◌, ◌++◌, Some, refl, ap}
+use Rattle.std.proofs.Common.{◌≡◌, ℕ, true, List, [], ◌∷◌, ◌++◌, Some, refl, ap, length}
 use Rattle.std.specs.Prelude.{is_none}
 use Rattle.sign_font.specs.Limits.{first_fault}
 use Rattle.sign_font.specs.Sign.{FontData}
 use Rattle.sign_file.specs.SignFile.{FileData, file_of_octets}
 use Rattle.font_bdf.specs.declared.setting.FontSetting.{FontSetting}
-use Rattle.font_bdf.specs.Tables.{IsTableOf, fonts_read, front, is_one_font, is_taken, with_font}
+use Rattle.font_bdf.specs.Tables.{IsTableOf, fonts_read, front, is_one_font, is_taken, messages_read, with_font}
 
--- signs take the font of a file that is read, that has this one font, and whose sign has no fault
+-- signs take the font of a file that is read, that has this one font and no permanent message, and whose sign has no fault
 pub taken : (setting : FontSetting) (text : List ℕ) (file : FileData) (font : FontData) → file_of_octets (front ++ text) ≡ Some file → is_one_font setting file.sign.fonts ≡ true
-    → file.sign.fonts ≡ font ∷ [] → is_none (first_fault (with_font file.sign setting.number)) ≡ true → IsTableOf setting font text
-unfolding is_taken fonts_read
-taken setting text file font is one only sound = record {
+    → file.sign.fonts ≡ font ∷ [] → length file.permanents ≡ 0 → is_none (first_fault (with_font file.sign setting.number)) ≡ true → IsTableOf setting font text
+unfolding is_taken fonts_read messages_read
+taken setting text file font is one only none sound = record {
   taken = rw (is, one, sound) refl;
   same = rw is (ap (λ (fonts : List FontData). Some fonts) only);
+  alone = rw is (ap (λ (count : ℕ). Some count) none);
 }

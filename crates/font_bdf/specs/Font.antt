@@ -27,6 +27,10 @@ drawn drawing count number width height =
 abbrev pub width_of : FontSetting → ℤ → ℤ
 width_of setting advance = advance -ℤ pos setting.char_spacing
 
+-- the columns of the cell of a character whose header these lines are, 1 to 64 (BDF, DWIDTH)
+unfoldable pub width_in : FontSetting → List (List ℕ) → Option ℕ
+width_in setting header = number_in (codes "DWIDTH") header >>= (λ advance. within 1 64 (width_of setting advance))
+
 -- the columns and the rows of the box of a character, each 0 to 64 (BDF, BBX)
 abbrev pub size_of : PixelBox → Option (ℕ × ℕ)
 size_of pixels = do
@@ -37,9 +41,8 @@ size_of pixels = do
 -- the cell of a character of this number: it is 1 to 64 columns wide, and as high as the box of the font (BDF, DWIDTH and BBX)
 unfoldable pub cell_in : FontSetting → PixelBox → ℕ → ℕ → List (List ℕ) → List (List ℕ) → Option CellData
 cell_in setting whole height number header rows = do
-  advance ← number_in (codes "DWIDTH") header
+  width ← width_in setting header
   pixels ← box_in (codes "BBX") header
-  width ← within 1 64 (width_of setting advance)
   size ← size_of pixels
   drawn (record { whole = whole; pixels = pixels; columns = size.0; rows = rows }) size.1 number width height
 

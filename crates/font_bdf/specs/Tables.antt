@@ -1,5 +1,5 @@
 -- What is written of a font: a table that makes a sign file whole.
-use Rattle.std.specs.Prelude.{ℕ, Bool, true, false, ◌&&◌, ◌==◌, List, [], ◌∷◌, ◌++◌, ◌≡◌, Option, None, Some, is_none, codes}
+use Rattle.std.specs.Prelude.{ℕ, Bool, true, false, ◌&&◌, ◌==◌, List, [], ◌∷◌, ◌++◌, ◌≡◌, Option, None, Some, is_none, codes, length}
 use Rattle.std.specs.Option.{option_map}
 use Rattle.sign_font.specs.Limits.{first_fault}
 use Rattle.sign_font.specs.Sign.{FontData, SignData}
@@ -32,11 +32,16 @@ is_taken setting (Some file) = is_one_font setting file.sign.fonts && is_none (f
 unfoldable pub fonts_read : Option FileData → Option (List FontData)
 fonts_read file = option_map (λ f. f.sign.fonts) file
 
--- a text is the table of one font, by a setting: the octets of a sign file that ends with it are read so, signs take the font, and
--- it is this one, with all of its cells (own)
+-- how many permanent messages a sign file has, where one is read (own)
+unfoldable pub messages_read : Option FileData → Option ℕ
+messages_read file = option_map (λ f. length f.permanents) file
+
+-- a text is the table of one font, by a setting, and nothing else: the octets of a sign file that ends with it are read so, signs
+-- take the font, it is this one, with all of its cells, and there is no permanent message (own)
 pub record IsTableOf (setting : FontSetting) (font : FontData) (text : List ℕ) : Type 0 where
   pub taken : is_taken setting (file_of_octets (front ++ text)) ≡ true
   pub same : fonts_read (file_of_octets (front ++ text)) ≡ Some (font ∷ [])
+  pub alone : messages_read (file_of_octets (front ++ text)) ≡ Some 0
 
 -- a text is the table of the font that octets are in BDF, by a setting (own)
 abbrev pub IsFontTable : FontSetting → List ℕ → List ℕ → Type 0

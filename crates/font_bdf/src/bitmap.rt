@@ -61,14 +61,14 @@ fn are_hex(digits: &[u8]) -> bool
     digits.iter().all(|octet| is_hex(*octet))
 }
 
-/// How many digits the row of a box of so many columns has.
+/// How many digits the row of a box of this many columns has.
 fn digits_of(columns: u8) -> usize
     ensures { result ≡ digits_of columns }
 {
     2 * ((usize::from(columns) + 7) / 8)
 }
 
-/// Whether these are the digits of a row of so many columns.
+/// Whether these are the digits of a row of this many columns.
 #[tactic(auto, unfolding(crate::specs::Bitmap::is_row))]
 fn is_row(columns: u8, digits: &[u8]) -> bool
     ensures { result ≡ is_row columns digits.now }

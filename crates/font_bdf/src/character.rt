@@ -1,10 +1,10 @@
 //! The lines of a character, and its cell.
 
-ghost use Rattle.std.specs.Prelude.{◌≡◌, ◌<◌};
+ghost use Rattle.std.specs.Prelude.{◌≡◌, ◌<◌, IfOk};
 ghost use Rattle.std.specs.Option.{option_map, option_to_list};
 ghost use Rattle.sign_font.specs.Sign.{cell_of};
 ghost use Rattle.font_bdf.specs.Bitmap.{drawing_of};
-ghost use Rattle.font_bdf.specs.Font.{after, before, cell_in, cells_of_block, drawn, size_of, width_of};
+ghost use Rattle.font_bdf.specs.Font.{after, before, cell_in, cells_of_block, drawn, size_of, width_in, width_of};
 ghost use Rattle.font_bdf.specs.Parts.{texts};
 ghost use Rattle.font_bdf.specs.Reading.{Gives};
 
@@ -12,7 +12,7 @@ use crate::bitmap::Bitmap;
 use crate::fault::{BdfFault, BdfProblem, fault_at};
 use crate::numbers::{PixelBox, box_in, number_in, within};
 use crate::setting::FontSetting;
-use crate::words::line_with;
+use crate::words::{line_with, place_with};
 use sign_font::CellPart;
 use std::alloc::Global;
 
@@ -84,6 +84,28 @@ fn size_of(pixels: PixelBox) -> Option<(u8, u8)>
     Some((columns as u8, rows as u8))
 }
 
+/// The columns of the cell of a character, 1 to 64. The first line of its header is the line `first` of the font.
+#[tactic(auto, unfolding(crate::specs::Font::width_in))]
+fn width_in(
+    setting: &FontSetting,
+    header: &[&[u8]],
+    first: usize,
+    missing: BdfFault,
+) -> Result<u8, BdfFault>
+    ensures width { Gives (λ width. width) result (width_in setting.now (texts header.now)) }
+    ensures wide { IfOk result (λ width. 0 < width) }
+{
+    let advance = number_in(header, first, b"DWIDTH", missing)?;
+    let wide = width_of(setting, advance);
+    match within(1, 64, wide) {
+        Some(width) => Ok(width as u8),
+        None => {
+            let at = place_with(header, b"DWIDTH");
+            Err(fault_at(first, at, BdfProblem::BadWidth(wide)))
+        }
+    }
+}
+
 /// The cell of a character of this number. The first line of its header is the line `first` of the font.
 #[tactic(auto, unfolding(crate::specs::Font::cell_in))]
 fn cell_in(
@@ -99,14 +121,11 @@ fn cell_in(
 {
     let at = first.saturating_add(header.len());
     let missing = fault_at(at, 0, BdfProblem::NoNumbers);
-    let advance = number_in(header, first, b"DWIDTH", missing)?;
+    let width = width_in(setting, header, first, missing)?;
     let pixels = box_in(header, first, b"BBX", missing)?;
-    let wide = width_of(setting, advance);
-    let Some(width) = within(1, 64, wide) else {
-        return Err(fault_at(at, 0, BdfProblem::BadWidth(wide)));
-    };
     let Some((columns, count)) = size_of(pixels) else {
-        return Err(fault_at(at, 0, BdfProblem::BadBox));
+        let at = place_with(header, b"BBX");
+        return Err(fault_at(first, at, BdfProblem::BadBox));
     };
     let bitmap = Bitmap {
         whole: font.whole,
@@ -115,15 +134,7 @@ fn cell_in(
         rows,
     };
     let first = at.saturating_add(1);
-    drawn(
-        alloc,
-        &bitmap,
-        count,
-        number,
-        width as u8,
-        font.height,
-        first,
-    )
+    drawn(alloc, &bitmap, count, number, width, font.height, first)
 }
 
 /// The cell of a character, or `None` where its number isn't taken. Its first line is the line `first` of the font.

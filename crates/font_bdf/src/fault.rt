@@ -49,7 +49,7 @@ pub enum BdfProblem {
     #[error("the bitmap has more rows than its box, or ENDCHAR is missing")]
     BadRows,
     /// A pixel is lit outside the cell.
-    #[error("a pixel is lit outside the cell: column {column} of {width}, row {row} of {height}")]
+    #[error("a pixel is lit outside the cell: column {column}, row {row}, counted from 0; the cell has {width} by {height}")]
     Outside {
         /// The pixel's column in the cell, counted from 0 at the left.
         column: i64,

@@ -13,7 +13,7 @@ use crate::character::{FontBox, parted_at};
 use crate::fault::{BdfFault, BdfProblem, fault_at};
 use crate::numbers::{box_in, within};
 use crate::setting::FontSetting;
-use crate::words::{begins, line_with, lines_of};
+use crate::words::{begins, line_with, lines_of, place_with};
 use sign_font::FontPart;
 use std::alloc::{AllocError, Global};
 
@@ -24,14 +24,6 @@ fn parts_of<'a>(alloc: Global, lines: &'a [&'a [u8]]) -> Result<Vec<&'a [&'a [u8
     lines
         .split(|line| begins(line, b"STARTCHAR"))
         .collect(alloc)
-}
-
-/// The line of the font's head that begins with FONTBOUNDINGBOX.
-fn line_of_box(head: &[&[u8]]) -> usize {
-    match line_with(head, b"FONTBOUNDINGBOX") {
-        Some(place) => place,
-        None => head.len(),
-    }
 }
 
 /// The font of its head and its characters.
@@ -48,8 +40,8 @@ fn font_of_parts(
     };
     let whole = box_in(head, 1, b"FONTBOUNDINGBOX", missing)?;
     let Some(height) = within(1, 64, i64::from(whole.height)) else {
-        let problem = BdfProblem::BadHeight(whole.height);
-        return Err(fault_at(1, line_of_box(head), problem));
+        let at = place_with(head, b"FONTBOUNDINGBOX");
+        return Err(fault_at(1, at, BdfProblem::BadHeight(whole.height)));
     };
     let height = height as u8;
     let first = head.len().saturating_add(2);
@@ -117,7 +109,9 @@ fn last_line(lines: &[&[u8]]) -> usize {
 /// box of the font, `FONTBOUNDINGBOX`, and as wide as its advance, `DWIDTH`, less the spacing between characters. Its bitmap stands
 /// where `BBX` says, and must not light a pixel outside the cell. Other lines are passed over.
 ///
-/// The error has the first line that is wrong, and what is wrong there. If it isn't `Memory`, the octets are no such font.
+/// The error has a line that is wrong, of the first character that has one, and what is wrong there. Of one character these are
+/// looked at in this order: `ENDCHAR` and `BITMAP`, `ENCODING`, `DWIDTH`, `BBX`, the rows of the bitmap, and whether a character has
+/// its number already. If the error isn't `Memory`, the octets are no such font.
 #[tactic(auto, unfolding(crate::specs::Font::font_of_bdf))]
 pub fn read_font(alloc: Global, octets: &[u8], setting: &FontSetting) -> Result<FontPart, BdfFault>
     ensures { Gives font_of result (font_of_bdf setting.now octets.now) }

@@ -127,7 +127,8 @@ fn take_sign(alloc: Global, sign: SignParts, number: u8) -> Result<(), BdfProble
     }
 }
 
-/// Reads the sign file that ends with this table, compares its font with the one that was read, and makes its sign.
+/// Reads the sign file that ends with this table, compares its font with the one that was read, sees that it has no permanent
+/// message, and makes its sign.
 fn take_table(
     alloc: Global,
     table: &[u8],
@@ -143,6 +144,9 @@ fn take_table(
     match read_sign_file(alloc, &octets) {
         Ok(file) => {
             if !is_one_font(&file.sign.fonts, setting) || !is_only_font(&file.sign.fonts, font) {
+                return Err(BdfProblem::NotTaken);
+            }
+            if !file.permanents.is_empty() {
                 return Err(BdfProblem::NotTaken);
             }
             match take_sign(alloc, file.sign, setting.number) {
@@ -172,9 +176,10 @@ fn table_of(alloc: Global, font: &FontPart, setting: &FontSetting) -> Result<Vec
 
 /// Reads a font in BDF, as [`read_font`] does, and writes it as the `[[font]]` table of a sign file.
 ///
-/// What is written was read back behind the other keys of a sign file: it has this one font, and a sign takes it.
+/// What is written was read back behind the other keys of a sign file: it has this one font and no permanent message, and a sign
+/// takes it.
 ///
-/// The error has the first line that is wrong, and what is wrong there. It is `NotTaken` only for the number 0. If it is neither
+/// The error has a line that is wrong, and what is wrong there. It is `NotTaken` only for the number 0. If it is neither
 /// `NotTaken` nor `Memory`, the octets are no font in BDF that is taken with this setting.
 pub fn font_tables(alloc: Global, octets: &[u8], setting: &FontSetting) -> Result<Vec<u8>, BdfFault>
     ensures table { IfOk result (λ text. IsFontTable setting.now octets.now text.items) }

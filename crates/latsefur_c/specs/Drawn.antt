@@ -12,15 +12,20 @@ use Rattle.page_picture.specs.Colours.{colour_by, values}
 use Rattle.latsefur_c.specs.declared.seen.When.{When}
 use Rattle.latsefur_c.specs.declared.seen.When.TheVariants as when
 use Rattle.latsefur_c.specs.declared.shown.LatsefurShown.{LatsefurShown}
+use Rattle.latsefur_c.specs.Judged.{IsShort}
 use Rattle.latsefur_c.specs.Outcome.{HasNoSign, sign_of_file}
+
+-- a text is accepted (own)
+abbrev pub IsAccepted : SignData → List ℕ → Type 0
+IsAccepted sign text = IsShort text × ((pages : ℕ) × IsVerdict sign text (Accepted pages))
 
 -- a text isn't accepted: it is refused (1), or too long to be judged (7) (own)
 abbrev pub IsNotAccepted : SignData → List ℕ → ℕ → Type 0
 IsNotAccepted sign text outcome =
-    ((outcome ≡ 1) × ((code : ℕ) × (at : ℕ) × IsVerdict sign text (Refused code at)))
+    ((outcome ≡ 1) × IsShort text × ((code : ℕ) × (at : ℕ) × IsVerdict sign text (Refused code at)))
     ⊎ ((outcome ≡ 7) × (2 ^ 32 ≤ length text))
 
--- what is seen of a text at a clock, or if one of its pages is asked for at a phase (own)
+-- what is seen of a text: what it shows at a clock, or the page that is asked for, at its phase (own)
 abbrev pub seen : SignData → List ℕ → When → Shown
 seen sign text (when.Clock clock) = shown sign text clock
 seen sign text (when.Page page phase) = Page page phase
@@ -40,17 +45,17 @@ abbrev pub IsThere : List ℕ → Shown → Type 0
 IsThere text (Page page phase) = page < pages_of (meanings text)
 IsThere text Off = Unit {0}
 
--- why nothing can be shown of a text: there is no sign, or the text isn't accepted, or it has no such page (6) (own)
+-- why nothing can be shown of a text: there is no sign, or the text isn't accepted, or it is and has no such page (6) (own)
 abbrev pub IsUnseen : List ℕ → List ℕ → When → ℕ → Type 0
 IsUnseen file text time outcome =
     HasNoSign file outcome
-    ⊎ ((sign : SignData) × (sign_of_file file ≡ Some sign) × (IsNotAccepted sign text outcome ⊎ ((outcome ≡ 6) × LacksPage text time)))
+    ⊎ ((sign : SignData) × (sign_of_file file ≡ Some sign) × (IsNotAccepted sign text outcome ⊎ ((outcome ≡ 6) × IsAccepted sign text × LacksPage text time)))
 
 -- a sign accepts a text, which has the page that is asked for (own)
 abbrev pub IsSeen : SignData → List ℕ → When → Type 0
-IsSeen sign text time = ((pages : ℕ) × IsVerdict sign text (Accepted pages)) × HasPage text time
+IsSeen sign text time = IsAccepted sign text × HasPage text time
 
--- the colours of all pixels of what is seen, 0 to 9, row by row from the top (NTCIP 1203 v03, MULTI)
+-- the colours of all pixels of what is seen, 0 to 9, row by row from the top (NTCIP 1203 v03, dmsColorScheme; the order of the pixels is own)
 abbrev pub colours : SignData → List ℕ → Shown → List ℕ
 colours sign text shown = values (λ column row. colour_by (λ colour. pixel_at sign (meanings text) shown colour column row)) sign.width sign.height
 
@@ -86,4 +91,4 @@ IsShownAs Off told = (told.is_on ≡ 0) × (told.page ≡ 0) × (told.phase ≡ 
 abbrev pub TellsShown : List ℕ → List ℕ → ℕ → LatsefurShown → LatsefurShown → ℕ → Type 0
 TellsShown file text clock old new outcome =
     (IsUnseen file text (when.Clock clock) outcome × (new ≡ old))
-    ⊎ ((outcome ≡ 0) × ((sign : SignData) × (sign_of_file file ≡ Some sign) × ((pages : ℕ) × IsVerdict sign text (Accepted pages)) × IsShownAs (shown sign text clock) new))
+    ⊎ ((outcome ≡ 0) × ((sign : SignData) × (sign_of_file file ≡ Some sign) × IsAccepted sign text × IsShownAs (shown sign text clock) new))

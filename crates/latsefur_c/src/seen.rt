@@ -1,7 +1,6 @@
 //! What is seen of a text.
-ghost use Rattle.std.specs.Prelude.{◌≡◌, ◌<◌, ◌^◌, ℕ, length, None, IfOk, IfErr, IfSome};
-ghost use Rattle.multi_layout.specs.Verdict.{Accepted, IsVerdict};
-ghost use Rattle.latsefur_c.specs.Drawn.{HasPage, IsNotAccepted, IsThere, LacksPage, seen};
+ghost use Rattle.std.specs.Prelude.{◌≡◌, ◌<◌, ◌^◌, length, None, IfOk, IfErr, IfSome, OnOk};
+ghost use Rattle.latsefur_c.specs.Drawn.{HasPage, IsAccepted, IsNotAccepted, IsThere, LacksPage, seen};
 
 use crate::check::MAX_TEXT;
 use crate::outcome::{REFUSED, TOO_LONG};
@@ -21,7 +20,7 @@ pub(crate) enum When {
 /// A text that a sign accepts, or the number that says why it doesn't.
 pub(crate) fn accepted<'a>(sign: &'a Sign, text: &'a [u8]) -> Result<Checked<'a>, u8>
     ensures ok { IfOk result (λ checked. (checked.sign ≡ sign.now) × (checked.source.octets ≡ text.now) × (length text.now < 2 ^ 32)) }
-    ensures accepted { IfOk result (λ checked. (pages : ℕ) × IsVerdict sign.now text.now (Accepted pages)) }
+    ensures accepted { OnOk result (IsAccepted sign.now text.now) }
     ensures err { IfErr result (IsNotAccepted sign.now text.now) }
 {
     if text.len() > MAX_TEXT {

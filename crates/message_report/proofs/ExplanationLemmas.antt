@@ -1,5 +1,6 @@
 -- The parts of an explanation, one behind the other.
-use Rattle.std.proofs.Common.{◌≡◌, ℕ, suc, ◌+◌, ◌<◌, ◌^◌, ◌≤◌, false, List, ◌++◌, length, refl, ap, arith, subst}
+use Rattle.std.proofs.Common.{◌≡◌, ℕ, suc, ◌+◌, ◌<◌, ◌^◌, ◌≤◌, ◌≢◌, false, List, [], ◌∷◌, ◌++◌, length, refl, sym, ap, ◌∙◌, arith, subst, append_assoc}
+use Rattle.std.proofs.lemmas.List.Elements.{All-push}
 use Rattle.std.proofs.lemmas.Bool.{le-ltb, lt-ltb}
 use Rattle.sign_font.specs.Sign.{SignData}
 use Rattle.multi_layout.specs.Meaning.{meanings}
@@ -7,25 +8,35 @@ use Rattle.multi_layout.specs.Verdict.{Accepted, IsVerdict, Verdict, pages_of, v
 use Rattle.multi_layout.proofs.AcceptedLemmas.{accepted_is}
 use Rattle.multi_layout.proofs.VerdictLemmas.{one_verdict}
 use Rattle.octet_text.proofs.TextLemmas.{grown}
+use Rattle.message_report.specs.Words.{IsOneLine}
 use Rattle.message_report.specs.Explanation.{Explains, HasPages, Tells, accepts, head_text, page_text, takes, too_long_text}
 
 -- an accepted string has the pages that its items begin
 pub pages_are : (sign : SignData) (octets : List ℕ) (pages : ℕ) → IsVerdict sign octets (Accepted pages) → length octets < 2 ^ 32 → pages ≡ pages_of (meanings octets)
 pages_are sign octets pages is short = (accepted_is sign octets pages is short).1
 
--- three pieces that are appended one behind the other
-pub three_more : (start now one two three shown head words page : List ℕ) → now ≡ start ++ shown → one ≡ now ++ head → two ≡ one ++ words → three ≡ two ++ page
-    → three ≡ start ++ (shown ++ head ++ words ++ page)
+-- a line goes on with one more octet that is no line feed
+pub line_more : (start now new line : List ℕ) (c : ℕ) → IsOneLine line → now ≡ start ++ line → new ≡ now ++ c ∷ [] → c ≢ 10 → (more : List ℕ) × IsOneLine more × (new ≡ start ++ more)
+line_more start now new line c is so_far next other = (line ++ c ∷ [], All-push (λ n. n ≢ 10) line c is other, grown start now new line (c ∷ []) _ so_far next refl)
+
+-- what is appended behind a line comes behind its line feed
+pub behind_line : (now next last words rest : List ℕ) → next ≡ now ++ (words ++ 10 ∷ []) → last ≡ next ++ rest → last ≡ now ++ words ++ 10 ∷ rest
+behind_line now next last words rest first second =
+    second ∙ ap (λ l. l ++ rest) (first ∙ sym (append_assoc now words (10 ∷ []))) ∙ append_assoc (now ++ words) (10 ∷ []) rest
+
+-- a piece, a line and a piece that are appended one behind the other
+pub three_more : (start now one two three shown head words page : List ℕ) → now ≡ start ++ shown → one ≡ now ++ head → two ≡ one ++ (words ++ 10 ∷ []) → three ≡ two ++ page
+    → three ≡ start ++ (shown ++ head ++ words ++ 10 ∷ page)
 three_more start now one two three shown head words page so_far first second third =
-    grown start two three (shown ++ head ++ words) page _ (grown start one two (shown ++ head) words _ (grown start now one shown head _ so_far first refl) second refl) third refl
+    grown start (one ++ words) three (shown ++ head ++ words) (10 ∷ page) _ (grown start one (one ++ words) (shown ++ head) words _ (grown start now one shown head _ so_far first refl) refl refl) (behind_line one two three words page second third) refl
 
 -- one more page comes behind those before it
-pub pages_more : (sign : SignData) (octets : List ℕ) (phase pages page : ℕ) (shown words : List ℕ) → HasPages sign octets phase pages page shown
-    → HasPages sign octets phase pages (page + 1) (shown ++ head_text page pages ++ words ++ page_text sign octets page phase)
-pages_more sign octets phase pages page shown words has =
+pub pages_more : (sign : SignData) (octets : List ℕ) (phase pages page : ℕ) (shown words : List ℕ) → HasPages sign octets phase pages page shown → IsOneLine words
+    → HasPages sign octets phase pages (page + 1) (shown ++ head_text page pages ++ words ++ 10 ∷ page_text sign octets page phase)
+pages_more sign octets phase pages page shown words has line =
     let next : suc page ≡ page + 1 = omega arith in
-    let more : HasPages sign octets phase pages (suc page) (shown ++ head_text page pages ++ words ++ page_text sign octets page phase) = (shown, words, has, refl) in
-    subst (λ n. HasPages sign octets phase pages n (shown ++ head_text page pages ++ words ++ page_text sign octets page phase)) next more
+    let more : HasPages sign octets phase pages (suc page) (shown ++ head_text page pages ++ words ++ 10 ∷ page_text sign octets page phase) = (shown, words, has, line, refl) in
+    subst (λ n. HasPages sign octets phase pages n (shown ++ head_text page pages ++ words ++ 10 ∷ page_text sign octets page phase)) next more
 
 -- a message of at most 4,096 octets is explained by the one verdict on it
 pub explained : (sign : SignData) (octets line : List ℕ) (phase : ℕ) (v : Verdict) (text : List ℕ) → length line ≤ 4096 → octets ≡ line → IsVerdict sign octets v

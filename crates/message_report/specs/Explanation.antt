@@ -3,6 +3,7 @@ use Rattle.std.specs.Prelude.{◌≡◌, ℕ, zero, suc, ◌+◌, Bool, true, fa
 use Rattle.std.specs.List.{flat_map, range_with_len}
 use Rattle.sign_font.specs.Sign.{SignData}
 use Rattle.multi_layout.specs.Verdict.{Verdict, Accepted, Refused, verdict}
+use Rattle.message_report.specs.Words.{IsOneLine}
 use Rattle.page_picture.specs.Colours.{ColourData, colour_at, page_colour}
 
 -- PICTURES
@@ -57,22 +58,22 @@ accepted_text pages = codes "accepted: " ++ decimal pages ++ (if pages == 1 then
 unfoldable pub too_long_text : List ℕ
 too_long_text = codes "too long: a message has at most 4096 octets\n\n"
 
--- a page begins with its number, counted from 1 (own)
+-- a page begins with its number, counted from 1, and how many there are (own)
 unfoldable pub head_text : ℕ → ℕ → List ℕ
-head_text page pages = codes "page " ++ decimal (page + 1) ++ codes " of " ++ decimal pages
+head_text page pages = codes "page " ++ decimal (page + 1) ++ codes " of " ++ decimal pages ++ codes ", "
 
 -- EXPLANATIONS
 
--- a text has the first pages of a string at a phase, each with its head, some words, and its picture (own)
+-- a text has the first pages of a string at a phase, each with its head, some words to the end of that line, and its picture (own)
 abbrev pub HasPages : SignData → List ℕ → ℕ → ℕ → ℕ → List ℕ → Type 0
 HasPages sign octets phase pages zero text = text ≡ []
 HasPages sign octets phase pages (suc page) text = (front words : List ℕ) × HasPages sign octets phase pages page front
-    × (text ≡ front ++ head_text page pages ++ words ++ page_text sign octets page phase)
+    × IsOneLine words × (text ≡ front ++ head_text page pages ++ words ++ 10 ∷ page_text sign octets page phase)
 
--- a text tells a verdict: a refusal with its error and its place, or all pages, with some words behind either and before the pages (own)
+-- a text tells a verdict: a refusal with its error and its place, or the number of pages, a line and all pages, with some words behind either (own)
 abbrev pub Tells : SignData → List ℕ → ℕ → Verdict → List ℕ → Type 0
 Tells sign octets phase (Accepted pages) text = (front shown words : List ℕ) × HasPages sign octets phase pages pages shown
-    × (text ≡ accepted_text pages ++ front ++ shown ++ words)
+    × IsOneLine front × (text ≡ accepted_text pages ++ front ++ 10 ∷ shown ++ words)
 Tells sign octets phase (Refused code at) text = (words : List ℕ) × (text ≡ refused_text code at ++ words)
 
 -- a text explains a message of at most 4,096 octets by the sign's verdict on it (own)

@@ -16,12 +16,12 @@ fn shown(octet: u8) -> char {
     }
 }
 
-/// Writes the first octets of a message as a line.
+/// Writes the first octets of a message.
 pub(crate) fn write_message(text: &mut String, message: &[u8]) -> Result<(), AllocError> {
     for octet in message.iter().take(MOST) {
         text.push(shown(*octet))?;
     }
-    text.push_str(if message.len() > MOST { " ..\n" } else { "\n" })
+    text.push_str(if message.len() > MOST { " .." } else { "" })
 }
 
 /// Writes the octets of a message around a place, and under them a caret at the place.

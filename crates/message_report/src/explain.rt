@@ -1,8 +1,8 @@
 //! The explanation of a message.
-ghost use Rattle.std.specs.Prelude.{◌≡◌, ◌++◌, ◌<◌, ◌^◌, List, ℕ, length, OnOk, IfOk};
+ghost use Rattle.std.specs.Prelude.{◌≡◌, ◌≢◌, ◌++◌, ◌∷◌, [], ◌<◌, ◌^◌, List, ℕ, length, OnOk, IfOk};
 ghost use Rattle.multi_layout.specs.Pages.{page_count};
 ghost use Rattle.message_report.specs.Explanation.{Explains, HasPages, Tells, takes};
-ghost use Rattle.message_report.specs.Words.{Grows};
+ghost use Rattle.message_report.specs.Words.{Grows, IsOneLine};
 ghost use Rattle.multi_layout.specs.Verdict.{Accepted};
 
 use crate::excerpt::{write_excerpt, write_message};
@@ -13,7 +13,7 @@ use crate::standing::standing_at;
 use crate::verdict::{push_accepted, push_head, push_refused, push_too_long};
 use multi_layout::{Checked, check};
 use multi_token::Source;
-use octet_text::push_octets;
+use octet_text::{push_octet, push_octets};
 use sign_font::Sign;
 use std::alloc::{AllocError, Global};
 use std::fmt::Write;
@@ -55,6 +55,23 @@ fn push_words(text: &mut Vec<u8>, words: &String) -> Result<(), AllocError>
     push_octets(text, words.as_bytes())
 }
 
+/// An octet of a line: a question mark stands in place of a line feed.
+fn in_line(octet: u8) -> u8
+    ensures { result ≢ 10 }
+{
+    if octet == b'\n' { b'?' } else { octet }
+}
+
+/// Appends words as one line, with a question mark in place of a line feed.
+fn push_line(text: &mut Vec<u8>, words: &String) -> Result<(), AllocError>
+    ensures { OnOk result ((line : List ℕ) × IsOneLine line × (text.new.items ≡ text.old.items ++ (line ++ 10 ∷ []))) }
+{
+    for octet in words.as_bytes() {
+        push_octet(text, in_line(*octet))?;
+    }
+    push_octet(text, b'\n')
+}
+
 /// Appends why a message is refused at a place, with the message and a caret.
 fn push_reason(text: &mut Vec<u8>, place: &Place<'_>, code: u8) -> Result<(), AllocError>
     ensures { OnOk result (Grows text.old.items text.new.items) }
@@ -71,15 +88,15 @@ fn push_reason(text: &mut Vec<u8>, place: &Place<'_>, code: u8) -> Result<(), Al
     push_words(text, &words)
 }
 
-/// Appends a message.
+/// Appends a message as a line.
 fn push_message(text: &mut Vec<u8>, alloc: Global, message: &[u8]) -> Result<(), AllocError>
-    ensures { OnOk result (Grows text.old.items text.new.items) }
+    ensures { OnOk result ((line : List ℕ) × IsOneLine line × (text.new.items ≡ text.old.items ++ (line ++ 10 ∷ []))) }
 {
     let mut words = String::new(alloc);
     let Ok(()) = write_message(&mut words, message) else {
         return Err(AllocError);
     };
-    push_words(text, &words)
+    push_line(text, &words)
 }
 
 /// Writes a time in seconds.
@@ -87,7 +104,7 @@ fn write_seconds(words: &mut String, tenths: u8) -> Result<(), AllocError> {
     write!(words, "{}.{} seconds", tenths / 10, tenths % 10)
 }
 
-/// Appends how long a page is shown, and how long the sign is dark behind it.
+/// Appends how long a page is shown, and how long the sign is dark after it, to the end of a line.
 fn push_times(
     text: &mut Vec<u8>,
     alloc: Global,
@@ -96,28 +113,28 @@ fn push_times(
     page: u8,
     pages: u8,
 ) -> Result<(), AllocError>
-    ensures { OnOk result (Grows text.old.items text.new.items) }
+    ensures { OnOk result ((line : List ℕ) × IsOneLine line × (text.new.items ≡ text.old.items ++ (line ++ 10 ∷ []))) }
 {
     let mut words = String::new(alloc);
     let standing = standing_at(sign, message, message.len(), u32::from(page));
     let Ok(()) = write_times(&mut words, standing.on, standing.off, pages) else {
         return Err(AllocError);
     };
-    push_words(text, &words)
+    push_line(text, &words)
 }
 
 /// Writes the times of a page, in tenths of a second.
 fn write_times(words: &mut String, on: u8, off: u8, pages: u8) -> Result<(), AllocError> {
     if pages == 1 {
-        return words.push_str(", shown all the time:\n");
+        return words.push_str("shown all the time:");
     }
-    words.push_str(", shown for ")?;
+    words.push_str("shown for ")?;
     write_seconds(words, on)?;
     if off > 0 {
         words.push_str(", then dark for ")?;
         write_seconds(words, off)?;
     }
-    words.push_str(":\n")
+    words.push(':')
 }
 
 /// Appends what the marks of the pictures mean, and what they don't show.

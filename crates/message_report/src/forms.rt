@@ -74,10 +74,12 @@ pub(crate) fn form_of(body: &[u8]) -> Option<&'static str> {
     found(&TAKEN, body)
 }
 
-/// What the tag is for whose name begins a body, if this profile leaves it out. A field and a graphic have their number behind one letter.
+/// What the tag is for whose name begins a body, if this profile leaves it out. The names of a field and a graphic are one letter,
+/// behind which a number or a comma stands, or nothing.
 pub(crate) fn left_out(body: &[u8]) -> Option<&'static str> {
     match body {
-        [b'f' | b'F' | b'g' | b'G', b'0'..=b'9', ..] => found(&NUMBERED, body),
+        [b'f' | b'F' | b'g' | b'G'] => found(&NUMBERED, body),
+        [b'f' | b'F' | b'g' | b'G', b'0'..=b'9' | b',', ..] => found(&NUMBERED, body),
         _ => found(&LEFT_OUT, body),
     }
 }

@@ -10,6 +10,9 @@ use sign_report::Characters;
 use std::alloc::{AllocError, Global};
 use std::fmt::Write;
 
+/// The most octets of a tag's body that are shown (own).
+const BODY: usize = 40;
+
 const LINES: [&str; 6] = ["none", "other", "left", "centre", "right", "full"];
 
 const GROUPS: [&str; 5] = ["none", "other", "top", "middle", "bottom"];
@@ -35,11 +38,11 @@ pub(crate) struct Place<'a> {
 
 /// The octets of a body as text.
 fn write_body(text: &mut String, body: &[u8]) -> Result<(), AllocError> {
-    for octet in body.iter().take(40) {
+    for octet in body.iter().take(BODY) {
         let is_sign = *octet >= b' ' && *octet <= b'~';
         text.push(if is_sign { char::from(*octet) } else { '?' })?;
     }
-    Ok(())
+    text.push_str(if body.len() > BODY { " .." } else { "" })
 }
 
 impl Place<'_> {
@@ -56,12 +59,20 @@ impl Place<'_> {
         read_body(self.body()?).ok()
     }
 
+    /// Says why a bracket is broken.
+    fn write_bracket(&self, text: &mut String) -> Result<(), AllocError> {
+        let rest = self.message.get(self.at..).unwrap_or(b"");
+        text.push_str(if rest.starts_with(b"[]") {
+            "a tag isn't empty; [[ and ]] write brackets\n"
+        } else {
+            "a bracket stands alone here; [[ and ]] write brackets, and a tag ends with ]\n"
+        })
+    }
+
     /// Says why a tag isn't supported.
     fn write_unsupported(&self, text: &mut String) -> Result<(), AllocError> {
         let Some(body) = self.body() else {
-            return text.push_str(
-                "a bracket stands alone here; [[ and ]] write brackets, and a tag ends with ]\n",
-            );
+            return self.write_bracket(text);
         };
         text.push_str("the sign takes no tag '")?;
         write_body(text, body)?;
@@ -99,25 +110,21 @@ impl Place<'_> {
             alloc: self.alloc,
             large,
             message: self.message,
-            area: standing.area,
+            from: standing.area,
             end,
         };
         let (width, height) = (standing.width, standing.height);
-        match trial.lack(standing)? {
-            Lack::Line(Some(columns)) => {
-                writeln!(
-                    text,
-                    "the line needs {columns} pixels, the rectangle has {width}"
-                )
+        match trial.lack(standing, self.at)? {
+            Lack::Line(need) => {
+                text.push_str("the line needs ")?;
+                need.write(text)?;
+                writeln!(text, " pixels, the rectangle has {width}")
             }
-            Lack::Line(None) => {
-                writeln!(
-                    text,
-                    "the line needs more than 1024 pixels, the rectangle has {width}"
-                )
+            Lack::Area(need) => {
+                text.push_str("the area needs ")?;
+                need.write(text)?;
+                writeln!(text, " rows of {height}")
             }
-            Lack::Area(Some(rows)) => writeln!(text, "the area needs {rows} rows of {height}"),
-            Lack::Area(None) => { writeln!(text, "the area needs more than 128 rows of {height}") }
         }
     }
 

@@ -1,9 +1,9 @@
 //! How much room a message needs, by the verdict of a large sign with the same fonts and defaults.
 
-use crate::standing::{Standing, end_from};
+use crate::standing::{Part, Standing};
 use multi_layout::check;
 use multi_token::Source;
-use sign_font::Sign;
+use sign_font::{LineFill, Sign};
 use std::alloc::{AllocError, Global};
 use std::fmt::Write;
 
@@ -12,13 +12,35 @@ pub(crate) const COLUMNS: u16 = 1024;
 
 pub(crate) const ROWS: u16 = 128;
 
-/// What a message lacks, in pixels.
+/// How many pixels are needed.
+#[derive(Clone, Copy, Debug, PartialEq, Eq)]
+pub(crate) enum Need {
+    /// All of it needs these.
+    All(u16),
+    /// What goes up to the refused item needs these, and what follows couldn't be judged.
+    Front(u16),
+    /// It needs more than these, which are all that there can be.
+    Over(u16),
+}
+
+/// What a message lacks.
 #[derive(Clone, Copy, Debug, PartialEq, Eq)]
 pub(crate) enum Lack {
-    /// Its line needs so many columns, or more than there can be.
-    Line(Option<u16>),
-    /// Its area needs so many rows, or more than there can be.
-    Area(Option<u16>),
+    /// Its line needs these columns.
+    Line(Need),
+    /// Its area needs these rows.
+    Area(Need),
+}
+
+impl Need {
+    /// Writes the number.
+    pub(crate) fn write(self, text: &mut String) -> Result<(), AllocError> {
+        match self {
+            Need::All(pixels) => write!(text, "{pixels}"),
+            Need::Front(pixels) => write!(text, "at least {pixels}"),
+            Need::Over(pixels) => write!(text, "more than {pixels}"),
+        }
+    }
 }
 
 /// A front of a message on a large sign.
@@ -27,8 +49,8 @@ pub(crate) struct Trial<'a> {
     pub(crate) alloc: Global,
     pub(crate) large: &'a Sign,
     pub(crate) message: &'a [u8],
-    /// Where its last area begins.
-    pub(crate) area: usize,
+    /// Where its last area begins, or the line or the word that is tried as an area of its own.
+    pub(crate) from: usize,
     /// Where it ends.
     pub(crate) end: usize,
 }
@@ -53,9 +75,9 @@ impl Trial<'_> {
         let mut text = String::new(self.alloc);
         write!(text, "[tr1,1,{columns},{rows}]")?;
         let mut octets = Vec::new(self.alloc);
-        octets.extend_from_slice(self.message.get(..self.area).unwrap_or(b""))?;
+        octets.extend_from_slice(self.message.get(..self.from).unwrap_or(b""))?;
         octets.extend_from_slice(text.as_bytes())?;
-        octets.extend_from_slice(self.message.get(self.area..self.end).unwrap_or(b""))?;
+        octets.extend_from_slice(self.message.get(self.from..self.end).unwrap_or(b""))?;
         if octets.len() > u32::MAX as usize {
             return Ok(Fit::Refuses);
         }
@@ -97,46 +119,50 @@ impl Trial<'_> {
         Ok(None)
     }
 
-    /// The front up to the end of its line, unless another reason than its size refuses that, and else this one.
-    fn whole_line(&self) -> Result<Trial<'_>, AllocError> {
-        let end = end_from(self.message, self.end, true);
-        let line = Trial { end, ..*self };
-        let end = match line.judge(COLUMNS, ROWS)? {
-            Fit::Refuses => self.end,
-            Fit::Takes | Fit::TooBig => end,
-        };
-        Ok(Trial { end, ..*self })
-    }
-
-    /// The front up to the end of its area, if that fits these columns, and else this one.
-    fn whole_area(&self, columns: u16) -> Result<Trial<'_>, AllocError> {
-        let end = end_from(self.message, self.end, false);
-        let area = Trial { end, ..*self };
-        let end = if area.fits(columns, ROWS)? {
-            end
+    /// The columns that its line needs, with what follows on the line unless another reason than its size refuses that.
+    fn columns(&self, part: Part, group: u8) -> Result<Need, AllocError> {
+        if let Some(end) = part.end(self.large, self.message, self.end, group) {
+            let line = Trial { end, ..*self };
+            match line.judge(COLUMNS, ROWS)? {
+                Fit::Takes => return Ok(Need::All(line.least_columns()?)),
+                Fit::TooBig => return Ok(Need::Over(COLUMNS)),
+                Fit::Refuses => {}
+            }
+        }
+        if self.fits(COLUMNS, ROWS)? {
+            Ok(Need::Front(self.least_columns()?))
         } else {
-            self.end
-        };
-        Ok(Trial { end, ..*self })
+            Ok(Need::Over(COLUMNS))
+        }
     }
 
-    /// What the line or the area lacks whose last item doesn't fit a rectangle of this width, with what follows on the same line or
-    /// in the same area.
-    pub(crate) fn lack(&self, standing: &Standing) -> Result<Lack, AllocError> {
+    /// The rows that its area needs, with what follows in the area if that fits these columns.
+    fn rows(&self, columns: u16) -> Result<Need, AllocError> {
+        if let Some(end) = Part::Area.end(self.large, self.message, self.end, 0) {
+            let area = Trial { end, ..*self };
+            if area.fits(columns, ROWS)? {
+                return Ok(match area.least_rows(columns)? {
+                    Some(rows) => Need::All(rows),
+                    None => Need::Over(ROWS),
+                });
+            }
+        }
+        Ok(match self.least_rows(columns)? {
+            Some(rows) => Need::Front(rows),
+            None => Need::Over(ROWS),
+        })
+    }
+
+    /// What the line or the area lacks whose last item, at an offset, is too big.
+    pub(crate) fn lack(&self, standing: &Standing, at: usize) -> Result<Lack, AllocError> {
         let columns = standing.width.min(u32::from(COLUMNS)) as u16;
-        if self.fits(columns, ROWS)? {
-            let area = self.whole_area(columns)?;
-            return Ok(Lack::Area(area.least_rows(columns)?));
+        let is_filled = self.large.line_fill() == LineFill::Words;
+        let from = standing.line_of(at, is_filled);
+        let line = Trial { from, ..*self };
+        if line.fits(columns, ROWS)? {
+            return Ok(Lack::Area(self.rows(columns)?));
         }
-        let line = self.whole_line()?;
-        if line.fits(COLUMNS, ROWS)? {
-            return Ok(Lack::Line(Some(line.least_columns()?)));
-        }
-        // If no width is enough for this front, and there are wider ones, its rows are too many.
-        if columns == COLUMNS || self.fits(COLUMNS, ROWS)? {
-            Ok(Lack::Line(None))
-        } else {
-            Ok(Lack::Area(None))
-        }
+        let part = if is_filled { Part::Word } else { Part::Line };
+        Ok(Lack::Line(line.columns(part, standing.page_just)?))
     }
 }

@@ -11,6 +11,9 @@ pub(crate) struct Standing {
     pub(crate) pages: u32,
     /// Where the present area begins.
     pub(crate) area: usize,
+    /// Where the present line begins, and the word at its end: behind the last space of the line, or where the line begins.
+    pub(crate) line: usize,
+    pub(crate) word: usize,
     /// The number of the font.
     pub(crate) font: u8,
     pub(crate) line_just: u8,
@@ -25,9 +28,13 @@ pub(crate) struct Standing {
     /// The columns and rows of the rectangle.
     pub(crate) width: u32,
     pub(crate) height: u32,
-    /// Whether a character may flash.
+    /// Whether a flash is in force that has an off time, and whether a character had such a flash.
+    pub(crate) is_flashing: bool,
     pub(crate) flashes: bool,
 }
+
+/// The number of the space.
+const SPACE: u16 = 32;
 
 /// An item as it is spelled.
 #[derive(Clone, Copy, Debug, PartialEq, Eq)]
@@ -55,6 +62,14 @@ pub(crate) fn piece_at(message: &[u8], at: usize) -> Option<(Piece<'_>, usize)> 
     Some((piece, behind))
 }
 
+/// What an item means, if it means anything. A character is what the tag 'hc' with its number is.
+fn meaning(piece: Piece<'_>) -> Option<Tag> {
+    match piece {
+        Piece::Char(octet) => Some(Tag::HexChar(u16::from(octet))),
+        Piece::Tag(body) => read_body(body).ok(),
+    }
+}
+
 /// The pixels of a rectangle's side of a tag: its length, or all that remains.
 fn side(whole: u16, first: u32, length: u32) -> u32 {
     if length == 0 {
@@ -71,6 +86,8 @@ impl Standing {
         Standing {
             pages: 1,
             area: 0,
+            line: 0,
+            word: 0,
             font: defaults.font,
             line_just: defaults.line,
             page_just: defaults.page,
@@ -80,34 +97,48 @@ impl Standing {
             off: defaults.page_off,
             width: u32::from(sign.width()),
             height: u32::from(sign.height()),
+            is_flashing: false,
             flashes: false,
         }
     }
 
-    /// Begins an area behind an offset.
-    fn begin_area(&mut self, behind: usize) {
-        self.area = behind;
-        self.group = 0;
+    /// Begins a line at an offset.
+    fn begin_line(&mut self, at: usize) {
+        self.line = at;
+        self.word = at;
         self.segment = 0;
     }
 
-    /// Goes behind a character.
-    fn pass_character(&mut self) {
+    /// Begins an area behind an offset.
+    fn begin_area(&mut self, behind: usize) {
+        self.begin_line(behind);
+        self.area = behind;
+        self.group = 0;
+    }
+
+    /// Goes behind the character of this number at an offset.
+    fn pass_character(&mut self, number: u16, at: usize, behind: usize) {
         if self.page_just > self.group {
-            self.segment = 0;
+            self.begin_line(at);
         }
         self.group = self.page_just;
         self.segment = self.line_just;
+        if number == SPACE {
+            self.word = behind;
+        }
+        if self.is_flashing {
+            self.flashes = true;
+        }
     }
 
     /// Goes behind the end of a line.
-    fn pass_break(&mut self) {
+    fn pass_break(&mut self, behind: usize) {
+        self.begin_line(behind);
         self.group = self.page_just;
-        self.segment = 0;
     }
 
-    /// Goes behind a tag that ends at an offset.
-    fn pass_tag(&mut self, sign: &Sign, tag: Tag, behind: usize) {
+    /// Goes behind an item that stands from one offset to another.
+    fn pass(&mut self, sign: &Sign, tag: Tag, at: usize, behind: usize) {
         match tag {
             Tag::NewPage => {
                 self.begin_area(behind);
@@ -120,8 +151,8 @@ impl Standing {
                 self.width = side(sign.width(), x, w);
                 self.height = side(sign.height(), y, h);
             }
-            Tag::NewLine(_) => self.pass_break(),
-            Tag::HexChar(_) => self.pass_character(),
+            Tag::NewLine(_) => self.pass_break(behind),
+            Tag::HexChar(number) => self.pass_character(number, at, behind),
             _ => self.set(sign, tag),
         }
     }
@@ -137,8 +168,20 @@ impl Standing {
                 self.on = on.unwrap_or(defaults.page_on);
                 self.off = off.unwrap_or(defaults.page_off);
             }
-            Tag::Flash { .. } => self.flashes = true,
+            Tag::Flash { off, .. } => self.is_flashing = off.unwrap_or(defaults.flash_off) > 0,
+            Tag::FlashEnd => self.is_flashing = false,
             _ => {}
+        }
+    }
+
+    /// Where the line begins on which an item at this offset stands, or if lines are filled by words its word.
+    pub(crate) fn line_of(&self, at: usize, is_filled: bool) -> usize {
+        if self.page_just > self.group {
+            at
+        } else if is_filled {
+            self.word
+        } else {
+            self.line
         }
     }
 }
@@ -155,34 +198,57 @@ pub(crate) fn standing_at(sign: &Sign, message: &[u8], to: usize, page: u32) -> 
         let Some((piece, behind)) = piece_at(message, at) else {
             return standing;
         };
-        match piece {
-            Piece::Char(_) => standing.pass_character(),
-            Piece::Tag(body) => match read_body(body) {
-                Ok(Tag::NewPage) if standing.pages > page => return standing,
-                Ok(tag) => standing.pass_tag(sign, tag, behind),
-                Err(_) => {}
-            },
+        match meaning(piece) {
+            Some(Tag::NewPage) if standing.pages > page => return standing,
+            Some(tag) => standing.pass(sign, tag, at, behind),
+            None => {}
         }
         at = behind;
     }
     standing
 }
 
-/// Where the area ends in which an offset stands, or with `line` its line if that ends first.
-pub(crate) fn end_from(message: &[u8], from: usize, line: bool) -> usize {
-    let mut at = from;
-    for _ in 0..message.len() {
-        let Some((piece, behind)) = piece_at(message, at) else {
-            return at;
-        };
-        if let Piece::Tag(body) = piece {
-            match read_body(body) {
-                Ok(Tag::NewPage | Tag::Rect { .. }) => return at,
-                Ok(Tag::NewLine(_)) if line => return at,
+/// A part of a message.
+#[derive(Clone, Copy, Debug, PartialEq, Eq)]
+pub(crate) enum Part {
+    Area,
+    Line,
+    /// The characters of a line between two spaces.
+    Word,
+}
+
+impl Part {
+    /// Whether it ends before an item, which is in its group or not.
+    fn ends_before(self, tag: Tag, is_in_group: bool) -> bool {
+        match tag {
+            Tag::NewPage | Tag::Rect { .. } => true,
+            Tag::NewLine(_) => self != Part::Area,
+            Tag::HexChar(number) => match self {
+                Part::Area => false,
+                Part::Line => !is_in_group,
+                Part::Word => !is_in_group || number == SPACE,
+            },
+            _ => false,
+        }
+    }
+
+    /// Where it ends if it goes on at an offset, where the page justification of its group is in force; `None` if a broken bracket
+    /// comes first.
+    pub(crate) fn end(self, sign: &Sign, message: &[u8], from: usize, group: u8) -> Option<usize> {
+        let mut at = from;
+        let mut page_just = group;
+        for _ in 0..message.len() {
+            if at >= message.len() {
+                return Some(at);
+            }
+            let (piece, behind) = piece_at(message, at)?;
+            match meaning(piece) {
+                Some(tag) if self.ends_before(tag, page_just == group) => return Some(at),
+                Some(Tag::PageJust(just)) => page_just = just.unwrap_or(sign.defaults().page),
                 _ => {}
             }
+            at = behind;
         }
-        at = behind;
+        Some(at)
     }
-    at
 }

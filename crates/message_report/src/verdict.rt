@@ -66,5 +66,6 @@ pub(crate) fn push_head(text: &mut Vec<u8>, page: u8, pages: u8) -> Result<(), A
     push_octets(text, b"page ")?;
     push_number(text, u64::from(page) + 1)?;
     push_octets(text, b" of ")?;
-    push_number(text, u64::from(pages))
+    push_number(text, u64::from(pages))?;
+    push_octets(text, b", ")
 }

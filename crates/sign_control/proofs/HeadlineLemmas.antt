@@ -4,14 +4,16 @@ use Rattle.std.proofs.lemmas.Bool.{cases_Bool, eqb-true, eqb-false, eq-eqb, ne_e
 use Rattle.std.proofs.Math.Seq.{take-length}
 use Rattle.sign_font.specs.declared.fault.DefaultFault.{DefaultFault}
 use Rattle.sign_font.specs.declared.parts.Defaults.{Defaults}
+use Rattle.sign_font.proofs.DefaultLemmas.{sound_under}
 use Rattle.sign_font.specs.Defaults.{default_fault, under}
 use Rattle.sign_font.specs.Sign.{SignData}
+use Rattle.sign_font.specs.Sound.{IsSound}
 use Rattle.multi_token.specs.Reading.{reading}
 use Rattle.multi_layout.specs.declared.times.Shown.{Shown}
 use Rattle.multi_layout.specs.declared.times.Shown.TheVariants.{Page, Off}
 use Rattle.multi_layout.specs.LaidItems.{laid_out}
 use Rattle.multi_layout.specs.Limits.{check_limit}
-use Rattle.multi_layout.specs.Meaning.{Meaning, meanings}
+use Rattle.multi_layout.specs.Meaning.{meanings}
 use Rattle.multi_layout.specs.Picture.{colour_of, in_plane, pixel_at, shown_colour, things}
 use Rattle.multi_layout.specs.Verdict.{Accepted, broken, of_first, offences, pages_of, verdict, verdict_on}
 use Rattle.message_store.specs.declared.fault.StoreFault.{StoreFault}
@@ -37,6 +39,7 @@ use Rattle.sign_control.specs.State.{IsAccepted, IsOneOf, StateData, Stepped, st
 use Rattle.sign_control.specs.Step.{activated, defaults_step, judged_activation, judged_step, step, store_step, with_default}
 use Rattle.sign_control.specs.Time.{end_step, passed, ticked}
 use Rattle.sign_control.proofs.BudgetLemmas.{every_run_stays_within}
+use Rattle.sign_control.proofs.ColourLemmas.{colour_most, laid_out_coloured}
 use Rattle.sign_control.proofs.CountLemmas.{count-le}
 use Rattle.sign_control.proofs.FrameLemmas.{there}
 use Rattle.message_store.proofs.ShortLemmas.{HasShort, HasShortIn, IsShortRow, row-short, short-beacon, short-cleared, short-multi, short-owner, short-pixel, short-priority, short-requested, short-worked, slot-short}
@@ -285,17 +288,24 @@ pub steady-run : (sign : SignData) (state : StateData) (commands : List Command)
 steady-run sign state [] is = is
 steady-run sign state (first ∷ commands) is = steady-run sign (step sign state first).state commands (steady-step sign state first is)
 
--- each command adds at most the check limit of 4,096 octets
+-- a command adds at most the check limit of 4,096 octets
+next-steps : (sign : SignData) (state : StateData) (c : Command) (old new : ℕ) → IsSteady sign state → IsCountOf (text_judged sign state c) old new
+    → (old ≤ new) × (new ≤ old + check_limit 4096)
+next-steps sign state c old new is one =
+    let judged = text_judged sign state c in
+    let least = count-ge judged old new one in
+    let most = count-le judged old new one in
+    let limit = limit-le judged (judged-text sign state c is.store is.showing.short) in
+    (least, omega (arith, most, limit))
+
+-- so commands add at most that for each
 pub steps-run : (sign : SignData) (state : StateData) (commands : List Command) (old new : ℕ) → IsSteady sign state → AreCountsOf sign state commands old new
     → (old ≤ new) × (new ≤ old + check_limit 4096 * length commands)
 steps-run sign state [] old new is same = (omega (arith, same), omega (arith, same))
 steps-run sign state (first ∷ commands) old new is (between, one, others) =
+    let now = next-steps sign state first old between is one in
     let rest = steps-run sign (step sign state first).state commands between new (steady-step sign state first is) others in
-    let judged = text_judged sign state first in
-    let least = count-ge judged old between one in
-    let most = count-le judged old between one in
-    let limit = limit-le judged (judged-text sign state first is.store is.showing.short) in
-    (omega (arith, least, rest.0), omega (arith, most, limit, rest.1))
+    (omega (arith, now.0, rest.0), omega (arith, now.1, rest.1))
 
 -- ---- the frame
 
@@ -317,13 +327,13 @@ same-test a b = elim (cases_Bool (a == b)) [
 ]
 
 -- each pixel has one colour
-pub one-colour : (sign : SignData) (items : List Meaning) (s : Shown) (column row : ℕ) → (colour : ℕ) × IsOnly colour (λ other. pixel_at sign items s other column row)
+pub one-colour : (sign : SignData) (octets : List ℕ) (s : Shown) (column row : ℕ) → IsSound sign → (colour : ℕ) × (colour ≤ 9) × IsOnly colour (λ other. pixel_at sign (meanings octets) s other column row)
 unfolding in_plane
-one-colour sign items (Page page phase) column row =
-    let laid = laid_out sign items in
+one-colour sign octets (Page page phase) column row sound =
+    let laid = laid_out sign (meanings octets) in
     let colour = shown_colour sign (colour_of sign.defaults (things sign phase laid) page column row) in
-    (colour, λ other. same-test colour other)
-one-colour sign items Off column row = (0, λ other. refl)
+    (colour, colour_most sign sound.fore sound.back phase laid page column row (laid_out_coloured sign octets), λ other. same-test colour other)
+one-colour sign octets Off column row sound = (0, lit≤ tt, λ other. refl)
 
 pub headline : Headline
 headline sign store commands sound taken kept =
@@ -338,8 +348,10 @@ headline sign store commands sound taken kept =
     let all : take (length commands) commands ≡ commands = take-length commands in
     record {
       within = subst (λ (l : List Command). IsWithin store.limits (run sign first l).state.store) all (every_run_stays_within sign first commands kept (length commands));
+      next = λ c old new count. next-steps sign last c old new is count;
       steps = λ old new counts. steps-run sign first commands old new steady counts;
+      short = is.showing.short;
       accepted = accepted-pages (shown_by sign last) last.text is.showing.accepted;
       there = there (shown_by sign last) last.text last.display.clock (shown_now sign last) refl;
-      coloured = λ column row. one-colour (shown_by sign last) (meanings last.text) (shown_now sign last) column row;
+      coloured = λ column row. one-colour (shown_by sign last) last.text (shown_now sign last) column row (sound_under sign last.display.defaults sound is.showing.shown_taken);
     }

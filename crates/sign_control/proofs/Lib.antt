@@ -1,4 +1,5 @@
 pub mod BudgetLemmas
+pub mod ColourLemmas
 pub mod CountLemmas
 pub mod FrameLemmas
 pub mod HeadlineLemmas

@@ -12,6 +12,7 @@ use Rattle.multi_layout.specs.Verdict.{Accepted, pages_of, verdict}
 use Rattle.message_store.specs.Limits.{IsKept}
 use Rattle.message_store.specs.Slot.{StoreData}
 use Rattle.sign_control.specs.declared.command.Command.{Command}
+use Rattle.sign_control.specs.Counts.{IsCountOf, text_judged}
 use Rattle.sign_control.specs.Run.{AreCountsOf, IsWithin, run}
 use Rattle.sign_control.specs.State.{IsThere, StateData, started}
 
@@ -39,14 +40,18 @@ after sign store commands = (run sign (started sign.defaults store) commands).st
 pub record Holds (sign : SignData) (store : StoreData) (commands : List Command) : Type 0 where
   -- the used bytes and slots are within the store's limits
   pub within : IsWithin store.limits (after sign store commands).store
-  -- each command took at most the check limit of the longest text
+  -- whatever is asked next takes at most the check limit of the longest text
+  pub next : (command : Command) (old new : ℕ) → IsCountOf (text_judged sign (after sign store commands) command) old new → (old ≤ new) × (new ≤ old + check_limit 4096)
+  -- so all commands together took at most that for each
   pub steps : (old new : ℕ) → AreCountsOf sign (started sign.defaults store) commands old new → (old ≤ new) × (new ≤ old + check_limit 4096 * length commands)
-  -- the text that is shown is accepted
+  -- the text that is shown has at most 4,096 octets
+  pub short : length (after sign store commands).text ≤ 4096
+  -- and is accepted
   pub accepted : let state = after sign store commands in verdict (shown_by sign state) state.text ≡ Accepted (pages_of (meanings state.text))
   -- a frame shows a page of that text, or an off time
   pub there : let state = after sign store commands in IsThere (shown_now sign state) (pages_of (meanings state.text))
-  -- each pixel of a frame has one colour
-  pub coloured : (column row : ℕ) → (colour : ℕ) × IsOnly colour (λ other. pixel_now sign (after sign store commands) other column row)
+  -- each pixel of a frame has one colour, of 0 to 9
+  pub coloured : (column row : ℕ) → (colour : ℕ) × (colour ≤ 9) × IsOnly colour (λ other. pixel_now sign (after sign store commands) other column row)
 
 -- a law: it holds after every list of commands of every sign within its limits, which takes its own defaults, and of every store
 -- within its own (own)

@@ -9,9 +9,10 @@ pub fn every_run_stays_within()
     ensures { EveryRunStaysWithin }
 {}
 
-/// After every list of commands, from the making of a controller on: the store is within its budget and its slots; each command
-/// took at most the check limit of the longest text, 36,865 steps; the text that is shown is accepted by the defaults with
-/// which it is shown; and a frame shows a page of that text, or an off time, in which each pixel has one colour.
+/// After every list of commands, from the making of a controller on: the store is within its budget and its slots; whatever is
+/// asked next takes at most the check limit of the longest text, 36,865 steps, and each command before it did; the text that is shown
+/// has at most 4,096 octets, and is accepted by the defaults with which it is shown; and a frame shows a page of that text, or an off
+/// time, in which each pixel has one colour, of 0 to 9.
 pub fn headline()
     ensures { Headline }
 {}

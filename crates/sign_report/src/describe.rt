@@ -76,7 +76,7 @@ fn describe_defaults(text: &mut String, defaults: &Defaults) -> Result<(), Alloc
     writeln!(text, "default background: {back}, {}", word(&COLOURS, back))
 }
 
-/// The characters that a font of a sign has, as runs of numbers with a space before each (own). Written by `Display`.
+/// The characters that a font of a sign has, as runs of numbers with a space before each, or ` none` (own). Written by `Display`.
 #[derive(Clone, Copy)]
 pub struct Characters<'a> {
     /// The sign.
@@ -89,6 +89,7 @@ impl Display for Characters<'_> {
     fn fmt<W: Write>(&self, f: &mut Formatter<W>) -> fmt::Result {
         let mut source = Source::new(b"");
         let mut first = None;
+        let mut is_empty = true;
         for number in 1..=65535u16 {
             let is_there = self
                 .sign
@@ -96,6 +97,7 @@ impl Display for Characters<'_> {
                 .is_some();
             if is_there && first.is_none() {
                 first = Some(number);
+                is_empty = false;
             }
             let ends = !is_there || number == 65535;
             if let (true, Some(start)) = (ends, first) {
@@ -111,6 +113,9 @@ impl Display for Characters<'_> {
                 }
                 first = None;
             }
+        }
+        if is_empty {
+            write!(f, " none")?;
         }
         Ok(())
     }

@@ -1,5 +1,6 @@
 //! The faults that are found in a sign file.
 
+use crate::excerpt::Excerpt;
 use crate::keys::{CELL, DEFAULTS, FONT, Key, Kind, PERMANENT, SIGN};
 use crate::order::look_at_order;
 use crate::place::{Entry, Place};
@@ -33,6 +34,8 @@ pub(crate) enum What<'a> {
     Unknown(&'a str),
     /// A number that doesn't rise behind the one before it.
     NotRising(i64),
+    /// No font is there.
+    NoFonts,
     /// More entries than there may be.
     TooMany(usize, usize),
     /// No font has this number.
@@ -70,12 +73,13 @@ impl Display for What<'_> {
             What::Missing(kind) => write!(f, "missing; it should be {kind}"),
             What::Other(found, kind) => write!(f, "found: {found}; it should be {kind}"),
             What::Number(number, kind) => write!(f, "{number}; it should be {kind}"),
-            What::Text(text, kind) => write!(f, "\"{text}\"; it should be {kind}"),
+            What::Text(text, kind) => write!(f, "\"{}\"; it should be {kind}", Excerpt(text)),
             What::Unknown(nearest) => write!(f, "not known; the nearest key is {nearest}"),
             What::NotRising(last) => write!(
                 f,
                 "the numbers must rise, and the one before is {last}"
             ),
+            What::NoFonts => write!(f, "there must be 1 to 16 fonts"),
             What::TooMany(count, most) => write!(f, "{count} of at most {most}"),
             What::NoFont(number) => write!(f, "no font has the number {number}"),
             What::Octets {
@@ -105,9 +109,9 @@ impl Findings {
         writeln!(self.text, "{place}{name}: {what}")
     }
 
-    /// Tells what is no fault.
+    /// Tells what is no fault. The name is text of the file.
     fn note(&mut self, place: &Place, name: &str, what: &What<'_>) -> Result<(), AllocError> {
-        writeln!(self.text, "note: {place}{name}: {what}")
+        writeln!(self.text, "note: {place}{}: {what}", Excerpt(name))
     }
 }
 

@@ -5,6 +5,7 @@
 #![tactic(auto)]
 
 mod describe;
+mod excerpt;
 mod find;
 mod keys;
 mod order;

@@ -55,6 +55,24 @@ fn is_spare_set(digits: &[u8], spare: i64) -> bool {
     }
 }
 
+/// Looks whether a number rises behind the one before it. The answer is the last number.
+fn look_at_number(
+    found: &mut Findings,
+    at: &Place,
+    last: Option<i64>,
+    entry: Entry,
+) -> Result<Option<i64>, AllocError> {
+    let Some(number) = entry.number else {
+        return Ok(last);
+    };
+    if let Some(last) = last {
+        if number <= last {
+            found.fault(at, "number", &What::NotRising(last))?;
+        }
+    }
+    Ok(Some(number))
+}
+
 /// Looks at the order and the number of a font's cells, and at their octets.
 fn look_at_cells(found: &mut Findings, font: Entry, table: &Table) -> Result<(), AllocError> {
     let cells = tables_at(table, "cell");
@@ -62,43 +80,44 @@ fn look_at_cells(found: &mut Findings, font: Entry, table: &Table) -> Result<(),
         found.fault(&Place::Font(font), "cell", &What::TooMany(cells.len(), 255))?;
     }
     let height = number_at(table, "height").unwrap_or(0);
-    let mut last = 0;
+    let mut last = None;
     for (place, value) in cells.iter().enumerate() {
         if let Some(cell) = value.as_table() {
             let cell_entry = entry(place, cell);
             let at = Place::Cell(font, cell_entry);
             look_at_bits(found, &at, cell, height)?;
-            if let Some(number) = cell_entry.number {
-                if number <= last {
-                    found.fault(&at, "number", &What::NotRising(last))?;
-                }
-                last = number;
-            }
+            last = look_at_number(found, &at, last, cell_entry)?;
         }
     }
     Ok(())
 }
 
+/// Whether a sign file has no fonts: its key is missing, or an empty array.
+fn has_no_fonts(table: &Table) -> bool {
+    match table.get("font") {
+        Some(value) => match value.as_array() {
+            Some(fonts) => fonts.is_empty(),
+            None => false,
+        },
+        None => true,
+    }
+}
+
 /// Looks at the order and the number of the fonts, and whether the default font is one of them.
 fn look_at_fonts(found: &mut Findings, table: &Table) -> Result<(), AllocError> {
     let fonts = tables_at(table, "font");
-    if fonts.is_empty() {
-        found.fault(&Place::Sign, "font", &What::TooMany(0, 16))?;
+    if has_no_fonts(table) {
+        found.fault(&Place::Sign, "font", &What::NoFonts)?;
     }
     if fonts.len() > 16 {
         found.fault(&Place::Sign, "font", &What::TooMany(fonts.len(), 16))?;
     }
-    let mut last = 0;
+    let mut last = None;
     for (place, value) in fonts.iter().enumerate() {
         if let Some(font) = value.as_table() {
             let font_entry = entry(place, font);
             look_at_cells(found, font_entry, font)?;
-            if let Some(number) = font_entry.number {
-                if number <= last {
-                    found.fault(&Place::Font(font_entry), "number", &What::NotRising(last))?;
-                }
-                last = number;
-            }
+            last = look_at_number(found, &Place::Font(font_entry), last, font_entry)?;
         }
     }
     Ok(())
@@ -137,12 +156,13 @@ fn look_at_permanents(found: &mut Findings, table: &Table) -> Result<(), AllocEr
     }
     let most = number_at(table, "max_string").unwrap_or(4096);
     for (place, value) in messages.iter().enumerate() {
-        if let Some(message) = value.as_table() {
-            if let Some(text) = message.get("multi").and_then(|value| value.as_str()) {
-                if text.len() as u64 > most.max(0) as u64 {
-                    let at = Place::Permanent(entry(place, message));
-                    found.fault(&at, "multi", &What::TooLong(text.len(), most))?;
-                }
+        let Some(message) = value.as_table() else {
+            continue;
+        };
+        if let Some(text) = message.get("multi").and_then(|value| value.as_str()) {
+            if text.len() as u64 > most.max(0) as u64 {
+                let at = Place::Permanent(entry(place, message));
+                found.fault(&at, "multi", &What::TooLong(text.len(), most))?;
             }
         }
     }

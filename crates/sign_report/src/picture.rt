@@ -21,21 +21,31 @@ fn draw_cell(text: &mut String, cell: &Cell<'_>) -> Result<(), AllocError> {
     Ok(())
 }
 
-/// Writes each character of a font: its number, its sign in ASCII if it has one, and its picture.
+/// Writes a character: its number, its sign in ASCII if it has one, and its picture.
+fn draw_character(text: &mut String, number: u16, cell: &Cell<'_>) -> Result<(), AllocError> {
+    write!(text, "character {number}")?;
+    if number > 32 && number < 127 {
+        write!(text, " {}", char::from(number as u8))?;
+    }
+    writeln!(text, ", width {}", cell.width())?;
+    draw_cell(text, cell)
+}
+
+/// Writes each character of a font, or that there is none.
 pub(crate) fn draw_font(text: &mut String, sign: &Sign, font: u8) -> Result<(), AllocError> {
     let mut source = Source::new(b"");
     if sign.font(&mut source, font).is_none() {
         return writeln!(text, "font {font}: the sign has no such font");
     }
+    let mut is_empty = true;
     for number in 1..=65535u16 {
         if let Some(cell) = sign.cell(&mut source, font, number) {
-            write!(text, "character {number}")?;
-            if number > 32 && number < 127 {
-                write!(text, " {}", char::from(number as u8))?;
-            }
-            writeln!(text, ", width {}", cell.width())?;
-            draw_cell(text, &cell)?;
+            draw_character(text, number, &cell)?;
+            is_empty = false;
         }
+    }
+    if is_empty {
+        writeln!(text, "font {font}: no characters")?;
     }
     Ok(())
 }

@@ -2,6 +2,7 @@ pub mod AnsweringLemmas
 pub mod BlockLemmas
 pub mod CutLemmas
 pub mod ExplainLemmas
+pub mod FaultLemmas
 pub mod FileLemmas
 mod FileSetupRows
 pub mod FileSetupLemmas

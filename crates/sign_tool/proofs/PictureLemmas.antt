@@ -1,5 +1,8 @@
 -- A page of a message as a picture.
-use Rattle.std.proofs.Common.{◌≡◌, ℕ, ◌<◌, ◌≤◌, ◌^◌, List, length, sym, ap, subst, arith}
+use Rattle.std.proofs.Common.{◌≡◌, ℕ, ◌+◌, ◌<◌, ◌≤◌, ◌^◌, List, [], ◌∷◌, ◌++◌, length, Option, append_assoc, append-nil, refl, sym, ap, ◌∙◌, subst, arith}
+use Rattle.std.specs.Io.KnownBytes.{Consumes}
+use Rattle.std.proofs.KnownBytes.{Consumes-trans}
+use Rattle.std.proofs.lemmas.List.{length-append}
 use Rattle.sign_font.specs.Sign.{SignData}
 use Rattle.multi_layout.specs.Meaning.{meanings}
 use Rattle.multi_layout.specs.Verdict.{Accepted, IsVerdict, Verdict, pages_of, verdict}
@@ -7,7 +10,12 @@ use Rattle.multi_layout.proofs.AcceptedLemmas.{accepted_is}
 use Rattle.multi_layout.proofs.VerdictLemmas.{one_verdict}
 use Rattle.page_picture.specs.Colours.{ColourData, IsPage}
 use Rattle.page_picture.specs.Ppm.{ppm_of}
-use Rattle.sign_tool.specs.Pictures.{DrawsPage}
+use Rattle.sign_tool.specs.declared.fault.ToolFault.{ToolFault}
+use Rattle.sign_tool.specs.declared.lines.LineStart.{LineStart}
+use Rattle.sign_tool.specs.declared.picture.PictureFault.TheVariants as faults
+use Rattle.sign_tool.specs.Lines.{IsOneLine, octets_of}
+use Rattle.sign_tool.specs.Pictures.{DrawsPage, IsNoMessage}
+use Rattle.sign_tool.specs.Streams.{IsLineFault}
 
 -- the one verdict on octets is that on equal ones
 pub verdict_is : (sign : SignData) (line octets : List ℕ) (v : Verdict) → octets ≡ line → IsVerdict sign octets v → verdict sign line ≡ v
@@ -37,3 +45,26 @@ draws sign judge octets line pages page phase colours text same_sign same short 
   drawn = subst (λ l. IsPage sign l page phase colours) same drawn;
   written = written;
 }
+
+-- ---- what stands behind the sign
+
+-- the first line has a fault
+pub first_fault : (place : LineStart) (input input' : Option (List ℕ)) (more : List ℕ) (e : ToolFault) → Consumes input input' more → IsLineFault place.number place.left more input' e
+    → IsNoMessage place input input' (faults.Tool e)
+first_fault place input input' more e reads is =
+    let number : place.number ≡ place.number + 0 = omega arith in
+    ([], more, place.left, reads, omega arith, subst (λ n. IsLineFault n place.left more input' e) number is)
+
+-- the second line has one
+pub second_fault : (place : LineStart) (left : ℕ) (input between input' : Option (List ℕ)) (line more : List ℕ) (e : ToolFault) → Consumes input between (line ++ 10 ∷ []) → length line + 1 + left ≡ place.left
+    → Consumes between input' more → IsLineFault (place.number + 1) left more input' e → IsNoMessage place input input' (faults.Tool e)
+second_fault place left input between input' line more e first room reads is =
+    let one : octets_of (line ∷ []) ≡ line ++ 10 ∷ [] = append-nil (line ++ 10 ∷ []) in
+    let count = ap length one ∙ length-append line (10 ∷ []) in
+    (line ∷ [], more, left, Consumes-trans input between input' (octets_of (line ∷ [])) more (subst (Consumes input between) (sym one) first) reads, omega (arith, count, room), is)
+
+-- a second line begins
+pub second_line : (place : LineStart) (input between input' : Option (List ℕ)) (line more : List ℕ) → Consumes input between (line ++ 10 ∷ []) → IsOneLine line → Consumes between input' more → 0 < length more
+    → IsNoMessage place input input' (faults.SecondMessage (place.number + 1))
+second_line place input between input' line more first one reads some =
+    (refl, (line, more, subst (Consumes input input') (append_assoc line (10 ∷ []) more) (Consumes-trans input between input' (line ++ 10 ∷ []) more first reads), one, some))

@@ -130,7 +130,7 @@ module _ (mode : Mode) (sample : Bool) (input now new output written : Option (L
     written = behind_written r.taken r.sent fault r.written;
   }
 
--- a run that ends for want of memory before a line is read
+-- a run that ends because memory was refused, before a line is read
 pub Runs-unread : (outcomes : List ℕ → Outcome) (so_far : List ℕ → List ℕ) (limit : ℕ) (input output : Option (List ℕ)) (e : ToolFault) → e ≡ faults.Memory
     → Runs outcomes so_far limit input input output output (Some e)
 Runs-unread outcomes so_far limit input output e is = subst (λ f. Runs outcomes so_far limit input input output output (Some f)) (sym is) record {

@@ -33,7 +33,7 @@ abbrev pub IsFront : List ℕ → List ℕ → Type 0
 IsFront sent all = (unsent : List ℕ) × (all ≡ sent ++ unsent)
 
 -- What was sent is the whole output of the input, with its fault; after a failed read it is the output of the whole
--- lines that were taken, and after a failed write or want of memory it is a front of the output (own).
+-- lines that were taken, and after a failed write, or if memory was refused, it is a front of the output (own).
 abbrev pub IsWritten : (List ℕ → Outcome) → (List ℕ → List ℕ) → Option (List ℕ) → List ℕ → List ℕ → Option ToolFault → Type 0
 IsWritten outcomes so_far input taken sent (Some Read) = so_far taken ≡ sent
 IsWritten outcomes so_far input taken sent (Some Write) = IfSome input (λ octets. IsFront sent (outcomes octets).output)

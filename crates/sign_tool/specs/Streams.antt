@@ -5,7 +5,7 @@ use Rattle.sign_tool.specs.declared.fault.ToolFault.{ToolFault}
 use Rattle.sign_tool.specs.declared.fault.ToolFault.TheVariants as faults
 use Rattle.sign_tool.specs.declared.lines.NextLine.{NextLine}
 use Rattle.sign_tool.specs.declared.lines.NextLine.TheVariants.{Line, TooLong, Unfinished, End, InputTooLong}
-use Rattle.sign_tool.specs.Lines.{IsOneLine, text_of}
+use Rattle.sign_tool.specs.Lines.{IsOneLine, input_limit, text_of}
 
 -- One octet is taken, or none at the end, or none where the reader fails (own).
 abbrev pub TakesOctet : Option (List ℕ) → Option (List ℕ) → Result (Option ℕ) ToolFault → Type 0
@@ -13,7 +13,7 @@ TakesOctet old new (Ok None) = Consumes old new [] × IsAtEnd new
 TakesOctet old new (Ok (Some octet)) = Consumes old new (octet ∷ [])
 TakesOctet old new (Err e) = (e ≡ faults.Read) × Keeps old new
 
--- A reader fails within a line, and otherwise the only fault is want of memory (own).
+-- A reader fails within a line, and otherwise the only fault is that memory was refused (own).
 abbrev pub FailsAfter : List ℕ → ToolFault → Type 0
 FailsAfter taken faults.Read = IsOneLine taken
 FailsAfter taken faults.Memory = Unit {0}
@@ -32,6 +32,25 @@ TakesLine old new left left' line (Ok InputTooLong) = (taken : List ℕ) × (oct
     × Consumes old new (taken ++ octet ∷ []) × IsOneLine taken × (length taken ≡ left)
 TakesLine old new left left' line (Err e) = (taken : List ℕ)
     × Consumes old new taken × (length taken ≤ left) × FailsAfter taken e
+
+-- A fault at a line: the line with this number, where `left` more octets may be taken as lines, is too long, or is cut off by the end
+-- of the input, or the input goes on past its limit; or the reader or the writer failed, or memory was refused (own).
+abbrev pub IsLineFault : ℕ → ℕ → List ℕ → Option (List ℕ) → ToolFault → Type 0
+IsLineFault number left more input (faults.LineTooLong line) =
+    (line ≡ number) × ((taken : List ℕ) × (more ≡ taken ++ 10 ∷ []) × IsOneLine taken × (length more ≤ left) × (8300 < length (text_of taken)))
+IsLineFault number left more input (faults.BadLine line) = (line ≡ number) × IsOneLine more × (0 < length more) × (length more ≤ left) × IsAtEnd input
+IsLineFault number left more input faults.InputTooLong = (taken : List ℕ) × (octet : ℕ) × (more ≡ taken ++ octet ∷ []) × IsOneLine taken × (length taken ≡ left)
+IsLineFault number left more input faults.Read = IsOneLine more
+IsLineFault number left more input faults.Write = Unit {0}
+IsLineFault number left more input faults.Memory = Unit {0}
+IsLineFault number left more input e = ⊥
+
+-- A fault where a whole input is read: it has more octets than an input may have, or the reader failed, or memory was refused (own).
+abbrev pub IsReadFault : Option (List ℕ) → Option (List ℕ) → ToolFault → Type 0
+IsReadFault old new faults.InputTooLong = (octets : List ℕ) × Consumes old new octets × (input_limit < length octets)
+IsReadFault old new faults.Read = Unit {0}
+IsReadFault old new faults.Memory = Unit {0}
+IsReadFault old new e = ⊥
 
 -- A writer takes all of the octets, or where it fails some of them, from the front (own).
 abbrev pub WritesWhole : Option (List ℕ) → Option (List ℕ) → List ℕ → Result (Unit {0}) ToolFault → Type 0

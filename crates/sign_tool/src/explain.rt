@@ -25,7 +25,7 @@ fn explain_line<R: Read, W: Write>(
     writer: &mut W,
 ) -> Result<Option<bool>, ToolFault>
     requires { place.old.number + place.old.left ≤ input_limit + 1 }
-    ensures explains { ExplainsNext explainer.now phase (R.remaining reader.old) (R.remaining reader.new) (W.contents writer.old) (W.contents writer.new) result }
+    ensures explains { ExplainsNext explainer.now phase place.old place.new (R.remaining reader.old) (R.remaining reader.new) (W.contents writer.old) (W.contents writer.new) result }
     ensures place { IfOk result (λ next. IfSome next (λ taken. (place.new.left < place.old.left) × (place.new.number + place.new.left ≤ input_limit + 1))) }
 {
     match next_line(reader, line, &mut place.left) {
@@ -57,7 +57,7 @@ fn explain_lines<R: Read, W: Write>(
     writer: &mut W,
 ) -> Result<bool, ToolFault>
     requires { place.number + place.left ≤ input_limit + 1 }
-    ensures explains { ExplainsRest explainer.now phase (R.remaining reader.old) (R.remaining reader.new) (W.contents writer.old) (W.contents writer.new) result }
+    ensures explains { ExplainsRest explainer.now phase place (R.remaining reader.old) (R.remaining reader.new) (W.contents writer.old) (W.contents writer.new) result }
 {
     let mut line = Vec::new(alloc);
     let mut text = Vec::new(alloc);

@@ -1,7 +1,7 @@
 //! A page of a message, written as a picture in PPM.
 ghost use Rattle.std.specs.Prelude.{◌≡◌, ◌+◌, ◌≤◌, IfOk, IfErr};
 ghost use Rattle.sign_tool.specs.Lines.{input_limit};
-ghost use Rattle.sign_tool.specs.Pictures.{DrawsInput, DrawsPage, IsFaultOf, IsUnjudged, TakesLast};
+ghost use Rattle.sign_tool.specs.Pictures.{DrawsInput, DrawsPage, IsFaultOf, IsNoMessage, TakesLast};
 
 use crate::fault::ToolFault;
 use crate::lines::{LineStart, NextLine, next_line, text_of};
@@ -47,7 +47,7 @@ fn read_message<R: Read>(
 ) -> Result<Vec<u8>, PictureFault>
     requires { place.number + place.left ≤ input_limit + 1 }
     ensures last { IfOk result (λ line. TakesLast (R.remaining reader.old) (R.remaining reader.new) line.items) }
-    ensures fault { IfErr result IsUnjudged }
+    ensures fault { IfErr result (IsNoMessage place (R.remaining reader.old) (R.remaining reader.new)) }
 {
     let mut line = Vec::new(alloc);
     let mut left = place.left;
@@ -63,13 +63,16 @@ fn read_message<R: Read>(
         Ok(NextLine::InputTooLong) => return Err(PictureFault::Tool(ToolFault::InputTooLong)),
         Err(fault) => return Err(PictureFault::Tool(fault)),
     }
+    let second = PictureFault::SecondMessage {
+        line: place.number + 1,
+    };
     let mut more = Vec::new(alloc);
     match next_line(reader, &mut more, &mut left) {
         Ok(NextLine::End) => Ok(line),
+        Ok(NextLine::Line) => Err(second),
+        Ok(NextLine::TooLong) => Err(second),
+        Ok(NextLine::Unfinished) => Err(second),
         Ok(NextLine::InputTooLong) => Err(PictureFault::Tool(ToolFault::InputTooLong)),
-        Ok(_) => Err(PictureFault::SecondMessage {
-            line: place.number + 1,
-        }),
         Err(fault) => Err(PictureFault::Tool(fault)),
     }
 }

@@ -1,6 +1,8 @@
 //! An input that is read as a whole.
-ghost use Rattle.std.specs.Prelude.{IfOk, OnOk};
+ghost use Rattle.std.specs.Prelude.{◌≤◌, length, IfErr, IfOk, OnOk};
 ghost use Rattle.std.specs.Io.KnownBytes.{Consumes, IsAtEnd};
+ghost use Rattle.sign_tool.specs.Lines.{input_limit};
+ghost use Rattle.sign_tool.specs.Streams.{IsReadFault};
 
 use crate::fault::ToolFault;
 use crate::lines::MAX_INPUT;
@@ -11,16 +13,21 @@ use std::io::Read;
 pub(crate) fn read_whole<R: Read>(alloc: Global, reader: &mut R) -> Result<Vec<u8>, ToolFault>
     ensures read { IfOk result (λ octets. Consumes (R.remaining reader.old) (R.remaining reader.new) octets.items) }
     ensures end { OnOk result (IsAtEnd (R.remaining reader.new)) }
+    ensures most { IfOk result (λ octets. length octets.items ≤ input_limit) }
+    ensures fault { IfErr result (IsReadFault (R.remaining reader.old) (R.remaining reader.new)) }
 {
     let mut octets = Vec::new(alloc);
     let mut part = [0; 4096];
     // Each read but the last gives an octet or more.
-    for _ in 0..=MAX_INPUT {
-        match reader.read(&mut part) {
+    for reads in 0..MAX_INPUT + 1 {
+        let count = match reader.read(&mut part) {
             Ok(0) => return Ok(octets),
-            Ok(count) => octets.extend_from_slice(&part[..count])?,
+            Ok(count) => count,
             Err(_) => return Err(ToolFault::Read),
-        }
+        };
+        let Ok(()) = octets.extend_from_slice(&part[..count]) else {
+            return Err(ToolFault::Memory);
+        };
         if octets.len() > MAX_INPUT as usize {
             return Err(ToolFault::InputTooLong);
         }

@@ -21,6 +21,9 @@
 //! `sign_script` says, and gets its reply. The controller is made once, and each line finds the state that the lines before
 //! it leave. An empty line and one that begins with `#` get no reply.
 //!
+//! `signctl explain` reads what `check` reads, and says of each message why it is refused, or draws its pages. `--phase` says when each page
+//! is drawn, in tenths of a second since it began. The exit status is 1 if a message was refused.
+//!
 //! `signctl picture` reads what `check` reads, with one message, and writes a page of it as a picture in PPM, with 8 by 8 points for each
 //! pixel. `--page` says which page, counted from 1, and `--phase` when, in tenths of a second since the page began.
 //!

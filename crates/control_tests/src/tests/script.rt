@@ -1,6 +1,6 @@
 use message_store::MsgRef;
 use sign_control::{Command, DefaultField};
-use sign_script::{Ask, LineFault, read_ask};
+use sign_script::{Ask, read_ask};
 use std::process::Abort;
 
 /// Changeable message 1.
@@ -137,48 +137,6 @@ fn each_default_is_taken(rt: HostRuntime) {
         ("default back 2", set_default(DefaultField::Back, 2)),
     ];
     check_taken(&rt, &mut octets, &rows);
-}
-
-#[test]
-fn other_lines_are_bad(rt: HostRuntime) {
-    let mut octets = Vec::new(rt.alloc());
-    let lines = [
-        " work",
-        "work ",
-        "tick",
-        "tick ",
-        "tick 00000000001",
-        "tick 4294967296",
-        "tick +1",
-        "tick -1",
-        "frame 256",
-        "activate ffff",
-        "activate ffff800300019a667f00000g",
-        "owner 3 1 414",
-        "owner 3 1 4g",
-        "request 3  1 6",
-        "request 3 1",
-        "request 3 1 6 ",
-        "request 256 1 6",
-        "request 3 65536 6",
-        "Work",
-        "default font 256",
-        "default size 1",
-        "default Font 1",
-        "multi 3",
-        "multi  3 1 A",
-        "row 3",
-        "end 0200",
-        "x",
-        " ",
-        "\r",
-    ];
-    for line in lines {
-        assert!(rt;
-            read_ask(line.as_bytes(), &mut octets) == Err(LineFault::Bad),
-            "{line} is bad"
-        );
-    }
 }
 
 /// `.ci/refused-calls` refuses its memory.

@@ -1,5 +1,6 @@
 use font_bdf::{BdfFault, BdfProblem, FontSetting, font_tables, read_font};
 use std::alloc::{AllocError, Global};
+use std::fmt::Write;
 use std::test::Fail;
 
 const SETTING: FontSetting = FontSetting {
@@ -62,110 +63,12 @@ cell = [
     Ok(())
 }
 
-/// What is told of the small font with other lines in the place of some.
-fn told(
-    alloc: Global,
-    from: &str,
-    to: &str,
-    setting: &FontSetting,
-) -> Result<Option<(u32, BdfProblem)>, AllocError> {
-    let font = SMALL.replacen(alloc, from, to, 1)?;
-    Ok(match font_tables(alloc, font.as_bytes(), setting) {
+/// What is told of the small font by a setting.
+fn told(alloc: Global, setting: &FontSetting) -> Option<(u32, BdfProblem)> {
+    match font_tables(alloc, SMALL.as_bytes(), setting) {
         Ok(_) => None,
         Err(fault) => Some((fault.line, fault.problem)),
-    })
-}
-
-#[test]
-fn a_fault_is_told_by_its_line(rt: HostRuntime) -> Result<(), Fail> {
-    let outside = BdfProblem::Outside {
-        column: 3,
-        row: 0,
-        width: 3,
-        height: 3,
-    };
-    let rows = [
-        ("FONT small", "COMMENT another name", None),
-        (
-            "STARTFONT 2.1",
-            "STARTFONTS",
-            Some((1, BdfProblem::NoStart)),
-        ),
-        (
-            "BOX 3 3 0 -1",
-            "BOX 3 3 0",
-            Some((4, BdfProblem::BadNumbers)),
-        ),
-        (
-            "BOX 3 3 0 -1",
-            "BOX 3 x 0 -1",
-            Some((4, BdfProblem::BadNumbers)),
-        ),
-        (
-            "BOX 3 3 0 -1",
-            "BOX 3 65 0 -1",
-            Some((4, BdfProblem::BadHeight(65))),
-        ),
-        ("FONTBOUNDINGBOX", "FONTBOX", Some((10, BdfProblem::NoBox))),
-        ("ENCODING 73\n", "", Some((9, BdfProblem::NoNumbers))),
-        ("ENCODING 73", "ENCODING", Some((7, BdfProblem::BadNumbers))),
-        (
-            "DWIDTH 2 0",
-            "DWIDTH 1 0",
-            Some((10, BdfProblem::BadWidth(0))),
-        ),
-        (
-            "DWIDTH 2 0",
-            "DWIDTH 66 0",
-            Some((10, BdfProblem::BadWidth(65))),
-        ),
-        (
-            "BBX 1 2 0 -1",
-            "BBX 65 2 0 -1",
-            Some((10, BdfProblem::BadBox)),
-        ),
-        (
-            "BITMAP\n80\n80\nENDCHAR\n",
-            "",
-            Some((10, BdfProblem::NoBitmap)),
-        ),
-        (
-            "BITMAP\n80",
-            "BITMAP\n8000",
-            Some((11, BdfProblem::BadRow(2))),
-        ),
-        (
-            "BITMAP\n80\n80\n",
-            "BITMAP\n80\n",
-            Some((12, BdfProblem::BadRow(2))),
-        ),
-        (
-            "BITMAP\n80\n",
-            "BITMAP\n80\n80\n",
-            Some((13, BdfProblem::BadRows)),
-        ),
-        (
-            "BBX 3 3 0 -1\nBITMAP\n40",
-            "BBX 4 3 0 -1\nBITMAP\n50",
-            Some((20, outside)),
-        ),
-        (
-            "ENCODING 65",
-            "ENCODING 73",
-            Some((23, BdfProblem::Twice(73))),
-        ),
-        ("ENDFONT\n", "", Some((23, BdfProblem::NoEndOfFont))),
-        (
-            "ENDCHAR\nENDFONT\n",
-            "",
-            Some((22, BdfProblem::NoEndOfFont)),
-        ),
-    ];
-    for (from, to, fault) in rows {
-        let found = told(rt.alloc(), from, to, &SETTING)?;
-        assert_eq!(rt; found, fault, "with {to:?}");
     }
-    Ok(())
 }
 
 #[test]
@@ -183,19 +86,64 @@ fn a_setting_chooses_characters(rt: HostRuntime) -> Result<(), Fail> {
             last,
             ..SETTING
         };
-        let found = told(rt.alloc(), "", "", &setting)?;
+        let found = told(rt.alloc(), &setting);
         assert_eq!(rt; found, fault, "font {number}, characters {first} to {last}");
+    }
+    Ok(())
+}
+
+/// Two lines, and six for each character: the second has its number.
+fn font_of(alloc: Global, characters: u16) -> Result<String, AllocError> {
+    let mut font = String::new(alloc);
+    font.push_str("STARTFONT 2.1\nFONTBOUNDINGBOX 1 1 0 0\n")?;
+    for number in 1..=characters {
+        writeln!(font, "STARTCHAR c\nENCODING {number}\nDWIDTH 2 0")?;
+        font.push_str("BBX 0 0 0 0\nBITMAP\nENDCHAR\n")?;
+    }
+    font.push_str("ENDFONT\n")?;
+    Ok(font)
+}
+
+#[test]
+fn a_font_has_at_most_255_characters(rt: HostRuntime) -> Result<(), Fail> {
+    let rows = [
+        (255, 65535, None),
+        (256, 65535, Some((1534, BdfProblem::TooMany))),
+        (256, 255, None),
+    ];
+    for (characters, last, fault) in rows {
+        let setting = FontSetting { last, ..SETTING };
+        let font = font_of(rt.alloc(), characters)?;
+        let found = match read_font(rt.alloc(), font.as_bytes(), &setting) {
+            Ok(_) => None,
+            Err(fault) => Some((fault.line, fault.problem)),
+        };
+        assert_eq!(rt; found, fault, "{characters} characters up to {last}");
     }
     Ok(())
 }
 
 #[test]
 fn a_fault_has_its_text(rt: HostRuntime) -> Result<(), Fail> {
-    let fault = BdfFault {
-        line: 12,
-        problem: BdfProblem::Twice(65),
+    let outside = BdfProblem::Outside {
+        column: 3,
+        row: -1,
+        width: 3,
+        height: 7,
     };
-    let text = fault.to_string(rt.alloc())?;
-    assert_eq!(rt; text.as_str(), "line 12: character 65 is there already");
+    let rows = [
+        (
+            BdfProblem::Twice(65),
+            "line 12: character 65 is there already",
+        ),
+        (
+            outside,
+            "line 12: a pixel is lit outside the cell: column 3, row -1, counted from 0; the cell has 3 by 7",
+        ),
+    ];
+    for (problem, expected) in rows {
+        let text = BdfFault { line: 12, problem }.to_string(rt.alloc())?;
+        assert_eq!(rt; text.as_str(), expected);
+    }
     Ok(())
 }

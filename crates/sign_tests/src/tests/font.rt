@@ -204,7 +204,11 @@ fn only_making_a_sign_takes_memory(rt: HostRuntime) {
     let parts = sample_sign(rt.alloc()).expect(&rt, "the parts");
     let sign = Sign::new(rt.alloc(), parts).expect(&rt, "a sign");
     let mut source = Source::new(b"");
-    let large = sign.font(&mut source, 2).is_some() & sign.cell(&mut source, 2, 65).is_some();
+    // the `A` of font 2 begins with the row 0110
+    let large = sign.font(&mut source, 2).is_some()
+        & sign.cell(&mut source, 2, 65).is_some_and(|cell| cell.row(0) == 6 << 60
+            && cell.bit(1, 0)
+            && cell.width() == 4);
     // of the five cells the third is looked at, and then the fifth, above which there is none
     let wide = look(&sign, 1, 65535) == (None, 2);
     // an A of 3 columns and an I of one, each with a gap of one before it
@@ -213,6 +217,7 @@ fn only_making_a_sign_takes_memory(rt: HostRuntime) {
     assert!(rt; large & wide & whole & cut);
     let own = sign.defaults();
     assert!(rt; sign.refuses(&own).is_none() && sign.font_of(&own) == sign.default_font());
+    assert!(rt; sign.tallest() == 5 && !sign.beacons() && !sign.pixel_service());
 }
 
 #[test]
@@ -403,82 +408,6 @@ fn each_wide_number_finds_its_own_cell_in_at_most_eight_steps(rt: HostRuntime) -
     for number in [256, 258, 513, 32895, 32897, 65279, 65534] {
         assert_eq!(rt; look(&sign, 2, number), (None, 8), "no cell {number}");
     }
-    Ok(())
-}
-
-#[test]
-fn an_octet_never_finds_a_cell_of_a_wide_number(rt: HostRuntime) -> Result<(), Fail> {
-    let sign = Sign::new(rt.alloc(), with_wide_numbers(rt.alloc())?)?;
-    for octet in 0..=255u8 {
-        let mut source = Source::new(b"");
-        let width = sign.text_width(&mut source, 2, &[octet], 0, 99);
-        let none = width == Err(TextFault::Undefined(0)) && source.steps() == 1;
-        assert!(rt;
-            none && look(&sign, 2, u16::from(octet)) == (None, 1),
-            "octet {octet}"
-        );
-    }
-    Ok(())
-}
-
-#[test]
-fn octets_and_wide_numbers_stand_in_one_font(rt: HostRuntime) -> Result<(), Fail> {
-    let cells = [(65, 3), (255, 2), (256, 4), (321, 5), (65535, 1)];
-    let sign = Sign::new(rt.alloc(), with_numbers(rt.alloc(), &cells)?)?;
-    let mut source = Source::new(b"");
-    // of five cells the third is looked at first, and then the fifth; 321 and 577 are 65 and a multiple of 256
-    for (number, width, steps) in [
-        (65, Some(3), 1),
-        (255, Some(2), 1),
-        (256, Some(4), 1),
-        (321, Some(5), 3),
-        (65535, Some(1), 2),
-        (0, None, 1),
-        (66, None, 1),
-        (257, None, 3),
-        (577, None, 3),
-        (65534, None, 3),
-    ] {
-        assert_eq!(rt; look(&sign, 2, number), (width, steps), "cell {number}");
-    }
-    let lit = sign.cell(&mut source, 2, 65535).ok_or("no cell 65,535")?;
-    assert_eq!(rt; (lit.width(), lit.row(0)), (1, 1 << 63));
-    Ok(())
-}
-
-#[test]
-fn a_wide_number_that_is_nowhere_is_not_found(rt: HostRuntime) -> Result<(), Fail> {
-    let sign = Sign::new(rt.alloc(), with_widths(rt.alloc())?)?;
-    // font 2 has the cells 1 to 255, font 3 has none, and there is no font 9
-    for number in [256, 257, 321, 65534, 65535] {
-        let none = look(&sign, 3, number) == (None, 0) && look(&sign, 9, number) == (None, 0);
-        assert!(rt;
-            none && look(&sign, 2, number) == (None, 8),
-            "no cell {number}"
-        );
-    }
-    Ok(())
-}
-
-#[test]
-fn each_number_finds_its_own_font(rt: HostRuntime) -> Result<(), Fail> {
-    let mut source = Source::new(b"A");
-    let sixteen = Sign::new(rt.alloc(), with_fonts(rt.alloc(), 16)?)?;
-    let mut parts = sample_sign(rt.alloc())?;
-    if let Some(font) = parts.fonts.last_mut() {
-        font.number = 255;
-    }
-    let ends = Sign::new(rt.alloc(), parts)?;
-    for number in 0..=255u8 {
-        let of_sixteen = sixteen.font(&mut source, number).map(|font| font.number);
-        let of_ends = ends.font(&mut source, number).map(|font| font.number);
-        let is_there = (1..=16).contains(&number);
-        let own = of_sixteen == is_there.then_some(number);
-        let is_end = number == 1 || number == 255;
-        assert!(rt; own && of_ends == is_end.then_some(number), "font {number}");
-    }
-    let last = ends.cell_width(&mut source, 255, 65) == Some(4);
-    assert!(rt; last && ends.cell_width(&mut source, 1, 65) == Some(3));
     Ok(())
 }
 

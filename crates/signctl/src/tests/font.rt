@@ -66,7 +66,7 @@ fn a_font_is_written_as_a_table(rt: HostRuntime) {
             FONT,
             1,
             "",
-            "signctl: line 7: the cell is 0 columns wide, and may have 1 to 64\n",
+            "signctl: line 5: the cell is 0 columns wide, and may have 1 to 64\n",
         ),
         (
             &["signctl", "font"],

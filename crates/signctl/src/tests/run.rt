@@ -15,6 +15,7 @@ multi 3 1 A
 priority 3 1 200
 request 3 1 7
 work
+work
 activate 000180030001669a7f000001
 tick 599
 tick 6
@@ -30,6 +31,7 @@ done
 done
 done
 worked 1 4 2 2 0
+idle
 shown
 ticked
 ended
@@ -185,7 +187,7 @@ fn each_mode_has_a_greatest_length(rt: HostRuntime) {
 }
 
 /// For each mode its words with the sample sign and with a sign file, a line, and what it answers to it.
-const MODES: [(&[&str], &[&str], &[u8], &[u8]); 3] = [
+const MODES: [(&[&str], &[&str], &[u8], &[u8]); 4] = [
     (
         &["signctl", "check", "--sample"],
         &["signctl", "check"],
@@ -204,7 +206,31 @@ const MODES: [(&[&str], &[&str], &[u8], &[u8]); 3] = [
         b"clear\n",
         b"done\n",
     ),
+    (
+        &["signctl", "explain", "--sample"],
+        &["signctl", "explain"],
+        b"I\n",
+        b"accepted: 1 page\nI\npage 1 of 1, shown all the time:\n............\n............\n.....1......\n.....1......\n.....1......\n............\n............\npixels: 1 lit, . dark\n\n",
+    ),
 ];
+
+#[test]
+fn an_input_that_is_read_whole_has_a_greatest_length(rt: HostRuntime) {
+    let alloc = rt.alloc();
+    let commands: [&[&str]; 3] = [
+        &["signctl", "sign"],
+        &["signctl", "font"],
+        &["signctl", "picture", "--sample"],
+    ];
+    for words in commands {
+        let mut output = Vec::new(alloc);
+        let mut errors = Vec::new(alloc);
+        let mut endless = LineMaker::new(u64::MAX, u64::MAX);
+        let status = main_with(alloc, words, &mut endless, &mut output, &mut errors);
+        let said = errors.as_slice() == b"signctl: input too long\n".as_slice();
+        assert!(rt; status == 1 && output.is_empty() && said, "at {words:?}");
+    }
+}
 
 #[test]
 fn each_end_has_its_status_and_text_in_each_mode(rt: HostRuntime) -> Result<(), Fail> {

@@ -12,7 +12,7 @@ slots: missing; it should be a whole number from 1 to 1000
 bytes: missing; it should be a whole number from 0 to 1000000
 max_string: missing; it should be a whole number from 1 to 4096
 defaults: missing; it should be a table
-font: 0 of at most 16
+font: there must be 1 to 16 fonts
 ";
 
 /// A sign of one pixel.

@@ -5,7 +5,6 @@ use sign_tool::{Mode, ToolFault, run_tool};
 use std::alloc::{AllocError, Global};
 use std::io;
 use std::io::Read;
-use std::process::Abort;
 use std::test::Fail;
 
 /// The sample sign as its file, of 40 lines.
@@ -70,125 +69,6 @@ const BAD: Result<(), ToolFault> = Err(ToolFault::BadSign);
 
 const fn refused(number: u8) -> Result<(), ToolFault> {
     Err(ToolFault::SignRefused { number })
-}
-
-/// Where this text of the file is another, a run ends so.
-fn check_changed(
-    rt: &impl Abort,
-    alloc: Global,
-    file: &str,
-    rows: &[(&str, &str, Result<(), ToolFault>)],
-) -> Result<(), Fail> {
-    for &(old, new, end) in rows {
-        assert!(rt; file.contains(old), "there is {old}");
-        let changed = file.replacen(alloc, old, new, 1)?;
-        let (output, result) = check_behind(alloc, changed.as_str(), b"\n")?;
-        assert!(rt; result == end, "the end with {new} for {old}");
-        let want = if end.is_ok() {
-            b"ok 1\n".as_slice()
-        } else {
-            b""
-        };
-        assert!(rt;
-            output.as_slice() == want,
-            "what is written with {new} for {old}"
-        );
-    }
-    Ok(())
-}
-
-#[test]
-fn a_sign_outside_a_limit_has_its_number(rt: HostRuntime) -> Result<(), Fail> {
-    let rows = [
-        ("width = 12", "width = 0", refused(1)),
-        ("width = 12", "width = 1025", refused(1)),
-        ("width = 12", "width = 65535", refused(1)),
-        ("height = 7", "height = 0", refused(1)),
-        ("max_pages = 2", "max_pages = 0", refused(5)),
-        ("font = 1", "font = 3", refused(4)),
-        ("line = 3", "line = 6", refused(4)),
-        ("page = 3", "page = 1", refused(4)),
-        ("fore = 1", "fore = 10", refused(4)),
-        ("number = 2", "number = 0", refused(2)),
-        ("number = 2", "number = 1", refused(2)),
-        ("\"5e80\"", "\"\"", refused(3)),
-        ("\"5e80\"", "\"5e8000\"", refused(3)),
-        ("\"5e80\"", "\"5e81\"", refused(3)),
-        ("number = 93", "number = 91", refused(3)),
-        ("width = 3,", "width = 65,", refused(3)),
-    ];
-    check_changed(&rt, rt.alloc(), SAMPLE, &rows)
-}
-
-#[test]
-fn a_cell_may_have_any_number_of_its_type_but_0(rt: HostRuntime) -> Result<(), Fail> {
-    let rows = [
-        ("number = 93", "number = 255", Ok(())),
-        ("number = 93", "number = 256", Ok(())),
-        ("number = 93", "number = 65535", Ok(())),
-        ("number = 32", "number = 0", refused(3)),
-        ("number = 93", "number = 65536", BAD),
-    ];
-    check_changed(&rt, rt.alloc(), SAMPLE, &rows)
-}
-
-#[test]
-fn a_sign_has_a_font_which_may_be_empty(rt: HostRuntime) -> Result<(), Fail> {
-    let old = "font = [ { number = 1, height = 3, char_spacing = 1, line_spacing = 1 } ]";
-    let rows = [
-        (old, old, Ok(())),
-        (old, "", refused(2)),
-        (old, "font = []", refused(2)),
-    ];
-    check_changed(&rt, rt.alloc(), SMALL, &rows)
-}
-
-#[test]
-fn a_store_outside_a_limit_is_fault_5(rt: HostRuntime) -> Result<(), Fail> {
-    let rows = [
-        ("slots = 1", "slots = 0", refused(5)),
-        ("slots = 1", "slots = 1000", Ok(())),
-        ("slots = 1", "slots = 1001", refused(5)),
-        ("bytes = 4", "bytes = 0", Ok(())),
-        ("bytes = 4", "bytes = 1000000", Ok(())),
-        ("bytes = 4", "bytes = 1000001", refused(5)),
-        ("bytes = 4", "bytes = 4294967295", refused(5)),
-        ("max_string = 64", "max_string = 0", refused(5)),
-        ("max_string = 64", "max_string = 4", Ok(())),
-        ("max_string = 64", "max_string = 3", refused(5)),
-        ("max_string = 64", "max_string = 4096", Ok(())),
-        ("max_string = 64", "max_string = 4097", refused(5)),
-        ("priority = 5", "priority = 0", refused(5)),
-        ("priority = 5", "beacon = 1", Ok(())),
-        ("priority = 5", "beacon = 2", refused(5)),
-        ("priority = 5", "pixel = 1", Ok(())),
-        ("priority = 5", "pixel = 255", refused(5)),
-    ];
-    check_changed(&rt, rt.alloc(), SAMPLE, &rows)
-}
-
-#[test]
-fn the_sign_is_judged_before_its_store(rt: HostRuntime) -> Result<(), Fail> {
-    let file = SAMPLE.replacen(rt.alloc(), "slots = 1", "slots = 0", 1)?;
-    let rows = [
-        ("width = 12", "width = 0", refused(1)),
-        ("fore = 1", "fore = 10", refused(4)),
-        ("width = 12", "width = 13", refused(5)),
-    ];
-    check_changed(&rt, rt.alloc(), file.as_str(), &rows)
-}
-
-#[test]
-fn all_keys_are_read_before_the_sign_is_judged(rt: HostRuntime) -> Result<(), Fail> {
-    let file = SAMPLE.replacen(rt.alloc(), "width = 12", "width = 0", 1)?;
-    let rows = [
-        ("height = 7", "height = 0", refused(1)),
-        ("slots = 1", "slots = 70000", BAD),
-        ("priority = 5", "priority = 256", BAD),
-        ("\"69f990\"", "\"69f99\"", BAD),
-        ("\"69f990\"", "\"\"", refused(1)),
-    ];
-    check_changed(&rt, rt.alloc(), file.as_str(), &rows)
 }
 
 #[test]

@@ -1,7 +1,7 @@
 //! The memory that a controller takes.
 
-use super::{AT_FIRST, CURRENT, FIRST, SHOW_A, is_row};
-use message_store::{Permanent, Store, StoreFault, StoreLimits};
+use super::{AT_FIRST, CURRENT, FIRST, SHOW_A, VALID, is_row};
+use message_store::{MsgRef, Permanent, Store, StoreFault, StoreLimits};
 use multi_layout::Shown;
 use sign_control::{Command, Controller, DefaultField, Reply};
 use sign_font::{Sign, SignParts, sample_sign};
@@ -9,7 +9,7 @@ use std::alloc::Global;
 use std::process::Abort;
 use std::test::Fail;
 
-/// A sign and a store of one slot and 4 bytes.
+/// The sample sign, and its store: one slot, 4 bytes, and the permanent message `AAAI`.
 fn made(rt: &impl Abort, alloc: Global) -> (Sign, Store) {
     let limits = StoreLimits {
         slots: 1,
@@ -18,8 +18,116 @@ fn made(rt: &impl Abort, alloc: Global) -> (Sign, Store) {
     };
     let parts = sample_sign(alloc).expect(rt, "the parts");
     let sign = Sign::new(alloc, parts).expect(rt, "a sign");
-    let store = Store::new(alloc, limits, Vec::new(alloc)).expect(rt, "a store");
+    let text = Permanent {
+        multi: b"AAAI".to_vec(alloc).expect(rt, "a message"),
+        priority: 5,
+        beacon: 0,
+        pixel: 0,
+    };
+    let mut messages = Vec::new(alloc);
+    messages.push(text).expect(rt, "the messages");
+    let store = Store::new(alloc, limits, messages).expect(rt, "a store");
     (sign, store)
+}
+
+/// The second slot of a store that has one.
+const NO_SLOT: MsgRef = MsgRef {
+    memory: 3,
+    number: 2,
+};
+const PERMANENT: MsgRef = MsgRef {
+    memory: 2,
+    number: 1,
+};
+const NO_MEMORY: MsgRef = MsgRef {
+    memory: 4,
+    number: 1,
+};
+
+/// The slot is filled, and one octet more has no room.
+const FILLED: [(Command<'static>, Reply); 3] = [
+    (Command::Request(FIRST, 6), Reply::Done),
+    (Command::SetMulti(FIRST, b"AAAA"), Reply::Done),
+    (
+        Command::SetMulti(FIRST, b"AAAAA"),
+        Reply::Refused(StoreFault::NoSpace),
+    ),
+];
+
+/// Calls are refused for each reason.
+const REFUSED: [(Command<'static>, Reply); 8] = [
+    (
+        Command::Request(NO_SLOT, 6),
+        Reply::Refused(StoreFault::Number),
+    ),
+    (
+        Command::SetMulti(PERMANENT, b"A"),
+        Reply::Refused(StoreFault::ReadOnly),
+    ),
+    (
+        Command::SetMulti(NO_MEMORY, b"A"),
+        Reply::Refused(StoreFault::MemoryType),
+    ),
+    (
+        Command::SetPriority(FIRST, 0),
+        Reply::Refused(StoreFault::BadValue),
+    ),
+    (
+        Command::SetMulti(FIRST, &[b'A'; 65]),
+        Reply::Refused(StoreFault::TooLong),
+    ),
+    (Command::Request(FIRST, 7), Reply::Done),
+    (
+        Command::SetMulti(FIRST, b"A"),
+        Reply::Refused(StoreFault::WrongState),
+    ),
+    (Command::Clear, Reply::Done),
+];
+
+/// A message is written and judged.
+const WRITTEN: [(Command<'static>, Reply); 12] = [
+    (Command::Activate(SHOW_A), Reply::NotShown(4)),
+    (Command::Request(FIRST, 6), Reply::Done),
+    (Command::SetMulti(FIRST, b"A"), Reply::Done),
+    (Command::SetOwner(FIRST, b"me"), Reply::Done),
+    (Command::SetPriority(FIRST, 200), Reply::Done),
+    (Command::SetBeacon(FIRST, 0), Reply::Done),
+    (Command::SetPixelService(FIRST, 0), Reply::Done),
+    (Command::Request(FIRST, 7), Reply::Done),
+    (Command::Work, VALID),
+    (Command::Work, Reply::Idle),
+    (Command::SetDefault(DefaultField::Fore, 2), Reply::Done),
+    (Command::Activate([0; 12]), Reply::NotShown(5)),
+];
+
+/// It is shown for a minute and then with no time at all, after which blank 1 is shown; and again, after which it is shown itself.
+const SHOWN: [(Command<'static>, Reply); 8] = [
+    (
+        Command::Activate([0, 1, 0x80, 3, 0, 1, 0x66, 0x9a, 0x7f, 0, 0, 1]),
+        Reply::Shown,
+    ),
+    (Command::Tick(599), Reply::Ticked),
+    (Command::Tick(6), Reply::Ended),
+    (Command::Activate(NO_TIME), Reply::Shown),
+    (Command::Tick(0), Reply::Ended),
+    (Command::SetEnd([3, 0, 1, 0x9a, 0x66]), Reply::Done),
+    (Command::Activate(NO_TIME), Reply::Shown),
+    (Command::Tick(0), Reply::Ended),
+];
+
+/// Changeable 1 with the CRC of `A`, for 0 minutes.
+const NO_TIME: [u8; 12] = [0, 0, 0x80, 3, 0, 1, 0x9a, 0x66, 0x7f, 0, 0, 1];
+
+/// Applies commands, each of which must have its reply, and asks after each what the sign tells.
+fn ask_each(rt: &impl Abort, controller: &mut Controller, rows: &[(Command<'_>, Reply)]) {
+    for (command, want) in rows {
+        assert!(rt; controller.apply(command) == *want, "{command:?}");
+        controller.frame(1);
+        controller.report();
+        controller.defaults();
+        controller.steps();
+        assert!(rt; controller.row(CURRENT).is_ok(), "{command:?}");
+    }
 }
 
 /// `.ci/refused-calls` refuses its memory.
@@ -28,58 +136,30 @@ fn only_making_and_a_run_take_memory(rt: HostRuntime) {
     let alloc = rt.alloc();
     let (sign, store) = made(&rt, alloc);
     let mut controller = Controller::new(alloc, sign, store).expect(&rt, "a controller");
-    let commands = [
-        Command::Request(FIRST, 6),
-        Command::SetMulti(FIRST, b"A"),
-        Command::SetOwner(FIRST, b"me"),
-        Command::Request(FIRST, 7),
-    ];
-    if let Err(fault) = controller.run(alloc, &commands) {
-        assert!(rt; controller.report() == AT_FIRST, "the report");
-        assert!(rt; is_row(&controller, CURRENT, b"", 1, 0), "blank 1 is shown");
-        let unused = controller.row(FIRST).is_ok_and(|row| row.status == 1);
-        assert!(rt; unused, "the slot is not used");
-        panic!(rt; "a run: {fault:?}");
+    let [(first, _), (second, _), (third, _)] = FILLED;
+    match controller.run(alloc, &[first, second, third]) {
+        Ok(replies) => {
+            let [(_, first), (_, second), (_, third)] = FILLED;
+            assert!(rt;
+                replies.as_slice() == [first, second, third].as_slice(),
+                "the replies"
+            );
+        }
+        Err(fault) => {
+            assert!(rt; controller.report() == AT_FIRST, "the report");
+            assert!(rt; is_row(&controller, CURRENT, b"", 1, 0), "blank 1 is shown");
+            let unused = controller.row(FIRST).is_ok_and(|row| row.status == 1);
+            assert!(rt; unused, "the slot is not used");
+            panic!(rt; "a run: {fault:?}");
+        }
     }
-    // For a minute, and then with no time at all: a text is shown, and a duration ends.
-    let minute = [0, 1, 0x80, 3, 0, 1, 0x9a, 0x66, 0x7f, 0, 0, 1];
-    let rows = [
-        (Command::Tick(5), Reply::Ticked),
-        (Command::Activate(SHOW_A), Reply::NotShown(4)),
-        (
-            Command::Request(FIRST, 9),
-            Reply::Refused(StoreFault::BadValue),
-        ),
-        (Command::Activate([0; 12]), Reply::NotShown(5)),
-        (Command::SetEnd([3, 0, 1, 0x9a, 0x66]), Reply::Done),
-        (Command::SetDefault(DefaultField::Fore, 2), Reply::Done),
-    ];
-    for (command, want) in rows {
-        assert!(rt; controller.apply(&command) == want, "{command:?}");
-        controller.frame(1);
-        controller.report();
-    }
-    let Reply::Worked { status: 4, .. } = controller.apply(&Command::Work) else {
-        panic!(rt; "the text is valid");
-    };
-    for (command, want) in [
-        (Command::Activate(minute), Reply::Shown),
-        (Command::Tick(599), Reply::Ticked),
-        (Command::Tick(6), Reply::Ended),
-        (Command::Activate(SHOW_A), Reply::Shown),
-        (Command::Clear, Reply::Done),
-    ] {
-        assert!(rt; controller.apply(&command) == want, "{command:?}");
-        assert!(rt;
-            controller
-                .row(CURRENT)
-                .is_ok_and(|row| row.multi == b"A".as_slice()),
-            "{command:?}"
-        );
-        controller.frame(1);
-        controller.report();
-        controller.defaults();
-    }
+    ask_each(&rt, &mut controller, &REFUSED);
+    ask_each(&rt, &mut controller, &WRITTEN);
+    ask_each(&rt, &mut controller, &SHOWN);
+    let shown = controller
+        .row(CURRENT)
+        .is_ok_and(|row| row.multi == b"A".as_slice());
+    assert!(rt; shown, "the text is shown");
 }
 
 /// A store with the largest limits, and 255 permanent messages `A`.

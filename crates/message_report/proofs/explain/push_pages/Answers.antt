@@ -1,4 +1,4 @@
-use Rattle.std.proofs.Common.{◌≡◌, ◌++◌, ap, ◌∙◌, arith, subst}
+use Rattle.std.proofs.Common.{◌≡◌, ◌∷◌, ◌++◌, ap, ◌∙◌, arith, subst}
 use Rattle.multi_layout.specs.Meaning.{meanings}
 use Rattle.multi_layout.specs.Verdict.{pages_of}
 use Rattle.message_report.specs.Explanation.{HasPages, head_text, page_text}
@@ -19,10 +19,10 @@ loop-page-preserved c =
     let page = c.loop-page.page in
     let pages = c.pages-pages.result in
     let ((shown, so_far, has), same_sign, same_octets) = c.loop-page.invariant in
-    let (words, second) = c.in_ok-push_times.ensures in
+    let (words, line, second) = c.in_ok-push_times.ensures in
     let third = c.in_ok-push_page.ensures.ok ∙ ap (λ l. c.push_times.new.text.items ++ page_text sign l page c.args.phase) same_octets in
     let all = ExplanationLemmas.three_more c.args.text.now.items c.loop-page.text.items c.push_head.new.text.items c.push_times.new.text.items c.push_page.new.text.items shown (head_text page pages) words (page_text sign octets page c.args.phase) so_far c.in_ok-push_head.ensures second third in
-    ((shown ++ head_text page pages ++ words ++ page_text sign octets page c.args.phase, all, ExplanationLemmas.pages_more sign octets c.args.phase pages page shown words has), c.in_ok-push_page.ensures.kept.0 ∙ same_sign, c.in_ok-push_page.ensures.kept.1 ∙ same_octets)
+    ((shown ++ head_text page pages ++ words ++ 10 ∷ page_text sign octets page c.args.phase, all, ExplanationLemmas.pages_more sign octets c.args.phase pages page shown words has line), c.in_ok-push_page.ensures.kept.0 ∙ same_sign, c.in_ok-push_page.ensures.kept.1 ∙ same_octets)
 
 pub returns-clause-ok : goal.returns-clause-ok
 returns-clause-ok c =

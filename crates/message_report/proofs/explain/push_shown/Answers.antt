@@ -1,4 +1,4 @@
-use Rattle.std.proofs.Common.{◌++◌, refl, ap, ◌∙◌}
+use Rattle.std.proofs.Common.{◌++◌, [], refl, sym, ap, ◌∙◌, append-nil}
 use Rattle.message_report.specs.Explanation.{accepted_text}
 use Rattle.octet_text.proofs.TextLemmas
 use Rattle.message_report.proofs.ExplanationLemmas
@@ -9,9 +9,8 @@ returns c =
     let string = c.args.checked in
     let pages = ExplanationLemmas.pages_are string.sign string.source.octets c.pages.result c.pages.ensures c.requires.short in
     let first = c.in_ok-push_accepted.ensures ∙ ap (λ n. c.args.text.now.items ++ accepted_text n) pages in
-    let (front, between) = c.in_ok-push_message.ensures in
+    let (front, line, between) = c.in_ok-push_message.ensures in
     let (shown, second, has) = c.in_ok-push_pages.ensures.ok in
     let (words, third) = c.in_ok-push_legend.ensures in
-    let one = TextLemmas.grown c.args.text.now.items c.push_accepted.new.text.items c.push_message.new.text.items _ front _ first between refl in
-    let two = TextLemmas.grown c.args.text.now.items c.push_message.new.text.items c.push_pages.new.text.items _ shown _ one second refl in
-    (_, TextLemmas.grown c.args.text.now.items c.push_pages.new.text.items c.push_legend.new.text.items _ words _ two third refl, (front, shown, words, has, refl))
+    let all = ExplanationLemmas.three_more c.args.text.now.items c.args.text.now.items c.push_accepted.new.text.items c.push_message.new.text.items c.push_pages.new.text.items [] _ front shown (sym (append-nil _)) first between second in
+    (_, TextLemmas.grown c.args.text.now.items c.push_pages.new.text.items c.push_legend.new.text.items _ words _ all third refl, (front, shown, words, has, line, refl))

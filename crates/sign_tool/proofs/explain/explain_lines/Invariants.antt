@@ -4,7 +4,7 @@ use Rattle.sign_tool.specs.Lines.{input_limit}
 use Rattle.sign_tool.proofs.explain.explain_lines.Given as goal
 
 abbrev pub invariant-loop-taken : goal.invariant-loop-taken
-invariant-loop-taken g l = Explained l.explainer l.phase (g.R.Read.remaining l.fn.reader) (g.R.Read.remaining l.reader) (g.W.Write.contents l.fn.writer) (g.W.Write.contents l.writer) l.are_taken
+invariant-loop-taken g l = Explained l.explainer l.phase l.fn.place l.place (g.R.Read.remaining l.fn.reader) (g.R.Read.remaining l.reader) (g.W.Write.contents l.fn.writer) (g.W.Write.contents l.writer) l.are_taken
     × (l.place.number + l.place.left ≤ input_limit + 1)
 
 abbrev pub decreases-loop-taken : goal.decreases-loop-taken
