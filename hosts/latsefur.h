@@ -1,16 +1,19 @@
 /* Latsefur for hosts in C: what a roadside message sign says to a message, and the pages that it shows.
  *
  * A host keeps two things as octets: the sign file, which describes the sign (docs/formats.md), and the texts, which are messages in
- * MULTI, the mark-up of NTCIP 1203 v03 (docs/multi.md). Each call below reads both, answers with one of the outcomes, and writes what
- * it found where the host asked for it. docs/hosts.md has a first program, and the times of the calls.
+ * MULTI, the mark-up of NTCIP 1203 v03 (docs/multi.md). Each call below reads the sign file, and all but the first a text or several. It
+ * answers with one of the outcomes, and writes what it found where the host asked for it. docs/hosts.md has a first program, and the times
+ * of the calls.
  *
  * What the host keeps, for every call:
  *
- * - No pointer is NULL, even with a length of 0. An empty text may be "" with the length 0.
+ * - No pointer is NULL, even with a length of 0, and none of those in a latsefur_text is. An empty text may be "" with the length 0.
  * - Each pointer is aligned for its type, and the octets or structures of its whole length may be read; those that a call writes may
- *   be written too. All of them have been given some value before the call, as by `= {0}`.
+ *   be written too. All of them have been given some value before the call, as by `= {0}`, or `= {}` in C++.
  * - What a call writes overlaps nothing else that is handed to it. What it reads stays the same until it returns.
  * - malloc, realloc and free come from one allocator, and align as C asks.
+ * - The thread has stack left: 64 KiB for a sign file that is as docs/formats.md says, and 2 MiB for one from anybody, whose tables may be
+ *   nested deeply.
  * - No call is made from a signal handler, or from the forked child of a process that had threads.
  *
  * What the library keeps:
@@ -79,8 +82,8 @@ typedef struct {
 
 /* What a sign says to a text. A number that the outcome has no use for is 0. */
 typedef struct {
-    size_t at;       /* refused: the octet of the text where the first item stands that offends */
-    uint32_t cycle;  /* accepted: the sum of the times of all pages, lit and dark; if it is 0, page 0 is always shown */
+    size_t at;       /* refused: the first octet of the first item that offends (dmsMultiSyntaxErrorPosition) */
+    uint32_t cycle;  /* accepted: the sum of the times of all pages, lit and dark; with one page or a sum of 0, page 0 is always shown */
     uint8_t outcome; /* LATSEFUR_DONE: accepted; LATSEFUR_REFUSED; LATSEFUR_TOO_LONG */
     uint8_t code;    /* refused: the number of the error */
     uint8_t pages;   /* accepted: how many pages it has, 1 to 255 */
@@ -88,8 +91,8 @@ typedef struct {
 
 /* What a sign shows at a clock. */
 typedef struct {
-    uint64_t phase; /* on: the time since the page began */
-    uint8_t page;   /* on: the page */
+    uint64_t phase; /* on: the time since the page began; off: 0 */
+    uint8_t page;   /* on: the page; off: 0 */
     uint8_t is_on;  /* 1: a page is shown; 0: it is the off time of a page, and every pixel has colour 0 */
 } latsefur_shown;
 
@@ -106,8 +109,8 @@ typedef struct {
  * The message table of the sign file, which is its slots and permanent messages, must be readable, but its limits aren't judged. */
 uint8_t latsefur_sign(const uint8_t *sign_file, size_t sign_file_len, latsefur_sign_facts *facts);
 
-/* Judges a text on the sign of a sign file. The text may have any octets. It may be of any length, where `signctl check` takes at
- * most 4,096 octets.
+/* Judges a text on the sign of a sign file. The text may have any octets, and up to 4,294,967,295 of them, where `signctl check` takes
+ * at most 4,096.
  *
  * `verdict` is written if the outcome is DONE, REFUSED or TOO_LONG, and its own outcome is then the same. */
 uint8_t latsefur_check(const uint8_t *sign_file, size_t sign_file_len, const uint8_t *text, size_t text_len,
@@ -121,7 +124,8 @@ uint8_t latsefur_check_all(const uint8_t *sign_file, size_t sign_file_len, const
                            latsefur_verdict *verdicts, size_t verdicts_len);
 
 /* Tells what the sign shows of a text at a clock, which counts from the moment at which the text is first shown. The clock may be any
- * number: pages come again and again, each with its off time behind it. `shown` is written if the outcome is DONE.
+ * number. A text of one page, or with a cycle of 0, always shows page 0, and its phase is the clock. Of any other text the pages come
+ * again and again, each with its off time after it. `shown` is written if the outcome is DONE.
  *
  * Other outcomes: REFUSED, TOO_LONG. Each call below may have these two too. */
 uint8_t latsefur_shown_at(const uint8_t *sign_file, size_t sign_file_len, const uint8_t *text, size_t text_len, uint64_t clock,

@@ -7,6 +7,7 @@
  * A message is a line. It ends with a line feed, and a carriage return before that is dropped. All are judged in one call. */
 #include "latsefur.h"
 
+#include <errno.h>
 #include <stdio.h>
 #include <stdlib.h>
 #include <string.h>
@@ -148,13 +149,12 @@ static void judge_all(octets sign_file, octets input, mode asked, uint64_t clock
     free(lines);
 }
 
-/* A clock in decimal. */
-static uint64_t clock_of(const char *word) {
+/* Reads a clock in decimal, and tells whether it is one. */
+static int read_clock(const char *word, uint64_t *clock) {
     char *end;
-    unsigned long long clock = strtoull(word, &end, 10);
-    if (*word < '0' || *word > '9' || *end)
-        fail("a clock is a whole number of tenths of a second");
-    return clock;
+    errno = 0;
+    *clock = strtoull(word, &end, 10);
+    return *word >= '0' && *word <= '9' && !*end && errno == 0;
 }
 
 int main(int count, char **words) {
@@ -163,9 +163,8 @@ int main(int count, char **words) {
     octets sign_file, input;
     FILE *file;
 
-    if (count == 4 && strcmp(words[1], "--draw") == 0) {
+    if (count == 4 && strcmp(words[1], "--draw") == 0 && read_clock(words[2], &clock)) {
         asked = DRAW;
-        clock = clock_of(words[2]);
     } else if (count == 3 && strcmp(words[1], "--colours") == 0) {
         asked = COLOURS;
     } else if (count != 2) {

@@ -32,9 +32,10 @@ static uint8_t *file;
 static size_t file_len;
 static latsefur_sign_facts facts;
 
-/* Memory: while it is watched, blocks that are taken and not given back are counted, and from `left` requests on it is refused. */
+/* Memory: while it is watched, requests are counted, and blocks that are taken and not given back. From `left` requests on all are
+ * refused. */
 static int is_watched;
-static size_t blocks, left, refused;
+static size_t requests, blocks, left, refused;
 
 void *__real_malloc(size_t size);
 void *__real_realloc(void *old, size_t size);
@@ -46,6 +47,7 @@ void __wrap_free(void *old);
 static int is_refused(void) {
     if (!is_watched)
         return 0;
+    ++requests;
     if (left == 0) {
         ++refused;
         return 1;
@@ -378,6 +380,32 @@ static void test_memory(void) {
     }
 }
 
+/* How often a call of `latsefur_check_all` on this many texts asks for memory. */
+static size_t requests_of(size_t count) {
+    latsefur_text texts[3];
+    latsefur_verdict verdicts[3];
+    size_t i;
+    uint8_t outcome;
+    for (i = 0; i < 3; i++) {
+        texts[i].octets = octets_of("A[np]A");
+        texts[i].length = 6;
+    }
+    memset(verdicts, MARK, sizeof verdicts);
+    left = SIZE_MAX;
+    requests = 0;
+    is_watched = 1;
+    outcome = latsefur_check_all(file, file_len, texts, count, verdicts, 3);
+    is_watched = 0;
+    EXPECT(outcome == LATSEFUR_DONE);
+    return requests;
+}
+
+/* The sign file is read once for all texts: more texts ask for no more memory. */
+static void test_read_once(void) {
+    EXPECT(requests_of(0) > 0);
+    EXPECT(requests_of(3) == requests_of(0));
+}
+
 /* What a thread has of its own. The texts and the sign file are shared. */
 typedef struct {
     unsigned wrong;
@@ -412,6 +440,51 @@ static void test_threads(void) {
     }
 }
 
+/* A sign file that is read on a thread with so little stack. */
+typedef struct {
+    const uint8_t *sign;
+    size_t sign_len;
+    uint8_t outcome;
+} reading;
+
+static void *read_sign(void *given) {
+    reading *mine = given;
+    latsefur_sign_facts told = {0, 0, 0, 0};
+    mine->outcome = latsefur_sign(mine->sign, mine->sign_len, &told);
+    return NULL;
+}
+
+static uint8_t outcome_on_stack(const uint8_t *sign, size_t sign_len, size_t stack) {
+    reading mine = {sign, sign_len, MARK};
+    pthread_attr_t small;
+    pthread_t thread;
+    EXPECT(pthread_attr_init(&small) == 0 && pthread_attr_setstacksize(&small, stack) == 0);
+    EXPECT(pthread_create(&thread, &small, read_sign, &mine) == 0);
+    EXPECT(pthread_join(thread, NULL) == 0);
+    pthread_attr_destroy(&small);
+    return mine.outcome;
+}
+
+/* The stack that docs/hosts.md asks for is enough, also for tables that are nested as deeply as TOML lets them be here: 80 in one
+ * another, each by a key of 80 parts. */
+static void test_stack(void) {
+    static char nested[80 * 80 * 2 + 80 * 5 + 16];
+    char *at = nested;
+    int depth, part;
+    at += sprintf(at, "x = ");
+    for (depth = 0; depth < 80; depth++) {
+        *at++ = '{';
+        for (part = 0; part < 80; part++)
+            at += sprintf(at, part < 79 ? "a." : "a = ");
+    }
+    *at++ = '1';
+    for (depth = 0; depth < 80; depth++)
+        *at++ = '}';
+    *at++ = '\n';
+    EXPECT(outcome_on_stack(file, file_len, 64 << 10) == LATSEFUR_DONE);
+    EXPECT(outcome_on_stack(octets_of(nested), (size_t)(at - nested), 2 << 20) == LATSEFUR_NO_SIGN_FILE);
+}
+
 static void read_file(void) {
     FILE *stream = fopen(path, "rb");
     EXPECT(stream != NULL);
@@ -440,6 +513,8 @@ int main(int count, char **paths) {
         test_pictures();
         test_too_long();
         test_memory();
+        test_read_once();
+        test_stack();
         test_threads();
         free(file);
     }

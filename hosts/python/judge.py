@@ -5,7 +5,10 @@
   judge.py --draw CLOCK SIGN_FILE   the page at a clock, in tenths of a second, as `signctl show --clock CLOCK --colour 1` draws it
   judge.py --colours SIGN_FILE      the page at clock 0, with the digit of its colour for each pixel
 
-A message is a line. It ends with a line feed, and a carriage return before that is dropped.
+A message is a line. It ends with a line feed, and a carriage return before that is dropped. Verdicts alone come from one call.
+
+`load` has the types of six of the exports. `latsefur_plane_of_page` and `latsefur_colours_of_page` are like those `_at` a clock, with a
+page and a phase in its place.
 """
 import argparse
 import re
@@ -20,6 +23,7 @@ MAX_TEXT = 4096
 
 DONE, REFUSED = 0, 1
 FAULTS = {
+    1: "the text is refused",
     2: "out of memory",
     3: "the sign file can't be read",
     4: "the sign is outside its limits",
@@ -41,24 +45,29 @@ class Shown(Structure):
     _fields_ = [("phase", c_uint64), ("page", c_uint8), ("is_on", c_uint8)]
 
 
+class Text(Structure):
+    _fields_ = [("octets", c_char_p), ("length", c_size_t)]
+
+
 class Fault(Exception):
     """An outcome that gives no answer."""
 
     def __init__(self, outcome):
-        super().__init__(FAULTS[outcome])
+        super().__init__(FAULTS.get(outcome, f"outcome {outcome}"))
         self.outcome = outcome
 
 
 def load(path):
-    """The library, with the types of the calls that are used here. A pointer from `bytes` is never NULL."""
+    """The library, with the types of these calls. A pointer from `bytes` is never NULL."""
     library = CDLL(str(path))
     octets, picture = [c_char_p, c_size_t], [POINTER(c_char), c_size_t]
     library.latsefur_sign.argtypes = [*octets, POINTER(SignFacts)]
     library.latsefur_check.argtypes = [*octets, *octets, POINTER(Verdict)]
+    library.latsefur_check_all.argtypes = [*octets, POINTER(Text), c_size_t, POINTER(Verdict), c_size_t]
     library.latsefur_shown_at.argtypes = [*octets, *octets, c_uint64, POINTER(Shown)]
     library.latsefur_plane_at.argtypes = [*octets, *octets, c_uint64, c_uint8, *picture]
     library.latsefur_colours_at.argtypes = [*octets, *octets, c_uint64, *picture]
-    for call in ("sign", "check", "shown_at", "plane_at", "colours_at"):
+    for call in ("sign", "check", "check_all", "shown_at", "plane_at", "colours_at"):
         getattr(library, f"latsefur_{call}").restype = c_uint8
     return library
 
@@ -70,18 +79,24 @@ class Sign:
         self.library, self.sign_file, self.facts = library, sign_file, SignFacts()
         self.call(library.latsefur_sign, byref(self.facts))
 
-    def call(self, export, *words):
-        """Calls an export on the sign file. The answer is DONE or REFUSED."""
+    def call(self, export, *words, answers=(DONE,)):
+        """Calls an export on the sign file. Any other outcome than these answers is a fault."""
         outcome = export(self.sign_file, len(self.sign_file), *words)
-        if outcome not in (DONE, REFUSED):
+        if outcome not in answers:
             raise Fault(outcome)
-        return outcome
 
     def check(self, text):
         """The verdict on a text."""
         verdict = Verdict()
-        self.call(self.library.latsefur_check, text, len(text), byref(verdict))
+        self.call(self.library.latsefur_check, text, len(text), byref(verdict), answers=(DONE, REFUSED))
         return verdict
+
+    def check_all(self, texts):
+        """The verdicts on texts, for which the sign file is read once. A text that is too long has that in its verdict."""
+        given = (Text * (len(texts) + 1))(*((text, len(text)) for text in texts))
+        verdicts = (Verdict * (len(texts) + 1))()
+        self.call(self.library.latsefur_check_all, given, len(texts), verdicts, len(texts))
+        return verdicts[:len(texts)]
 
     def shown_at(self, text, clock):
         """What is shown of an accepted text at a clock."""
@@ -122,14 +137,13 @@ def shown_lines(sign, text, words):
             yield lit_row(row, sign.facts.width)
 
 
-def answer(sign, text, words):
-    """The lines of the answer to a message."""
+def answer(sign, text, verdict, words):
+    """The lines of the answer to a message with this verdict."""
     if len(text) > MAX_TEXT:
         return ["too long"]
-    verdict = sign.check(text)
-    if verdict.outcome == REFUSED:
+    if verdict.outcome != DONE:
         return [f"error {verdict.code} {verdict.at}"]
-    if words.colours or words.draw is not None:
+    if words.draws:
         return shown_lines(sign, text, words)
     return [f"ok {verdict.pages}"]
 
@@ -148,13 +162,16 @@ def main():
     mode.add_argument("--colours", action="store_true")
     parser.add_argument("sign_file", type=Path)
     words = parser.parse_args()
+    words.draws = words.colours or words.draw is not None
     try:
         sign = Sign(load(LIBRARY), words.sign_file.read_bytes())
         *lines, rest = sys.stdin.buffer.read().split(b"\n")
         if rest:
             sys.exit("judge.py: the last line has no line feed")
-        for line in lines:
-            for told in answer(sign, line.removesuffix(b"\r"), words):
+        texts = [line.removesuffix(b"\r") for line in lines]
+        verdicts = map(sign.check, texts) if words.draws else sign.check_all(texts)
+        for text, verdict in zip(texts, verdicts):
+            for told in answer(sign, text, verdict, words):
                 print(told)
     except (Fault, OSError) as fault:
         sys.exit(f"judge.py: {fault}")

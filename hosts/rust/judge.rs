@@ -6,15 +6,16 @@
 //! judge --colours SIGN_FILE      the page at clock 0, with the digit of its colour for each pixel
 //! ```
 //!
-//! A message is a line. It ends with a line feed, and a carriage return before that is dropped.
+//! A message is a line. It ends with a line feed, and a carriage return before that is dropped. Verdicts alone come from one call.
 
 use std::io::{self, BufWriter, Read, Write};
 
 /// As many octets of a message are judged as signctl judges.
 const MAX_TEXT: usize = 4096;
 
-/// The exports, as `hosts/latsefur.h` has them, behind a type that keeps what they ask of a host: slices are never null, and what is
-/// written is borrowed by the call alone.
+/// Six of the exports, as `hosts/latsefur.h` has them, behind a type that keeps what they ask of a host: slices are never null, and what
+/// is written is borrowed by the call alone. `latsefur_plane_of_page` and `latsefur_colours_of_page` are like those `_at` a clock, with a
+/// page and a phase in its place.
 mod latsefur {
     #[repr(C)]
     #[derive(Clone, Copy, Debug, Default)]
@@ -48,6 +49,13 @@ mod latsefur {
 
     type Octets = *const u8;
 
+    /// A text among several.
+    #[repr(C)]
+    struct Text {
+        octets: Octets,
+        length: usize,
+    }
+
     #[link(name = "latsefur", kind = "static")]
     extern "C" {
         fn latsefur_sign(sign_file: Octets, sign_file_len: usize, facts: *mut SignFacts) -> u8;
@@ -57,6 +65,14 @@ mod latsefur {
             text: Octets,
             text_len: usize,
             verdict: *mut Verdict,
+        ) -> u8;
+        fn latsefur_check_all(
+            sign_file: Octets,
+            sign_file_len: usize,
+            texts: *const Text,
+            texts_len: usize,
+            verdicts: *mut Verdict,
+            verdicts_len: usize,
         ) -> u8;
         fn latsefur_shown_at(
             sign_file: Octets,
@@ -100,7 +116,8 @@ mod latsefur {
                 4 => "the sign is outside its limits",
                 5 => "the buffer is too small",
                 6 => "no such page",
-                _ => "the text is too long",
+                7 => "the text is too long",
+                _ => "an outcome that this program doesn't know",
             })
         }
     }
@@ -143,6 +160,29 @@ mod latsefur {
                 DONE | REFUSED => Ok(verdict),
                 outcome => Err(Fault(outcome)),
             }
+        }
+
+        /// The verdicts on texts, for which the sign file is read once. A text that is too long has that in its verdict.
+        pub fn check_all(&self, texts: &[&[u8]]) -> Result<Vec<Verdict>, Fault> {
+            let given: Vec<Text> = texts
+                .iter()
+                .map(|text| Text {
+                    octets: text.as_ptr(),
+                    length: text.len(),
+                })
+                .collect();
+            let mut verdicts = vec![Verdict::default(); texts.len()];
+            done(unsafe {
+                latsefur_check_all(
+                    self.file.as_ptr(),
+                    self.file.len(),
+                    given.as_ptr(),
+                    given.len(),
+                    verdicts.as_mut_ptr(),
+                    verdicts.len(),
+                )
+            })?;
+            Ok(verdicts)
         }
 
         /// What is shown of an accepted text at a clock.
@@ -204,7 +244,7 @@ mod latsefur {
     }
 }
 
-use latsefur::{Sign, DONE};
+use latsefur::{Sign, Verdict, DONE};
 
 type Outcome = Result<(), Box<dyn std::error::Error>>;
 
@@ -248,13 +288,18 @@ fn write_colours(out: &mut impl Write, sign: &Sign, text: &[u8]) -> Outcome {
     Ok(())
 }
 
-/// Writes the answer to a message.
-fn answer(out: &mut impl Write, sign: &Sign, text: &[u8], mode: Mode) -> Outcome {
+/// Writes the answer to a message with this verdict.
+fn answer(
+    out: &mut impl Write,
+    sign: &Sign,
+    text: &[u8],
+    verdict: &Verdict,
+    mode: Mode,
+) -> Outcome {
     if text.len() > MAX_TEXT {
         writeln!(out, "too long")?;
         return Ok(());
     }
-    let verdict = sign.check(text)?;
     if verdict.outcome != DONE {
         writeln!(out, "error {} {}", verdict.code, verdict.at)?;
         return Ok(());
@@ -281,13 +326,18 @@ fn judge(mode: Mode, path: &str) -> Outcome {
     if lines.next_back().is_some_and(|rest| !rest.is_empty()) {
         return Err("the last line has no line feed".into());
     }
-    for line in lines {
-        answer(
-            &mut out,
-            &sign,
-            line.strip_suffix(b"\r").unwrap_or(line),
-            mode,
-        )?;
+    let texts: Vec<&[u8]> = lines
+        .map(|line| line.strip_suffix(b"\r").unwrap_or(line))
+        .collect();
+    let verdicts = match mode {
+        Mode::Check => sign.check_all(&texts)?,
+        _ => texts
+            .iter()
+            .map(|text| sign.check(text))
+            .collect::<Result<_, _>>()?,
+    };
+    for (text, verdict) in texts.iter().zip(&verdicts) {
+        answer(&mut out, &sign, text, verdict, mode)?;
     }
     Ok(out.flush()?)
 }
