@@ -1,21 +1,12 @@
 -- What holds after every list of commands.
 use Rattle.std.proofs.Common.{◌≡◌, ◌∙◌, ◌≤◌, ℕ, ◌+◌, ◌*◌, Bool, true, false, not, ◌&&◌, ◌==◌, nat_lt, nat_le, if◌then◌else◌, List, [], ◌∷◌, ◌++◌, length, take, Option, Some, None, Result, Ok, Err, refl, sym, ap, subst, inl, inr, lit≤, arith}
-use Rattle.std.proofs.lemmas.Bool.{cases_Bool, eqb-true, eqb-false, eq-eqb, ne_eqb}
 use Rattle.std.proofs.Math.Seq.{take-length}
 use Rattle.sign_font.specs.declared.fault.DefaultFault.{DefaultFault}
 use Rattle.sign_font.specs.declared.parts.Defaults.{Defaults}
 use Rattle.sign_font.proofs.DefaultLemmas.{sound_under}
 use Rattle.sign_font.specs.Defaults.{default_fault, under}
 use Rattle.sign_font.specs.Sign.{SignData}
-use Rattle.sign_font.specs.Sound.{IsSound}
-use Rattle.multi_token.specs.Reading.{reading}
-use Rattle.multi_layout.specs.declared.times.Shown.{Shown}
-use Rattle.multi_layout.specs.declared.times.Shown.TheVariants.{Page, Off}
-use Rattle.multi_layout.specs.LaidItems.{laid_out}
 use Rattle.multi_layout.specs.Limits.{check_limit}
-use Rattle.multi_layout.specs.Meaning.{meanings}
-use Rattle.multi_layout.specs.Picture.{colour_of, in_plane, pixel_at, shown_colour, things}
-use Rattle.multi_layout.specs.Verdict.{Accepted, broken, of_first, offences, pages_of, verdict, verdict_on}
 use Rattle.message_store.specs.declared.fault.StoreFault.{StoreFault}
 use Rattle.message_store.specs.declared.message.MsgRef.{MsgRef}
 use Rattle.message_store.specs.Row.{RowData, row_at}
@@ -33,15 +24,14 @@ use Rattle.sign_control.specs.declared.display.Registers.{Registers}
 use Rattle.sign_control.specs.Activation.{CandidateData, blank_one, current, fitting, found, is_accepted, is_crc, named, of_row, or_blank, text_of, verdict_of}
 use Rattle.sign_control.specs.Code.{activation_code, id_code}
 use Rattle.sign_control.specs.Counts.{IsCountOf, JudgedText, activated_text, candidate_text, end_text, slot_text, text_judged, ticked_text, waiting_text}
-use Rattle.sign_control.specs.Headline.{Headline, IsOnly, after, shown_by, shown_now}
+use Rattle.sign_control.specs.Headline.{Headline, after, shown_by, shown_now}
 use Rattle.sign_control.specs.Run.{AreCountsOf, IsWithin, run, text_limit}
 use Rattle.sign_control.specs.State.{IsAccepted, IsOneOf, StateData, Stepped, started}
 use Rattle.sign_control.specs.Step.{activated, defaults_step, judged_activation, judged_step, step, store_step, with_default}
 use Rattle.sign_control.specs.Time.{end_step, passed, ticked}
 use Rattle.sign_control.proofs.BudgetLemmas.{every_run_stays_within}
-use Rattle.sign_control.proofs.ColourLemmas.{colour_most, laid_out_coloured}
 use Rattle.sign_control.proofs.CountLemmas.{count-le}
-use Rattle.sign_control.proofs.FrameLemmas.{there}
+use Rattle.sign_control.proofs.FrameLemmas.{accepted-pages, one-colour, there}
 use Rattle.message_store.proofs.ShortLemmas.{HasShort, HasShortIn, IsShortRow, row-short, short-beacon, short-cleared, short-multi, short-owner, short-pixel, short-priority, short-requested, short-worked, slot-short}
 use Rattle.sign_control.proofs.StepLemmas.{accepted-is, accepted-or-blank, none-accepted, one-taken}
 
@@ -306,34 +296,6 @@ steps-run sign state (first ∷ commands) old new is (between, one, others) =
     let now = next-steps sign state first old between is one in
     let rest = steps-run sign (step sign state first).state commands between new (steady-step sign state first is) others in
     (omega (arith, now.0, rest.0), omega (arith, now.1, rest.1))
-
--- ---- the frame
-
--- an accepted text has the pages of its items
-pages-first : (pages count : ℕ) (faults : List (ℕ × ℕ)) → of_first pages faults ≡ Accepted count → count ≡ pages
-pages-first pages count [] is = cc
-pages-first pages count (fault ∷ faults) is = absurd cc
-
-pub accepted-pages : (sign : SignData) (text : List ℕ) → IsAccepted sign text → verdict sign text ≡ Accepted (pages_of (meanings text))
-unfolding verdict verdict_on
-accepted-pages sign text (count, is) =
-    let read = reading text in
-    is ∙ ap Accepted (pages-first (pages_of (meanings text)) count (offences sign read.items ++ broken read.items read.rest) is)
-
-same-test : (a b : ℕ) → (a == b) ≡ (b == a)
-same-test a b = elim (cases_Bool (a == b)) [
-  | inl e ↦ e ∙ sym (eq-eqb b a (sym (eqb-true a b e)))
-  | inr e ↦ e ∙ sym (ne_eqb b a (λ is. eqb-false a b e (sym is)))
-]
-
--- each pixel has one colour
-pub one-colour : (sign : SignData) (octets : List ℕ) (s : Shown) (column row : ℕ) → IsSound sign → (colour : ℕ) × (colour ≤ 9) × IsOnly colour (λ other. pixel_at sign (meanings octets) s other column row)
-unfolding in_plane
-one-colour sign octets (Page page phase) column row sound =
-    let laid = laid_out sign (meanings octets) in
-    let colour = shown_colour sign (colour_of sign.defaults (things sign phase laid) page column row) in
-    (colour, colour_most sign sound.fore sound.back phase laid page column row (laid_out_coloured sign octets), λ other. same-test colour other)
-one-colour sign octets Off column row sound = (0, lit≤ tt, λ other. refl)
 
 pub headline : Headline
 headline sign store commands sound taken kept =

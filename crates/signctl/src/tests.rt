@@ -1,18 +1,59 @@
 mod explain;
 mod font;
 mod picture;
-mod run;
-mod show;
 mod sign;
-mod sign_files;
 mod streams;
 
-use crate::main_with::main_with;
 use sign_tool::{Mode, ToolFault, run_tool};
-use std::alloc::{AllocError, Global};
 use std::io;
 use std::io::{ErrorKind, Read, Write};
 use std::test::Fail;
+
+/// The sample sign as its file, of 40 lines.
+const SAMPLE: &str = r#"width = 12
+height = 7
+scheme = "monochrome"
+max_pages = 2
+slots = 1
+bytes = 4
+max_string = 64
+
+[defaults]
+font = 1
+line = 3
+page = 3
+page_on = 30
+page_off = 0
+flash_on = 5
+flash_off = 5
+fore = 1
+back = 0
+
+[[font]]
+number = 1
+version = 6699
+height = 3
+char_spacing = 1
+line_spacing = 1
+cell = [
+  { number = 32, width = 2, bits = "00" },
+  { number = 65, width = 3, bits = "5e80" },
+  { number = 73, width = 1, bits = "e0" },
+  { number = 91, width = 2, bits = "ec" },
+  { number = 93, width = 2, bits = "dc" },
+]
+
+[[font]]
+number = 2
+height = 5
+char_spacing = 2
+line_spacing = 2
+cell = [ { number = 65, width = 4, bits = "69f990" } ]
+
+[[permanent]]
+multi = "AAAI"
+priority = 5
+"#;
 
 /// A reader that gives one octet at a time, and fails where it has no more.
 #[derive(Drop)]
@@ -132,110 +173,12 @@ impl Write for WriteCounter {
     }
 }
 
-/// What a run on the sample sign writes for this input, and how it ends.
-fn check(alloc: Global, input: &[u8]) -> (Vec<u8>, Result<(), ToolFault>) {
-    let mut reader = input;
-    let mut output = Vec::new(alloc);
-    let result = run_tool(alloc, Mode::Check, true, &mut reader, &mut output);
-    (output, result)
-}
-
-/// What a run writes for this sign file, the mark and these lines, and how it ends.
-fn run_behind(
-    alloc: Global,
-    mode: Mode,
-    file: &str,
-    lines: &[u8],
-) -> Result<(Vec<u8>, Result<(), ToolFault>), AllocError> {
-    let mut input = file.as_bytes().to_vec(alloc)?;
-    input.extend_from_slice(b"%%\n")?;
-    input.extend_from_slice(lines)?;
-    let mut reader = input.as_slice();
-    let mut output = Vec::new(alloc);
-    let result = run_tool(alloc, mode, false, &mut reader, &mut output);
-    Ok((output, result))
-}
-
-/// What a check writes for this sign file, the mark and these lines, and how it ends.
-fn check_behind(
-    alloc: Global,
-    file: &str,
-    lines: &[u8],
-) -> Result<(Vec<u8>, Result<(), ToolFault>), AllocError> {
-    run_behind(alloc, Mode::Check, file, lines)
-}
-
-/// The status of the tool with these words and this input, what it writes and what it says.
-fn main_output(alloc: Global, words: &[&str], input: &[u8]) -> (u8, Vec<u8>, Vec<u8>) {
-    let mut reader = input;
-    let mut output = Vec::new(alloc);
-    let mut errors = Vec::new(alloc);
-    let status = main_with(alloc, words, &mut reader, &mut output, &mut errors);
-    (status, output, errors)
-}
-
-#[test]
-fn a_line_ends_with_a_line_feed(rt: HostRuntime) {
-    let bad = |line| Err(ToolFault::BadLine { line });
-    let rows: [(&[u8], &[u8], Result<(), ToolFault>); 7] = [
-        (b"", b"", Ok(())),
-        (b"\n", b"ok 1\n", Ok(())),
-        (b"\r\n\n", b"ok 1\nok 1\n", Ok(())),
-        (b"A\r\nA\n", b"ok 1\nok 1\n", Ok(())),
-        (b"A", b"", bad(1)),
-        (b"A\nA\n\nA", b"ok 1\nok 1\nok 1\n", bad(4)),
-        (b"\r", b"", bad(1)),
-    ];
-    for (input, want, end) in rows {
-        let (output, result) = check(rt.alloc(), input);
-        assert!(rt; output.as_slice() == want, "what is written at {input:?}");
-        assert!(rt; result == end, "the end at {input:?}");
-    }
-}
-
-#[test]
-fn a_line_has_a_greatest_length(rt: HostRuntime) -> Result<(), Fail> {
-    let alloc = rt.alloc();
-    let too_long = Err(ToolFault::LineTooLong { line: 1 });
-    let rows: [(usize, &[u8], &[u8], Result<(), ToolFault>); 10] = [
-        (4_096, b"\n", b"error 5 3\n", Ok(())),
-        (4_096, b"\r\n", b"error 5 3\n", Ok(())),
-        (4_097, b"\n", b"too long\n", Ok(())),
-        (8_300, b"\n", b"too long\n", Ok(())),
-        (8_300, b"\r\n", b"too long\n", Ok(())),
-        (8_300, b"\r\r\n", b"", too_long),
-        (8_301, b"\n", b"", too_long),
-        (8_301, b"\r\n", b"", too_long),
-        (9_000, b"\n", b"", too_long),
-        (9_000, b"", b"", Err(ToolFault::BadLine { line: 1 })),
-    ];
-    for (letters, line_end, want, end) in rows {
-        let mut input = vec![in alloc; b'A'; letters]?;
-        input.extend_from_slice(line_end)?;
-        let (output, result) = check(alloc, &input);
-        assert!(rt;
-            output.as_slice() == want,
-            "what is written at {letters} and {line_end:?}"
-        );
-        assert!(rt; result == end, "the end at {letters} and {line_end:?}");
-    }
-    Ok(())
-}
-
 #[test]
 fn an_input_has_a_greatest_length(rt: HostRuntime) {
     let alloc = rt.alloc();
     // Letters in a line, octets, lines that are answered, and the end.
-    let rows: [(u64, u64, usize, Result<(), ToolFault>); 5] = [
+    let rows: [(u64, u64, usize, Result<(), ToolFault>); 2] = [
         (8_191, 16_777_216, 2_048, Ok(())),
-        (8_191, 16_777_217, 2_048, Err(ToolFault::InputTooLong)),
-        (
-            7_999,
-            16_777_216,
-            2_097,
-            Err(ToolFault::BadLine { line: 2_098 }),
-        ),
-        (7_999, 16_777_217, 2_097, Err(ToolFault::InputTooLong)),
         (u64::MAX, u64::MAX, 0, Err(ToolFault::InputTooLong)),
     ];
     for (letters, octets, lines, end) in rows {
@@ -322,140 +265,4 @@ fn the_answers_to_a_block_are_written_together(rt: HostRuntime) -> Result<(), Fa
         );
     }
     Ok(())
-}
-
-#[test]
-fn each_fault_has_its_text(rt: HostRuntime) -> Result<(), Fail> {
-    let rows = [
-        (ToolFault::Read, "read failed"),
-        (ToolFault::Write, "write failed"),
-        (ToolFault::LineTooLong { line: 7 }, "line 7: too long"),
-        (ToolFault::BadLine { line: 12 }, "line 12: bad line"),
-        (ToolFault::InputTooLong, "input too long"),
-        (ToolFault::BadSign, "sign not read"),
-        (ToolFault::SignRefused { number: 3 }, "sign fault 3"),
-        (ToolFault::Memory, "out of memory"),
-    ];
-    for (fault, want) in rows {
-        let text = fault.to_string(rt.alloc())?;
-        assert_eq!(rt; text.as_str(), want);
-    }
-    Ok(())
-}
-
-#[test]
-fn a_run_ends_with_its_status_and_text(rt: HostRuntime) {
-    let alloc = rt.alloc();
-    let sample: &[&str] = &["signctl", "check", "--sample"];
-    let rows: [(&[&str], &[u8], u8, &[u8], &[u8]); 4] = [
-        (sample, b"A\n", 0, b"ok 1\n", b""),
-        (
-            sample,
-            b"A\nB",
-            1,
-            b"ok 1\n",
-            b"signctl: line 2: bad line\n",
-        ),
-        (
-            &["signctl", "check"],
-            b"A\n",
-            1,
-            b"",
-            b"signctl: sign not read\n",
-        ),
-        (&["", "check", "--sample"], b"\n", 0, b"ok 1\n", b""),
-    ];
-    for (words, input, want, wrote, said) in rows {
-        let (status, output, errors) = main_output(alloc, words, input);
-        assert_eq!(rt; status, want, "at {words:?}");
-        assert!(rt; output.as_slice() == wrote, "what is written at {words:?}");
-        assert!(rt; errors.as_slice() == said, "what is said at {words:?}");
-    }
-}
-
-#[test]
-fn a_command_line_is_helped_or_refused(rt: HostRuntime) {
-    let alloc = rt.alloc();
-    let rows: [(&[&str], u8); 44] = [
-        (&["signctl", "--help"], 0),
-        (&["signctl", "check", "--help"], 0),
-        (&["signctl", "show", "--help"], 0),
-        (&["signctl", "run", "--help"], 0),
-        (&["signctl", "font", "--help"], 0),
-        (&["signctl", "explain", "--help"], 0),
-        (&["signctl", "picture", "--help"], 0),
-        (&["signctl", "sign", "--help"], 0),
-        (&["signctl", "help"], 0),
-        (&[], 2),
-        (&["signctl"], 2),
-        (&["signctl", "show", "--sample", "--colour", "10"], 2),
-        (&["signctl", "show", "--colour", "10"], 2),
-        (&["signctl", "show", "--colour=-1"], 2),
-        (&["signctl", "show", "--colour", "-1"], 2),
-        (&["signctl", "show", "--colour", "1", "--colour", "2"], 2),
-        (&["signctl", "show", "--colour", "red"], 2),
-        (&["signctl", "show", "--colour"], 2),
-        (&["signctl", "show", "--clock", "4294967296"], 2),
-        (&["signctl", "show", "--clock=-1"], 2),
-        (&["signctl", "show", "--clock", "-1"], 2),
-        (&["signctl", "show", "--clock", "1", "--clock", "1"], 2),
-        (&["signctl", "check", "--colour", "1"], 2),
-        (&["signctl", "run", "--colour", "1"], 2),
-        (&["signctl", "explain", "--phase", "-1"], 2),
-        (&["signctl", "explain", "--clock", "1"], 2),
-        (&["signctl", "picture", "--page", "0"], 2),
-        (&["signctl", "picture", "--page", "256"], 2),
-        (&["signctl", "picture", "--phase", "4294967296"], 2),
-        (&["signctl", "picture", "--colour", "1"], 2),
-        (&["signctl", "check", "--page", "1"], 2),
-        (&["signctl", "sign", "--font", "0"], 2),
-        (&["signctl", "sign", "--sample"], 2),
-        (&["signctl", "font", "--number", "0"], 2),
-        (&["signctl", "font", "--number", "256"], 2),
-        (&["signctl", "font", "--line-spacing", "256"], 2),
-        (&["signctl", "font", "--first", "0"], 2),
-        (&["signctl", "font", "--sample"], 2),
-        (&["signctl", "check", "--number", "1"], 2),
-        (&["signctl", "check", "--other"], 2),
-        (&["signctl", "--sample"], 2),
-        (&["signctl", "check", "--sample", "word"], 2),
-        (&["signctl", "check", "--sample", "--sample"], 2),
-        (&["signctl", "check", "--sample=1"], 2),
-    ];
-    for (words, want) in rows {
-        let mut output = Vec::new(alloc);
-        let mut errors = Vec::new(alloc);
-        let mut reader = b"A\n".as_slice();
-        let status = main_with(alloc, words, &mut reader, &mut output, &mut errors);
-        assert_eq!(rt; status, want, "at {words:?}");
-        assert!(rt;
-            output.is_empty() == (want == 2),
-            "what is written at {words:?}"
-        );
-        assert!(rt;
-            errors.is_empty() == (want == 0),
-            "what is said at {words:?}"
-        );
-        assert!(rt; reader.len() == 2, "what is read at {words:?}");
-    }
-}
-
-#[test]
-fn a_text_that_cannot_be_written_is_lost(rt: HostRuntime) {
-    let alloc = rt.alloc();
-    let full = || NarrowWriter {
-        taken: Vec::new(alloc),
-        room: 0,
-        fails: true,
-    };
-    let rows: [(&[&str], u8); 3] = [
-        (&["signctl", "--help"], 0),
-        (&["signctl", "check"], 1),
-        (&["signctl"], 2),
-    ];
-    for (words, want) in rows {
-        let mut reader = b"A\n".as_slice();
-        let status = main_with(alloc, words, &mut reader, &mut full(), &mut full());
-        assert_eq!(rt; status, want, "at {words:?}");
-    }
 }

@@ -1,14 +1,11 @@
 //! The controller of the sample sign: one slot, 4 bytes, and the permanent message `AAAI`.
 
-mod activation;
-mod defaults;
 mod frame;
 mod memory;
-mod time;
 
-use message_store::{MsgRef, Permanent, Store, StoreFault, StoreLimits};
+use message_store::{MsgRef, Permanent, Store, StoreLimits};
 use sign_control::{Command, Controller, Reply, Report};
-use sign_font::{Sign, SignParts, sample_sign};
+use sign_font::{Sign, sample_sign};
 use std::alloc::Global;
 use std::test::Fail;
 
@@ -43,27 +40,10 @@ pub(crate) const AT_FIRST: Report = Report {
     clock: 0,
 };
 
-/// What is reported of the sample sign once it shows `A` from its one slot without end.
-pub(crate) const SHOWING_A: Report = Report {
-    used: 1,
-    free: 3,
-    mode: 8,
-    shown_memory: 3,
-    shown_number: 1,
-    crc: 0x9a66,
-    priority: 200,
-    requester: 0x7f00_0001,
-    ..AT_FIRST
-};
-
-pub(crate) fn sign_with(
-    alloc: Global,
-    permanent: &[u8],
-    parts: SignParts,
-) -> Result<Controller, Fail> {
+fn sample(alloc: Global) -> Result<Controller, Fail> {
     let mut messages = Vec::new(alloc);
     messages.push(Permanent {
-        multi: permanent.to_vec(alloc)?,
+        multi: b"AAAI".to_vec(alloc)?,
         priority: 5,
         beacon: 0,
         pixel: 0,
@@ -74,37 +54,24 @@ pub(crate) fn sign_with(
         max_string: 64,
     };
     let store = Store::new(alloc, limits, messages)?;
-    Ok(Controller::new(alloc, Sign::new(alloc, parts)?, store)?)
+    let sign = Sign::new(alloc, sample_sign(alloc)?)?;
+    Ok(Controller::new(alloc, sign, store)?)
 }
 
-pub(crate) fn sample(alloc: Global) -> Result<Controller, Fail> {
-    sign_with(alloc, b"AAAI", sample_sign(alloc)?)
-}
-
-/// The sample sign, with the valid message `A` of priority 200.
-pub(crate) fn with_valid_a(alloc: Global) -> Result<Controller, Fail> {
+/// The sample sign, which shows the message `A` of its slot.
+pub(crate) fn showing_a(alloc: Global) -> Result<Controller, Fail> {
     let mut controller = sample(alloc)?;
-    are_told(
-        &mut controller,
-        &[
-            (Command::Request(FIRST, 6), Reply::Done),
-            (Command::SetMulti(FIRST, b"A"), Reply::Done),
-            (Command::SetPriority(FIRST, 200), Reply::Done),
-            (Command::Request(FIRST, 7), Reply::Done),
-            (Command::Work, VALID),
-        ],
-    );
-    Ok(controller)
-}
-
-/// Whether each command is answered so, in this order.
-pub(crate) fn are_told(controller: &mut Controller, commands: &[(Command<'_>, Reply)]) -> bool {
-    for (command, reply) in commands {
-        if controller.apply(command) != *reply {
-            return false;
-        }
+    let commands = [
+        Command::Request(FIRST, 6),
+        Command::SetMulti(FIRST, b"A"),
+        Command::Request(FIRST, 7),
+        Command::Work,
+        Command::Activate(SHOW_A),
+    ];
+    for command in commands {
+        controller.apply(&command);
     }
-    true
+    Ok(controller)
 }
 
 /// Whether a row has this text, priority and CRC, is valid and has no owner.
@@ -139,26 +106,6 @@ fn a_new_controller_shows_blank_1(rt: HostRuntime) -> Result<(), Fail> {
     Ok(())
 }
 
-#[test]
-fn a_run_gives_the_replies_in_order(rt: HostRuntime) -> Result<(), Fail> {
-    let mut controller = sample(rt.alloc())?;
-    let commands = [
-        Command::Request(FIRST, 6),
-        Command::SetMulti(FIRST, b"AAAA"),
-        Command::SetMulti(FIRST, b"AAAAA"),
-    ];
-    let expected = [
-        Reply::Done,
-        Reply::Done,
-        Reply::Refused(StoreFault::NoSpace),
-    ];
-    let replies = controller.run(rt.alloc(), &commands)?;
-    assert!(rt; replies.as_slice() == expected.as_slice(), "three commands");
-    let replies = controller.run(rt.alloc(), &[])?;
-    assert!(rt; replies.is_empty(), "no command");
-    Ok(())
-}
-
 /// A message that was judged valid.
 pub(crate) const VALID: Reply = Reply::Worked {
     number: 1,
@@ -167,19 +114,3 @@ pub(crate) const VALID: Reply = Reply::Worked {
     multi_error: 2,
     multi_position: 0,
 };
-
-#[test]
-fn a_message_is_judged_once(rt: HostRuntime) -> Result<(), Fail> {
-    let mut controller = sample(rt.alloc())?;
-    let rows = [
-        (Command::Request(FIRST, 6), Reply::Done),
-        (Command::SetMulti(FIRST, b"A"), Reply::Done),
-        (Command::SetPriority(FIRST, 200), Reply::Done),
-        (Command::Request(FIRST, 7), Reply::Done),
-        (Command::Work, VALID),
-        (Command::Work, Reply::Idle),
-    ];
-    assert!(rt; are_told(&mut controller, &rows), "the replies");
-    assert!(rt; controller.steps() > 0, "the steps of the judgement");
-    Ok(())
-}

@@ -1,7 +1,6 @@
 //! The store of the sample sign: one slot, 4 bytes, texts of at most 64 octets, and the permanent message `AAAI`.
 
-mod bounds;
-mod calls;
+mod judging;
 mod memory;
 mod pool;
 
@@ -165,25 +164,5 @@ fn told_rows(store: &Store) -> [u8; 9] {
 fn a_row_that_is_not_there_is_refused(rt: HostRuntime) -> Result<(), Fail> {
     let store = sample_store(rt.alloc())?;
     assert_eq!(rt; told_rows(&store), [2, 2, 2, 1, 1, 2, 0, 2, 1]);
-    Ok(())
-}
-
-#[test]
-fn a_character_by_its_number_is_kept_as_it_is_written(rt: HostRuntime) -> Result<(), Fail> {
-    let sign = sample(rt.alloc())?;
-    let mut store = Store::new(rt.alloc(), limits(1, 6, 64), Vec::new(rt.alloc()))?;
-    let first = changeable(1);
-    let calls = [
-        (Call::Request(first, 6), 0),
-        (Call::Multi(first, b"[hc41]"), 0),
-        (Call::Request(first, 7), 0),
-    ];
-    assert!(rt; are_told(&mut store, &calls), "it is stored");
-    assert!(rt; work(&mut store, &sign).is_some(), "it is judged");
-    assert!(rt; has(&store, first, [4, 1, 0, 0], 0x3e27), "it is valid");
-    assert!(rt;
-        holds(&store, first, b"[hc41]", b""),
-        "the octets that were written"
-    );
     Ok(())
 }

@@ -1,29 +1,10 @@
 use multi_token::Source;
 use sign_font::{
-    CellPart, DefaultFault, Defaults, FontInfo, FontPart, LineFill, Sign, SignFault, SignParts,
-    TextFault, TextFront, TextSpace, sample_sign,
+    CellPart, DefaultFault, Defaults, FontInfo, FontPart, LineFill, Sign, SignParts, TextFault,
+    TextFront, TextSpace, sample_sign,
 };
 use std::alloc::{AllocError, Global};
 use std::test::Fail;
-
-/// The number of the fault of these parts, or 0 where they make a sign.
-fn code(alloc: Global, parts: SignParts) -> u8 {
-    match Sign::new(alloc, parts) {
-        Ok(_) => 0,
-        Err(fault) => fault.code(),
-    }
-}
-
-/// The sample with other octets for the `A` of its first font.
-fn with_bits(alloc: Global, bits: &[u8]) -> Result<SignParts, AllocError> {
-    let mut parts = sample_sign(alloc)?;
-    if let Some(font) = parts.fonts.first_mut() {
-        if let Some(cell) = font.cells.get_mut(1) {
-            cell.bits = bits.to_vec(alloc)?;
-        }
-    }
-    Ok(parts)
-}
 
 /// The sample with fonts without cells up to this number.
 fn with_fonts(alloc: Global, last: u8) -> Result<SignParts, AllocError> {
@@ -37,23 +18,6 @@ fn with_fonts(alloc: Global, last: u8) -> Result<SignParts, AllocError> {
             line_spacing: 0,
             cells: Vec::new(alloc),
         })?;
-    }
-    Ok(parts)
-}
-
-/// The sample with cells of one lit pixel up to this number in its second font.
-fn with_cells(alloc: Global, last: u16) -> Result<SignParts, AllocError> {
-    let mut parts = sample_sign(alloc)?;
-    if let Some(font) = parts.fonts.get_mut(1) {
-        font.height = 1;
-        font.cells.clear();
-        for number in 1..=last {
-            font.cells.push(CellPart {
-                number,
-                width: 1,
-                bits: [0x80].to_vec(alloc)?,
-            })?;
-        }
     }
     Ok(parts)
 }
@@ -86,23 +50,6 @@ fn with_wide_numbers(alloc: Global) -> Result<SignParts, AllocError> {
     if let Some(font) = parts.fonts.get_mut(1) {
         for cell in font.cells.iter_mut() {
             cell.number = cell.number.wrapping_mul(257);
-        }
-    }
-    Ok(parts)
-}
-
-/// The sample with cells of one row in its second font, of these numbers and up to 8 columns, the first of them lit.
-fn with_numbers(alloc: Global, cells: &[(u16, u8)]) -> Result<SignParts, AllocError> {
-    let mut parts = sample_sign(alloc)?;
-    if let Some(font) = parts.fonts.get_mut(1) {
-        font.height = 1;
-        font.cells.clear();
-        for &(number, width) in cells {
-            font.cells.push(CellPart {
-                number,
-                width,
-                bits: [0x80].to_vec(alloc)?,
-            })?;
         }
     }
     Ok(parts)
@@ -271,33 +218,12 @@ fn the_cells_of_a_are_drawn_row_by_row(rt: HostRuntime) -> Result<(), Fail> {
     let small = sign.cell(&mut source, 1, 65).ok_or("no small A")?;
     let large = sign.cell(&mut source, 2, 65).ok_or("no large A")?;
     assert_eq!(rt; small.width(), 3);
-    for (row, bits) in [(0, 0b010), (1, 0b111), (2, 0b101)] {
-        assert_eq!(rt; small.row(row), bits << 61, "row {row}");
-    }
+    let rows = [0b010 << 61, 0b111 << 61, 0b101 << 61];
+    assert_eq!(rt; small.rows(), rows.as_slice());
+    assert_eq!(rt; small.row(1), 0b111 << 61);
     assert!(rt; !small.bit(0, 0) && small.bit(1, 0) && !small.bit(2, 0));
     assert!(rt; small.bit(0, 2) && !small.bit(1, 2) && small.bit(2, 2));
     assert_eq!(rt; large.width(), 4);
-    for (row, bits) in [
-        (0, 0b0110),
-        (1, 0b1001),
-        (2, 0b1111),
-        (3, 0b1001),
-        (4, 0b1001),
-    ] {
-        assert_eq!(rt; large.row(row), bits << 60, "row {row}");
-    }
-    assert!(rt; !large.bit(0, 0) && large.bit(1, 0) && large.bit(2, 0) && !large.bit(3, 0));
-    Ok(())
-}
-
-#[test]
-fn rows_are_those_of_the_cell_from_the_top(rt: HostRuntime) -> Result<(), Fail> {
-    let sign = Sign::new(rt.alloc(), sample_sign(rt.alloc())?)?;
-    let mut source = Source::new(b"A");
-    let small = sign.cell(&mut source, 1, 65).ok_or("no small A")?;
-    let large = sign.cell(&mut source, 2, 65).ok_or("no large A")?;
-    let rows = [0b010 << 61, 0b111 << 61, 0b101 << 61];
-    assert_eq!(rt; small.rows(), rows.as_slice());
     let rows = [
         0b0110 << 60,
         0b1001 << 60,
@@ -306,6 +232,7 @@ fn rows_are_those_of_the_cell_from_the_top(rt: HostRuntime) -> Result<(), Fail> 
         0b1001 << 60,
     ];
     assert_eq!(rt; large.rows(), rows.as_slice());
+    assert!(rt; !large.bit(0, 0) && large.bit(1, 0) && large.bit(2, 0) && !large.bit(3, 0));
     Ok(())
 }
 
@@ -408,140 +335,6 @@ fn each_wide_number_finds_its_own_cell_in_at_most_eight_steps(rt: HostRuntime) -
     for number in [256, 258, 513, 32895, 32897, 65279, 65534] {
         assert_eq!(rt; look(&sign, 2, number), (None, 8), "no cell {number}");
     }
-    Ok(())
-}
-
-#[test]
-fn a_size_has_limits(rt: HostRuntime) -> Result<(), Fail> {
-    for (width, height, fault) in [
-        (1024, 128, 0),
-        (1, 1, 0),
-        (1025, 7, 1),
-        (12, 129, 1),
-        (0, 7, 1),
-        (12, 0, 1),
-    ] {
-        let mut parts = sample_sign(rt.alloc())?;
-        parts.width = width;
-        parts.height = height;
-        assert_eq!(rt;
-            code(rt.alloc(), parts),
-            fault,
-            "{width} columns, {height} rows"
-        );
-    }
-    Ok(())
-}
-
-#[test]
-fn fonts_have_limits(rt: HostRuntime) -> Result<(), Fail> {
-    let mut parts = sample_sign(rt.alloc())?;
-    parts.fonts.reverse();
-    assert_eq!(rt; code(rt.alloc(), parts), 2, "fonts in the order 2, 1");
-    let mut parts = sample_sign(rt.alloc())?;
-    parts.fonts.clear();
-    assert_eq!(rt; code(rt.alloc(), parts), 2, "no fonts");
-    for (last, height, fault) in [(16, 1, 0), (17, 1, 2), (3, 64, 0), (3, 0, 2), (3, 65, 2)] {
-        let mut parts = with_fonts(rt.alloc(), last)?;
-        if let Some(font) = parts.fonts.last_mut() {
-            font.height = height;
-        }
-        assert_eq!(rt;
-            code(rt.alloc(), parts),
-            fault,
-            "{last} fonts, {height} rows"
-        );
-    }
-    Ok(())
-}
-
-#[test]
-fn cells_have_limits(rt: HostRuntime) -> Result<(), Fail> {
-    let rows: [(&[u8], u8); 4] = [
-        (&[0x5e, 0x80], 0),
-        (&[0x5e, 0x81], 3),
-        (&[0x5e], 3),
-        (&[0x5e, 0x80, 0x00], 3),
-    ];
-    for (bits, fault) in rows {
-        let parts = with_bits(rt.alloc(), bits)?;
-        assert_eq!(rt; code(rt.alloc(), parts), fault, "{bits:?}");
-    }
-    for (last, fault) in [(255, 0), (256, 3)] {
-        let parts = with_cells(rt.alloc(), last)?;
-        assert_eq!(rt; code(rt.alloc(), parts), fault, "{last} cells");
-    }
-    Ok(())
-}
-
-#[test]
-fn cells_have_rising_numbers(rt: HostRuntime) -> Result<(), Fail> {
-    for (first, second, fault) in [
-        (1, 255, 0),
-        (255, 256, 0),
-        (256, 65535, 0),
-        (0, 1, 3),
-        (256, 256, 3),
-        (321, 65, 3),
-        (65535, 65534, 3),
-    ] {
-        let parts = with_numbers(rt.alloc(), &[(first, 1), (second, 1)])?;
-        assert_eq!(rt;
-            code(rt.alloc(), parts),
-            fault,
-            "cells {first} and {second}"
-        );
-    }
-    Ok(())
-}
-
-#[test]
-fn defaults_have_limits(rt: HostRuntime) -> Result<(), Fail> {
-    let rows = [
-        (1, 3, 3, 1, 0, 0),
-        (3, 3, 3, 1, 0, 4),
-        (1, 1, 3, 1, 0, 4),
-        (1, 6, 3, 1, 0, 4),
-        (1, 3, 1, 1, 0, 4),
-        (1, 3, 5, 1, 0, 4),
-        (1, 3, 3, 10, 0, 4),
-        (1, 3, 3, 1, 10, 4),
-    ];
-    for (font, line, page, fore, back, fault) in rows {
-        let mut parts = sample_sign(rt.alloc())?;
-        parts.defaults.font = font;
-        parts.defaults.line = line;
-        parts.defaults.page = page;
-        parts.defaults.fore = fore;
-        parts.defaults.back = back;
-        assert_eq!(rt;
-            code(rt.alloc(), parts),
-            fault,
-            "font {font}, line {line}, page {page}, colours {fore} on {back}"
-        );
-    }
-    Ok(())
-}
-
-#[test]
-fn the_first_fault_is_answered(rt: HostRuntime) -> Result<(), Fail> {
-    let mut parts = sample_sign(rt.alloc())?;
-    parts.max_pages = 0;
-    assert_eq!(rt; code(rt.alloc(), parts), 5, "no pages");
-    let mut parts = sample_sign(rt.alloc())?;
-    parts.width = 0;
-    parts.max_pages = 0;
-    assert_eq!(rt; code(rt.alloc(), parts), 1, "no columns and no pages");
-    let mut parts = with_bits(rt.alloc(), &[0x5e, 0x81])?;
-    if let Some(font) = parts.fonts.last_mut() {
-        font.height = 65;
-    }
-    assert_eq!(rt;
-        code(rt.alloc(), parts),
-        2,
-        "a bad second font before a bad cell of the first"
-    );
-    assert_eq!(rt; SignFault::Memory.code(), 6);
     Ok(())
 }
 

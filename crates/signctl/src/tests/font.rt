@@ -1,6 +1,6 @@
 //! Fonts that are written as tables.
 
-use super::{FailingReader, NarrowWriter, main_output};
+use super::{FailingReader, NarrowWriter};
 use font_bdf::FontSetting;
 use sign_tool::{FontFault, ToolFault, run_font};
 
@@ -38,50 +38,6 @@ const SETTING: FontSetting = FontSetting {
     first: 1,
     last: 65535,
 };
-
-#[test]
-fn a_font_is_written_as_a_table(rt: HostRuntime) {
-    let rows: [(&[&str], &str, u8, &str, &str); 4] = [
-        (&["signctl", "font"], FONT, 0, TABLE, ""),
-        (
-            &[
-                "signctl",
-                "font",
-                "--first",
-                "65",
-                "--last",
-                "72",
-                "--version",
-                "7",
-                "--number",
-                "255",
-            ],
-            FONT,
-            0,
-            "[[font]]\nnumber = 255\nversion = 7\nheight = 3\nchar_spacing = 1\nline_spacing = 1\ncell = [\n]\n",
-            "",
-        ),
-        (
-            &["signctl", "font", "--char-spacing", "2"],
-            FONT,
-            1,
-            "",
-            "signctl: line 5: the cell is 0 columns wide, and may have 1 to 64\n",
-        ),
-        (
-            &["signctl", "font"],
-            "",
-            1,
-            "",
-            "signctl: line 1: a font in BDF begins with STARTFONT\n",
-        ),
-    ];
-    for (words, input, want, wrote, said) in rows {
-        let (status, output, errors) = main_output(rt.alloc(), words, input.as_bytes());
-        let same = output.as_slice() == wrote.as_bytes() && errors.as_slice() == said.as_bytes();
-        assert!(rt; status == want && same, "at {words:?}");
-    }
-}
 
 #[test]
 fn a_font_ends_where_its_streams_fail(rt: HostRuntime) {

@@ -1,6 +1,6 @@
 //! Runs of each mode, by the sample sign and by its file, whose streams fail and whose memory is refused.
 
-use super::{FailingReader, NarrowWriter, run, sign_files};
+use super::{FailingReader, NarrowWriter, SAMPLE};
 use sign_tool::{Mode, ToolFault, run_script, run_tool};
 use std::alloc::{AllocError, Global};
 use std::io;
@@ -76,6 +76,38 @@ page 0 phase 0
 ............
 ";
 
+/// A message that is stored, shown for a minute, and ended 5 tenths of a second before the script's last tick.
+const MINUTE_SCRIPT: &[u8] = b"\
+request 3 1 6
+multi 3 1 A
+priority 3 1 200
+request 3 1 7
+work
+work
+activate 000180030001669a7f000001
+tick 599
+tick 6
+report
+activate 0000800300019a667f000001
+tick 0
+";
+
+/// The replies to it.
+const MINUTE_REPLIES: &[u8] = b"\
+done
+done
+done
+done
+worked 1 4 2 2 0
+idle
+shown
+ticked
+ended
+report used=1 free=3 mode=14 shown=7/1 crc=0000 priority=1 remaining=65535 requester=7f000001 activate=2 validate=2 multi=2 position=0 clock=5
+shown
+ended
+";
+
 const CHECK: Run = Run {
     name: "check --sample",
     mode: Some(Mode::Check),
@@ -106,8 +138,8 @@ const RUN: Run = Run {
 
 const MINUTE: Run = Run {
     name: "run --sample, a minute",
-    lines: run::MINUTE,
-    output: run::MINUTE_REPLIES,
+    lines: MINUTE_SCRIPT,
+    output: MINUTE_REPLIES,
     ..RUN
 };
 
@@ -141,7 +173,7 @@ fn runs() -> [Run; 10] {
 fn filed(run: Run, name: &'static str) -> Run {
     Run {
         name,
-        file: sign_files::SAMPLE,
+        file: SAMPLE,
         ..run
     }
 }
@@ -303,30 +335,26 @@ fn each_run_writes_a_front_of_its_output(rt: HostRuntime) {
 }
 
 #[test]
-fn the_largest_sign_is_shown_by_its_file(rt: HostRuntime) -> Result<(), Fail> {
+fn a_fault_comes_before_a_failed_read(rt: HostRuntime) -> Result<(), Fail> {
     let alloc = rt.alloc();
-    let wide = sign_files::SAMPLE.replacen(alloc, "width = 12", "width = 1024", 1)?;
-    let file = wide
-        .as_str()
-        .replacen(alloc, "height = 7", "height = 128", 1)?;
-    // A frame has 15 octets and 128 rows of 1,025. An `A` has 6 pixels, and the permanent message `AAAI` has 21.
-    let rows: [(Run, &[u8], usize, usize); 3] = [
-        (CHECK, b"A\n", 5, 0),
-        (SHOW, b"A\n", 131_215, 6),
-        (
-            RUN,
-            b"activate ffff80020001ab7700000000\nframe 1\n",
-            131_221,
-            21,
-        ),
+    let mut refused_sign = SAMPLE.replacen(alloc, "width = 12", "width = 0", 1)?;
+    refused_sign.push_str("%%\n")?;
+    let mut long_line = vec![in alloc; b'#'; 8_301]?;
+    long_line.push(b'\n')?;
+    let refused = Err(ToolFault::SignRefused { number: 1 });
+    let too_long = Err(ToolFault::LineTooLong { line: 1 });
+    let rows: [(bool, &[u8], Result<(), ToolFault>); 4] = [
+        (false, b"width = 0\n%%\n", Err(ToolFault::BadSign)),
+        (false, refused_sign.as_bytes(), refused),
+        (false, &long_line, too_long),
+        (true, &long_line, too_long),
     ];
-    for (run, lines, octets, pixels) in rows {
-        let mode = run.mode.unwrap_or(Mode::Check);
-        let (output, result) = super::run_behind(alloc, mode, file.as_str(), lines)?;
-        assert!(rt; result == Ok(()), "{}: the end", run.name);
-        assert_eq!(rt; output.len(), octets, "{}: the octets", run.name);
-        let lit = output.iter().filter(|octet| **octet == b'#').count();
-        assert_eq!(rt; lit, pixels, "{}: the pixels", run.name);
+    for (sample, input, end) in rows {
+        let mut output = Vec::new(alloc);
+        let mut reader = FailingReader(input);
+        let result = run_tool(alloc, Mode::Check, sample, &mut reader, &mut output);
+        assert!(rt; result == end, "the end where {end:?} comes first");
+        assert!(rt; output.is_empty(), "what is written before {end:?}");
     }
     Ok(())
 }

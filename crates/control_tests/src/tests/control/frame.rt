@@ -1,10 +1,9 @@
 //! The frame of what is shown.
 
-use super::{FIRST, SHOW_A, are_told, sign_with, with_valid_a};
+use super::{FIRST, showing_a};
 use multi_layout::Shown;
 use page_plane::Plane;
-use sign_control::{Command, Reply};
-use sign_font::sample_sign;
+use sign_control::Command;
 use std::test::Fail;
 
 /// The left octets of the rows of one `A` in the middle of the sample sign.
@@ -25,8 +24,7 @@ fn shows(plane: &Plane, rows: [u8; 7]) -> bool {
 
 #[test]
 fn a_message_that_is_gone_is_still_drawn(rt: HostRuntime) -> Result<(), Fail> {
-    let mut controller = with_valid_a(rt.alloc())?;
-    controller.apply(&Command::Activate(SHOW_A));
+    let mut controller = showing_a(rt.alloc())?;
     controller.apply(&Command::Request(FIRST, 8));
     let before = controller.steps();
     let frame = controller.frame(1);
@@ -40,18 +38,5 @@ fn a_message_that_is_gone_is_still_drawn(rt: HostRuntime) -> Result<(), Fail> {
     );
     let frame = controller.frame(0);
     assert!(rt; !shows(frame.plane, LETTER_A), "the background");
-    Ok(())
-}
-
-#[test]
-fn a_character_by_its_number_is_drawn_as_by_its_octet(rt: HostRuntime) -> Result<(), Fail> {
-    let mut controller = sign_with(rt.alloc(), b"[hc41]", sample_sign(rt.alloc())?)?;
-    // permanent 1 with the CRC of `[hc41]`, without end
-    let show = [0xff, 0xff, 0x80, 2, 0, 1, 0x3e, 0x27, 0x7f, 0, 0, 1];
-    let rows = [(Command::Activate(show), Reply::Shown)];
-    assert!(rt; are_told(&mut controller, &rows), "it is shown");
-    let frame = controller.frame(1);
-    assert!(rt; frame.shown == Shown::Page { page: 0, phase: 0 }, "page 0");
-    assert!(rt; shows(frame.plane, LETTER_A), "one letter in the middle");
     Ok(())
 }
