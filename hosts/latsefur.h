@@ -11,18 +11,20 @@
  * - Each pointer is aligned for its type, and the octets or structures of its whole length may be read; those that a call writes may
  *   be written too. All of them have been given some value before the call, as by `= {0}`, or `= {}` in C++.
  * - What a call writes overlaps nothing else that is handed to it. What it reads stays the same until it returns.
- * - malloc, realloc and free come from one allocator, and align as C asks.
- * - The thread has stack left: 64 KiB for a sign file that is as docs/formats.md says, and 2 MiB for one from anybody, whose tables may be
- *   nested deeply.
- * - No call is made from a signal handler, or from the forked child of a process that had threads.
+ * - malloc, realloc and free come from one allocator, align as C asks, and return.
+ * - The thread has stack left: 64 KiB for a sign file whose tables are nested no deeper than docs/formats.md nests them, and 2 MiB for any
+ *   other. A file from anybody may have keys that aren't looked at, with tables nested thousands deep.
+ * - No call is made from a signal handler, or from the forked child of a process that had threads. None is left by longjmp, or by cancelling
+ *   its thread.
+ * - No other function of the program has a name that begins with latsefur_ or rattle_.
  *
  * What the library keeps:
  *
  * - It holds no pointer after a call and has no state between calls. Any number of threads may call at once, if what a call writes is
  *   that call's own. Threads may share sign files and texts that none of them changes.
- * - A call takes memory by malloc and realloc, and has given all of it back before it returns. Everything that is handed in stays the
- *   host's.
- * - It opens no file, writes no message, and starts no thread.
+ * - A call takes memory by malloc and realloc, and has given all of it back before it returns. How much that is grows with the sign file,
+ *   whose length has no limit here. Everything that is handed in stays the host's.
+ * - It opens no file, writes no message, and starts no thread. It sets no errno, but malloc and realloc may.
  *
  * Every time and every clock is in tenths of a second. Pages, rows, columns and octets are counted from 0.
  */
@@ -41,7 +43,7 @@ enum {
     LATSEFUR_DONE = 0,         /* all is done; in a verdict: the text is accepted */
     LATSEFUR_REFUSED = 1,      /* the sign refuses the text */
     LATSEFUR_NO_MEMORY = 2,    /* memory was refused; the same call may succeed later */
-    LATSEFUR_NO_SIGN_FILE = 3, /* the octets can't be read as a sign file; `signctl sign` says why */
+    LATSEFUR_NO_SIGN_FILE = 3, /* the octets can't be read as a sign file; `signctl sign` says why, up to 16 MiB */
     LATSEFUR_SIGN_FAULT = 4,   /* the sign file is read, but its sign is outside the limits of docs/formats.md */
     LATSEFUR_TOO_SMALL = 5,    /* the buffer is too small for the picture, or for the verdicts */
     LATSEFUR_NO_PAGE = 6,      /* the text has no page of this number */
@@ -110,7 +112,7 @@ typedef struct {
 uint8_t latsefur_sign(const uint8_t *sign_file, size_t sign_file_len, latsefur_sign_facts *facts);
 
 /* Judges a text on the sign of a sign file. The text may have any octets, and up to 4,294,967,295 of them, where `signctl check` takes
- * at most 4,096.
+ * at most 4,096. Whether a message table has room for it is another question: `max_string` and `bytes` aren't looked at.
  *
  * `verdict` is written if the outcome is DONE, REFUSED or TOO_LONG, and its own outcome is then the same. */
 uint8_t latsefur_check(const uint8_t *sign_file, size_t sign_file_len, const uint8_t *text, size_t text_len,

@@ -13,7 +13,7 @@
 #include <string.h>
 #include <sys/mman.h>
 
-enum { MARK = 0xa5, BEHIND = 16, THREADS = 4 };
+enum { MARK = 0xa5, BEHIND = 16, THREADS = 4, MANY = 1000 };
 
 static unsigned long checks;
 
@@ -115,6 +115,21 @@ static uint8_t call(export which, const uint8_t *sign, size_t sign_len, const ui
         return latsefur_colours_at(sign, sign_len, text, text_len, 0, out.colours, sizeof out.colours);
     default:
         return latsefur_colours_of_page(sign, sign_len, text, text_len, 0, 0, out.colours, sizeof out.colours);
+    }
+}
+
+/* A call that draws, with a buffer that has no room. */
+static uint8_t call_small(export which, const uint8_t *text, size_t text_len) {
+    memset(&out, MARK, sizeof out);
+    switch (which) {
+    case PLANE_AT:
+        return latsefur_plane_at(file, file_len, text, text_len, 0, 1, out.plane, 0);
+    case PLANE_OF_PAGE:
+        return latsefur_plane_of_page(file, file_len, text, text_len, 0, 0, 1, out.plane, 0);
+    case COLOURS_AT:
+        return latsefur_colours_at(file, file_len, text, text_len, 0, out.colours, 0);
+    default:
+        return latsefur_colours_of_page(file, file_len, text, text_len, 0, 0, out.colours, 0);
     }
 }
 
@@ -358,45 +373,57 @@ static void test_too_long(void) {
     munmap(text, length);
 }
 
-/* Refuses memory from each request on that a call makes, and counts the blocks that it hasn't given back. */
+/* Refuses memory from each request on that a call makes, and counts the blocks that it hasn't given back. It gives how many requests the call
+ * makes, which ends as it is wanted if none is refused. */
+static size_t requests_until(export which, int is_small, uint8_t wanted) {
+    size_t granted;
+    uint8_t outcome;
+    for (granted = 0;; granted++) {
+        left = granted;
+        refused = blocks = 0;
+        is_watched = 1;
+        outcome = is_small ? call_small(which, octets_of("A[np]A"), 6) : call(which, file, file_len, octets_of("A[np]A"), 6);
+        is_watched = 0;
+        EXPECT(blocks == 0);
+        if (outcome == wanted)
+            break;
+        EXPECT(outcome == LATSEFUR_NO_MEMORY && refused > 0);
+        EXPECT(is_untouched());
+    }
+    EXPECT(granted > 0);
+    return granted;
+}
+
+/* Whether a buffer is large enough is looked at after the picture is made, with all its memory. */
 static void test_memory(void) {
     int which;
     for (which = SIGN; which < EXPORTS; which++) {
-        size_t granted;
-        uint8_t outcome;
-        for (granted = 0;; granted++) {
-            left = granted;
-            refused = blocks = 0;
-            is_watched = 1;
-            outcome = call((export)which, file, file_len, octets_of("A[np]A"), 6);
-            is_watched = 0;
-            EXPECT(blocks == 0);
-            if (outcome == LATSEFUR_DONE)
-                break;
-            EXPECT(outcome == LATSEFUR_NO_MEMORY && refused > 0);
-            EXPECT(is_untouched());
-        }
-        EXPECT(granted > 0);
+        size_t granted = requests_until((export)which, 0, LATSEFUR_DONE);
+        if (which >= PLANE_AT)
+            EXPECT(requests_until((export)which, 1, LATSEFUR_TOO_SMALL) == granted);
     }
 }
 
-/* How often a call of `latsefur_check_all` on this many texts asks for memory. */
+/* How often a call of `latsefur_check_all` on this many texts asks for memory. Each second text is refused. */
 static size_t requests_of(size_t count) {
-    latsefur_text texts[3];
-    latsefur_verdict verdicts[3];
+    static latsefur_text texts[MANY];
+    static latsefur_verdict verdicts[MANY + 1];
     size_t i;
     uint8_t outcome;
-    for (i = 0; i < 3; i++) {
-        texts[i].octets = octets_of("A[np]A");
-        texts[i].length = 6;
+    for (i = 0; i < MANY; i++) {
+        texts[i].octets = octets_of("A[np]A[");
+        texts[i].length = 6 + i % 2;
     }
     memset(verdicts, MARK, sizeof verdicts);
     left = SIZE_MAX;
     requests = 0;
     is_watched = 1;
-    outcome = latsefur_check_all(file, file_len, texts, count, verdicts, 3);
+    outcome = latsefur_check_all(file, file_len, texts, count, verdicts, MANY);
     is_watched = 0;
     EXPECT(outcome == LATSEFUR_DONE);
+    for (i = 0; i < count; i++)
+        EXPECT(verdicts[i].outcome == (i % 2 ? LATSEFUR_REFUSED : LATSEFUR_DONE));
+    EXPECT(is_marked((uint8_t *)&verdicts[count], (MANY + 1 - count) * sizeof verdicts[0]));
     return requests;
 }
 
@@ -404,6 +431,99 @@ static size_t requests_of(size_t count) {
 static void test_read_once(void) {
     EXPECT(requests_of(0) > 0);
     EXPECT(requests_of(3) == requests_of(0));
+    EXPECT(requests_of(MANY) == requests_of(0));
+}
+
+/* The sign file with the number at each of these keys changed. */
+static uint8_t *with_numbers(const char *const *keys, const char *const *numbers, int count, size_t *len) {
+    uint8_t *copy = malloc(file_len + 64);
+    const char *from = (const char *)file;
+    size_t made = 0;
+    int i;
+    for (i = 0; i < count; i++) {
+        const char *at = strstr(from, keys[i]);
+        EXPECT(at != NULL);
+        at += strlen(keys[i]);
+        memcpy(copy + made, from, (size_t)(at - from));
+        made += (size_t)(at - from);
+        memcpy(copy + made, numbers[i], strlen(numbers[i]));
+        made += strlen(numbers[i]);
+        for (from = at; *from >= '0' && *from <= '9'; from++)
+            ;
+    }
+    memcpy(copy + made, from, file_len - (size_t)(from - (const char *)file));
+    *len = made + file_len - (size_t)(from - (const char *)file);
+    return copy;
+}
+
+/* This text so many times, and another behind it. */
+static char *repeated(const char *text, size_t times, const char *last) {
+    size_t len = strlen(text), i;
+    char *made = malloc(len * times + strlen(last) + 1);
+    for (i = 0; i < times; i++)
+        memcpy(made + len * i, text, len);
+    memcpy(made + len * times, last, strlen(last) + 1);
+    return made;
+}
+
+static void expect_plane_of_page(const uint8_t *sign, size_t len, const char *text, uint8_t page, uint64_t phase, const uint8_t *wanted) {
+    EXPECT(latsefur_plane_of_page(sign, len, octets_of(text), strlen(text), page, phase, 1, out.plane, sizeof out.plane) == LATSEFUR_DONE);
+    EXPECT(memcmp(out.plane, wanted, LATSEFUR_PLANE_SIZE(LATSEFUR_MAX_WIDTH, LATSEFUR_MAX_HEIGHT)) == 0);
+}
+
+static void expect_plane_at(const uint8_t *sign, size_t len, const char *text, uint64_t clock, const uint8_t *wanted) {
+    EXPECT(latsefur_plane_at(sign, len, octets_of(text), strlen(text), clock, 1, out.plane, sizeof out.plane) == LATSEFUR_DONE);
+    EXPECT(memcmp(out.plane, wanted, LATSEFUR_PLANE_SIZE(LATSEFUR_MAX_WIDTH, LATSEFUR_MAX_HEIGHT)) == 0);
+}
+
+/* Every page of the longest list of pages, of which each second one is dark. */
+static void expect_all_pages(const uint8_t *sign, size_t len, const uint8_t *lit, const uint8_t *dark) {
+    char *pages = repeated("[cf1]A[np][np]", 127, "A");
+    static uint8_t colours[LATSEFUR_COLOURS_SIZE(LATSEFUR_MAX_WIDTH, LATSEFUR_MAX_HEIGHT)];
+    size_t i, count;
+    int page;
+    EXPECT(latsefur_check(sign, len, octets_of(pages), strlen(pages), &out.verdict) == LATSEFUR_DONE);
+    EXPECT(out.verdict.pages == 255);
+    for (page = 0; page < 255; page++) {
+        expect_plane_of_page(sign, len, pages, (uint8_t)page, 0, page % 2 ? dark : lit);
+        if (page % 17 == 0 || page == 253) {
+            EXPECT(latsefur_colours_of_page(sign, len, octets_of(pages), strlen(pages), (uint8_t)page, 0, colours, sizeof colours) ==
+                   LATSEFUR_DONE);
+            for (count = i = 0; i < sizeof colours; i++)
+                count += colours[i] != 0;
+            EXPECT((count != 0) == (page % 2 == 0));
+        }
+    }
+    free(pages);
+}
+
+/* The largest sign, the most pages, long texts, and clocks and phases beyond 32 bits. */
+static void test_largest(void) {
+    static const char *const keys[] = {"width = ", "height = ", "max_pages = "}, *const numbers[] = {"1024", "128", "255"};
+    static uint8_t lit[sizeof out.plane], dark[sizeof out.plane];
+    const char *flashing = "[flt10o10][cf1]A[/fl]", *turning = "[pt10o0][cf1]A[np]";
+    char *text = repeated("[fo]", 100000, "[cf1]A");
+    uint64_t late = (uint64_t)1 << 32; /* it is 16 more than a multiple of 20 */
+    size_t len;
+    uint8_t *sign = with_numbers(keys, numbers, 3, &len);
+    EXPECT(latsefur_sign(sign, len, &out.facts) == LATSEFUR_DONE);
+    EXPECT(out.facts.width == LATSEFUR_MAX_WIDTH && out.facts.height == LATSEFUR_MAX_HEIGHT && out.facts.max_pages == 255);
+    EXPECT(latsefur_plane_at(sign, len, octets_of("[cf1]A"), 6, 0, 1, lit, sizeof lit) == LATSEFUR_DONE);
+    EXPECT(latsefur_plane_at(sign, len, octets_of(""), 0, 0, 1, dark, sizeof dark) == LATSEFUR_DONE);
+    EXPECT(memcmp(lit, dark, sizeof lit) != 0);
+    expect_all_pages(sign, len, lit, dark);
+    expect_plane_at(sign, len, text, 0, lit);
+    expect_plane_at(sign, len, text, late, lit);
+    EXPECT(latsefur_shown_at(sign, len, octets_of(text), strlen(text), late, &out.shown) == LATSEFUR_DONE && out.shown.phase == late);
+    EXPECT(latsefur_check(sign, len, octets_of(text), strlen(text) - 2, &out.verdict) == LATSEFUR_REFUSED && out.verdict.at == 400000);
+    expect_plane_at(sign, len, turning, late, dark);
+    expect_plane_at(sign, len, turning, late + 10, lit);
+    expect_plane_at(sign, len, flashing, late, dark);
+    expect_plane_at(sign, len, flashing, late + 10, lit);
+    expect_plane_of_page(sign, len, flashing, 0, late, dark);
+    expect_plane_of_page(sign, len, flashing, 0, late + 10, lit);
+    free(text);
+    free(sign);
 }
 
 /* What a thread has of its own. The texts and the sign file are shared. */
@@ -440,57 +560,74 @@ static void test_threads(void) {
     }
 }
 
-/* A sign file that is read on a thread with so little stack. */
+/* A call that is made on a thread with so little stack. */
 typedef struct {
+    export which;
     const uint8_t *sign;
     size_t sign_len;
     uint8_t outcome;
-} reading;
+} small_call;
 
-static void *read_sign(void *given) {
-    reading *mine = given;
-    latsefur_sign_facts told = {0, 0, 0, 0};
-    mine->outcome = latsefur_sign(mine->sign, mine->sign_len, &told);
+static void *call_there(void *given) {
+    small_call *mine = given;
+    mine->outcome = call(mine->which, mine->sign, mine->sign_len, octets_of("A[np]A"), 6);
     return NULL;
 }
 
-static uint8_t outcome_on_stack(const uint8_t *sign, size_t sign_len, size_t stack) {
-    reading mine = {sign, sign_len, MARK};
+/* The outcome of each export must be this one. */
+static void expect_on_stack(const uint8_t *sign, size_t sign_len, size_t stack, uint8_t outcome) {
+    small_call mine = {SIGN, sign, sign_len, MARK};
     pthread_attr_t small;
     pthread_t thread;
+    int which;
     EXPECT(pthread_attr_init(&small) == 0 && pthread_attr_setstacksize(&small, stack) == 0);
-    EXPECT(pthread_create(&thread, &small, read_sign, &mine) == 0);
-    EXPECT(pthread_join(thread, NULL) == 0);
+    for (which = SIGN; which < EXPORTS; which++) {
+        mine.which = (export)which;
+        EXPECT(pthread_create(&thread, &small, call_there, &mine) == 0);
+        EXPECT(pthread_join(thread, NULL) == 0);
+        EXPECT(mine.outcome == outcome);
+    }
     pthread_attr_destroy(&small);
-    return mine.outcome;
 }
 
-/* The stack that docs/hosts.md asks for is enough, also for tables that are nested as deeply as TOML lets them be here: 80 in one
- * another, each by a key of 80 parts. */
+static char *put_key(char *at) {
+    int part;
+    for (part = 0; part < 80; part++)
+        at += sprintf(at, part < 79 ? "a." : "a");
+    return at;
+}
+
+/* The stack that latsefur.h asks for is enough, also for tables that are nested as deeply as TOML lets them be here: a table by a name of
+ * 80 parts, a key of 80 parts in it, and 80 tables in one another behind that, each with a key of 80 parts. */
 static void test_stack(void) {
-    static char nested[80 * 80 * 2 + 80 * 5 + 16];
+    static char nested[82 * 80 * 2 + 80 * 8 + 64];
     char *at = nested;
-    int depth, part;
-    at += sprintf(at, "x = ");
+    int depth;
+    *at++ = '[';
+    at = put_key(at);
+    at += sprintf(at, "]\n");
+    at = put_key(at);
+    at += sprintf(at, " = ");
     for (depth = 0; depth < 80; depth++) {
         *at++ = '{';
-        for (part = 0; part < 80; part++)
-            at += sprintf(at, part < 79 ? "a." : "a = ");
+        at = put_key(at);
+        at += sprintf(at, " = ");
     }
     *at++ = '1';
     for (depth = 0; depth < 80; depth++)
         *at++ = '}';
     *at++ = '\n';
-    EXPECT(outcome_on_stack(file, file_len, 64 << 10) == LATSEFUR_DONE);
-    EXPECT(outcome_on_stack(octets_of(nested), (size_t)(at - nested), 2 << 20) == LATSEFUR_NO_SIGN_FILE);
+    expect_on_stack(file, file_len, 64 << 10, LATSEFUR_DONE);
+    expect_on_stack(octets_of(nested), (size_t)(at - nested), 2 << 20, LATSEFUR_NO_SIGN_FILE);
 }
 
 static void read_file(void) {
     FILE *stream = fopen(path, "rb");
     EXPECT(stream != NULL);
-    file = malloc(1 << 20);
+    file = malloc((1 << 20) + 1);
     file_len = fread(file, 1, 1 << 20, stream);
     EXPECT(file_len > 0 && file_len < 1 << 20);
+    file[file_len] = 0; /* an end for strstr */
     fclose(stream);
 }
 
@@ -514,6 +651,7 @@ int main(int count, char **paths) {
         test_too_long();
         test_memory();
         test_read_once();
+        test_largest();
         test_stack();
         test_threads();
         free(file);

@@ -14,5 +14,3 @@ mod outcome;
 mod seen;
 mod shown;
 mod sign;
-#[cfg(test)]
-mod tests;

@@ -1,6 +1,7 @@
 mod defaults;
 mod filling;
 mod lending;
+mod memory;
 mod picture;
 mod wide;
 

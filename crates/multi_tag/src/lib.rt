@@ -22,6 +22,3 @@ mod times;
 pub use laws::{one_tag_at_most, tag_of_is_the_table};
 pub use read::{read_body, read_tag};
 pub use tag::{FontPick, Tag, TagFault};
-
-#[cfg(test)]
-mod tests;

@@ -18,6 +18,3 @@ pub use laws::{
 };
 pub use source::Source;
 pub use token::{Bracketed, Kind, Token, TokenFault, next_token, read_bracket};
-
-#[cfg(test)]
-mod tests;

@@ -15,6 +15,3 @@ mod plane;
 pub use laws::a_plane_is_its_pixels;
 pub use memory::Memory;
 pub use plane::Plane;
-
-#[cfg(test)]
-mod tests;

@@ -8,8 +8,9 @@ use sign_report::sign_report;
 use std::alloc::Global;
 use std::io::{Read, Write};
 
-/// Reads a sign file to the end of the input, and writes what it describes, or the faults that it has. The answer is whether the
-/// other modes take it. With `font` the characters of this font are shown in place of the description.
+/// Reads a sign file to the end of the input, and writes what it describes, or the faults that it has. The answer is whether it has
+/// none; then the other modes take it too, if no line of it has more than 8,300 octets or is their mark `%%`. With `font` the characters
+/// of this font are shown in place of the description.
 ///
 /// The errors are `Read`, `InputTooLong`, `Memory` and `Write`. Before `Write` the writer has taken a beginning of what is told, and
 /// before the others nothing.

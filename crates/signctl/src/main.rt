@@ -56,8 +56,6 @@
 #![tactic(auto)]
 
 mod main_with;
-#[cfg(test)]
-mod tests;
 mod words;
 
 use std::io::BufReader;

@@ -35,10 +35,12 @@ const NO_SLOT: MsgRef = MsgRef {
     memory: 3,
     number: 2,
 };
+
 const PERMANENT: MsgRef = MsgRef {
     memory: 2,
     number: 1,
 };
+
 const NO_MEMORY: MsgRef = MsgRef {
     memory: 4,
     number: 1,

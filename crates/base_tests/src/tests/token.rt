@@ -1,4 +1,4 @@
-use crate::{Bracketed, Kind, Source, Token, TokenFault, next_token, read_bracket};
+use multi_token::{Bracketed, Kind, Source, Token, TokenFault, next_token, read_bracket};
 
 /// The tokens of a string up to the end or a fault, as far as a table of four holds them, and the steps.
 fn tokens(octets: &[u8]) -> ([Option<Token>; 4], Result<usize, TokenFault>, u64) {

@@ -1,4 +1,4 @@
-use crate::{FontPick, Tag, TagFault, read_tag};
+use multi_tag::{FontPick, Tag, TagFault, read_tag};
 use multi_token::{Kind, Source, next_token};
 
 /// What is read of a string that is one tag, and the steps of reading it; `None` where it is no tag.

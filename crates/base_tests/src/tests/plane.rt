@@ -1,6 +1,6 @@
 ghost use Rattle.std.specs.Prelude.{◌≡◌, ◌+◌, ◌≤◌, length};
 
-use crate::{Memory, Plane};
+use page_plane::{Memory, Plane};
 use std::alloc::Global;
 use std::process::Abort;
 

@@ -1,0 +1,3 @@
+mod plane;
+mod tag;
+mod token;
