@@ -62,13 +62,16 @@ def examples_of(path):
 
 
 def sign_with(path, change):
-    """The sign of a file, one of whose keys, or one piece of whose text, may be changed."""
+    """The sign of a file, some of whose keys, or one piece of whose text, may be changed."""
     sign = path.read_text()
-    if change:
-        old, arrow, new = change.partition(" -> ")
-        key = re.escape(change.split(" = ")[0])
-        pattern = re.escape(old) if arrow else f"^{key} = .*$"
-        sign, found = re.subn(pattern, lambda _: new if arrow else change, sign, flags=re.MULTILINE)
+    if not change:
+        return sign
+    old, arrow, new = change.partition(" -> ")
+    pieces = [(re.escape(old), new)] if arrow else [
+        (f"^{re.escape(key.split(' = ')[0])} = .*$", key) for key in change.split(" and ")
+    ]
+    for pattern, piece in pieces:
+        sign, found = re.subn(pattern, lambda _: piece, sign, flags=re.MULTILINE)
         if found != 1:
             fail(f"{path}: `{change}` changes {found} places")
     return sign

@@ -17,7 +17,7 @@ use sign_font::CellPart;
 use std::alloc::Global;
 
 /// The box of a font, and its rows as a count.
-#[derive(Clone, Copy, Debug, PartialEq, Eq)]
+#[derive(Clone, Copy)]
 pub(crate) struct FontBox {
     /// The box.
     pub(crate) whole: PixelBox,

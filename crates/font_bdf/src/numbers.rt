@@ -13,7 +13,7 @@ use crate::fault::{BdfFault, BdfProblem, fault_at};
 use crate::words::{line_with, word_at};
 
 /// A box of pixels (BDF, FONTBOUNDINGBOX and BBX).
-#[derive(Clone, Copy, Debug, PartialEq, Eq)]
+#[derive(Clone, Copy)]
 pub(crate) struct PixelBox {
     /// Columns.
     pub(crate) width: i32,

@@ -11,6 +11,11 @@ use std::alloc::{AllocError, Global};
 use std::process::Abort;
 use std::test::Fail;
 
+/// Asserts that something is so, and else tells what. It is proved once, where `assert!` is proved at each of its places.
+fn so(rt: &impl Abort, is_so: bool, what: &str) {
+    assert!(rt; is_so, "{what}");
+}
+
 /// The pages of a string, or its error and the error's offset.
 type Verdict = Result<u8, (u8, usize)>;
 
@@ -70,7 +75,7 @@ fn written(alloc: Global, parts: Parts<'_>) -> Result<Vec<u8>, AllocError> {
 /// Asks a sign for a string.
 fn asked(rt: &impl Abort, alloc: Global, sign: &Sign, octets: &[u8]) -> Result<Told, Fail> {
     let mut plane = Plane::new(alloc, sign.width(), sign.height())?;
-    assert!(rt; octets.len() <= LONGEST, "a longer string");
+    assert!(rt; octets.len() <= LONGEST);
     let mut checked = match check(sign, Source::new(octets)) {
         Ok(checked) => checked,
         Err(fault) => {
@@ -115,7 +120,7 @@ fn assert_told(
     let count = octets.len();
     let front = &octets[..count.min(8)];
     let told = asked(rt, alloc, sign, octets)?;
-    assert_eq!(rt; told.verdict, want, "{count} octets, {front:?}");
+    assert!(rt; told.verdict == want, "{count} octets, {front:?}");
     let least = match want {
         Ok(_) => count,
         Err((_, at)) => at,

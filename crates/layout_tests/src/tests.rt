@@ -1,5 +1,3 @@
-mod defaults;
-mod filling;
 mod lending;
 mod memory;
 mod picture;
@@ -10,53 +8,28 @@ use multi_token::Source;
 use page_plane::Plane;
 use sign_font::{Sign, sample_sign};
 use std::alloc::Global;
+use std::process::Abort;
 use std::test::Fail;
-
-/// The pages of a string, or its error and the error's offset.
-type Verdict = Result<u8, (u8, usize)>;
 
 /// The sample sign.
 fn sign(alloc: Global) -> Result<Sign, Fail> {
     Ok(Sign::new(alloc, sample_sign(alloc)?)?)
 }
 
-/// What the sign says to a string of at most 4,096 octets.
-fn verdict(sign: &Sign, octets: &[u8]) -> Verdict {
-    if octets.len() > 4096 {
-        return Err((0, 0));
-    }
-    match check(sign, Source::new(octets)) {
-        Ok(checked) => Ok(checked.pages()),
-        Err(fault) => Err((fault.code, fault.at)),
-    }
-}
-
-/// The times of all pages of an accepted string of at most 4,096 octets, in tenths of a second.
-fn cycle(sign: &Sign, octets: &[u8]) -> Option<u32> {
-    if octets.len() > 4096 {
-        return None;
-    }
-    match check(sign, Source::new(octets)) {
-        Ok(checked) => Some(checked.cycle()),
-        Err(_) => None,
-    }
+/// Asserts that something is so, and else tells what. It is proved once, where `assert!` is proved at each of its places.
+fn so(rt: &impl Abort, is_so: bool, what: &str) {
+    assert!(rt; is_so, "{what}");
 }
 
 #[test]
-fn a_string_has_pages_or_an_error_at_an_offset(rt: HostRuntime) -> Result<(), Fail> {
+fn the_times_of_all_pages_are_a_cycle(rt: HostRuntime) -> Result<(), Fail> {
     let sign = sign(rt.alloc())?;
-    assert_eq!(rt; verdict(&sign, b"A[np]A"), Ok(2));
-    assert_eq!(rt; verdict(&sign, b"A[nl2]A"), Err((5, 6)));
-    Ok(())
-}
-
-#[test]
-fn a_cycle_is_the_time_of_all_pages(rt: HostRuntime) -> Result<(), Fail> {
-    let sign = sign(rt.alloc())?;
-    let rows: [(&[u8], u32); 3] = [(b"[pt10o5]A[np]A", 30), (b"A", 30), (b"A[np]A[pt10]", 40)];
-    for (octets, want) in rows {
-        assert_eq!(rt; cycle(&sign, octets), Some(want), "at {octets:?}");
-    }
+    let Ok(mut checked) = check(&sign, Source::new(b"[pt10o5]A[np]A")) else {
+        panic!(rt; "the string is accepted");
+    };
+    so(&rt, checked.cycle() == 30, "twice 10 on and 5 off");
+    let last = Shown::Page { page: 1, phase: 0 };
+    so(&rt, checked.locate(u64::MAX) == last, "the greatest clock");
     Ok(())
 }
 
@@ -76,17 +49,6 @@ fn a_string_comes_back_with_its_steps(rt: HostRuntime) -> Result<(), Fail> {
         steps >= 7 && steps <= 64 && len == 7,
         "{steps} steps, {len} octets"
     );
-    Ok(())
-}
-
-#[test]
-fn a_clock_may_be_the_greatest_number(rt: HostRuntime) -> Result<(), Fail> {
-    let sign = sign(rt.alloc())?;
-    let Ok(mut checked) = check(&sign, Source::new(b"[pt10o5]A[np]A")) else {
-        panic!(rt; "the string is accepted");
-    };
-    let want = Shown::Page { page: 1, phase: 0 };
-    assert_eq!(rt; checked.locate(u64::MAX), want);
     Ok(())
 }
 
@@ -132,36 +94,7 @@ fn shows(plane: &Plane, rows: [u8; 7]) -> bool {
 fn the_pages_of_a_string_are_drawn_in_turn(rt: HostRuntime) -> Result<(), Fail> {
     let sign = sign(rt.alloc())?;
     let plane = Plane::new(rt.alloc(), sign.width(), sign.height())?;
-    let Ok(checked) = check(&sign, Source::new(b"A[np]A")) else {
-        panic!(rt; "the string is accepted");
-    };
-    let judged = checked.steps();
-    let mut pages = checked.each_page(0, 1, plane);
-    let Some(view) = pages.next_page() else {
-        panic!(rt; "page 0 is missing");
-    };
-    assert!(rt; view.page == 0 && shows(view.plane, LETTER_A), "page 0");
-    let Some(view) = pages.next_page() else {
-        panic!(rt; "page 1 is missing");
-    };
-    assert!(rt; view.page == 1 && shows(view.plane, LETTER_A), "page 1");
-    assert!(rt; pages.next_page().is_none(), "there are two pages");
-
-    let drawn = pages.steps();
-    let (checked, plane) = pages.finish();
-    let (read, put) = (checked.steps(), plane.steps());
-    assert!(rt;
-        judged <= 55 && drawn <= 168 && read <= 165 && put <= 58,
-        "{judged} steps to judge, {drawn} to draw: {read} over the string in all, {put} over the plane"
-    );
-    Ok(())
-}
-
-#[test]
-fn judging_locating_and_drawing_take_few_steps_together(rt: HostRuntime) -> Result<(), Fail> {
-    let sign = sign(rt.alloc())?;
-    let plane = Plane::new(rt.alloc(), sign.width(), sign.height())?;
-    let Ok(mut checked) = check(&sign, Source::new(b"A[np]A")) else {
+    let Ok(mut checked) = check(&sign, Source::new(b"A[np]I")) else {
         panic!(rt; "the string is accepted");
     };
     checked.locate(30);
@@ -169,34 +102,26 @@ fn judging_locating_and_drawing_take_few_steps_together(rt: HostRuntime) -> Resu
     let mut pages = checked.each_page(0, 1, plane);
     for page in 0..2 {
         let Some(view) = pages.next_page() else {
-            panic!(rt; "page {page} is missing");
-        };
-        assert_eq!(rt; view.page, page);
-    }
-    assert!(rt; pages.next_page().is_none(), "there are two pages");
-    let together = found.saturating_add(pages.steps());
-    assert!(rt; together <= 278, "{together} steps together");
-    Ok(())
-}
-
-#[test]
-fn the_plane_stays_as_the_last_page_left_it(rt: HostRuntime) -> Result<(), Fail> {
-    let sign = sign(rt.alloc())?;
-    let plane = Plane::new(rt.alloc(), sign.width(), sign.height())?;
-    let Ok(checked) = check(&sign, Source::new(b"A[np]I")) else {
-        panic!(rt; "the string is accepted");
-    };
-    let mut pages = checked.each_page(0, 1, plane);
-    for page in 0..2 {
-        let Some(view) = pages.next_page() else {
-            panic!(rt; "page {page} is missing");
+            panic!(rt; "there are two pages");
         };
         let rows = if page == 0 { LETTER_A } else { LETTER_I };
-        assert!(rt; view.page == page && shows(view.plane, rows), "page {page}");
+        so(
+            &rt,
+            view.page == page && shows(view.plane, rows),
+            "its letter",
+        );
     }
-    assert!(rt; pages.next_page().is_none(), "there are two pages");
-    let (_, plane) = pages.finish();
-    assert!(rt; shows(&plane, LETTER_I), "what is given back");
+    so(&rt, pages.next_page().is_none(), "no page is left");
+
+    let drawn = pages.steps();
+    let (checked, plane) = pages.finish();
+    so(&rt, shows(&plane, LETTER_I), "the last page is given back");
+    let (read, put) = (checked.steps(), plane.steps());
+    let few = found <= 110 && drawn <= 168 && read <= 220 && put <= 58;
+    assert!(rt;
+        few,
+        "{found} steps to judge and find, {drawn} to draw: {read} over the string in all, {put} over the plane"
+    );
     Ok(())
 }
 
@@ -207,11 +132,15 @@ fn a_page_that_is_not_there_changes_nothing(rt: HostRuntime) -> Result<(), Fail>
     let Ok(mut checked) = check(&sign, Source::new(b"A[np]A")) else {
         panic!(rt; "the string is accepted");
     };
-    assert!(rt; checked.draw(1, 0, 1, &mut plane), "page 1 is there");
+    so(&rt, checked.draw(1, 0, 1, &mut plane), "page 1 is there");
     let (read, put) = (checked.steps(), plane.steps());
-    assert!(rt; !checked.draw(2, 0, 0, &mut plane), "page 2 is not");
-    assert_eq!(rt; (checked.steps(), plane.steps()), (read, put));
-    assert!(rt; shows(&plane, LETTER_A), "page 1 is still shown");
+    so(&rt, !checked.draw(2, 0, 0, &mut plane), "page 2 is not");
+    so(
+        &rt,
+        (checked.steps(), plane.steps()) == (read, put),
+        "both counts stay",
+    );
+    so(&rt, shows(&plane, LETTER_A), "page 1 is still shown");
     Ok(())
 }
 
@@ -233,6 +162,6 @@ fn a_frame_takes_few_steps(rt: HostRuntime) -> Result<(), Fail> {
     let Ok(three) = check(&sign, Source::new(b"AAA")) else {
         panic!(rt; "the string is accepted");
     };
-    assert!(rt; three.steps() <= 28, "three characters are judged");
+    so(&rt, three.steps() <= 28, "three characters are judged");
     Ok(())
 }

@@ -13,7 +13,7 @@ pub(crate) const COLUMNS: u16 = 1024;
 pub(crate) const ROWS: u16 = 128;
 
 /// How many pixels are needed.
-#[derive(Clone, Copy, Debug, PartialEq, Eq)]
+#[derive(Clone, Copy)]
 pub(crate) enum Need {
     /// All of it needs these.
     All(u16),
@@ -24,7 +24,7 @@ pub(crate) enum Need {
 }
 
 /// What a message lacks.
-#[derive(Clone, Copy, Debug, PartialEq, Eq)]
+#[derive(Clone, Copy)]
 pub(crate) enum Lack {
     /// Its line needs these columns.
     Line(Need),
@@ -56,7 +56,7 @@ pub(crate) struct Trial<'a> {
 }
 
 /// How the large sign judges a front.
-#[derive(Clone, Copy, Debug, PartialEq, Eq)]
+#[derive(Clone, Copy)]
 enum Fit {
     /// It takes it.
     Takes,

@@ -5,7 +5,7 @@ use multi_token::{Kind, Source, next_token};
 use sign_font::Sign;
 
 /// What is in force behind some items.
-#[derive(Clone, Copy, Debug, PartialEq, Eq)]
+#[derive(Clone, Copy)]
 pub(crate) struct Standing {
     /// The pages so far, the present one with them.
     pub(crate) pages: u32,
@@ -37,7 +37,7 @@ pub(crate) struct Standing {
 const SPACE: u16 = 32;
 
 /// An item as it is spelled.
-#[derive(Clone, Copy, Debug, PartialEq, Eq)]
+#[derive(Clone, Copy)]
 pub(crate) enum Piece<'a> {
     /// A character of this number.
     Char(u8),
@@ -209,7 +209,7 @@ pub(crate) fn standing_at(sign: &Sign, message: &[u8], to: usize, page: u32) -> 
 }
 
 /// A part of a message.
-#[derive(Clone, Copy, Debug, PartialEq, Eq)]
+#[derive(Clone, Copy)]
 pub(crate) enum Part {
     Area,
     Line,

@@ -25,7 +25,7 @@ pub struct Permanent {
 }
 
 /// The memory types that have messages here (NTCIP 1203 v03, dmsMessageMemoryType).
-#[derive(Clone, Copy, Debug, PartialEq, Eq)]
+#[derive(Clone, Copy)]
 pub(crate) enum MemoryType {
     Permanent,
     Changeable,

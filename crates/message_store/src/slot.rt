@@ -3,7 +3,7 @@
 ghost use Rattle.std.specs.Prelude.{◌≡◌};
 
 /// The status of a message (NTCIP 1203 v03, dmsMessageStatus).
-#[derive(Clone, Copy, Debug, PartialEq, Eq)]
+#[derive(Clone, Copy)]
 pub(crate) enum Status {
     /// It has no text and is no used slot.
     NotUsed,
@@ -57,7 +57,7 @@ impl Status {
 }
 
 /// What is asked of a message's status (NTCIP 1203 v03, dmsMessageStatus).
-#[derive(Clone, Copy, Debug, PartialEq, Eq)]
+#[derive(Clone, Copy)]
 pub(crate) enum Request {
     Modify,
     Validate,
@@ -81,7 +81,7 @@ impl Request {
 }
 
 /// What a slot holds beside its texts.
-#[derive(Clone, Copy, Debug, PartialEq, Eq)]
+#[derive(Clone, Copy)]
 pub(crate) struct Slot {
     pub(crate) status: Status,
     pub(crate) priority: u8,

@@ -17,7 +17,7 @@ use multi_token::Source;
 use sign_font::{Defaults, Sign};
 
 /// Why a message isn't valid (NTCIP 1203 v03, dmsValidateMessageError).
-#[derive(Clone, Copy, Debug, PartialEq, Eq)]
+#[derive(Clone, Copy)]
 pub(crate) enum ValidateError {
     None,
     Beacons,

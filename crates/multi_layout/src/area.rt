@@ -16,7 +16,7 @@ use crate::line::{Character, Line, gap_or_average, parts_fit};
 use sign_font::FontInfo;
 
 /// The last line that an `nl` ended.
-#[derive(Clone, Copy, Debug, PartialEq, Eq)]
+#[derive(Clone, Copy)]
 pub(crate) struct Ended {
     /// The gap that its `nl` gave, in pixels, if it gave one.
     pub(crate) gap: Option<u8>,
@@ -25,7 +25,7 @@ pub(crate) struct Ended {
 }
 
 /// The placing items of an area with one page justification.
-#[derive(Clone, Copy, Debug, PartialEq, Eq)]
+#[derive(Clone, Copy)]
 pub(crate) struct Group {
     /// How many lines an `nl` ended.
     pub(crate) ended: u64,
@@ -39,7 +39,7 @@ pub(crate) struct Group {
 
 /// The placing items of an area. Page justifications don't go back in an area, so only one group grows, and of those before it
 /// only the heights are kept.
-#[derive(Clone, Copy, Debug, PartialEq, Eq)]
+#[derive(Clone, Copy)]
 pub(crate) struct Area {
     /// The page justification of the present group, the largest so far; 0 where there is no item.
     pub(crate) present: u8,

@@ -13,7 +13,7 @@ use sign_font::{Defaults, FontInfo};
 
 /// A flash: whether it begins with its off time, and its times in tenths of a second (NTCIP 1203 v03, MULTI
 /// tag 'fl').
-#[derive(Clone, Copy, Debug, PartialEq, Eq)]
+#[derive(Clone, Copy)]
 pub(crate) struct FlashTimes {
     pub(crate) off_first: bool,
     pub(crate) on: u8,
@@ -22,7 +22,7 @@ pub(crate) struct FlashTimes {
 
 /// A part of the sign: its upper left pixel, counted from 0, and its columns and rows (NTCIP 1203 v03, MULTI
 /// tag 'tr').
-#[derive(Clone, Copy, Debug, PartialEq, Eq)]
+#[derive(Clone, Copy)]
 pub(crate) struct Rectangle {
     pub(crate) left: u16,
     pub(crate) top: u16,
@@ -31,7 +31,7 @@ pub(crate) struct Rectangle {
 }
 
 /// The values in force behind the items so far (NTCIP 1203 v03, MULTI).
-#[derive(Clone, Copy, Debug, PartialEq, Eq)]
+#[derive(Clone, Copy)]
 pub(crate) struct Attributes {
     pub(crate) font: FontInfo,
     /// Left 2, centre 3, right 4, full 5.

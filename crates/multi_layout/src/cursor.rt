@@ -20,14 +20,14 @@ use multi_tag::Tag;
 use multi_token::{Source, next_token};
 
 /// A place between two items of an accepted string: the offset of the next, and the state behind those before it.
-#[derive(Clone, Copy, Debug, PartialEq, Eq)]
+#[derive(Clone, Copy)]
 pub(crate) struct Cursor {
     pub(crate) at: usize,
     pub(crate) state: State,
 }
 
 /// What is read of the next item: the item, and the number of its octets.
-#[derive(Clone, Copy, Debug, PartialEq, Eq)]
+#[derive(Clone, Copy)]
 pub(crate) struct NextItem {
     pub(crate) item: KnownItem,
     pub(crate) len: usize,

@@ -25,7 +25,7 @@ pub(crate) struct Placed {
 }
 
 /// The parts of the open line around its last space.
-#[derive(Clone, Copy, Debug, PartialEq, Eq)]
+#[derive(Clone, Copy)]
 pub(crate) struct Split {
     /// The characters before the space.
     pub(crate) before: Line,

@@ -29,7 +29,7 @@ use multi_tag::Tag;
 use multi_token::{Bracketed, Source};
 
 /// The running state behind some items of a string, where lines are filled.
-#[derive(Clone, Copy, Debug, PartialEq, Eq)]
+#[derive(Clone, Copy)]
 pub(crate) struct Filled {
     /// That of the items as they are laid out, where a dropped space is the end of its line.
     pub(crate) state: State,
@@ -40,7 +40,7 @@ pub(crate) struct Filled {
 }
 
 /// What the order of line justifications is judged by.
-#[derive(Clone, Copy, Debug, PartialEq, Eq)]
+#[derive(Clone, Copy)]
 pub(crate) struct Order {
     /// The largest line justification of the characters; 0 where there is none.
     pub(crate) largest: u8,

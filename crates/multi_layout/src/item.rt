@@ -15,7 +15,7 @@ use multi_tag::{Tag, TagFault, read_body, read_tag};
 use multi_token::{Kind, Source, Token};
 
 /// An item of a string: a character by its number, or what a tag says (NTCIP 1203 v03, MULTI).
-#[derive(Clone, Copy, Debug, PartialEq, Eq)]
+#[derive(Clone, Copy)]
 pub(crate) enum KnownItem {
     Char(u16),
     Tag(Tag),

@@ -13,7 +13,7 @@ ghost use Rattle.multi_layout.specs.Sums.{segment_sum, line_sum, line_sum_in, Is
 use sign_font::FontInfo;
 
 /// A character, as its line sees it.
-#[derive(Clone, Copy, Debug, PartialEq, Eq)]
+#[derive(Clone, Copy)]
 pub(crate) struct Character {
     /// The line justification in force: left 2, centre 3, right 4, full 5.
     pub(crate) just: u8,
@@ -26,7 +26,7 @@ pub(crate) struct Character {
 }
 
 /// The characters of a line with one line justification.
-#[derive(Clone, Copy, Debug, PartialEq, Eq)]
+#[derive(Clone, Copy)]
 pub(crate) struct Segment {
     /// Their width in pixels, with the gaps between them.
     pub(crate) width: u64,
@@ -38,7 +38,7 @@ pub(crate) struct Segment {
 
 /// The characters of a line. Line justifications don't go back on a line, so only one segment grows, and of those before it
 /// only the widths are kept.
-#[derive(Clone, Copy, Debug, PartialEq, Eq)]
+#[derive(Clone, Copy)]
 pub(crate) struct Line {
     /// The line justification of the present segment, the largest so far; 0 where there is no character.
     pub(crate) present: u8,

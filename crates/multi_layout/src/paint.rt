@@ -21,7 +21,7 @@ use page_plane::Plane;
 use sign_font::Cell;
 
 /// What is drawn: the plane of a colour, at a phase of its page in tenths of a second.
-#[derive(Clone, Copy, Debug, PartialEq, Eq)]
+#[derive(Clone, Copy)]
 pub(crate) struct Layer {
     pub(crate) phase: u64,
     pub(crate) colour: u8,

@@ -17,7 +17,7 @@ use crate::line::{Line, Segment};
 use crate::table::CountedLine;
 
 /// The upper left pixel of a character, counted from 0.
-#[derive(Clone, Copy, Debug, PartialEq, Eq)]
+#[derive(Clone, Copy)]
 pub(crate) struct Place {
     pub(crate) column: u64,
     pub(crate) row: u64,

@@ -17,7 +17,7 @@ use multi_token::Source;
 use sign_font::TextFault;
 
 /// What the characters of a run are judged by, in pixels.
-#[derive(Clone, Copy, Debug, PartialEq, Eq)]
+#[derive(Clone, Copy)]
 pub(crate) struct Run {
     /// Between one and the next.
     pub(crate) gap: u8,

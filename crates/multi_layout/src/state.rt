@@ -9,7 +9,7 @@ use crate::terms::Terms;
 use multi_tag::Tag;
 
 /// The running state behind some items of a string.
-#[derive(Clone, Copy, Debug, PartialEq, Eq)]
+#[derive(Clone, Copy)]
 pub(crate) struct State {
     /// The pages so far, the present one with them: 1 to the sign's limit.
     pub(crate) pages: u8,

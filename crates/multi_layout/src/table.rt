@@ -9,7 +9,7 @@ use crate::line::Line;
 use arrayvec::ArrayVec;
 
 /// What is kept of a counted line, in pixels.
-#[derive(Clone, Copy, Debug, PartialEq, Eq, Default)]
+#[derive(Clone, Copy, Default)]
 pub(crate) struct CountedLine {
     /// The widths of its segments.
     pub(crate) left: u16,

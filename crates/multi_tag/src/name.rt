@@ -5,7 +5,7 @@ ghost use Rattle.std.specs.Str.{str_to_ascii_lowercase};
 ghost use Rattle.multi_tag.specs.Body.{HasNameAtFront, table};
 
 /// What the name of a tag says of it (NTCIP 1203 v03, MULTI).
-#[derive(Clone, Copy, Debug, PartialEq, Eq)]
+#[derive(Clone, Copy)]
 pub enum Name {
     NewPage,
     NewLine,

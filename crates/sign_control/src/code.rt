@@ -5,17 +5,16 @@ ghost use Rattle.sign_control.specs.Code.{activation_code, error_code, id_code, 
 
 use byteorder::{BigEndian, ByteOrder};
 use message_store::MsgRef;
-use thiserror::Error;
 
 /// A message and the CRC that it must have (NTCIP 1203 v03, MessageIDCode).
-#[derive(Clone, Copy, Debug, PartialEq, Eq)]
+#[derive(Clone, Copy)]
 pub(crate) struct IdCode {
     pub(crate) message: MsgRef,
     pub(crate) crc: u16,
 }
 
 /// What a traffic centre asks to be shown (NTCIP 1203 v03, MessageActivationCode).
-#[derive(Clone, Copy, Debug, PartialEq, Eq)]
+#[derive(Clone, Copy)]
 pub(crate) struct ActivationCode {
     /// In minutes; 65535 is without end.
     pub(crate) duration: u16,
@@ -26,33 +25,26 @@ pub(crate) struct ActivationCode {
 }
 
 /// Why a message isn't shown (NTCIP 1203 v03, dmsActivateMsgError; the numbers and their order are own).
-#[derive(Clone, Copy, Debug, PartialEq, Eq, Error)]
+#[derive(Clone, Copy)]
 pub(crate) enum ActivateError {
     /// It is shown.
-    #[error("no error")]
     None,
     /// The activation's priority is less than that of what is shown.
-    #[error("the priority is too low")]
     Priority,
     /// The message isn't valid.
-    #[error("the message isn't valid")]
     MessageStatus,
     /// The memory type has no messages.
-    #[error("no such memory type")]
     MessageMemoryType,
     /// There is no message of this number.
-    #[error("no such message")]
     MessageNumber,
     /// The CRC isn't the message's.
-    #[error("another CRC")]
     MessageCrc,
     /// The sign doesn't accept the text.
-    #[error("the text isn't accepted")]
     SyntaxMulti,
 }
 
 /// Why the display shows what it shows (NTCIP 1203 v03, dmsMsgSourceMode).
-#[derive(Clone, Copy, Debug, PartialEq, Eq)]
+#[derive(Clone, Copy)]
 pub(crate) enum SourceMode {
     /// The controller was made.
     Other,

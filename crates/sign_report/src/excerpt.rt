@@ -8,7 +8,7 @@ const MOST: usize = 40;
 
 /// Text of a sign file, which stays on its line: its first 40 octets, with `?` for each that is no printable sign of ASCII, and ` ..`
 /// behind them if it has more. Written by `Display`.
-#[derive(Clone, Copy, Debug, PartialEq, Eq)]
+#[derive(Clone, Copy)]
 pub(crate) struct Excerpt<'a>(pub(crate) &'a str);
 
 impl Display for Excerpt<'_> {

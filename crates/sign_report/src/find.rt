@@ -20,7 +20,7 @@ pub(crate) struct Findings {
 }
 
 /// What is wrong at a key.
-#[derive(Clone, Copy, Debug, PartialEq, Eq)]
+#[derive(Clone, Copy)]
 pub(crate) enum What<'a> {
     /// The key isn't there.
     Missing(Kind),

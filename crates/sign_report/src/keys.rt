@@ -1,7 +1,7 @@
 //! The keys of a sign file, with what may stand at them.
 
 /// What may stand at a key.
-#[derive(Clone, Copy, Debug, PartialEq, Eq)]
+#[derive(Clone, Copy)]
 pub(crate) enum Kind {
     /// A whole number from the first to the second.
     Number(i64, i64),
@@ -20,7 +20,7 @@ pub(crate) enum Kind {
 }
 
 /// A key, and whether it must be there.
-#[derive(Clone, Copy, Debug, PartialEq, Eq)]
+#[derive(Clone, Copy)]
 pub(crate) struct Key {
     pub(crate) name: &'static str,
     pub(crate) kind: Kind,

@@ -4,14 +4,14 @@ use std::fmt;
 use std::fmt::{Display, Formatter, Write};
 
 /// An entry of an array of tables: its place, counted from 1, and its number, if it has one.
-#[derive(Clone, Copy, Debug, PartialEq, Eq)]
+#[derive(Clone, Copy)]
 pub(crate) struct Entry {
     pub(crate) place: usize,
     pub(crate) number: Option<i64>,
 }
 
 /// A table of a sign file.
-#[derive(Clone, Copy, Debug, PartialEq, Eq)]
+#[derive(Clone, Copy)]
 pub(crate) enum Place {
     /// The document.
     Sign,

@@ -1,5 +1,5 @@
 -- The words of verbs and the names of defaults.
-use Rattle.std.proofs.Common.{◌≡◌, ℕ, suc, true, List, [], ◌∷◌, ◌++◌, get_or, length, Option, None, Some, inl, inr, refl, sym, ap, ◌∙◌, arith}
+use Rattle.std.proofs.Common.{◌≡◌, ℕ, true, List, ◌++◌, Option, None, Some, inl, inr, refl, ap, ◌∙◌}
 use Rattle.std.specs.Prelude.{cond}
 use Rattle.std.specs.Str.{bytes_eq}
 use Rattle.std.proofs.lemmas.Bool.{cases_Bool}
@@ -97,25 +97,3 @@ is_name default.FlashOn = record { plain = refl; named = refl }
 is_name default.FlashOff = record { plain = refl; named = refl }
 is_name default.Fore = record { plain = refl; named = refl }
 is_name default.Back = record { plain = refl; named = refl }
-
--- the octets of a list from a place on are these
-abbrev pub AreFrom : List ℕ → ℕ → List ℕ → Type 0
-AreFrom octets at [] = Unit {0}
-AreFrom octets at (c ∷ cs) = (get_or octets at 0 ≡ c) × AreFrom octets (suc at) cs
-
--- they are behind the first octet
-after_first : (c : ℕ) (cs octets : List ℕ) (at : ℕ) → AreFrom (c ∷ octets) (suc at) cs → AreFrom octets at cs
-after_first c [] octets at are = tt
-after_first c (d ∷ ds) octets at are = (are.0, after_first c ds octets (suc at) are.1)
-
--- octets are those of a word
-pub are_word : (octets w : List ℕ) → length octets ≡ length w → AreFrom octets 0 w → octets ≡ w
-are_word [] [] size are = refl
-are_word [] (d ∷ ds) size are = absurd (omega (arith, size))
-are_word (c ∷ cs) [] size are = absurd (omega (arith, size))
-are_word (c ∷ cs) (d ∷ ds) size are =
-    rw (are.0, are_word cs ds (omega (arith, size)) (after_first c ds cs 0 are.1)) refl
-
--- the octets of a word are those of its verb
-pub word_read : (v : Verb) (octets : List ℕ) → length octets ≡ length (word v) → AreFrom octets 0 (word v) → Some v ≡ verb_of octets
-word_read v octets size are = sym (ap verb_of (are_word octets (word v) size are) ∙ verb_of-word v)

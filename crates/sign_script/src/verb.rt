@@ -8,7 +8,7 @@ ghost use Rattle.sign_script.specs.Verbs.{field_of, name, verb_of, word};
 use sign_control::DefaultField;
 
 /// The word that a line begins with (own).
-#[derive(Clone, Copy, Debug, PartialEq, Eq)]
+#[derive(Clone, Copy)]
 pub(crate) enum Verb {
     Request,
     Multi,
@@ -29,32 +29,65 @@ pub(crate) enum Verb {
     Defaults,
 }
 
+const VERBS: [Verb; 17] = [
+    Verb::Request,
+    Verb::Multi,
+    Verb::MultiHex,
+    Verb::Owner,
+    Verb::Priority,
+    Verb::Beacon,
+    Verb::Pixel,
+    Verb::Clear,
+    Verb::Work,
+    Verb::Activate,
+    Verb::End,
+    Verb::Tick,
+    Verb::Frame,
+    Verb::Row,
+    Verb::Report,
+    Verb::Default,
+    Verb::Defaults,
+];
+
+/// The word of a verb.
+fn word(verb: Verb) -> &'static [u8]
+    ensures { result.now ≡ word verb }
+{
+    match verb {
+        Verb::Request => b"request",
+        Verb::Multi => b"multi",
+        Verb::MultiHex => b"multix",
+        Verb::Owner => b"owner",
+        Verb::Priority => b"priority",
+        Verb::Beacon => b"beacon",
+        Verb::Pixel => b"pixel",
+        Verb::Clear => b"clear",
+        Verb::Work => b"work",
+        Verb::Activate => b"activate",
+        Verb::End => b"end",
+        Verb::Tick => b"tick",
+        Verb::Frame => b"frame",
+        Verb::Row => b"row",
+        Verb::Report => b"report",
+        Verb::Default => b"default",
+        Verb::Defaults => b"defaults",
+    }
+}
+
+/// The first of these verbs that has this word.
+fn first_spelled(verbs: &[Verb], text: &[u8]) -> Option<Verb>
+    ensures { result ≡ find (λ verb. bytes_eq text.now (word verb)) verbs.now }
+{
+    verbs.iter().copied().find(|verb| text == word(*verb))
+}
+
 impl Verb {
     /// The verb of a word.
     #[tactic(auto, unfolding(crate::specs::Verbs::verb_of))]
     pub(crate) fn of(text: &[u8]) -> Option<Verb>
         ensures { result ≡ verb_of text.now }
     {
-        match text {
-            b"request" => Some(Verb::Request),
-            b"multi" => Some(Verb::Multi),
-            b"multix" => Some(Verb::MultiHex),
-            b"owner" => Some(Verb::Owner),
-            b"priority" => Some(Verb::Priority),
-            b"beacon" => Some(Verb::Beacon),
-            b"pixel" => Some(Verb::Pixel),
-            b"clear" => Some(Verb::Clear),
-            b"work" => Some(Verb::Work),
-            b"activate" => Some(Verb::Activate),
-            b"end" => Some(Verb::End),
-            b"tick" => Some(Verb::Tick),
-            b"frame" => Some(Verb::Frame),
-            b"row" => Some(Verb::Row),
-            b"report" => Some(Verb::Report),
-            b"default" => Some(Verb::Default),
-            b"defaults" => Some(Verb::Defaults),
-            _ => None,
-        }
+        first_spelled(&VERBS, text)
     }
 }
 

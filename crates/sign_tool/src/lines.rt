@@ -32,7 +32,7 @@ pub(crate) const FIRST_LINE: LineStart = LineStart {
 };
 
 /// What comes next in an input (own).
-#[derive(Clone, Copy, PartialEq, Eq)]
+#[derive(Clone, Copy)]
 pub(crate) enum NextLine {
     /// A line.
     Line,

@@ -7,7 +7,13 @@ mod streams;
 use sign_tool::{Mode, ToolFault, run_tool};
 use std::io;
 use std::io::{ErrorKind, Read, Write};
+use std::process::Abort;
 use std::test::Fail;
+
+/// Asserts that something is so, and else tells what. It is proved once, where `assert!` is proved at each of its places.
+fn so(rt: &impl Abort, is_so: bool, what: &str) {
+    assert!(rt; is_so, "{what}");
+}
 
 /// The sample sign as its file, of 40 lines.
 const SAMPLE: &str = r#"width = 12
@@ -256,11 +262,13 @@ fn the_answers_to_a_block_are_written_together(rt: HostRuntime) -> Result<(), Fa
         };
         let result = run_tool(alloc, Mode::Check, true, &mut reader, &mut writer);
         assert!(rt; result == Ok(()), "the end at {lines} of {line:?}");
-        assert_eq!(rt; reader.reads, reads, "the reads at {lines} of {line:?}");
-        assert_eq!(rt; writer.writes, writes, "the writes at {lines} of {line:?}");
-        assert_eq!(rt;
-            writer.octets,
-            written,
+        assert!(rt; reader.reads == reads, "the reads at {lines} of {line:?}");
+        assert!(rt;
+            writer.writes == writes,
+            "the writes at {lines} of {line:?}"
+        );
+        assert!(rt;
+            writer.octets == written,
             "what is written at {lines} of {line:?}"
         );
     }

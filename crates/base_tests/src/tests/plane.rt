@@ -1,5 +1,6 @@
 ghost use Rattle.std.specs.Prelude.{◌≡◌, ◌+◌, ◌≤◌, length};
 
+use crate::tests::so;
 use page_plane::{Memory, Plane};
 use std::alloc::Global;
 use std::process::Abort;
@@ -15,16 +16,15 @@ fn made(rt: &impl Abort, plane: Result<Plane, Memory>) -> Plane
 fn a_plane_of_12_by_7_has_7_rows_of_2_octets(rt: HostRuntime) {
     let mut plane = made(&rt, Plane::new(rt.alloc(), 12, 7));
     assert!(rt; plane.width() == 12 && plane.height() == 7);
-    assert_eq!(rt; plane.steps(), 0);
+    so(&rt, plane.steps() == 0, "no step");
     for y in 0..7 {
-        assert_eq!(rt; plane.row(y), [0, 0].as_slice(), "row {y} of a new plane");
+        assert!(rt; plane.row(y) == [0, 0].as_slice(), "row {y} of a new plane");
     }
     plane.fill(true);
-    assert_eq!(rt; plane.steps(), 14, "one step an octet");
+    so(&rt, plane.steps() == 14, "one step an octet");
     for y in 0..7 {
-        assert_eq!(rt;
-            plane.row(y),
-            [0xff, 0xf0].as_slice(),
+        assert!(rt;
+            plane.row(y) == [0xff, 0xf0].as_slice(),
             "row {y}: the spare bits are 0"
         );
     }
@@ -37,22 +37,34 @@ fn a_row_changes_the_pixels_under_its_set_bits_alone(rt: HostRuntime) {
     plane.put_row(6, 2, 3, 0b010 << 61, true);
     plane.put_row(6, 3, 3, 0b111 << 61, true);
     plane.put_row(6, 4, 3, 0b101 << 61, true);
-    assert_eq!(rt; plane.row(2), [0b0000_0001, 0].as_slice());
-    assert_eq!(rt; plane.row(3), [0b0000_0011, 0b1000_0000].as_slice());
-    assert_eq!(rt; plane.row(4), [0b0000_0010, 0b1000_0000].as_slice());
+    so(
+        &rt,
+        plane.row(2) == [0b0000_0001, 0].as_slice(),
+        "the first row",
+    );
+    so(
+        &rt,
+        plane.row(3) == [0b0000_0011, 0b1000_0000].as_slice(),
+        "the second row",
+    );
+    so(
+        &rt,
+        plane.row(4) == [0b0000_0010, 0b1000_0000].as_slice(),
+        "the third row",
+    );
     plane.put_row(7, 3, 1, u64::MAX, false);
-    assert_eq!(rt;
-        plane.row(3),
-        [0b0000_0010, 0b1000_0000].as_slice(),
-        "one pixel off"
+    so(
+        &rt,
+        plane.row(3) == [0b0000_0010, 0b1000_0000].as_slice(),
+        "one pixel off",
     );
     plane.put_row(12, 3, 0, u64::MAX, true);
-    assert_eq!(rt;
-        plane.row(3),
-        [0b0000_0010, 0b1000_0000].as_slice(),
-        "no pixel at the right edge"
+    so(
+        &rt,
+        plane.row(3) == [0b0000_0010, 0b1000_0000].as_slice(),
+        "no pixel at the right edge",
     );
-    assert_eq!(rt; plane.steps(), 5, "one step a row");
+    so(&rt, plane.steps() == 5, "one step a row");
 }
 
 /// Puts a row pixel by pixel.
@@ -74,15 +86,13 @@ fn assert_pixels(rt: &impl Abort, plane: &Plane, pixels: &[bool; 60], put: (u16,
         let row = plane.row(y);
         for x in 0..24 {
             let lit = x < 20 && pixels[usize::from(y) * 20 + x];
-            assert_eq!(rt;
-                row[x / 8] >> (7 - x % 8) & 1 == 1,
-                lit,
+            assert!(rt;
+                (row[x / 8] >> (7 - x % 8) & 1 == 1) == lit,
                 "bit {x} of row {y} at {put:?}"
             );
             if x < 20 {
-                assert_eq!(rt;
-                    plane.pixel(x as u16, y),
-                    lit,
+                assert!(rt;
+                    plane.pixel(x as u16, y) == lit,
                     "pixel {x} of row {y} at {put:?}"
                 );
             }
@@ -112,7 +122,7 @@ fn rows_cross_the_edges_of_octets(rt: HostRuntime) {
             bits = bits.wrapping_mul(0x5851_f42d_4c95_7f2d).wrapping_add(1);
         }
     }
-    assert_eq!(rt; plane.steps(), 210, "one step a row");
+    so(&rt, plane.steps() == 210, "one step a row");
 }
 
 #[test]
@@ -138,7 +148,7 @@ fn rows_are_put_one_under_the_other(rt: HostRuntime) {
             assert_pixels(&rt, &plane, &pixels, (x, width));
         }
     }
-    assert_eq!(rt; plane.steps(), 406, "one step a row");
+    so(&rt, plane.steps() == 406, "one step a row");
     assert!(rt; plane.width() == 20 && plane.height() == 3);
     plane.put_rows(20, 3, 0, &[], true);
     assert_pixels(&rt, &plane, &pixels, (20, 0));
@@ -154,9 +164,8 @@ fn a_filled_row_of_each_width_has_no_spare_bit(rt: HostRuntime) {
             let row = plane.row(y);
             for x in 0..8 * row.len() {
                 let set = row[x / 8] >> (7 - x % 8) & 1 == 1;
-                assert_eq!(rt;
-                    set,
-                    x < usize::from(width),
+                assert!(rt;
+                    set == (x < usize::from(width)),
                     "bit {x} of row {y} of {width}"
                 );
             }
@@ -168,7 +177,11 @@ fn a_filled_row_of_each_width_has_no_spare_bit(rt: HostRuntime) {
 fn the_largest_plane_is_filled_and_put_at_its_corners(rt: HostRuntime) {
     let mut plane = made(&rt, Plane::new(rt.alloc(), 1024, 128));
     plane.fill(true);
-    assert_eq!(rt; plane.steps(), 16384);
+    so(
+        &rt,
+        plane.steps() == 16384,
+        "128 octets in each of 128 rows",
+    );
     let ends = 1 << 63 | 1;
     for (x, y) in [(0, 0), (960, 0), (0, 127), (960, 127)] {
         assert!(rt; plane.width() == 1024 && plane.height() == 128);
@@ -186,23 +199,22 @@ fn the_largest_plane_is_filled_and_put_at_its_corners(rt: HostRuntime) {
             (120, 0x7f),
             (127, 0xfe),
         ] {
-            assert_eq!(rt; row[at], octet, "octet {at} of row {y}");
+            assert!(rt; row[at] == octet, "octet {at} of row {y}");
         }
     }
-    assert_eq!(rt; plane.row(1).len(), 128);
-    assert_eq!(rt; plane.steps(), 16388);
+    assert!(rt; plane.row(1).len() == 128);
+    so(&rt, plane.steps() == 16388, "and four rows");
     plane.put_rows(960, 64, 64, &[ends; 64], false);
     assert!(rt; plane.width() == 1024 && plane.height() == 128);
-    assert_eq!(rt; plane.steps(), 16452);
+    so(&rt, plane.steps() == 16452, "and 64 rows");
     for y in 64..128 {
         let row = plane.row(y);
-        assert_eq!(rt;
-            (row[119], row[120], row[127]),
-            (0xff, 0x7f, 0xfe),
+        assert!(rt;
+            (row[119], row[120], row[127]) == (0xff, 0x7f, 0xfe),
             "row {y}"
         );
     }
-    assert_eq!(rt; plane.row(63)[120], 0xff, "above the first row");
+    so(&rt, plane.row(63)[120] == 0xff, "above the first row");
     plane.fill(false);
-    assert!(rt; !plane.pixel(1023, 127));
+    so(&rt, !plane.pixel(1023, 127), "the last pixel");
 }

@@ -1,3 +1,4 @@
+use crate::tests::so;
 use multi_token::{Bracketed, Kind, Source, Token, TokenFault, next_token, read_bracket};
 
 /// The tokens of a string up to the end or a fault, as far as a table of four holds them, and the steps.
@@ -43,11 +44,12 @@ fn char(at: usize, len: usize, number: u8) -> Option<Token> {
 #[test]
 fn doubled_brackets_are_characters(rt: HostRuntime) {
     let (found, end, steps) = tokens(b"[[I]]");
-    assert_eq!(rt;
-        found,
-        [char(0, 2, 91), char(2, 1, 73), char(3, 2, 93), None]
+    so(
+        &rt,
+        found == [char(0, 2, 91), char(2, 1, 73), char(3, 2, 93), None],
+        "the tokens",
     );
-    assert_eq!(rt; end, Ok(5));
+    so(&rt, end == Ok(5), "the end");
     assert!(rt; steps <= 6, "{steps} steps");
 }
 
@@ -59,9 +61,13 @@ fn a_tag_stands_between_brackets(rt: HostRuntime) {
         len: 4,
         kind: Kind::Tag,
     });
-    assert_eq!(rt; found, [char(0, 1, 65), tag, None, None]);
-    assert_eq!(rt; end, Ok(5));
-    assert_eq!(rt; steps, 6);
+    so(
+        &rt,
+        found == [char(0, 1, 65), tag, None, None],
+        "the tokens",
+    );
+    so(&rt, end == Ok(5), "the end");
+    so(&rt, steps == 6, "the steps");
 }
 
 #[test]
@@ -76,7 +82,7 @@ fn a_broken_bracket_is_a_fault_at_its_octet(rt: HostRuntime) {
     ];
     for (octets, at) in rows {
         let (_, end, _) = tokens(octets);
-        assert_eq!(rt; end, Err(TokenFault { at }), "at {octets:?}");
+        assert!(rt; end == Err(TokenFault { at }), "at {octets:?}");
     }
 }
 
@@ -90,16 +96,16 @@ fn what_begins_with_a_bracket_goes_on_behind_it(rt: HostRuntime) {
     ];
     for (octets, spelled, steps) in rows {
         let found = behind_the_bracket(octets);
-        assert_eq!(rt; found, Some((Ok(spelled), steps)), "at {octets:?}");
+        assert!(rt; found == Some((Ok(spelled), steps)), "at {octets:?}");
     }
     for octets in [b"]" as &[u8], b"][", b"[", b"[nl", b"[]"] {
         let Some((found, taken)) = behind_the_bracket(octets) else {
             continue;
         };
-        assert_eq!(rt; found, Err(TokenFault { at: 0 }), "at {octets:?}");
+        assert!(rt; found == Err(TokenFault { at: 0 }), "at {octets:?}");
         assert!(rt; taken <= octets.len() as u64, "at {octets:?}");
     }
-    assert_eq!(rt; behind_the_bracket(b"A[np]"), None);
+    so(&rt, behind_the_bracket(b"A[np]") == None, "no bracket");
 }
 
 #[test]
@@ -117,20 +123,20 @@ fn plain_octets_are_read_up_to_a_bracket_or_a_number_of_them(rt: HostRuntime) {
     for (from, most, octets, ending, steps) in rows {
         let mut source = Source::new(b"AB[np]C");
         let found = source.read_plain(from, most);
-        assert_eq!(rt; found, (octets, ending), "from {from}");
-        assert_eq!(rt; source.steps(), steps, "from {from}");
+        assert!(rt; found == (octets, ending), "from {from}");
+        assert!(rt; source.steps() == steps, "from {from}");
     }
 }
 
 #[test]
 fn a_count_stays_at_the_largest_number(rt: HostRuntime) {
     let mut source = Source::new(b"AB");
-    assert_eq!(rt; source.len(), 2);
-    assert_eq!(rt; source.read(1), Some(66));
-    assert_eq!(rt; source.read(2), None);
-    assert_eq!(rt; source.steps(), 2);
+    so(&rt, source.len() == 2, "two octets");
+    so(&rt, source.read(1) == Some(66), "the last octet");
+    so(&rt, source.read(2) == None, "the end");
+    so(&rt, source.steps() == 2, "two steps");
     source.charge(u64::MAX - 2);
-    assert_eq!(rt; source.steps(), u64::MAX);
-    assert_eq!(rt; source.read(0), Some(65));
-    assert_eq!(rt; source.steps(), u64::MAX);
+    so(&rt, source.steps() == u64::MAX, "the largest number");
+    so(&rt, source.read(0) == Some(65), "the first octet");
+    so(&rt, source.steps() == u64::MAX, "the largest number");
 }

@@ -3,6 +3,7 @@
 mod frame;
 mod memory;
 
+use crate::tests::so;
 use message_store::{MsgRef, Permanent, Store, StoreLimits};
 use sign_control::{Command, Controller, Reply, Report};
 use sign_font::{Sign, sample_sign};
@@ -97,11 +98,12 @@ pub(crate) fn is_row(
 #[test]
 fn a_new_controller_shows_blank_1(rt: HostRuntime) -> Result<(), Fail> {
     let controller = sample(rt.alloc())?;
-    assert!(rt; controller.report() == AT_FIRST, "the report");
-    assert!(rt; controller.steps() == 0, "no step");
-    assert!(rt;
+    so(&rt, controller.report() == AT_FIRST, "the report");
+    so(&rt, controller.steps() == 0, "no step");
+    so(
+        &rt,
         is_row(&controller, CURRENT, b"", 1, 0),
-        "the currentBuffer"
+        "the currentBuffer",
     );
     Ok(())
 }

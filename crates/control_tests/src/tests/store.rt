@@ -1,9 +1,9 @@
 //! The store of the sample sign: one slot, 4 bytes, texts of at most 64 octets, and the permanent message `AAAI`.
 
-mod judging;
 mod memory;
 mod pool;
 
+use crate::tests::so;
 use message_store::{Judged, MsgRef, Permanent, Store, StoreLimits, message_crc};
 use sign_font::{Sign, sample_sign};
 use std::alloc::{AllocError, Global};
@@ -122,26 +122,51 @@ fn work(store: &mut Store, sign: &Sign) -> Option<Judged> {
 
 #[test]
 fn the_crc_of_known_messages(rt: HostRuntime) {
-    assert_eq!(rt; message_crc(b"1234567", b'8', b'9'), 0x906e);
-    assert_eq!(rt; message_crc(b"", 0, 0), 0x0f47);
-    assert_eq!(rt; message_crc(b"A", 0, 0), 0x9a66);
-    assert_eq!(rt; message_crc(b"AAAA", 0, 0), 0x6db5);
-    assert_eq!(rt; message_crc(b"AAAI", 0, 0), 0xab77);
+    so(
+        &rt,
+        message_crc(b"1234567", b'8', b'9') == 0x906e,
+        "of the nine digits",
+    );
+    so(&rt, message_crc(b"", 0, 0) == 0x0f47, "of no text");
+    so(&rt, message_crc(b"A", 0, 0) == 0x9a66, "of `A`");
+    so(&rt, message_crc(b"AAAA", 0, 0) == 0x6db5, "of `AAAA`");
+    so(&rt, message_crc(b"AAAI", 0, 0) == 0xab77, "of `AAAI`");
 }
 
 #[test]
 fn a_new_store_has_blanks_and_what_was_handed_in(rt: HostRuntime) -> Result<(), Fail> {
     let store = sample_store(rt.alloc())?;
-    assert!(rt; store.limits() == limits(1, 4, 64) && counts(&store, 0, 4, 0));
-    assert!(rt;
-        has(&store, message(2, 1), [4, 5, 0, 0], 0xab77),
-        "permanent 1"
+    so(
+        &rt,
+        store.limits() == limits(1, 4, 64) && counts(&store, 0, 4, 0),
+        "limits and counts",
     );
-    assert!(rt; has(&store, message(3, 1), [1, 1, 0, 0], 0x0f47), "slot 1");
-    assert!(rt; has(&store, message(7, 9), [4, 9, 0, 0], 0), "blank 9");
-    assert!(rt; holds(&store, message(2, 1), b"AAAI", b""));
-    assert!(rt; holds(&store, message(3, 1), b"", b""));
-    assert!(rt; holds(&store, message(7, 9), b"", b""));
+    so(
+        &rt,
+        has(&store, message(2, 1), [4, 5, 0, 0], 0xab77),
+        "permanent 1",
+    );
+    so(
+        &rt,
+        has(&store, message(3, 1), [1, 1, 0, 0], 0x0f47),
+        "slot 1",
+    );
+    so(&rt, has(&store, message(7, 9), [4, 9, 0, 0], 0), "blank 9");
+    so(
+        &rt,
+        holds(&store, message(2, 1), b"AAAI", b""),
+        "the text of permanent 1",
+    );
+    so(
+        &rt,
+        holds(&store, message(3, 1), b"", b""),
+        "no text in slot 1",
+    );
+    so(
+        &rt,
+        holds(&store, message(7, 9), b"", b""),
+        "no text in blank 9",
+    );
     Ok(())
 }
 
@@ -163,6 +188,10 @@ fn told_rows(store: &Store) -> [u8; 9] {
 #[test]
 fn a_row_that_is_not_there_is_refused(rt: HostRuntime) -> Result<(), Fail> {
     let store = sample_store(rt.alloc())?;
-    assert_eq!(rt; told_rows(&store), [2, 2, 2, 1, 1, 2, 0, 2, 1]);
+    so(
+        &rt,
+        told_rows(&store) == [2, 2, 2, 1, 1, 2, 0, 2, 1],
+        "what each row is told",
+    );
     Ok(())
 }

@@ -1,6 +1,7 @@
 //! A sign of the largest size, whose one character is one pixel.
 
 use super::{Limits, Parts, Verdict, assert_rows, limits_of, written};
+use crate::tests::so;
 use multi_layout::check;
 use multi_token::Source;
 use page_plane::Plane;
@@ -73,7 +74,7 @@ fn the_limits_are_these_numbers(rt: HostRuntime) -> Result<(), Fail> {
         // with those over the string 16,871,426
         put: 16_797_696,
     };
-    assert_eq!(rt; longest, want, "of 4,096 octets");
+    so(&rt, longest == want, "of 4,096 octets");
     Ok(())
 }
 
@@ -82,7 +83,7 @@ fn all_of_255_pages_are_lent_in_few_steps(rt: HostRuntime) -> Result<(), Fail> {
     let sign = large_sign(rt.alloc(), LineFill::Off)?;
     let plane = Plane::new(rt.alloc(), sign.width(), sign.height())?;
     let octets = written(rt.alloc(), &[(254, "[np]")])?;
-    assert_eq!(rt; octets.len(), 1016);
+    assert!(rt; octets.len() == 1016);
     let Ok(checked) = check(&sign, Source::new(&octets)) else {
         panic!(rt; "the string is accepted");
     };
@@ -91,9 +92,9 @@ fn all_of_255_pages_are_lent_in_few_steps(rt: HostRuntime) -> Result<(), Fail> {
         let Some(view) = pages.next_page() else {
             panic!(rt; "page {page} is missing");
         };
-        assert_eq!(rt; view.page, page);
+        so(&rt, view.page == page, "the number of the page");
     }
-    assert!(rt; pages.next_page().is_none(), "there are 255 pages");
+    so(&rt, pages.next_page().is_none(), "there are 255 pages");
     let drawn = pages.steps();
     assert!(rt; drawn <= 4_197_226, "{drawn} steps");
     println!(rt; "255 pages are drawn in {drawn} steps")?;
@@ -105,19 +106,19 @@ fn characters_behind_many_rectangles_stand_in_the_last(rt: HostRuntime) -> Resul
     let sign = large_sign(rt.alloc(), LineFill::Off)?;
     let mut plane = Plane::new(rt.alloc(), sign.width(), sign.height())?;
     let octets = written(rt.alloc(), &[(372, "[tr1,1,0,0]"), (4, "I")])?;
-    assert_eq!(rt; octets.len(), 4096);
+    assert!(rt; octets.len() == 4096);
     let Ok(mut checked) = check(&sign, Source::new(&octets)) else {
         panic!(rt; "the string is accepted");
     };
-    assert!(rt; checked.draw(0, 0, 1, &mut plane), "page 0 is there");
-    assert_eq!(rt; plane.height(), 128);
+    so(&rt, checked.draw(0, 0, 1, &mut plane), "page 0 is there");
+    assert!(rt; plane.height() == 128);
     // the columns 510 to 513
     let mut middle = [0; 128];
     middle[63] = 0b0000_0011;
     middle[64] = 0b1100_0000;
     for y in 0..128 {
         let want = if y == 63 { middle } else { [0; 128] };
-        assert_eq!(rt; plane.row(y), want.as_slice(), "row {y}");
+        assert!(rt; plane.row(y) == want.as_slice(), "row {y}");
     }
     Ok(())
 }

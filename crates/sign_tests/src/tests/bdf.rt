@@ -1,3 +1,4 @@
+use crate::tests::so;
 use font_bdf::{BdfFault, BdfProblem, FontSetting, font_tables, read_font};
 use std::alloc::{AllocError, Global};
 use std::fmt::Write;
@@ -55,11 +56,11 @@ cell = [
     let Ok(text) = font_tables(rt.alloc(), SMALL.as_bytes(), &SETTING) else {
         panic!(rt; "the font is taken");
     };
-    assert!(rt; text.as_slice() == table.as_bytes());
+    so(&rt, text.as_slice() == table.as_bytes(), "the table");
     let Ok(font) = read_font(rt.alloc(), SMALL.as_bytes(), &SETTING) else {
         panic!(rt; "the font is read");
     };
-    assert_eq!(rt; font.cells.len(), 2);
+    so(&rt, font.cells.len() == 2, "two cells");
     Ok(())
 }
 
@@ -87,7 +88,10 @@ fn a_setting_chooses_characters(rt: HostRuntime) -> Result<(), Fail> {
             ..SETTING
         };
         let found = told(rt.alloc(), &setting);
-        assert_eq!(rt; found, fault, "font {number}, characters {first} to {last}");
+        assert!(rt;
+            found == fault,
+            "font {number}, characters {first} to {last}"
+        );
     }
     Ok(())
 }
@@ -118,7 +122,7 @@ fn a_font_has_at_most_255_characters(rt: HostRuntime) -> Result<(), Fail> {
             Ok(_) => None,
             Err(fault) => Some((fault.line, fault.problem)),
         };
-        assert_eq!(rt; found, fault, "{characters} characters up to {last}");
+        assert!(rt; found == fault, "{characters} characters up to {last}");
     }
     Ok(())
 }
@@ -143,7 +147,7 @@ fn a_fault_has_its_text(rt: HostRuntime) -> Result<(), Fail> {
     ];
     for (problem, expected) in rows {
         let text = BdfFault { line: 12, problem }.to_string(rt.alloc())?;
-        assert_eq!(rt; text.as_str(), expected);
+        so(&rt, text.as_str() == expected, expected);
     }
     Ok(())
 }

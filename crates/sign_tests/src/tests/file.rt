@@ -1,3 +1,4 @@
+use crate::tests::so;
 use message_store::{Permanent, StoreLimits};
 use sign_file::{FileFault, SignFile, read_sign_file};
 use sign_font::{CellPart, Defaults, FontPart, LineFill};
@@ -82,13 +83,15 @@ fn read_with(
 fn a_sign_file_is_read_as_it_is_written(rt: HostRuntime) {
     let file = read_sign_file(rt.alloc(), WHOLE.as_bytes()).expect(&rt, "a file");
     let sign = &file.sign;
-    assert!(rt;
+    so(
+        &rt,
         sign.width == 12 && sign.height == 7 && sign.max_pages == 2,
-        "numbers"
+        "numbers",
     );
-    assert!(rt;
+    so(
+        &rt,
         sign.classic && sign.beacons && sign.pixel_service,
-        "truth values"
+        "truth values",
     );
     let defaults = Defaults {
         font: 1,
@@ -101,13 +104,13 @@ fn a_sign_file_is_read_as_it_is_written(rt: HostRuntime) {
         fore: 9,
         back: 2,
     };
-    assert_eq!(rt; sign.defaults, defaults);
+    so(&rt, sign.defaults == defaults, "the defaults");
     let limits = StoreLimits {
         slots: 1,
         bytes: 4,
         max_string: 64,
     };
-    assert_eq!(rt; file.limits, limits);
+    so(&rt, file.limits == limits, "the limits");
 }
 
 #[test]
@@ -129,8 +132,8 @@ fn fonts_and_their_cells_are_read_in_their_order(rt: HostRuntime) {
             font.line_spacing,
         )
     };
-    assert_eq!(rt; numbers(first), (1, 6_699, 3, 1, 2));
-    assert_eq!(rt; numbers(second), (8, 0, 5, 3, 4));
+    so(&rt, numbers(first) == (1, 6_699, 3, 1, 2), "the first font");
+    so(&rt, numbers(second) == (8, 0, 5, 3, 4), "the second font");
     let is = |cell: &CellPart, number: u16, width: u8, bits: &[u8]| {
         cell.number == number && cell.width == width && cell.bits.as_slice() == bits
     };
@@ -138,9 +141,9 @@ fn fonts_and_their_cells_are_read_in_their_order(rt: HostRuntime) {
         assert!(rt; false, "there are two cells");
         return;
     };
-    assert!(rt; is(a, 65, 3, &[0x5e, 0x80]), "the first cell");
-    assert!(rt; is(i, 73, 1, &[0xe0]), "the second cell");
-    assert!(rt; second.cells.is_empty(), "the second font has no cells");
+    so(&rt, is(a, 65, 3, &[0x5e, 0x80]), "the first cell");
+    so(&rt, is(i, 73, 1, &[0xe0]), "the second cell");
+    so(&rt, second.cells.is_empty(), "the second font has no cells");
 }
 
 /// A file with 16 fonts of 255 cells each and 255 permanent messages, each cell of one pixel and each text its own.
@@ -170,12 +173,20 @@ fn the_largest_sign_file_is_read(rt: HostRuntime) -> Result<(), Fail> {
     let Ok(file) = read_sign_file(rt.alloc(), text.as_str().as_bytes()) else {
         panic!(rt; "the file is read");
     };
-    assert_eq!(rt; (file.sign.fonts.len(), file.permanents.len()), (16, 255));
+    so(
+        &rt,
+        (file.sign.fonts.len(), file.permanents.len()) == (16, 255),
+        "16 fonts and 255 messages",
+    );
     for font in file.sign.fonts.iter() {
-        assert_eq!(rt; font.cells.len(), 255, "the cells of font {}", font.number);
+        assert!(rt;
+            font.cells.len() == 255,
+            "the cells of font {}",
+            font.number
+        );
     }
     let last = file.permanents.last().ok_or("no message")?;
-    assert!(rt; is_message(last, b"255", 1, 0, 0), "the last message");
+    so(&rt, is_message(last, b"255", 1, 0, 0), "the last message");
     Ok(())
 }
 
@@ -199,8 +210,12 @@ fn permanent_messages_are_read_in_their_order(rt: HostRuntime) -> Result<(), Fai
         assert!(rt; false, "there are two messages");
         return Ok(());
     };
-    assert!(rt; is_message(first, b"I", 1, 0, 0), "the first message");
-    assert!(rt; is_message(second, b"AAAI", 5, 1, 1), "the second message");
+    so(&rt, is_message(first, b"I", 1, 0, 0), "the first message");
+    so(
+        &rt,
+        is_message(second, b"AAAI", 5, 1, 1),
+        "the second message",
+    );
     Ok(())
 }
 
@@ -211,15 +226,27 @@ fn an_absent_key_has_its_default(rt: HostRuntime) -> Result<(), Fail> {
         assert!(rt; false, "the file is read");
         return Ok(());
     };
-    assert!(rt; !file.sign.classic && !file.sign.beacons && !file.sign.pixel_service);
-    assert_eq!(rt; file.sign.line_fill, LineFill::Off);
+    so(
+        &rt,
+        !file.sign.classic && !file.sign.beacons && !file.sign.pixel_service,
+        "truth values",
+    );
+    so(
+        &rt,
+        file.sign.line_fill == LineFill::Off,
+        "lines are not filled",
+    );
     let ([font], [message]) = (file.sign.fonts.as_slice(), file.permanents.as_slice()) else {
         assert!(rt; false, "there is one font and one message");
         return Ok(());
     };
-    assert_eq!(rt; font.version, 0);
-    assert!(rt; font.cells.is_empty(), "the font has no cells");
-    assert!(rt; is_message(message, &[0xc3, 0xa9], 1, 0, 0), "the message");
+    so(&rt, font.version == 0, "the version");
+    so(&rt, font.cells.is_empty(), "the font has no cells");
+    so(
+        &rt,
+        is_message(message, &[0xc3, 0xa9], 1, 0, 0),
+        "the message",
+    );
     Ok(())
 }
 
@@ -230,7 +257,7 @@ fn each_fault_has_its_text(rt: HostRuntime) -> Result<(), Fail> {
         (FileFault::Memory, "out of memory"),
     ] {
         let text = fault.to_string(rt.alloc())?;
-        assert_eq!(rt; text.as_str(), want);
+        so(&rt, text.as_str() == want, want);
     }
     Ok(())
 }

@@ -1,3 +1,4 @@
+use crate::tests::so;
 use multi_token::Source;
 use sign_font::{
     CellPart, DefaultFault, Defaults, FontInfo, FontPart, LineFill, Sign, SignParts, TextFault,
@@ -79,9 +80,13 @@ fn the_sample_says_what_was_written(rt: HostRuntime) -> Result<(), Fail> {
         sign.max_pages(),
         sign.tallest(),
     );
-    assert_eq!(rt; size, (12, 7, 2, 5));
+    so(&rt, size == (12, 7, 2, 5), "the size");
     let has = sign.classic() || sign.beacons() || sign.pixel_service();
-    assert!(rt; !has && sign.line_fill() == LineFill::Off);
+    so(
+        &rt,
+        !has && sign.line_fill() == LineFill::Off,
+        "what it lacks",
+    );
     let own = Defaults {
         font: 1,
         line: 3,
@@ -93,9 +98,13 @@ fn the_sample_says_what_was_written(rt: HostRuntime) -> Result<(), Fail> {
         fore: 1,
         back: 0,
     };
-    assert_eq!(rt; sign.defaults(), own);
+    so(&rt, sign.defaults() == own, "the defaults");
     let font = sign.default_font();
-    assert_eq!(rt; (font.number, font.version, font.height), (1, 6699, 3));
+    so(
+        &rt,
+        (font.number, font.version, font.height) == (1, 6699, 3),
+        "the default font",
+    );
     Ok(())
 }
 
@@ -127,17 +136,17 @@ fn full_cells(alloc: Global) -> Result<Vec<CellPart>, AllocError> {
 #[test]
 fn the_largest_sign_has_all_its_cells(rt: HostRuntime) -> Result<(), Fail> {
     let sign = Sign::new(rt.alloc(), largest(rt.alloc())?)?;
-    assert_eq!(rt;
-        (sign.width(), sign.height(), sign.tallest()),
-        (1024, 128, 64)
+    so(
+        &rt,
+        (sign.width(), sign.height(), sign.tallest()) == (1024, 128, 64),
+        "the size",
     );
     for font in 1..17u8 {
         for number in 1..256u16 {
             let mut source = Source::new(b"");
             let cell = sign.cell(&mut source, font, number).ok_or("no cell")?;
-            assert_eq!(rt;
-                cell.rows(),
-                [u64::MAX; 64].as_slice(),
+            assert!(rt;
+                cell.rows() == [u64::MAX; 64].as_slice(),
                 "cell {number} of font {font}"
             );
         }
@@ -161,10 +170,22 @@ fn only_making_a_sign_takes_memory(rt: HostRuntime) {
     // an A of 3 columns and an I of one, each with a gap of one before it
     let whole = sign.text_width(&mut source, 1, b"AI", 1, 9) == Ok(6);
     let cut = sign.text_front(&mut source, 1, b"AIA", 1, 6) == front(2, 6, None);
-    assert!(rt; large & wide & whole & cut);
+    so(
+        &rt,
+        large & wide & whole & cut,
+        "large & wide & whole & cut",
+    );
     let own = sign.defaults();
-    assert!(rt; sign.refuses(&own).is_none() && sign.font_of(&own) == sign.default_font());
-    assert!(rt; sign.tallest() == 5 && !sign.beacons() && !sign.pixel_service());
+    so(
+        &rt,
+        sign.refuses(&own).is_none() && sign.font_of(&own) == sign.default_font(),
+        "its own defaults",
+    );
+    so(
+        &rt,
+        sign.tallest() == 5 && !sign.beacons() && !sign.pixel_service(),
+        "what it is",
+    );
 }
 
 #[test]
@@ -175,7 +196,7 @@ fn a_sign_fills_lines_as_it_was_written(rt: HostRuntime) -> Result<(), Fail> {
             ..sample_sign(rt.alloc())?
         };
         let sign = Sign::new(rt.alloc(), parts)?;
-        assert_eq!(rt; sign.line_fill(), line_fill);
+        so(&rt, sign.line_fill() == line_fill, "how lines are filled");
     }
     Ok(())
 }
@@ -198,7 +219,7 @@ fn a_probe_is_one_step(rt: HostRuntime) -> Result<(), Fail> {
     ];
     for (font, info, steps) in fonts {
         let found = sign.font(&mut source, font);
-        assert_eq!(rt; (found, source.steps()), (info, steps), "font {font}");
+        assert!(rt; (found, source.steps()) == (info, steps), "font {font}");
     }
     for (font, number, is_there, steps) in [
         (1, 65, true, 4),
@@ -206,7 +227,10 @@ fn a_probe_is_one_step(rt: HostRuntime) -> Result<(), Fail> {
         (9, 65, false, 6),
     ] {
         let found = sign.cell(&mut source, font, number).is_some();
-        assert_eq!(rt; (found, source.steps()), (is_there, steps), "cell {number}");
+        assert!(rt;
+            (found, source.steps()) == (is_there, steps),
+            "cell {number}"
+        );
     }
     Ok(())
 }
@@ -217,13 +241,25 @@ fn the_cells_of_a_are_drawn_row_by_row(rt: HostRuntime) -> Result<(), Fail> {
     let mut source = Source::new(b"A");
     let small = sign.cell(&mut source, 1, 65).ok_or("no small A")?;
     let large = sign.cell(&mut source, 2, 65).ok_or("no large A")?;
-    assert_eq!(rt; small.width(), 3);
+    so(&rt, small.width() == 3, "three columns");
     let rows = [0b010 << 61, 0b111 << 61, 0b101 << 61];
-    assert_eq!(rt; small.rows(), rows.as_slice());
-    assert_eq!(rt; small.row(1), 0b111 << 61);
-    assert!(rt; !small.bit(0, 0) && small.bit(1, 0) && !small.bit(2, 0));
-    assert!(rt; small.bit(0, 2) && !small.bit(1, 2) && small.bit(2, 2));
-    assert_eq!(rt; large.width(), 4);
+    so(
+        &rt,
+        small.rows() == rows.as_slice(),
+        "the rows of the small one",
+    );
+    so(&rt, small.row(1) == (0b111 << 61), "its second row");
+    so(
+        &rt,
+        !small.bit(0, 0) && small.bit(1, 0) && !small.bit(2, 0),
+        "the bits of its first row",
+    );
+    so(
+        &rt,
+        small.bit(0, 2) && !small.bit(1, 2) && small.bit(2, 2),
+        "the bits of its last row",
+    );
+    so(&rt, large.width() == 4, "four columns");
     let rows = [
         0b0110 << 60,
         0b1001 << 60,
@@ -231,8 +267,16 @@ fn the_cells_of_a_are_drawn_row_by_row(rt: HostRuntime) -> Result<(), Fail> {
         0b1001 << 60,
         0b1001 << 60,
     ];
-    assert_eq!(rt; large.rows(), rows.as_slice());
-    assert!(rt; !large.bit(0, 0) && large.bit(1, 0) && large.bit(2, 0) && !large.bit(3, 0));
+    so(
+        &rt,
+        large.rows() == rows.as_slice(),
+        "the rows of the large one",
+    );
+    so(
+        &rt,
+        !large.bit(0, 0) && large.bit(1, 0) && large.bit(2, 0) && !large.bit(3, 0),
+        "the bits of its first row",
+    );
     Ok(())
 }
 
@@ -254,8 +298,8 @@ fn a_text_is_as_wide_as_its_cells_and_gaps(rt: HostRuntime) -> Result<(), Fail> 
     for (font, text, gap, room, width, steps) in rows {
         let mut source = Source::new(b"");
         let found = sign.text_width(&mut source, font, text, gap, room);
-        assert_eq!(rt; found, width, "of {text:?}");
-        assert_eq!(rt; source.steps(), steps, "over {text:?}");
+        assert!(rt; found == width, "of {text:?}");
+        assert!(rt; source.steps() == steps, "over {text:?}");
     }
     Ok(())
 }
@@ -290,8 +334,8 @@ fn the_front_of_a_text_ends_where_it_no_longer_fits(rt: HostRuntime) -> Result<(
     for (font, text, gap, room, expected, steps) in rows {
         let mut source = Source::new(b"");
         let found = sign.text_front(&mut source, font, text, gap, room);
-        assert_eq!(rt; found, expected, "of {text:?}");
-        assert_eq!(rt; source.steps(), steps, "over {text:?}");
+        assert!(rt; found == expected, "of {text:?}");
+        assert!(rt; source.steps() == steps, "over {text:?}");
     }
     Ok(())
 }
@@ -311,7 +355,7 @@ fn each_octet_finds_its_own_cell_and_width_in_one_step(rt: HostRuntime) -> Resul
         let none = look(&sign, 3, number) == (None, 1) && look(&sign, 9, number) == (None, 1);
         assert!(rt; own && none, "octet {octet}");
     }
-    assert_eq!(rt; look(&sign, 1, 65), (Some(3), 1), "of the first font");
+    so(&rt, look(&sign, 1, 65) == (Some(3), 1), "of the first font");
     Ok(())
 }
 
@@ -326,14 +370,14 @@ fn each_wide_number_finds_its_own_cell_in_at_most_eight_steps(rt: HostRuntime) -
         together = steps.wrapping_add(together);
     }
     // halves of 255 cells: one is found at the first look, two at the second, and so on up to 128 at the eighth
-    assert_eq!(rt; together, 1793);
+    so(&rt, together == 1793, "the steps together");
     // the cell in the middle, those in the middle of its halves, and the first and the last cell
     for (number, steps) in [(32896, 1), (16448, 2), (49344, 2), (257, 8), (65535, 8)] {
         let (_, taken) = look(&sign, 2, number);
-        assert_eq!(rt; taken, steps, "cell {number}");
+        assert!(rt; taken == steps, "cell {number}");
     }
     for number in [256, 258, 513, 32895, 32897, 65279, 65534] {
-        assert_eq!(rt; look(&sign, 2, number), (None, 8), "no cell {number}");
+        assert!(rt; look(&sign, 2, number) == (None, 8), "no cell {number}");
     }
     Ok(())
 }
@@ -366,7 +410,7 @@ fn defaults_are_refused_by_their_values_first(rt: HostRuntime) -> Result<(), Fai
             ..own
         };
         let code = sign.refuses(&defaults).map_or(0, DefaultFault::code);
-        assert_eq!(rt; code, number, "{defaults:?}");
+        assert!(rt; code == number, "{defaults:?}");
     }
     Ok(())
 }
@@ -378,8 +422,8 @@ fn defaults_that_are_handed_in_name_their_own_font(rt: HostRuntime) -> Result<()
         font: 2,
         ..sign.defaults()
     };
-    assert!(rt; sign.refuses(&large).is_none());
-    assert_eq!(rt; sign.font_of(&large).number, 2);
-    assert_eq!(rt; sign.default_font().number, 1);
+    so(&rt, sign.refuses(&large).is_none(), "they are taken");
+    so(&rt, sign.font_of(&large).number == 2, "their font");
+    so(&rt, sign.default_font().number == 1, "its own font");
     Ok(())
 }

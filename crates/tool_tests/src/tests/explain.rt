@@ -1,6 +1,7 @@
 //! Messages that are explained.
 
 use super::{FailingReader, NarrowWriter};
+use crate::tests::so;
 use sign_tool::{ToolFault, run_explain};
 
 const MESSAGES: &str = "AI\nAB\n";
@@ -39,7 +40,11 @@ fn explanations_end_where_their_streams_fail(rt: HostRuntime) {
     }
     let mut output = Vec::new(alloc);
     let end = run_explain(alloc, true, 0, &mut MESSAGES.as_bytes(), &mut output);
-    assert!(rt; end == Ok(false) && output.as_slice() == EXPLAINED.as_bytes());
+    so(
+        &rt,
+        end == Ok(false) && output.as_slice() == EXPLAINED.as_bytes(),
+        "the whole explanation",
+    );
     let first = EXPLAINED.find("refused").unwrap_or(0);
     for read in 0..MESSAGES.len() + 1 {
         let mut reader = FailingReader(&MESSAGES.as_bytes()[..read]);

@@ -1,6 +1,7 @@
 //! The frame of what is shown.
 
 use super::{FIRST, showing_a};
+use crate::tests::so;
 use multi_layout::Shown;
 use page_plane::Plane;
 use sign_control::Command;
@@ -28,15 +29,24 @@ fn a_message_that_is_gone_is_still_drawn(rt: HostRuntime) -> Result<(), Fail> {
     controller.apply(&Command::Request(FIRST, 8));
     let before = controller.steps();
     let frame = controller.frame(1);
-    assert!(rt; frame.shown == Shown::Page { page: 0, phase: 0 }, "page 0");
-    assert!(rt; shows(frame.plane, LETTER_A), "one letter in the middle");
+    so(
+        &rt,
+        frame.shown == Shown::Page { page: 0, phase: 0 },
+        "page 0",
+    );
+    so(
+        &rt,
+        shows(frame.plane, LETTER_A),
+        "one letter in the middle",
+    );
     let steps = frame.steps;
-    assert!(rt; 0 < steps && steps <= 59, "at most 59 steps");
-    assert!(rt;
+    so(&rt, 0 < steps && steps <= 59, "at most 59 steps");
+    so(
+        &rt,
         controller.steps() == before.saturating_add(steps),
-        "they are counted"
+        "they are counted",
     );
     let frame = controller.frame(0);
-    assert!(rt; !shows(frame.plane, LETTER_A), "the background");
+    so(&rt, !shows(frame.plane, LETTER_A), "the background");
     Ok(())
 }

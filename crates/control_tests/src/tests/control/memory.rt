@@ -1,6 +1,7 @@
 //! The memory that a controller takes.
 
 use super::{AT_FIRST, CURRENT, FIRST, SHOW_A, VALID, is_row};
+use crate::tests::so;
 use message_store::{MsgRef, Permanent, Store, StoreFault, StoreLimits};
 use multi_layout::Shown;
 use sign_control::{Command, Controller, DefaultField, Reply};
@@ -142,16 +143,21 @@ fn only_making_and_a_run_take_memory(rt: HostRuntime) {
     match controller.run(alloc, &[first, second, third]) {
         Ok(replies) => {
             let [(_, first), (_, second), (_, third)] = FILLED;
-            assert!(rt;
+            so(
+                &rt,
                 replies.as_slice() == [first, second, third].as_slice(),
-                "the replies"
+                "the replies",
             );
         }
         Err(fault) => {
-            assert!(rt; controller.report() == AT_FIRST, "the report");
-            assert!(rt; is_row(&controller, CURRENT, b"", 1, 0), "blank 1 is shown");
+            so(&rt, controller.report() == AT_FIRST, "the report");
+            so(
+                &rt,
+                is_row(&controller, CURRENT, b"", 1, 0),
+                "blank 1 is shown",
+            );
             let unused = controller.row(FIRST).is_ok_and(|row| row.status == 1);
-            assert!(rt; unused, "the slot is not used");
+            so(&rt, unused, "the slot is not used");
             panic!(rt; "a run: {fault:?}");
         }
     }
@@ -161,7 +167,7 @@ fn only_making_and_a_run_take_memory(rt: HostRuntime) {
     let shown = controller
         .row(CURRENT)
         .is_ok_and(|row| row.multi == b"A".as_slice());
-    assert!(rt; shown, "the text is shown");
+    so(&rt, shown, "the text is shown");
 }
 
 /// A store with the largest limits, and 255 permanent messages `A`.
@@ -193,9 +199,17 @@ fn the_largest_sign_shows_its_last_permanent_message(rt: HostRuntime) -> Result<
     };
     let mut controller = Controller::new(alloc, Sign::new(alloc, parts)?, largest_store(alloc)?)?;
     let show = [0xff, 0xff, 0x80, 2, 0, 255, 0x9a, 0x66, 0, 0, 0, 0];
-    assert!(rt; controller.apply(&Command::Activate(show)) == Reply::Shown);
+    so(
+        &rt,
+        controller.apply(&Command::Activate(show)) == Reply::Shown,
+        "it is shown",
+    );
     let frame = controller.frame(1);
-    assert!(rt; frame.shown == Shown::Page { page: 0, phase: 0 });
+    so(
+        &rt,
+        frame.shown == Shown::Page { page: 0, phase: 0 },
+        "page 0",
+    );
     assert!(rt; frame.plane.width() == 1024 && frame.plane.height() == 128);
     // The three rows of the `A` in the middle: columns 510 to 512 of rows 62 to 64.
     for (y, octets) in [
@@ -206,7 +220,7 @@ fn the_largest_sign_shows_its_last_permanent_message(rt: HostRuntime) -> Result<
         (65, [0, 0]),
     ] {
         let middle = &frame.plane.row(y)[63..65];
-        assert_eq!(rt; middle, octets.as_slice(), "row {y}");
+        assert!(rt; middle == octets.as_slice(), "row {y}");
     }
     Ok(())
 }

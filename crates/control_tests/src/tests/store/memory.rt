@@ -1,6 +1,7 @@
 //! The memory that a store takes.
 
 use super::{Call, are_told, changeable, counts, has, holds, limits, message, permanent, work};
+use crate::tests::so;
 use message_store::Store;
 use sign_font::{Sign, sample_sign};
 
@@ -25,10 +26,18 @@ fn only_making_a_store_takes_memory(rt: HostRuntime) {
         (Call::Multi(first, b"AAAAAAAAAAA"), 7),
         (Call::Request(first, 7), 0),
     ];
-    assert!(rt; are_told(&mut store, &calls), "the calls");
-    assert!(rt; work(&mut store, &sign).is_some(), "it is judged");
-    assert!(rt; has(&store, first, [4, 9, 0, 0], 0x9a66) && holds(&store, first, b"A", b"me"));
-    assert!(rt; holds(&store, message(2, 1), b"AAAI", b""), "permanent 1");
+    so(&rt, are_told(&mut store, &calls), "the calls");
+    so(&rt, work(&mut store, &sign).is_some(), "it is judged");
+    so(
+        &rt,
+        has(&store, first, [4, 9, 0, 0], 0x9a66) && holds(&store, first, b"A", b"me"),
+        "what is stored",
+    );
+    so(
+        &rt,
+        holds(&store, message(2, 1), b"AAAI", b""),
+        "permanent 1",
+    );
     store.clear();
-    assert!(rt; counts(&store, 0, 10, 0), "nothing is used");
+    so(&rt, counts(&store, 0, 10, 0), "nothing is used");
 }

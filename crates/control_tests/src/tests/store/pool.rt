@@ -1,58 +1,10 @@
 //! Texts of many slots in one pool.
 
-ghost use Rattle.std.specs.Prelude.{◌≡◌, Ok};
-
 use super::{Call, are_told, changeable, counts, holds, limits, told};
-use message_store::{Store, StoreMade};
+use crate::tests::so;
+use message_store::Store;
 use std::alloc::{AllocError, Global};
-use std::process::Abort;
 use std::test::Fail;
-
-/// The store of a test in which `.ci/refused-calls` refuses memory.
-fn made(rt: &impl Abort, store: Result<Store, StoreMade>) -> Store
-    ensures { store ≡ Ok result }
-{
-    store.expect(rt, "a store")
-}
-
-/// Whether the three slots of a store have these texts, and the second one this owner.
-fn hold(store: &Store, texts: [&[u8]; 3], owner: &[u8]) -> bool {
-    let [first, second, third] = texts;
-    holds(store, changeable(1), first, b"")
-        && holds(store, changeable(2), second, owner)
-        && holds(store, changeable(3), third, b"")
-}
-
-#[test]
-fn gaps_are_closed(rt: HostRuntime) {
-    let mut store = made(
-        &rt,
-        Store::new(rt.alloc(), limits(3, 10, 64), Vec::new(rt.alloc())),
-    );
-    let calls = [
-        (Call::Request(changeable(1), 6), 0),
-        (Call::Request(changeable(2), 6), 0),
-        (Call::Request(changeable(3), 6), 0),
-        (Call::Multi(changeable(1), b"AA"), 0),
-        (Call::Multi(changeable(2), b"BBB"), 0),
-        (Call::Multi(changeable(3), b"CCCC"), 0),
-    ];
-    assert!(rt; are_told(&mut store, &calls) && counts(&store, 9, 1, 3));
-    assert!(rt; told(&mut store, Call::Multi(changeable(2), b"BBBBB")) == 7);
-    assert!(rt; hold(&store, [b"AA", b"BBB", b"CCCC"], b""));
-    assert!(rt;
-        told(&mut store, Call::Multi(changeable(2), b"BBBB")) == 0 && counts(&store, 10, 0, 3)
-    );
-    assert!(rt; told(&mut store, Call::Request(changeable(1), 8)) == 0 && counts(&store, 8, 2, 2));
-    assert!(rt; hold(&store, [b"", b"BBBB", b"CCCC"], b""));
-    assert!(rt;
-        told(&mut store, Call::Owner(changeable(2), b"xy")) == 0 && counts(&store, 10, 0, 2)
-    );
-    assert!(rt; told(&mut store, Call::Multi(changeable(3), b"")) == 0 && counts(&store, 6, 4, 2));
-    assert!(rt; hold(&store, [b"", b"BBBB", b""], b"xy"));
-    assert!(rt; told(&mut store, Call::Multi(changeable(2), b"bbbb")) == 0);
-    assert!(rt; hold(&store, [b"", b"bbbb", b""], b"xy"));
-}
 
 #[test]
 fn a_text_of_4096_octets(rt: HostRuntime) -> Result<(), Fail> {
@@ -65,9 +17,21 @@ fn a_text_of_4096_octets(rt: HostRuntime) -> Result<(), Fail> {
         (Call::Multi(changeable(1), &long[1..]), 0),
         (Call::Multi(changeable(2), b"AAAA"), 0),
     ];
-    assert!(rt; are_told(&mut store, &calls) && counts(&store, 4100, 0, 2));
-    assert!(rt; holds(&store, changeable(1), &long[1..], b""));
-    assert!(rt; holds(&store, changeable(2), b"AAAA", b""));
+    so(
+        &rt,
+        are_told(&mut store, &calls) && counts(&store, 4100, 0, 2),
+        "two texts",
+    );
+    so(
+        &rt,
+        holds(&store, changeable(1), &long[1..], b""),
+        "the long text",
+    );
+    so(
+        &rt,
+        holds(&store, changeable(2), b"AAAA", b""),
+        "the short text",
+    );
     Ok(())
 }
 
@@ -128,11 +92,23 @@ fn empty_all(store: &mut Store) -> bool {
 fn a_full_store_is_emptied_and_filled_again(rt: HostRuntime) -> Result<(), Fail> {
     let alloc = rt.alloc();
     let mut store = Store::new(alloc, limits(1000, 1_000_000, 4096), Vec::new(alloc))?;
-    assert!(rt; fill_all(alloc, &mut store, 1, 65)? && is_full(alloc, &store, 65)?);
-    assert!(rt; empty_all(&mut store));
-    assert!(rt; fill_all(alloc, &mut store, 377, 66)? && is_full(alloc, &store, 66)?);
+    so(
+        &rt,
+        fill_all(alloc, &mut store, 1, 65)? && is_full(alloc, &store, 65)?,
+        "filled",
+    );
+    so(&rt, empty_all(&mut store), "emptied");
+    so(
+        &rt,
+        fill_all(alloc, &mut store, 377, 66)? && is_full(alloc, &store, 66)?,
+        "filled again",
+    );
     let longer = text_of(alloc, 500, 67, 99)?;
-    assert!(rt; told(&mut store, Call::Owner(changeable(500), &longer)) == 7);
-    assert!(rt; is_full(alloc, &store, 66)?);
+    so(
+        &rt,
+        told(&mut store, Call::Owner(changeable(500), &longer)) == 7,
+        "no space",
+    );
+    so(&rt, is_full(alloc, &store, 66)?, "still full");
     Ok(())
 }
