@@ -23,11 +23,7 @@ fn a_page_has_its_colours_and_its_picture(rt: HostRuntime) -> Result<(), Fail> {
         panic!(rt; "the string is accepted");
     };
     let page = PageColours::new(alloc, &sign, &mut checked, 0, 0)?;
-    so(
-        &rt,
-        page.width() == 12 && page.height() == 7,
-        "the sign's size",
-    );
+    assert!(rt; page.width() == 12 && page.height() == 7);
     so(&rt, page.colour(5, 2) == 2, "yellow");
     // row 2, column 5
     let colours = page.octets(alloc)?;
