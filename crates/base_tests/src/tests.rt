@@ -1,3 +1,4 @@
+mod count;
 mod plane;
 mod tag;
 mod token;

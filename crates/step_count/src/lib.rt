@@ -13,6 +13,3 @@ pub fn raised(steps: u64, k: u64) -> u64
 {
     steps.saturating_add(k)
 }
-
-#[cfg(test)]
-mod tests;
