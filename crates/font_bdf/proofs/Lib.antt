@@ -1,5 +1,4 @@
 pub mod WordLemmas
-pub mod NumberLemmas
 pub mod BitmapLemmas
 pub mod CellLemmas
 pub mod BlockLemmas

@@ -5,7 +5,7 @@ use Rattle.std.specs.List.{list_all, range_with_len}
 use Rattle.font_bdf.specs.declared.bitmap.Bitmap.{Bitmap}
 use Rattle.font_bdf.specs.declared.numbers.PixelBox.{PixelBox}
 use Rattle.font_bdf.specs.Lines.{word_at}
-use Rattle.font_bdf.specs.Numbers.{is_digit}
+use Rattle.octet_text.specs.Digits.{is_digit}
 use Rattle.font_bdf.specs.Parts.{texts}
 
 -- a bitmap: the box of the font, the box of the character, its columns as a count, and the lines of its rows from the top (BDF, BITMAP)

@@ -1,14 +1,11 @@
 -- The numbers that the words of a line write.
-use Rattle.std.specs.Prelude.{ℕ, ◌&&◌, ◌==◌, nat_le, Bool, List, [], ◌∷◌, length, if◌then◌else◌, Option, None, Some, ℤ, pos, negsuc, neg_ℤ}
+use Rattle.std.specs.Prelude.{ℕ, ◌&&◌, ◌==◌, nat_le, List, [], ◌∷◌, length, if◌then◌else◌, Option, None, Some, ℤ, pos, negsuc, neg_ℤ}
 use Rattle.std.specs.List.{find, list_all}
 use Rattle.std.specs.Option.{option_map}
 use Rattle.std.specs.Str.Parse.{digits_value}
 use Rattle.font_bdf.specs.declared.numbers.PixelBox.{PixelBox}
+use Rattle.octet_text.specs.Digits.{is_digit}
 use Rattle.font_bdf.specs.Lines.{◌>>=◌, begins, word_at}
-
--- whether an octet is a decimal digit, `0` to `9`, octets 48 to 57 (own)
-abbrev pub is_digit : ℕ → Bool
-is_digit c = nat_le 48 c && nat_le c 57
 
 -- the number that 1 to 9 decimal digits write (own)
 abbrev pub natural_of : List ℕ → Option ℕ

@@ -1,16 +1,16 @@
 //! The numbers on the lines of a font in BDF.
 
 ghost use Rattle.std.specs.Prelude.{◌≡◌, ◌<◌, ◌≤◌, ◌^◌, IfSome, if◌then◌else◌, Some, None, length};
-ghost use Rattle.std.specs.List.{find, list_all};
+ghost use Rattle.std.specs.List.{find};
 ghost use Rattle.std.specs.Option.{option_map};
-ghost use Rattle.std.specs.Str.Parse.{digits_value};
 ghost use Rattle.font_bdf.specs.Lines.{begins};
-ghost use Rattle.font_bdf.specs.Numbers.{box_in, box_of, is_digit, natural_of, number_at, number_in, number_of, within};
+ghost use Rattle.font_bdf.specs.Numbers.{box_in, box_of, natural_of, number_at, number_in, number_of, within};
 ghost use Rattle.font_bdf.specs.Parts.{texts};
 ghost use Rattle.font_bdf.specs.Reading.{Gives};
 
 use crate::fault::{BdfFault, BdfProblem, fault_at};
 use crate::words::{line_with, word_at};
+use octet_text::digits_number;
 
 /// A box of pixels (BDF, FONTBOUNDINGBOX and BBX).
 #[derive(Clone, Copy)]
@@ -23,23 +23,6 @@ pub(crate) struct PixelBox {
     pub(crate) x: i32,
     /// Rows from the base line to the lower edge; fewer than 0 below it.
     pub(crate) y: i32,
-}
-
-/// The number that at most 9 decimal digits write.
-fn digits_number(digits: &[u8]) -> Option<u64>
-    requires short { length digits.now ≤ 9 }
-    ensures number { result ≡ (if list_all is_digit digits.now then Some (digits_value 10 digits.now) else None) }
-    ensures small { IfSome result (λ number. number < 10 ^ 9) }
-{
-    let mut number = 0;
-    for octet in digits {
-        let octet = *octet;
-        if octet < b'0' || octet > b'9' {
-            return None;
-        }
-        number = number * 10 + u64::from(octet - b'0');
-    }
-    Some(number)
 }
 
 /// The number that 1 to 9 decimal digits write.

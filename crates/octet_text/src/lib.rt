@@ -1,8 +1,11 @@
-//! Text that grows by octets: each call appends to what is there, or memory was refused.
+//! Text that grows by octets: each call appends to what is there, or memory was refused. And numbers that text writes.
 #![tactic(auto)]
+
+mod digits;
 
 ghost use Rattle.std.specs.Prelude.{◌≡◌, ◌++◌, ◌∷◌, [], OnOk, decimal};
 
+pub use digits::digits_number;
 use itoa::Buffer;
 use std::alloc::AllocError;
 

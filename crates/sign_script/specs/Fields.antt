@@ -1,9 +1,10 @@
 -- The fields of a line, which are parted by one space each.
-use Rattle.std.specs.Prelude.{◌≡◌, ℕ, ◌==◌, ◌&&◌, nat_le, Bool, List, [], ◌∷◌, length, if◌then◌else◌, Option, None, Some, Result, Ok, Err}
+use Rattle.std.specs.Prelude.{◌≡◌, ℕ, ◌==◌, ◌&&◌, nat_le, List, [], ◌∷◌, length, if◌then◌else◌, Option, None, Some, Result, Ok, Err}
 use Rattle.std.specs.List.{list_all}
 use Rattle.std.specs.Borrow.{Bor}
 use Rattle.std.specs.Option.{option_copied}
 use Rattle.std.specs.Str.Parse.{digits_value}
+use Rattle.octet_text.specs.Digits.{is_digit}
 use Rattle.hex.specs.Hex.{decode_of, decode_sized}
 use Rattle.hex.specs.declared.error.FromHexError.{FromHexError}
 use Rattle.message_store.specs.declared.message.MsgRef.{MsgRef}
@@ -29,10 +30,6 @@ with_first c parts = record { field = c ∷ parts.field; rest = parts.rest }
 unfoldable pub parted : List ℕ → Parted
 parted [] = record { field = []; rest = None }
 parted (c ∷ cs) = if c == 32 then record { field = []; rest = Some cs } else with_first c (parted cs)
-
--- whether an octet is a decimal digit, `0` to `9`, octets 48 to 57 (own)
-abbrev pub is_digit : ℕ → Bool
-is_digit c = nat_le 48 c && nat_le c 57
 
 -- the number that 1 to 10 decimal digits write, where it is at most `most` (own)
 abbrev pub number_of : ℕ → List ℕ → Option ℕ

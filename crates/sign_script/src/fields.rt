@@ -1,13 +1,12 @@
 //! The fields of a line, which are parted by one space each.
 
 ghost use Rattle.std.specs.Prelude.{◌≡◌, ◌==◌, ◌≤◌, if◌then◌else◌, IfSome, None, Some, length, position};
-ghost use Rattle.std.specs.List.{list_all};
 ghost use Rattle.std.specs.Option.{option_copied};
-ghost use Rattle.std.specs.Str.Parse.{digits_value};
-ghost use Rattle.sign_script.specs.Fields.{at_end, is_digit, last_message, last_number, last_octets, message_value, next_field, next_message, next_number, number_of, parted, seen, text_of};
+ghost use Rattle.sign_script.specs.Fields.{at_end, last_message, last_number, last_octets, message_value, next_field, next_message, next_number, number_of, parted, seen, text_of};
 
 use hex::FromHex;
 use message_store::MsgRef;
+use octet_text::digits_number;
 
 /// Where the first space of a text stands, counted from 0.
 fn first_space(text: &[u8]) -> Option<usize>
@@ -26,22 +25,6 @@ pub(crate) fn parted(text: &[u8]) -> (&[u8], Option<&[u8]>)
         Some(at) => (&text[..at], Some(&text[at + 1..])),
         None => (text, None),
     }
-}
-
-/// The number that at most 10 decimal digits write.
-fn digits_number(digits: &[u8]) -> Option<u64>
-    requires short { length digits.now ≤ 10 }
-    ensures number { result ≡ (if list_all is_digit digits.now then Some (digits_value 10 digits.now) else None) }
-{
-    let mut number = 0;
-    for octet in digits {
-        let octet = *octet;
-        if octet < b'0' || octet > b'9' {
-            return None;
-        }
-        number = number * 10 + u64::from(octet - b'0');
-    }
-    Some(number)
 }
 
 /// The number that 1 to 10 decimal digits write, where it is at most `most`.

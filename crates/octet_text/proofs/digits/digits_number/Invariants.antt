@@ -1,8 +1,8 @@
 use Rattle.std.proofs.Common.{◌≡◌, ◌^◌, ◌<◌, ◌≤◌, true, length, take}
 use Rattle.std.specs.List.{list_all}
 use Rattle.std.specs.Str.Parse.{digits_value}
-use Rattle.sign_script.specs.Fields.{is_digit}
-use Rattle.sign_script.proofs.fields.digits_number.Given as goal
+use Rattle.octet_text.specs.Digits.{is_digit}
+use Rattle.octet_text.proofs.digits.digits_number.Given as goal
 
 abbrev pub invariant-loop-octet : goal.invariant-loop-octet
 invariant-loop-octet l = record {

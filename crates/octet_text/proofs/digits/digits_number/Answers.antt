@@ -1,7 +1,7 @@
 use Rattle.std.proofs.Common.{◌≡◌, suc, ◌+◌, ◌*◌, ◌^◌, arith, ap, ◌∙◌}
 use Rattle.std.proofs.Math.Nat.{pow-suc}
-use Rattle.font_bdf.proofs.NumberLemmas.{digits_more, number_more}
-use Rattle.font_bdf.proofs.numbers.digits_number.Goals as goal
+use Rattle.octet_text.proofs.DigitLemmas.{digits_more, number_more}
+use Rattle.octet_text.proofs.digits.digits_number.Goals as goal
 
 pub loop-octet-preserved : goal.loop-octet-preserved
 loop-octet-preserved c =
