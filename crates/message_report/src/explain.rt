@@ -5,18 +5,14 @@ ghost use Rattle.message_report.specs.Explanation.{Explains, HasPages, Tells, ta
 ghost use Rattle.message_report.specs.Words.{Grows, IsOneLine};
 ghost use Rattle.multi_layout.specs.Verdict.{Accepted};
 
-use crate::excerpt::{write_excerpt, write_message};
-use crate::large::large_sign;
 use crate::page::push_page;
-use crate::reason::Place;
-use crate::standing::standing_at;
 use crate::verdict::{push_accepted, push_head, push_refused, push_too_long};
+use message_words::{large_sign, legend, line_of_message, page_times, refusal};
 use multi_layout::{Checked, check};
 use multi_token::Source;
 use octet_text::{push_octet, push_octets};
 use sign_font::Sign;
 use std::alloc::{AllocError, Global};
-use std::fmt::Write;
 use std::marker::Model;
 
 /// The most octets that a message may have to be judged (own).
@@ -72,36 +68,12 @@ fn push_line(text: &mut Vec<u8>, words: &String) -> Result<(), AllocError>
     push_octet(text, b'\n')
 }
 
-/// Appends why a message is refused at a place, with the message and a caret.
-fn push_reason(text: &mut Vec<u8>, place: &Place<'_>, code: u8) -> Result<(), AllocError>
-    ensures { OnOk result (Grows text.old.items text.new.items) }
-{
-    let mut words = String::new(place.alloc);
-    let Ok(()) = write_excerpt(&mut words, place.message, place.at) else {
-        return Err(AllocError);
-    };
-    let Ok(()) = place.write_reason(&mut words, code) else {
-        return Err(AllocError);
-    };
-    // an empty line stands behind each explanation
-    words.push('\n')?;
-    push_words(text, &words)
-}
-
 /// Appends a message as a line.
 fn push_message(text: &mut Vec<u8>, alloc: Global, message: &[u8]) -> Result<(), AllocError>
     ensures { OnOk result ((line : List ℕ) × IsOneLine line × (text.new.items ≡ text.old.items ++ (line ++ 10 ∷ []))) }
 {
-    let mut words = String::new(alloc);
-    let Ok(()) = write_message(&mut words, message) else {
-        return Err(AllocError);
-    };
+    let words = line_of_message(alloc, message)?;
     push_line(text, &words)
-}
-
-/// Writes a time in seconds.
-fn write_seconds(words: &mut String, tenths: u8) -> Result<(), AllocError> {
-    write!(words, "{}.{} seconds", tenths / 10, tenths % 10)
 }
 
 /// Appends how long a page is shown, and how long the sign is dark after it, to the end of a line.
@@ -115,26 +87,8 @@ fn push_times(
 ) -> Result<(), AllocError>
     ensures { OnOk result ((line : List ℕ) × IsOneLine line × (text.new.items ≡ text.old.items ++ (line ++ 10 ∷ []))) }
 {
-    let mut words = String::new(alloc);
-    let standing = standing_at(sign, message, message.len(), u32::from(page));
-    let Ok(()) = write_times(&mut words, standing.on, standing.off, pages) else {
-        return Err(AllocError);
-    };
+    let words = page_times(alloc, sign, message, page, pages)?;
     push_line(text, &words)
-}
-
-/// Writes the times of a page, in tenths of a second.
-fn write_times(words: &mut String, on: u8, off: u8, pages: u8) -> Result<(), AllocError> {
-    if pages == 1 {
-        return words.push_str("shown all the time:");
-    }
-    words.push_str("shown for ")?;
-    write_seconds(words, on)?;
-    if off > 0 {
-        words.push_str(", then dark for ")?;
-        write_seconds(words, off)?;
-    }
-    words.push(':')
 }
 
 /// Appends what the marks of the pictures mean, and what they don't show.
@@ -148,45 +102,8 @@ fn push_legend(
 ) -> Result<(), AllocError>
     ensures { OnOk result (Grows text.old.items text.new.items) }
 {
-    let mut words = String::new(alloc);
-    let standing = standing_at(sign, message, message.len(), u32::MAX);
-    let is_still = standing.pages > 1 && checked.cycle() == 0;
-    let Ok(()) = write_legend(
-        &mut words,
-        sign.classic(),
-        is_still,
-        standing.flashes,
-        phase,
-    ) else {
-        return Err(AllocError);
-    };
+    let words = legend(alloc, sign, message, checked.cycle(), phase)?;
     push_words(text, &words)
-}
-
-/// Writes what the marks of the pictures mean.
-fn write_legend(
-    words: &mut String,
-    classic: bool,
-    is_still: bool,
-    flashes: bool,
-    phase: u64,
-) -> Result<(), AllocError> {
-    words.push_str(if classic {
-        "colours: 1 red, 2 yellow, 3 green, 4 cyan, 5 blue, 6 magenta, 7 white, 8 orange, 9 amber, . black\n"
-    } else {
-        "pixels: 1 lit, . dark\n"
-    })?;
-    if is_still {
-        words.push_str("all times are 0, so page 1 is shown all the time\n")?;
-    }
-    if flashes {
-        writeln!(
-            words,
-            "text flashes, and is drawn as it is {phase} tenths of a second after its page began"
-        )?;
-    }
-    // an empty line stands behind each explanation
-    words.push('\n')
 }
 
 /// Appends all pages, each with its times and its picture at a phase.
@@ -261,15 +178,16 @@ impl Explainer {
                 Ok(true)
             }
             Err(fault) => {
-                let place = Place {
-                    alloc,
-                    sign: &self.sign,
-                    large: self.large.as_ref(),
-                    message,
-                    at: fault.at,
-                };
                 push_refused(text, fault.code, fault.at)?;
-                push_reason(text, &place, fault.code)?;
+                let words = refusal(
+                    alloc,
+                    &self.sign,
+                    self.large.as_ref(),
+                    message,
+                    fault.code,
+                    fault.at,
+                )?;
+                push_words(text, &words)?;
                 Ok(false)
             }
         }

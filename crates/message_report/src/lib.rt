@@ -1,17 +1,12 @@
 //! What a sign makes of a message, in words and pictures for people.
 //!
 //! [`Explainer`] tells of a refused message where and why it is refused, with the numbers that a writer needs to mend it, and of an
-//! accepted one its pages with their times, each drawn in all its colours at once. Programs call `multi_layout::check`.
+//! accepted one its pages with their times, each drawn in all its colours at once. The words are those of `message_words`. Programs call
+//! `multi_layout::check`.
 #![tactic(auto)]
 
-mod excerpt;
 mod explain;
-mod forms;
-mod large;
 mod page;
-mod reason;
-mod room;
-mod standing;
 mod verdict;
 
 pub use explain::Explainer;

@@ -3,12 +3,9 @@
 ghost use Rattle.std.specs.Prelude.{◌≡◌, IfOk};
 ghost use Rattle.sign_report.specs.Setup.{is_taken};
 
-use crate::describe::describe;
-use crate::find::{Findings, look_at_file};
-use crate::picture::draw_font;
-use crate::setup::{Setup, setup_of};
+use crate::setup::setup_of;
+use sign_words::sign_words;
 use std::alloc::{AllocError, Global};
-use std::fmt::Write;
 
 /// What is told of a sign file (own).
 #[derive(Debug, Drop)]
@@ -19,61 +16,6 @@ pub struct SignReport {
     pub text: String,
 }
 
-/// The line in which an offset stands, counted from 1.
-fn line_of(text: &[u8], offset: usize) -> usize {
-    let before = &text[..offset.min(text.len())];
-    before
-        .iter()
-        .filter(|octet| **octet == b'\n')
-        .count()
-        .saturating_add(1)
-}
-
-/// Tells each fault that is found in octets, and the keys that aren't known.
-fn find(found: &mut Findings, octets: &[u8]) -> Result<(), AllocError> {
-    let text = match str::from_utf8(octets) {
-        Ok(text) => text,
-        Err(error) => {
-            found.faults = 1;
-            return writeln!(
-                found.text,
-                "line {}: no text in UTF-8",
-                line_of(octets, error.valid_up_to())
-            );
-        }
-    };
-    match toml::table_from_str(found.alloc, text) {
-        Ok(table) => look_at_file(found, &table),
-        Err(error) if error.is_memory() => Err(AllocError),
-        Err(error) => {
-            found.faults = 1;
-            match error.span() {
-                Some(span) => write!(found.text, "line {}: ", line_of(octets, span.start))?,
-                None => {}
-            }
-            writeln!(found.text, "{}", error.message())
-        }
-    }
-}
-
-/// Tells what a sign file describes, or the faults that it has.
-fn tell(
-    found: &mut Findings,
-    octets: &[u8],
-    setup: &Option<Setup>,
-    font: Option<u8>,
-) -> Result<(), AllocError> {
-    find(found, octets)?;
-    match setup {
-        Some(setup) => match font {
-            Some(font) => draw_font(&mut found.text, &setup.sign, font),
-            None => describe(&mut found.text, setup),
-        },
-        None if found.faults == 0 => writeln!(found.text, "the sign file isn't taken"),
-        None => Ok(()),
-    }
-}
-
 /// Says of the octets of a sign file what they describe, or each fault that is found in them.
 ///
 /// `font` asks for the pictures of that font's characters in place of the description. Keys that aren't known are told as notes,
@@ -82,15 +24,9 @@ pub fn sign_report(alloc: Global, octets: &[u8], font: Option<u8>) -> Result<Sig
     ensures { IfOk result (λ report. report.is_taken ≡ is_taken octets.now) }
 {
     let setup = setup_of(alloc, octets)?;
-    let mut found = Findings {
-        alloc,
-        text: String::new(alloc),
-        faults: 0,
-    };
-    let Ok(()) = tell(&mut found, octets, &setup, font) else {
+    let Ok(text) = sign_words(alloc, octets, setup.as_ref(), font) else {
         return Err(AllocError);
     };
-    let Findings { text, .. } = found;
     Ok(SignReport {
         is_taken: setup.is_some(),
         text,

@@ -1,4 +1,4 @@
-//! The sign and the message table of a file.
+//! What a sign file sets up.
 
 ghost use Rattle.std.specs.Prelude.{◌≡◌, ◌≢◌, IfOk, OnOk, is_some};
 ghost use Rattle.sign_report.specs.Setup.{is_taken};
@@ -6,16 +6,8 @@ ghost use Rattle.sign_report.specs.Setup.{is_taken};
 use message_store::{Store, StoreLimits, StoreMade};
 use sign_file::{FileFault, SignFile, read_sign_file};
 use sign_font::{Sign, SignFault};
+use sign_words::Setup;
 use std::alloc::{AllocError, Global};
-
-/// What a sign file sets up.
-#[derive(Drop)]
-pub(crate) struct Setup {
-    pub(crate) sign: Sign,
-    pub(crate) limits: StoreLimits,
-    /// How many permanent messages there are.
-    pub(crate) permanents: usize,
-}
 
 /// Passes over each fault but that memory was refused.
 fn unless_memory(fault: SignFault) -> Result<(), AllocError>

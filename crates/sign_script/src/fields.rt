@@ -1,8 +1,8 @@
 //! The fields of a line, which are parted by one space each.
 
-ghost use Rattle.std.specs.Prelude.{◌≡◌, ◌==◌, ◌≤◌, if◌then◌else◌, IfSome, None, Some, length, position};
+ghost use Rattle.std.specs.Prelude.{◌≡◌, ◌==◌, ◌≤◌, IfSome, position};
 ghost use Rattle.std.specs.Option.{option_copied};
-ghost use Rattle.sign_script.specs.Fields.{at_end, last_message, last_number, last_octets, message_value, next_field, next_message, next_number, number_of, parted, seen, text_of};
+ghost use Rattle.sign_script.specs.Fields.{at_end, last_message, last_number, last_octets, message_value, next_message, next_number, number_of, parted, seen, text_of};
 
 use hex::FromHex;
 use message_store::MsgRef;

@@ -32,17 +32,17 @@ returns-in_ok-push_shown-in-Ok-clause-taken c =
     ExplanationLemmas.taken_by c.self.inside.sign _ c.args.message.now (Accepted pages) (omega (arith, c.if-message-gt-MAX_MESSAGE.false)) (ap (λ (s : Counted). s.octets) c.new.ensures) accepted
     ∙ ap (λ s. takes s c.args.message.now) c.self.view_is
 
-pub returns-in_ok-push_reason-in-Err-clause-told :
-    goal.returns-in_ok-push_reason-in-Err-clause-told
-returns-in_ok-push_reason-in-Err-clause-told c =
+pub returns-in_ok-push_words-in-Err-clause-told :
+    goal.returns-in_ok-push_words-in-Err-clause-told
+returns-in_ok-push_words-in-Err-clause-told c =
     let sign = c.self.inside.sign in
     let fault = c.in-Err.fault in
-    let (words, second) = c.in_ok-push_reason-in-Err.ensures in
-    let is = TextLemmas.grown c.args.text.now.items c.push_refused.new.text.items c.push_reason.new.text.items (refused_text fault.code fault.at) words _ c.in_ok-push_refused-in-Err.ensures second refl in
+    let (words, second) = c.in_ok-push_words-in-Err.ensures in
+    let is = TextLemmas.grown c.args.text.now.items c.push_refused.new.text.items c.push_words.new.text.items (refused_text fault.code fault.at) words _ c.in_ok-push_refused-in-Err.ensures second refl in
     (_, is, subst (λ s. Explains s c.args.message.now c.args.phase (refused_text fault.code fault.at ++ words)) c.self.view_is (ExplanationLemmas.explained sign _ c.args.message.now c.args.phase (Refused fault.code fault.at) _ (omega (arith, c.if-message-gt-MAX_MESSAGE.false)) (ap (λ (s : Counted). s.octets) c.new.ensures) c.in-Err.ensures.refused (words, refl)))
 
-pub returns-in_ok-push_reason-in-Err-clause-taken :
-    goal.returns-in_ok-push_reason-in-Err-clause-taken
-returns-in_ok-push_reason-in-Err-clause-taken c =
+pub returns-in_ok-push_words-in-Err-clause-taken :
+    goal.returns-in_ok-push_words-in-Err-clause-taken
+returns-in_ok-push_words-in-Err-clause-taken c =
     ExplanationLemmas.taken_by c.self.inside.sign _ c.args.message.now (Refused c.in-Err.fault.code c.in-Err.fault.at) (omega (arith, c.if-message-gt-MAX_MESSAGE.false)) (ap (λ (s : Counted). s.octets) c.new.ensures) c.in-Err.ensures.refused
     ∙ ap (λ s. takes s c.args.message.now) c.self.view_is

@@ -1,11 +1,22 @@
 //! What a sign file describes.
 
-use crate::setup::Setup;
+use message_store::StoreLimits;
 use multi_token::Source;
 use sign_font::{Defaults, FontInfo, LineFill, Sign};
 use std::alloc::AllocError;
 use std::fmt;
 use std::fmt::{Display, Formatter, Write};
+
+/// What a sign file sets up, as far as words tell of it (own).
+#[derive(Drop)]
+pub struct Setup {
+    /// The sign.
+    pub sign: Sign,
+    /// The limits of its changeable messages.
+    pub limits: StoreLimits,
+    /// How many permanent messages there are.
+    pub permanents: usize,
+}
 
 /// The classic colours by their numbers (NTCIP 1203 v03, object dmsColorScheme).
 const COLOURS: [&str; 10] = [

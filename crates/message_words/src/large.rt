@@ -43,8 +43,9 @@ fn blank_fonts(alloc: Global, sign: &Sign) -> Result<Vec<FontPart>, AllocError> 
     Ok(fonts)
 }
 
-/// A sign with the most pixels and pages, and with the fonts and defaults of another.
-pub(crate) fn large_sign(alloc: Global, sign: &Sign) -> Result<Option<Sign>, AllocError> {
+/// A sign with the most pixels and pages, and with the fonts and defaults of another: by it is told how much room a message lacks. `None`
+/// stands where there is none. The error says that memory was refused.
+pub fn large_sign(alloc: Global, sign: &Sign) -> Result<Option<Sign>, AllocError> {
     let parts = SignParts {
         width: COLUMNS,
         height: ROWS,

@@ -6,7 +6,7 @@ use crate::standing::{Piece, Standing, piece_at, standing_at};
 use multi_tag::{Tag, read_body};
 use multi_token::Source;
 use sign_font::Sign;
-use sign_report::Characters;
+use sign_words::Characters;
 use std::alloc::{AllocError, Global};
 use std::fmt::Write;
 
