@@ -53,27 +53,35 @@ fn check_command<'a>(alloc: Global) -> Result<Command<'a>, AllocError> {
         .arg(sample_flag(alloc))
 }
 
-/// `signctl show`, which takes what `check` takes, and a colour and a clock.
-fn show_command<'a>(alloc: Global) -> Result<Command<'a>, AllocError> {
-    let colour = Arg::new(alloc, "colour")
+/// `--colour`, whose pixels are shown.
+fn colour_option<'a>(alloc: Global) -> Arg<'a> {
+    Arg::new(alloc, "colour")
         .long("colour")
         .value_name("N")
         .help("The colour whose pixels are shown, 0 to 9")
         .value_parser(value_parser!(u8).range(0..=9))
-        .default_value("1");
-    let clock = Arg::new(alloc, "clock")
+        .default_value("1")
+}
+
+/// `--clock`, at which a page is shown.
+fn clock_option<'a>(alloc: Global) -> Arg<'a> {
+    Arg::new(alloc, "clock")
         .long("clock")
         .value_name("N")
         .help("How long the message was shown, in tenths of a second, 0 to 4294967295")
         .value_parser(value_parser!(u32))
-        .default_value("0");
+        .default_value("0")
+}
+
+/// `signctl show`, which takes what `check` takes, and a colour and a clock.
+fn show_command<'a>(alloc: Global) -> Result<Command<'a>, AllocError> {
     Command::new(alloc, "show")
         .about(
             "Reads a sign file, a line %% and messages, and shows a page of each message that the sign accepts",
         )
         .arg(sample_flag(alloc))?
-        .arg(colour)?
-        .arg(clock)
+        .arg(colour_option(alloc))?
+        .arg(clock_option(alloc))
 }
 
 /// `signctl run`, which takes a script in place of messages.
@@ -105,33 +113,41 @@ fn explain_command<'a>(alloc: Global) -> Result<Command<'a>, AllocError> {
         .arg(phase_option(alloc))
 }
 
-/// `signctl picture`, which takes one message.
-fn picture_command<'a>(alloc: Global) -> Result<Command<'a>, AllocError> {
-    let page = Arg::new(alloc, "page")
+/// `--page`, which is drawn.
+fn page_option<'a>(alloc: Global) -> Arg<'a> {
+    Arg::new(alloc, "page")
         .long("page")
         .value_name("N")
         .help("Draws this page of the message, 1 to 255")
         .value_parser(value_parser!(u8).range(1..=255))
-        .default_value("1");
+        .default_value("1")
+}
+
+/// `signctl picture`, which takes one message.
+fn picture_command<'a>(alloc: Global) -> Result<Command<'a>, AllocError> {
     Command::new(alloc, "picture")
         .about(
             "Reads a sign file, a line %% and one message, and writes a page of it as a picture in PPM",
         )
         .arg(sample_flag(alloc))?
-        .arg(page)?
+        .arg(page_option(alloc))?
         .arg(phase_option(alloc))
+}
+
+/// `--font`, whose characters are shown.
+fn font_option<'a>(alloc: Global) -> Arg<'a> {
+    Arg::new(alloc, "font")
+        .long("font")
+        .value_name("N")
+        .help("Shows the characters of this font, 1 to 255")
+        .value_parser(value_parser!(u8).range(1..=255))
 }
 
 /// `signctl sign`, which takes a sign file alone.
 fn sign_command<'a>(alloc: Global) -> Result<Command<'a>, AllocError> {
-    let font = Arg::new(alloc, "font")
-        .long("font")
-        .value_name("N")
-        .help("Shows the characters of this font, 1 to 255")
-        .value_parser(value_parser!(u8).range(1..=255));
     Command::new(alloc, "sign")
         .about("Reads a sign file, and says what it describes, or what is wrong with it")
-        .arg(font)
+        .arg(font_option(alloc))
 }
 
 /// A number of `signctl font`, with its range and what it is if it isn't given.
@@ -150,73 +166,93 @@ fn number_of<'a>(
         .default_value(absent)
 }
 
-/// The numbers of `signctl font` that a sign file has and BDF hasn't.
-fn with_setting<'a>(alloc: Global, font: Command<'a>) -> Result<Command<'a>, AllocError> {
-    let number = number_of(
+/// `--number` and `--version`, which a sign file has and BDF hasn't.
+fn with_name<'a>(alloc: Global, font: Command<'a>) -> Result<Command<'a>, AllocError> {
+    font.arg(number_of(
         alloc,
         "number",
         "The font's number, 1 to 255",
         (1, 255),
         "1",
-    );
-    let version = number_of(
+    ))?
+    .arg(number_of(
         alloc,
         "version",
         "The font's version, 0 to 65535",
         (0, 65535),
         "0",
-    );
-    let columns = number_of(
+    ))
+}
+
+/// `--char-spacing` and `--line-spacing`, which a sign file has and BDF hasn't.
+fn with_spacings<'a>(alloc: Global, font: Command<'a>) -> Result<Command<'a>, AllocError> {
+    font.arg(number_of(
         alloc,
         "char-spacing",
         "Columns between characters, 0 to 255, by which each cell is narrower than its advance",
         (0, 255),
         "1",
-    );
-    let rows = number_of(
+    ))?
+    .arg(number_of(
         alloc,
         "line-spacing",
         "Rows between lines, 0 to 255",
         (0, 255),
         "1",
-    );
-    font.arg(number)?.arg(version)?.arg(columns)?.arg(rows)
+    ))
 }
 
-/// `signctl font`, which takes a font in BDF.
-fn font_command<'a>(alloc: Global) -> Result<Command<'a>, AllocError> {
-    let first = number_of(
+/// `--first` and `--last`, between which characters are taken.
+fn with_range<'a>(alloc: Global, font: Command<'a>) -> Result<Command<'a>, AllocError> {
+    font.arg(number_of(
         alloc,
         "first",
         "The lowest character that is taken",
         (1, 65535),
         "1",
-    );
-    let last = number_of(
+    ))?
+    .arg(number_of(
         alloc,
         "last",
         "The highest character that is taken",
         (1, 65535),
         "65535",
-    );
+    ))
+}
+
+/// `signctl font`, which takes a font in BDF.
+fn font_command<'a>(alloc: Global) -> Result<Command<'a>, AllocError> {
     let font = Command::new(alloc, "font").about(
         "Reads a font in BDF, and writes it as the [[font]] table of a sign file",
     );
-    with_setting(alloc, font)?.arg(first)?.arg(last)
+    with_range(alloc, with_spacings(alloc, with_name(alloc, font)?)?)
+}
+
+/// With the commands that answer each line.
+fn with_lines<'a>(alloc: Global, tool: Command<'a>) -> Result<Command<'a>, AllocError> {
+    tool.subcommand(check_command(alloc)?)?
+        .subcommand(show_command(alloc)?)?
+        .subcommand(run_command(alloc)?)
+}
+
+/// With the commands that write for people.
+fn with_pages<'a>(alloc: Global, tool: Command<'a>) -> Result<Command<'a>, AllocError> {
+    tool.subcommand(explain_command(alloc)?)?
+        .subcommand(picture_command(alloc)?)
+}
+
+/// With the commands that take no message.
+fn with_files<'a>(alloc: Global, tool: Command<'a>) -> Result<Command<'a>, AllocError> {
+    tool.subcommand(sign_command(alloc)?)?
+        .subcommand(font_command(alloc)?)
 }
 
 /// The command line that the tool takes.
 fn command<'a>(alloc: Global) -> Result<Command<'a>, AllocError> {
-    Command::new(alloc, "signctl")
+    let tool = Command::new(alloc, "signctl")
         .about("Checks and shows the messages of a roadside message sign, and runs its controller")
-        .subcommand_required(true)
-        .subcommand(check_command(alloc)?)?
-        .subcommand(show_command(alloc)?)?
-        .subcommand(run_command(alloc)?)?
-        .subcommand(explain_command(alloc)?)?
-        .subcommand(picture_command(alloc)?)?
-        .subcommand(sign_command(alloc)?)?
-        .subcommand(font_command(alloc)?)
+        .subcommand_required(true);
+    with_files(alloc, with_pages(alloc, with_lines(alloc, tool)?)?)
 }
 
 /// What is done with each line.
