@@ -5,9 +5,10 @@ ghost use Rattle.message_report.specs.Explanation.{Explains, HasPages, Tells, ta
 ghost use Rattle.message_report.specs.Words.{Grows, IsOneLine};
 ghost use Rattle.multi_layout.specs.Verdict.{Accepted};
 
+use crate::large::large_sign;
 use crate::page::push_page;
 use crate::verdict::{push_accepted, push_head, push_refused, push_too_long};
-use message_words::{large_sign, legend, line_of_message, page_times, refusal};
+use message_words::{Legend, MessageLine, PageTimes, Refusal};
 use multi_layout::{Checked, check};
 use multi_token::Source;
 use octet_text::{push_octet, push_octets};
@@ -72,7 +73,7 @@ fn push_line(text: &mut Vec<u8>, words: &String) -> Result<(), AllocError>
 fn push_message(text: &mut Vec<u8>, alloc: Global, message: &[u8]) -> Result<(), AllocError>
     ensures { OnOk result ((line : List ℕ) × IsOneLine line × (text.new.items ≡ text.old.items ++ (line ++ 10 ∷ []))) }
 {
-    let words = line_of_message(alloc, message)?;
+    let words = MessageLine(message).to_string(alloc)?;
     push_line(text, &words)
 }
 
@@ -87,7 +88,13 @@ fn push_times(
 ) -> Result<(), AllocError>
     ensures { OnOk result ((line : List ℕ) × IsOneLine line × (text.new.items ≡ text.old.items ++ (line ++ 10 ∷ []))) }
 {
-    let words = page_times(alloc, sign, message, page, pages)?;
+    let times = PageTimes {
+        sign,
+        message,
+        page,
+        pages,
+    };
+    let words = times.to_string(alloc)?;
     push_line(text, &words)
 }
 
@@ -102,7 +109,13 @@ fn push_legend(
 ) -> Result<(), AllocError>
     ensures { OnOk result (Grows text.old.items text.new.items) }
 {
-    let words = legend(alloc, sign, message, checked.cycle(), phase)?;
+    let legend = Legend {
+        sign,
+        message,
+        cycle: checked.cycle(),
+        phase,
+    };
+    let words = legend.to_string(alloc)?;
     push_words(text, &words)
 }
 
@@ -179,14 +192,15 @@ impl Explainer {
             }
             Err(fault) => {
                 push_refused(text, fault.code, fault.at)?;
-                let words = refusal(
+                let refusal = Refusal {
                     alloc,
-                    &self.sign,
-                    self.large.as_ref(),
+                    sign: &self.sign,
+                    large: self.large.as_ref(),
                     message,
-                    fault.code,
-                    fault.at,
-                )?;
+                    code: fault.code,
+                    at: fault.at,
+                };
+                let words = refusal.to_string(alloc)?;
                 push_words(text, &words)?;
                 Ok(false)
             }

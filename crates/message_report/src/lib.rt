@@ -6,6 +6,7 @@
 #![tactic(auto)]
 
 mod explain;
+mod large;
 mod page;
 mod verdict;
 

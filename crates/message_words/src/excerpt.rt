@@ -1,6 +1,8 @@
 //! A message as a line, with a caret under a place.
 
 use std::alloc::AllocError;
+use std::fmt;
+use std::fmt::{Formatter, Write};
 
 /// The most octets before the place, and in all, that are shown (own).
 const BEFORE: usize = 60;
@@ -17,11 +19,11 @@ fn shown(octet: u8) -> char {
 }
 
 /// Writes the first octets of a message.
-pub(crate) fn write_message(text: &mut String, message: &[u8]) -> Result<(), AllocError> {
+pub(crate) fn write_message<W: Write>(f: &mut Formatter<W>, message: &[u8]) -> fmt::Result {
     for octet in message.iter().take(MOST) {
-        text.push(shown(*octet))?;
+        f.write_char(shown(*octet))?;
     }
-    text.push_str(if message.len() > MOST { " .." } else { "" })
+    f.write_str(if message.len() > MOST { " .." } else { "" })
 }
 
 /// Writes the octets of a message around a place, and under them a caret at the place.

@@ -6,11 +6,10 @@
 
 mod excerpt;
 mod forms;
-mod large;
 mod reason;
 mod room;
 mod standing;
 mod words;
 
-pub use large::large_sign;
-pub use words::{legend, line_of_message, page_times, refusal};
+pub use room::{LARGE_COLUMNS, LARGE_ROWS};
+pub use words::{Legend, MessageLine, PageTimes, Refusal};

@@ -7,10 +7,11 @@ use sign_font::{LineFill, Sign};
 use std::alloc::{AllocError, Global};
 use std::fmt::Write;
 
-/// The columns and rows of the large sign.
-pub(crate) const COLUMNS: u16 = 1024;
+/// The columns of the large sign, by which is told how much room a message lacks: the most that a sign has (own).
+pub const LARGE_COLUMNS: u16 = 1024;
 
-pub(crate) const ROWS: u16 = 128;
+/// Its rows, the most that a sign has (own).
+pub const LARGE_ROWS: u16 = 128;
 
 /// How many pixels are needed.
 #[derive(Clone, Copy)]
@@ -95,11 +96,11 @@ impl Trial<'_> {
 
     /// The least number of columns in which it fits; the most that there are do.
     fn least_columns(&self) -> Result<u16, AllocError> {
-        let (mut least, mut most) = (1, COLUMNS);
+        let (mut least, mut most) = (1, LARGE_COLUMNS);
         for _ in 0..16u8 {
             let middle = least / 2 + most / 2;
             if least < most && middle < most {
-                if self.fits(middle, ROWS)? {
+                if self.fits(middle, LARGE_ROWS)? {
                     most = middle;
                 } else {
                     least = middle.saturating_add(1);
@@ -111,7 +112,7 @@ impl Trial<'_> {
 
     /// The least number of rows in which it fits these columns, if any do.
     fn least_rows(&self, columns: u16) -> Result<Option<u16>, AllocError> {
-        for rows in 1..=ROWS {
+        for rows in 1..=LARGE_ROWS {
             if self.fits(columns, rows)? {
                 return Ok(Some(rows));
             }
@@ -123,16 +124,16 @@ impl Trial<'_> {
     fn columns(&self, part: Part, group: u8) -> Result<Need, AllocError> {
         if let Some(end) = part.end(self.large, self.message, self.end, group) {
             let line = Trial { end, ..*self };
-            match line.judge(COLUMNS, ROWS)? {
+            match line.judge(LARGE_COLUMNS, LARGE_ROWS)? {
                 Fit::Takes => return Ok(Need::All(line.least_columns()?)),
-                Fit::TooBig => return Ok(Need::Over(COLUMNS)),
+                Fit::TooBig => return Ok(Need::Over(LARGE_COLUMNS)),
                 Fit::Refuses => {}
             }
         }
-        if self.fits(COLUMNS, ROWS)? {
+        if self.fits(LARGE_COLUMNS, LARGE_ROWS)? {
             Ok(Need::Front(self.least_columns()?))
         } else {
-            Ok(Need::Over(COLUMNS))
+            Ok(Need::Over(LARGE_COLUMNS))
         }
     }
 
@@ -140,26 +141,26 @@ impl Trial<'_> {
     fn rows(&self, columns: u16) -> Result<Need, AllocError> {
         if let Some(end) = Part::Area.end(self.large, self.message, self.end, 0) {
             let area = Trial { end, ..*self };
-            if area.fits(columns, ROWS)? {
+            if area.fits(columns, LARGE_ROWS)? {
                 return Ok(match area.least_rows(columns)? {
                     Some(rows) => Need::All(rows),
-                    None => Need::Over(ROWS),
+                    None => Need::Over(LARGE_ROWS),
                 });
             }
         }
         Ok(match self.least_rows(columns)? {
             Some(rows) => Need::Front(rows),
-            None => Need::Over(ROWS),
+            None => Need::Over(LARGE_ROWS),
         })
     }
 
     /// What the line or the area lacks whose last item, at an offset, is too big.
     pub(crate) fn lack(&self, standing: &Standing, at: usize) -> Result<Lack, AllocError> {
-        let columns = standing.width.min(u32::from(COLUMNS)) as u16;
+        let columns = standing.width.min(u32::from(LARGE_COLUMNS)) as u16;
         let is_filled = self.large.line_fill() == LineFill::Words;
         let from = standing.line_of(at, is_filled);
         let line = Trial { from, ..*self };
-        if line.fits(columns, ROWS)? {
+        if line.fits(columns, LARGE_ROWS)? {
             return Ok(Lack::Area(self.rows(columns)?));
         }
         let part = if is_filled { Part::Word } else { Part::Line };

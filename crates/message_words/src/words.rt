@@ -1,125 +1,145 @@
-//! The words on a message.
+//! The words on a message, each written by `Display`.
 
 use crate::excerpt::{write_excerpt, write_message};
 use crate::reason::Place;
 use crate::standing::standing_at;
 use sign_font::Sign;
 use std::alloc::{AllocError, Global};
-use std::fmt::Write;
+use std::fmt;
+use std::fmt::{Display, Formatter, Write};
 
-/// The first octets of a message, for a line: each as itself, or as `?` if it isn't a sign or a space of ASCII. The error says that
-/// memory was refused.
-pub fn line_of_message(alloc: Global, message: &[u8]) -> Result<String, AllocError> {
-    let mut words = String::new(alloc);
-    write_message(&mut words, message)?;
-    Ok(words)
-}
+/// The first octets of a message, for a line: each as itself, or as `?` if it isn't a sign or a space of ASCII (own). Written by
+/// `Display`.
+#[derive(Clone, Copy)]
+pub struct MessageLine<'a>(pub &'a [u8]);
 
-/// Why a message is refused at an octet, counted from 0, with the error of this number: lines with the message, a caret under the
-/// octet, the reason, and an empty line. `large` is the [`large_sign`](crate::large_sign) of the sign. The error says that memory was
-/// refused.
-pub fn refusal(
-    alloc: Global,
-    sign: &Sign,
-    large: Option<&Sign>,
-    message: &[u8],
-    code: u8,
-    at: usize,
-) -> Result<String, AllocError> {
-    let place = Place {
-        alloc,
-        sign,
-        large,
-        message,
-        at,
-    };
-    let mut words = String::new(alloc);
-    write_excerpt(&mut words, message, at)?;
-    place.write_reason(&mut words, code)?;
-    // an empty line stands behind each explanation
-    words.push('\n')?;
-    Ok(words)
-}
-
-/// Writes a time in seconds.
-fn write_seconds(words: &mut String, tenths: u8) -> Result<(), AllocError> {
-    write!(words, "{}.{} seconds", tenths / 10, tenths % 10)
-}
-
-/// Writes the times of a page, in tenths of a second.
-fn write_times(words: &mut String, on: u8, off: u8, pages: u8) -> Result<(), AllocError> {
-    if pages == 1 {
-        return words.push_str("shown all the time:");
+impl Display for MessageLine<'_> {
+    fn fmt<W: Write>(&self, f: &mut Formatter<W>) -> fmt::Result {
+        write_message(f, self.0)
     }
-    words.push_str("shown for ")?;
-    write_seconds(words, on)?;
-    if off > 0 {
-        words.push_str(", then dark for ")?;
-        write_seconds(words, off)?;
-    }
-    words.push(':')
 }
 
-/// How long a page, counted from 0, is shown, and how long the sign is dark after it, for the end of a line. The error says that memory
-/// was refused.
-pub fn page_times(
-    alloc: Global,
-    sign: &Sign,
-    message: &[u8],
-    page: u8,
-    pages: u8,
-) -> Result<String, AllocError> {
-    let mut words = String::new(alloc);
-    let standing = standing_at(sign, message, message.len(), u32::from(page));
-    write_times(&mut words, standing.on, standing.off, pages)?;
-    Ok(words)
+/// Why a message is refused (own): lines with the message, a caret under the octet where it is refused, the reason with its numbers, and an
+/// empty line. Written by `Display`, which takes memory.
+#[derive(Clone, Copy)]
+pub struct Refusal<'a> {
+    /// Where memory comes from.
+    pub alloc: Global,
+    /// The sign that refuses it.
+    pub sign: &'a Sign,
+    /// A sign of [`LARGE_COLUMNS`](crate::LARGE_COLUMNS) and [`LARGE_ROWS`](crate::LARGE_ROWS) with its fonts and defaults, if there is
+    /// one: by it is told how much room the message lacks.
+    pub large: Option<&'a Sign>,
+    /// The message.
+    pub message: &'a [u8],
+    /// The number of the error (NTCIP 1203 v03, dmsMultiSyntaxError).
+    pub code: u8,
+    /// The octet where it stands, counted from 0.
+    pub at: usize,
 }
 
-/// Writes what the marks of the pictures mean.
-fn write_legend(
-    words: &mut String,
-    classic: bool,
-    is_still: bool,
-    flashes: bool,
-    phase: u64,
-) -> Result<(), AllocError> {
-    words.push_str(if classic {
-        "colours: 1 red, 2 yellow, 3 green, 4 cyan, 5 blue, 6 magenta, 7 white, 8 orange, 9 amber, . black\n"
-    } else {
-        "pixels: 1 lit, . dark\n"
-    })?;
-    if is_still {
-        words.push_str("all times are 0, so page 1 is shown all the time\n")?;
+impl Refusal<'_> {
+    /// The words.
+    fn words(&self) -> Result<String, AllocError> {
+        let place = Place {
+            alloc: self.alloc,
+            sign: self.sign,
+            large: self.large,
+            message: self.message,
+            at: self.at,
+        };
+        let mut words = String::new(self.alloc);
+        write_excerpt(&mut words, self.message, self.at)?;
+        place.write_reason(&mut words, self.code)?;
+        Ok(words)
     }
-    if flashes {
-        writeln!(
-            words,
-            "text flashes, and is drawn as it is {phase} tenths of a second after its page began"
-        )?;
-    }
-    // an empty line stands behind each explanation
-    words.push('\n')
 }
 
-/// What the marks of the pictures of a message's pages mean, and what they don't show: that its pages don't change, where their times
-/// come to `cycle` tenths of a second together, and that text flashes, which is drawn at this phase of its page, in tenths of a second. An
-/// empty line ends it. The error says that memory was refused.
-pub fn legend(
-    alloc: Global,
-    sign: &Sign,
-    message: &[u8],
-    cycle: u32,
-    phase: u64,
-) -> Result<String, AllocError> {
-    let mut words = String::new(alloc);
-    let standing = standing_at(sign, message, message.len(), u32::MAX);
-    let is_still = standing.pages > 1 && cycle == 0;
-    write_legend(
-        &mut words,
-        sign.classic(),
-        is_still,
-        standing.flashes,
-        phase,
-    )?;
-    Ok(words)
+impl Display for Refusal<'_> {
+    fn fmt<W: Write>(&self, f: &mut Formatter<W>) -> fmt::Result {
+        let Ok(words) = self.words() else {
+            return Err(fmt::Error);
+        };
+        // an empty line stands behind each explanation
+        writeln!(f, "{words}")
+    }
+}
+
+/// A time in seconds.
+#[derive(Clone, Copy)]
+struct Seconds(u8);
+
+impl Display for Seconds {
+    fn fmt<W: Write>(&self, f: &mut Formatter<W>) -> fmt::Result {
+        write!(f, "{}.{} seconds", self.0 / 10, self.0 % 10)
+    }
+}
+
+/// How long a page is shown, and how long the sign is dark after it, for the end of a line (own). Written by `Display`.
+#[derive(Clone, Copy)]
+pub struct PageTimes<'a> {
+    /// The sign.
+    pub sign: &'a Sign,
+    /// The message.
+    pub message: &'a [u8],
+    /// The page, counted from 0.
+    pub page: u8,
+    /// How many pages the message has.
+    pub pages: u8,
+}
+
+impl Display for PageTimes<'_> {
+    fn fmt<W: Write>(&self, f: &mut Formatter<W>) -> fmt::Result {
+        if self.pages == 1 {
+            return f.write_str("shown all the time:");
+        }
+        let standing = standing_at(
+            self.sign,
+            self.message,
+            self.message.len(),
+            u32::from(self.page),
+        );
+        write!(f, "shown for {}", Seconds(standing.on))?;
+        if standing.off > 0 {
+            write!(f, ", then dark for {}", Seconds(standing.off))?;
+        }
+        f.write_str(":")
+    }
+}
+
+/// What the marks of the pictures of a message's pages mean, and what they don't show: that its pages don't change, and that text flashes
+/// (own). An empty line ends it. Written by `Display`.
+#[derive(Clone, Copy)]
+pub struct Legend<'a> {
+    /// The sign.
+    pub sign: &'a Sign,
+    /// The message.
+    pub message: &'a [u8],
+    /// The sum of the on times and off times of all its pages, in tenths of a second.
+    pub cycle: u32,
+    /// When its pages are drawn, in tenths of a second since each began.
+    pub phase: u64,
+}
+
+impl Display for Legend<'_> {
+    fn fmt<W: Write>(&self, f: &mut Formatter<W>) -> fmt::Result {
+        let standing = standing_at(self.sign, self.message, self.message.len(), u32::MAX);
+        f.write_str(if self.sign.classic() {
+            "colours: 1 red, 2 yellow, 3 green, 4 cyan, 5 blue, 6 magenta, 7 white, 8 orange, 9 amber, . black\n"
+        } else {
+            "pixels: 1 lit, . dark\n"
+        })?;
+        if standing.pages > 1 && self.cycle == 0 {
+            f.write_str("all times are 0, so page 1 is shown all the time\n")?;
+        }
+        if standing.flashes {
+            let phase = self.phase;
+            writeln!(
+                f,
+                "text flashes, and is drawn as it is {phase} tenths of a second after its page began"
+            )?;
+        }
+        // an empty line stands behind each explanation
+        f.write_str("\n")
+    }
 }

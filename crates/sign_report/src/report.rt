@@ -4,7 +4,7 @@ ghost use Rattle.std.specs.Prelude.{◌≡◌, IfOk};
 ghost use Rattle.sign_report.specs.Setup.{is_taken};
 
 use crate::setup::setup_of;
-use sign_words::sign_words;
+use sign_words::SignWords;
 use std::alloc::{AllocError, Global};
 
 /// What is told of a sign file (own).
@@ -24,9 +24,13 @@ pub fn sign_report(alloc: Global, octets: &[u8], font: Option<u8>) -> Result<Sig
     ensures { IfOk result (λ report. report.is_taken ≡ is_taken octets.now) }
 {
     let setup = setup_of(alloc, octets)?;
-    let Ok(text) = sign_words(alloc, octets, setup.as_ref(), font) else {
-        return Err(AllocError);
+    let words = SignWords {
+        alloc,
+        octets,
+        setup: &setup,
+        font,
     };
+    let text = words.to_string(alloc)?;
     Ok(SignReport {
         is_taken: setup.is_some(),
         text,

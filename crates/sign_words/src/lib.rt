@@ -1,6 +1,6 @@
 //! What a sign file describes, or every fault that is found in it, in words.
 //!
-//! [`sign_words`] is for people who write sign files, and says what they read; it judges nothing. Whether a sign file is taken says
+//! [`SignWords`] are for people who write sign files, and judge nothing. Whether a sign file is taken says
 //! `sign_report::sign_report`, and `sign_file::read_sign_file` answers one fault to a program.
 #![tactic(auto)]
 
@@ -14,4 +14,4 @@ mod place;
 mod words;
 
 pub use describe::{Characters, Setup};
-pub use words::sign_words;
+pub use words::SignWords;

@@ -4,7 +4,8 @@ use crate::describe::{Setup, describe};
 use crate::find::{Findings, look_at_file};
 use crate::picture::draw_font;
 use std::alloc::{AllocError, Global};
-use std::fmt::Write;
+use std::fmt;
+use std::fmt::{Display, Formatter, Write};
 
 /// The line in which an offset stands, counted from 1.
 fn line_of(text: &[u8], offset: usize) -> usize {
@@ -47,7 +48,7 @@ fn find(found: &mut Findings, octets: &[u8]) -> Result<(), AllocError> {
 fn tell(
     found: &mut Findings,
     octets: &[u8],
-    setup: Option<&Setup>,
+    setup: &Option<Setup>,
     font: Option<u8>,
 ) -> Result<(), AllocError> {
     find(found, octets)?;
@@ -61,24 +62,39 @@ fn tell(
     }
 }
 
-/// Says of the octets of a sign file what it sets up, or, where it sets up nothing since it isn't taken, each fault that is found in it.
-///
-/// `font` asks for the pictures of that font's characters in place of the description. Keys that aren't known are told as notes,
-/// which are no faults. The error says that memory was refused.
-pub fn sign_words(
-    alloc: Global,
-    octets: &[u8],
-    setup: Option<&Setup>,
-    font: Option<u8>,
-) -> Result<String, AllocError> {
-    let mut found = Findings {
-        alloc,
-        text: String::new(alloc),
-        faults: 0,
-    };
-    let Ok(()) = tell(&mut found, octets, setup, font) else {
-        return Err(AllocError);
-    };
-    let Findings { text, .. } = found;
-    Ok(text)
+/// What is said of the octets of a sign file (own): what it sets up, or, where it isn't taken, each fault that is found in it. Keys that aren't
+/// known are told as notes, which are no faults. Written by `Display`, which takes memory.
+#[derive(Clone, Copy)]
+pub struct SignWords<'a> {
+    /// Where memory comes from.
+    pub alloc: Global,
+    /// The octets.
+    pub octets: &'a [u8],
+    /// What they set up, or `None` if they aren't taken.
+    pub setup: &'a Option<Setup>,
+    /// The font whose characters are shown in place of the description.
+    pub font: Option<u8>,
+}
+
+impl SignWords<'_> {
+    /// The words.
+    fn words(&self) -> Result<String, AllocError> {
+        let mut found = Findings {
+            alloc: self.alloc,
+            text: String::new(self.alloc),
+            faults: 0,
+        };
+        tell(&mut found, self.octets, self.setup, self.font)?;
+        let Findings { text, .. } = found;
+        Ok(text)
+    }
+}
+
+impl Display for SignWords<'_> {
+    fn fmt<W: Write>(&self, f: &mut Formatter<W>) -> fmt::Result {
+        match self.words() {
+            Ok(words) => f.write_str(&words),
+            Err(_) => Err(fmt::Error),
+        }
+    }
 }

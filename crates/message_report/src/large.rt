@@ -1,6 +1,6 @@
 //! The largest sign with the fonts and defaults of another, for how much room a message needs.
 
-use crate::room::{COLUMNS, ROWS};
+use message_words::{LARGE_COLUMNS, LARGE_ROWS};
 use multi_token::Source;
 use sign_font::{CellPart, FontInfo, FontPart, Sign, SignFault, SignParts};
 use std::alloc::{AllocError, Global};
@@ -43,12 +43,11 @@ fn blank_fonts(alloc: Global, sign: &Sign) -> Result<Vec<FontPart>, AllocError> 
     Ok(fonts)
 }
 
-/// A sign with the most pixels and pages, and with the fonts and defaults of another: by it is told how much room a message lacks. `None`
-/// stands where there is none. The error says that memory was refused.
-pub fn large_sign(alloc: Global, sign: &Sign) -> Result<Option<Sign>, AllocError> {
+/// A sign with the most pixels and pages, and with the fonts and defaults of another, or `None` if there is none.
+pub(crate) fn large_sign(alloc: Global, sign: &Sign) -> Result<Option<Sign>, AllocError> {
     let parts = SignParts {
-        width: COLUMNS,
-        height: ROWS,
+        width: LARGE_COLUMNS,
+        height: LARGE_ROWS,
         classic: sign.classic(),
         max_pages: 255,
         beacons: sign.beacons(),
