@@ -5,16 +5,16 @@ use Rattle.std.proofs.lemmas.List.Elements.{All-nil}
 use Rattle.std.specs.Io.KnownBytes.{Appends, Consumes, prepend_known}
 use Rattle.std.proofs.KnownBytes.{Appends-nil, Appends-trans, Keeps-refl}
 use Rattle.sign_tool.specs.declared.answer.LineAnswer.TheVariants as answer
-use Rattle.sign_tool.specs.declared.fault.ToolFault.{ToolFault}
-use Rattle.sign_tool.specs.declared.fault.ToolFault.TheVariants as faults
+use Rattle.tool_streams.specs.declared.fault.ToolFault.{ToolFault}
+use Rattle.tool_streams.specs.declared.fault.ToolFault.TheVariants as faults
 use Rattle.sign_tool.specs.declared.first.FirstLine.{FirstLine}
 use Rattle.sign_tool.specs.declared.first.FirstLine.TheVariants as line_is
-use Rattle.sign_tool.specs.declared.lines.NextLine.TheVariants as next
+use Rattle.tool_streams.specs.declared.lines.NextLine.TheVariants as next
 use Rattle.sign_tool.specs.Blocks.{AnswersFirst, EndsWith, ReadsOn, WritesReady}
-use Rattle.sign_tool.specs.Lines.{IsOneLine, input_limit, text_of}
+use Rattle.tool_streams.specs.Lines.{IsOneLine, input_limit, text_of}
 use Rattle.sign_tool.specs.Output.{Outcome, ended, outcome, output_of_whole}
 use Rattle.sign_tool.specs.Runs.{AnswersLine, IsFront, Runs}
-use Rattle.sign_tool.specs.Streams.{TakesLine}
+use Rattle.tool_streams.specs.Streams.{TakesLine}
 use Rattle.sign_tool.proofs.BlockLemmas.{Consumes-all_held}
 use Rattle.sign_tool.proofs.RunLemmas.{AllAnswers, Going, Progress, Progress-line, Progress-none, Progress-outcome, ends, ends_failing, ends_past, ends_too_long, ends_unfinished, ends_well, outcome-bad, outcome-long, told, whole}
 

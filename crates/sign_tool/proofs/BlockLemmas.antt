@@ -6,13 +6,13 @@ use Rattle.std.proofs.lemmas.List.Elements.{All-append, All-from_get_or}
 use Rattle.std.proofs.Math.Seq.{take-add, take-append-add}
 use Rattle.std.specs.Io.KnownBytes.{Consumes, IsAtEnd, Keeps, prepend_known}
 use Rattle.memchr.specs.Find.{NoneBefore, Nowhere, Passes, is_byte, places, places_from}
-use Rattle.sign_tool.specs.declared.fault.ToolFault.{ToolFault}
-use Rattle.sign_tool.specs.declared.fault.ToolFault.TheVariants as faults
-use Rattle.sign_tool.specs.declared.lines.NextLine.TheVariants as next
+use Rattle.tool_streams.specs.declared.fault.ToolFault.{ToolFault}
+use Rattle.tool_streams.specs.declared.fault.ToolFault.TheVariants as faults
+use Rattle.tool_streams.specs.declared.lines.NextLine.TheVariants as next
 use Rattle.sign_tool.specs.Blocks.{EndsWith, IsLineEnd}
-use Rattle.sign_tool.specs.Lines.{IsOneLine}
-use Rattle.sign_tool.specs.Streams.{TakesLine}
-use Rattle.sign_tool.proofs.SeenLemmas.{length-text_of}
+use Rattle.tool_streams.specs.Lines.{IsOneLine}
+use Rattle.tool_streams.specs.Streams.{TakesLine}
+use Rattle.tool_streams.proofs.SeenLemmas.{length-text_of}
 
 -- ---- what waits
 

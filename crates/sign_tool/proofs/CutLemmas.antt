@@ -3,7 +3,7 @@ use Rattle.std.proofs.Common.{◌≡◌, ◌≢◌, ℕ, zero, suc, ◌+◌, fal
 use Rattle.std.specs.Prelude.{nat_lt, ◌==◌}
 use Rattle.std.proofs.lemmas.List.Elements.{All-head, All-tail}
 use Rattle.std.proofs.lemmas.Grind.{flat_map-append}
-use Rattle.sign_tool.specs.Lines.{cut, IsOneLine, octets_of}
+use Rattle.tool_streams.specs.Lines.{cut, IsOneLine, octets_of}
 
 -- another octet is no line feed
 differs : (c : ℕ) → c ≢ 10 → (c == 10) ≡ false

@@ -7,16 +7,16 @@ use Rattle.std.proofs.lemmas.Bool.{cases_Bool, lt-ltb, le-ltb}
 use Rattle.std.proofs.lemmas.List.{length-append, take_all, take_at}
 use Rattle.std.proofs.lemmas.List.Elements.{All-nil}
 use Rattle.std.proofs.lemmas.Slice.Eq.{bytes_eq-Decides}
-use Rattle.sign_tool.specs.declared.fault.ToolFault.{ToolFault}
-use Rattle.sign_tool.specs.declared.fault.ToolFault.TheVariants as faults
-use Rattle.sign_tool.specs.declared.lines.NextLine.TheVariants as next
+use Rattle.tool_streams.specs.declared.fault.ToolFault.{ToolFault}
+use Rattle.tool_streams.specs.declared.fault.ToolFault.TheVariants as faults
+use Rattle.tool_streams.specs.declared.lines.NextLine.TheVariants as next
 use Rattle.sign_tool.specs.declared.setup.Setup.{Setup}
 use Rattle.sign_tool.specs.declared.tool.Mode.{Mode}
-use Rattle.sign_tool.specs.Lines.{Cut, cut, input_limit, IsOneLine, is_mark, octets_of, parted, text_of}
+use Rattle.tool_streams.specs.Lines.{Cut, cut, input_limit, IsOneLine, is_mark, octets_of, parted, text_of}
 use Rattle.sign_tool.specs.Output.{Outcome, answered_on, behind_file, ended, fault_at_end, fault_unmarked, filed, first_long, outcome, outcome_of_file, output_of_whole, output_of_whole_file, unless_long}
 use Rattle.sign_tool.specs.Runs.{Fails, IsFront, IsWritten, Leads, outcome_on, output_on}
 use Rattle.sign_tool.specs.FileSetup.{setup_of_octets}
-use Rattle.sign_tool.specs.Streams.{TakesLine}
+use Rattle.tool_streams.specs.Streams.{TakesLine}
 use Rattle.sign_tool.specs.Tool.{answers_of, outcome_of, output_so_far}
 use Rattle.sign_tool.proofs.CutLemmas.{AreLines, octets_of-more, cut-line, cut-lines, cut-unfinished, take-past, nat_lt-past}
 use Rattle.sign_tool.proofs.RunLemmas.{AllAnswers, if_some_always, told}

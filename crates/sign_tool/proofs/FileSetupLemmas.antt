@@ -13,8 +13,9 @@ use Rattle.sign_file.specs.declared.fault.FileFault.{FileFault}
 use Rattle.sign_file.specs.declared.fault.FileFault.TheVariants as file_faults
 use Rattle.sign_file.specs.Keys.{Gives}
 use Rattle.sign_file.specs.SignFile.{FileData, file_of, file_of_octets}
-use Rattle.sign_tool.specs.declared.fault.ToolFault.TheVariants as faults
-use Rattle.sign_tool.specs.FileSetup.{refusal, setup_of_octets, unless_refused, unmade, unread, with_store}
+use Rattle.tool_streams.specs.declared.fault.ToolFault.TheVariants as faults
+use Rattle.tool_streams.specs.Faults.{refusal, unmade, unread}
+use Rattle.sign_tool.specs.FileSetup.{setup_of_octets, unless_refused, with_store}
 
 -- a fault that isn't refused memory is the first one
 first_one : (file : FileData) (fault : SignFault) → (refusal fault ≡ faults.Memory) ⊎ (unless_refused file (Some fault) ≡ Err (refusal fault))

@@ -3,7 +3,7 @@ use Rattle.std.proofs.Common.{◌≡◌, [], ◌∷◌, Ok, Err, refl, codes}
 use Rattle.message_store.specs.Slot.{StoreData, empty_slot}
 use Rattle.sign_file.proofs.OnLiterals.{sign_file_on_literals}
 use Rattle.sign_file.proofs.SignFileRows.{a_file, its_sign}
-use Rattle.sign_tool.specs.declared.fault.ToolFault.TheVariants.{BadSign, SignRefused}
+use Rattle.tool_streams.specs.declared.fault.ToolFault.TheVariants.{BadSign, SignRefused}
 use Rattle.sign_tool.specs.FileSetup.{setup_of_octets}
 
 its_store : StoreData

@@ -7,12 +7,12 @@ use Rattle.std.specs.Io.KnownBytes.{Consumes, Appends, IsAtEnd}
 use Rattle.std.proofs.KnownBytes.{Consumes-trans, Consumes-whole, Appends-trans}
 use Rattle.sign_tool.specs.declared.answer.LineAnswer.{LineAnswer}
 use Rattle.sign_tool.specs.declared.answer.LineAnswer.TheVariants.{Text, BadLine}
-use Rattle.sign_tool.specs.declared.fault.ToolFault.{ToolFault}
-use Rattle.sign_tool.specs.declared.fault.ToolFault.TheVariants as faults
-use Rattle.sign_tool.specs.Lines.{Cut, cut, input_limit, IsOneLine, octets_of, text_of}
+use Rattle.tool_streams.specs.declared.fault.ToolFault.{ToolFault}
+use Rattle.tool_streams.specs.declared.fault.ToolFault.TheVariants as faults
+use Rattle.tool_streams.specs.Lines.{Cut, cut, input_limit, IsOneLine, octets_of, text_of}
 use Rattle.sign_tool.specs.Output.{Outcome, ended, after, answered, outcome, output_of_whole}
-use Rattle.sign_tool.specs.declared.lines.NextLine.TheVariants as next
-use Rattle.sign_tool.specs.Streams.{TakesLine, WritesWhole}
+use Rattle.tool_streams.specs.declared.lines.NextLine.TheVariants as next
+use Rattle.tool_streams.specs.Streams.{TakesLine, WritesWhole}
 use Rattle.sign_tool.specs.Runs.{AnswersLine, IsFront, IsWritten, Runs}
 use Rattle.sign_tool.proofs.CutLemmas.{AreLines, AreLines-more, octets_of-more, cut-line, cut-lines, cut-unfinished, take-past, nat_lt-past}
 

@@ -11,7 +11,7 @@ use Rattle.sign_script.specs.declared.ask.Ask.TheVariants as ask
 use Rattle.sign_script.specs.Asks.{ask_of}
 use Rattle.sign_tool.specs.declared.answer.LineAnswer.{LineAnswer}
 use Rattle.sign_tool.specs.declared.answer.LineAnswer.TheVariants.{Text, BadLine}
-use Rattle.sign_tool.specs.declared.fault.ToolFault.{ToolFault}
+use Rattle.tool_streams.specs.declared.fault.ToolFault.{ToolFault}
 use Rattle.sign_tool.specs.declared.setup.Setup.{Setup}
 use Rattle.sign_tool.specs.declared.tool.Mode.{Mode}
 use Rattle.sign_tool.specs.declared.tool.Mode.TheVariants.{Run}

@@ -3,14 +3,14 @@ use Rattle.std.proofs.Common.{◌≡◌, ◌⊎◌, inl, inr, ℕ, Bool, true, L
 use Rattle.std.specs.Io.KnownBytes.{Consumes}
 use Rattle.std.proofs.KnownBytes.{Consumes-nil, Consumes-trans, Appends-nil}
 use Rattle.std.proofs.lemmas.List.{length-append}
-use Rattle.sign_tool.specs.declared.fault.ToolFault.{ToolFault}
-use Rattle.sign_tool.specs.declared.fault.ToolFault.TheVariants as faults
-use Rattle.sign_tool.specs.declared.lines.LineStart.{LineStart}
+use Rattle.tool_streams.specs.declared.fault.ToolFault.{ToolFault}
+use Rattle.tool_streams.specs.declared.fault.ToolFault.TheVariants as faults
+use Rattle.tool_streams.specs.declared.lines.LineStart.{LineStart}
 use Rattle.sign_tool.specs.declared.setup.Setup.{Setup}
 use Rattle.sign_tool.specs.declared.tool.Mode.{Mode}
 use Rattle.sign_tool.specs.declared.tool.Mode.TheVariants.{Show}
 use Rattle.sign_tool.specs.Frame.{ShowerData, show_answer}
-use Rattle.sign_tool.specs.Lines.{input_limit}
+use Rattle.tool_streams.specs.Lines.{input_limit}
 use Rattle.sign_tool.specs.Output.{Outcome, outcome, output_of_whole}
 use Rattle.sign_tool.specs.Runs.{Fails, IsFront, IsWritten, Leads, Runs, outcome_on, output_on}
 use Rattle.sign_tool.specs.SampleSetup.{sample_setup}

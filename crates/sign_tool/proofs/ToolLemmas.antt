@@ -1,8 +1,8 @@
 -- What a run says of the tool.
 use Rattle.std.proofs.Common.{◌≡◌, ◌⊎◌, inl, inr, ℕ, List, Option, None, Some, IfSome, sym, ap, subst}
 use Rattle.std.specs.Io.KnownBytes.{Consumes, Appends}
-use Rattle.sign_tool.specs.declared.fault.ToolFault.{ToolFault}
-use Rattle.sign_tool.specs.declared.fault.ToolFault.TheVariants as faults
+use Rattle.tool_streams.specs.declared.fault.ToolFault.{ToolFault}
+use Rattle.tool_streams.specs.declared.fault.ToolFault.TheVariants as faults
 use Rattle.sign_tool.specs.Output.{Outcome}
 use Rattle.sign_tool.specs.Runs.{Runs, IsFront}
 use Rattle.sign_tool.specs.Tool.{IsOfInput}

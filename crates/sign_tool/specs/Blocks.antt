@@ -3,14 +3,14 @@ use Rattle.std.specs.Prelude.{◌≡◌, ℕ, ◌+◌, ◌<◌, ◌≤◌, Bool,
 use Rattle.std.specs.Io.KnownBytes.{Appends, Consumes, IsAtEnd, Keeps, prepend_known}
 use Rattle.std.specs.declared.alloc.AllocError.{AllocError}
 use Rattle.sign_tool.specs.declared.answer.LineAnswer.TheVariants as line_answer
-use Rattle.sign_tool.specs.declared.fault.ToolFault.{ToolFault}
-use Rattle.sign_tool.specs.declared.fault.ToolFault.TheVariants as faults
+use Rattle.tool_streams.specs.declared.fault.ToolFault.{ToolFault}
+use Rattle.tool_streams.specs.declared.fault.ToolFault.TheVariants as faults
 use Rattle.sign_tool.specs.declared.first.FirstLine.{FirstLine}
 use Rattle.sign_tool.specs.declared.first.FirstLine.TheVariants.{Answered, Open, TooLong, Bad}
-use Rattle.sign_tool.specs.declared.lines.NextLine.TheVariants as next
-use Rattle.sign_tool.specs.Lines.{IsOneLine, text_of}
+use Rattle.tool_streams.specs.declared.lines.NextLine.TheVariants as next
+use Rattle.tool_streams.specs.Lines.{IsOneLine, text_of}
 use Rattle.sign_tool.specs.Runs.{AnswersLine}
-use Rattle.sign_tool.specs.Streams.{TakesLine}
+use Rattle.tool_streams.specs.Streams.{TakesLine}
 
 -- A read adds the octets that it takes to those that wait, and takes none only at the end; a failed read takes none (own).
 abbrev pub ReadsMore : Option (List ℕ) → Option (List ℕ) → List ℕ → List ℕ → ℕ → Result ℕ ToolFault → Type 0

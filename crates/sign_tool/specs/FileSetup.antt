@@ -3,16 +3,10 @@ use Rattle.std.specs.Prelude.{ℕ, List, if◌then◌else◌, Option, None, Some
 use Rattle.sign_font.specs.Fault.{code_of}
 use Rattle.sign_font.specs.Limits.{first_fault}
 use Rattle.sign_font.specs.declared.fault.SignFault.{SignFault}
-use Rattle.sign_font.specs.declared.fault.SignFault.TheVariants as sign_faults
 use Rattle.message_store.specs.Limits.{can_be_made, made}
-use Rattle.message_store.specs.declared.fault.StoreMade.{StoreMade}
-use Rattle.message_store.specs.declared.fault.StoreMade.TheVariants as store_faults
-use Rattle.sign_file.specs.declared.fault.FileFault.{FileFault}
-use Rattle.sign_file.specs.declared.fault.FileFault.TheVariants as file_faults
 use Rattle.sign_file.specs.SignFile.{FileData, file_of_octets}
-use Rattle.sign_tool.specs.declared.fault.ToolFault.{ToolFault}
-use Rattle.sign_tool.specs.declared.fault.ToolFault.TheVariants as tool_faults
-use Rattle.sign_tool.specs.declared.fault.ToolFault.TheVariants.{BadSign, SignRefused}
+use Rattle.tool_streams.specs.declared.fault.ToolFault.{ToolFault}
+use Rattle.tool_streams.specs.declared.fault.ToolFault.TheVariants.{BadSign, SignRefused}
 use Rattle.sign_tool.specs.declared.setup.Setup.{Setup}
 
 -- A sign and its message store, in which no slot is used; limits that no store has are fault 5, as those of the sign's
@@ -35,18 +29,3 @@ judged (Some file) = unless_refused file (first_fault file.sign)
 -- What the sign file that these octets are sets up, or why it sets up nothing (own).
 unfoldable pub setup_of_octets : List ℕ → Result Setup ToolFault
 setup_of_octets octets = judged (file_of_octets octets)
-
--- The fault of a run whose sign file isn't read (own).
-abbrev pub unread : FileFault → ToolFault
-unread file_faults.Bad = BadSign
-unread file_faults.Memory = tool_faults.Memory
-
--- The fault of a run whose sign is refused, or has no memory (own).
-abbrev pub refusal : SignFault → ToolFault
-refusal sign_faults.Memory = tool_faults.Memory
-refusal fault = SignRefused (code_of fault)
-
--- The fault of a run whose store isn't made (own).
-abbrev pub unmade : StoreMade → ToolFault
-unmade store_faults.BadLimit = SignRefused 5
-unmade store_faults.Memory = tool_faults.Memory

@@ -1,16 +1,10 @@
 pub mod Blocks
 pub mod FileSetup
 pub mod Frame
-pub mod Lines
 pub mod Output
 pub mod Replies
 pub mod Reply
 pub mod Runs
 pub mod SampleSetup
 pub mod Script
-pub mod Streams
 pub mod Tool
-pub mod Fonts
-pub mod Signs
-pub mod Explain
-pub mod Pictures

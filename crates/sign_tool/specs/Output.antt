@@ -1,8 +1,8 @@
 -- What is written for an input, and how it ends.
 use Rattle.std.specs.Prelude.{ℕ, ◌+◌, Bool, true, false, List, [], ◌∷◌, ◌++◌, length, take, map, nat_lt, if◌then◌else◌, Option, None, Some, Result, Ok, Err}
-use Rattle.sign_tool.specs.declared.fault.ToolFault.{ToolFault}
-use Rattle.sign_tool.specs.declared.fault.ToolFault.TheVariants.{LineTooLong, BadLine, InputTooLong, BadSign}
-use Rattle.sign_tool.specs.Lines.{cut, octets_of, parted, text_of}
+use Rattle.tool_streams.specs.declared.fault.ToolFault.{ToolFault}
+use Rattle.tool_streams.specs.declared.fault.ToolFault.TheVariants.{LineTooLong, BadLine, InputTooLong, BadSign}
+use Rattle.tool_streams.specs.Lines.{cut, octets_of, parted, text_of}
 use Rattle.sign_tool.specs.FileSetup.{setup_of_octets}
 use Rattle.sign_tool.specs.declared.setup.Setup.{Setup}
 

@@ -4,14 +4,14 @@ use Rattle.std.specs.Io.KnownBytes.{Consumes, Appends}
 use Rattle.std.specs.declared.alloc.AllocError.{AllocError}
 use Rattle.sign_tool.specs.declared.answer.LineAnswer.{LineAnswer}
 use Rattle.sign_tool.specs.declared.answer.LineAnswer.TheVariants.{Text, BadLine}
-use Rattle.sign_tool.specs.declared.fault.ToolFault.{ToolFault}
-use Rattle.sign_tool.specs.declared.fault.ToolFault.TheVariants.{Read, Write, Memory}
-use Rattle.sign_tool.specs.declared.lines.LineStart.{LineStart}
+use Rattle.tool_streams.specs.declared.fault.ToolFault.{ToolFault}
+use Rattle.tool_streams.specs.declared.fault.ToolFault.TheVariants.{Read, Write, Memory}
+use Rattle.tool_streams.specs.declared.lines.LineStart.{LineStart}
 use Rattle.sign_tool.specs.declared.start.FilePart.{FilePart}
 use Rattle.sign_tool.specs.declared.setup.Setup.{Setup}
 use Rattle.sign_tool.specs.declared.start.Start.{Start}
 use Rattle.sign_tool.specs.declared.tool.Mode.{Mode}
-use Rattle.sign_tool.specs.Lines.{input_limit}
+use Rattle.tool_streams.specs.Lines.{input_limit}
 use Rattle.sign_tool.specs.Output.{Outcome, ended, outcome, output_of_whole}
 use Rattle.sign_tool.specs.FileSetup.{setup_of_octets}
 use Rattle.sign_tool.specs.Tool.{answers_of, outcome_of, output_so_far}

@@ -1,12 +1,12 @@
 -- What the tool does for an input.
 use Rattle.std.specs.Prelude.{ℕ, Bool, true, false, List, Option, Some, map}
 use Rattle.sign_control.specs.State.{started}
-use Rattle.sign_tool.specs.declared.fault.ToolFault.{ToolFault}
-use Rattle.sign_tool.specs.declared.fault.ToolFault.TheVariants.{Read, Write, Memory}
+use Rattle.tool_streams.specs.declared.fault.ToolFault.{ToolFault}
+use Rattle.tool_streams.specs.declared.fault.ToolFault.TheVariants.{Read, Write, Memory}
 use Rattle.sign_tool.specs.declared.tool.Mode.{Mode}
 use Rattle.sign_tool.specs.declared.tool.Mode.TheVariants.{Check, Show, Run}
 use Rattle.sign_tool.specs.Frame.{show_answer}
-use Rattle.sign_tool.specs.Lines.{input_limit}
+use Rattle.tool_streams.specs.Lines.{input_limit}
 use Rattle.sign_tool.specs.Output.{Outcome, outcome, outcome_of_file, output_of_whole, output_of_whole_file}
 use Rattle.sign_tool.specs.Reply.{check_answer}
 use Rattle.sign_tool.specs.Script.{replies}

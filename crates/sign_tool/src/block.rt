@@ -2,9 +2,9 @@
 ghost use Rattle.std.specs.Prelude.{◌≡◌, ◌^◌, ◌<◌, ◌≤◌, [], length, take, drop};
 ghost use Rattle.sign_tool.specs.Blocks.{ReadsMore};
 
-use crate::fault::ToolFault;
 use std::io::Read;
 use std::marker::Model;
+use tool_streams::ToolFault;
 
 /// How many octets a block has room for (own). A line that fills it is too long.
 pub(crate) const BLOCK: usize = 16_384;

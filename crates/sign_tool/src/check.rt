@@ -3,11 +3,12 @@ ghost use Rattle.std.specs.Prelude.{◌≡◌, ◌++◌, OnOk, Some, map};
 ghost use Rattle.sign_tool.specs.Reply.{check_answer};
 
 use crate::answer::{Answer, LineAnswer};
-use crate::reply::{MAX_STRING, push_pages, push_refused, push_too_long};
+use crate::reply::{push_pages, push_refused, push_too_long};
 use multi_layout::check;
 use multi_token::Source;
 use sign_font::Sign;
 use std::alloc::AllocError;
+use tool_streams::MAX_STRING;
 
 /// Answers each string by the verdict on it, and an accepted one by the number of its pages.
 #[derive(Drop)]

@@ -1,12 +1,12 @@
 //! The first line of a block.
 ghost use Rattle.std.specs.Prelude.{◌≡◌, ◌≤◌, length, take};
 ghost use Rattle.sign_tool.specs.Blocks.{AnswersFirst, IsLineEnd};
-ghost use Rattle.sign_tool.specs.Lines.{IsOneLine};
+ghost use Rattle.tool_streams.specs.Lines.{IsOneLine};
 
 use crate::answer::{Answer, LineAnswer};
-use crate::lines::{MAX_LINE, text_of};
 use memchr::memchr_iter;
 use std::alloc::AllocError;
+use tool_streams::{MAX_LINE, text_of};
 
 /// What was done with the first line of a block (own).
 #[derive(Clone, Copy)]

@@ -2,13 +2,12 @@
 ghost use Rattle.std.specs.Prelude.{◌≡◌, ◌+◌, ◌<◌, ◌≤◌, length, take};
 ghost use Rattle.std.specs.Io.KnownBytes.{prepend_known};
 ghost use Rattle.sign_tool.specs.Blocks.{EndsWith, ReadsOn};
-ghost use Rattle.sign_tool.specs.Lines.{IsOneLine};
+ghost use Rattle.tool_streams.specs.Lines.{IsOneLine};
 
 use crate::block::Block;
-use crate::fault::ToolFault;
-use crate::lines::{LineStart, MAX_KEPT, NextLine, next_line};
 use std::alloc::Global;
 use std::io::Read;
+use tool_streams::{LineStart, MAX_KEPT, NextLine, ToolFault, next_line};
 
 /// Reads up to the end of a line that has too many octets already, and says how the run ends there.
 fn end_of_long<R: Read>(alloc: Global, reader: &mut R, held: &[u8], place: LineStart) -> ToolFault

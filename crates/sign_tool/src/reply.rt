@@ -5,9 +5,6 @@ ghost use Rattle.sign_tool.specs.Reply.{pages_text, refused_text, too_long_text}
 use octet_text::{push_number, push_octets};
 use std::alloc::AllocError;
 
-/// The most octets that a string may have to be judged (own).
-pub(crate) const MAX_STRING: usize = 4_096;
-
 /// Appends how many pages an accepted string has.
 pub(crate) fn push_pages(text: &mut Vec<u8>, pages: u8) -> Result<(), AllocError>
     ensures { OnOk result (text.new.items ≡ text.old.items ++ pages_text pages) }

@@ -9,9 +9,11 @@ use std::alloc::{AllocError, Global};
 
 /// A sign and its message store, in which no slot is used when a run begins (own).
 #[derive(Drop)]
-pub(crate) struct Setup {
-    pub(crate) sign: Sign,
-    pub(crate) store: Store,
+pub struct Setup {
+    /// The sign.
+    pub sign: Sign,
+    /// Its message store.
+    pub store: Store,
 }
 
 /// The limits of the sample sign's store.

@@ -10,7 +10,7 @@ ghost use Rattle.sign_tool.specs.Frame.{frame_text, head_text, rows_text, show_a
 
 use crate::answer::{Answer, LineAnswer};
 use crate::pixels::write_changed;
-use crate::reply::{MAX_STRING, push_refused, push_too_long};
+use crate::reply::{push_refused, push_too_long};
 use multi_layout::{Checked, Shown, check};
 use multi_token::Source;
 use octet_text::{push_number, push_octet, push_octets};
@@ -18,6 +18,7 @@ use page_plane::Plane;
 use sign_font::Sign;
 use std::alloc::{AllocError, Global};
 use std::marker::Model;
+use tool_streams::MAX_STRING;
 
 /// Answers each line by its verdict, and an accepted one by what the sign shows of it.
 ///

@@ -4,8 +4,6 @@ ghost use Rattle.std.specs.Prelude.{◌≡◌, ◌++◌, ◌⊎◌, ◌∷◌, [
 ghost use Rattle.sign_tool.specs.Runs.{Starts, TakesFile};
 ghost use Rattle.sign_tool.specs.FileSetup.{setup_of_octets};
 
-use crate::fault::ToolFault;
-use crate::lines::{FIRST_LINE, LineStart, NextLine, is_mark, next_line};
 use crate::setup::{Setup, make_sample};
 use message_store::Store;
 use octet_text::{push_octet, push_octets};
@@ -13,13 +11,15 @@ use sign_file::{SignFile, read_sign_file};
 use sign_font::Sign;
 use std::alloc::{AllocError, Global};
 use std::io::Read;
+use tool_streams::{FIRST_LINE, LineStart, NextLine, ToolFault, is_mark, next_line};
 
 /// A run that has its sign and its message store (own).
 #[derive(Drop)]
-pub(crate) struct Start {
-    pub(crate) setup: Setup,
+pub struct Start {
+    /// The sign and its message store.
+    pub setup: Setup,
     /// Where the first line begins that is answered.
-    pub(crate) place: LineStart,
+    pub place: LineStart,
 }
 
 /// A sign file as it stands in an input (own).
@@ -82,11 +82,7 @@ fn setup_of_octets(alloc: Global, octets: &[u8]) -> Result<Setup, ToolFault>
 
 /// Reads what stands before the lines that are answered: nothing with `sample`, and otherwise a sign file and the mark.
 /// The errors are `LineTooLong`, `InputTooLong`, `BadSign`, `SignRefused`, `Read` and `Memory`.
-pub(crate) fn begin<R: Read>(
-    alloc: Global,
-    sample: bool,
-    reader: &mut R,
-) -> Result<Start, ToolFault>
+pub fn begin<R: Read>(alloc: Global, sample: bool, reader: &mut R) -> Result<Start, ToolFault>
     ensures starts { Starts sample (R.remaining reader.old) (R.remaining reader.new) result }
 {
     if sample {

@@ -1,7 +1,7 @@
 //! A run of the tool: an answer for each line.
 ghost use Rattle.std.specs.Prelude.{◌≡◌, ◌+◌, ◌≤◌, ◌⊎◌, List, ℕ, Some, IfSome, length};
 ghost use Rattle.std.specs.Io.KnownBytes.{Appends, Consumes};
-ghost use Rattle.sign_tool.specs.Lines.{input_limit};
+ghost use Rattle.tool_streams.specs.Lines.{input_limit};
 ghost use Rattle.sign_tool.specs.Output.{outcome, output_of_whole};
 ghost use Rattle.sign_tool.specs.Runs.{IsFront, Runs, fault_of};
 ghost use Rattle.sign_tool.specs.Tool.{IsOfInput, answers_of, outcome_of, output_so_far};
@@ -10,9 +10,7 @@ ghost use Rattle.sign_tool.specs.declared.tool.Mode.TheVariants as mode;
 use crate::answer::Answer;
 use crate::block::Block;
 use crate::check::Checker;
-use crate::fault::ToolFault;
 use crate::first::{FirstLine, answer_first};
-use crate::lines::LineStart;
 use crate::output::write_ready;
 use crate::refill::read_on;
 use crate::script::Operator;
@@ -21,6 +19,7 @@ use crate::show::Shower;
 use crate::start::{Start, begin};
 use std::alloc::Global;
 use std::io::{Read, Write};
+use tool_streams::{LineStart, ToolFault};
 
 /// What is done with each line (own).
 #[derive(Clone, Copy, Debug, PartialEq, Eq)]

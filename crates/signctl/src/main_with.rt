@@ -2,10 +2,12 @@
 
 use crate::words::{Request, request_of};
 use clap::Error;
-use sign_tool::{ToolFault, run_explain, run_font, run_picture, run_sign, run_tool};
+use sign_aids::{run_explain, run_font, run_picture, run_sign};
+use sign_tool::run_tool;
 use std::alloc::Global;
 use std::fmt::Display;
 use std::io::{Read, Write};
+use tool_streams::ToolFault;
 
 /// The exit status of a run with no fault, and of help (own).
 const DONE: u8 = 0;

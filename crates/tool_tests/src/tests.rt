@@ -4,11 +4,12 @@ mod picture;
 mod sign;
 mod streams;
 
-use sign_tool::{Mode, ToolFault, run_tool};
+use sign_tool::{Mode, run_tool};
 use std::io;
 use std::io::{ErrorKind, Read, Write};
 use std::process::Abort;
 use std::test::Fail;
+use tool_streams::ToolFault;
 
 /// Asserts that something is so, and else tells what. It is proved once, where `assert!` is proved at each of its places.
 fn so(rt: &impl Abort, is_so: bool, what: &str) {

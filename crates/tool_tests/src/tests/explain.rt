@@ -2,7 +2,8 @@
 
 use super::{FailingReader, NarrowWriter};
 use crate::tests::so;
-use sign_tool::{ToolFault, run_explain};
+use sign_aids::run_explain;
+use tool_streams::ToolFault;
 
 const MESSAGES: &str = "AI\nAB\n";
 

@@ -2,7 +2,8 @@
 
 use super::{FailingReader, NarrowWriter};
 use font_bdf::FontSetting;
-use sign_tool::{FontFault, ToolFault, run_font};
+use sign_aids::{FontFault, run_font};
+use tool_streams::ToolFault;
 
 /// A font of three rows with an `I`.
 const FONT: &str = "STARTFONT 2.1

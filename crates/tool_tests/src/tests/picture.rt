@@ -2,9 +2,10 @@
 
 use super::sign::SOUND;
 use super::{FailingReader, NarrowWriter};
-use sign_tool::{PictureFault, ToolFault, run_picture};
+use sign_aids::{PictureFault, run_picture};
 use std::alloc::{AllocError, Global};
 use std::test::Fail;
+use tool_streams::ToolFault;
 
 /// Red, green and blue of what is between the dots, and of a dot that is lit.
 const GROUND: &[u8] = &[12, 12, 12];

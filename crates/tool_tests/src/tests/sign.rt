@@ -1,7 +1,8 @@
 //! Sign files, and what is told of them.
 
 use super::{FailingReader, NarrowWriter};
-use sign_tool::{ToolFault, run_sign};
+use sign_aids::run_sign;
+use tool_streams::ToolFault;
 
 const FAULTY: &str = "width = 12\nheight = 129\n";
 

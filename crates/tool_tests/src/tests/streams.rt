@@ -1,12 +1,13 @@
 //! Runs of each mode, by the sample sign and by its file, whose streams fail and whose memory is refused.
 
 use super::{FailingReader, NarrowWriter, SAMPLE};
-use sign_tool::{Mode, ToolFault, run_script, run_tool};
+use sign_tool::{Mode, run_script, run_tool};
 use std::alloc::{AllocError, Global};
 use std::io;
 use std::io::{ErrorKind, Read, Write};
 use std::process::Abort;
 use std::test::Fail;
+use tool_streams::ToolFault;
 
 /// A run without a fault.
 #[derive(Clone, Copy)]

@@ -1,7 +1,7 @@
 use Rattle.std.proofs.Common.{arith, subst, sym, ◌∙◌}
 use Rattle.std.proofs.lemmas.List.{take_all}
 use Rattle.std.proofs.lemmas.Result.{err_from_is_err_and}
-use Rattle.sign_tool.specs.Lines.{IsOneLine}
+use Rattle.tool_streams.specs.Lines.{IsOneLine}
 use Rattle.sign_tool.proofs.BlockLemmas
 use Rattle.sign_tool.proofs.refill.read_on.Goals as goal
 

@@ -1,6 +1,6 @@
 use Rattle.std.proofs.Common.{subst, ◌⊎◌, Err, ◌≡◌}
 use Rattle.std.proofs.lemmas.Result.{err_from_is_err_and}
-use Rattle.sign_tool.specs.declared.fault.ToolFault.TheVariants as faults
+use Rattle.tool_streams.specs.declared.fault.ToolFault.TheVariants as faults
 use Rattle.sign_tool.specs.FileSetup.{setup_of_octets}
 use Rattle.sign_tool.proofs.StartLemmas
 use Rattle.sign_tool.proofs.start.begin.Goals as goal

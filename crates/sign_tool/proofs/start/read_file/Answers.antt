@@ -1,6 +1,6 @@
 use Rattle.std.proofs.Common.{[], ◌∷◌, ◌++◌, ap, ◌∙◌, sym, inl, inr, refl}
 use Rattle.std.proofs.lemmas.Result.{err_from_is_err_and}
-use Rattle.sign_tool.specs.Lines.{is_mark}
+use Rattle.tool_streams.specs.Lines.{is_mark}
 use Rattle.sign_tool.proofs.FileLemmas
 use Rattle.sign_tool.proofs.start.read_file.Goals as goal
 

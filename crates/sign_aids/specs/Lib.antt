@@ -1,0 +1,4 @@
+pub mod Explain
+pub mod Fonts
+pub mod Pictures
+pub mod Signs

@@ -1,8 +1,0 @@
-use Rattle.std.proofs.Common.{◌≡◌, ℕ, List}
-use Rattle.sign_tool.proofs.SeenLemmas.{Seen}
-use Rattle.sign_tool.proofs.lines.next_line.Given as goal
-
-abbrev pub invariant-loop-taken : goal.invariant-loop-taken
-invariant-loop-taken g l =
-    ((seen : List ℕ) × Seen 8301 (g.R.Read.remaining l.fn.reader) (g.R.Read.remaining l.reader) l.line.items l.is_cut l.taken seen)
-    × (l.left ≡ l.most)

@@ -1,0 +1,17 @@
+//! How the tool reads its input and writes its output, over streams that are handed in.
+//!
+//! [`next_line`] reads a line, [`read_whole`] all of an input, and [`write_whole`] writes octets in as many writes as it takes. Each fault
+//! that they answer is a [`ToolFault`].
+#![tactic(auto)]
+
+mod fault;
+mod lines;
+mod output;
+mod whole;
+
+pub use fault::ToolFault;
+pub use lines::{
+    FIRST_LINE, LineStart, MAX_KEPT, MAX_LINE, MAX_STRING, NextLine, is_mark, next_line, text_of,
+};
+pub use output::write_whole;
+pub use whole::read_whole;
