@@ -18,11 +18,11 @@ fill_at Words at = Some at.rectangle.width
 abbrev pub laid_group : Option ℕ → ℕ → List Spot → List Spot
 laid_group fill just area = filled fill (in_group just area)
 
--- an area fits a height: its top, middle and bottom groups stand apart
+-- an area fits a height: its top, middle and bottom groups stand apart (NTCIP 1203 v03, MULTI tag 'jp'; how parts fit is own)
 abbrev pub laid_fits : Option ℕ → ℕ → List Spot → Bool
 laid_fits fill height area = fit (height_of (lines_of (laid_group fill 2 area))) (height_of (lines_of (laid_group fill 3 area))) (height_of (lines_of (laid_group fill 4 area))) height
 
--- textTooBig: the line of a character doesn't fit, or the area no longer does
+-- textTooBig: the line of a character doesn't fit, or the area no longer does (NTCIP 1203 v03, dmsMultiSyntaxError)
 abbrev pub too_big : LineFill → List Spot → Spot → Bool
 too_big setting before spot =
     let area = area_of spot before ++ spot ∷ [] in

@@ -79,6 +79,6 @@ IsReadOf body result = (tag : Tag) → Spells body tag → result ≡ Ok tag
 
 -- LAWS
 
--- a body spells at most one tag
+-- a body spells at most one tag (own)
 abbrev pub OneTagAtMost : Type 0
 OneTagAtMost = (body : List ℕ) (a b : Tag) → Spells body a → Spells body b → a ≡ b

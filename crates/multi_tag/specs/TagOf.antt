@@ -122,7 +122,7 @@ tag_of body = tag_behind (name_at_front (str_to_ascii_lowercase body)) (str_to_a
 
 -- LAWS
 
--- the function gives the tags that bodies spell, and says unsupported just where no listed name begins the body
+-- the function gives the tags that bodies spell, and says unsupported just where no listed name begins the body (own)
 abbrev pub TagOfIsTheTable : Type 0
 TagOfIsTheTable =
     (body : List ℕ) → ((tag : Tag) → Spells body tag ↔ (tag_of body ≡ Ok tag)) × ((tag_of body ≡ Err Unsupported) ↔ (¬ (HasName body)))

@@ -7,20 +7,20 @@ use Rattle.multi_token.specs.declared.token.Kind.{Kind}
 use Rattle.multi_token.specs.declared.token.Kind.TheVariants as kinds
 use Rattle.multi_token.specs.Spelling.{Item, Char, Tag, spelling, BeginsWith}
 
--- the item of this kind; only a tag has a body
+-- the item of this kind; only a tag has a body (own)
 abbrev pub item_of_kind : Kind → List ℕ → Item
 item_of_kind (kinds.Char number) body = Char number
 item_of_kind kinds.Tag body = Tag body
 
--- the octets between a token's first and its last
+-- the octets between a token's first and its last (own)
 abbrev pub body_of : List ℕ → Token → List ℕ
 body_of octets token = slice_range octets (token.at + 1) (token.at + token.len - 1)
 
--- the item that a token of these octets stands for
+-- the item that a token of these octets stands for (own)
 abbrev pub item_of : List ℕ → Token → Item
 item_of octets token = item_of_kind token.kind (body_of octets token)
 
--- the token is the item whose spelling stands at the token's place in the octets, with the spelling's length
+-- the token is the item whose spelling stands at the token's place in the octets, with the spelling's length (own)
 pub record IsTokenOf (octets : List ℕ) (token : Token) : Type 0 where
   pub begins : BeginsWith (drop token.at octets) (item_of octets token) (drop (token.at + token.len) octets)
   pub len : token.len ≡ length (spelling (item_of octets token))
@@ -28,23 +28,23 @@ pub record IsTokenOf (octets : List ℕ) (token : Token) : Type 0 where
   -- a slice is no longer than this
   pub room : length octets < 2 ^ 63
 
--- the token is a tag of these octets
+-- the token is a tag of these octets (own)
 pub record IsTagOf (octets : List ℕ) (token : Token) : Type 0 where
   pub is : IsTokenOf octets token
   pub kind : token.kind ≡ kinds.Tag
 
--- the octets that spell what begins with a bracket
+-- the octets that spell what begins with a bracket (own)
 abbrev pub octets_of : Bracketed → ℕ
 octets_of bracketed.Doubled = 2
 octets_of (bracketed.Tag body) = length body.now + 2
 
--- what begins with a bracket at an offset of these octets
+-- what begins with a bracket at an offset of these octets (own)
 abbrev pub IsBracketed : List ℕ → ℕ → ℕ → Bracketed → Type 0
 IsBracketed octets at bracket bracketed.Doubled = IsTokenOf octets (record { at = at; len = 2; kind = kinds.Char bracket })
 IsBracketed octets at bracket (bracketed.Tag body) = IsTokenOf octets (record { at = at; len = length body.now + 2; kind = kinds.Tag })
     × (body.now ≡ slice_range octets (at + 1) (at + 1 + length body.now))
 
--- the item that begins with a bracket
+-- the item that begins with a bracket (own)
 abbrev pub item_spelled : ℕ → Bracketed → Item
 item_spelled bracket bracketed.Doubled = Char bracket
 item_spelled bracket (bracketed.Tag body) = Tag body.now

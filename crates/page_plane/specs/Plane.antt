@@ -27,7 +27,7 @@ plane_of width height steps lit = record {
   sized = length-map-range_with_len (λ place. lit (place % width) (place / width)) 0 (width * height);
 }
 
--- a law: a plane is its size, its steps and its lit pixels
+-- a law: a plane is its size, its steps and its lit pixels (own)
 abbrev pub APlaneIsItsPixels : Type 0
 APlaneIsItsPixels = (a b : BitPlane) → a.width ≡ b.width → a.height ≡ b.height → a.steps ≡ b.steps
     → ((x y : ℕ) → x < a.width → y < a.height → is_lit a x y ≡ is_lit b x y) → a ≡ b

@@ -4,7 +4,8 @@
 //! [`Sign::new`] refuses them with the first [`SignFault`]. An accepted [`Sign`] is exactly what was written.
 //!
 //! Only [`Sign::font`], [`Sign::cell`], [`Sign::cell_width`], [`Sign::text_width`] and [`Sign::text_front`] look up its fonts
-//! and their cells, and each look counts as one step. A cell whose number is above 255 is found by at most 8 looks.
+//! and their cells. Each look counts as one step: one for a font, and for a cell of a number up to 255, whether they are there or
+//! not, and at most 8 for a cell of a number above 255, which takes none in a font that isn't there or has no cell.
 #![tactic(auto)]
 
 mod bits;

@@ -23,7 +23,8 @@ use std::marker::Model;
 /// A sign within its limits, with its fonts (own).
 ///
 /// Only `font`, `cell`, `cell_width`, `text_width` and `text_front` look up its fonts and their cells, and each look counts as
-/// one step. `cell` and `cell_width` take up to 8 looks for a number above 255. All other calls take no step.
+/// one step. `cell` and `cell_width` take up to 8 looks for a number above 255, and none in a font that isn't there or has no
+/// cell. All other calls take no step.
 #[derive(Drop)]
 pub struct Sign {
     width: u16,
