@@ -44,7 +44,7 @@ none_of_both false true e = cc
 none_of_both false false e = (refl, refl)
 
 -- the cell that was found has the number that was asked for
-found_cell : (cells : List CellData) (n : ℕ) (cell : CellData) → find (λ c. c.number == n) cells ≡ Some cell → cell.number ≡ n
+pub found_cell : (cells : List CellData) (n : ℕ) (cell : CellData) → find (λ c. c.number == n) cells ≡ Some cell → cell.number ≡ n
 found_cell [] n cell e = cc
 found_cell (c ∷ cells) n cell e = elim (cases_Bool (c.number == n)) [
   | inl here ↦

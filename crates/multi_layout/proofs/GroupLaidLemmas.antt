@@ -79,7 +79,8 @@ module _ (setting : LineFill) (all : List Spot) where
   laid_as some more x is = as_if some more x (is_glyph x) refl is
 
   module _ (a j : ℕ) (o : Option ℕ) (placing : All IsPlacing (members a j all)) (same : All (λ (x : Spot). x.at.area ≡ a → fill_at setting x.at ≡ o) all) where
-    there : (some more : List Spot) (x : Spot) (b : Bool) → is_glyph x ≡ b → all ≡ some ++ x ∷ more → is_member a j x ≡ true
+    -- a spot of the group is laid as the item in its place in the filled group
+    pub there : (some more : List Spot) (x : Spot) (b : Bool) → is_glyph x ≡ b → all ≡ some ++ x ∷ more → is_member a j x ≡ true
         → cond b (slice_index_or (filled (fill_at setting x.at) (group_of x all)) (length (group_of x some)) x) x ≡ slice_index_or (filled o (members a j all)) (length (members a j some)) x
     there some more x true e is m =
         let (kind, area, just) = member_parts (is_glyph x || is_break x) (x.at.area == a) (x.at.page_just == j) m in

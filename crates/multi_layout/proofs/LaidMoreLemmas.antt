@@ -36,8 +36,17 @@ module _ (setting : LineFill) (all : List Spot) (s : Spot) where
           ∙ sym (each_after_push (laid_spot setting all) some x)
 
   -- a group to which it doesn't belong stays
-  other_group : (x : Spot) → is_member x.at.area x.at.page_just s ≡ false → group_of x (all ++ s ∷ []) ≡ group_of x all
+  pub other_group : (x : Spot) → is_member x.at.area x.at.page_just s ≡ false → group_of x (all ++ s ∷ []) ≡ group_of x all
   other_group x e = members_push x.at.area x.at.page_just all s false e ∙ append-nil (group_of x all)
+
+  -- one of another group is in a group to which the new one doesn't belong
+  pub apart : (x : Spot) → is_glyph x ≡ true → is_member s.at.area s.at.page_just x ≡ false → (b : Bool) → is_member x.at.area x.at.page_just s ≡ b → is_member x.at.area x.at.page_just s ≡ false
+  apart x glyph other false e = e
+  apart x glyph other true e =
+      let (kind, area, just) = member_parts (is_glyph s || is_break s) (s.at.area == x.at.area) (s.at.page_just == x.at.page_just) e in
+      let at_area : s.at.area ≡ x.at.area = eqb-true s.at.area x.at.area area in
+      let at_just : s.at.page_just ≡ x.at.page_just = eqb-true s.at.page_just x.at.page_just just in
+      absurd (false≢true (sym other ∙ ap (λ a. is_member a s.at.page_just x) at_area ∙ ap (λ j. is_member x.at.area j x) at_just ∙ own_member setting all x glyph))
 
   -- a spot of no group leaves all others
   pub unplaced_leaves : is_glyph s ≡ false → is_break s ≡ false → LeavesAll
@@ -75,15 +84,6 @@ module _ (setting : LineFill) (all : List Spot) (s : Spot) where
         let here : slice_index_or (filled (fill_at setting s.at) (own (all ++ s ∷ []))) (length (own some)) x ≡ slice_index_or (filled (fill_at setting s.at) (own all)) (length (own some)) x =
         ap (λ l. slice_index_or l (length (own some)) x) grows ∙ get_or_append_left (filled (fill_at setting s.at) (own all)) (s' ∷ []) x (length (own some)) within in
         to_own some x (all ++ s ∷ []) fill at_area at_just ∙ here ∙ sym (to_own some x all fill at_area at_just)
-
-    -- one of another
-    apart : (x : Spot) → is_glyph x ≡ true → is_member s.at.area s.at.page_just x ≡ false → (b : Bool) → is_member x.at.area x.at.page_just s ≡ b → is_member x.at.area x.at.page_just s ≡ false
-    apart x glyph other false e = e
-    apart x glyph other true e =
-        let (kind, area, just) = member_parts (is_glyph s || is_break s) (s.at.area == x.at.area) (s.at.page_just == x.at.page_just) e in
-        let at_area : s.at.area ≡ x.at.area = eqb-true s.at.area x.at.area area in
-        let at_just : s.at.page_just ≡ x.at.page_just = eqb-true s.at.page_just x.at.page_just just in
-        absurd (false≢true (sym other ∙ ap (λ a. is_member a s.at.page_just x) at_area ∙ ap (λ j. is_member x.at.area j x) at_just ∙ own_member setting all x glyph))
 
     left_if : (some more : List Spot) (x : Spot) (b c : Bool) → is_glyph x ≡ b → is_member s.at.area s.at.page_just x ≡ c → all ≡ some ++ x ∷ more
         → cond b (slice_index_or (filled (fill_at setting x.at) (group_of x (all ++ s ∷ []))) (length (group_of x some)) x) x ≡ cond b (slice_index_or (filled (fill_at setting x.at) (group_of x all)) (length (group_of x some)) x) x

@@ -59,8 +59,10 @@ pub mod LayoutLemmas
 pub mod LineSumLemmas
 pub mod LocateLemmas
 pub mod MeaningLemmas
+pub mod MovedLemmas
 pub mod NarrowLemmas
 pub mod OffenceLemmas
+pub mod OpenFitLemmas
 pub mod OrderlyLemmas
 pub mod PageDrawLemmas
 pub mod PageLoopLemmas

@@ -25,7 +25,7 @@ use Rattle.multi_layout.specs.Times.{Times, cycle, ended_times, page_times, time
 use Rattle.multi_layout.specs.Verdict.{Accepted, IsCycle, IsVerdict, Refused, broken, of_first, pages_of, verdict, verdict_on}
 use Rattle.multi_layout.proofs.JudgedLemmas.{ready}
 use Rattle.multi_layout.proofs.WalkLemmas.{length-meanings}
-use Rattle.multi_layout.proofs.VerdictLemmas.{offences_push, one_verdict, refusal_stands}
+use Rattle.multi_layout.proofs.VerdictLemmas.{item_refused, offences_push, one_verdict}
 
 -- where no octet stands is the end
 pub at_end : (octets : List ℕ) (at : ℕ) → at ≤ length octets → slice_get octets at ≡ None → length octets ≡ at
@@ -72,7 +72,7 @@ module _ (sign : SignData) (octets : List ℕ) (at : ℕ) (IsKept : List Meaning
     -- the item offends, whatever stands behind it
     pub refused_here : (code : ℕ) → offence sign.line_fill sign (map meaning r.items) (meaning (item_of octets t)) ≡ Some code → IsVerdict sign octets (Refused code at)
     refused_here code offends =
-        let stays = refusal_stands sign r.items (item_of octets t) code (drop (t.at + t.len) octets) each_more r.none offends in
+        let stays = item_refused sign r.items (item_of octets t) code (drop (t.at + t.len) octets) each_more r.none offends in
         let is : Refused code at ≡ verdict sign octets = ap (Refused code) r.place ∙ sym stays ∙ ap (verdict sign) regrouped in
         (one_verdict sign octets (Refused code at)).1 is
 

@@ -1,18 +1,24 @@
 -- A law of filling.
-use Rattle.std.specs.Prelude.{◌≡◌, ℕ, true, List, [], ◌∷◌, ◌++◌, Some, None, if◌then◌else◌}
-use Rattle.std.specs.List.{after_last, All}
-use Rattle.multi_layout.specs.Address.{Spot, is_glyph, is_break}
-use Rattle.multi_layout.specs.Fit.{line_fits}
-use Rattle.multi_layout.specs.Sums.{IsPlacing}
-use Rattle.multi_layout.specs.Filling.{cut_at_last, is_space, broken_off, filled}
+use Rattle.std.specs.Prelude.{◌≡◌, ◌⊎◌, List, [], ◌∷◌, ◌++◌, map, None}
+use Rattle.std.specs.List.{count_by}
+use Rattle.multi_tag.specs.declared.tag.Tag.TheVariants.{NewLine}
+use Rattle.multi_token.specs.Spelling.{Item}
+use Rattle.sign_font.specs.Sign.{SignData}
+use Rattle.multi_layout.specs.Address.{in_area, in_group, is_break, spots, standing}
+use Rattle.multi_layout.specs.LaidItems.{laid_out}
+use Rattle.multi_layout.specs.Meaning.{Meaning, Shows, Does, meaning}
+use Rattle.multi_layout.specs.Verdict.{offences}
 
--- a line, broken at its last space where it doesn't fit and has one (own)
-abbrev pub broken_once : ℕ → List Spot → List Spot
-broken_once width line = broken_off (λ rest. rest) line (if line_fits width line then None else cut_at_last is_space line)
-
--- a law: one more character behind a group whose last line fits keeps every break, and adds at most one, in the last line (own)
+-- a law: behind items of which none offends, one more item, whatever it is, leaves the items before it laid out as they are, and
+-- stands as itself; or else all is so but one space, 32, on the line of the new item, which ends that line now. That line is told
+-- by its area, its page justification and the ends of lines before it, and the space may be the new item (own)
 abbrev pub KeepsBreaks : Type 0
-KeepsBreaks = (width : ℕ) (group : List Spot) (character : Spot) → All IsPlacing group → is_glyph character ≡ true
-    → line_fits width (after_last is_break (filled (Some width) group)) ≡ true
-    → (ended : List Spot) × (filled (Some width) group ≡ ended ++ after_last is_break (filled (Some width) group))
-    × (filled (Some width) (group ++ character ∷ []) ≡ ended ++ broken_once width (after_last is_break (filled (Some width) group) ++ character ∷ []))
+KeepsBreaks = (sign : SignData) (before : List Item) (item : Item) → offences sign before ≡ [] →
+    let items = map meaning before in
+    let next = meaning item in
+    let old = laid_out sign items in
+    let here = standing sign items in
+    let ended = λ (laid : List Meaning). count_by is_break (in_group here.page_just (in_area here.area (spots sign laid))) in
+    (laid_out sign (items ++ next ∷ []) ≡ old ++ next ∷ [])
+    ⊎ ((front : List Meaning) × (behind : List Meaning) × (old ++ next ∷ [] ≡ front ++ Shows 32 ∷ behind) × (laid_out sign (items ++ next ∷ []) ≡ front ++ Does (NewLine None) ∷ behind)
+      × ((standing sign front).area ≡ here.area) × ((standing sign front).page_just ≡ here.page_just) × (ended front ≡ ended old))

@@ -1,8 +1,8 @@
 -- The verdict on a string: its first item that offends, or its pages (NTCIP 1203 v03, dmsMultiSyntaxError).
-use Rattle.std.specs.Prelude.{◌≡◌, ◌↔◌, ℕ, ◌+◌, List, [], ◌∷◌, ◌++◌, map, length, Option, Some}
+use Rattle.std.specs.Prelude.{◌≡◌, ◌↔◌, ℕ, ◌+◌, List, [], ◌∷◌, ◌++◌, map, length, drop, Option}
 use Rattle.std.specs.List.{All, count_by}
 use Rattle.std.specs.Option.{option_map}
-use Rattle.multi_token.specs.Broken.{StaysBroken}
+use Rattle.multi_token.specs.Broken.{IsOpen, StaysBroken}
 use Rattle.multi_token.specs.Spelling.{Item, IsItem, spell, IsReading}
 use Rattle.multi_token.specs.Reading.{reading}
 use Rattle.sign_font.specs.Sign.{SignData}
@@ -59,11 +59,11 @@ verdict sign octets = verdict_on sign (reading octets).items (reading octets).re
 abbrev pub OneVerdict : Type 0
 OneVerdict = (sign : SignData) (octets : List ℕ) (v : Verdict) → IsVerdict sign octets v ↔ (v ≡ verdict sign octets)
 
--- a law: a refusal for an item stands for every string with the same octets up to the end of that item (own)
+-- a law: a refusal stands, with its error and its offset, however the string goes on; only one for a bracket that is open at
+-- the end of the string may be mended (own)
 abbrev pub RefusalStands : Type 0
-RefusalStands = (sign : SignData) (before : List Item) (item : Item) (code : ℕ) (rest : List ℕ)
-    → All IsItem (before ++ item ∷ []) → offences sign before ≡ [] → offence sign.line_fill sign (map meaning before) (meaning item) ≡ Some code
-    → verdict sign (spell (before ++ item ∷ []) ++ rest) ≡ Refused code (length (spell before))
+RefusalStands = (sign : SignData) (octets : List ℕ) (code at : ℕ) → verdict sign octets ≡ Refused code at → ¬ (IsOpen (drop at octets))
+    → (more : List ℕ) → verdict sign (octets ++ more) ≡ Refused code at
 
 -- a law: a refusal for a bracket that stays broken stands for every string with the same octets up to there (own)
 abbrev pub BrokenBracketStands : Type 0

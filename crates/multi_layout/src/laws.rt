@@ -9,8 +9,8 @@ pub fn one_verdict()
     ensures { OneVerdict }
 {}
 
-/// A law of the definitions: if a string is refused for an item, so is every string with the same octets up to the end of
-/// that item.
+/// A law of the definitions: a refused string stays refused, with the same error at the same position, whatever is appended to
+/// it. The only exception is a string that ends in an open bracket and is refused for it: what is appended may mend that.
 pub fn refusal_stands()
     ensures { RefusalStands }
 {}
@@ -26,8 +26,9 @@ pub fn smaller_fits()
     ensures { SmallerFits }
 {}
 
-/// A law of the definitions: where lines are filled, one more character keeps every break of its group, and adds at most one,
-/// in the last line.
+/// A law of the definitions: one more item, whatever it is, leaves all items before it laid out as they were, and with them
+/// every break of filling. At most one space more ends its line: one on the line of the new item, or the new item itself. The
+/// only premise is that no item before it offends.
 pub fn keeps_breaks()
     ensures { KeepsBreaks }
 {}
