@@ -1,5 +1,5 @@
 -- Worked examples of the definitions.
-use Rattle.std.proofs.Common.{◌≡◌, ◌^◌, ◌-◌, ◌==◌, ◌&&◌, true, false, [], ◌∷◌, refl, lit≤, arith}
+use Rattle.std.proofs.Common.{◌≡◌, ◌^◌, ◌-◌, ◌==◌, ◌&&◌, ℕ, true, false, List, [], ◌∷◌, replicate, refl, lit<, lit≤, arith}
 use Rattle.page_plane.specs.Plane.{BitPlane, is_lit, plane_of}
 use Rattle.page_plane.specs.Octets.{row_octets, octet_count, is_bit_set, bit_place, stored_plane, IsStored}
 use Rattle.page_plane.specs.Put.{is_put}
@@ -75,3 +75,31 @@ a_stored_plane_has_no_spare_bit = record {
   count = refl;
   spare = λ x y least most. absurd (omega (arith, least, most));
 }
+
+-- THE SIZES OF STORED PLANES
+
+the_widest_stored_plane : IsStored 1024 1 (replicate 128 255)
+the_widest_stored_plane = record {
+  width_range = (lit≤ tt, lit≤ tt);
+  height_range = (lit≤ tt, lit≤ tt);
+  count = refl;
+  spare = λ x y least most. absurd (omega (arith, least, most));
+}
+
+the_highest_stored_plane : IsStored 8 128 (replicate 128 255)
+the_highest_stored_plane = record {
+  width_range = (lit≤ tt, lit≤ tt);
+  height_range = (lit≤ tt, lit≤ tt);
+  count = refl;
+  spare = λ x y least most. absurd (omega (arith, least, most));
+}
+
+no_wider_plane_is_stored : (octets : List ℕ) → IsStored 1025 1 octets → ⊥
+no_wider_plane_is_stored octets = λ stored. omega (arith, stored.width_range.1)
+
+no_higher_plane_is_stored : (octets : List ℕ) → IsStored 8 129 octets → ⊥
+no_higher_plane_is_stored octets = λ stored. omega (arith, stored.height_range.1)
+
+no_plane_is_stored_with_a_spare_bit_set : IsStored 7 1 (255 ∷ []) → ⊥
+unfolding is_bit_set
+no_plane_is_stored_with_a_spare_bit_set = λ stored. let e : true ≡ false = stored.spare 7 0 (lit≤ tt) (lit< tt) (lit< tt) in cc
