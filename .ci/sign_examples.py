@@ -1,11 +1,14 @@
 """Reads the examples of signs/, and the signs that they are asked on. signs/README.md says how they are written."""
 import os
 import re
+import shutil
 import subprocess
 import sys
 from pathlib import Path
 
 PROGRAM = "crates/signctl/out/signctl"
+# The same program, as Rattle's own compiler builds it. `rt ci` leaves it beside the one that LLVM builds.
+BY_RATTLE = f"{PROGRAM}.by-rattle"
 ROW = re.compile(
     r"(?P<options>(?:--(?:colour|clock) \d+ )*)(?:(?P<times>\d+) times )?(?P<string>.*)"
     r" => (?P<answer>ok \d+|error \d+ \d+|page \d+ phase \d+|off)"
@@ -21,6 +24,19 @@ def build():
     """Goes to the top of the repository, and builds the program if its sources have changed."""
     os.chdir(Path(__file__).resolve().parent.parent)
     subprocess.run(["bin/signctl", "--help"], stdout=subprocess.DEVNULL, check=True)
+
+
+def build_both():
+    """The same, for both compilers. It gives the two programs."""
+    os.chdir(Path(__file__).resolve().parent.parent)
+    if "SIGNCTL_BUILT" not in os.environ:
+        words = ["rt", "run", "--backend", "rattle", "--", "--help"]
+        subprocess.run(words, cwd="crates/signctl", stdin=subprocess.DEVNULL, stdout=subprocess.DEVNULL, check=True)
+        shutil.copy(PROGRAM, BY_RATTLE)
+    build()
+    if not Path(BY_RATTLE).is_file():
+        fail(f"{BY_RATTLE} isn't there: Rattle's own compiler didn't build the program")
+    return PROGRAM, BY_RATTLE
 
 
 class Example:

@@ -1,7 +1,8 @@
 -- Bodies, and their tags.
-use Rattle.std.proofs.Common.{◌≡◌, true, false, Some, None, Ok, Err, refl}
-use Rattle.std.specs.Prelude.{codes}
-use Rattle.multi_tag.specs.declared.tag.Tag.TheVariants.{Font, CharSpacingEnd, PageTime, Flash, Fore, Rect, HexChar}
+use Rattle.std.proofs.Common.{◌≡◌, ℕ, true, false, List, [], ◌∷◌, map, Some, None, Result, Ok, Err, codes, refl}
+use Rattle.multi_tag.specs.declared.tag.Tag.{Tag}
+use Rattle.multi_tag.specs.declared.tag.TagFault.{TagFault}
+use Rattle.multi_tag.specs.declared.tag.Tag.TheVariants.{NewPage, NewLine, LineJust, PageJust, Font, CharSpacing, CharSpacingEnd, PageTime, Flash, FlashEnd, Fore, Back, Rect, HexChar}
 use Rattle.multi_tag.specs.declared.tag.TagFault.TheVariants.{Unsupported, Value}
 use Rattle.multi_tag.specs.TagOf.{tag_of}
 
@@ -72,3 +73,107 @@ character_without_a_number = refl
 name_not_listed : tag_of (codes "hd41") ≡ Err Unsupported
 unfolding tag_of
 name_not_listed = refl
+
+-- THE RANGES OF THE TABLE
+
+unfoldable tags_of : List (List ℕ) → List (Result Tag TagFault)
+unfolding tag_of
+tags_of bodies = map tag_of bodies
+
+gaps_of_lines : tags_of (codes "nl" ∷ codes "nl0" ∷ codes "nl255" ∷ codes "nl256" ∷ [])
+    ≡ Ok (NewLine None) ∷ Ok (NewLine (Some 0)) ∷ Ok (NewLine (Some 255)) ∷ Err Value ∷ []
+unfolding tags_of
+gaps_of_lines = refl
+
+justifications_of_lines : tags_of (codes "jl" ∷ codes "jl1" ∷ codes "jl2" ∷ codes "jl5" ∷ codes "jl6" ∷ [])
+    ≡ Ok (LineJust None) ∷ Err Value ∷ Ok (LineJust (Some 2)) ∷ Ok (LineJust (Some 5)) ∷ Err Value ∷ []
+unfolding tags_of
+justifications_of_lines = refl
+
+justifications_of_pages : tags_of (codes "jp" ∷ codes "jp1" ∷ codes "jp2" ∷ codes "jp4" ∷ codes "jp5" ∷ [])
+    ≡ Ok (PageJust None) ∷ Err Value ∷ Ok (PageJust (Some 2)) ∷ Ok (PageJust (Some 4)) ∷ Err Value ∷ []
+unfolding tags_of
+justifications_of_pages = refl
+
+fonts : tags_of (codes "fo" ∷ codes "fo0" ∷ codes "FO01" ∷ codes "fo255" ∷ codes "fo256" ∷ [])
+    ≡ Ok (Font None) ∷ Err Value ∷ Ok (Font (Some (record { number = 1; version = None })))
+    ∷ Ok (Font (Some (record { number = 255; version = None }))) ∷ Err Value ∷ []
+unfolding tags_of
+fonts = refl
+
+fonts_of_a_version : tags_of (codes "fo0,1" ∷ codes "fo1,0" ∷ codes "fo255,ffff" ∷ codes "fo256,1" ∷ codes "fo1,10000" ∷ codes "fo1," ∷ [])
+    ≡ Err Value ∷ Ok (Font (Some (record { number = 1; version = Some 0 })))
+    ∷ Ok (Font (Some (record { number = 255; version = Some 65535 }))) ∷ Err Value ∷ Err Value ∷ Err Value ∷ []
+unfolding tags_of
+fonts_of_a_version = refl
+
+spacings_of_characters : tags_of (codes "sc" ∷ codes "sc0" ∷ codes "sc255" ∷ codes "sc256" ∷ codes "/sc" ∷ codes "/sc1" ∷ [])
+    ≡ Err Value ∷ Ok (CharSpacing 0) ∷ Ok (CharSpacing 255) ∷ Err Value ∷ Ok CharSpacingEnd ∷ Err Value ∷ []
+unfolding tags_of
+spacings_of_characters = refl
+
+on_times_of_pages : tags_of (codes "pt" ∷ codes "pt0" ∷ codes "pt255" ∷ codes "pt256" ∷ [])
+    ≡ Ok (PageTime None None) ∷ Ok (PageTime (Some 0) None) ∷ Ok (PageTime (Some 255) None) ∷ Err Value ∷ []
+unfolding tags_of
+on_times_of_pages = refl
+
+times_of_pages : tags_of (codes "PT30O0" ∷ codes "pto" ∷ codes "pt0o255" ∷ codes "pt255o0" ∷ codes "pt256o0" ∷ codes "pt0o256" ∷ codes "pt1t2" ∷ [])
+    ≡ Ok (PageTime (Some 30) (Some 0)) ∷ Ok (PageTime None None) ∷ Ok (PageTime (Some 0) (Some 255)) ∷ Ok (PageTime (Some 255) (Some 0))
+    ∷ Err Value ∷ Err Value ∷ Err Value ∷ []
+unfolding tags_of
+times_of_pages = refl
+
+on_times_of_flashing : tags_of (codes "fl" ∷ codes "flt" ∷ codes "flt0" ∷ codes "flt255" ∷ codes "flt256" ∷ codes "fl5" ∷ [])
+    ≡ Ok (Flash false None None) ∷ Ok (Flash false None None) ∷ Ok (Flash false (Some 0) None) ∷ Ok (Flash false (Some 255) None) ∷ Err Value ∷ Err Value ∷ []
+unfolding tags_of
+on_times_of_flashing = refl
+
+times_of_flashing_on_first : tags_of (codes "flto" ∷ codes "flt0o255" ∷ codes "flt255o0" ∷ codes "flt256o0" ∷ codes "flt0o256" ∷ [])
+    ≡ Ok (Flash false None None) ∷ Ok (Flash false (Some 0) (Some 255)) ∷ Ok (Flash false (Some 255) (Some 0)) ∷ Err Value ∷ Err Value ∷ []
+unfolding tags_of
+times_of_flashing_on_first = refl
+
+off_times_of_flashing : tags_of (codes "flo" ∷ codes "flo0" ∷ codes "flo255" ∷ codes "flo256" ∷ [])
+    ≡ Ok (Flash true None None) ∷ Ok (Flash true None (Some 0)) ∷ Ok (Flash true None (Some 255)) ∷ Err Value ∷ []
+unfolding tags_of
+off_times_of_flashing = refl
+
+times_of_flashing_off_first : tags_of (codes "flot" ∷ codes "flo0t255" ∷ codes "flo255t0" ∷ codes "flo256t0" ∷ codes "flo0t256" ∷ [])
+    ≡ Ok (Flash true None None) ∷ Ok (Flash true (Some 255) (Some 0)) ∷ Ok (Flash true (Some 0) (Some 255)) ∷ Err Value ∷ Err Value ∷ []
+unfolding tags_of
+times_of_flashing_off_first = refl
+
+tags_without_a_number : tags_of (codes "np" ∷ codes "np1" ∷ codes "/fl" ∷ codes "/fl1" ∷ codes "NP" ∷ [])
+    ≡ Ok NewPage ∷ Err Value ∷ Ok FlashEnd ∷ Err Value ∷ Ok NewPage ∷ []
+unfolding tags_of
+tags_without_a_number = refl
+
+foreground_colours : tags_of (codes "cf" ∷ codes "cf0" ∷ codes "cf9" ∷ codes "cf10" ∷ codes "cf255,0,0" ∷ [])
+    ≡ Ok (Fore None) ∷ Ok (Fore (Some 0)) ∷ Ok (Fore (Some 9)) ∷ Err Value ∷ Err Value ∷ []
+unfolding tags_of
+foreground_colours = refl
+
+background_colours : tags_of (codes "pb" ∷ codes "pb0" ∷ codes "pb9" ∷ codes "pb10" ∷ [])
+    ≡ Ok (Back None) ∷ Ok (Back (Some 0)) ∷ Ok (Back (Some 9)) ∷ Err Value ∷ []
+unfolding tags_of
+background_colours = refl
+
+rectangles : tags_of (codes "tr0,0,0,0" ∷ codes "tr99999,99998,99997,99996" ∷ codes "tr1,2,3" ∷ codes "tr1,2,3,4,5" ∷ codes "tr" ∷ codes "tr1,,3,4" ∷ [])
+    ≡ Ok (Rect 0 0 0 0) ∷ Ok (Rect 99999 99998 99997 99996) ∷ Err Value ∷ Err Value ∷ Err Value ∷ Err Value ∷ []
+unfolding tags_of
+rectangles = refl
+
+characters : tags_of (codes "hc0" ∷ codes "hc1" ∷ codes "hcFFFF" ∷ codes "hc10000" ∷ codes "hcg" ∷ [])
+    ≡ Err Value ∷ Ok (HexChar 1) ∷ Ok (HexChar 65535) ∷ Err Value ∷ Err Value ∷ []
+unfolding tags_of
+characters = refl
+
+decimal_digits : tags_of (codes "nl00255" ∷ codes "nl000255" ∷ codes "nla" ∷ codes "nl9" ∷ codes "nl:" ∷ codes "nl/" ∷ [])
+    ≡ Ok (NewLine (Some 255)) ∷ Err Value ∷ Err Value ∷ Ok (NewLine (Some 9)) ∷ Err Value ∷ Err Value ∷ []
+unfolding tags_of
+decimal_digits = refl
+
+bodies_that_no_name_begins : tags_of (codes "cb1" ∷ codes "f1" ∷ codes "ms" ∷ codes "x" ∷ codes "/" ∷ codes "/f" ∷ codes "n" ∷ [])
+    ≡ Err Unsupported ∷ Err Unsupported ∷ Err Unsupported ∷ Err Unsupported ∷ Err Unsupported ∷ Err Unsupported ∷ Err Unsupported ∷ []
+unfolding tags_of
+bodies_that_no_name_begins = refl

@@ -1,5 +1,7 @@
 pub mod BrokenLemmas
+mod CountedExamples
 pub mod PlaceLemmas
+mod ReadingExamples
 pub mod ReadingLemmas
 pub mod SpellingLemmas
 pub mod StepLemmas

@@ -4,9 +4,10 @@ pub mod FaultLemmas
 pub mod FindLemmas
 pub mod HalfLemmas
 pub mod KeptLemmas
+mod LimitExamples
 pub mod LimitLemmas
 pub mod PlaceLemmas
 pub mod RisingLemmas
-pub mod SampleLemmas
+mod SignExamples
 pub mod SoundLemmas
 pub mod TextLemmas

@@ -1,1 +1,2 @@
+mod CountExamples
 pub mod CountLemmas
