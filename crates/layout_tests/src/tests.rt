@@ -1,6 +1,7 @@
 mod lending;
 mod memory;
 mod picture;
+mod steps;
 mod wide;
 
 use multi_layout::{Shown, check};

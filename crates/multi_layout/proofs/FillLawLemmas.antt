@@ -25,8 +25,9 @@ use Rattle.multi_layout.proofs.LaidItemMoreLemmas.{laid_behind, laid_nothing}
 use Rattle.multi_layout.proofs.LaidLemmas.{ended, filled_is, open_line, open_line_glyphs, open_line_is}
 use Rattle.multi_layout.proofs.LaidMoreLemmas.{laid_last, placed_leaves}
 use Rattle.multi_layout.proofs.LaidTagLemmas.{laid_tag, same_fill}
-use Rattle.multi_layout.proofs.MovedLemmas.{BreaksLine, all, breaks_line, own, own_is, placing, puts_cell, s, space_glyph, width}
+use Rattle.multi_layout.proofs.BreaksLineLemmas.{BreaksLine, all, breaks_line, own, own_is, placing, puts_cell, s, width}
 use Rattle.multi_layout.proofs.OpenFitLemmas.{OpenLinesFit, open_lines_fit}
+use Rattle.multi_layout.proofs.PutsAtLemmas.{space_glyph}
 
 -- what the law says of one more item, by the setting
 abbrev Kept : LineFill → SignData → List Meaning → Meaning → Type 0

@@ -8,6 +8,7 @@ pub mod AreaSumLemmas
 pub mod BehindLemmas
 pub mod BoundLemmas
 pub mod BreakLemmas
+pub mod BreaksLineLemmas
 pub mod CellLemmas
 pub mod CheckLemmas
 pub mod CutLemmas
@@ -59,7 +60,6 @@ pub mod LayoutLemmas
 pub mod LineSumLemmas
 pub mod LocateLemmas
 pub mod MeaningLemmas
-pub mod MovedLemmas
 pub mod NarrowLemmas
 pub mod OffenceLemmas
 pub mod OpenFitLemmas
@@ -75,6 +75,7 @@ pub mod PieceLemmas
 pub mod PlaceExamples
 pub mod PlaceLemmas
 pub mod PlacingLemmas
+pub mod PutsAtLemmas
 pub mod ReadLemmas
 pub mod RectangleLemmas
 pub mod RoomLemmas

@@ -9,9 +9,10 @@ use Rattle.multi_layout.specs.LaidItems.{laid_out}
 use Rattle.multi_layout.specs.Meaning.{Meaning, Shows, Does, meaning}
 use Rattle.multi_layout.specs.Verdict.{offences}
 
--- a law: behind items of which none offends, one more item, whatever it is, leaves the items before it laid out as they are, and
--- stands as itself; or else all is so but one space, 32, on the line of the new item, which ends that line now. That line is told
--- by its area, its page justification and the ends of lines before it, and the space may be the new item (own)
+-- a law: behind items of which none offends, one more item, whatever it is, stands as itself, and those before it stay laid out as
+-- they were, so that every break of filling is kept; or all is so but one space, the character 32, which ends its line now. It
+-- stands on the line of the new item: its area and its page justification are the same, and as many ends of lines stand before
+-- it. It may be the new item itself (own)
 abbrev pub KeepsBreaks : Type 0
 KeepsBreaks = (sign : SignData) (before : List Item) (item : Item) → offences sign before ≡ [] →
     let items = map meaning before in
@@ -20,5 +21,6 @@ KeepsBreaks = (sign : SignData) (before : List Item) (item : Item) → offences 
     let here = standing sign items in
     let ended = λ (laid : List Meaning). count_by is_break (in_group here.page_just (in_area here.area (spots sign laid))) in
     (laid_out sign (items ++ next ∷ []) ≡ old ++ next ∷ [])
-    ⊎ ((front : List Meaning) × (behind : List Meaning) × (old ++ next ∷ [] ≡ front ++ Shows 32 ∷ behind) × (laid_out sign (items ++ next ∷ []) ≡ front ++ Does (NewLine None) ∷ behind)
-      × ((standing sign front).area ≡ here.area) × ((standing sign front).page_just ≡ here.page_just) × (ended front ≡ ended old))
+    ⊎ ((front : List Meaning) × (behind : List Meaning) × (old ++ next ∷ [] ≡ front ++ Shows 32 ∷ behind)
+    × (laid_out sign (items ++ next ∷ []) ≡ front ++ Does (NewLine None) ∷ behind)
+    × ((standing sign front).area ≡ here.area) × ((standing sign front).page_just ≡ here.page_just) × (ended front ≡ ended old))

@@ -1,35 +1,34 @@
 -- One more character breaks its line at an earlier space: the items before it are laid out as they were, but that space.
-use Rattle.std.proofs.Common.{◌≡◌, inl, inr, ℕ, ◌+◌, ◌<◌, ◌≤◌, Bool, true, false, cond, ◌==◌, List, [], ◌∷◌, ◌++◌, length, take, Option, Some, None, zero, suc, refl, sym, ap, subst, ◌∙◌, arith, append_assoc, append-nil, length-append}
+use Rattle.std.proofs.Common.{◌≡◌, inl, inr, ℕ, ◌+◌, ◌<◌, Bool, true, false, cond, ◌==◌, List, [], ◌∷◌, ◌++◌, length, take, Option, Some, None, zero, suc, refl, sym, ap, subst, ◌∙◌, arith, append_assoc, append-nil, length-append}
 use Rattle.std.specs.Prelude.{slice_index_or}
 use Rattle.std.specs.List.{All, AllPass, count_by}
 use Rattle.std.specs.Option.{option_map}
 use Rattle.std.proofs.Math.Seq.{take-append_seam}
-use Rattle.std.proofs.lemmas.Bool.{cases_lt, eqb-true}
+use Rattle.std.proofs.lemmas.Bool.{eqb-true}
 use Rattle.std.proofs.lemmas.List.{get_or_append_left, get_or_at, take_all}
 use Rattle.std.proofs.lemmas.List.Elements.{All-head, All-push, All-tail}
 use Rattle.std.proofs.lemmas.List.Sums.{sum_by-append, sum_by-cons}
-use Rattle.multi_tag.specs.declared.tag.Tag.TheVariants.{NewPage, NewLine, LineJust, PageJust, Font, CharSpacing, CharSpacingEnd, PageTime, Flash, FlashEnd, Fore, Back, Rect, HexChar}
-use Rattle.sign_font.specs.declared.parts.Defaults.{Defaults}
+use Rattle.multi_tag.specs.declared.tag.Tag.TheVariants.{NewLine}
 use Rattle.sign_font.specs.declared.parts.LineFill.{LineFill}
 use Rattle.sign_font.specs.declared.parts.LineFill.TheVariants.{Words}
 use Rattle.sign_font.specs.Sign.{SignData, CellData, cell_numbered}
-use Rattle.multi_layout.specs.Address.{Break, Cover, Glyph, Put, Spot, Standing, area_of, group_of, is_break, is_glyph, put_at, spot_at, spots, standing}
+use Rattle.multi_layout.specs.Address.{Glyph, Put, Spot, Standing, area_of, group_of, is_break, is_glyph, put_at, spot_at, spots, standing}
 use Rattle.multi_layout.specs.Filling.{dropped, filled, is_space}
 use Rattle.multi_layout.specs.Laid.{fill_at, laid, laid_spot}
 use Rattle.multi_layout.specs.LaidItems.{laid_item, laid_items, laid_of}
-use Rattle.multi_layout.specs.Meaning.{Does, Faulty, Meaning, Shows}
+use Rattle.multi_layout.specs.Meaning.{Does, Meaning, Shows}
 use Rattle.multi_layout.specs.Sums.{IsPlacing}
 use Rattle.multi_layout.specs.Words.{each_after}
 use Rattle.multi_layout.proofs.AreaSumLemmas.{area_placing}
-use Rattle.multi_layout.proofs.FilledKeptLemmas.{found_cell}
 use Rattle.multi_layout.proofs.FilledTagLemmas.{same_width}
 use Rattle.multi_layout.proofs.GroupLaidLemmas.{group_laid, is_member, laid_as, member_parts, members, members_push, members_with, own_member, there}
 use Rattle.multi_layout.proofs.GroupSumLemmas.{glyph_put, placing_group}
 use Rattle.multi_layout.proofs.LaidItemLemmas.{are_laid}
 use Rattle.multi_layout.proofs.LaidMoreLemmas.{apart, other_group}
 use Rattle.multi_layout.proofs.LaidSpotLemmas.{LaidAs, filled_laid, laid_length}
-use Rattle.multi_layout.proofs.SpotsLemmas.{spots_behind, spots_more, spots_nothing, spots_with}
-use Rattle.multi_layout.proofs.WordLemmas.{All-split, each_after-append, each_after_push, push_ind}
+use Rattle.multi_layout.proofs.PutsAtLemmas.{PutsAt, own_longer, puts_at, space_shown}
+use Rattle.multi_layout.proofs.SpotsLemmas.{spots_behind, spots_more, spots_with}
+use Rattle.multi_layout.proofs.WordLemmas.{All-split, each_after-append, each_after_push}
 
 -- LISTS
 
@@ -53,108 +52,6 @@ no_breaks [] h = refl
 no_breaks (s ∷ line) h =
     let one : cond {A = ℕ} (is_break s) 1 0 ≡ 0 = ap (λ b. cond b 1 0) (glyph_put s.at s.put (All-head (λ x. is_glyph x ≡ true) s line h)).0 in
     omega (arith, sum_by-cons (λ x. cond (is_break x) 1 0) s line, one, no_breaks line (All-tail (λ x. is_glyph x ≡ true) s line h))
-
--- SPACES
-
-pub space_glyph : (at : Standing) (put : Put) → is_space (record { at = at; put = put }) ≡ true → is_glyph (record { at = at; put = put }) ≡ true
-space_glyph at (Glyph cell) e = refl
-space_glyph at (Break gap) e = absurd cc
-space_glyph at (Cover page colour) e = absurd cc
-
-space_cell : (here : Standing) (number : ℕ) (put : Put) (o : Option CellData) → cell_numbered here.font number ≡ o → option_map Glyph o ≡ Some put → is_space (record { at = here; put = put }) ≡ true → number ≡ 32
-space_cell here number put None found e space = absurd cc
-space_cell here number put (Some cell) found e space =
-    let is : Glyph cell ≡ put = cc in
-    let space' : (cell.number == 32) ≡ true = ap (λ put. let s : Spot = record { at = here; put = put } in is_space s) is ∙ space in
-    sym (found_cell here.font.cells number cell found) ∙ eqb-true cell.number 32 space'
-
--- an item that puts a space shows 32
-space_shown : (defaults : Defaults) (here : Standing) (x : Meaning) (put : Put) → put_at defaults here x ≡ Some put → is_space (record { at = here; put = put }) ≡ true → x ≡ Shows 32
-space_shown defaults here (Shows number) put e space = ap Shows (space_cell here number put (cell_numbered here.font number) refl e space)
-space_shown defaults here (Does (NewLine gap)) put e space = absurd (let is : Break gap ≡ put = cc in let wrong : false ≡ true = ap (λ put. let s : Spot = record { at = here; put = put } in is_space s) is ∙ space in cc)
-space_shown defaults here (Does NewPage) put e space = absurd (let is : Cover (here.page + 1) here.back ≡ put = cc in let wrong : false ≡ true = ap (λ put. let s : Spot = record { at = here; put = put } in is_space s) is ∙ space in cc)
-space_shown defaults here (Does (Back colour)) put e space = absurd (let is : Cover here.page (Rattle.std.specs.Option.unwrap_or colour defaults.back) ≡ put = cc in let wrong : false ≡ true = ap (λ put. let s : Spot = record { at = here; put = put } in is_space s) is ∙ space in cc)
-space_shown defaults here (Faulty code) put e space = absurd cc
-space_shown defaults here (Does (LineJust just)) put e space = absurd cc
-space_shown defaults here (Does (PageJust just)) put e space = absurd cc
-space_shown defaults here (Does (Font pick)) put e space = absurd cc
-space_shown defaults here (Does (CharSpacing pixels)) put e space = absurd cc
-space_shown defaults here (Does CharSpacingEnd) put e space = absurd cc
-space_shown defaults here (Does (PageTime on off)) put e space = absurd cc
-space_shown defaults here (Does (Flash off_first on off)) put e space = absurd cc
-space_shown defaults here (Does FlashEnd) put e space = absurd cc
-space_shown defaults here (Does (Fore colour)) put e space = absurd cc
-space_shown defaults here (Does (Rect x y w h)) put e space = absurd cc
-space_shown defaults here (Does (HexChar number)) put e space = absurd cc
-
--- THE ITEM OF A SPOT
-
-module _ (sign : SignData) (a j : ℕ) where
-  abbrev spot_of : List Meaning → Put → Spot
-  spot_of before put = record { at = standing sign before; put = put }
-
-  abbrev own_of : List Meaning → List Spot
-  own_of items = members a j (spots sign items)
-
-  -- the item that puts spot k of a group, counted from 0
-  record PutsAt (k : ℕ) (items : List Meaning) : Type 0 where
-    front : List Meaning
-    item : Meaning
-    more : List Meaning
-    put : Put
-    is : items ≡ front ++ item ∷ more
-    puts : put_at sign.defaults (standing sign front) item ≡ Some put
-    member : is_member a j (spot_of front put) ≡ true
-    place : length (own_of front) ≡ k
-
-  put_last : (k : ℕ) (items : List Meaning) (x : Meaning) (o : Option Put) → put_at sign.defaults (standing sign items) x ≡ o → length (own_of items) ≤ k → k < length (own_of (items ++ x ∷ [])) → PutsAt k (items ++ x ∷ [])
-  put_last k items x None puts late within = absurd (omega (arith, late, within, ap (λ l. length (members a j l)) (spots_nothing sign items x puts)))
-  put_last k items x (Some put) puts late within = by_member (is_member a j (spot_of items put)) refl
-    where
-      by_member : (b : Bool) → is_member a j (spot_of items put) ≡ b → PutsAt k (items ++ x ∷ [])
-      by_member false e = absurd (omega (arith, late, within, ap (λ l. length (members a j l)) (spots_more sign items x put puts), ap length (members_push a j (spots sign items) (spot_of items put) false e ∙ append-nil (own_of items))))
-      by_member true e = record {
-        front = items;
-        item = x;
-        more = [];
-        put = put;
-        is = refl;
-        puts = puts;
-        member = e;
-        place = omega (arith, late, within, ap (λ l. length (members a j l)) (spots_more sign items x put puts), ap length (members_push a j (spots sign items) (spot_of items put) true e), length-append (own_of items) (spot_of items put ∷ []));
-      }
-
-  put_none : (k : ℕ) → k < length (own_of []) → PutsAt k []
-  unfolding spots
-  put_none k within = absurd (omega (arith, within))
-
-  puts_at : (k : ℕ) (items : List Meaning) → k < length (own_of items) → PutsAt k items
-  puts_at k = push_ind (λ items. k < length (own_of items) → PutsAt k items) (put_none k) step
-    where
-      step : (items : List Meaning) (x : Meaning) → (k < length (own_of items) → PutsAt k items) → k < length (own_of (items ++ x ∷ [])) → PutsAt k (items ++ x ∷ [])
-      step items x ih within = elim (cases_lt k (length (own_of items))) [
-        | inl early ↦
-            let h = ih early in
-            record {
-              front = h.front;
-              item = h.item;
-              more = h.more ++ x ∷ [];
-              put = h.put;
-              is = ap (λ l. l ++ x ∷ []) h.is ∙ append_assoc h.front (h.item ∷ h.more) (x ∷ []);
-              puts = h.puts;
-              member = h.member;
-              place = h.place;
-            }
-        | inr late ↦ put_last k items x (put_at sign.defaults (standing sign items) x) refl late within
-      ]
-
-  -- the group has a spot more behind such an item
-  own_longer : (front : List Meaning) (x : Meaning) (more : List Meaning) (put : Put) → put_at sign.defaults (standing sign front) x ≡ Some put → is_member a j (spot_of front put) ≡ true
-      → length (own_of front) < length (own_of (front ++ x ∷ more))
-  own_longer front x more put puts member =
-      let t = spot_of front put in
-      omega (arith, ap (λ l. length (members a j l)) (spots_with sign front x more put puts), ap length (members_with a j (spots sign front) (spots_behind sign (front ++ x ∷ []) more) t member),
-      length-append (own_of front) (t ∷ members a j (spots_behind sign (front ++ x ∷ []) more)))
 
 -- A BREAK BEHIND ITEMS
 

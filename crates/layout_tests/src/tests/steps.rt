@@ -1,0 +1,267 @@
+//! The steps of judging a string, finding its page and drawing it, beside those of the same reads and looks, which are made here
+//! one by one by the calls of the crates below.
+
+use crate::tests::so;
+use multi_layout::{Shown, check};
+use multi_tag::{Tag, read_tag};
+use multi_token::{Kind, Source, next_token};
+use page_plane::Plane;
+use sign_font::{LineFill, Sign, sample_sign};
+use std::alloc::Global;
+use std::process::Abort;
+use std::test::Fail;
+
+/// How far a string is read.
+#[derive(Clone, Copy)]
+struct Walk {
+    /// The offset of the next item.
+    at: usize,
+    /// The number of the font in force.
+    font: u8,
+    /// The steps of reading the bodies of tags once more.
+    again: u64,
+}
+
+impl Walk {
+    /// That before the first item.
+    fn new(sign: &Sign) -> Walk {
+        Walk {
+            at: 0,
+            font: sign.default_font().number,
+            again: 0,
+        }
+    }
+
+    /// Reads the next item, a character as the tag of its number. At the end the answer is `None`.
+    fn read(&mut self, source: &mut Source<'_>) -> Option<Tag> {
+        let at = self.at.min(source.len());
+        let Ok(Some(token)) = next_token(source, at) else {
+            return None;
+        };
+        self.at = at.saturating_add(token.len);
+        if let Kind::Char(octet) = token.kind {
+            return Some(Tag::HexChar(u16::from(octet)));
+        }
+        let before = source.steps();
+        let tag = read_tag(source, &token).ok();
+        let body = source.steps().saturating_sub(before);
+        self.again = self.again.saturating_add(body);
+        tag
+    }
+
+    /// Looks up the cell of a character, or the font that a tag names.
+    fn look(&mut self, sign: &Sign, source: &mut Source<'_>, item: Tag) {
+        match item {
+            Tag::HexChar(number) => {
+                sign.cell_width(source, self.font, number);
+            }
+            Tag::Font(Some(pick)) => {
+                sign.font(source, pick.number);
+                self.font = pick.number;
+            }
+            Tag::Font(None) => self.font = sign.default_font().number,
+            _ => {}
+        }
+    }
+
+    /// Goes to the start of a page, or to the end of the string, and looks up no cell.
+    fn reach(&mut self, sign: &Sign, source: &mut Source<'_>, page: u8) {
+        let mut passed = 0;
+        for _ in 0..=source.len() {
+            if passed >= page {
+                return;
+            }
+            let Some(item) = self.read(source) else {
+                return;
+            };
+            match item {
+                Tag::NewPage => passed += 1,
+                Tag::Font(_) => self.look(sign, source, item),
+                _ => {}
+            }
+        }
+    }
+
+    /// Goes over the items of an area up to an offset, and looks up their cells. The item that ends the area is read, and not
+    /// passed.
+    fn pass_area(&mut self, sign: &Sign, source: &mut Source<'_>, end: usize) {
+        for _ in 0..=source.len() {
+            if self.at >= end {
+                return;
+            }
+            let here = self.at;
+            let Some(item) = self.read(source) else {
+                return;
+            };
+            if let Tag::NewPage | Tag::Rect { .. } = item {
+                self.at = here;
+                return;
+            }
+            self.look(sign, source, item);
+        }
+    }
+}
+
+/// The steps of judging a string whose lines aren't filled: each octet is read once, the end too, and each cell and font is looked
+/// up once.
+fn judged(sign: &Sign, octets: &[u8]) -> u64 {
+    let mut source = Source::new(octets);
+    let mut walk = Walk::new(sign);
+    for _ in 0..=octets.len() {
+        let Some(item) = walk.read(&mut source) else {
+            break;
+        };
+        walk.look(sign, &mut source, item);
+    }
+    source.steps().saturating_sub(walk.again)
+}
+
+/// The steps of finding this page by the clock: the items are read up to its end.
+fn found(sign: &Sign, octets: &[u8], page: u8) -> u64 {
+    let mut source = Source::new(octets);
+    Walk::new(sign).reach(sign, &mut source, page.saturating_add(1));
+    source.steps()
+}
+
+/// The steps of drawing this page over the string: the items before it are read, and then each of its areas is, twice, with the
+/// item that ends it.
+fn drawn(sign: &Sign, octets: &[u8], page: u8) -> u64 {
+    let mut source = Source::new(octets);
+    let mut walk = Walk::new(sign);
+    walk.reach(sign, &mut source, page);
+    for _ in 0..=octets.len() {
+        let mut first = walk;
+        first.pass_area(sign, &mut source, usize::MAX);
+        walk.pass_area(sign, &mut source, first.at);
+        match walk.read(&mut source) {
+            None | Some(Tag::NewPage) => break,
+            Some(_) => {}
+        }
+    }
+    source.steps()
+}
+
+/// A string, the clock at which a page of it is shown, and that page.
+#[derive(Clone, Copy)]
+struct Row {
+    octets: &'static [u8],
+    clock: u64,
+    page: u8,
+    /// The octets that have no room on their line, and are looked up once more where the next one begins.
+    again: u64,
+    /// The spaces of the page that are dropped: to draw them no cell is looked up.
+    dropped: u64,
+}
+
+/// Asserts that a string takes as many steps as the same reads and looks.
+fn assert_row(rt: &impl Abort, alloc: Global, sign: &Sign, row: &Row) -> Result<(), Fail> {
+    let Row {
+        octets,
+        page,
+        dropped,
+        ..
+    } = *row;
+    let mut plane = Plane::new(alloc, sign.width(), sign.height())?;
+    let Ok(mut checked) = check(sign, Source::new(octets)) else {
+        panic!(rt; "{octets:?} is accepted");
+    };
+    let judging = checked.steps();
+    let want = judged(sign, octets).saturating_add(row.again);
+    assert!(rt;
+        judging == want,
+        "{octets:?} is judged in {judging} steps, not {want}"
+    );
+
+    let shown = checked.locate(row.clock);
+    so(
+        rt,
+        matches!(shown, Shown::Page { page: number, .. } if number == page),
+        "that page is shown",
+    );
+    let finding = checked.steps().saturating_sub(judging);
+    let want = if checked.pages() == 1 || checked.cycle() == 0 {
+        0
+    } else {
+        found(sign, octets, page)
+    };
+    assert!(rt;
+        finding == want,
+        "page {page} of {octets:?} is found in {finding} steps, not {want}"
+    );
+
+    let before = checked.steps();
+    so(
+        rt,
+        checked.draw(page, 0, 1, &mut plane),
+        "the page is there",
+    );
+    let drawing = checked.steps().saturating_sub(before);
+    let want = drawn(sign, octets, page).saturating_sub(dropped);
+    assert!(rt;
+        drawing == want,
+        "page {page} of {octets:?} is drawn in {drawing} steps, not {want}"
+    );
+    Ok(())
+}
+
+/// A row of a string without breaks of filling.
+fn plain(octets: &'static [u8], clock: u64, page: u8) -> Row {
+    filled(octets, clock, page, 0, 0)
+}
+
+/// A row of a string with breaks of filling.
+fn filled(octets: &'static [u8], clock: u64, page: u8, again: u64, dropped: u64) -> Row {
+    Row {
+        octets,
+        clock,
+        page,
+        again,
+        dropped,
+    }
+}
+
+#[test]
+fn each_step_is_a_read_or_a_look(rt: HostRuntime) -> Result<(), Fail> {
+    let rows = [
+        plain(b"", 0, 0),
+        plain(b"A", 0, 0),
+        plain(b"[sc0]AAAA", 0, 0),
+        plain(b"[[I]]", 0, 0),
+        plain(b"[hc5B][hC5D]", 0, 0),
+        plain(b"[fo1,1a2B]A", 0, 0),
+        plain(b"[fo2]A[fo1]A", 0, 0),
+        plain(b"A[nl0]A", 0, 0),
+        plain(b"[jl4]A[nl][jl2]", 0, 0),
+        plain(b"[jp2]A[jp4]A", 0, 0),
+        plain(b"[cf3]A[pb1]", 0, 0),
+        plain(b"[flt5o5][hc41][/fl]", 0, 0),
+        plain(b"[tr1,1,3,3]A[tr10,5,3,3]A", 0, 0),
+        plain(b"[tr1,1,3,3][np]A", 30, 1),
+        plain(b"A[np]A[pt10]", 0, 0),
+        plain(b"A[np]A[pt10]", 30, 1),
+        plain(b"[pt10o5]A[np]A", 15, 1),
+        plain(b"[pt0o0]A[np]A", 42, 0),
+    ];
+    let mut parts = sample_sign(rt.alloc())?;
+    let sign = Sign::new(rt.alloc(), sample_sign(rt.alloc())?)?;
+    for row in &rows {
+        assert_row(&rt, rt.alloc(), &sign, row)?;
+    }
+
+    let rows = [
+        filled(b"AA AA", 0, 0, 1, 1),
+        filled(b"A A A", 0, 0, 1, 1),
+        filled(b" AAA", 0, 0, 1, 1),
+        filled(b"AA[hc20]AA", 0, 0, 0, 1),
+        filled(b"[jl2]A A[jl4]AA", 0, 0, 0, 1),
+        filled(b"[jp2]AAA [jp4]A", 0, 0, 1, 1),
+        filled(b"[tr1,1,3,0]A A[np]AA AA", 30, 1, 2, 1),
+        plain(b"AAA[nl] A", 0, 0),
+    ];
+    parts.line_fill = LineFill::Words;
+    let sign = Sign::new(rt.alloc(), parts)?;
+    for row in &rows {
+        assert_row(&rt, rt.alloc(), &sign, row)?;
+    }
+    Ok(())
+}
