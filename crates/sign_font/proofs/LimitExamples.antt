@@ -284,3 +284,6 @@ a_wider_cell_is_not_sound = λ sound. omega (arith, sound.width.1)
 
 a_cell_of_more_octets_is_not_sound : IsSoundCell 8 (record { number = 65; width = 1; bits = 0 ∷ 0 ∷ [] }) → ⊥
 a_cell_of_more_octets_is_not_sound = λ sound. omega (arith, sound.len)
+
+a_font_of_256_cells_is_not_sound : IsSoundFont (record small_font { cells = map (λ number. record { number = number; width = 1; bits = 0xe0 ∷ [] }) (range_with_len 1 256) }) → ⊥
+a_font_of_256_cells_is_not_sound = λ sound. omega (arith, sound.count)
