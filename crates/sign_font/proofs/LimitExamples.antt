@@ -8,7 +8,7 @@ use Rattle.sign_font.specs.declared.fault.DefaultFault.TheVariants.{Value, FontU
 use Rattle.sign_font.specs.declared.parts.Defaults.{Defaults}
 use Rattle.sign_font.specs.Sign.{CellData, FontData, SignData}
 use Rattle.sign_font.specs.Limits.{is_rising, first_fault}
-use Rattle.sign_font.specs.Sound.{IsSoundCell, IsSoundFont, IsSound}
+use Rattle.sign_font.specs.Sound.{IsSoundCell, IsSoundFont, IsSound, IsSoundSize}
 use Rattle.sign_font.specs.Defaults.{under, default_fault, default_code}
 use Rattle.sign_font.specs.Sample.{small_font, large_font, sample}
 
@@ -284,3 +284,18 @@ a_wider_cell_is_not_sound = λ sound. omega (arith, sound.width.1)
 
 a_cell_of_more_octets_is_not_sound : IsSoundCell 8 (record { number = 65; width = 1; bits = 0 ∷ 0 ∷ [] }) → ⊥
 a_cell_of_more_octets_is_not_sound = λ sound. omega (arith, sound.len)
+
+a_font_of_256_cells_is_not_sound : IsSoundFont (record small_font { cells = map (λ number. record { number = number; width = 1; bits = 0xe0 ∷ [] }) (range_with_len 1 256) }) → ⊥
+a_font_of_256_cells_is_not_sound = λ sound. omega (arith, sound.count)
+
+the_smallest_cell_has_a_sound_size : IsSoundSize (record { number = 65; width = 1; height = 1; bits = [] })
+the_smallest_cell_has_a_sound_size = ((lit≤ tt, lit≤ tt), (lit≤ tt, lit≤ tt))
+
+the_largest_cell_has_a_sound_size : IsSoundSize (record { number = 65; width = 64; height = 64; bits = [] })
+the_largest_cell_has_a_sound_size = ((lit≤ tt, lit≤ tt), (lit≤ tt, lit≤ tt))
+
+a_wider_cell_has_no_sound_size : IsSoundSize (record { number = 65; width = 65; height = 64; bits = [] }) → ⊥
+a_wider_cell_has_no_sound_size = λ sound. omega (arith, sound.0.1)
+
+a_higher_cell_has_no_sound_size : IsSoundSize (record { number = 65; width = 64; height = 65; bits = [] }) → ⊥
+a_higher_cell_has_no_sound_size = λ sound. omega (arith, sound.1.1)

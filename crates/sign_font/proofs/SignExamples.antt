@@ -1,6 +1,6 @@
 -- The sample sign, asked for pixels, fonts, cells and heights.
-use Rattle.std.proofs.Common.{◌≡◌, true, false, [], ◌∷◌, Some, None, refl}
-use Rattle.sign_font.specs.Cell.{SizedCell, is_set, is_lit}
+use Rattle.std.proofs.Common.{◌≡◌, ◌^◌, true, false, [], ◌∷◌, Some, None, refl, lit<}
+use Rattle.sign_font.specs.Cell.{SizedCell, is_set, is_lit, IsRowOf, IsWordOf}
 use Rattle.sign_font.specs.Sign.{font_numbered, cell_numbered, cell_in, unsized, sized, info_of, largest, tallest}
 use Rattle.sign_font.specs.Sample.{small_font, large_font, sample}
 
@@ -67,3 +67,23 @@ the_largest_number = (refl, refl)
 
 the_tallest_font_has_five_rows : tallest sample ≡ 5
 the_tallest_font_has_five_rows = refl
+
+-- ROWS AS WORDS
+
+-- the top row of the letter has its second pixel lit, which is bit 62
+a_row_begins_at_the_highest_bit : (IsRowOf letter 0 (2 ^ 63) → ⊥) × (IsRowOf letter 0 1 → ⊥)
+unfolding letter
+a_row_begins_at_the_highest_bit = (λ row. let e : false ≡ true = row 1 (lit< tt) in cc, λ row. let e : false ≡ true = row 1 (lit< tt) in cc)
+
+a_row_has_no_pixel_beside_the_cell : IsRowOf letter 0 (2 ^ 60) → ⊥
+unfolding letter
+a_row_has_no_pixel_beside_the_cell = λ row. let e : true ≡ false = row 3 (lit< tt) in cc
+
+a_word_has_its_first_bit_highest : (IsWordOf (0x5e ∷ 0x80 ∷ []) 0 3 (2 ^ 63) → ⊥) × (IsWordOf (0x5e ∷ 0x80 ∷ []) 0 3 1 → ⊥)
+a_word_has_its_first_bit_highest = (λ word. let e : false ≡ true = word 1 (lit< tt) in cc, λ word. let e : false ≡ true = word 1 (lit< tt) in cc)
+
+a_word_has_the_bits_that_are_set : IsWordOf (0x5e ∷ 0x80 ∷ []) 0 3 (2 ^ 63) → ⊥
+a_word_has_the_bits_that_are_set = λ word. let e : true ≡ false = word 0 (lit< tt) in cc
+
+a_word_has_no_bit_behind_its_width : IsWordOf (0x5e ∷ 0x80 ∷ []) 0 3 (2 ^ 60) → ⊥
+a_word_has_no_bit_behind_its_width = λ word. let e : true ≡ false = word 3 (lit< tt) in cc
