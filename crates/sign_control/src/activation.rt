@@ -9,11 +9,10 @@ ghost use Rattle.sign_control.specs.Activation.{blank_one, candidate_of, candida
 ghost use Rattle.sign_control.specs.Counts.{IsAdded, IsJudgedIn, end_text};
 ghost use Rattle.sign_control.specs.State.{IsOneOf};
 
+use crate::check::check_text;
 use crate::code::{ActivateError, IdCode};
 use crate::display::Display;
 use message_store::{MsgRef, Store, StoreFault};
-use multi_layout::check_with;
-use multi_token::Source;
 use sign_font::{Defaults, Sign};
 
 /// A message that may be shown.
@@ -172,7 +171,7 @@ pub(crate) fn judge(sign: &Sign, defaults: Defaults, text: &[u8]) -> Judgement
     ensures position { result.position ≡ position_of (verdict (under sign.now defaults) text.now) }
     ensures steps { IsJudgedIn (record { sign = under sign.now defaults; text = text.now }) result.steps }
 {
-    match check_with(sign, defaults, Source::new(text)) {
+    match check_text(sign, defaults, text) {
         Ok(checked) => Judgement {
             accepted: true,
             error: 2,

@@ -12,8 +12,8 @@ ghost use Rattle.sign_font.specs.Defaults.{default_fault, under};
 ghost use Rattle.sign_font.specs.Sound.{IsSound};
 ghost use Rattle.sign_control.specs.State.{IsAccepted, IsThere};
 
-use multi_layout::{Checked, Shown, check_with};
-use multi_token::Source;
+use crate::check::check_text;
+use multi_layout::{Checked, Shown};
 use page_plane::Plane;
 use sign_font::{Defaults, Sign};
 
@@ -37,7 +37,7 @@ pub(crate) fn draw_shown(
     ensures least { length text.now + 1 + (plane.new.steps - plane.old.steps) ≤ result.1 }
     ensures most { result.1 ≤ frame_limit sign.now (length text.now) }
 {
-    let Ok(mut checked) = check_with(sign, defaults, Source::new(text)) else {
+    let Ok(mut checked) = check_text(sign, defaults, text) else {
         unreachable!();
     };
     let before = plane.steps();

@@ -9,6 +9,7 @@
 
 mod activation;
 mod apply;
+mod check;
 mod code;
 mod command;
 mod controller;

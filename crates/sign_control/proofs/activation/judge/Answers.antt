@@ -1,5 +1,4 @@
-use Rattle.std.proofs.Common.{◌≡◌, ap, arith, ℕ, length}
-use Rattle.multi_token.specs.Counted.{Counted}
+use Rattle.std.proofs.Common.{◌≡◌, refl, ap, arith, ℕ}
 use Rattle.sign_font.specs.Defaults.{under}
 use Rattle.multi_layout.specs.Verdict.{Accepted, Refused, verdict}
 use Rattle.sign_control.proofs.StepLemmas.{verdict-is}
@@ -10,7 +9,7 @@ use Rattle.sign_control.proofs.activation.judge.Goals as goal
 accepted : (c : goal.After-steps) → (pages : ℕ) × (Accepted pages ≡ verdict (under c.args.sign.now c.args.defaults) c.args.text.now)
 accepted c =
     let (pages, is) = c.in-Ok.ensures.accepted in
-    (pages, verdict-is (under c.args.sign.now c.args.defaults) c.args.text.now _ (Accepted pages) (ap (λ (s : Counted). s.octets) c.new.ensures) is)
+    (pages, verdict-is (under c.args.sign.now c.args.defaults) c.args.text.now _ (Accepted pages) refl is)
 
 pub returns-in-Ok-clause-accepted : goal.returns-in-Ok-clause-accepted
 returns-in-Ok-clause-accepted c = ap is_accepted (accepted c).1
@@ -24,23 +23,21 @@ returns-in-Ok-clause-position c = ap position_of (accepted c).1
 pub returns-in-Ok-clause-steps : goal.returns-in-Ok-clause-steps
 returns-in-Ok-clause-steps c =
     let (pages, is) = accepted c in
-    let same = ap (λ (s : Counted). length s.octets) c.new.ensures in
-    judged-in (under c.args.sign.now c.args.defaults) c.args.text.now (Accepted pages) c.steps.result is (omega (arith, c.in-Ok.ensures.steps, c.steps.ensures, same)) (omega (arith, c.in-Ok.ensures.steps, c.steps.ensures, same))
+    judged-in (under c.args.sign.now c.args.defaults) c.args.text.now (Accepted pages) c.steps.result is (omega (arith, c.in-Ok.ensures.steps, c.steps.ensures)) (omega (arith, c.in-Ok.ensures.steps, c.steps.ensures))
 
 pub returns-in-Err-clause-accepted : goal.returns-in-Err-clause-accepted
 returns-in-Err-clause-accepted c =
-    ap is_accepted (verdict-is (under c.args.sign.now c.args.defaults) c.args.text.now _ (Refused c.in-Err.fault.code c.in-Err.fault.at) (ap (λ (s : Counted). s.octets) c.new.ensures) c.in-Err.ensures.refused)
+    ap is_accepted (verdict-is (under c.args.sign.now c.args.defaults) c.args.text.now _ (Refused c.in-Err.fault.code c.in-Err.fault.at) refl c.in-Err.ensures.refused)
 
 pub returns-in-Err-clause-error : goal.returns-in-Err-clause-error
 returns-in-Err-clause-error c =
-    ap error_of (verdict-is (under c.args.sign.now c.args.defaults) c.args.text.now _ (Refused c.in-Err.fault.code c.in-Err.fault.at) (ap (λ (s : Counted). s.octets) c.new.ensures) c.in-Err.ensures.refused)
+    ap error_of (verdict-is (under c.args.sign.now c.args.defaults) c.args.text.now _ (Refused c.in-Err.fault.code c.in-Err.fault.at) refl c.in-Err.ensures.refused)
 
 pub returns-in-Err-clause-position : goal.returns-in-Err-clause-position
 returns-in-Err-clause-position c =
-    ap position_of (verdict-is (under c.args.sign.now c.args.defaults) c.args.text.now _ (Refused c.in-Err.fault.code c.in-Err.fault.at) (ap (λ (s : Counted). s.octets) c.new.ensures) c.in-Err.ensures.refused)
+    ap position_of (verdict-is (under c.args.sign.now c.args.defaults) c.args.text.now _ (Refused c.in-Err.fault.code c.in-Err.fault.at) refl c.in-Err.ensures.refused)
 
 pub returns-in-Err-clause-steps : goal.returns-in-Err-clause-steps
 returns-in-Err-clause-steps c =
-    let is = verdict-is (under c.args.sign.now c.args.defaults) c.args.text.now _ (Refused c.in-Err.fault.code c.in-Err.fault.at) (ap (λ (s : Counted). s.octets) c.new.ensures) c.in-Err.ensures.refused in
-    let same = ap (λ (s : Counted). length s.octets) c.new.ensures in
-    judged-in (under c.args.sign.now c.args.defaults) c.args.text.now (Refused c.in-Err.fault.code c.in-Err.fault.at) c.steps-in-Err.result is (omega (arith, c.in-Err.ensures.fault_steps, c.steps-in-Err.ensures, same)) (omega (arith, c.in-Err.ensures.fault_steps, c.steps-in-Err.ensures, same))
+    let is = verdict-is (under c.args.sign.now c.args.defaults) c.args.text.now _ (Refused c.in-Err.fault.code c.in-Err.fault.at) refl c.in-Err.ensures.refused in
+    judged-in (under c.args.sign.now c.args.defaults) c.args.text.now (Refused c.in-Err.fault.code c.in-Err.fault.at) c.steps-in-Err.result is (omega (arith, c.in-Err.ensures.fault_steps, c.steps-in-Err.ensures)) (omega (arith, c.in-Err.ensures.fault_steps, c.steps-in-Err.ensures))
