@@ -1,5 +1,5 @@
 -- A run that answers the lines of a block where they stand.
-use Rattle.std.proofs.Common.{◌≡◌, ◌≢◌, ℕ, ◌+◌, ◌-◌, ◌<◌, ◌≤◌, true, List, [], ◌∷◌, ◌++◌, Option, None, Some, IfSome, Ok, Err, length, take, drop, refl, sym, ap, ◌∙◌, subst, arith, append_assoc, append-nil, take-append-drop}
+use Rattle.std.proofs.Common.{◌≡◌, ◌≢◌, inl, inr, ℕ, ◌+◌, ◌-◌, ◌<◌, ◌≤◌, true, List, [], ◌∷◌, ◌++◌, Option, None, Some, IfSome, Ok, Err, length, take, drop, refl, sym, ap, ◌∙◌, subst, arith, append_assoc, append-nil, take-append-drop}
 use Rattle.std.proofs.lemmas.List.{length-append, length-drop, length-take, take-take, take_all, take_at}
 use Rattle.std.proofs.lemmas.List.Elements.{All-nil}
 use Rattle.std.specs.Io.KnownBytes.{Appends, Consumes, prepend_known}
@@ -10,13 +10,13 @@ use Rattle.tool_streams.specs.declared.fault.ToolFault.TheVariants as faults
 use Rattle.sign_tool.specs.declared.first.FirstLine.{FirstLine}
 use Rattle.sign_tool.specs.declared.first.FirstLine.TheVariants as line_is
 use Rattle.tool_streams.specs.declared.lines.NextLine.TheVariants as next
-use Rattle.sign_tool.specs.Blocks.{AnswersFirst, EndsWith, ReadsOn, WritesReady}
+use Rattle.sign_tool.specs.Blocks.{AnswersFirst, EndsRefused, EndsWith, ReadsOn, WritesReady}
 use Rattle.tool_streams.specs.Lines.{IsOneLine, input_limit, text_of}
 use Rattle.sign_tool.specs.Output.{Outcome, ended, outcome, output_of_whole}
 use Rattle.sign_tool.specs.Runs.{AnswersLine, IsFront, Runs}
 use Rattle.tool_streams.specs.Streams.{TakesLine}
 use Rattle.sign_tool.proofs.BlockLemmas.{Consumes-all_held}
-use Rattle.sign_tool.proofs.RunLemmas.{AllAnswers, Going, Progress, Progress-line, Progress-none, Progress-outcome, ends, ends_failing, ends_past, ends_too_long, ends_unfinished, ends_well, outcome-bad, outcome-long, told, whole}
+use Rattle.sign_tool.proofs.RunLemmas.{AllAnswers, Going, Progress, Progress-line, Progress-lines, Progress-none, Progress-outcome, ends, ends_failing, ends_past, ends_too_long, ends_unfinished, ends_well, outcome-bad, outcome-long, told, whole}
 
 -- a run so far: `rest` was read and isn't answered, and `ready` is answered and isn't written
 pub record Answering (first room : ℕ) (answers behind : AllAnswers) (input now output written : Option (List ℕ)) (rest ready : List ℕ) (number left seen : ℕ) (taken gone : List ℕ) (lines : List (List ℕ)) : Type 0 where
@@ -116,16 +116,19 @@ module _ (first room : ℕ) (answers behind : AllAnswers) (input now output writ
       }
 
   -- there is no memory for an answer
-  pub ends_refused : (e : ToolFault) → e ≡ faults.Memory → Runs (outcome answers first room) (output_of_whole answers first) room input now output written (Some e)
-  ends_refused e is =
-      subst (λ f. Runs (outcome answers first room) (output_of_whole answers first) room input now output written (Some f)) (sym is) record {
-        taken = taken ++ rest;
-        sent = gone ++ [];
-        takes = taken_held input now taken rest go.takes;
-        writes = subst (Appends output written) (sym (append-nil gone)) go.writes;
-        most = omega (arith, go.limit, go.most, length-append taken rest);
-        written = front [] ready refl;
-      }
+  pub ends_refused : (written' : Option (List ℕ)) (e : ToolFault) → EndsRefused written written' ready e
+      → Runs (outcome answers first room) (output_of_whole answers first) room input now output written' (Some e)
+  ends_refused written' e ends = elim ends [
+    | inl all ↦ subst (λ f. Runs (outcome answers first room) (output_of_whole answers first) room input now output written' (Some f)) (sym all.0) record {
+      taken = taken ++ rest;
+      sent = gone ++ ready;
+      takes = taken_held input now taken rest go.takes;
+      writes = Appends-trans output written written' gone ready go.writes all.1;
+      most = omega (arith, go.limit, go.most, length-append taken rest);
+      written = (Progress-lines first answers behind number taken (gone ++ ready) lines go.progress rest, front ready [] (append-nil ready));
+    }
+    | inr cut ↦ ends_cut written' cut.1 cut.2 e cut.0 cut.3 cut.4
+  ]
 
   -- where all is written, only what was read is still to be answered
   pub going : ready ≡ [] → Going first room answers behind input (prepend_known rest now) output written number left taken gone lines

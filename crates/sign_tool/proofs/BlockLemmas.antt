@@ -239,3 +239,8 @@ pub held_last : (old new : Option (List ℕ)) (held more : List ℕ) (number lef
 held_last old new held [] number left count one few some none size took end =
     (refl, (held, subst (Consumes (prepend_known held old) new) (append-nil held) (Consumes-held old new held [] took), end, one, few, some))
 held_last old new held (x ∷ more) number left count one few some none size took end = absurd (omega (arith, size, none))
+
+-- an answer that was begun is whole, and comes behind those before it
+pub answer_added : (ended whole begun ready none text : List ℕ) → ended ≡ whole ++ begun → whole ≡ ready → begun ≡ none ++ text → none ≡ [] → ended ≡ ready ++ text
+answer_added ended whole begun ready none text ends same grown is =
+    ends ∙ ap (λ l. l ++ begun) same ∙ ap (λ l. ready ++ l) (grown ∙ ap (λ l. l ++ text) is)

@@ -14,12 +14,13 @@ use Rattle.sign_tool.specs.declared.setup.Setup.{Setup}
 use Rattle.sign_tool.specs.declared.tool.Mode.{Mode}
 use Rattle.tool_streams.specs.Lines.{Cut, cut, input_limit, IsOneLine, is_mark, octets_of, parted, text_of}
 use Rattle.sign_tool.specs.Output.{Outcome, answered_on, behind_file, ended, fault_at_end, fault_unmarked, filed, first_long, outcome, outcome_of_file, output_of_whole, output_of_whole_file, unless_long}
-use Rattle.sign_tool.specs.Runs.{Fails, IsFront, IsWritten, Leads, outcome_on, output_on}
+use Rattle.sign_tool.specs.Runs.{Fails, IsWritten, Leads, outcome_on, output_on}
 use Rattle.sign_tool.specs.FileSetup.{setup_of_octets}
 use Rattle.tool_streams.specs.Streams.{TakesLine}
 use Rattle.sign_tool.specs.Tool.{answers_of, outcome_of, output_so_far}
 use Rattle.sign_tool.proofs.CutLemmas.{AreLines, octets_of-more, cut-line, cut-lines, cut-unfinished, take-past, nat_lt-past}
-use Rattle.sign_tool.proofs.RunLemmas.{AllAnswers, if_some_always, told}
+use Rattle.sign_tool.proofs.RefusedLemmas.{written_refused}
+use Rattle.sign_tool.proofs.RunLemmas.{AllAnswers, told}
 
 -- ---- lines of a sign file
 
@@ -225,10 +226,10 @@ module _ (input now new : Option (List ℕ)) (number left left' : ℕ) (octets l
   pub fails_at_end : TakesLine now new left left' line (Ok next.End) → Fails false input new faults.BadSign
   fails_at_end t = fails [] _ t.0 (omega arith) (whole_at_end [] faults.BadSign t.0 t.1 (λ mode. behind-unfinished (answers_of mode) lines left [] (All-nil (λ c. c ≢ 10)) (omega arith)))
 
-  -- nothing was written yet, which is a front of any output
+  -- nothing was written yet
   fails_memory : (more : List ℕ) → Consumes now new more → length more ≤ left + 1 → Fails false input new faults.Memory
   fails_memory more took few =
-      fails more _ took few (λ mode. if_some_always input (λ all. IsFront [] (outcome_of mode false all).output) (λ all. ((outcome_of mode false all).output, refl)))
+      fails more _ took few (λ mode. written_refused mode false input (octets_of lines ++ more))
 
   pub fails_reading : (e : ToolFault) → TakesLine now new left left' line (Err e) → Fails false input new e
   fails_reading faults.Read t =

@@ -5,6 +5,7 @@ pub mod FileLemmas
 mod FileSetupRows
 pub mod FileSetupLemmas
 pub mod FrameLemmas
+pub mod RefusedLemmas
 pub mod ReplyLemmas
 pub mod RunLemmas
 pub mod ScriptLemmas

@@ -1,19 +1,18 @@
 -- A run that answers line by line, from a first line on.
-use Rattle.std.proofs.Common.{◌≡◌, ℕ, ◌+◌, ◌-◌, ◌<◌, ◌≤◌, true, false, List, [], ◌∷◌, ◌++◌, Option, None, Some, IfSome, Ok, Err, length, take, map, refl, sym, ap, ◌∙◌, subst, arith, append_assoc, append-nil}
+use Rattle.std.proofs.Common.{◌≡◌, ◌≢◌, ℕ, ◌+◌, ◌-◌, ◌<◌, ◌≤◌, true, false, List, [], ◌∷◌, ◌++◌, Option, None, Some, IfSome, Ok, Err, length, take, map, refl, sym, ap, ◌∙◌, subst, arith, append_assoc, append-nil}
 use Rattle.std.specs.Prelude.{nat_lt}
 use Rattle.std.proofs.lemmas.Bool.{lt-ltb, le-ltb}
 use Rattle.std.proofs.lemmas.List.{length-append, take_all, take_at}
+use Rattle.std.proofs.lemmas.List.Elements.{All-nil}
 use Rattle.std.specs.Io.KnownBytes.{Consumes, Appends, IsAtEnd}
 use Rattle.std.proofs.KnownBytes.{Consumes-trans, Consumes-whole, Appends-trans}
-use Rattle.sign_tool.specs.declared.answer.LineAnswer.{LineAnswer}
-use Rattle.sign_tool.specs.declared.answer.LineAnswer.TheVariants.{Text, BadLine}
 use Rattle.tool_streams.specs.declared.fault.ToolFault.{ToolFault}
 use Rattle.tool_streams.specs.declared.fault.ToolFault.TheVariants as faults
 use Rattle.tool_streams.specs.Lines.{Cut, cut, input_limit, IsOneLine, octets_of, text_of}
 use Rattle.sign_tool.specs.Output.{Outcome, ended, after, answered, outcome, output_of_whole}
 use Rattle.tool_streams.specs.declared.lines.NextLine.TheVariants as next
-use Rattle.tool_streams.specs.Streams.{TakesLine, WritesWhole}
-use Rattle.sign_tool.specs.Runs.{AnswersLine, IsFront, IsWritten, Runs}
+use Rattle.tool_streams.specs.Streams.{TakesLine}
+use Rattle.sign_tool.specs.Runs.{IsFront, IsOfLines, IsWritten, Runs}
 use Rattle.sign_tool.proofs.CutLemmas.{AreLines, AreLines-more, octets_of-more, cut-line, cut-lines, cut-unfinished, take-past, nat_lt-past}
 
 -- the answers to all the lines that may come
@@ -130,6 +129,11 @@ module _ (first : ℕ) (answers behind : AllAnswers) (number : ℕ) (taken sent 
       ap (λ l. cut (l ++ line)) p.taken_is ∙ cut-lines lines line p.each ∙ ap (λ (c : Cut). let d : Cut = record { whole = lines ++ c.whole; rest = c.rest } in d) (cut-unfinished line one) in
       ap (λ (c : Cut). (answered first c.whole (answers (map text_of c.whole)) (λ n. None)).output) parts ∙ ap (λ (o : Outcome). o.output) (p.says [] (λ n. None)) ∙ append-nil sent
 
+  -- what was sent is the answers to the lines so far, whatever was taken behind them
+  pub Progress-lines : (more : List ℕ) → IsOfLines (output_of_whole answers first) (taken ++ more) sent
+  Progress-lines more =
+      (taken, (more, refl), ap (output_of_whole answers first) (sym (append-nil taken)) ∙ Progress-whole [] (All-nil (λ c. c ≢ 10)))
+
 -- a run so far: what was taken, what was sent, and how much may still come
 pub record Going (first room : ℕ) (answers behind : AllAnswers) (input now output written : Option (List ℕ)) (number left : ℕ) (taken sent : List ℕ) (lines : List (List ℕ)) : Type 0 where
   pub takes : Consumes input now taken
@@ -207,75 +211,12 @@ module _ (first room : ℕ) (answers behind : AllAnswers) (input now new output 
   ends_failing faults.Read t =
       let (seen, took, few, one) = t in
       ends seen _ took (omega arith) (Progress-whole first answers behind number taken sent lines go.progress seen one)
-  ends_failing faults.Memory t = let (seen, took, few, one) = t in ends seen _ took (omega arith) (front seen took)
+  ends_failing faults.Memory t =
+      let (seen, took, few, one) = t in
+      ends seen _ took (omega arith) (Progress-lines first answers behind number taken sent lines go.progress seen, front seen took)
   ends_failing faults.Write t = let (seen, took, few, bad) = t in absurd (let wrong : faults.Write ≡ faults.Memory = bad in cc)
   ends_failing (faults.LineTooLong n) t = let (seen, took, few, bad) = t in absurd (let wrong : faults.LineTooLong n ≡ faults.Memory = bad in cc)
   ends_failing (faults.BadLine n) t = let (seen, took, few, bad) = t in absurd (let wrong : faults.BadLine n ≡ faults.Memory = bad in cc)
   ends_failing faults.InputTooLong t = let (seen, took, few, bad) = t in absurd (let wrong : faults.InputTooLong ≡ faults.Memory = bad in cc)
   ends_failing (faults.SignRefused n) t = let (seen, took, few, bad) = t in absurd (let wrong : faults.SignRefused n ≡ faults.Memory = bad in cc)
   ends_failing faults.BadSign t = let (seen, took, few, bad) = t in absurd (let wrong : faults.BadSign ≡ faults.Memory = bad in cc)
-
-  pub ends_bad : (next' : AllAnswers) (old text : List ℕ) → TakesLine now new left left' line (Ok next.Line) → AnswersLine behind next' (text_of line) old text (Ok BadLine)
-      → Runs (outcome answers first room) (output_of_whole answers first) room input new output written (Some (faults.BadLine number))
-  ends_bad next' old text t bad =
-      let (took, one, few, short) = t in
-      ends (line ++ 10 ∷ []) _ took (omega (arith, length-append line (10 ∷ []))) (whole (line ++ 10 ∷ []) _ took (λ ys. outcome-bad behind number left line ys left' one (sym few) short bad.1))
-
-  pub ends_unanswered : (e : ToolFault) → TakesLine now new left left' line (Ok next.Line) → e ≡ faults.Memory → Runs (outcome answers first room) (output_of_whole answers first) room input new output written (Some e)
-  ends_unanswered e t is =
-      let (took, one, few, short) = t in
-      subst (λ f. Runs (outcome answers first room) (output_of_whole answers first) room input new output written (Some f)) (sym is) (ends (line ++ 10 ∷ []) _ took (omega (arith, length-append line (10 ∷ []))) (front (line ++ 10 ∷ []) took))
-
-  -- the line is answered and the answer written
-  pub goes_on : (next' : AllAnswers) (written' : Option (List ℕ)) (text : List ℕ) → TakesLine now new left left' line (Ok next.Line)
-      → AnswersLine behind next' (text_of line) [] text (Ok Text) → Appends written written' text
-      → Going first room answers next' input new output written' (number + 1) left' (taken ++ (line ++ 10 ∷ [])) (sent ++ text) (lines ++ line ∷ [])
-  goes_on next' written' text t says wrote =
-      let (took, one, few, short) = t in
-      let answer : (more : List (List ℕ)) → behind (text_of line ∷ more) ≡ Some text ∷ next' more = λ more. says.2 more ∙ ap (λ l. Some l ∷ next' more) (sym says.1) in
-      record {
-        takes = Consumes-trans input now new taken (line ++ 10 ∷ []) go.takes took;
-        writes = Appends-trans output written written' sent text go.writes wrote;
-        limit = omega (arith, go.limit, length-append taken (line ++ 10 ∷ []), length-append line (10 ∷ []));
-        counted = omega (arith, go.counted);
-        progress = Progress-line first answers behind number taken sent lines go.progress next' line text one short answer;
-      }
-
-pub Runs-cut : (first room : ℕ) (answers behind : AllAnswers) (input new output written written' : Option (List ℕ)) (number left : ℕ) (taken sent text part unsent : List ℕ) (lines : List (List ℕ)) (e : ToolFault)
-    → Consumes input new taken → length taken + left ≡ room → Progress first answers behind number taken (sent ++ text) lines
-    → Appends output written sent → Appends written written' part → part ++ unsent ≡ text → e ≡ faults.Write
-    → Runs (outcome answers first room) (output_of_whole answers first) room input new output written' (Some e)
-Runs-cut first room answers behind input new output written written' number left taken sent text part unsent lines e took limit p wrote wrote' all is =
-    subst (λ f. Runs (outcome answers first room) (output_of_whole answers first) room input new output written' (Some f)) (sym is) record {
-      taken = taken;
-      sent = sent ++ part;
-      takes = took;
-      writes = Appends-trans output written written' sent part wrote wrote';
-      most = omega (arith, limit);
-      written = told input new taken (λ octets. IsFront (sent ++ part) (outcome answers first room octets).output) took (λ ys.
-          let rest = (outcome behind number left ys).output in (
-            unsent ++ rest,
-            ap (λ (o : Outcome). o.output) (Progress-outcome first answers behind number taken (sent ++ text) lines p ys left room limit)
-                ∙ (let regrouped : (sent ++ text) ++ rest ≡ (sent ++ part) ++ (unsent ++ rest) = rw (← all) (simp append_assoc refl) in regrouped),
-          ));
-    }
-
--- an answer to a line that is known in other words
-pub same_answer : (before behind : AllAnswers) (line line' old old' new : List ℕ) (answer answer' : LineAnswer) → line ≡ line' → old ≡ old' → answer ≡ answer'
-    → AnswersLine before behind line old new (Ok answer) → AnswersLine before behind line' old' new (Ok answer')
-same_answer before behind line line' old old' new answer answer' e f h a =
-    subst (λ l. AnswersLine before behind l old' new (Ok answer')) e (subst (λ o. AnswersLine before behind line o new (Ok answer')) f (subst (λ b. AnswersLine before behind line old new (Ok b)) h a))
-
-module _ (first room : ℕ) (answers behind : AllAnswers) (input now new output written : Option (List ℕ)) (number left left' : ℕ) (taken sent line : List ℕ) (lines : List (List ℕ))
-    (go : Going first room answers behind input now output written number left taken sent lines) where
-  -- the line is answered, and not all of the answer written
-  pub ends_writing : (next' : AllAnswers) (written' : Option (List ℕ)) (text octets : List ℕ) (e : ToolFault) → TakesLine now new left left' line (Ok next.Line)
-      → AnswersLine behind next' (text_of line) [] text (Ok Text) → octets ≡ text → WritesWhole written written' octets (Err e) → Runs (outcome answers first room) (output_of_whole answers first) room input new output written' (Some e)
-  ends_writing next' written' text octets e t says same wrote =
-      let (took, one, few, short) = t in
-      let answer : (more : List (List ℕ)) → behind (text_of line ∷ more) ≡ Some text ∷ next' more = λ more. says.2 more ∙ ap (λ l. Some l ∷ next' more) (sym says.1) in
-      Runs-cut first room answers next' input new output written written' (number + 1) left' (taken ++ (line ++ 10 ∷ [])) sent text wrote.1 wrote.2 (lines ++ line ∷ []) e
-      (Consumes-trans input now new taken (line ++ 10 ∷ []) go.takes took)
-      (omega (arith, go.limit, length-append taken (line ++ 10 ∷ []), length-append line (10 ∷ [])))
-      (Progress-line first answers behind number taken sent lines go.progress next' line text one short answer)
-      go.writes wrote.3 (wrote.4 ∙ same) wrote.0

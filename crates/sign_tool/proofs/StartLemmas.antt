@@ -1,5 +1,5 @@
 -- The start of a run: from what stands before the lines to the lines.
-use Rattle.std.proofs.Common.{◌≡◌, ◌⊎◌, inl, inr, ℕ, Bool, true, List, [], ◌++◌, Option, None, Some, IfSome, Result, Ok, Err, refl, sym, ap, ◌∙◌, subst, arith, append-nil, map}
+use Rattle.std.proofs.Common.{◌≡◌, ◌⊎◌, inl, inr, ℕ, Bool, true, List, [], ◌++◌, Option, None, Some, IfSome, Result, Ok, Err, refl, sym, ap, ◌∙◌, subst, arith, append_assoc, append-nil, map}
 use Rattle.std.specs.Io.KnownBytes.{Consumes}
 use Rattle.std.proofs.KnownBytes.{Consumes-nil, Consumes-trans, Appends-nil}
 use Rattle.std.proofs.lemmas.List.{length-append}
@@ -10,11 +10,12 @@ use Rattle.sign_tool.specs.declared.setup.Setup.{Setup}
 use Rattle.sign_tool.specs.declared.tool.Mode.{Mode}
 use Rattle.sign_tool.specs.declared.tool.Mode.TheVariants.{Show}
 use Rattle.sign_tool.specs.Frame.{ShowerData, show_answer}
-use Rattle.tool_streams.specs.Lines.{input_limit}
-use Rattle.sign_tool.specs.Output.{Outcome, outcome, output_of_whole}
-use Rattle.sign_tool.specs.Runs.{Fails, IsFront, IsWritten, Leads, Runs, outcome_on, output_on}
+use Rattle.tool_streams.specs.Lines.{cut, input_limit}
+use Rattle.sign_tool.specs.Output.{Outcome, answered, outcome, output_of_whole}
+use Rattle.sign_tool.specs.Runs.{Fails, IsFront, IsOfLines, IsWritten, Leads, Runs, outcome_on, output_on}
 use Rattle.sign_tool.specs.SampleSetup.{sample_setup}
 use Rattle.sign_tool.specs.Tool.{answers_of, outcome_of, output_so_far}
+use Rattle.sign_tool.proofs.RefusedLemmas.{front_of_any, written_refused}
 use Rattle.sign_tool.proofs.RunLemmas.{if_some_always, told}
 
 -- what is known of what stands behind these octets, where a reader tells
@@ -31,17 +32,13 @@ leads_at_once setup is = subst (λ s. Leads true [] (Ok s) (record { number = 1;
   so_far = λ mode rest. refl;
 }
 
--- nothing was written yet, which is a front of any output
-front_of_any : (mode : Mode) (sample : Bool) (input : Option (List ℕ)) → IfSome input (λ octets. IsFront [] (outcome_of mode sample octets).output)
-front_of_any mode sample input = if_some_always input _ (λ octets. ((outcome_of mode sample octets).output, refl))
-
 -- there is no memory for the sample sign
 pub fails_at_once : (input : Option (List ℕ)) (e : ToolFault) → e ≡ faults.Memory → Fails true input input e
 fails_at_once input e is = subst (Fails true input input) (sym is) record {
   taken = [];
   takes = Consumes-nil input;
   most = omega arith;
-  written = λ mode. front_of_any mode true input;
+  written = λ mode. written_refused mode true input [];
 }
 
 module _ (sample : Bool) (input new : Option (List ℕ)) (taken : List ℕ) (sign : Result Setup ToolFault) (place : LineStart) (took : Consumes input new taken) (l : Leads sample taken sign place) where
@@ -55,7 +52,7 @@ module _ (sample : Bool) (input new : Option (List ℕ)) (taken : List ℕ) (sig
   written_unsigned faults.Read is mode =
       ap (output_so_far mode sample) (sym (append-nil taken)) ∙ l.so_far mode [] ∙ ap (λ s. output_on mode s place []) is
   written_unsigned faults.Write is mode = front_of_any mode sample input
-  written_unsigned faults.Memory is mode = front_of_any mode sample input
+  written_unsigned faults.Memory is mode = written_refused mode sample input taken
   written_unsigned (faults.LineTooLong n) is mode = unsigned _ is mode
   written_unsigned (faults.BadLine n) is mode = unsigned _ is mode
   written_unsigned faults.InputTooLong is mode = unsigned _ is mode
@@ -68,7 +65,7 @@ module _ (sample : Bool) (input new : Option (List ℕ)) (taken : List ℕ) (sig
     takes = took;
     most = omega (arith, l.place_is.0);
     written = elim why [
-      | inl is ↦ subst (λ f. (mode : Mode) → IsWritten (outcome_of mode sample) (output_so_far mode sample) input taken [] (Some f)) (sym is) (λ mode. front_of_any mode sample input)
+      | inl is ↦ subst (λ f. (mode : Mode) → IsWritten (outcome_of mode sample) (output_so_far mode sample) input taken [] (Some f)) (sym is) (λ mode. written_refused mode sample input taken)
       | inr is ↦ written_unsigned e is
     ];
   }
@@ -105,12 +102,16 @@ module _ (mode : Mode) (sample : Bool) (input now new output written : Option (L
         told_by input now taken (λ all. IsFront sent (outcome_of mode sample all).output) (λ all. IsFront sent (outcomes all).output) took
         (λ ys f. (f.0, ap (λ (o : Outcome). o.output) (l.whole mode ys) ∙ f.1)) is
 
+    behind_lines : IsOfLines so_far more sent → IsOfLines (output_so_far mode sample) (taken ++ more) sent
+    unfolding so_far
+    behind_lines is = (taken ++ is.0, (is.1.0, ap (λ l. taken ++ l) is.1.1 ∙ sym (append_assoc taken is.0 is.1.0)), l.so_far mode is.0 ∙ is.2)
+
     behind_written : (fault : Option ToolFault) → IsWritten outcomes so_far now more sent fault → IsWritten (outcome_of mode sample) (output_so_far mode sample) input (taken ++ more) sent fault
     unfolding so_far
     behind_written None is = behind_all _ is
     behind_written (Some faults.Read) is = l.so_far mode more ∙ is
     behind_written (Some faults.Write) is = behind_front is
-    behind_written (Some faults.Memory) is = behind_front is
+    behind_written (Some faults.Memory) is = (behind_lines is.0, behind_front is.1)
     behind_written (Some (faults.LineTooLong n)) is = behind_all _ is
     behind_written (Some (faults.BadLine n)) is = behind_all _ is
     behind_written (Some faults.InputTooLong) is = behind_all _ is
@@ -131,15 +132,16 @@ module _ (mode : Mode) (sample : Bool) (input now new output written : Option (L
   }
 
 -- a run that ends because memory was refused, before a line is read
-pub Runs-unread : (outcomes : List ℕ → Outcome) (so_far : List ℕ → List ℕ) (limit : ℕ) (input output : Option (List ℕ)) (e : ToolFault) → e ≡ faults.Memory
-    → Runs outcomes so_far limit input input output output (Some e)
-Runs-unread outcomes so_far limit input output e is = subst (λ f. Runs outcomes so_far limit input input output output (Some f)) (sym is) record {
+pub Runs-unread : (outcomes : List ℕ → Outcome) (answers : List (List ℕ) → List (Option (List ℕ))) (number limit : ℕ) (input output : Option (List ℕ)) (e : ToolFault) → e ≡ faults.Memory
+    → Runs outcomes (output_of_whole answers number) limit input input output output (Some e)
+unfolding output_of_whole cut answered
+Runs-unread outcomes answers number limit input output e is = subst (λ f. Runs outcomes (output_of_whole answers number) limit input input output output (Some f)) (sym is) record {
   taken = [];
   sent = [];
   takes = Consumes-nil input;
   writes = Appends-nil output;
   most = omega arith;
-  written = if_some_always input _ (λ octets. ((outcomes octets).output, refl));
+  written = (([], ([], refl), refl), if_some_always input _ (λ octets. ((outcomes octets).output, refl)));
 }
 
 -- the answers of what is shown (own)

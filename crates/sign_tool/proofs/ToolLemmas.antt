@@ -4,7 +4,7 @@ use Rattle.std.specs.Io.KnownBytes.{Consumes, Appends}
 use Rattle.tool_streams.specs.declared.fault.ToolFault.{ToolFault}
 use Rattle.tool_streams.specs.declared.fault.ToolFault.TheVariants as faults
 use Rattle.sign_tool.specs.Output.{Outcome}
-use Rattle.sign_tool.specs.Runs.{Runs, IsFront}
+use Rattle.sign_tool.specs.Runs.{IsFront, Runs, WritesLines}
 use Rattle.sign_tool.specs.Tool.{IsOfInput}
 
 if_some : (input : Option (List ℕ)) (P Q : List ℕ → Type 0) → ((octets : List ℕ) → P octets → Q octets) → IfSome input P → IfSome input Q
@@ -53,5 +53,12 @@ module _ (outcomes : List ℕ → Outcome) (so_far : List ℕ → List ℕ) (lim
       → IfSome input (λ octets. (sent : List ℕ) × Appends output output' sent × IsFront sent (outcomes octets).output)
   front fault which r = elim which [
     | inl e ↦ let s = subst (Runs outcomes so_far limit input input' output output') e r in front_of s.sent s.writes s.written
-    | inr e ↦ let s = subst (Runs outcomes so_far limit input input' output output') e r in front_of s.sent s.writes s.written
+    | inr e ↦ let s = subst (Runs outcomes so_far limit input input' output output') e r in front_of s.sent s.writes s.written.1
   ]
+
+  pub lines : (fault : Option ToolFault) → fault ≡ Some faults.Memory → Runs outcomes so_far limit input input' output output' fault
+      → WritesLines so_far input input' output output'
+  lines fault is r =
+      let s = subst (Runs outcomes so_far limit input input' output output') is r in
+      let (front, begins, answers) = s.written.0 in
+      (s.taken, front, s.takes, begins, subst (Appends output output') (sym answers) s.writes)

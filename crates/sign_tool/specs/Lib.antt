@@ -2,6 +2,7 @@ pub mod Blocks
 pub mod FileSetup
 pub mod Frame
 pub mod Output
+pub mod Ready
 pub mod Replies
 pub mod Reply
 pub mod Runs

@@ -32,13 +32,23 @@ fault_of (Err e) = Some e
 abbrev pub IsFront : List ℕ → List ℕ → Type 0
 IsFront sent all = (unsent : List ℕ) × (all ≡ sent ++ unsent)
 
+-- What was sent is the answers to some number of whole lines, the first of those that were taken (own).
+abbrev pub IsOfLines : (List ℕ → List ℕ) → List ℕ → List ℕ → Type 0
+IsOfLines so_far taken sent = (front : List ℕ) × IsFront front taken × (so_far front ≡ sent)
+
 -- What was sent is the whole output of the input, with its fault; after a failed read it is the output of the whole
--- lines that were taken, and after a failed write, or if memory was refused, it is a front of the output (own).
+-- lines that were taken, after a failed write a front of the output, and if memory was refused such a front that is the
+-- answers to some number of whole lines (own).
 abbrev pub IsWritten : (List ℕ → Outcome) → (List ℕ → List ℕ) → Option (List ℕ) → List ℕ → List ℕ → Option ToolFault → Type 0
 IsWritten outcomes so_far input taken sent (Some Read) = so_far taken ≡ sent
 IsWritten outcomes so_far input taken sent (Some Write) = IfSome input (λ octets. IsFront sent (outcomes octets).output)
-IsWritten outcomes so_far input taken sent (Some Memory) = IfSome input (λ octets. IsFront sent (outcomes octets).output)
+IsWritten outcomes so_far input taken sent (Some Memory) = IsOfLines so_far taken sent × IfSome input (λ octets. IsFront sent (outcomes octets).output)
 IsWritten outcomes so_far input taken sent fault = IfSome input (λ octets. outcomes octets ≡ record { output = sent; fault = fault })
+
+-- Some octets are taken, and the answers to some number of whole lines, the first of these octets, are written and no more (own).
+abbrev pub WritesLines : (List ℕ → List ℕ) → Option (List ℕ) → Option (List ℕ) → Option (List ℕ) → Option (List ℕ) → Type 0
+WritesLines so_far input input' output output' = (taken : List ℕ) × (front : List ℕ)
+    × Consumes input input' taken × IsFront front taken × Appends output output' (so_far front)
 
 -- A run takes some octets of its input and sends some, where inputs have these outcomes, the whole lines of what was
 -- read have the output `so_far`, and at most `limit` octets are taken as lines (own).

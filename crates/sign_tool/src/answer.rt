@@ -1,7 +1,8 @@
 //! What answers lines.
-ghost use Rattle.std.specs.Prelude.{List, ℕ, Option};
+ghost use Rattle.std.specs.Prelude.{◌≡◌, List, ℕ, Option};
 ghost use Rattle.sign_tool.specs.Runs.{AnswersLine};
 
+use crate::ready::Ready;
 use std::alloc::AllocError;
 
 /// What a line is answered by (own).
@@ -19,6 +20,7 @@ pub(crate) trait Answer {
     ghost answers: { Self → List (List ℕ) → List (Option (List ℕ)) };
 
     /// Answers the line, and appends the text of its answer.
-    fn answer(&mut self, line: &[u8], text: &mut Vec<u8>) -> Result<LineAnswer, AllocError>
-        ensures answered { AnswersLine (answers self.old) (answers self.new) line.now text.old.items text.new.items result };
+    fn answer(&mut self, line: &[u8], text: &mut Ready) -> Result<LineAnswer, AllocError>
+        ensures answered { AnswersLine (answers self.old) (answers self.new) line.now text.old.begun text.new.begun result }
+        ensures whole { text.new.whole ≡ text.old.whole };
 }

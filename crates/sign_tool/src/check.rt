@@ -3,6 +3,7 @@ ghost use Rattle.std.specs.Prelude.{◌≡◌, ◌++◌, OnOk, Some, map};
 ghost use Rattle.sign_tool.specs.Reply.{check_answer};
 
 use crate::answer::{Answer, LineAnswer};
+use crate::ready::Ready;
 use crate::reply::{push_pages, push_refused, push_too_long};
 use multi_layout::check;
 use multi_token::Source;
@@ -17,8 +18,9 @@ pub(crate) struct Checker {
 }
 
 /// Appends the answer to the line.
-fn push_verdict(sign: &Sign, line: &[u8], text: &mut Vec<u8>) -> Result<(), AllocError>
-    ensures { OnOk result (text.new.items ≡ text.old.items ++ check_answer sign.now line.now) }
+fn push_verdict(sign: &Sign, line: &[u8], text: &mut Ready) -> Result<(), AllocError>
+    ensures text { OnOk result (text.new.begun ≡ text.old.begun ++ check_answer sign.now line.now) }
+    ensures whole { text.new.whole ≡ text.old.whole }
 {
     if line.len() > MAX_STRING {
         return push_too_long(text);
@@ -32,7 +34,7 @@ fn push_verdict(sign: &Sign, line: &[u8], text: &mut Vec<u8>) -> Result<(), Allo
 impl Answer for Checker {
     ghost answers = { λ s lines. map (λ line. Some (check_answer s.sign line)) lines };
 
-    fn answer(&mut self, line: &[u8], text: &mut Vec<u8>) -> Result<LineAnswer, AllocError> {
+    fn answer(&mut self, line: &[u8], text: &mut Ready) -> Result<LineAnswer, AllocError> {
         push_verdict(&self.sign, line, text)?;
         Ok(LineAnswer::Text)
     }

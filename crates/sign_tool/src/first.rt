@@ -1,9 +1,10 @@
 //! The first line of a block.
-ghost use Rattle.std.specs.Prelude.{◌≡◌, ◌≤◌, length, take};
+ghost use Rattle.std.specs.Prelude.{◌≡◌, ◌≤◌, [], OnOk, length, take};
 ghost use Rattle.sign_tool.specs.Blocks.{AnswersFirst, IsLineEnd};
 ghost use Rattle.tool_streams.specs.Lines.{IsOneLine};
 
 use crate::answer::{Answer, LineAnswer};
+use crate::ready::Ready;
 use memchr::memchr_iter;
 use std::alloc::AllocError;
 use tool_streams::{MAX_LINE, text_of};
@@ -34,16 +35,18 @@ fn line_end(octets: &[u8], seen: usize) -> Option<usize>
     }
 }
 
-/// Answers the first line if it ends here, and appends the text of its answer. The first `seen` octets have no line feed.
+/// Answers the first line if it ends here, and adds its answer to those that are ready. The first `seen` octets have no line feed.
 pub(crate) fn answer_first<A: Answer>(
     answer: &mut A,
     octets: &[u8],
     seen: usize,
-    text: &mut Vec<u8>,
+    ready: &mut Ready,
 ) -> Result<FirstLine, AllocError>
     requires seen { seen ≤ length octets.now }
     requires none { IsOneLine (take seen octets.now) }
-    ensures first { AnswersFirst (A.answers answer.old) (A.answers answer.new) octets.now text.old.items text.new.items result }
+    requires begun { ready.old.begun ≡ [] }
+    ensures first { AnswersFirst (A.answers answer.old) (A.answers answer.new) octets.now ready.old.whole ready.new.whole result }
+    ensures begun { OnOk result (ready.new.begun ≡ []) }
 {
     let Some(end) = line_end(octets, seen) else {
         return Ok(FirstLine::Open);
@@ -52,8 +55,11 @@ pub(crate) fn answer_first<A: Answer>(
     if line.len() > MAX_LINE {
         return Ok(FirstLine::TooLong);
     }
-    match answer.answer(line, text)? {
-        LineAnswer::Text => Ok(FirstLine::Answered(end + 1)),
+    match answer.answer(line, ready)? {
+        LineAnswer::Text => {
+            ready.end_answer();
+            Ok(FirstLine::Answered(end + 1))
+        }
         LineAnswer::BadLine => Ok(FirstLine::Bad),
     }
 }

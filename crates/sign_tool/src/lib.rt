@@ -12,6 +12,7 @@ mod first;
 mod laws;
 mod output;
 mod pixels;
+mod ready;
 mod refill;
 mod replies;
 mod reply;

@@ -1,8 +1,10 @@
 //! Answers that are written.
-ghost use Rattle.sign_tool.specs.Blocks.{WritesReady};
+ghost use Rattle.std.specs.Prelude.{◌≡◌, [], OnOk};
+ghost use Rattle.sign_tool.specs.Blocks.{EndsRefused, WritesReady};
 
 use crate::block::BLOCK;
 use crate::first::FirstLine;
+use crate::ready::Ready;
 use std::io::Write;
 use tool_streams::{ToolFault, write_whole};
 
@@ -13,17 +15,30 @@ const MAX_READY: usize = 6 * BLOCK;
 /// read. After an `Err`, which is `Write`, the writer has taken a beginning of them.
 pub(crate) fn write_ready<W: Write>(
     writer: &mut W,
-    ready: &mut Vec<u8>,
+    ready: &mut Ready,
     first: FirstLine,
 ) -> Result<(), ToolFault>
-    ensures written { WritesReady (W.contents writer.old) (W.contents writer.new) first ready.old.items ready.new.items result }
+    requires { ready.old.begun ≡ [] }
+    ensures written { WritesReady (W.contents writer.old) (W.contents writer.new) first ready.old.whole ready.new.whole result }
+    ensures begun { OnOk result (ready.new.begun ≡ []) }
 {
     if let FirstLine::Answered(_) = first
-        && ready.len() < MAX_READY
+        && ready.whole().len() < MAX_READY
     {
         return Ok(());
     }
-    write_whole(writer, ready)?;
+    write_whole(writer, ready.whole())?;
     ready.clear();
     Ok(())
+}
+
+/// Writes the answers to the lines before the one for whose answer memory was refused, and says how the run ends: `Memory`, or `Write`
+/// if the writer fails, which has then taken a beginning of them.
+pub(crate) fn end_refused<W: Write>(writer: &mut W, ready: &Ready) -> ToolFault
+    ensures { EndsRefused (W.contents writer.old) (W.contents writer.new) ready.now.whole result }
+{
+    match write_whole(writer, ready.whole()) {
+        Ok(()) => ToolFault::Memory,
+        Err(fault) => fault,
+    }
 }

@@ -5,16 +5,17 @@ ghost use Rattle.hex.specs.Hex.{encode_lower};
 ghost use Rattle.message_store.specs.Row.{data_of, row_result};
 ghost use Rattle.sign_tool.specs.Replies.{asked_text, crc_text, defaults_text, errors_text, fault_text, fields_text, numbers_text, octets_text, reply_text, report_text, row_reply, shown_text, table_text};
 
+use crate::ready::{Ready, push_number, push_octets};
 use message_store::{MsgRef, Row, StoreFault};
-use octet_text::{push_number, push_octets};
 use sign_control::{Reply, Report};
 use sign_font::Defaults;
 use std::alloc::AllocError;
 
 /// Appends octets in hexadecimal.
 #[tactic(auto, unfolding(hex::specs::Hex::encode_with))]
-fn push_hex(text: &mut Vec<u8>, octets: &[u8]) -> Result<(), AllocError>
-    ensures { OnOk result (text.new.items ≡ text.old.items ++ encode_lower octets.now) }
+fn push_hex(text: &mut Ready, octets: &[u8]) -> Result<(), AllocError>
+    ensures text { OnOk result (text.new.begun ≡ text.old.begun ++ encode_lower octets.now) }
+    ensures whole { text.new.whole ≡ text.old.whole }
 {
     for octet in octets {
         let mut pair = [0; 2];
@@ -27,8 +28,9 @@ fn push_hex(text: &mut Vec<u8>, octets: &[u8]) -> Result<(), AllocError>
 }
 
 /// Appends octets in hexadecimal, and no octets as `-`.
-fn push_hex_or_dash(text: &mut Vec<u8>, octets: &[u8]) -> Result<(), AllocError>
-    ensures { OnOk result (text.new.items ≡ text.old.items ++ octets_text octets.now) }
+fn push_hex_or_dash(text: &mut Ready, octets: &[u8]) -> Result<(), AllocError>
+    ensures text { OnOk result (text.new.begun ≡ text.old.begun ++ octets_text octets.now) }
+    ensures whole { text.new.whole ≡ text.old.whole }
 {
     if octets.is_empty() {
         return push_octets(text, b"-");
@@ -37,15 +39,17 @@ fn push_hex_or_dash(text: &mut Vec<u8>, octets: &[u8]) -> Result<(), AllocError>
 }
 
 /// Appends a CRC.
-fn push_crc(text: &mut Vec<u8>, crc: u16) -> Result<(), AllocError>
-    ensures { OnOk result (text.new.items ≡ text.old.items ++ crc_text crc) }
+fn push_crc(text: &mut Ready, crc: u16) -> Result<(), AllocError>
+    ensures text { OnOk result (text.new.begun ≡ text.old.begun ++ crc_text crc) }
+    ensures whole { text.new.whole ≡ text.old.whole }
 {
     push_hex(text, &crc.to_be_bytes())
 }
 
 /// Appends numbers in decimal, each after a space.
-fn push_numbers(text: &mut Vec<u8>, numbers: &[u64]) -> Result<(), AllocError>
-    ensures { OnOk result (text.new.items ≡ text.old.items ++ numbers_text numbers.now) }
+fn push_numbers(text: &mut Ready, numbers: &[u64]) -> Result<(), AllocError>
+    ensures text { OnOk result (text.new.begun ≡ text.old.begun ++ numbers_text numbers.now) }
+    ensures whole { text.new.whole ≡ text.old.whole }
 {
     for number in numbers {
         push_octets(text, b" ")?;
@@ -55,24 +59,27 @@ fn push_numbers(text: &mut Vec<u8>, numbers: &[u64]) -> Result<(), AllocError>
 }
 
 /// Appends a label and a number in decimal.
-fn push_labelled(text: &mut Vec<u8>, label: &[u8], number: u64) -> Result<(), AllocError>
-    ensures { OnOk result (text.new.items ≡ text.old.items ++ (label.now ++ decimal number)) }
+fn push_labelled(text: &mut Ready, label: &[u8], number: u64) -> Result<(), AllocError>
+    ensures text { OnOk result (text.new.begun ≡ text.old.begun ++ (label.now ++ decimal number)) }
+    ensures whole { text.new.whole ≡ text.old.whole }
 {
     push_octets(text, label)?;
     push_number(text, number)
 }
 
 /// Appends the refusal of a fault.
-fn push_fault(text: &mut Vec<u8>, code: u8) -> Result<(), AllocError>
-    ensures { OnOk result (text.new.items ≡ text.old.items ++ fault_text code) }
+fn push_fault(text: &mut Ready, code: u8) -> Result<(), AllocError>
+    ensures text { OnOk result (text.new.begun ≡ text.old.begun ++ fault_text code) }
+    ensures whole { text.new.whole ≡ text.old.whole }
 {
     push_labelled(text, b"refused ", u64::from(code))?;
     push_octets(text, b"\n")
 }
 
 /// Appends the reply to a command.
-pub(crate) fn push_reply(text: &mut Vec<u8>, reply: Reply) -> Result<(), AllocError>
-    ensures { OnOk result (text.new.items ≡ text.old.items ++ reply_text reply) }
+pub(crate) fn push_reply(text: &mut Ready, reply: Reply) -> Result<(), AllocError>
+    ensures text { OnOk result (text.new.begun ≡ text.old.begun ++ reply_text reply) }
+    ensures whole { text.new.whole ≡ text.old.whole }
 {
     match reply {
         Reply::Done => push_octets(text, b"done\n"),
@@ -110,8 +117,9 @@ pub(crate) fn push_reply(text: &mut Vec<u8>, reply: Reply) -> Result<(), AllocEr
 }
 
 /// Appends the row of a message that there is.
-fn push_fields(text: &mut Vec<u8>, message: MsgRef, row: &Row<'_>) -> Result<(), AllocError>
-    ensures { OnOk result (text.new.items ≡ text.old.items ++ fields_text message (data_of row.now)) }
+fn push_fields(text: &mut Ready, message: MsgRef, row: &Row<'_>) -> Result<(), AllocError>
+    ensures text { OnOk result (text.new.begun ≡ text.old.begun ++ fields_text message (data_of row.now)) }
+    ensures whole { text.new.whole ≡ text.old.whole }
 {
     push_octets(text, b"row")?;
     push_numbers(
@@ -136,11 +144,12 @@ fn push_fields(text: &mut Vec<u8>, message: MsgRef, row: &Row<'_>) -> Result<(),
 
 /// Appends the row of a message, or its refusal.
 pub(crate) fn push_row(
-    text: &mut Vec<u8>,
+    text: &mut Ready,
     message: MsgRef,
     row: &Result<Row<'_>, StoreFault>,
 ) -> Result<(), AllocError>
-    ensures { OnOk result (text.new.items ≡ text.old.items ++ row_reply message (row_result row.now)) }
+    ensures text { OnOk result (text.new.begun ≡ text.old.begun ++ row_reply message (row_result row.now)) }
+    ensures whole { text.new.whole ≡ text.old.whole }
 {
     match row {
         Ok(row) => push_fields(text, message, row),
@@ -149,16 +158,18 @@ pub(crate) fn push_row(
 }
 
 /// Appends the part of a report on the message table.
-fn push_table(text: &mut Vec<u8>, report: &Report) -> Result<(), AllocError>
-    ensures { OnOk result (text.new.items ≡ text.old.items ++ table_text report.now) }
+fn push_table(text: &mut Ready, report: &Report) -> Result<(), AllocError>
+    ensures text { OnOk result (text.new.begun ≡ text.old.begun ++ table_text report.now) }
+    ensures whole { text.new.whole ≡ text.old.whole }
 {
     push_labelled(text, b" used=", u64::from(report.used))?;
     push_labelled(text, b" free=", u64::from(report.free))
 }
 
 /// Appends the part of a report on what is shown.
-fn push_shown(text: &mut Vec<u8>, report: &Report) -> Result<(), AllocError>
-    ensures { OnOk result (text.new.items ≡ text.old.items ++ shown_text report.now) }
+fn push_shown(text: &mut Ready, report: &Report) -> Result<(), AllocError>
+    ensures text { OnOk result (text.new.begun ≡ text.old.begun ++ shown_text report.now) }
+    ensures whole { text.new.whole ≡ text.old.whole }
 {
     push_labelled(text, b" mode=", u64::from(report.mode))?;
     push_labelled(text, b" shown=", u64::from(report.shown_memory))?;
@@ -168,8 +179,9 @@ fn push_shown(text: &mut Vec<u8>, report: &Report) -> Result<(), AllocError>
 }
 
 /// Appends the part of a report on time and who asked.
-fn push_asked(text: &mut Vec<u8>, report: &Report) -> Result<(), AllocError>
-    ensures { OnOk result (text.new.items ≡ text.old.items ++ asked_text report.now) }
+fn push_asked(text: &mut Ready, report: &Report) -> Result<(), AllocError>
+    ensures text { OnOk result (text.new.begun ≡ text.old.begun ++ asked_text report.now) }
+    ensures whole { text.new.whole ≡ text.old.whole }
 {
     push_labelled(text, b" priority=", u64::from(report.priority))?;
     push_labelled(text, b" remaining=", u64::from(report.remaining))?;
@@ -178,8 +190,9 @@ fn push_asked(text: &mut Vec<u8>, report: &Report) -> Result<(), AllocError>
 }
 
 /// Appends the part of a report on errors, and the clock.
-fn push_errors(text: &mut Vec<u8>, report: &Report) -> Result<(), AllocError>
-    ensures { OnOk result (text.new.items ≡ text.old.items ++ errors_text report.now) }
+fn push_errors(text: &mut Ready, report: &Report) -> Result<(), AllocError>
+    ensures text { OnOk result (text.new.begun ≡ text.old.begun ++ errors_text report.now) }
+    ensures whole { text.new.whole ≡ text.old.whole }
 {
     push_labelled(text, b" activate=", u64::from(report.activate))?;
     push_labelled(text, b" validate=", u64::from(report.validate))?;
@@ -190,8 +203,9 @@ fn push_errors(text: &mut Vec<u8>, report: &Report) -> Result<(), AllocError>
 }
 
 /// Appends a report.
-pub(crate) fn push_report(text: &mut Vec<u8>, report: &Report) -> Result<(), AllocError>
-    ensures { OnOk result (text.new.items ≡ text.old.items ++ report_text report.now) }
+pub(crate) fn push_report(text: &mut Ready, report: &Report) -> Result<(), AllocError>
+    ensures text { OnOk result (text.new.begun ≡ text.old.begun ++ report_text report.now) }
+    ensures whole { text.new.whole ≡ text.old.whole }
 {
     push_octets(text, b"report")?;
     push_table(text, report)?;
@@ -201,8 +215,9 @@ pub(crate) fn push_report(text: &mut Vec<u8>, report: &Report) -> Result<(), All
 }
 
 /// Appends the defaults in force.
-pub(crate) fn push_defaults(text: &mut Vec<u8>, defaults: Defaults) -> Result<(), AllocError>
-    ensures { OnOk result (text.new.items ≡ text.old.items ++ defaults_text defaults) }
+pub(crate) fn push_defaults(text: &mut Ready, defaults: Defaults) -> Result<(), AllocError>
+    ensures text { OnOk result (text.new.begun ≡ text.old.begun ++ defaults_text defaults) }
+    ensures whole { text.new.whole ≡ text.old.whole }
 {
     push_octets(text, b"defaults")?;
     push_numbers(

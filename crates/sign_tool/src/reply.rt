@@ -2,12 +2,13 @@
 ghost use Rattle.std.specs.Prelude.{◌≡◌, ◌++◌, OnOk, decimal};
 ghost use Rattle.sign_tool.specs.Reply.{pages_text, refused_text, too_long_text};
 
-use octet_text::{push_number, push_octets};
+use crate::ready::{Ready, push_number, push_octets};
 use std::alloc::AllocError;
 
 /// Appends how many pages an accepted string has.
-pub(crate) fn push_pages(text: &mut Vec<u8>, pages: u8) -> Result<(), AllocError>
-    ensures { OnOk result (text.new.items ≡ text.old.items ++ pages_text pages) }
+pub(crate) fn push_pages(text: &mut Ready, pages: u8) -> Result<(), AllocError>
+    ensures text { OnOk result (text.new.begun ≡ text.old.begun ++ pages_text pages) }
+    ensures whole { text.new.whole ≡ text.old.whole }
 {
     if pages < 10 {
         return push_octets(text, &[b'o', b'k', b' ', b'0' + pages, b'\n']);
@@ -18,8 +19,9 @@ pub(crate) fn push_pages(text: &mut Vec<u8>, pages: u8) -> Result<(), AllocError
 }
 
 /// Appends the answer to a string that is refused with an error code for what stands at an octet offset.
-pub(crate) fn push_refused(text: &mut Vec<u8>, code: u8, at: usize) -> Result<(), AllocError>
-    ensures { OnOk result (text.new.items ≡ text.old.items ++ refused_text code at) }
+pub(crate) fn push_refused(text: &mut Ready, code: u8, at: usize) -> Result<(), AllocError>
+    ensures text { OnOk result (text.new.begun ≡ text.old.begun ++ refused_text code at) }
+    ensures whole { text.new.whole ≡ text.old.whole }
 {
     push_octets(text, b"error ")?;
     push_number(text, u64::from(code))?;
@@ -29,8 +31,9 @@ pub(crate) fn push_refused(text: &mut Vec<u8>, code: u8, at: usize) -> Result<()
 }
 
 /// Appends the answer to a string with too many octets.
-pub(crate) fn push_too_long(text: &mut Vec<u8>) -> Result<(), AllocError>
-    ensures { OnOk result (text.new.items ≡ text.old.items ++ too_long_text) }
+pub(crate) fn push_too_long(text: &mut Ready) -> Result<(), AllocError>
+    ensures text { OnOk result (text.new.begun ≡ text.old.begun ++ too_long_text) }
+    ensures whole { text.new.whole ≡ text.old.whole }
 {
     push_octets(text, b"too long\n")
 }

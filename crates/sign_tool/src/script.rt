@@ -7,6 +7,7 @@ ghost use Rattle.sign_tool.specs.Frame.{head_text, rows_text};
 ghost use Rattle.sign_tool.specs.Script.{AnswersAsk, display_text, replies, told};
 
 use crate::answer::{Answer, LineAnswer};
+use crate::ready::Ready;
 use crate::replies::{push_defaults, push_reply, push_report, push_row};
 use crate::show::{push_head, push_rows};
 use message_store::Store;
@@ -40,35 +41,30 @@ impl Operator {
 }
 
 /// Appends a frame.
-fn push_lent(text: &mut Vec<u8>, frame: Frame<'_>) -> Result<(), AllocError>
-    ensures { OnOk result (text.new.items ≡ text.old.items ++ (head_text frame.entry.shown
+fn push_lent(text: &mut Ready, frame: Frame<'_>) -> Result<(), AllocError>
+    ensures text { OnOk result (text.new.begun ≡ text.old.begun ++ (head_text frame.entry.shown
         ++ rows_text (is_lit frame.entry.plane.now) frame.entry.plane.now.width frame.entry.plane.now.height)) }
+    ensures whole { text.new.whole ≡ text.old.whole }
 {
     push_head(text, frame.shown)?;
     push_rows(text, frame.plane)
 }
 
 /// Appends the frame of a colour of what the display shows.
-fn push_display(
-    text: &mut Vec<u8>,
-    controller: &mut Controller,
-    colour: u8,
-) -> Result<(), AllocError>
-    ensures text { OnOk result (text.new.items ≡ text.old.items ++ display_text controller.old.sign controller.old.state colour) }
+fn push_display(text: &mut Ready, controller: &mut Controller, colour: u8) -> Result<(), AllocError>
+    ensures text { OnOk result (text.new.begun ≡ text.old.begun ++ display_text controller.old.sign controller.old.state colour) }
     ensures kept { (controller.new.sign ≡ controller.old.sign) × (controller.new.state ≡ controller.old.state) }
+    ensures whole { text.new.whole ≡ text.old.whole }
 {
     push_lent(text, controller.frame(colour))
 }
 
 /// Does what is asked for, and appends the reply.
-fn push_told(
-    text: &mut Vec<u8>,
-    controller: &mut Controller,
-    ask: Ask<'_>,
-) -> Result<(), AllocError>
-    ensures text { OnOk result (text.new.items ≡ text.old.items ++ (told controller.old.sign controller.old.state ask.entry).text) }
+fn push_told(text: &mut Ready, controller: &mut Controller, ask: Ask<'_>) -> Result<(), AllocError>
+    ensures text { OnOk result (text.new.begun ≡ text.old.begun ++ (told controller.old.sign controller.old.state ask.entry).text) }
     ensures state { controller.new.state ≡ (told controller.old.sign controller.old.state ask.entry).state }
     ensures sign { controller.new.sign ≡ controller.old.sign }
+    ensures whole { text.new.whole ≡ text.old.whole }
 {
     match ask {
         Ask::Nothing => Ok(()),
@@ -85,10 +81,11 @@ fn answer_line(
     line: &[u8],
     octets: &mut Vec<u8>,
     controller: &mut Controller,
-    text: &mut Vec<u8>,
+    text: &mut Ready,
 ) -> Result<LineAnswer, AllocError>
-    ensures told { AnswersAsk controller.old.sign controller.old.state (ask_of line.now) text.old.items text.new.items controller.new.state result }
+    ensures told { AnswersAsk controller.old.sign controller.old.state (ask_of line.now) text.old.begun text.new.begun controller.new.state result }
     ensures sign { controller.new.sign ≡ controller.old.sign }
+    ensures whole { text.new.whole ≡ text.old.whole }
 {
     match read_ask(line, octets) {
         Ok(ask) => {
@@ -103,7 +100,7 @@ fn answer_line(
 impl Answer for Operator {
     ghost answers = { λ s lines. replies s.controller.sign s.controller.state lines };
 
-    fn answer(&mut self, line: &[u8], text: &mut Vec<u8>) -> Result<LineAnswer, AllocError> {
+    fn answer(&mut self, line: &[u8], text: &mut Ready) -> Result<LineAnswer, AllocError> {
         answer_line(line, &mut self.octets, &mut self.controller, text)
     }
 }

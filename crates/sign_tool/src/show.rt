@@ -10,10 +10,10 @@ ghost use Rattle.sign_tool.specs.Frame.{frame_text, head_text, rows_text, show_a
 
 use crate::answer::{Answer, LineAnswer};
 use crate::pixels::write_changed;
+use crate::ready::{Ready, push_number, push_octet, push_octets};
 use crate::reply::{push_refused, push_too_long};
 use multi_layout::{Checked, Shown, check};
 use multi_token::Source;
-use octet_text::{push_number, push_octet, push_octets};
 use page_plane::Plane;
 use sign_font::Sign;
 use std::alloc::{AllocError, Global};
@@ -69,8 +69,9 @@ impl Shower {
 const MAX_ROW: usize = 128;
 
 /// Appends the pixel rows from the top. Many rows are like the one above, whose pixels stay as they are written.
-pub(crate) fn push_rows(text: &mut Vec<u8>, plane: &Plane) -> Result<(), AllocError>
-    ensures { OnOk result (text.new.items ≡ text.old.items ++ rows_text (is_lit plane.now) plane.now.width plane.now.height) }
+pub(crate) fn push_rows(text: &mut Ready, plane: &Plane) -> Result<(), AllocError>
+    ensures text { OnOk result (text.new.begun ≡ text.old.begun ++ rows_text (is_lit plane.now) plane.now.width plane.now.height) }
+    ensures whole { text.new.whole ≡ text.old.whole }
 {
     let width = usize::from(plane.width());
     let mut pixels = [[0; 8]; MAX_ROW];
@@ -86,8 +87,9 @@ pub(crate) fn push_rows(text: &mut Vec<u8>, plane: &Plane) -> Result<(), AllocEr
 }
 
 /// Appends the first line of a frame.
-pub(crate) fn push_head(text: &mut Vec<u8>, shown: Shown) -> Result<(), AllocError>
-    ensures { OnOk result (text.new.items ≡ text.old.items ++ head_text shown) }
+pub(crate) fn push_head(text: &mut Ready, shown: Shown) -> Result<(), AllocError>
+    ensures text { OnOk result (text.new.begun ≡ text.old.begun ++ head_text shown) }
+    ensures whole { text.new.whole ≡ text.old.whole }
 {
     let Shown::Page { page, phase } = shown else {
         return push_octets(text, b"off\n");
@@ -121,16 +123,17 @@ fn draw_shown(checked: &mut Checked<'_>, clock: u32, colour: u8, plane: &mut Pla
 
 /// Appends the frame of a string.
 fn push_frame(
-    text: &mut Vec<u8>,
+    text: &mut Ready,
     checked: &mut Checked<'_>,
     clock: u32,
     colour: u8,
     plane: &mut Plane,
 ) -> Result<(), AllocError>
     requires size { IsSized plane.old checked.old.sign }
-    ensures ok { OnOk result (text.new.items ≡ text.old.items
+    ensures ok { OnOk result (text.new.begun ≡ text.old.begun
         ++ frame_text checked.old.sign checked.old.source.octets colour (shown checked.old.sign checked.old.source.octets clock)) }
     ensures size { IsSized plane.new checked.old.sign }
+    ensures whole { text.new.whole ≡ text.old.whole }
 {
     let shown = draw_shown(checked, clock, colour, plane);
     push_head(text, shown)?;
@@ -144,11 +147,12 @@ fn push_shown(
     colour: u8,
     line: &[u8],
     plane: &mut Plane,
-    text: &mut Vec<u8>,
+    text: &mut Ready,
 ) -> Result<(), AllocError>
     requires size { IsSized plane.old sign.now }
-    ensures ok { OnOk result (text.new.items ≡ text.old.items ++ show_answer sign.now colour clock line.now) }
+    ensures ok { OnOk result (text.new.begun ≡ text.old.begun ++ show_answer sign.now colour clock line.now) }
     ensures size { IsSized plane.new sign.now }
+    ensures whole { text.new.whole ≡ text.old.whole }
 {
     if line.len() > MAX_STRING {
         return push_too_long(text);
@@ -162,7 +166,7 @@ fn push_shown(
 impl Answer for Shower {
     ghost answers = { λ s lines. map (λ line. Some (show_answer s.sign s.colour s.clock line)) lines };
 
-    fn answer(&mut self, line: &[u8], text: &mut Vec<u8>) -> Result<LineAnswer, AllocError> {
+    fn answer(&mut self, line: &[u8], text: &mut Ready) -> Result<LineAnswer, AllocError> {
         push_shown(
             &self.sign,
             self.clock,

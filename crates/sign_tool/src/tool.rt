@@ -3,7 +3,7 @@ ghost use Rattle.std.specs.Prelude.{◌≡◌, ◌+◌, ◌≤◌, ◌⊎◌, Li
 ghost use Rattle.std.specs.Io.KnownBytes.{Appends, Consumes};
 ghost use Rattle.tool_streams.specs.Lines.{input_limit};
 ghost use Rattle.sign_tool.specs.Output.{outcome, output_of_whole};
-ghost use Rattle.sign_tool.specs.Runs.{IsFront, Runs, fault_of};
+ghost use Rattle.sign_tool.specs.Runs.{IsFront, Runs, WritesLines, fault_of};
 ghost use Rattle.sign_tool.specs.Tool.{IsOfInput, answers_of, outcome_of, output_so_far};
 ghost use Rattle.sign_tool.specs.declared.tool.Mode.TheVariants as mode;
 
@@ -11,7 +11,8 @@ use crate::answer::Answer;
 use crate::block::Block;
 use crate::check::Checker;
 use crate::first::{FirstLine, answer_first};
-use crate::output::write_ready;
+use crate::output::{end_refused, write_ready};
+use crate::ready::Ready;
 use crate::refill::read_on;
 use crate::script::Operator;
 use crate::setup::Setup;
@@ -41,7 +42,7 @@ pub enum Mode {
 /// Answers the lines from this one on, up to a fault or the end.
 ///
 /// What is read is kept in a block, and each line is answered where it stands there. The answers to the lines of a block
-/// are written together before more is read, or as soon as they have 98,304 octets.
+/// are written together before more is read, or as soon as they have 98,304 octets, or if memory is refused for the answer after them.
 fn answer_lines<A: Answer, R: Read, W: Write>(
     alloc: Global,
     answer: &mut A,
@@ -54,12 +55,15 @@ fn answer_lines<A: Answer, R: Read, W: Write>(
         (R.remaining reader.old) (R.remaining reader.new) (W.contents writer.old) (W.contents writer.new) (fault_of result) }
 {
     let mut block = Block::new();
-    let mut ready = Vec::new(alloc);
+    let mut ready = Ready::new(alloc);
     let mut place = place;
     let mut seen = 0;
     loop {
         let octets = block.first(place.left as usize);
-        let first = answer_first(answer, octets, seen, &mut ready)?;
+        let first = match answer_first(answer, octets, seen, &mut ready) {
+            Ok(first) => first,
+            Err(_) => return Err(end_refused(writer, &ready)),
+        };
         write_ready(writer, &mut ready, first)?;
         match first {
             FirstLine::Answered(count) => {
@@ -157,6 +161,10 @@ pub fn run_tool<R: Read, W: Write>(
         × Appends (W.contents writer.old) (W.contents writer.new) sent
         × IsFront sent (outcome_of mode sample input).output) }
 
+    // If memory was refused, it is the answers to some number of whole lines, the first of those that were read.
+    ensures lines { fault_of result ≡ Some ToolFault.Memory →
+        WritesLines (output_so_far mode sample) (R.remaining reader.old) (R.remaining reader.new) (W.contents writer.old) (W.contents writer.new) }
+
     // No more is read than what shows that an input is too long.
     ensures most { (taken : List ℕ) × Consumes (R.remaining reader.old) (R.remaining reader.new) taken
         × (length taken ≤ input_limit + 1) }
@@ -186,6 +194,10 @@ pub fn run_script<R: Read, W: Write>(
         IfSome (R.remaining reader.old) (λ input. (sent : List ℕ)
         × Appends (W.contents writer.old) (W.contents writer.new) sent
         × IsFront sent (outcome_of mode.Run sample input).output) }
+
+    // If memory was refused, it is the answers to some number of whole lines, the first of those that were read.
+    ensures lines { fault_of result ≡ Some ToolFault.Memory →
+        WritesLines (output_so_far mode.Run sample) (R.remaining reader.old) (R.remaining reader.new) (W.contents writer.old) (W.contents writer.new) }
 
     // No more is read than what shows that an input is too long.
     ensures most { (taken : List ℕ) × Consumes (R.remaining reader.old) (R.remaining reader.new) taken

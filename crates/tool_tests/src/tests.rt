@@ -208,6 +208,17 @@ fn an_input_has_a_greatest_length(rt: HostRuntime) {
 }
 
 #[test]
+fn a_script_of_empty_lines_has_a_greatest_length(rt: HostRuntime) {
+    let alloc = rt.alloc();
+    let mut reader = LineMaker::new(0, u64::MAX);
+    let mut output = Vec::new(alloc);
+    let result = run_tool(alloc, Mode::Run, true, &mut reader, &mut output);
+    assert!(rt; result == Err(ToolFault::InputTooLong), "the end");
+    assert!(rt; output.is_empty(), "what is written");
+    assert!(rt; reader.reads == 16_777_217, "the reads");
+}
+
+#[test]
 fn a_failed_write_ends_the_run(rt: HostRuntime) {
     let alloc = rt.alloc();
     let want = b"ok 1\nok 1\n";

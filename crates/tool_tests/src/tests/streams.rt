@@ -359,3 +359,58 @@ fn a_fault_comes_before_a_failed_read(rt: HostRuntime) -> Result<(), Fail> {
     }
     Ok(())
 }
+
+/// The run's input, or only its sign file, and then a line of so many octets, which is a comment of either.
+fn long_input(
+    alloc: Global,
+    run: &Run,
+    in_file: bool,
+    octets: usize,
+) -> Result<Vec<u8>, AllocError> {
+    let mut input = match in_file {
+        true => run.file.as_bytes().to_vec(alloc)?,
+        false => run.input(alloc)?,
+    };
+    let line = vec![in alloc; b'#'; octets]?;
+    input.extend_from_slice(&line)?;
+    input.push(b'\n')?;
+    Ok(input)
+}
+
+/// A run ends with the number of the line that is too long, after the answers to the lines before it, however its reader gives the octets.
+fn check_long(
+    rt: &impl Abort,
+    alloc: Global,
+    run: &Run,
+    in_file: bool,
+    octets: usize,
+) -> Result<(), Fail> {
+    let input = long_input(alloc, run, in_file, octets)?;
+    let line = u32::try_from(lines_in(&input, input.len())).unwrap_or(0);
+    let end = Err(ToolFault::LineTooLong { line });
+    let output: &[u8] = if in_file { b"" } else { run.output };
+    let mut written = Vec::new(alloc);
+    let mut reader = input.as_slice();
+    let result = run.end(alloc, &mut reader, &mut written);
+    let is_so = result == end && written.as_slice() == output;
+    assert!(rt; is_so, "{}: the end of {octets}", run.name);
+    let mut written = Vec::new(alloc);
+    let mut reader = FailingReader(&input);
+    let result = run.end(alloc, &mut reader, &mut written);
+    let is_so = result == end && written.as_slice() == output && reader.0.is_empty();
+    assert!(rt; is_so, "{}: the end of {octets} one by one", run.name);
+    Ok(())
+}
+
+#[test]
+fn a_line_that_comes_through_several_blocks_is_too_long(rt: HostRuntime) -> Result<(), Fail> {
+    for run in runs() {
+        for octets in [8_301, 20_000, 100_000] {
+            check_long(&rt, rt.alloc(), &run, false, octets)?;
+            if !run.file.is_empty() {
+                check_long(&rt, rt.alloc(), &run, true, octets)?;
+            }
+        }
+    }
+    Ok(())
+}

@@ -4,14 +4,14 @@ use Rattle.sign_tool.specs.Reply.{pages_text}
 use Rattle.sign_tool.proofs.ReplyLemmas
 use Rattle.sign_tool.proofs.check.push_verdict.Goals as goal
 
-pub returns-in-Ok : goal.returns-in-Ok
-returns-in-Ok c =
+pub returns-in-Ok-clause-text : goal.returns-in-Ok-clause-text
+returns-in-Ok-clause-text c =
     let octets = c.in-Ok.ensures.kept.1 ∙ ap (λ (s : Counted). s.octets) c.new.ensures in
     let answer = ReplyLemmas.answer_accepted pages_text c.args.sign.now c.args.line.now _ _ c.pages.result (omega arith) c.in-Ok.ensures.kept.0 octets c.pages.ensures in
-    subst (λ l. OnOk c.push_pages.result (c.push_pages.new.text.items ≡ c.args.text.now.items ++ l)) (sym answer) c.push_pages.ensures
+    subst (λ l. OnOk c.push_pages.result (c.push_pages.new.text.begun ≡ c.args.text.now.begun ++ l)) (sym answer) c.push_pages.ensures.text
 
-pub returns-in-Err : goal.returns-in-Err
-returns-in-Err c =
+pub returns-in-Err-clause-text : goal.returns-in-Err-clause-text
+returns-in-Err-clause-text c =
     let octets = ap (λ (s : Counted). s.octets) c.new.ensures in
     let answer = ReplyLemmas.answer_refused pages_text c.args.sign.now c.args.line.now _ c.in-Err.fault.code c.in-Err.fault.at (omega arith) octets c.in-Err.ensures.refused in
-    subst (λ l. OnOk c.push_refused.result (c.push_refused.new.text.items ≡ c.args.text.now.items ++ l)) (sym answer) c.push_refused.ensures
+    subst (λ l. OnOk c.push_refused.result (c.push_refused.new.text.begun ≡ c.args.text.now.begun ++ l)) (sym answer) c.push_refused.ensures.text

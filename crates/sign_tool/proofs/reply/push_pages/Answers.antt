@@ -2,6 +2,6 @@ use Rattle.std.proofs.Common.{◌≡◌, ◌++◌, ◌∷◌, [], OnOk, sym, sub
 use Rattle.std.proofs.lemmas.Fmt.{decimal_digit}
 use Rattle.sign_tool.proofs.reply.push_pages.Goals as goal
 
-pub returns-then-pages-lt10 : goal.returns-then-pages-lt10
-returns-then-pages-lt10 c =
-    subst (λ l. OnOk c.push_octets.result (c.push_octets.new.text.items ≡ c.args.text.now.items ++ 111 ∷ 107 ∷ 32 ∷ (l ++ 10 ∷ []))) (sym (decimal_digit c.args.pages c.if-pages-lt10.true)) c.push_octets.ensures
+pub returns-then-pages-lt10-clause-text : goal.returns-then-pages-lt10-clause-text
+returns-then-pages-lt10-clause-text c =
+    subst (λ l. OnOk c.push_octets.result (c.push_octets.new.text.begun ≡ c.args.text.now.begun ++ 111 ∷ 107 ∷ 32 ∷ (l ++ 10 ∷ []))) (sym (decimal_digit c.args.pages c.if-pages-lt10.true)) c.push_octets.ensures.text

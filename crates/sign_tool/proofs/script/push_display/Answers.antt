@@ -11,4 +11,4 @@ returns-clause-text c =
     let s = c.frame.result.shown in
     let frame = FrameLemmas.frame_of [] (head_text s) (under old.sign display.defaults) old.state.text display.clock c.args.colour s c.frame.result.plane.now
     c.frame.ensures.shown c.frame.ensures.drawn c.frame.ensures.size refl in
-    subst (λ (l : List ℕ). OnOk c.push_lent.result (c.push_lent.new.text.items ≡ c.args.text.now.items ++ l)) frame c.push_lent.ensures
+    subst (λ (l : List ℕ). OnOk c.push_lent.result (c.push_lent.new.text.begun ≡ c.args.text.now.begun ++ l)) frame c.push_lent.ensures.text

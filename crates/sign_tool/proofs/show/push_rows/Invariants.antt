@@ -6,4 +6,5 @@ use Rattle.sign_tool.proofs.FrameLemmas.{bits_text}
 use Rattle.sign_tool.proofs.show.push_rows.Given as goal
 
 abbrev pub invariant-loop-row : goal.invariant-loop-row
-invariant-loop-row l = (l.text.items ≡ l.fn.text.items ++ rows_text (is_lit l.plane) l.plane.width l.row) × (flat_map (λ x. x) (take (length l.before) l.pixels) ≡ bits_text l.before (8 * length l.before))
+invariant-loop-row l = (l.text.begun ≡ l.fn.text.begun ++ rows_text (is_lit l.plane) l.plane.width l.row) × (flat_map (λ x. x) (take (length l.before) l.pixels) ≡ bits_text l.before (8 * length l.before))
+    × (l.text.whole ≡ l.fn.text.whole)

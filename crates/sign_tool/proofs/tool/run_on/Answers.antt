@@ -7,12 +7,12 @@ use Rattle.sign_tool.proofs.tool.run_on.Goals as goal
 pub returns-in_err-answer-in-Show : goal.returns-in_err-answer-in-Show
 returns-in_err-answer-in-Show g c =
     let p = err_from_is_err_and c.from_residual.result c.from_residual.ensures.1 in
-    rw (p.1, p.2) (StartLemmas.Runs-unread _ _ _ _ _ _ refl)
+    rw (p.1, p.2) (StartLemmas.Runs-unread _ _ _ _ _ _ _ refl)
 
 pub returns-in_err-answer-in-Run : goal.returns-in_err-answer-in-Run
 returns-in_err-answer-in-Run g c =
     let p = err_from_is_err_and c.from_residual-in_err-answer-in-Run.result c.from_residual-in_err-answer-in-Run.ensures.1 in
-    rw (p.1, p.2) (StartLemmas.Runs-unread _ _ _ _ _ _ refl)
+    rw (p.1, p.2) (StartLemmas.Runs-unread _ _ _ _ _ _ _ refl)
 
 pub returns-in_ok-answer-in-Show : goal.returns-in_ok-answer-in-Show
 returns-in_ok-answer-in-Show g c =

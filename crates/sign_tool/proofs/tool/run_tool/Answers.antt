@@ -9,3 +9,6 @@ returns-clause-read g c = λ e. ToolLemmas.read _ _ _ _ _ _ _ _ e c.run.ensures
 
 pub returns-clause-front : goal.returns-clause-front
 returns-clause-front g c = λ which. ToolLemmas.front _ _ _ _ _ _ _ _ which c.run.ensures
+
+pub returns-clause-lines : goal.returns-clause-lines
+returns-clause-lines g c = λ e. ToolLemmas.lines _ _ _ _ _ _ _ _ e c.run.ensures

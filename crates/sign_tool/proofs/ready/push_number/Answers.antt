@@ -1,0 +1,7 @@
+use Rattle.std.proofs.Common.{◌≡◌, ◌++◌, OnOk, sym, subst}
+use Rattle.std.proofs.lemmas.Fmt.{decimal_digit}
+use Rattle.sign_tool.proofs.ready.push_number.Goals as goal
+
+pub returns-then-number-lt10-clause-text : goal.returns-then-number-lt10-clause-text
+returns-then-number-lt10-clause-text c =
+    subst (λ l. OnOk c.push_octet.result (c.push_octet.new.text.begun ≡ c.args.text.now.begun ++ l)) (sym (decimal_digit c.args.number c.if-number-lt10.true)) c.push_octet.ensures.text
