@@ -1,5 +1,6 @@
 mod control;
 mod script;
+mod steps;
 mod store;
 
 use std::process::Abort;

@@ -1,6 +1,7 @@
 //! The controller of the sample sign: one slot, 4 bytes, and the permanent message `AAAI`.
 
 mod frame;
+mod lists;
 mod memory;
 
 use crate::tests::so;

@@ -48,7 +48,7 @@ const NO_MEMORY: MsgRef = MsgRef {
 };
 
 /// The slot is filled, and one octet more has no room.
-const FILLED: [(Command<'static>, Reply); 3] = [
+pub(crate) const FILLED: [(Command<'static>, Reply); 3] = [
     (Command::Request(FIRST, 6), Reply::Done),
     (Command::SetMulti(FIRST, b"AAAA"), Reply::Done),
     (
@@ -58,7 +58,7 @@ const FILLED: [(Command<'static>, Reply); 3] = [
 ];
 
 /// Calls are refused for each reason.
-const REFUSED: [(Command<'static>, Reply); 8] = [
+pub(crate) const REFUSED: [(Command<'static>, Reply); 8] = [
     (
         Command::Request(NO_SLOT, 6),
         Reply::Refused(StoreFault::Number),
