@@ -39,14 +39,16 @@ impl Walk {
             return None;
         };
         self.at = at.saturating_add(token.len);
-        if let Kind::Char(octet) = token.kind {
-            return Some(Tag::HexChar(u16::from(octet)));
+        match token.kind {
+            Kind::Char(octet) => Some(Tag::HexChar(u16::from(octet))),
+            Kind::Tag => {
+                let before = source.steps();
+                let tag = read_tag(source, &token).ok();
+                let body = source.steps().saturating_sub(before);
+                self.again = self.again.saturating_add(body);
+                tag
+            }
         }
-        let before = source.steps();
-        let tag = read_tag(source, &token).ok();
-        let body = source.steps().saturating_sub(before);
-        self.again = self.again.saturating_add(body);
-        tag
     }
 
     /// Looks up the cell of a character, or the font that a tag names.
@@ -162,6 +164,7 @@ fn assert_row(rt: &impl Abort, alloc: Global, sign: &Sign, row: &Row) -> Result<
         ..
     } = *row;
     let mut plane = Plane::new(alloc, sign.width(), sign.height())?;
+    assert!(rt; octets.len() <= 100);
     let Ok(mut checked) = check(sign, Source::new(octets)) else {
         panic!(rt; "{octets:?} is accepted");
     };
