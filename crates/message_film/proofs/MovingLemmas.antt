@@ -4,14 +4,13 @@ use Rattle.std.proofs.Math.ListN.{get_or-append}
 use Rattle.std.proofs.Math.Nat.{mul-le-mul_right}
 use Rattle.std.proofs.lemmas.List.{get_or-append-add}
 use Rattle.std.proofs.lemmas.Grind.{flat_map-append}
-use Rattle.std.specs.List.{All, flat_map, range_with_len}
+use Rattle.std.specs.List.{flat_map, range_with_len}
 use Rattle.sign_font.specs.Sign.{SignData}
 use Rattle.multi_layout.specs.declared.times.Shown.{Shown}
 use Rattle.multi_layout.specs.Times.{shown}
 use Rattle.page_picture.specs.Colours.{row_values, values}
 use Rattle.page_picture.specs.Dots.{dot_line, dots, line_points, row_points, value_at}
 use Rattle.page_picture.specs.Shown.{colours, shown_colour_at}
-use Rattle.page_picture.proofs.ColourLemmas.{values_same}
 use Rattle.page_picture.specs.Palette.{palette}
 use Rattle.message_film.specs.Moving.{IsFilmOf, Plays, in_tenths, moving, seen_points}
 use Rattle.gif.specs.Size.{most_of_picture}
@@ -84,8 +83,8 @@ pub dots_same : (side : ℕ) (at other : ℕ → ℕ → ℕ) (width height : �
 unfolding dots row_points line_points
 dots_same side at other width height same =
     rows_same (λ row. row_points side at width row side) (λ row. row_points side other width row side) 0 height (λ row above.
-        rows_same (λ line. line_points side at row line width) (λ line. line_points side other row line width) 0 side (λ line _.
-        lines_same side at other row line 0 width (λ column left. same column row (omega (arith, left)) (omega (arith, above)))))
+    rows_same (λ line. line_points side at row line width) (λ line. line_points side other row line width) 0 side (λ line _.
+    lines_same side at other row line 0 width (λ column left. same column row (omega (arith, left)) (omega (arith, above)))))
 
 row_get : (at : ℕ → ℕ → ℕ) (row a n k : ℕ) → k < n → get_or (map (λ column. at column row) (range_with_len a n)) k 0 ≡ at (a + k) row
 row_get at row a zero k below = absurd (omega (arith, below))
@@ -173,7 +172,7 @@ pub large_end : (side : ℕ) (sign : SignData) (reel : ReelData) (tenths octets 
 large_end side sign reel tenths octets sided wide high count most too_large =
     let all : length reel.points / 10 ≡ tenths = omega (arith, count) in
     let same = ap (λ s. most_of_film s reel.width reel.height (length reel.points / 10)) sided
-        ∙ ap (λ w. most_of_film side w reel.height (length reel.points / 10)) wide
-        ∙ ap (λ h. most_of_film side sign.width h (length reel.points / 10)) high
-        ∙ ap (most_of_film side sign.width sign.height) all in
+    ∙ ap (λ w. most_of_film side w reel.height (length reel.points / 10)) wide
+    ∙ ap (λ h. most_of_film side sign.width h (length reel.points / 10)) high
+    ∙ ap (most_of_film side sign.width sign.height) all in
     omega (arith, same, most, too_large)

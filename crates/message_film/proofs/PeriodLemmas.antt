@@ -1,27 +1,24 @@
 -- After how many tenths of a second what a text shows begins again.
-use Rattle.std.proofs.Common.{◌≡◌, ◌≢◌, ℕ, zero, suc, ◌+◌, ◌-◌, ◌*◌, ◌%◌, Bool, true, false, ◌==◌, ◌||◌, ◌&&◌, nat_le, nat_lt, cond, List, [], ◌∷◌, length, Option, Some, None, IfSome, refl, sym, ap, ◌∙◌, inl, inr, arith}
+use Rattle.std.proofs.Common.{◌≡◌, ℕ, zero, suc, ◌+◌, ◌-◌, ◌*◌, ◌%◌, Bool, true, false, ◌==◌, ◌||◌, ◌&&◌, nat_le, nat_lt, cond, List, [], ◌∷◌, length, Option, Some, None, IfSome, refl, sym, ap, ◌∙◌, inl, inr, arith}
 use Rattle.std.proofs.Math.Nat.{add-mul-mod_self_right}
 use Rattle.std.proofs.lemmas.Bool.{cases_Bool, eq-eqb, eqb-true, ne_eqb, or_right}
 use Rattle.std.specs.List.{AllByRecursion, cons_option, filter_map, find, last_or, range_with_len}
 use Rattle.std.specs.Option.{option_map, option_map_or, unwrap_or}
 use Rattle.sign_font.specs.declared.parts.Defaults.{Defaults}
-use Rattle.sign_font.specs.declared.parts.LineFill.{LineFill}
 use Rattle.sign_font.specs.Cell as cells
 use Rattle.sign_font.specs.Sign.{SignData, sized}
 use Rattle.multi_layout.specs.Address.{Spot, Standing, Put, Glyph, Break, Cover, is_break, put_at, spot_at, spots, standing}
-use Rattle.multi_layout.specs.Attributes.{given_flash, in_force}
+use Rattle.multi_layout.specs.Attributes.{given_flash}
 use Rattle.multi_layout.specs.declared.attributes.FlashTimes.{FlashTimes}
-use Rattle.multi_layout.specs.declared.times.Shown.{Shown}
 use Rattle.multi_layout.specs.declared.times.Shown.TheVariants.{Page}
-use Rattle.multi_layout.specs.LaidItems.{laid_item, laid_items, laid_of, laid_out}
+use Rattle.multi_layout.specs.LaidItems.{laid_of, laid_out}
 use Rattle.multi_layout.specs.Laid.{laid_spot}
 use Rattle.multi_layout.specs.Meaning.{Meaning, meanings}
-use Rattle.multi_layout.specs.Picture.{Thing, colour_of, in_plane, is_lit_at, pixel_at, shown_colour, thing_at, things, things_among}
+use Rattle.multi_layout.specs.Picture.{Thing, in_plane, is_lit_at, pixel_at, shown_colour, thing_at, things, things_among}
 use Rattle.multi_layout.specs.Place.{place_of}
-use Rattle.multi_layout.specs.Times.{cycle, shown, shown_at, shown_within}
+use Rattle.multi_layout.specs.Times.{cycle, shown_at, shown_within}
 use Rattle.multi_layout.specs.Words.{each_after, some_after}
 use Rattle.multi_layout.proofs.TimesLemmas.{shown_always, shown_modulo}
-use Rattle.page_picture.specs.Colours.{colour_by}
 use Rattle.page_picture.specs.Shown.{shown_colour_at}
 use Rattle.message_film.specs.Moving.{seen_points}
 use Rattle.message_film.specs.Period.{Allows, CycleIsPeriod, Divides, FlashesHavePeriod, times_of}
@@ -142,9 +139,9 @@ spots_flash sign tenths items allow = spots_from sign tenths (λ before. before)
 laid_allows : (defaults : Defaults) (tenths : ℕ) (item : Meaning) (spot : Option Spot) → Allows defaults tenths item → Allows defaults tenths (laid_of item spot)
 laid_allows defaults tenths item None allows = allows
 laid_allows defaults tenths item (Some spot) allows = elim (cases_Bool (is_break spot)) [
-    | inl is ↦ rw is tt
-    | inr isn't ↦ rw isn't allows
-  ]
+  | inl is ↦ rw is tt
+  | inr isn't ↦ rw isn't allows
+]
 
 laid_from : (defaults : Defaults) (tenths : ℕ) (spot_of : List Meaning → Meaning → Option Spot) (items : List Meaning) → AllByRecursion (Allows defaults tenths) items
     → AllByRecursion (Allows defaults tenths) (each_after (λ before item. laid_of item (spot_of before item)) items)

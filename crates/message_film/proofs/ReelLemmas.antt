@@ -3,13 +3,11 @@ use Rattle.std.proofs.Common.{◌≡◌, ℕ, zero, suc, ◌+◌, ◌-◌, ◌*�
 use Rattle.std.proofs.Math.Nat.{mul-le-mul_right}
 use Rattle.std.proofs.lemmas.List.{replicate-append-replicate}
 use Rattle.std.proofs.lemmas.Grind.{flat_map-append}
-use Rattle.std.specs.List.{All}
-use Rattle.page_picture.specs.Dots.{dots}
 use Rattle.gif.specs.Gif.{Picture}
 use Rattle.gif.specs.Reader.{Film, film_of}
 use Rattle.gif.specs.Size.{most_octets, most_of_picture}
 use Rattle.message_film.specs.Moving.{Plays, played}
-use Rattle.message_film.specs.Reel.{AreColours, IsSoundReel, ReelData, most_of_film, points_of, reel_of, written}
+use Rattle.message_film.specs.Reel.{IsSoundReel, ReelData, most_of_film, points_of, reel_of, written}
 
 replicate_count : (n : ℕ) (x : List ℕ) → length (replicate n x) ≡ n
 replicate_count zero x = refl
@@ -81,12 +79,12 @@ other side width height film colours more tenths none =
 pub finished : (side width height : ℕ) (film : Film) (colours octets : List ℕ) (tenths : ℕ) → tenths ≡ 0 → IsSoundReel side width height film colours tenths → film_of octets ≡ Some film
     → Plays (side * width) (side * height) film.palette (reel_of side width height film colours tenths).points octets
 finished side width height film colours octets tenths none sound found = (
-    film.pictures,
-    found
-    ∙ ap (λ w. Some (record { width = w; height = film.height; palette = film.palette; pictures = film.pictures })) sound.size.0
-    ∙ ap (λ h. Some (record { width = side * width; height = h; palette = film.palette; pictures = film.pictures })) sound.size.1,
-    sym (append-nil (played film.pictures)) ∙ ap (λ n. played film.pictures ++ replicate (10 * n) (points_of side width height colours)) (sym none),
-  )
+  film.pictures,
+  found
+      ∙ ap (λ w. Some (record { width = w; height = film.height; palette = film.palette; pictures = film.pictures })) sound.size.0
+      ∙ ap (λ h. Some (record { width = side * width; height = h; palette = film.palette; pictures = film.pictures })) sound.size.1,
+  sym (append-nil (played film.pictures)) ∙ ap (λ n. played film.pictures ++ replicate (10 * n) (points_of side width height colours)) (sym none),
+)
 
 -- how many octets are written
 pub small : (side width height octets : ℕ) (film : Film) (colours : List ℕ) (tenths : ℕ) (reel : ReelData) → IsSoundReel side width height film colours tenths

@@ -1,5 +1,5 @@
 -- What a text shows in time, and files in GIF that show it.
-use Rattle.std.specs.Prelude.{◌≡◌, ℕ, ◌*◌, List, [], ◌∷◌, ◌++◌, map, replicate, Some}
+use Rattle.std.specs.Prelude.{◌≡◌, ℕ, ◌*◌, List, map, replicate, Some}
 use Rattle.std.specs.List.{flat_map, range_with_len}
 use Rattle.sign_font.specs.Sign.{SignData}
 use Rattle.multi_layout.specs.declared.times.Shown.{Shown}

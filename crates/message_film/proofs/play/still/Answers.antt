@@ -16,9 +16,9 @@ returns c =
     let high = ap (λ (r : ReelData). r.height) n ∙ c.height.ensures.height in
     let sided = ap (λ (r : ReelData). r.side) n in
     let points = p.points
-        ∙ ap (λ l. l ++ replicate 10 (points_of c.in_ok-reel.reel.side c.in_ok-reel.reel.width c.in_ok-reel.reel.height colours)) (ap (λ (r : ReelData). r.points) n)
-        ∙ ap (λ s. replicate 10 (points_of s c.in_ok-reel.reel.width c.in_ok-reel.reel.height colours)) sided
-        ∙ ap (replicate 10) (MovingLemmas.moment c.args.side c.in_ok-reel.reel.width c.in_ok-reel.reel.height sign text colours c.args.shown wide high c.in_ok-colours.ensures.colours)
-        ∙ sym (MovingLemmas.tenths_one (seen_points c.args.side sign text c.args.shown)) in
+    ∙ ap (λ l. l ++ replicate 10 (points_of c.in_ok-reel.reel.side c.in_ok-reel.reel.width c.in_ok-reel.reel.height colours)) (ap (λ (r : ReelData). r.points) n)
+    ∙ ap (λ s. replicate 10 (points_of s c.in_ok-reel.reel.width c.in_ok-reel.reel.height colours)) sided
+    ∙ ap (replicate 10) (MovingLemmas.moment c.args.side c.in_ok-reel.reel.width c.in_ok-reel.reel.height sign text colours c.args.shown wide high c.in_ok-colours.ensures.colours)
+    ∙ sym (MovingLemmas.tenths_one (seen_points c.args.side sign text c.args.shown)) in
     MovingLemmas.is_film c.args.side sign c.push.new.self (seen_points c.args.side sign text c.args.shown ∷ []) c.in_ok-octets.octets.items
     (p.size.0 ∙ sided) (p.size.1 ∙ wide) (p.size.2 ∙ high) (p.palette ∙ ap (λ (r : ReelData). r.palette) n ∙ ap palette c.classic.ensures.classic) points c.in_ok-octets.ensures.plays

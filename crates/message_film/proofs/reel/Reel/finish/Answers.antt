@@ -1,6 +1,6 @@
-use Rattle.std.proofs.Common.{◌+◌, ◌*◌, ◌/◌, ◌≤◌, length, subst, ap, ◌∙◌, arith}
+use Rattle.std.proofs.Common.{◌*◌, length, subst, ap, ◌∙◌}
 use Rattle.message_film.specs.Moving.{Plays}
-use Rattle.message_film.specs.Reel.{ReelData, most_of_film}
+use Rattle.message_film.specs.Reel.{ReelData}
 use Rattle.message_film.proofs.ReelLemmas
 use Rattle.message_film.proofs.reel.Reel.finish.Goals as goal
 
