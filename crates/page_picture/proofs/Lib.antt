@@ -1,2 +1,5 @@
 pub mod ColourLemmas
-pub mod PpmLemmas
+pub mod DotLemmas
+pub mod CountLemmas
+pub mod PaletteLemmas
+pub mod ShownLemmas

@@ -1,10 +1,19 @@
-//! A page in all its colours at once: a colour for each pixel, and a picture of the page as a file in PPM.
+//! What a message shows in all its colours at once: a colour for each pixel, the points that they are drawn with, and a picture of a page as
+//! a file in PPM.
 //!
 //! [`PageColours`] is a page at a phase. It tells the colour of a pixel, gives all colours in one list, and draws the page as it looks on
-//! a sign: a round dot for each pixel, lit in its colour or dark.
+//! a sign: a round dot for each pixel, lit in its colour or dark. [`draw_colours`] gives all colours of what a message shows at a clock,
+//! [`dot_points`] the dots of such colours as numbers of a palette, and [`palette_of`] the palette.
 #![tactic(auto)]
 
 mod colours;
+mod dots;
+mod palette;
+mod points;
 mod ppm;
+mod shown;
 
 pub use colours::PageColours;
+pub use palette::palette_of;
+pub use points::dot_points;
+pub use shown::draw_colours;

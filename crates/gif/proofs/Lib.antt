@@ -1,0 +1,9 @@
+pub mod BitLemmas
+pub mod ReadLemmas
+pub mod StringLemmas
+pub mod FollowLemmas
+pub mod BlockLemmas
+pub mod SizeLemmas
+pub mod FilmLemmas
+pub mod WriterLemmas
+pub mod ReaderExamples

@@ -1,0 +1,3 @@
+pub mod ReelLemmas
+pub mod MovingLemmas
+pub mod PeriodLemmas

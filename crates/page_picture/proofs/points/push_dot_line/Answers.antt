@@ -1,0 +1,14 @@
+use Rattle.std.proofs.Common.{◌++◌, ◌∷◌, [], sym, ap, ◌∙◌, append-nil}
+use Rattle.octet_text.proofs.TextLemmas
+use Rattle.page_picture.proofs.DotLemmas
+use Rattle.page_picture.proofs.points.push_dot_line.Goals as goal
+
+pub loop-point-init : goal.loop-point-init
+loop-point-init c =
+    let old = c.args.points.now.items in
+    sym (append-nil old) ∙ ap (λ l. old ++ l) (sym (DotLemmas.dot_none c.args.side c.args.colour c.args.line))
+
+pub loop-point-preserved : goal.loop-point-preserved
+loop-point-preserved c =
+    let next = c.in_ok-push_octet.ensures ∙ ap (λ n. c.loop-point.points.items ++ n ∷ []) c.point_of.ensures.number in
+    TextLemmas.grown _ _ _ _ _ _ c.loop-point.invariant next (DotLemmas.dot_more c.args.side c.args.colour c.args.line c.loop-point.point)
