@@ -1,9 +1,9 @@
 /* Latsefur for hosts in C: what a roadside message sign says to a message, and the pages that it shows.
  *
  * A host keeps two things as octets: the sign file, which describes the sign (docs/formats.md), and the texts, which are messages in
- * MULTI, the mark-up of NTCIP 1203 v03 (docs/multi.md). Each call below reads the sign file, and all but the first a text or several. It
- * answers with one of the outcomes, and writes what it found where the host asked for it. docs/hosts.md has a first program, and the times
- * of the calls.
+ * MULTI, the mark-up of NTCIP 1203 v03 (docs/multi.md). Each call of the first part reads the sign file, and all but the first a text or
+ * several. The second part has a controller that the host holds: it keeps messages and shows them. A call answers with one of the outcomes,
+ * and writes what it found where the host asked for it. docs/hosts.md has first programs, and the times of the calls.
  *
  * What the host keeps, for every call:
  *
@@ -20,10 +20,10 @@
  *
  * What the library keeps:
  *
- * - It holds no pointer after a call and has no state between calls. Any number of threads may call at once, if what a call writes is
- *   that call's own. Threads may share sign files and texts that none of them changes.
- * - A call takes memory by malloc and realloc, and has given all of it back before it returns. How much that is grows with the sign file,
- *   whose length has no limit here. Everything that is handed in stays the host's.
+ * - It holds no pointer after a call and has no state between calls, but for a controller. Any number of threads may call at once, if what
+ *   a call writes is that call's own. Threads may share sign files and texts that none of them changes.
+ * - A call without a handle takes memory by malloc and realloc, and has given all of it back before it returns. How much that is grows
+ *   with the sign file, whose length has no limit here. Everything that is handed in stays the host's.
  * - It opens no file, writes no message, and starts no thread. It sets no errno, but malloc and realloc may.
  *
  * Every time and every clock is in tenths of a second. Pages, rows, columns and octets are counted from 0.
