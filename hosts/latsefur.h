@@ -38,6 +38,11 @@
 extern "C" {
 #endif
 
+/* The version of this header. It rises with each change of it. `latsefur_version` tells that of the library, so a host that loads the
+ * library while it runs can compare the two. */
+#define LATSEFUR_VERSION 1
+uint32_t latsefur_version(void);
+
 /* How a call ended. With an outcome other than LATSEFUR_DONE what the host lent is left as it was, but for verdicts, as said there. */
 enum {
     LATSEFUR_DONE = 0,         /* all is done; in a verdict: the text is accepted */

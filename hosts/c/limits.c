@@ -744,6 +744,8 @@ static void read_file(void) {
 int main(int count, char **paths) {
     int i;
     memset(&marked, MARK, sizeof marked);
+    path = "";
+    EXPECT(latsefur_version() == LATSEFUR_VERSION);
     for (i = 1; i < count; i++) {
         path = paths[i];
         read_file();

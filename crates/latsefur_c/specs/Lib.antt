@@ -7,3 +7,4 @@ pub mod Held
 pub mod Framed
 pub mod Told
 pub mod Field
+pub mod Version

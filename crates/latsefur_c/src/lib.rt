@@ -26,3 +26,4 @@ mod seen;
 mod setup;
 mod shown;
 mod sign;
+mod version;
