@@ -1,9 +1,9 @@
 /* Latsefur for hosts in C: what a roadside message sign says to a message, and the pages that it shows.
  *
  * A host keeps two things as octets: the sign file, which describes the sign (docs/formats.md), and the texts, which are messages in
- * MULTI, the mark-up of NTCIP 1203 v03 (docs/multi.md). Each call below reads the sign file, and all but the first a text or several. It
- * answers with one of the outcomes, and writes what it found where the host asked for it. docs/hosts.md has a first program, and the times
- * of the calls.
+ * MULTI, the mark-up of NTCIP 1203 v03 (docs/multi.md). Each call of the first part reads the sign file, and all but the first a text or
+ * several. The second part has a controller that the host holds: it keeps messages and shows them. A call answers with one of the outcomes,
+ * and writes what it found where the host asked for it. docs/hosts.md has first programs, and the times of the calls.
  *
  * What the host keeps, for every call:
  *
@@ -20,10 +20,10 @@
  *
  * What the library keeps:
  *
- * - It holds no pointer after a call and has no state between calls. Any number of threads may call at once, if what a call writes is
- *   that call's own. Threads may share sign files and texts that none of them changes.
- * - A call takes memory by malloc and realloc, and has given all of it back before it returns. How much that is grows with the sign file,
- *   whose length has no limit here. Everything that is handed in stays the host's.
+ * - It holds no pointer after a call and has no state between calls, but for a controller. Any number of threads may call at once, if what
+ *   a call writes is that call's own. Threads may share sign files and texts that none of them changes.
+ * - A call without a handle takes memory by malloc and realloc, and has given all of it back before it returns. How much that is grows
+ *   with the sign file, whose length has no limit here. Everything that is handed in stays the host's.
  * - It opens no file, writes no message, and starts no thread. It sets no errno, but malloc and realloc may.
  *
  * Every time and every clock is in tenths of a second. Pages, rows, columns and octets are counted from 0.
@@ -38,6 +38,11 @@
 extern "C" {
 #endif
 
+/* The version of this header. It rises with each change of it. `latsefur_version` tells that of the library, so a host that loads the
+ * library while it runs can compare the two. */
+#define LATSEFUR_VERSION 1
+uint32_t latsefur_version(void);
+
 /* How a call ended. With an outcome other than LATSEFUR_DONE what the host lent is left as it was, but for verdicts, as said there. */
 enum {
     LATSEFUR_DONE = 0,         /* all is done; in a verdict: the text is accepted */
@@ -47,7 +52,11 @@ enum {
     LATSEFUR_SIGN_FAULT = 4,   /* the sign file is read, but its sign is outside the limits of docs/formats.md */
     LATSEFUR_TOO_SMALL = 5,    /* the buffer is too small for the picture, or for the verdicts */
     LATSEFUR_NO_PAGE = 6,      /* the text has no page of this number */
-    LATSEFUR_TOO_LONG = 7      /* the text has 2^32 octets or more, and isn't judged */
+    LATSEFUR_TOO_LONG = 7,     /* the text has 2^32 octets or more, and isn't judged */
+    LATSEFUR_TABLE_FAULT = 8,  /* the sign file is read and its sign is sound, but its message table is outside the limits */
+    LATSEFUR_NO_CONTROLLER = 9, /* the handle holds no controller */
+    LATSEFUR_BAD_LENGTH = 10,  /* a code hasn't the length that it must have */
+    LATSEFUR_NO_DEFAULT = 11   /* the number names no default */
 };
 
 /* Why a text is refused: the numbers of dmsMultiSyntaxError. docs/multi.md says when each comes. */
@@ -156,6 +165,159 @@ uint8_t latsefur_colours_at(const uint8_t *sign_file, size_t sign_file_len, cons
 /* The same of a page, at a phase. Another outcome: NO_PAGE. */
 uint8_t latsefur_colours_of_page(const uint8_t *sign_file, size_t sign_file_len, const uint8_t *text, size_t text_len, uint8_t page,
                                  uint64_t phase, uint8_t *colours, size_t colours_len);
+
+/* ---- A controller that the host holds ----
+ *
+ * It keeps the messages of one sign and what the sign shows, for as long as the host wants. docs/messages.md says what each command does,
+ * and docs/formats.md has the same commands as lines of a script.
+ *
+ * What the host keeps for a handle:
+ *
+ * - It is zeros before the first call, as by `latsefur_controller handle = {0};`. Only the library writes it or reads its fields.
+ * - One call at a time has it. It may go to another thread between calls, as under a lock.
+ * - No copy of it is handed to a call. It may be moved as a whole between calls, if the old place isn't handed in again.
+ * - `latsefur_controller_free` is called in the end. After that, and after zeros, each call but `new` answers NO_CONTROLLER and changes
+ *   nothing; so does a second `free`.
+ *
+ * A copy that is used, or a second call at the same time, breaks what is proved: memory may be freed twice, or read after it was freed.
+ *
+ * What the library keeps: `new` takes memory by malloc and realloc, keeps some of it until `free`, and gives back the rest before it
+ * returns. No other call with a handle takes or gives back any. Between calls nothing runs: time passes by `latsefur_tick` alone. */
+typedef struct {
+    void *held;   /* the library's */
+    uint8_t full; /* the library's */
+} latsefur_controller;
+
+/* The reply to a command. A number that the kind has no use for is 0. */
+typedef struct {
+    uint8_t kind;            /* one of the kinds below */
+    uint8_t code;            /* REFUSED, NOT_SHOWN, NOT_SET: why */
+    uint8_t status;          /* WORKED: what the message became, 4 valid or 5 error (dmsMessageStatus) */
+    uint8_t validate_error;  /* WORKED: dmsValidateMessageError; 2 is none */
+    uint8_t multi_error;     /* WORKED: dmsMultiSyntaxError; 2 is none */
+    uint16_t number;         /* WORKED: the number of the message */
+    uint16_t multi_position; /* WORKED: dmsMultiSyntaxErrorPosition */
+} latsefur_reply;
+
+enum {
+    LATSEFUR_REPLY_DONE = 0,
+    LATSEFUR_REPLY_REFUSED = 1,   /* by the message table: 1 memory type, 2 number, 3 read only, 4 wrong state, 5 bad value, 6 too long, 7 no space */
+    LATSEFUR_REPLY_IDLE = 2,      /* no message waits to be judged */
+    LATSEFUR_REPLY_WORKED = 3,    /* a message was judged */
+    LATSEFUR_REPLY_SHOWN = 4,     /* the message is shown */
+    LATSEFUR_REPLY_NOT_SHOWN = 5, /* it isn't: dmsActivateMsgError, 3 to 8 */
+    LATSEFUR_REPLY_NOT_SET = 6,   /* the sign refuses the default: 9 its value, 10 no such font */
+    LATSEFUR_REPLY_TICKED = 7,    /* time has passed */
+    LATSEFUR_REPLY_ENDED = 8      /* time has passed, and a duration has ended */
+};
+
+/* The state of the sign. */
+typedef struct {
+    uint64_t clock;        /* since the display began to show the message; UINT64_MAX may stand for more */
+    uint32_t free;         /* octets that texts and owners may still take (dmsFreeChangeableMemory) */
+    uint32_t requester;    /* the address of who asked for the message (dmsMsgRequesterID) */
+    uint16_t used;         /* changeable messages that are used (dmsNumChangeableMsg) */
+    uint16_t shown_number; /* the number of the message that is shown (dmsMsgTableSource) */
+    uint16_t crc;          /* its CRC; 0 of a blank message */
+    uint16_t remaining;    /* minutes left, rounded up; 65535 has no end (dmsMessageTimeRemaining) */
+    uint16_t position;     /* dmsMultiSyntaxErrorPosition */
+    uint8_t mode;          /* 1 other, 8 central, 14 endDuration (dmsMsgSourceMode) */
+    uint8_t shown_memory;  /* the memory type of the message that is shown */
+    uint8_t priority;      /* its run-time priority */
+    uint8_t activate;      /* dmsActivateMsgError; 2 is none */
+    uint8_t validate;      /* dmsValidateMessageError; 2 is none */
+    uint8_t multi;         /* dmsMultiSyntaxError; 2 is none */
+} latsefur_report_facts;
+
+/* The defaults (group multiCfg). `latsefur_set_default` names them by their places here: 1 font, up to 9 back. */
+typedef struct {
+    uint8_t font, line, page, page_on, page_off, flash_on, flash_off, fore, back;
+} latsefur_default_facts;
+
+/* A message (object dmsMessageTable). If there is none, all but the code is 0. */
+typedef struct {
+    size_t multi;     /* how many octets its text has */
+    size_t owner;     /* how many its owner has, at most 127 */
+    uint16_t crc;     /* dmsMessageCRC; 0 of a blank message */
+    uint8_t code;     /* there is no such message: 1 memory type, 2 number */
+    uint8_t status;   /* 1 notUsed, 2 modifying, 3 validating, 4 valid, 5 error (dmsMessageStatus) */
+    uint8_t priority; /* dmsMessageRunTimePriority */
+    uint8_t beacon, pixel;
+} latsefur_message;
+
+/* Makes the controller of a sign file, which isn't read again. One that the handle held is freed, once the new one is made.
+ *
+ * Other outcomes: NO_MEMORY, NO_SIGN_FILE, SIGN_FAULT, TABLE_FAULT. The handle then holds what it held. */
+uint8_t latsefur_controller_new(const uint8_t *sign_file, size_t sign_file_len, latsefur_controller *handle);
+
+/* Frees the controller, if the handle holds one. */
+void latsefur_controller_free(latsefur_controller *handle);
+
+/* The commands. Each writes its reply if the outcome is DONE. Another outcome of each: NO_CONTROLLER. Memory types are 2 permanent,
+ * 3 changeable, 5 currentBuffer and 7 blank; messages are numbered from 1.
+ *
+ * `latsefur_request` asks for a status: 6 modifyReq, 7 validateReq or 8 notUsedReq. A message waits until `latsefur_work` judges it. */
+uint8_t latsefur_request(latsefur_controller *handle, uint8_t memory, uint16_t number, uint8_t status, latsefur_reply *reply);
+uint8_t latsefur_set_multi(latsefur_controller *handle, uint8_t memory, uint16_t number, const uint8_t *text, size_t text_len,
+                           latsefur_reply *reply);
+uint8_t latsefur_set_owner(latsefur_controller *handle, uint8_t memory, uint16_t number, const uint8_t *owner, size_t owner_len,
+                           latsefur_reply *reply);
+uint8_t latsefur_set_priority(latsefur_controller *handle, uint8_t memory, uint16_t number, uint8_t value, latsefur_reply *reply);
+uint8_t latsefur_set_beacon(latsefur_controller *handle, uint8_t memory, uint16_t number, uint8_t value, latsefur_reply *reply);
+uint8_t latsefur_set_pixel_service(latsefur_controller *handle, uint8_t memory, uint16_t number, uint8_t value, latsefur_reply *reply);
+uint8_t latsefur_clear(latsefur_controller *handle, latsefur_reply *reply);
+uint8_t latsefur_work(latsefur_controller *handle, latsefur_reply *reply);
+
+/* Shows a message, named by 12 octets: duration in minutes (65535 has no end), priority, memory type, number, CRC and source address,
+ * with the high octet of each number first (dmsActivateMessage). Another outcome: BAD_LENGTH. */
+uint8_t latsefur_activate(latsefur_controller *handle, const uint8_t *code, size_t code_len, latsefur_reply *reply);
+
+/* Names the message that follows a duration, by 5 octets: memory type, number and CRC (dmsEndDurationMessage). Another outcome:
+ * BAD_LENGTH. */
+uint8_t latsefur_set_end(latsefur_controller *handle, const uint8_t *code, size_t code_len, latsefur_reply *reply);
+
+/* Some tenths of a second pass. */
+uint8_t latsefur_tick(latsefur_controller *handle, uint32_t tenths, latsefur_reply *reply);
+
+/* Sets a default. Another outcome: NO_DEFAULT. */
+uint8_t latsefur_set_default(latsefur_controller *handle, uint8_t field, uint8_t value, latsefur_reply *reply);
+
+/* The questions. Each writes its answer if the outcome is DONE, and changes nothing else but the count of steps, by `latsefur_frame`.
+ * Another outcome of each: NO_CONTROLLER. */
+uint8_t latsefur_report(latsefur_controller *handle, latsefur_report_facts *report);
+uint8_t latsefur_defaults(latsefur_controller *handle, latsefur_default_facts *defaults);
+uint8_t latsefur_steps(latsefur_controller *handle, uint64_t *steps);
+
+/* Tells a message, with its text and its owner at the front of two buffers. Memory type 5 and number 1 is what the display shows.
+ *
+ * Other outcomes: TOO_SMALL, if one of the buffers is; REFUSED, if there is no such message, and then `row` says why. */
+uint8_t latsefur_row(latsefur_controller *handle, uint8_t memory, uint16_t number, latsefur_message *row, uint8_t *text, size_t text_len,
+                     uint8_t *owner, size_t owner_len);
+
+/* Draws which pixels have a colour in what the display shows now, as `latsefur_plane_at` does, and tells which page that is. Another
+ * outcome: TOO_SMALL. */
+uint8_t latsefur_frame(latsefur_controller *handle, uint8_t colour, latsefur_shown *shown, uint8_t *plane, size_t plane_len);
+
+/* The CRC of a message's text, beacon and pixel service (dmsMessageCRC). An activation code has it, the high octet first. */
+uint16_t latsefur_message_crc(const uint8_t *text, size_t text_len, uint8_t beacon, uint8_t pixel);
+
+/* The sizes that the library takes these structures to have; the platform is Linux on x86-64. */
+#if defined(__cplusplus) && __cplusplus >= 201103L
+#define LATSEFUR_HAS_SIZE(type, size) static_assert(sizeof(type) == (size), #type " has another size than the library takes it to have")
+#elif defined(__STDC_VERSION__) && __STDC_VERSION__ >= 201112L
+#define LATSEFUR_HAS_SIZE(type, size) _Static_assert(sizeof(type) == (size), #type " has another size than the library takes it to have")
+#endif
+#ifdef LATSEFUR_HAS_SIZE
+LATSEFUR_HAS_SIZE(latsefur_sign_facts, 6);
+LATSEFUR_HAS_SIZE(latsefur_verdict, 16);
+LATSEFUR_HAS_SIZE(latsefur_shown, 16);
+LATSEFUR_HAS_SIZE(latsefur_text, 16);
+LATSEFUR_HAS_SIZE(latsefur_controller, 16);
+LATSEFUR_HAS_SIZE(latsefur_reply, 10);
+LATSEFUR_HAS_SIZE(latsefur_report_facts, 32);
+LATSEFUR_HAS_SIZE(latsefur_default_facts, 9);
+LATSEFUR_HAS_SIZE(latsefur_message, 24);
+#endif
 
 #ifdef __cplusplus
 }

@@ -621,6 +621,116 @@ static void test_stack(void) {
     expect_on_stack(octets_of(nested), (size_t)(at - nested), 2 << 20, LATSEFUR_NO_SIGN_FILE);
 }
 
+/* A controller on the sign file: all commands and questions, with a message that is shown for a minute. */
+static void use_controller(latsefur_controller *held) {
+    static uint8_t octets[4096], owner[127];
+    const uint8_t *text = octets_of("A");
+    uint16_t crc = latsefur_message_crc(text, 1, 0, 0);
+    uint8_t code[12] = {0, 1, 255, 3, 0, 1, (uint8_t)(crc >> 8), (uint8_t)crc, 127, 0, 0, 1};
+    size_t plane = LATSEFUR_PLANE_SIZE(facts.width, facts.height);
+    latsefur_reply reply = {0};
+    latsefur_report_facts report = {0};
+    latsefur_default_facts defaults = {0};
+    latsefur_message row = {0};
+    latsefur_shown shown = {0};
+    uint64_t steps = 0;
+    EXPECT(latsefur_clear(held, &reply) == LATSEFUR_DONE && reply.kind == LATSEFUR_REPLY_DONE);
+    EXPECT(latsefur_request(held, 3, 1, 6, &reply) == LATSEFUR_DONE && reply.kind == LATSEFUR_REPLY_DONE);
+    EXPECT(latsefur_set_multi(held, 3, 1, text, 1, &reply) == LATSEFUR_DONE);
+    EXPECT(latsefur_set_owner(held, 3, 1, text, 0, &reply) == LATSEFUR_DONE && reply.kind == LATSEFUR_REPLY_DONE);
+    EXPECT(latsefur_set_priority(held, 3, 1, 9, &reply) == LATSEFUR_DONE && reply.kind == LATSEFUR_REPLY_DONE);
+    EXPECT(latsefur_set_beacon(held, 3, 1, 2, &reply) == LATSEFUR_DONE);
+    EXPECT(reply.kind == LATSEFUR_REPLY_REFUSED && reply.code == 5);
+    EXPECT(latsefur_set_pixel_service(held, 3, 1, 0, &reply) == LATSEFUR_DONE && reply.kind == LATSEFUR_REPLY_DONE);
+    EXPECT(latsefur_request(held, 3, 1, 7, &reply) == LATSEFUR_DONE && reply.kind == LATSEFUR_REPLY_DONE);
+    EXPECT(latsefur_work(held, &reply) == LATSEFUR_DONE);
+    EXPECT(reply.kind == LATSEFUR_REPLY_WORKED && reply.number == 1 && reply.status == 4);
+    EXPECT(latsefur_activate(held, code, 11, &reply) == LATSEFUR_BAD_LENGTH && reply.kind == LATSEFUR_REPLY_WORKED);
+    EXPECT(latsefur_activate(held, code, 12, &reply) == LATSEFUR_DONE && reply.kind == LATSEFUR_REPLY_SHOWN);
+    EXPECT(latsefur_set_end(held, code, 4, &reply) == LATSEFUR_BAD_LENGTH);
+    EXPECT(latsefur_set_end(held, code + 3, 5, &reply) == LATSEFUR_DONE && reply.kind == LATSEFUR_REPLY_DONE);
+    EXPECT(latsefur_set_default(held, 0, 1, &reply) == LATSEFUR_NO_DEFAULT);
+    EXPECT(latsefur_set_default(held, 10, 1, &reply) == LATSEFUR_NO_DEFAULT);
+    EXPECT(latsefur_set_default(held, 5, 7, &reply) == LATSEFUR_DONE && reply.kind == LATSEFUR_REPLY_DONE);
+    EXPECT(latsefur_tick(held, 599, &reply) == LATSEFUR_DONE && reply.kind == LATSEFUR_REPLY_TICKED);
+    EXPECT(latsefur_report(held, &report) == LATSEFUR_DONE);
+    EXPECT(report.clock == 599 && report.shown_memory == 3 && report.shown_number == 1 && report.crc == crc && report.remaining == 1);
+    EXPECT(report.requester == 0x7f000001 && report.priority == 9 && report.mode == 8 && report.used == 1);
+    EXPECT(latsefur_defaults(held, &defaults) == LATSEFUR_DONE && defaults.page_off == 7);
+    EXPECT(latsefur_steps(held, &steps) == LATSEFUR_DONE && steps > 0);
+    EXPECT(latsefur_row(held, 3, 1, &row, octets, 0, owner, 127) == LATSEFUR_TOO_SMALL && row.status == 0);
+    EXPECT(latsefur_row(held, 3, 1, &row, octets, 1, owner, 0) == LATSEFUR_DONE);
+    EXPECT(row.multi == 1 && octets[0] == 'A' && row.owner == 0 && row.crc == crc && row.status == 4 && row.priority == 9);
+    EXPECT(latsefur_row(held, 4, 1, &row, octets, 0, owner, 0) == LATSEFUR_REFUSED && row.code == 1 && row.multi == 0);
+    memset(out.plane, MARK, sizeof out.plane);
+    EXPECT(latsefur_frame(held, 1, &shown, out.plane, plane - 1) == LATSEFUR_TOO_SMALL);
+    EXPECT(is_marked(out.plane, sizeof out.plane));
+    EXPECT(latsefur_frame(held, 1, &shown, out.plane, plane) == LATSEFUR_DONE);
+    EXPECT(is_marked(out.plane + plane, sizeof out.plane - plane));
+    EXPECT(latsefur_tick(held, 1, &reply) == LATSEFUR_DONE && reply.kind == LATSEFUR_REPLY_ENDED);
+}
+
+/* A handle without a controller answers so, and changes nothing. */
+static void expect_no_controller(latsefur_controller *held) {
+    latsefur_reply reply = {0};
+    latsefur_report_facts report = {0};
+    latsefur_message row = {0};
+    uint8_t code[12] = {0};
+    memset(&out, MARK, sizeof out);
+    EXPECT(latsefur_work(held, &reply) == LATSEFUR_NO_CONTROLLER && latsefur_tick(held, 1, &reply) == LATSEFUR_NO_CONTROLLER);
+    EXPECT(latsefur_activate(held, code, 12, &reply) == LATSEFUR_NO_CONTROLLER && reply.kind == 0);
+    EXPECT(latsefur_report(held, &report) == LATSEFUR_NO_CONTROLLER && report.remaining == 0);
+    EXPECT(latsefur_row(held, 3, 1, &row, out.plane, 10, out.colours, 10) == LATSEFUR_NO_CONTROLLER && row.status == 0);
+    EXPECT(latsefur_frame(held, 1, &out.shown, out.plane, sizeof out.plane) == LATSEFUR_NO_CONTROLLER);
+    EXPECT(is_untouched());
+    latsefur_controller_free(held);
+}
+
+/* Refuses memory to `latsefur_controller_new` from each request on, and sees that no other call asks for any. */
+static void test_controller(void) {
+    latsefur_controller held = {0};
+    latsefur_report_facts report = {0};
+    size_t granted, kept;
+    uint8_t outcome, *bad;
+    expect_no_controller(&held);
+    for (granted = 0;; granted++) {
+        left = granted;
+        refused = blocks = 0;
+        is_watched = 1;
+        outcome = latsefur_controller_new(file, file_len, &held);
+        is_watched = 0;
+        if (outcome == LATSEFUR_DONE)
+            break;
+        EXPECT(outcome == LATSEFUR_NO_MEMORY && refused > 0 && blocks == 0);
+        expect_no_controller(&held);
+    }
+    kept = blocks;
+    EXPECT(kept > 0);
+    requests = 0;
+    is_watched = 1;
+    use_controller(&held);
+    use_controller(&held);
+    EXPECT(requests == 0 && blocks == kept);
+    /* A controller that can't be made leaves the one that there is. */
+    left = 0;
+    EXPECT(latsefur_controller_new(file, file_len, &held) == LATSEFUR_NO_MEMORY && blocks == kept);
+    left = SIZE_MAX;
+    EXPECT(latsefur_controller_new(octets_of("width"), 5, &held) == LATSEFUR_NO_SIGN_FILE && blocks == kept);
+    EXPECT(latsefur_report(&held, &report) == LATSEFUR_DONE && report.used == 1);
+    is_watched = 0;
+    bad = with_zero("\nslots = ");
+    is_watched = 1;
+    EXPECT(latsefur_controller_new(bad, file_len, &held) == LATSEFUR_TABLE_FAULT && blocks == kept);
+    /* A new one in its place, and the end. */
+    EXPECT(latsefur_controller_new(file, file_len, &held) == LATSEFUR_DONE && blocks == kept);
+    EXPECT(latsefur_report(&held, &report) == LATSEFUR_DONE && report.used == 0 && report.clock == 0);
+    latsefur_controller_free(&held);
+    EXPECT(blocks == 0);
+    is_watched = 0;
+    free(bad);
+    expect_no_controller(&held);
+}
+
 static void read_file(void) {
     FILE *stream = fopen(path, "rb");
     EXPECT(stream != NULL);
@@ -634,6 +744,8 @@ static void read_file(void) {
 int main(int count, char **paths) {
     int i;
     memset(&marked, MARK, sizeof marked);
+    path = "";
+    EXPECT(latsefur_version() == LATSEFUR_VERSION);
     for (i = 1; i < count; i++) {
         path = paths[i];
         read_file();
@@ -654,6 +766,7 @@ int main(int count, char **paths) {
         test_largest();
         test_stack();
         test_threads();
+        test_controller();
         free(file);
     }
     printf("%lu\n", checks);

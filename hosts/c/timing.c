@@ -37,6 +37,49 @@ static uint8_t colours(void) {
     return latsefur_colours_at(file, file_len, text, text_len, 0, picture, sizeof picture);
 }
 
+/* A controller, with the text as its first changeable message. */
+static latsefur_controller held;
+static latsefur_reply reply;
+static uint8_t code[12] = {0xff, 0xff, 0xff, 3, 0, 1};
+
+static uint8_t make(void) {
+    return latsefur_controller_new(file, file_len, &held);
+}
+
+static uint8_t store(void) {
+    uint16_t crc = latsefur_message_crc(text, text_len, 0, 0);
+    code[6] = (uint8_t)(crc >> 8);
+    code[7] = (uint8_t)crc;
+    latsefur_request(&held, 3, 1, 6, &reply);
+    latsefur_set_multi(&held, 3, 1, text, text_len, &reply);
+    latsefur_request(&held, 3, 1, 7, &reply);
+    latsefur_work(&held, &reply);
+    return reply.status == 4 ? LATSEFUR_DONE : LATSEFUR_REFUSED;
+}
+
+static uint8_t activate(void) {
+    latsefur_activate(&held, code, sizeof code, &reply);
+    return reply.kind == LATSEFUR_REPLY_SHOWN ? LATSEFUR_DONE : LATSEFUR_REFUSED;
+}
+
+static uint8_t tick(void) {
+    return latsefur_tick(&held, 1, &reply);
+}
+
+static uint8_t set_multi(void) {
+    return latsefur_set_multi(&held, 3, 1, text, text_len, &reply);
+}
+
+static uint8_t report(void) {
+    static latsefur_report_facts facts;
+    return latsefur_report(&held, &facts);
+}
+
+static uint8_t frame(void) {
+    static latsefur_shown shown;
+    return latsefur_frame(&held, 1, &shown, picture, sizeof picture);
+}
+
 /* Writes the time of a call, shared out over so many texts. */
 static void measure(const char *name, uint8_t (*call)(void), int rounds, int shared) {
     double least = 0, spent;
@@ -75,5 +118,13 @@ int main(int count, char **words) {
     measure("latsefur_check_all, a text", check_all, (rounds + 19) / 20, TEXTS);
     measure("latsefur_plane_at", plane, rounds, 1);
     measure("latsefur_colours_at", colours, rounds, 1);
+    measure("latsefur_controller_new", make, rounds, 1);
+    measure("a message stored and judged", store, 1, 1);
+    measure("latsefur_activate", activate, rounds, 1);
+    measure("latsefur_tick", tick, rounds, 1);
+    measure("latsefur_set_multi", set_multi, rounds, 1);
+    measure("latsefur_report", report, rounds, 1);
+    measure("latsefur_frame", frame, rounds, 1);
+    latsefur_controller_free(&held);
     return 0;
 }

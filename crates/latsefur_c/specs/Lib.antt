@@ -2,3 +2,9 @@ pub mod Outcome
 pub mod Judged
 pub mod Facts
 pub mod Drawn
+pub mod Replied
+pub mod Held
+pub mod Framed
+pub mod Told
+pub mod Field
+pub mod Version

@@ -23,3 +23,15 @@ pub(crate) const NO_PAGE: u8 = 6;
 
 /// The text has 4,294,967,296 octets or more, and isn't judged.
 pub(crate) const TOO_LONG: u8 = 7;
+
+/// The message table of the sign file is outside its limits.
+pub(crate) const TABLE_FAULT: u8 = 8;
+
+/// The handle holds no controller.
+pub(crate) const NO_CONTROLLER: u8 = 9;
+
+/// A code hasn't the length that it must have.
+pub(crate) const BAD_LENGTH: u8 = 10;
+
+/// The number names no default.
+pub(crate) const NO_DEFAULT: u8 = 11;

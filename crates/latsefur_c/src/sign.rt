@@ -8,7 +8,7 @@ use sign_font::{Sign, SignFault};
 use std::alloc::Global;
 
 /// The number for a sign that isn't made.
-fn why_unmade(fault: SignFault) -> u8
+pub(crate) fn why_unmade(fault: SignFault) -> u8
     ensures { result ≡ why_unmade fault }
 {
     match fault {
