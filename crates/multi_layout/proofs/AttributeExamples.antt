@@ -4,7 +4,6 @@ use Rattle.multi_tag.specs.declared.tag.Tag.TheVariants.{NewLine, NewPage, CharS
 use Rattle.sign_font.specs.Sample.{sample}
 use Rattle.sign_font.specs.declared.parts.Defaults.{Defaults}
 use Rattle.multi_layout.specs.declared.attributes.FlashTimes.{FlashTimes}
-use Rattle.multi_layout.specs.declared.attributes.Rectangle.{Rectangle}
 use Rattle.multi_layout.specs.Meaning.{Meaning, Shows, Does, Faulty, EndsArea, begins_area, has_place}
 use Rattle.multi_layout.specs.Attributes.{given_spacing, given_flash, is_inside, rectangle}
 

@@ -5,7 +5,6 @@ use Rattle.std.specs.Option.{option_map_or}
 use Rattle.sign_font.specs.Sample.{sample, small_font}
 use Rattle.sign_font.specs.Sign.{SignData}
 use Rattle.multi_layout.specs.declared.attributes.FlashTimes.{FlashTimes}
-use Rattle.multi_layout.specs.declared.place.Place.{Place}
 use Rattle.multi_layout.specs.declared.times.Shown.TheVariants.{Page, Off}
 use Rattle.multi_layout.specs.Attributes.{whole_sign}
 use Rattle.multi_layout.specs.Address.{Put, Glyph, Break, Cover, Spot, spots, standing}
