@@ -5,6 +5,7 @@ pub mod AreaFillLemmas
 pub mod AreaLemmas
 pub mod AreaLinesLemmas
 pub mod AreaSumLemmas
+pub mod AttributeExamples
 pub mod BehindLemmas
 pub mod BoundLemmas
 pub mod BreakLemmas
@@ -39,6 +40,7 @@ pub mod FilledTableLemmas
 pub mod FilledTagLemmas
 pub mod FilledTextLemmas
 pub mod FillingExamples
+pub mod FitExamples
 pub mod FitLemmas
 pub mod FullLemmas
 pub mod GroupHeightLemmas
@@ -72,6 +74,7 @@ pub mod PaintLemmas
 pub mod PictureExamples
 pub mod PictureLemmas
 pub mod PieceLemmas
+pub mod PixelExamples
 pub mod PlaceExamples
 pub mod PlaceLemmas
 pub mod PlacingLemmas
