@@ -1,11 +1,20 @@
 -- The numbers of kinds, and what a status is, computed.
-use Rattle.std.proofs.Common.{◌≡◌, true, false, List, [], ◌∷◌, map, refl}
+use Rattle.std.proofs.Common.{◌≡◌, true, false, List, [], ◌∷◌, map, refl, Some, None}
 use Rattle.message_store.specs.declared.fault.StoreFault.TheVariants as fault
+use Rattle.message_store.specs.declared.message.MemoryType.TheVariants.{Permanent, Changeable, CurrentBuffer, Blank}
+use Rattle.message_store.specs.declared.slot.Request.TheVariants.{Modify, Validate, NotUse}
 use Rattle.message_store.specs.declared.slot.Status.{Status}
 use Rattle.message_store.specs.declared.slot.Status.TheVariants.{NotUsed, Modifying, Validating, Valid, Error}
 use Rattle.message_store.specs.declared.work.ValidateError.TheVariants as validate
-use Rattle.message_store.specs.Codes.{status_code, validate_code, fault_code}
+use Rattle.message_store.specs.Codes.{memory_numbered, request_numbered, status_code, validate_code, fault_code}
 use Rattle.message_store.specs.Slot.{is_modifying, is_not_used, is_validating}
+
+memory_types_of_numbers : map memory_numbered (1 ∷ 2 ∷ 3 ∷ 4 ∷ 5 ∷ 6 ∷ 7 ∷ 8 ∷ [])
+    ≡ None ∷ Some Permanent ∷ Some Changeable ∷ None ∷ Some CurrentBuffer ∷ None ∷ Some Blank ∷ None ∷ []
+memory_types_of_numbers = refl
+
+requests_of_numbers : map request_numbered (5 ∷ 6 ∷ 7 ∷ 8 ∷ 9 ∷ []) ≡ None ∷ Some Modify ∷ Some Validate ∷ Some NotUse ∷ None ∷ []
+requests_of_numbers = refl
 
 abbrev statuses : List Status
 statuses = NotUsed ∷ Modifying ∷ Validating ∷ Valid ∷ Error ∷ []
