@@ -4,7 +4,7 @@ use Rattle.std.specs.List.{All, flat_map}
 use Rattle.gif.specs.Lzw.{pixels_of}
 
 -- a picture that is shown for some hundredths of a second: the colours of its points by their numbers in the palette, row by row from the
--- top, and each row from the left
+-- top, and each row from the left (GIF89a)
 pub record Picture : Type 0 where
   pub delay : ℕ
   pub pixels : List ℕ

@@ -1,8 +1,12 @@
+mod CodeExamples
 pub mod CrcLemmas
+mod LimitExamples
 pub mod LimitsLemmas
 pub mod PoolLemmas
+mod RowExamples
 pub mod ShortLemmas
 pub mod StoreRows
 pub mod StoredLemmas
 pub mod WholeLemmas
 pub mod WorkLemmas
+mod WriteExamples

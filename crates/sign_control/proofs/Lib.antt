@@ -1,7 +1,10 @@
 pub mod BudgetLemmas
+mod CodeExamples
 pub mod ColourLemmas
+mod CountExamples
 pub mod CountLemmas
 pub mod FrameLemmas
 pub mod HeadlineLemmas
+mod StateExamples
 mod StepExamples
 pub mod StepLemmas
