@@ -6,5 +6,5 @@ pub returns-clause-ok : goal.returns-clause-ok
 returns-clause-ok c =
     let old = c.args.checked.now in
     let frame = FrameLemmas.frame_of c.args.text.now.begun c.push_head.new.text.begun old.sign old.source.octets c.args.clock c.args.colour c.draw_shown-shown.result c.draw_shown-shown.new.plane
-    c.draw_shown-shown.ensures.shown c.draw_shown-shown.ensures.drawn c.draw_shown-shown.ensures.size c.in_ok-push_head.ensures in
+    c.draw_shown-shown.ensures.shown c.draw_shown-shown.ensures.drawn c.draw_shown-shown.ensures.size c.in_ok-push_head.ensures.text in
     subst (λ l. OnOk c.push_rows.result (c.push_rows.new.text.begun ≡ l)) frame c.push_rows.ensures.text
