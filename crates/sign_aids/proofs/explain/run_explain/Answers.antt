@@ -1,0 +1,13 @@
+use Rattle.std.proofs.Common.{[], inl}
+use Rattle.std.proofs.KnownBytes.{Consumes-nil}
+use Rattle.tool_streams.specs.declared.fault.ToolFault.TheVariants.{Memory}
+use Rattle.sign_aids.proofs.ExplainLemmas
+use Rattle.sign_aids.proofs.explain.run_explain.Goals as goal
+
+pub returns-in_default : goal.returns-in_default
+returns-in_default g c =
+    let (taken, took, leads) = c.in-Ok.ensures.starts in
+    let between = g.R.Read.remaining c.begin.new.reader in
+    record {
+      explained = inl (taken, c.in-Ok.start.setup, c.in-Ok.start.place, between, leads, took, ExplainLemmas.begins_none _ _ _ between between _ [] Memory (Consumes-nil between) tt);
+    }
