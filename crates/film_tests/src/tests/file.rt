@@ -20,8 +20,16 @@ fn a_picture_of_two_points_is_these_octets(rt: HostRuntime) {
         octets.starts_with(b"GIF89a\x02\x00\x01\x00\xb3\x00\x00"),
         "the size, and that 16 colours follow",
     );
-    so(&rt, &octets[13..61] == [7u8; 48].as_slice(), "the palette");
+    so(
+        &rt,
+        octets.get(13..61).expect(&rt, "a head") == [7u8; 48].as_slice(),
+        "the palette",
+    );
     let again = b"\x21\xff\x0bNETSCAPE2.0\x03\x01\x00\x00\x00".as_slice();
-    so(&rt, &octets[61..80] == again, "over and over");
+    so(
+        &rt,
+        octets.get(61..80).expect(&rt, "a head") == again,
+        "over and over",
+    );
     so(&rt, octets.ends_with(&PICTURE), "the picture and the end");
 }

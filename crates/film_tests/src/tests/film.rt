@@ -11,10 +11,10 @@ const THREE_SECONDS: [u8; 8] = *b"\x21\xf9\x04\x04\x2c\x01\x00\x00";
 
 /// How many pictures are shown for 3 seconds.
 fn count(octets: &[u8]) -> usize {
-    let mut count = 0;
+    let mut count = 0usize;
     for place in 0..octets.len() {
         if octets[place..].starts_with(&THREE_SECONDS) {
-            count += 1;
+            count = count.saturating_add(1);
         }
     }
     count
@@ -33,18 +33,18 @@ fn two_pages_of_three_seconds_are_two_pictures(rt: HostRuntime) {
     // the sign has 12 by 7 pixels
     so(
         &rt,
-        &octets[6..10] == [12u8, 0, 7, 0].as_slice(),
+        octets.get(6..10).expect(&rt, "a head") == [12u8, 0, 7, 0].as_slice(),
         "the size",
     );
     let octets = still(alloc, &sign, &mut checked, Shown::Off, 2).expect(&rt, "a still");
     so(
         &rt,
-        &octets[6..10] == [24u8, 0, 14, 0].as_slice(),
+        octets.get(6..10).expect(&rt, "a head") == [24u8, 0, 14, 0].as_slice(),
         "the size of a still",
     );
     so(
         &rt,
-        &octets[13..19] == [12u8, 12, 12, 40, 40, 40].as_slice(),
+        octets.get(13..19).expect(&rt, "a head") == [12u8, 12, 12, 40, 40, 40].as_slice(),
         "what is dark",
     );
 }
