@@ -8,6 +8,8 @@
 //! does so where the body was read already.
 #![tactic(auto)]
 
+mod ahead;
+mod closed;
 mod font;
 mod hex_char;
 mod laws;
@@ -19,6 +21,8 @@ mod rest;
 mod tag;
 mod times;
 
-pub use laws::{one_tag_at_most, tag_of_is_the_table};
+pub use ahead::read_ahead;
+pub use closed::read_closed;
+pub use laws::{no_long_body, one_tag_at_most, tag_of_is_the_table};
 pub use read::{read_body, read_tag};
 pub use tag::{FontPick, Tag, TagFault};

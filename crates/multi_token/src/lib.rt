@@ -9,12 +9,14 @@
 //! bracket which was read already.
 #![tactic(auto)]
 
+mod advances;
 mod laws;
 mod source;
 mod token;
 
+pub use advances::Advances;
 pub use laws::{
     each_string_has_a_reading, no_spelling_begins_another, one_reading, what_can_be_mended,
 };
-pub use source::Source;
+pub use source::{Run, Source};
 pub use token::{Bracketed, Kind, Token, TokenFault, next_token, read_bracket};

@@ -2,6 +2,7 @@
 use Rattle.std.specs.Prelude.{ℕ, ◌<◌, ◌≤◌, ◌≡◌, ◌==◌, IsTrue, List, length, map, find, slice_get, slice_index, option_map, unwrap_or, All}
 use Rattle.sign_font.specs.declared.font.FontInfo.{FontInfo}
 use Rattle.sign_font.specs.Cell.{SizedCell}
+use Rattle.sign_font.specs.Advance.{AreAdvances}
 use Rattle.sign_font.specs.Limits.{is_rising}
 use Rattle.sign_font.specs.Sign.{FontData, unsized}
 use Rattle.sign_font.specs.Sound.{IsSoundFont}
@@ -47,3 +48,8 @@ pub record AreTables (cells : List SizedCell) (places widths : List ℕ) : Type 
   pub numbered : AreNumbered cells
   pub placed : ArePlaces (λ cell. cell.number) cells places
   pub wide : AreWidths cells widths
+
+-- a font that is kept with what octets take of a line by its cells (own)
+pub record IsFontKeptWith (info : FontInfo) (cells : List SizedCell) (table : List ℕ) : Type 0 where
+  pub font : IsFontKept info cells
+  pub advances : AreAdvances cells table

@@ -1,9 +1,11 @@
+pub mod Advance
 pub mod Cell
 pub mod Defaults
 pub mod Fault
 pub mod Kept
 pub mod Limits
 pub mod Sample
+pub mod Run
 pub mod Sign
 pub mod Sound
 pub mod Text

@@ -1,6 +1,7 @@
 -- The width of a text.
-use Rattle.std.specs.Prelude.{◌≡◌, ℕ, ◌+◌, ◌-◌, ◌<◌, ◌≤◌, List, ◌∷◌, ◌++◌, All, length, map, take, slice_index, Option, Some, None, option_map}
+use Rattle.std.specs.Prelude.{◌≡◌, ℕ, ◌+◌, ◌-◌, ◌<◌, ◌≤◌, List, ◌∷◌, ◌++◌, All, length, map, take, slice_index, Option, Some, None, option_map, unwrap_or, if◌then◌else◌}
 use Rattle.std.specs.List.{sum_by}
+use Rattle.multi_token.specs.Spelling.{is_bracket}
 use Rattle.sign_font.specs.declared.text.TextFault.{TextFault}
 use Rattle.sign_font.specs.declared.text.TextFault.TheVariants as faults
 use Rattle.sign_font.specs.declared.text.TextFront.{TextFront}
@@ -72,3 +73,11 @@ pub record IsFrontOf (width_of : ℕ → Option ℕ) (gap room : ℕ) (text : Li
   pub narrow : front.width ≤ room
   pub space : HasLastSpace width_of gap (take front.len text) front.width front.space
   pub longest : front.len < length text → (width : ℕ) → width_of (slice_index text front.len) ≡ Some width → room < front.width + (gap + width)
+
+-- what an octet takes of a line in a font: the width of its cell; a bracket, and an octet without a cell, take more than any line has (own)
+abbrev pub advance_in : FontData → ℕ → ℕ
+advance_in font octet = if is_bracket octet then 32768 else unwrap_or (width_numbered font octet) 32768
+
+-- by octet, what it takes of a line in a font; of a wider number it says nothing (own)
+abbrev pub AreAdvancesIn : FontData → List ℕ → Type 0
+AreAdvancesIn font advances = (octet : ℕ) → octet < 256 → slice_index advances octet ≡ advance_in font octet

@@ -4,13 +4,13 @@ ghost use Rattle.std.specs.Prelude.{◌≡◌, ◌≤◌, ℕ, min, length, IfEr
 ghost use Rattle.multi_token.specs.Counted.{RisesBetween};
 ghost use Rattle.sign_font.specs.Sign.{font_of, info_of, cell_numbered, sized};
 ghost use Rattle.sign_font.specs.Sound.{IsSoundFont, IsSoundSize, IsWithin};
-ghost use Rattle.sign_font.specs.Text.{HasWidth, IsFrontOf, IsTextFault, width_numbered};
+ghost use Rattle.sign_font.specs.Text.{AreAdvancesIn, HasWidth, IsFrontOf, IsTextFault, width_numbered};
 
 use crate::cell::{Cell, Glyph};
 use crate::glyphs::Glyphs;
 use crate::parts::FontPart;
 use crate::text::{TextFault, TextFront, TextSpace};
-use multi_token::Source;
+use multi_token::{Advances, Source};
 use std::alloc::{AllocError, Global};
 use std::marker::Model;
 
@@ -34,17 +34,19 @@ pub struct FontInfo {
 pub(crate) struct Font {
     info: FontInfo,
     glyphs: Glyphs,
+    /// By octet, what it takes of a line.
+    advances: Advances,
 }
 
 impl Model for Font {
     ghost use Rattle.sign_font.specs.Sign.{FontData};
-    ghost use Rattle.sign_font.specs.Kept.{font_kept, IsFontKept};
+    ghost use Rattle.sign_font.specs.Kept.{font_kept, IsFontKeptWith};
 
     ghost Value = { FontData };
 
     ghost view = { λ f. font_kept f.info f.glyphs };
 
-    ghost invariant = { λ f. IsFontKept f.info f.glyphs };
+    ghost invariant = { λ f. IsFontKeptWith f.info f.glyphs f.advances };
 }
 
 impl Font {
@@ -64,10 +66,20 @@ impl Font {
         for cell in part.cells {
             glyphs.push(Glyph::new(alloc, cell, info.height)?)?;
         }
+        let glyphs = Glyphs::new(glyphs);
+        let advances = Advances::new(glyphs.advances());
         Ok(Font {
             info,
-            glyphs: Glyphs::new(glyphs),
+            glyphs,
+            advances,
         })
+    }
+
+    /// By octet, what it takes of a line: the width of its cell, or 0x8000 for a bracket and for an octet without a cell.
+    pub(crate) fn advances(&self) -> &Advances
+        ensures { AreAdvancesIn self.now result.now }
+    {
+        &self.advances
     }
 
     /// The font's number.

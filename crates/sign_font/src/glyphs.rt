@@ -4,6 +4,7 @@ ghost use Rattle.std.specs.Prelude.{◌≡◌, ℕ, min, ◌==◌, length, find,
 ghost use Rattle.std.specs.Option.{option_copied};
 ghost use Rattle.multi_token.specs.Counted.{RisesBetween};
 ghost use Rattle.sign_font.specs.Kept.{AreNumbered};
+ghost use Rattle.sign_font.specs.Advance.{AreAdvances, advance_of};
 
 use crate::cell::Glyph;
 use multi_token::Source;
@@ -11,6 +12,9 @@ use std::marker::Model;
 
 /// The place for a number that nothing has. A list has at most 255 things, so nothing stands there.
 pub(crate) const NOWHERE: u8 = 255;
+
+/// What an octet that ends a run has in the table of advances: more than any line has pixels.
+const ENDS: u16 = 0x8000;
 
 /// The cells of a font, with tables by which an octet finds its cell at once. A number above 255 stands in no table.
 #[derive(Drop)]
@@ -89,6 +93,30 @@ impl Glyphs {
             }
         }
         None
+    }
+
+    /// By octet, the width of its cell, or `ENDS` for a bracket and for an octet without a cell.
+    pub(crate) fn advances(&self) -> [u16; 256]
+        ensures { AreAdvances self.now result }
+    {
+        let mut advances = [ENDS; 256];
+        for octet in 0..256usize {
+            advances[octet] = self.advance(octet as u8);
+        }
+        advances
+    }
+
+    /// The width of an octet's cell, or `ENDS` for a bracket and for an octet without a cell.
+    fn advance(&self, octet: u8) -> u16
+        ensures { result ≡ advance_of self.now octet }
+    {
+        if octet == b'[' || octet == b']' {
+            return ENDS;
+        }
+        match self.find(octet) {
+            Some(glyph) => u16::from(glyph.width()),
+            None => ENDS,
+        }
     }
 
     /// The width of an octet's cell, or 0 for an octet without a cell.
