@@ -1,12 +1,16 @@
 -- What octets take of a line.
-use Rattle.std.specs.Prelude.{ℕ, ◌<◌, ◌≡◌, ◌==◌, List, find, slice_index, option_map, unwrap_or, if◌then◌else◌}
+use Rattle.std.specs.Prelude.{ℕ, ◌<◌, ◌≡◌, ◌==◌, Bool, ◌&&◌, ◌||◌, List, Option, slice_index, unwrap_or, if◌then◌else◌}
 use Rattle.multi_token.specs.Spelling.{is_bracket}
-use Rattle.sign_font.specs.Cell.{SizedCell}
 
--- the columns that an octet's cell takes of a line; a bracket, and an octet without a cell, take more than any line has (own)
-abbrev pub advance_of : List SizedCell → ℕ → ℕ
-advance_of cells octet = if is_bracket octet then 32768 else unwrap_or (option_map (λ cell. cell.width) (find (λ cell. cell.number == octet) cells)) 32768
+-- an octet that ends every run: a bracket, and a space where runs are words (own)
+abbrev pub ends_run : Bool → ℕ → Bool
+ends_run words octet = is_bracket octet || (words && (octet == 32))
+
+-- the columns that an octet takes of a line, by these widths of octets; what ends every run, and what has no width, takes more than
+-- any line has (own)
+abbrev pub advance_of : (ℕ → Option ℕ) → Bool → ℕ → ℕ
+advance_of width_of words octet = if ends_run words octet then 32768 else unwrap_or (width_of octet) 32768
 
 -- by octet, what it takes of a line; of a wider number it says nothing (own)
-abbrev pub AreAdvances : List SizedCell → List ℕ → Type 0
-AreAdvances cells advances = (octet : ℕ) → octet < 256 → slice_index advances octet ≡ advance_of cells octet
+abbrev pub AreAdvances : (ℕ → Option ℕ) → Bool → List ℕ → Type 0
+AreAdvances width_of words advances = (octet : ℕ) → octet < 256 → slice_index advances octet ≡ advance_of width_of words octet

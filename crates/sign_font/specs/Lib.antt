@@ -5,7 +5,6 @@ pub mod Fault
 pub mod Kept
 pub mod Limits
 pub mod Sample
-pub mod Run
 pub mod Sign
 pub mod Sound
 pub mod Text

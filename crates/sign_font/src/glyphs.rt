@@ -1,10 +1,10 @@
 //! The cells of a font, as a sign keeps them.
 
-ghost use Rattle.std.specs.Prelude.{◌≡◌, ℕ, min, ◌==◌, length, find, option_map, unwrap_or};
+ghost use Rattle.std.specs.Prelude.{◌≡◌, ℕ, ◌==◌, find, option_map, unwrap_or};
 ghost use Rattle.std.specs.Option.{option_copied};
-ghost use Rattle.multi_token.specs.Counted.{RisesBetween};
-ghost use Rattle.sign_font.specs.Kept.{AreNumbered};
-ghost use Rattle.sign_font.specs.Advance.{AreAdvances, advance_of};
+ghost use Rattle.multi_token.specs.Counted.{RisesBetween, charged};
+ghost use Rattle.sign_font.specs.Advance.{AreAdvances, advance_of, ends_run};
+ghost use Rattle.sign_font.specs.Kept.{AreNumbered, width_among};
 
 use crate::cell::Glyph;
 use multi_token::Source;
@@ -68,11 +68,15 @@ impl Glyphs {
         self.glyphs.get(usize::from(place))
     }
 
-    /// The cell of any number, by halves. Each cell that is compared with it takes one step.
+    /// The cell of any number, by halves. Each cell that is compared with it takes one step, and so does the look where there is none.
     pub(crate) fn search(&self, source: &mut Source<'_>, number: u16) -> Option<&Glyph>
         ensures cell { option_copied result ≡ find (λ cell. cell.number == number) self.now }
-        ensures steps { RisesBetween source.old source.new (min 1 (length self.now)) 8 }
+        ensures steps { RisesBetween source.old source.new 1 8 }
     {
+        if self.glyphs.is_empty() {
+            count_miss(source);
+            return None;
+        }
         let mut low = 0;
         let mut high = self.glyphs.len();
         for _probe in 0..8u8 {
@@ -95,28 +99,28 @@ impl Glyphs {
         None
     }
 
-    /// By octet, the width of its cell, or `ENDS` for a bracket and for an octet without a cell.
-    pub(crate) fn advances(&self) -> [u16; 256]
-        ensures { AreAdvances self.now result }
+    /// By octet, the width of its cell, or `ENDS` for an octet that ends every run and for one without a cell.
+    pub(crate) fn advances(&self, words: bool) -> [u16; 256]
+        ensures { AreAdvances (width_among self.now) words result }
     {
         let mut advances = [ENDS; 256];
         for octet in 0..256usize {
-            advances[octet] = self.advance(octet as u8);
+            advances[octet] = self.advance(words, octet as u8);
         }
         advances
     }
 
-    /// The width of an octet's cell, or `ENDS` for a bracket and for an octet without a cell.
-    fn advance(&self, octet: u8) -> u16
-        ensures { result ≡ advance_of self.now octet }
+    /// The width of an octet's cell, or `ENDS` if it ends every run or has no cell.
+    fn advance(&self, words: bool, octet: u8) -> u16
+        ensures { result ≡ advance_of (width_among self.now) words octet }
     {
-        if octet == b'[' || octet == b']' {
+        if ends_run(words, octet) {
             return ENDS;
         }
-        match self.find(octet) {
-            Some(glyph) => u16::from(glyph.width()),
-            None => ENDS,
-        }
+        let Some(glyph) = self.find(octet) else {
+            return ENDS;
+        };
+        u16::from(glyph.width())
     }
 
     /// The width of an octet's cell, or 0 for an octet without a cell.
@@ -125,4 +129,18 @@ impl Glyphs {
     {
         self.widths[usize::from(octet)]
     }
+}
+
+/// Whether an octet ends every run: a bracket, and a space where runs are words.
+fn ends_run(words: bool, octet: u8) -> bool
+    ensures { result ≡ ends_run words octet }
+{
+    octet == b'[' || octet == b']' || (words && octet == b' ')
+}
+
+/// Counts a look at what isn't there.
+pub(crate) fn count_miss(source: &mut Source<'_>)
+    ensures { source.new ≡ charged source.old 1 }
+{
+    source.charge(1);
 }
