@@ -1,5 +1,5 @@
 -- A run where lines are filled: characters behind one with the same attributes, as long as they stay on its line (own).
-use Rattle.std.specs.Prelude.{◌≡◌, ℕ, ◌+◌, ◌-◌, true, ◌==◌, nat_lt, [], Option, Some, None, if◌then◌else◌}
+use Rattle.std.specs.Prelude.{◌≡◌, ℕ, ◌+◌, ◌-◌, true, ◌==◌, nat_lt, Option, Some, if◌then◌else◌}
 use Rattle.std.specs.Option.{IfSome, option_map}
 use Rattle.multi_layout.specs.declared.attributes.Attributes.{Attributes}
 use Rattle.multi_layout.specs.declared.fill.Split.{Split}
@@ -7,7 +7,6 @@ use Rattle.multi_layout.specs.declared.filled.Filled.{Filled}
 use Rattle.multi_layout.specs.declared.filled.Order.{Order}
 use Rattle.multi_layout.specs.declared.line.Line.{Line}
 use Rattle.multi_layout.specs.Run.{IsBehindCharacter, IsBehindOne, kept_fits, kept_fits_height, lengthened, lengthened_line, line_in_force}
-use Rattle.multi_layout.specs.Sums.{line_sum}
 
 -- by what is kept, the present line and the present area fit the rectangle in force (own)
 pub record FitsHere (kept : Filled) : Type 0 where
