@@ -218,11 +218,6 @@ module _ (sign : SignData) (items : List Meaning) (state : State) (st : IsStateO
       ∙ fits_character before s s.at.page_just state.attributes.rectangle.width state.attributes.rectangle.height
       (nat_le ((line_in_force state).part.width + (gap + cell.width)) room) true glyph refl w h fits_line fits_area
 
-  pub run_too_big : room < (line_in_force state).part.width + (gap + cell.width) → offence Off sign items (Shows number) ≡ Some 5
-  run_too_big more =
-      character-exit-too_big sign items state st number cell found false agrees seen longer refl refl refl refl sum_behind
-      (nat_le ((line_in_force state).part.width + (gap + cell.width)) room) fits_behind refl (lt-leb ((line_in_force state).part.width + (gap + cell.width)) room more)
-
   pub run_goes_on : (line_in_force state).part.width + (gap + cell.width) ≤ room → IsBelow (1024 * length items + 1024) longer
       → (offence Off sign items (Shows number) ≡ None) × IsStateOf sign (items ++ Shows number ∷ []) (lengthened ((line_in_force state).part.width + (gap + cell.width)) ((line_in_force state).part.count + 1) state)
   run_goes_on fits below =

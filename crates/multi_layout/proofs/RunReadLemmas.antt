@@ -20,7 +20,7 @@ use Rattle.multi_layout.specs.Progress.{ReadSoFar}
 use Rattle.multi_layout.specs.Run.{IsRun, lengthened, line_in_force}
 use Rattle.multi_layout.specs.State.{IsUnfilledOf}
 use Rattle.multi_layout.specs.Sums.{IsBelow}
-use Rattle.multi_layout.proofs.ReadLemmas.{ready_here, unfilled_more}
+use Rattle.multi_layout.proofs.ReadLemmas.{unfilled_more}
 use Rattle.multi_layout.proofs.RunLemmas.{longer_below, run_goes_on, run_stays}
 
 -- a cell of which the width is known
@@ -55,11 +55,6 @@ module _ (sign : SignData) (octets : List ℕ) (at : ℕ) (state : State) (r : R
 
 -- the same, where the run began in a state whose segment has been lengthened since
 module _ (sign : SignData) (octets : List ℕ) (at : ℕ) (state : State) (width count : ℕ) (r : ReadSoFar sign octets at (IsUnfilledOf sign (lengthened width count state))) where
-  pub length_now : length octets < 2 ^ 32 → (width ≤ 2 ^ 62) × (count ≤ 2 ^ 62)
-  length_now fewer =
-      let small = ready_here sign octets at (lengthened width count state) r fewer in
-      (small.below.group.line.part.width, small.below.group.line.part.count)
-
   module _ (octet : ℕ) (short : length octets < 2 ^ 63) (here : slice_get octets at ≡ Some octet) (plain : IsPlain octet)
       (gap room : ℕ) (run : IsRun state gap room) (wide : ℕ) (some : 1 ≤ wide) (width_is : Some wide ≡ option_map (λ (c : SizedCell). c.width) (cell_in sign state.attributes.font.number octet)) where
     pub more_goes_on : wide ≤ 64 → width + (gap + wide) ≤ room → ReadSoFar sign octets (at + 1) (IsUnfilledOf sign (lengthened (width + (gap + wide)) (count + 1) state))

@@ -1,18 +1,17 @@
 -- Forms before a closing bracket: what was read is their value.
-use Rattle.std.proofs.Common.{◌≡◌, ◌≢◌, ℕ, ◌+◌, ◌^◌, ◌<◌, ◌≤◌, false, true, List, [], ◌∷◌, ◌++◌, Option, Some, None, refl, sym, ap, ◌∙◌, inl, inr, arith, append_assoc}
-use Rattle.std.proofs.lemmas.Option.{none-some, same_Some}
+use Rattle.std.proofs.Common.{◌≡◌, ℕ, ◌+◌, ◌^◌, ◌≤◌, false, true, List, [], ◌∷◌, ◌++◌, Option, Some, None, refl, sym, ap, ◌∙◌, inl, inr, arith, append_assoc}
+use Rattle.std.proofs.lemmas.Option.{none-some}
 use Rattle.std.proofs.lemmas.List.Elements.{All-head}
 use Rattle.multi_tag.specs.declared.name.Name.TheVariants as names
-use Rattle.multi_tag.specs.declared.tag.Tag.{Tag}
 use Rattle.multi_tag.specs.declared.tag.Tag.TheVariants.{Font, Flash, Rect, PageTime}
 use Rattle.multi_tag.specs.Number.{IsDigit}
-use Rattle.multi_tag.specs.Form.{Form, IsNumber, d, d?, h, nothing, ◌means◌, between}
+use Rattle.multi_tag.specs.Form.{Form, IsNumber, d, d?, h, ◌means◌, between}
 use Rattle.multi_tag.specs.Body.{table}
 use Rattle.multi_tag.specs.Part.{IsCut, IsPartBefore, HasNoPartBefore, in_range, times}
 use Rattle.multi_tag.proofs.CutLemmas.{cut_digits, cut_before}
-use Rattle.multi_tag.proofs.FormLemmas.{number_written, written_number, before_value, before_is, d?_d, d_d?}
+use Rattle.multi_tag.proofs.FormLemmas.{number_written, written_number, before_value, d?_d, d_d?}
 use Rattle.multi_tag.proofs.PartLemmas.{comma_is_no_digit, written_at_most}
-use Rattle.multi_tag.proofs.FontLemmas.{picked, FontCases, alone, with_version, font_cases}
+use Rattle.multi_tag.proofs.FontLemmas.{picked, alone, with_version, font_cases}
 use Rattle.multi_tag.proofs.TimesLemmas.{FlashCases, on_first, off_first, flash_cases, flash_on_first, flash_off_first, page_time, page_time_times}
 use Rattle.multi_tag.proofs.TimesLemmas as flashes
 use Rattle.multi_tag.proofs.RectLemmas.{rect_of, two, three}
@@ -23,13 +22,6 @@ bracket_is_no_digit base small digit = absurd (omega arith)
 
 pub rest_of : {a b : ℕ} {x y : List ℕ} → a ∷ x ≡ b ∷ y → x ≡ y
 rest_of e = cc
-
--- nothing before a bracket
-pub nothing_part : {V : Type 0} (value : V) (octets rest : List ℕ) → octets ≡ 93 ∷ rest → IsPartBefore 93 (nothing value) octets value rest
-nothing_part value octets rest is = ([], is, (refl, refl))
-
-pub nothing_no_part : {V : Type 0} (value : V) (octets : List ℕ) → ((rest : List ℕ) → octets ≢ 93 ∷ rest) → HasNoPartBefore 93 (nothing value) octets
-nothing_no_part value octets none front behind v is f = none behind (is ∙ ap (λ a. a ++ 93 ∷ behind) f.0)
 
 -- what a form means
 pub means_part : {U V : Type 0} (stop : ℕ) (form : Form U) (meaning : U → V) (octets rest : List ℕ) (u : U) → IsPartBefore stop form octets u rest → IsPartBefore stop (form means meaning) octets (meaning u) rest
@@ -59,10 +51,6 @@ number_part base most low high octets v rest cut above below =
 pub number_full_part : (base most low high : ℕ) (octets : List ℕ) (v : ℕ) (rest : List ℕ) → IsCut base most octets (Some v) (93 ∷ rest) → base ^ most ≤ high + 1 → 2 ≤ base → low ≤ v → IsPartBefore 93 (IsNumber base most low high) octets v rest
 number_full_part base most low high octets v rest cut room small above =
     number_part base most low high octets v rest cut above (written_at_most base most high cut.digits v (cut_digits base most octets (Some v) (93 ∷ rest) cut) room small)
-
--- a number where d? finds one
-pub optional_number : (low high : ℕ) (octets rest : List ℕ) (n : ℕ) → IsPartBefore 93 (d? low high) octets (Some n) rest → IsPartBefore 93 (d low high) octets n rest
-optional_number low high octets rest n (front, is, f) = (front, is, d?_d low high front n f)
 
 pub number_lacks : (low high : ℕ) (octets : List ℕ) → HasNoPartBefore 93 (d? low high) octets → HasNoPartBefore 93 (d low high) octets
 number_lacks low high octets none front behind n is f = none front behind (Some n) is (d_d? low high front n f)
@@ -101,10 +89,6 @@ page_time_part octets rest on off (front, is, f) = (front, is, page_time front o
 
 pub page_time_no_part : (octets : List ℕ) → HasNoPartBefore 93 (times 111) octets → HasNoPartBefore 93 (table names.PageTime).rest octets
 page_time_no_part octets none front behind tag is f = let (v, g, same) = page_time_times front tag f in none front behind v is g
-
--- a flash, by the octet behind its name
-pub flash_alone_part : (octets rest : List ℕ) → octets ≡ 93 ∷ rest → IsPartBefore 93 (table names.Flash).rest octets (Flash false None None) rest
-flash_alone_part octets rest is = ([], is, inl (refl, refl))
 
 pub flash_on_part : (octets second rest : List ℕ) (on off : Option ℕ) → octets ≡ 116 ∷ second → IsPartBefore 93 (times 111) second (on, off) rest → IsPartBefore 93 (table names.Flash).rest octets (Flash false on off) rest
 flash_on_part octets second rest on off e (front, is, f) = (116 ∷ front, e ∙ ap (λ x. 116 ∷ x) is, flash_on_first (116 ∷ front) front on off refl f)
@@ -181,6 +165,3 @@ module _ (octets second : List ℕ) (x : ℕ) (before : IsPartBefore 44 (d 0 999
       rect_part h rest f =
           means_part 93 (between 44 (d 0 99999) three) rect_of octets rest (x, (y, (w, h)))
           (pair_part three octets second rest x (y, (w, h)) before (pair_part two second third rest y (w, h) next (pair_part (d 0 99999) third fourth rest w h then f)))
-
-pub rect_no_x : (octets : List ℕ) → HasNoPartBefore 44 (d 0 99999) octets → HasNoPartBefore 93 (table names.Rect).rest octets
-rect_no_x octets none = means_no_part 93 (between 44 (d 0 99999) three) rect_of octets (pair_no_first three octets none)

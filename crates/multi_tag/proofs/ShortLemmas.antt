@@ -1,5 +1,5 @@
 -- Bodies of the table are short, and have no brackets.
-use Rattle.std.proofs.Common.{◌≡◌, ℕ, ◌+◌, ◌<◌, ◌≤◌, ◌==◌, false, List, [], ◌∷◌, ◌++◌, length, refl, sym, ap, subst, ◌∙◌, inl, inr, arith, length-append}
+use Rattle.std.proofs.Common.{◌≡◌, ℕ, ◌+◌, ◌≤◌, ◌==◌, false, List, [], ◌∷◌, ◌++◌, length, refl, sym, ap, ◌∙◌, inl, inr, arith, length-append}
 use Rattle.std.specs.List.{All}
 use Rattle.std.specs.Char.{digit_value, to_ascii_lowercase}
 use Rattle.std.specs.Str.{str_to_ascii_lowercase}
@@ -11,7 +11,7 @@ use Rattle.multi_tag.specs.declared.name.Name.{Name}
 use Rattle.multi_tag.specs.declared.name.Name.TheVariants as names
 use Rattle.multi_tag.specs.declared.tag.Tag.{Tag}
 use Rattle.multi_tag.specs.Number.{IsDigit}
-use Rattle.multi_tag.specs.Form.{Form, IsNumber, d, d?, h, nothing, ◌means◌, between, after}
+use Rattle.multi_tag.specs.Form.{Form, IsNumber, d, d?, h, between, after}
 use Rattle.multi_tag.specs.Body.{table, Spells, SpellsSmall}
 
 -- so many octets at most, without brackets

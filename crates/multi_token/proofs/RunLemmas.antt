@@ -25,11 +25,3 @@ run_ended table gap width room octets len short fits over = record {
   fits = fits;
   longest = λ longer more within. omega (arith, taken_more table gap octets len short, taken_grows table gap octets (len + 1) longer (omega arith));
 }
-
--- or where no octet is left
-pub run_whole : (table : List ℕ) (gap width room : ℕ) (octets : List ℕ) (len : ℕ) → len ≡ length octets → width + taken table gap (take len octets) ≤ room → IsRun table gap width room octets len
-run_whole table gap width room octets len all fits = record {
-  within = omega arith;
-  fits = fits;
-  longest = λ longer more within. absurd (omega arith);
-}

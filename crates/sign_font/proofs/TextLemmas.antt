@@ -1,20 +1,17 @@
 -- The widths of a sign's fonts.
-use Rattle.std.proofs.Common.{◌≡◌, ◌==◌, ℕ, Option, Some, None, refl, sym}
+use Rattle.std.proofs.Common.{◌≡◌, ◌==◌, ℕ, Option, Some, None, refl}
 use Rattle.std.specs.Prelude.{IfSome, option_map}
 use Rattle.std.specs.Option.{option_and_then}
 use Rattle.sign_font.specs.Cell.{SizedCell}
 use Rattle.sign_font.specs.Sign.{CellData, FontData, SignData, cell_numbered, font_numbered, sized}
 use Rattle.sign_font.specs.Sound.{IsSound, IsSoundFont, IsWithin}
-use Rattle.sign_font.specs.Text.{width_in, width_numbered}
+use Rattle.sign_font.specs.Text.{width_in}
 use Rattle.sign_font.proofs.SoundLemmas.{found_holds, width_sound}
 
 -- the widths of a font's cells, as the sign tells them
 sized_width : (font : FontData) (cell : Option CellData) → option_map (λ (c : SizedCell). c.width) (option_map (sized font) cell) ≡ option_map (λ (c : CellData). c.width) cell
 sized_width font None = refl
 sized_width font (Some cell) = refl
-
-pub widths_of_font : (sign : SignData) (number : ℕ) (font : FontData) → font_numbered sign number ≡ Some font → (octet : ℕ) → width_numbered font octet ≡ width_in sign number octet
-widths_of_font sign number font is octet = rw is (sym (sized_width font (cell_numbered font octet)))
 
 -- and they are within their limits
 in_found : (octet : ℕ) (found : Option FontData) → IfSome found IsSoundFont

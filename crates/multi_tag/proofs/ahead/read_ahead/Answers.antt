@@ -1,4 +1,4 @@
-use Rattle.std.proofs.Common.{◌≡◌, ℕ, ◌+◌, ◌-◌, length, ap, ◌∙◌, subst, length-take, length-drop}
+use Rattle.std.proofs.Common.{◌≡◌, ◌+◌, ◌-◌, length, ap, ◌∙◌, subst, length-take, length-drop}
 use Rattle.std.specs.Prelude.{min}
 use Rattle.multi_token.specs.Counted.{charged}
 use Rattle.multi_tag.specs.Closed.{IsClosedTag, HasNoClosedTag}

@@ -1,11 +1,10 @@
-use Rattle.std.proofs.Common.{◌≡◌, ℕ, List, ◌∷◌, Some, None, sym, ap, subst, ◌∙◌, arith}
-use Rattle.std.specs.Str.{str_to_ascii_lowercase}
+use Rattle.std.proofs.Common.{◌≡◌, ℕ, Some, None, sym, ap, subst, ◌∙◌, arith}
 use Rattle.std.proofs.lemmas.Option.{none-some, same_Some}
 use Rattle.multi_tag.specs.Form.{h}
 use Rattle.multi_tag.specs.Part.{HasNoPartBefore}
-use Rattle.multi_tag.proofs.CutLemmas.{small_front, small_empty, small_comma, small_bracket, bracket_alone, comma_alone, empty_or_not, first_of}
+use Rattle.multi_tag.proofs.CutLemmas.{small_front, small_empty, small_comma, bracket_alone, comma_alone, empty_or_not, first_of}
 use Rattle.multi_tag.proofs.FormLemmas.{before_is}
-use Rattle.multi_tag.proofs.ClosedLemmas.{font_no_part, font_alone_part, font_version_part, rest_of}
+use Rattle.multi_tag.proofs.ClosedLemmas.{font_no_part, font_version_part, rest_of}
 use Rattle.multi_tag.proofs.closed.read_font.Goals as goal
 
 pub returns-in_err-number-clause-none : goal.returns-in_err-number-clause-none

@@ -1,4 +1,4 @@
-use Rattle.std.proofs.Common.{arith, lit≤, sym, ◌∙◌, ap}
+use Rattle.std.proofs.Common.{arith, lit≤, sym, ◌∙◌}
 use Rattle.std.proofs.lemmas.Option.{same_Some}
 use Rattle.multi_tag.proofs.ClosedLemmas.{number_no_part, number_full_part}
 use Rattle.multi_tag.proofs.PartLemmas.{written_at_most}

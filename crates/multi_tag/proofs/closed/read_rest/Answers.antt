@@ -1,4 +1,3 @@
-use Rattle.std.proofs.Common.{Some}
 use Rattle.multi_tag.specs.declared.tag.Tag.TheVariants.{NewLine, LineJust, PageJust, CharSpacing, Fore, Back}
 use Rattle.multi_tag.specs.Form.{d, d?}
 use Rattle.multi_tag.proofs.ClosedLemmas.{means_no_part, number_lacks, optional_lacks, page_time_part, page_time_no_part}

@@ -13,4 +13,4 @@ returns-clause-taken c = λ r.
     let runs = c.run-run.ensures.run (laid_items Words sign items items) sign r.is.of.state_is in
     let front = c.read_run-word.ensures in
     rw (c.take.ensures, c.from.ensures) (front_taken sign c.args.source.now.octets c.args.at kept r front.room (c.if-not-goes_on.ensures refl) c.run-run.result.gap c.run-run.result.left runs
-        c.read_run-word.result.len c.read_run-word.result.width front.within front.plain (front.word refl) front.width front.left)
+    c.read_run-word.result.len c.read_run-word.result.width front.within front.plain (front.word refl) front.width front.left)
