@@ -1,9 +1,9 @@
 -- A character that only lengthens its segment.
-use Rattle.std.proofs.Common.{◌≡◌, ℕ, ◌+◌, ◌*◌, ◌<◌, ◌≤◌, Bool, true, false, not, ◌&&◌, ◌||◌, ◌==◌, inl, inr, List, [], ◌∷◌, ◌++◌, length, Some, None, refl, sym, ap, ◌∙◌, arith}
+use Rattle.std.proofs.Common.{◌≡◌, ℕ, ◌+◌, ◌*◌, ◌≤◌, Bool, true, false, not, ◌&&◌, ◌||◌, ◌==◌, inl, inr, List, [], ◌∷◌, ◌++◌, length, Some, None, refl, sym, ap, ◌∙◌, arith}
 use Rattle.std.specs.Prelude.{nat_le, nat_lt}
 use Rattle.std.specs.List.{All, AllPass, after_last, list_any}
 use Rattle.std.specs.Option.{option_map_or, unwrap_or}
-use Rattle.std.proofs.lemmas.Bool.{cases_eq, eq-eqb, le-leb, le-ltb, lt-leb, ne_eqb}
+use Rattle.std.proofs.lemmas.Bool.{cases_eq, eq-eqb, le-leb, le-ltb, ne_eqb}
 use Rattle.sign_font.specs.declared.parts.LineFill.TheVariants.{Off}
 use Rattle.multi_layout.specs.Laid.{too_big}
 use Rattle.sign_font.specs.Cell.{SizedCell}
@@ -27,7 +27,7 @@ use Rattle.multi_layout.proofs.AreaSumLemmas.{area_stays, area_with, conflicts_c
 use Rattle.multi_layout.proofs.GroupHeightLemmas.{height_ended, height_present}
 use Rattle.multi_layout.proofs.GroupSumLemmas.{group_character, present_glyphs}
 use Rattle.multi_layout.proofs.LineSumLemmas.{line_clashes, line_with, none_of_later, segment_own, width_other_of, width_present}
-use Rattle.multi_layout.proofs.PlacingLemmas.{character-exit-fits, character-exit-too_big}
+use Rattle.multi_layout.proofs.PlacingLemmas.{character-exit-fits}
 
 -- ---- what is kept of a line and of a group
 

@@ -55,7 +55,7 @@ with_run here gap pixels count line = if line.any then longer_line pixels count 
 abbrev pub with_run_behind : Attributes → ℕ → ℕ → ℕ → Split → Split
 with_run_behind here gap pixels count split = record split { behind = with_run here gap pixels count split.behind }
 
--- what is kept with so many more characters of a run, of so many pixels with this gap before each: none is a space
+-- what is kept with so many more characters of a run, of so many pixels with this gap before each; none is a space (own)
 abbrev pub with_word : ℕ → ℕ → ℕ → Filled → Filled
 with_word gap pixels count kept = record {
   state = lengthened ((line_in_force kept.state).part.width + pixels) ((line_in_force kept.state).part.count + count) kept.state;

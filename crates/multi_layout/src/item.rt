@@ -72,9 +72,11 @@ pub(crate) fn tag_item(
     len: usize,
 ) -> Result<KnownItem, SyntaxError>
     requires { IsTokenOf source.old.octets (record { at = at; len = len + 2; kind = Kind.Tag }) }
-    ensures read { IfOk result (λ item. meaning (spelled.Tag (slice_range source.old.octets (at + 1) (at + 1 + len))) ≡ meant_by item) }
+    ensures read { IfOk result (λ item.
+        meaning (spelled.Tag (slice_range source.old.octets (at + 1) (at + 1 + len))) ≡ meant_by item) }
     ensures known { IfOk result IsKnownItem }
-    ensures fault { IfErr result (λ error. meaning (spelled.Tag (slice_range source.old.octets (at + 1) (at + 1 + len))) ≡ Faulty (code_of error)) }
+    ensures fault { IfErr result (λ error.
+        meaning (spelled.Tag (slice_range source.old.octets (at + 1) (at + 1 + len))) ≡ Faulty (code_of error)) }
     ensures steps { RisesBetween source.old source.new 0 (len + 1) }
 {
     let token = Token {

@@ -1,5 +1,5 @@
 -- The table of tags: their names, and the forms of what stands behind a name.
-use Rattle.std.specs.Prelude.{◌≡◌, ℕ, ◌≤◌, false, true, List, ◌++◌, length, Some, None, Result, Ok, codes}
+use Rattle.std.specs.Prelude.{◌≡◌, ℕ, false, true, List, ◌++◌, Some, None, Result, Ok, codes}
 use Rattle.std.specs.Str.{str_to_ascii_lowercase}
 use Rattle.multi_tag.specs.declared.name.Name.{Name}
 use Rattle.multi_tag.specs.declared.name.Name.TheVariants as names
@@ -82,7 +82,3 @@ IsReadOf body result = (tag : Tag) → Spells body tag → result ≡ Ok tag
 -- a body spells at most one tag (own)
 abbrev pub OneTagAtMost : Type 0
 OneTagAtMost = (body : List ℕ) (a b : Tag) → Spells body a → Spells body b → a ≡ b
-
--- a body that spells a tag has at most 25 octets: no number has more than 5 digits, with those zeros that lead it
-abbrev pub NoLongBody : Type 0
-NoLongBody = (body : List ℕ) (tag : Tag) → Spells body tag → length body ≤ 25

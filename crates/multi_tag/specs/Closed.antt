@@ -1,5 +1,5 @@
 -- Tags in octets that begin behind an opening bracket.
-use Rattle.std.specs.Prelude.{◌≡◌, ℕ, ◌+◌, List, ◌∷◌, ◌++◌, length}
+use Rattle.std.specs.Prelude.{◌≡◌, ℕ, ◌+◌, ◌≤◌, List, ◌∷◌, ◌++◌, length}
 use Rattle.multi_token.specs.declared.token.Kind.TheVariants as kinds
 use Rattle.multi_token.specs.Tokens.{IsTagOf, body_of}
 use Rattle.multi_tag.specs.declared.tag.Tag.{Tag}
@@ -15,8 +15,16 @@ HasNoClosedTag octets = (body rest : List ℕ) (tag : Tag) → octets ≡ body +
 
 -- a tag of so many octets stands at a place of octets, and its body spells this (NTCIP 1203 v03, MULTI)
 abbrev pub IsTagAt : List ℕ → ℕ → Tag → ℕ → Type 0
-IsTagAt octets at tag len = IsTagOf octets (record { at = at; len = len; kind = kinds.Tag }) × Spells (body_of octets (record { at = at; len = len; kind = kinds.Tag })) tag
+IsTagAt octets at tag len =
+    IsTagOf octets (record { at = at; len = len; kind = kinds.Tag })
+    × Spells (body_of octets (record { at = at; len = len; kind = kinds.Tag })) tag
 
 -- no tag whose body spells something stands at a place of octets (NTCIP 1203 v03, MULTI)
 abbrev pub HasNoTagAt : List ℕ → ℕ → Type 0
 HasNoTagAt octets at = (tag : Tag) (len : ℕ) → ¬ (IsTagAt octets at tag len)
+
+-- LAWS
+
+-- a body that spells a tag has at most 25 octets: no number has more than 5 digits, with those zeros that lead it (own)
+abbrev pub NoLongBody : Type 0
+NoLongBody = (body : List ℕ) (tag : Tag) → Spells body tag → length body ≤ 25

@@ -1,6 +1,7 @@
 //! What holds of every body.
 
-ghost use Rattle.multi_tag.specs.Body.{NoLongBody, OneTagAtMost};
+ghost use Rattle.multi_tag.specs.Body.{OneTagAtMost};
+ghost use Rattle.multi_tag.specs.Closed.{NoLongBody};
 ghost use Rattle.multi_tag.specs.TagOf.{TagOfIsTheTable};
 
 /// A law of the definitions: a body spells at most one tag.

@@ -5,7 +5,8 @@
 //! them. Letters may be large or small.
 //!
 //! [`read_tag`] reads the body of a tag, and gives the tag's value or the fault that explains why it has none. [`read_body`]
-//! does so where the body was read already.
+//! does so where the body was read already. [`read_ahead`] reads a tag and its closing bracket at once, if one of the table
+//! stands there, and so does [`read_closed`] of octets that were read already.
 #![tactic(auto)]
 
 mod ahead;

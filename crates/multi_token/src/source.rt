@@ -90,9 +90,9 @@ impl<'a> Source<'a> {
         (&behind[..len], behind.get(len).copied())
     }
 
-    /// The longest front of the octets from an offset on that goes into a room, where so much is taken already: an octet takes
-    /// a gap and its number in the table. Each octet of the front takes two steps, a read and a look at the table, and so does the octet that ends
-    /// it; the end takes one. No octet is handed out but the one that ends the front.
+    /// The longest front of the octets from an offset on that goes into a room, where this width is taken already: an octet takes
+    /// a gap and its number in the table. Each octet of the front takes two steps, a read and a look at the table, and so does the
+    /// octet that ends it; the end takes one. No octet is given but the one that ends the front.
     pub fn read_run(
         &mut self,
         from: usize,
@@ -123,14 +123,16 @@ impl<'a> Source<'a> {
         }
     }
 
-    /// The octets from an offset on, at most `most` of them. Each takes one step. They are lent until the source is used again.
+    /// The octets from an offset on, at most `most` of them: 26 serve for a tag. Each takes one step. They are lent, and gone before the
+    /// source is used again.
     pub fn ahead(&mut self, from: usize, most: usize) -> &[u8]
         requires start { from ≤ length self.old.octets }
         // so many at a time, and no whole string
         requires few { most ≤ 26 }
         ensures octets { result.now ≡ take most (drop from self.old.octets) }
         // the source, once what it lends is given back
-        ensures* steps { sem 𝓛 (Rests (the_row (record { mir = named 0; lft = [] })) self.entry (λ new. new ≡ charged self.old (length result.now))) }
+        ensures* steps { sem 𝓛 (Rests (the_row (record { mir = named 0; lft = [] })) self.entry
+            (λ new. new ≡ charged self.old (length result.now))) }
         // a slice is no longer than this
         ensures space { length self.old.octets < 2 ^ 63 }
     {
