@@ -92,9 +92,12 @@ module _ (sign : SignData) (octets : List ℕ) (at first : ℕ) (IsKept : List M
           most = omega (arith, steps, least, most, before, short);
         })
 
-  -- what a bracket begins
-  module _ (spelled : Bracketed) (is : IsBracketed octets at first spelled) (read : Counted) (reads : read ≡ charged source (octets_of spelled - 1)) (judged : Counted) (looks : RisesBetween read judged 0 8) where
-    abbrev token_there : (t : Token) × (t.at ≡ at) × (t.len ≡ octets_of spelled) × IsTokenOf octets t × (item_of octets t ≡ item_spelled first spelled)
+  -- what a bracket begins, in the string in which it was read
+  pub bracket_stands : (spelled : Bracketed) → IsBracketed octets at first spelled → (read : Counted) → read ≡ charged source (octets_of spelled - 1) → IsBracketed read.octets at first spelled
+  bracket_stands spelled is read reads = subst (λ (os : List ℕ). IsBracketed os at first spelled) (sym (ap (λ (s : Counted). s.octets) reads ∙ i.same)) is
+
+  module _ (spelled : Bracketed) (is : IsBracketed octets at first spelled) (read : Counted) (reads : read ≡ charged source (octets_of spelled - 1)) (judged : Counted) (looks : RisesBetween read judged 0 (octets_of spelled + 7)) where
+    abbrev token_there : (t : Token) × (t.at ≡ at) × (t.len ≡ octets_of spelled) × IsTokenOf octets t × (item_of octets t ≡ item_spelled octets at first spelled)
     token_there = bracketed_token octets at first spelled is
 
     abbrev t : Token
@@ -106,12 +109,19 @@ module _ (sign : SignData) (octets : List ℕ) (at first : ℕ) (IsKept : List M
     look_steps : judged.steps ≡ (charged read looks.0).steps
     look_steps = ap (λ (s : Counted). s.steps) looks.3
 
-    same_octets : judged.octets ≡ octets
-    same_octets = ap (λ (s : Counted). s.octets) looks.3 ∙ ap (λ (s : Counted). s.octets) reads ∙ i.same
+    same_read : read.octets ≡ octets
+    same_read = ap (λ (s : Counted). s.octets) reads ∙ i.same
 
-    pub bracket_offends : (error : SyntaxError) → offence sign.line_fill sign so_far (meaning (item_spelled first spelled)) ≡ Some (code_of error) → IsRefused sign octets (record { error = error; at = at }) judged
+    same_octets : judged.octets ≡ octets
+    same_octets = ap (λ (s : Counted). s.octets) looks.3 ∙ same_read
+
+    item_there : item_of octets t ≡ item_spelled read.octets at first spelled
+    item_there = token_there.4 ∙ ap (λ (os : List ℕ). item_spelled os at first spelled) (sym same_read)
+
+    pub bracket_offends : (error : SyntaxError) → offence sign.line_fill sign so_far (meaning (item_spelled read.octets at first spelled)) ≡ Some (code_of error) → IsRefused sign octets (record { error = error; at = at }) judged
     bracket_offends error offends =
-        let (t, at_is, len, token, item) = token_there in
+        let (t, at_is, len, token, _found) = token_there in
+        let item = item_there in
         let within = token.within in
         let long = token.len in
         let some = spelling_some (item_of octets t) in
@@ -125,10 +135,11 @@ module _ (sign : SignData) (octets : List ℕ) (at first : ℕ) (IsKept : List M
           most = omega (arith, at_is, read_steps, look_steps, len, within, long, some, few, least, most, short);
         }
 
-    pub bracket_behind : (IsNow : List Meaning → Type 0) → offence sign.line_fill sign so_far (meaning (item_spelled first spelled)) ≡ None → IsNow (so_far ++ meaning (item_spelled first spelled) ∷ [])
+    pub bracket_behind : (IsNow : List Meaning → Type 0) → offence sign.line_fill sign so_far (meaning (item_spelled read.octets at first spelled)) ≡ None → IsNow (so_far ++ meaning (item_spelled read.octets at first spelled) ∷ [])
         → (size : ℕ) → size ≡ octets_of spelled → (next : Option ℕ) (behind : Counted) → next ≡ slice_get judged.octets (at + size) → behind ≡ charged judged 1 → (at < at + size) × IsAt sign octets (at + size) next IsNow behind
     bracket_behind IsNow fine is size size_is next behind next_is step =
-        let (t, at_is, len, token, item) = token_there in
+        let (t, at_is, len, token, _found) = token_there in
+        let item = item_there in
         let same : t.len ≡ size = len ∙ sym size_is in
         let steps : behind.steps ≡ (charged judged 1).steps = ap (λ (s : Counted). s.steps) step in
         let within = token.within in

@@ -87,9 +87,6 @@ module _ (sign : SignData) (octets : List ℕ) (at : ℕ) (kept : Filled) (r : R
   pub octet_judged : (new : Filled) → (offence Words sign (map meaning r.items) (Shows octet) ≡ None) × IsFilledOf sign (map meaning r.items ++ Shows octet ∷ []) new → ReadSoFar sign octets (at + 1) (IsFilledFor sign new)
   octet_judged new judged = filled_more sign octets at kept r token refl stands new judged.0 judged.1
 
-  pub octet_refused : (code : ℕ) → offence Words sign (map meaning r.items) (Shows octet) ≡ Some code → IsVerdict sign octets (Refused code at)
-  octet_refused code offends = filled_refused sign octets at kept r token refl stands code offends
-
 -- what is told of a string where all its items are read
 pub filled_told : (sign : SignData) (octets : List ℕ) (at : ℕ) (kept : Filled) (source : Counted) → IsAt sign octets at None (IsFilledFor sign kept) source → IsTold sign octets kept.state.pages (whole_times kept.state) source
 filled_told sign octets at kept source i =

@@ -1,29 +1,27 @@
--- A text behind a character with the same attributes, where lines are filled: what is kept with its front.
-use Rattle.std.proofs.Common.{◌≡◌, ℕ, suc, ◌+◌, ◌-◌, ◌^◌, ◌<◌, ◌≤◌, Bool, true, false, cond, ◌==◌, List, [], ◌∷◌, ◌++◌, length, map, take, drop, slice_get, Option, Some, None, refl, sym, ap, subst, ◌∙◌, arith, append_assoc}
+-- A word behind a character with the same attributes, where lines are filled: what is kept with it.
+use Rattle.std.proofs.Common.{◌≡◌, ℕ, suc, ◌+◌, ◌-◌, ◌^◌, ◌<◌, ◌≤◌, Bool, true, false, cond, ◌==◌, List, [], ◌∷◌, ◌++◌, length, map, take, drop, slice_get, Option, Some, None, refl, sym, ap, subst, ◌∙◌, arith}
 use Rattle.std.specs.List.{All, sum_by}
 use Rattle.std.specs.Option.{option_map}
 use Rattle.std.proofs.lemmas.Bool.{ne_eqb}
-use Rattle.std.proofs.lemmas.List.{length-append, length-take-le, take-append-drop}
-use Rattle.std.proofs.lemmas.List.Elements.{All-cons, All-head, All-nil, All-tail, All-take}
+use Rattle.std.proofs.lemmas.List.{length-drop, length-take-le, take-append-drop}
+use Rattle.std.proofs.lemmas.List.Elements.{All-head, All-tail}
 use Rattle.std.proofs.lemmas.List.Sums.{sum_by-append}
 use Rattle.multi_token.specs.Spelling.{IsPlain}
 use Rattle.multi_token.proofs.PlaceLemmas.{drop_read, read_drop}
 use Rattle.sign_font.specs.Sign.{SignData}
 use Rattle.sign_font.specs.Sound.{IsWithin}
-use Rattle.sign_font.specs.declared.text.TextFront.{TextFront}
-use Rattle.sign_font.specs.declared.text.TextSpace.{TextSpace}
-use Rattle.sign_font.specs.Text.{HasLastSpace, HasWidth, IsFrontOf, IsLastSpace, IsNoSpace, width_in}
+use Rattle.sign_font.specs.Text.{HasWidth, IsNoSpace, width_in}
 use Rattle.multi_layout.specs.declared.attributes.Attributes.{Attributes}
 use Rattle.multi_layout.specs.declared.fill.Split.{Split}
 use Rattle.multi_layout.specs.declared.filled.Filled.{Filled}
 use Rattle.multi_layout.specs.declared.line.Line.{Line}
-use Rattle.multi_layout.specs.FilledRun.{IsFilledRun, even_line, longer_line, with_front, with_run, with_run_behind}
+use Rattle.multi_layout.specs.FilledRun.{IsFilledRun, even_line, longer_line, with_run, with_run_behind, with_word}
 use Rattle.multi_layout.specs.FilledState.{IsFilledFor}
 use Rattle.multi_layout.specs.Progress.{ReadSoFar}
-use Rattle.multi_layout.specs.Run.{IsRun, lengthened, line_in_force}
+use Rattle.multi_layout.specs.Run.{IsRun, line_in_force}
 use Rattle.multi_layout.proofs.FilledRunLemmas.{one_goes_on, one_taken, run_some, with_one}
 use Rattle.multi_layout.proofs.RunLemmas.{run_stays}
-use Rattle.multi_layout.proofs.RunReadLemmas.{behind_first, drop_behind}
+use Rattle.multi_layout.proofs.RunReadLemmas.{behind_first}
 
 module _ (here : Attributes) (gap : ℕ) where
   -- no character more
@@ -67,18 +65,6 @@ module _ (here : Attributes) (gap : ℕ) where
   split_twice pixels count width None = refl
   split_twice pixels count width (Some parts) = ap (λ l. let p : Split = record parts { behind = l } in Some p) (run_twice pixels count width parts.behind)
 
--- what is kept with so many characters of a run, and these parts
-abbrev with_many : ℕ → ℕ → Option Split → Filled → Filled
-with_many pixels count split kept = record {
-  state = lengthened ((line_in_force kept.state).part.width + pixels) ((line_in_force kept.state).part.count + count) kept.state;
-  split = split;
-  order = kept.order;
-}
-
--- with so many of which none is a space
-abbrev with_word : ℕ → ℕ → ℕ → Filled → Filled
-with_word gap pixels count kept = with_many pixels count (option_map (with_run_behind kept.state.attributes gap pixels count) kept.split) kept
-
 with_none : (gap : ℕ) (kept : Filled) → with_word gap 0 0 kept ≡ kept
 with_none gap kept =
     let line = line_in_force kept.state in
@@ -93,12 +79,6 @@ with_twice gap pixels count width kept =
     let many : line.part.count + 1 + count ≡ line.part.count + (1 + count) = omega arith in
     rw (wide, many, split_twice kept.state.attributes gap pixels count width kept.split) refl
 
--- a run that went on from what was kept at an offset, over so many characters of so many pixels
-record WentOn (sign : SignData) (octets : List ℕ) (at : ℕ) (kept : Filled) (pixels count : ℕ) : Type 0 where
-  split : Option Split
-  read : ReadSoFar sign octets (at + count) (IsFilledFor sign (with_many pixels count split kept))
-  run : IsFilledRun (with_many pixels count split kept)
-
 module _ (sign : SignData) (octets : List ℕ) (short : length octets < 2 ^ 63) (gap room : ℕ) where
   -- the first octet of a text
   first_taken : (octet : ℕ) (rest : List ℕ) (width at : ℕ) (kept : Filled) → ReadSoFar sign octets at (IsFilledFor sign kept) → IsFilledRun kept → IsRun kept.state gap room → drop at octets ≡ octet ∷ rest → IsPlain octet
@@ -110,46 +90,7 @@ module _ (sign : SignData) (octets : List ℕ) (short : length octets < 2 ^ 63) 
         behind_first (sym (drop_read octets at octet here) ∙ e),
       )
 
-  text_taken : (text rest widths : List ℕ) (at : ℕ) (kept : Filled) → ReadSoFar sign octets at (IsFilledFor sign kept) → IsFilledRun kept → IsRun kept.state gap room → drop at octets ≡ text ++ rest → All IsPlain text
-      → map (width_in sign kept.state.attributes.font.number) text ≡ map Some widths → All (IsWithin 1 64) widths → (line_in_force kept.state).part.width + sum_by (λ w. gap + w) widths ≤ room
-      → WentOn sign octets at kept (sum_by (λ w. gap + w) widths) (length text)
-  text_taken [] rest [] at kept r run runs e plain each within fits =
-      let line = line_in_force kept.state in
-      let to : at + 0 ≡ at = omega arith in
-      let wide : line.part.width + 0 ≡ line.part.width = omega arith in
-      let many : line.part.count + 0 ≡ line.part.count = omega arith in
-      let same : with_many 0 0 kept.split kept ≡ kept = rw (wide, many) refl in
-      record {
-        split = kept.split;
-        read = rw (to, same) r;
-        run = subst IsFilledRun (sym same) run;
-      }
-  text_taken [] rest (w ∷ widths) at kept r run runs e plain each within fits = absurd (cc)
-  text_taken (octet ∷ text) rest [] at kept r run runs e plain each within fits = absurd (cc)
-  text_taken (octet ∷ text) rest (w ∷ widths) at kept r run runs e plain each within fits =
-      let line = line_in_force kept.state in
-      let first = All-head IsPlain octet text plain in
-      let others = All-tail IsPlain octet text plain in
-      let small = All-head (IsWithin 1 64) w widths within in
-      let narrow = All-tail (IsWithin 1 64) w widths within in
-      let is : Some w ≡ width_in sign kept.state.attributes.font.number octet = cc in
-      let more : map (width_in sign kept.state.attributes.font.number) text ≡ map Some widths = cc in
-      let total : sum_by (λ v. gap + v) (w ∷ widths) ≡ 0 + (gap + w) + sum_by (λ v. gap + v) widths = sum_by-append (λ v. gap + v) (w ∷ []) widths in
-      let here : line.part.width + (gap + w) ≤ room = omega (arith, total, fits) in
-      let one = first_taken octet (text ++ rest) w at kept r run runs e first is small here in
-      let kept' : Filled = with_one gap w (octet == 32) kept in
-      let all = text_taken text rest widths (at + 1) kept' one.0 (one_goes_on kept run gap room runs w small.0 here (octet == 32))
-      (run_stays kept.state gap room (line.part.width + (gap + w)) (line.part.count + 1) runs) one.1 others more narrow (omega (arith, total, fits)) in
-      let to : at + 1 + length text ≡ at + suc (length text) = omega arith in
-      let wide : line.part.width + (gap + w) + sum_by (λ v. gap + v) widths ≡ line.part.width + sum_by (λ v. gap + v) (w ∷ widths) = omega (arith, total) in
-      let many : line.part.count + 1 + length text ≡ line.part.count + suc (length text) = omega arith in
-      record {
-        split = all.split;
-        read = rw (← to, ← wide, ← many) all.read;
-        run = rw (← wide, ← many) all.run;
-      }
-
-  pub word_taken : (text rest widths : List ℕ) (at : ℕ) (kept : Filled) → ReadSoFar sign octets at (IsFilledFor sign kept) → IsFilledRun kept → IsRun kept.state gap room → drop at octets ≡ text ++ rest → All IsPlain text → All IsNoSpace text
+  word_taken : (text rest widths : List ℕ) (at : ℕ) (kept : Filled) → ReadSoFar sign octets at (IsFilledFor sign kept) → IsFilledRun kept → IsRun kept.state gap room → drop at octets ≡ text ++ rest → All IsPlain text → All IsNoSpace text
       → map (width_in sign kept.state.attributes.font.number) text ≡ map Some widths → All (IsWithin 1 64) widths → (line_in_force kept.state).part.width + sum_by (λ w. gap + w) widths ≤ room
       → ReadSoFar sign octets (at + length text) (IsFilledFor sign (with_word gap (sum_by (λ w. gap + w) widths) (length text) kept))
   word_taken [] rest [] at kept r run runs e plain word each within fits =
@@ -178,7 +119,7 @@ module _ (sign : SignData) (octets : List ℕ) (short : length octets < 2 ^ 63) 
       with_twice gap (sum_by (λ v. gap + v) widths) (length text) w kept ∙ (λ i. with_word gap (sym total i) (one_more i) kept) in
       rw (← to, ← same) all
 
--- the front of a text
+-- a text without a space
 module _ (sign : SignData) (octets : List ℕ) (at : ℕ) (kept : Filled) (r : ReadSoFar sign octets at (IsFilledFor sign kept)) (short : length octets < 2 ^ 63) (run : IsFilledRun kept) (gap left : ℕ)
     (runs : IsRun kept.state gap ((line_in_force kept.state).part.width + left)) where
   abbrev width_of : ℕ → Option ℕ
@@ -187,94 +128,15 @@ module _ (sign : SignData) (octets : List ℕ) (at : ℕ) (kept : Filled) (r : R
   abbrev line : Line
   line = line_in_force kept.state
 
-  -- one without a space
   word_front : (text rest : List ℕ) (pixels : ℕ) → drop at octets ≡ text ++ rest → All IsPlain text → All IsNoSpace text → HasWidth width_of gap text pixels → pixels ≤ left
       → ReadSoFar sign octets (at + length text) (IsFilledFor sign (with_word gap pixels (length text) kept))
   word_front text rest pixels here plain word has narrow =
       let together = has.together in
       rw together (word_taken sign octets short gap (line.part.width + left) text rest has.widths at kept r run runs here plain word has.each has.within (omega (arith, narrow, together)))
 
-  -- one with a space: the text before the last one, the space, and those behind
-  module _ (text rest : List ℕ) (pixels : ℕ) (here : drop at octets ≡ text ++ rest) (plain : All IsPlain text) (narrow : pixels ≤ left) (space : TextSpace) (last : IsLastSpace width_of gap text pixels space) where
-    apart : drop at octets ≡ last.before ++ (32 ∷ (last.behind ++ rest))
-    apart = here ∙ ap (λ l. l ++ rest) last.parts ∙ append_assoc last.before (32 ∷ last.behind) rest
-
-    plain_parts : All IsPlain last.before × All IsPlain (32 ∷ last.behind)
-    plain_parts = both last.before (32 ∷ last.behind) (subst (All IsPlain) last.parts plain)
-      where
-        both : (xs ys : List ℕ) → All IsPlain (xs ++ ys) → All IsPlain xs × All IsPlain ys
-        both [] ys all = (All-nil IsPlain, all)
-        both (x ∷ xs) ys all =
-            let others = both xs ys (All-tail IsPlain x (xs ++ ys) all) in
-            (All-cons IsPlain x xs (All-head IsPlain x (xs ++ ys) all) others.0, others.1)
-
-    went : WentOn sign octets at kept space.before (length last.before)
-    went =
-        let has = last.wide in
-        let together = has.together in
-        let within = last.within in
-        let through = last.through in
-        rw together (text_taken sign octets short gap (line.part.width + left) last.before (32 ∷ (last.behind ++ rest)) has.widths at kept r run runs apart
-        plain_parts.0 has.each has.within (omega (arith, narrow, together, within, through)))
-
-    abbrev kept_before : Filled
-    kept_before = with_many space.before (length last.before) went.split kept
-
-    runs_before : IsRun kept_before.state gap (line.part.width + left)
-    runs_before = run_stays kept.state gap (line.part.width + left) (line.part.width + space.before) (line.part.count + length last.before) runs
-
-    fits_space : line.part.width + space.before + (gap + last.width) ≤ line.part.width + left
-    fits_space = let within = last.within in let through = last.through in omega (arith, narrow, within, through)
-
-    abbrev kept_space : Filled
-    kept_space = with_one gap last.width true kept_before
-
-    spaced : ReadSoFar sign octets (at + length last.before + 1) (IsFilledFor sign kept_space) × (drop (at + length last.before + 1) octets ≡ last.behind ++ rest)
-    spaced =
-        first_taken sign octets short gap (line.part.width + left) 32 (last.behind ++ rest) last.width (at + length last.before) kept_before went.read went.run runs_before
-        (drop_behind octets last.before (32 ∷ (last.behind ++ rest)) at apart) (All-head IsPlain 32 last.behind plain_parts.1) (sym last.found) last.sound fits_space
-
-    behind : ReadSoFar sign octets (at + length last.before + 1 + length last.behind) (IsFilledFor sign (with_word gap (pixels - space.through) (length last.behind) kept_space))
-    behind =
-        let has = last.rest in
-        let together = has.together in
-        let within = last.within in
-        let through = last.through in
-        rw together (word_taken sign octets short gap (line.part.width + left) last.behind rest has.widths (at + length last.before + 1) kept_space spaced.0
-        (one_goes_on kept_before went.run gap (line.part.width + left) runs_before last.width last.sound.0 fits_space true)
-        (run_stays kept_before.state gap (line.part.width + left) (line.part.width + space.before + (gap + last.width)) (line.part.count + length last.before + 1) runs_before)
-        spaced.1 (All-tail IsPlain 32 last.behind plain_parts.1) last.last has.each has.within (omega (arith, narrow, together, within, through)))
-
-    pub space_front : ReadSoFar sign octets (at + length text) (IsFilledFor sign (with_front gap (record { len = length text; width = pixels; space = Some space }) kept))
-    space_front =
-        let within = last.within in
-        let through = last.through in
-        let place = last.at in
-        let size : length text ≡ length last.before + (1 + length last.behind) = ap length last.parts ∙ length-append last.before (32 ∷ last.behind) ∙ omega arith in
-        let to : at + length last.before + 1 + length last.behind ≡ at + length text = omega (arith, size) in
-        let wide : line.part.width + space.before + (gap + last.width) + (pixels - space.through) ≡ line.part.width + pixels = omega (arith, within, through) in
-        let many : line.part.count + length last.before + 1 + length last.behind ≡ line.part.count + length text = omega (arith, size) in
-        let rest_of : length last.behind ≡ length text - (space.at + 1) = omega (arith, size, place) in
-        let same : with_word gap (pixels - space.through) (length last.behind) kept_space ≡ with_front gap (record { len = length text; width = pixels; space = Some space }) kept =
-        rw (wide, many, ← place, rest_of) refl in
-        rw (← to, ← same) behind
-
-  -- any
-  pub front_taken : (text rest : List ℕ) (front : TextFront) → IsFrontOf width_of gap left text front → drop at octets ≡ text ++ rest → All IsPlain text
-      → ReadSoFar sign octets (at + front.len) (IsFilledFor sign (with_front gap front kept))
-  front_taken text rest front is here plain =
-      let here' : drop at octets ≡ take front.len text ++ (drop front.len text ++ rest) = here ∙ ap (λ l. l ++ rest) (sym (take-append-drop front.len text)) ∙ append_assoc (take front.len text) (drop front.len text) rest in
-      let plain' = All-take IsPlain front.len text plain in
-      let size : length (take front.len text) ≡ front.len = length-take-le front.len text is.within in
-      by_space here' plain' size front.space refl
-    where
-      by_space : drop at octets ≡ take front.len text ++ (drop front.len text ++ rest) → All IsPlain (take front.len text) → length (take front.len text) ≡ front.len → (o : Option TextSpace) → front.space ≡ o
-          → ReadSoFar sign octets (at + front.len) (IsFilledFor sign (with_front gap front kept))
-      by_space here' plain' size None none =
-          let word = subst (HasLastSpace width_of gap (take front.len text) front.width) none is.space in
-          let read = rw size at (word_front (take front.len text) (drop front.len text ++ rest) front.width here' plain' word is.wide is.narrow) in
-          subst (λ (o : Option TextSpace). ReadSoFar sign octets (at + front.len) (IsFilledFor sign (with_front gap (record { len = front.len; width = front.width; space = o }) kept))) (sym none) read
-      by_space here' plain' size (Some space) some =
-          let last = subst (HasLastSpace width_of gap (take front.len text) front.width) some is.space in
-          let read = rw size at (space_front (take front.len text) (drop front.len text ++ rest) front.width here' plain' is.narrow space last) in
-          subst (λ (o : Option TextSpace). ReadSoFar sign octets (at + front.len) (IsFilledFor sign (with_front gap (record { len = front.len; width = front.width; space = o }) kept))) (sym some) read
+  -- the same for the front of what stands there
+  pub front_taken : (len pixels : ℕ) → at + len ≤ length octets → All IsPlain (take len (drop at octets)) → All IsNoSpace (take len (drop at octets)) → HasWidth width_of gap (take len (drop at octets)) pixels → pixels ≤ left
+      → ReadSoFar sign octets (at + len) (IsFilledFor sign (with_word gap pixels len kept))
+  front_taken len pixels within plain word has narrow =
+      let size : length (take len (drop at octets)) ≡ len = length-take-le len (drop at octets) (rw (length-drop at octets) (omega (arith, within))) in
+      rw size at (word_front (take len (drop at octets)) (drop len (drop at octets)) pixels (sym (take-append-drop len (drop at octets))) plain word has narrow)

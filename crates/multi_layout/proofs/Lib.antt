@@ -42,6 +42,7 @@ pub mod FilledTextLemmas
 pub mod FillingExamples
 pub mod FitExamples
 pub mod FitLemmas
+pub mod FrontLemmas
 pub mod FullLemmas
 pub mod GroupHeightLemmas
 pub mod GroupLaidLemmas

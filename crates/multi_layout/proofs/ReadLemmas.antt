@@ -126,11 +126,6 @@ module _ (sign : SignData) (octets : List ℕ) (at : ℕ) (state : State) (r : R
         read_more sign octets at (IsUnfilledOf sign state) r t here stands (IsUnfilledOf sign new)
         (subst (λ setting. offence setting sign (map meaning r.items) (meaning (item_of octets t)) ≡ None) (sym r.is.off) fine) (record { off = r.is.off; state_is = st })
 
-    pub unfilled_refused : (code : ℕ) → offence Off sign (map meaning r.items) (meaning (item_of octets t)) ≡ Some code → IsVerdict sign octets (Refused code at)
-    unfilled_refused code offends =
-        refused_here sign octets at (IsUnfilledOf sign state) r t here stands code
-        (subst (λ setting. offence setting sign (map meaning r.items) (meaning (item_of octets t)) ≡ Some code) (sym r.is.off) offends)
-
 -- what is told of a string where all its items are read
 pub unfilled_told : (sign : SignData) (octets : List ℕ) (at : ℕ) (state : State) (source : Counted) → IsAt sign octets at None (IsUnfilledOf sign state) source → IsTold sign octets state.pages (whole_times state) source
 unfilled_told sign octets at state source i =

@@ -1,9 +1,9 @@
 -- A character that only lengthens its segment.
-use Rattle.std.proofs.Common.{◌≡◌, ℕ, ◌+◌, ◌*◌, ◌<◌, ◌≤◌, Bool, true, false, not, ◌&&◌, ◌||◌, ◌==◌, inl, inr, List, [], ◌∷◌, ◌++◌, length, Some, None, refl, sym, ap, ◌∙◌, arith}
+use Rattle.std.proofs.Common.{◌≡◌, ℕ, ◌+◌, ◌*◌, ◌≤◌, Bool, true, false, not, ◌&&◌, ◌||◌, ◌==◌, inl, inr, List, [], ◌∷◌, ◌++◌, length, Some, None, refl, sym, ap, ◌∙◌, arith}
 use Rattle.std.specs.Prelude.{nat_le, nat_lt}
 use Rattle.std.specs.List.{All, AllPass, after_last, list_any}
 use Rattle.std.specs.Option.{option_map_or, unwrap_or}
-use Rattle.std.proofs.lemmas.Bool.{cases_eq, eq-eqb, le-leb, le-ltb, lt-leb, ne_eqb}
+use Rattle.std.proofs.lemmas.Bool.{cases_eq, eq-eqb, le-leb, le-ltb, ne_eqb}
 use Rattle.sign_font.specs.declared.parts.LineFill.TheVariants.{Off}
 use Rattle.multi_layout.specs.Laid.{too_big}
 use Rattle.sign_font.specs.Cell.{SizedCell}
@@ -27,7 +27,7 @@ use Rattle.multi_layout.proofs.AreaSumLemmas.{area_stays, area_with, conflicts_c
 use Rattle.multi_layout.proofs.GroupHeightLemmas.{height_ended, height_present}
 use Rattle.multi_layout.proofs.GroupSumLemmas.{group_character, present_glyphs}
 use Rattle.multi_layout.proofs.LineSumLemmas.{line_clashes, line_with, none_of_later, segment_own, width_other_of, width_present}
-use Rattle.multi_layout.proofs.PlacingLemmas.{character-exit-fits, character-exit-too_big}
+use Rattle.multi_layout.proofs.PlacingLemmas.{character-exit-fits}
 
 -- ---- what is kept of a line and of a group
 
@@ -217,11 +217,6 @@ module _ (sign : SignData) (items : List Meaning) (state : State) (st : IsStateO
       sym (and_true (nat_le ((line_in_force state).part.width + (gap + cell.width)) room))
       ∙ fits_character before s s.at.page_just state.attributes.rectangle.width state.attributes.rectangle.height
       (nat_le ((line_in_force state).part.width + (gap + cell.width)) room) true glyph refl w h fits_line fits_area
-
-  pub run_too_big : room < (line_in_force state).part.width + (gap + cell.width) → offence Off sign items (Shows number) ≡ Some 5
-  run_too_big more =
-      character-exit-too_big sign items state st number cell found false agrees seen longer refl refl refl refl sum_behind
-      (nat_le ((line_in_force state).part.width + (gap + cell.width)) room) fits_behind refl (lt-leb ((line_in_force state).part.width + (gap + cell.width)) room more)
 
   pub run_goes_on : (line_in_force state).part.width + (gap + cell.width) ≤ room → IsBelow (1024 * length items + 1024) longer
       → (offence Off sign items (Shows number) ≡ None) × IsStateOf sign (items ++ Shows number ∷ []) (lengthened ((line_in_force state).part.width + (gap + cell.width)) ((line_in_force state).part.count + 1) state)

@@ -1,7 +1,5 @@
 -- The numbers of errors.
 use Rattle.std.specs.Prelude.{ℕ}
-use Rattle.sign_font.specs.declared.text.TextFault.{TextFault}
-use Rattle.sign_font.specs.declared.text.TextFault.TheVariants as faults
 use Rattle.multi_layout.specs.declared.fault.SyntaxError.{SyntaxError}
 use Rattle.multi_layout.specs.declared.fault.SyntaxError.TheVariants.{UnsupportedTag, UnsupportedTagValue, TextTooBig, FontNotDefined, CharacterNotDefined, TagConflict, TooManyPages, FontVersionId}
 
@@ -15,8 +13,3 @@ code_of CharacterNotDefined = 7
 code_of TagConflict = 11
 code_of TooManyPages = 12
 code_of FontVersionId = 13
-
--- the error of the octet at which a text is refused (own)
-abbrev pub error_of : TextFault → SyntaxError
-error_of (faults.Undefined at) = CharacterNotDefined
-error_of (faults.TooWide at) = TextTooBig

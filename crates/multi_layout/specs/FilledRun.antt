@@ -1,15 +1,12 @@
 -- A run where lines are filled: characters behind one with the same attributes, as long as they stay on its line (own).
-use Rattle.std.specs.Prelude.{◌≡◌, ℕ, ◌+◌, ◌-◌, true, ◌==◌, nat_lt, [], Option, Some, None, if◌then◌else◌}
+use Rattle.std.specs.Prelude.{◌≡◌, ℕ, ◌+◌, ◌-◌, true, ◌==◌, nat_lt, Option, Some, if◌then◌else◌}
 use Rattle.std.specs.Option.{IfSome, option_map}
-use Rattle.sign_font.specs.declared.text.TextFront.{TextFront}
-use Rattle.sign_font.specs.declared.text.TextSpace.{TextSpace}
 use Rattle.multi_layout.specs.declared.attributes.Attributes.{Attributes}
 use Rattle.multi_layout.specs.declared.fill.Split.{Split}
 use Rattle.multi_layout.specs.declared.filled.Filled.{Filled}
 use Rattle.multi_layout.specs.declared.filled.Order.{Order}
 use Rattle.multi_layout.specs.declared.line.Line.{Line}
 use Rattle.multi_layout.specs.Run.{IsBehindCharacter, IsBehindOne, kept_fits, kept_fits_height, lengthened, lengthened_line, line_in_force}
-use Rattle.multi_layout.specs.Sums.{line_sum}
 
 -- by what is kept, the present line and the present area fit the rectangle in force (own)
 pub record FitsHere (kept : Filled) : Type 0 where
@@ -58,22 +55,10 @@ with_run here gap pixels count line = if line.any then longer_line pixels count 
 abbrev pub with_run_behind : Attributes → ℕ → ℕ → ℕ → Split → Split
 with_run_behind here gap pixels count split = record split { behind = with_run here gap pixels count split.behind }
 
--- the parts of a line around its last space, with the front of a text: that of its last space, if it has one (own)
-abbrev pub split_with : Attributes → ℕ → TextFront → Line → Option Split → Option Split
-split_with here gap front line split = of front.space
-  where
-    of : Option TextSpace → Option Split
-    of None = option_map (with_run_behind here gap front.width front.len) split
-    of (Some space) = Some (record {
-      before = longer_line space.before space.at line;
-      font = here.font;
-      behind = with_run here gap (front.width - space.through) (front.len - (space.at + 1)) (line_sum []);
-    })
-
--- what is kept with the front of a text, with this gap before each of its characters (own)
-abbrev pub with_front : ℕ → TextFront → Filled → Filled
-with_front gap front kept = record {
-  state = lengthened ((line_in_force kept.state).part.width + front.width) ((line_in_force kept.state).part.count + front.len) kept.state;
-  split = split_with kept.state.attributes gap front (line_in_force kept.state) kept.split;
+-- what is kept with so many more characters of a run, of so many pixels with this gap before each; none is a space (own)
+abbrev pub with_word : ℕ → ℕ → ℕ → Filled → Filled
+with_word gap pixels count kept = record {
+  state = lengthened ((line_in_force kept.state).part.width + pixels) ((line_in_force kept.state).part.count + count) kept.state;
+  split = option_map (with_run_behind kept.state.attributes gap pixels count) kept.split;
   order = kept.order;
 }

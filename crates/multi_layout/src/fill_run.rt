@@ -1,10 +1,9 @@
 //! Characters behind one with the same attributes, where lines are filled: as long as they stay on its line, each only
 //! lengthens what is kept.
 
-ghost use Rattle.std.specs.Prelude.{◌≡◌, ℕ, ◌+◌, ◌-◌, ◌^◌, ◌<◌, ◌≤◌, true, min, List, [], ◌++◌, All, IfSome, length, drop};
+ghost use Rattle.std.specs.Prelude.{◌≡◌, ◌+◌, ◌*◌, ◌^◌, ◌<◌, ◌≤◌, true, IfSome, length, slice_get};
 ghost use Rattle.multi_token.specs.Counted.{RisesBetween};
-ghost use Rattle.multi_token.specs.Spelling.{IsPlain};
-ghost use Rattle.multi_layout.specs.FilledRun.{FitsHere, GoesOnBehind, IsFilledRun, IsOrderOf, longer_line, with_front, with_run};
+ghost use Rattle.multi_layout.specs.FilledRun.{FitsHere, GoesOnBehind, IsFilledRun, IsOrderOf, longer_line, with_run, with_word};
 ghost use Rattle.multi_layout.specs.FilledState.{IsFilledFor, IsFilledReady};
 ghost use Rattle.multi_layout.specs.Progress.{ReadSoFar};
 ghost use Rattle.multi_layout.specs.Run.{IsBehindOne, line_in_force};
@@ -16,7 +15,7 @@ use crate::filled::Filled;
 use crate::line::{Line, Segment};
 use crate::terms::Terms;
 use multi_token::Source;
-use sign_font::{FontInfo, TextFront};
+use sign_font::FontInfo;
 
 impl Line {
     /// Whether the last character can have been one with this line justification and font.
@@ -72,31 +71,33 @@ impl Line {
 }
 
 impl Filled {
-    /// Takes the octets of a text, which stand for themselves, as long as they stay on the present line: up to the first that has
-    /// no cell or doesn't fit, or none where the first would not have the attributes of the character before it. The answer is
-    /// how many it took. Each cell that is looked up is one step.
-    pub(crate) fn take_text(
+    /// Takes the octets from an offset on, which stand for themselves, as long as they stay on the present line: up to a bracket, a
+    /// space, or the first that has no cell or doesn't fit, or none where the first would not have the attributes of the character
+    /// before it. The answer is how many it took, and the octet read behind them. Each look counts.
+    pub(crate) fn take_run(
         &mut self,
         sign: &Terms<'_>,
         source: &mut Source<'_>,
-        text: &[u8],
-    ) -> usize
+        at: usize,
+    ) -> (usize, Option<u8>)
         requires ready { IsFilledReady self.old }
         requires fits { FitsHere self.old }
-        requires short { length text.now < 2 ^ 32 }
-        ensures within { result ≤ length text.now }
-        ensures taken { (octets : List ℕ) (at : ℕ) (rest : List ℕ) → length octets < 2 ^ 63 → ReadSoFar sign.now octets at (IsFilledFor sign.now self.old)
-            → drop at octets ≡ text.now ++ rest → All IsPlain text.now → ReadSoFar sign.now octets (at + result) (IsFilledFor sign.now self.new) }
-        ensures steps { RisesBetween source.old source.new 0 (min (result + 1) (length text.now)) }
+        requires at { at ≤ length source.old.octets }
+        requires short { length source.old.octets < 2 ^ 32 }
+        ensures within { at + result.0 ≤ length source.old.octets }
+        ensures taken { ReadSoFar sign.now source.old.octets at (IsFilledFor sign.now self.old)
+            → ReadSoFar sign.now source.old.octets (at + result.0) (IsFilledFor sign.now self.new) }
+        ensures next { result.1 ≡ slice_get source.old.octets (at + result.0) }
+        ensures steps { RisesBetween source.old source.new (2 * result.0 + 1) (2 * result.0 + 3) }
     {
         if !self.goes_on() {
-            return 0;
+            return (0, source.read(at));
         }
         let run = self.state.run();
         let font = self.state.attributes.font.number;
-        let front = sign.run_front(source, font, run, text);
-        self.take(run.gap, &front);
-        front.len
+        let word = sign.read_run(source, at, font, run, true);
+        self.take(run.gap, u64::from(word.width), word.len as u64);
+        (word.len, word.next)
     }
 
     /// Whether a character here has the attributes of the one before it, so that it only lengthens what is kept.
@@ -117,32 +118,17 @@ impl Filled {
             && goes_on_behind(here, &self.split)
     }
 
-    /// Adds the front of a text, with this gap before each of its characters.
-    fn take(&mut self, gap: u8, front: &TextFront)
+    /// Adds so many characters of a word, of so many pixels with this gap before each.
+    fn take(&mut self, gap: u8, pixels: u64, count: u64)
         requires ready { IsFilledReady self.old }
-        requires narrow { (front.now.width < 2 ^ 32) × (front.now.len < 2 ^ 32) }
-        requires space { IfSome front.now.space (λ s. (s.at < front.now.len) × (s.before ≤ front.now.width) × (s.through ≤ front.now.width)) }
-        ensures { self.new ≡ with_front gap front.now self.old }
+        requires narrow { (pixels < 2 ^ 32) × (count < 2 ^ 32) }
+        ensures { self.new ≡ with_word gap pixels count self.old }
     {
         let here = self.state.attributes;
-        let line = self.state.area.group.line;
-        let count = front.len as u64;
-        if let Some(space) = front.space {
-            let at = space.at as u64;
-            self.split = Some(Split {
-                before: line.longer(space.before, at),
-                font: here.font,
-                behind: Line::new().with_run(
-                    &here,
-                    gap,
-                    front.width - space.through,
-                    count - (at + 1),
-                ),
-            });
-        } else if let Some(parts) = &mut self.split {
-            parts.behind = parts.behind.with_run(&here, gap, front.width, count);
+        if let Some(parts) = &mut self.split {
+            parts.behind = parts.behind.with_run(&here, gap, pixels, count);
         }
-        self.state.lengthen(front.width, count);
+        self.state.lengthen(pixels, count);
     }
 }
 

@@ -1,9 +1,9 @@
 //! What is kept of the items that were read, where lines are filled by words.
 
-ghost use Rattle.std.specs.Prelude.{◌≡◌, ◌^◌, ◌≤◌, true, false, List, [], ◌∷◌, ◌++◌, None, Some, IfSome, OnOk};
+ghost use Rattle.std.specs.Prelude.{◌≡◌, ◌+◌, ◌^◌, ◌≤◌, true, false, List, [], ◌∷◌, ◌++◌, None, Some, IfSome, OnOk};
 ghost use Rattle.std.specs.List.{list_any};
 ghost use Rattle.multi_token.specs.Counted.{RisesBetween, charged};
-ghost use Rattle.multi_token.specs.Tokens.{item_spelled};
+ghost use Rattle.multi_token.specs.Tokens.{IsBracketed, item_spelled, octets_of};
 ghost use Rattle.sign_font.specs.declared.parts.LineFill.TheVariants.{Words};
 ghost use Rattle.sign_font.specs.Cell.{SizedCell};
 ghost use Rattle.sign_font.specs.Sign.{SignData, cell_in};
@@ -92,21 +92,23 @@ impl Filled {
         }
     }
 
-    /// Judges what begins with this bracket.
+    /// Judges what begins with this bracket at an offset.
     pub(crate) fn judge_spelled(
         &mut self,
         sign: &Terms<'_>,
         source: &mut Source<'_>,
+        at: usize,
         bracket: u8,
-        spelled: Bracketed<'_>,
+        spelled: Bracketed,
     ) -> Result<(), SyntaxError>
-        requires { IsFilledReady self.old }
-        ensures judged { JudgesFilled sign.now self.old (meaning (item_spelled bracket spelled.entry)) result self.new }
-        ensures steps { RisesBetween source.old source.new 0 8 }
+        requires ready { IsFilledReady self.old }
+        requires stands { IsBracketed source.old.octets at bracket spelled }
+        ensures judged { JudgesFilled sign.now self.old (meaning (item_spelled source.old.octets at bracket spelled)) result self.new }
+        ensures steps { RisesBetween source.old source.new 0 (octets_of spelled + 7) }
     {
         match spelled {
             Bracketed::Doubled => self.judge_character(sign, source, u16::from(bracket)),
-            Bracketed::Tag(body) => match tag_item(body) {
+            Bracketed::Tag(len) => match tag_item(source, at, len) {
                 Ok(KnownItem::Tag(tag)) => self.judge_tag(sign, source, tag),
                 Ok(KnownItem::Char(number)) => self.judge_character(sign, source, number),
                 Err(error) => Err(error),

@@ -1,6 +1,6 @@
 //! The items of a string, as they are read.
 
-ghost use Rattle.std.specs.Prelude.{◌≡◌, ◌-◌, IfOk, IfErr};
+ghost use Rattle.std.specs.Prelude.{◌≡◌, ◌+◌, ◌-◌, IfOk, IfErr, slice_range};
 ghost use Rattle.multi_token.specs.Counted.{RisesBetween};
 ghost use Rattle.multi_token.specs.Spelling as spelled;
 ghost use Rattle.multi_token.specs.Tokens.{IsTokenOf, item_of};
@@ -11,7 +11,7 @@ ghost use Rattle.multi_layout.specs.State.{IsKnown};
 ghost use Rattle.multi_layout.specs.Passes.{ends_line};
 
 use crate::fault::SyntaxError;
-use multi_tag::{Tag, TagFault, read_body, read_tag};
+use multi_tag::{Tag, TagFault, read_tag};
 use multi_token::{Kind, Source, Token};
 
 /// An item of a string: a character by its number, or what a tag says (NTCIP 1203 v03, MULTI).
@@ -65,14 +65,26 @@ pub(crate) fn read_item(source: &mut Source<'_>, token: &Token) -> Result<KnownI
     }
 }
 
-/// The item that the tag with this body is, or its error.
-#[inline(always)]
-pub(crate) fn tag_item(body: &[u8]) -> Result<KnownItem, SyntaxError>
-    ensures read { IfOk result (λ item. meaning (spelled.Tag body.now) ≡ meant_by item) }
+/// The item that a tag at an offset is whose body has so many octets, or its error.
+pub(crate) fn tag_item(
+    source: &mut Source<'_>,
+    at: usize,
+    len: usize,
+) -> Result<KnownItem, SyntaxError>
+    requires { IsTokenOf source.old.octets (record { at = at; len = len + 2; kind = Kind.Tag }) }
+    ensures read { IfOk result (λ item.
+        meaning (spelled.Tag (slice_range source.old.octets (at + 1) (at + 1 + len))) ≡ meant_by item) }
     ensures known { IfOk result IsKnownItem }
-    ensures fault { IfErr result (λ error. meaning (spelled.Tag body.now) ≡ Faulty (code_of error)) }
+    ensures fault { IfErr result (λ error.
+        meaning (spelled.Tag (slice_range source.old.octets (at + 1) (at + 1 + len))) ≡ Faulty (code_of error)) }
+    ensures steps { RisesBetween source.old source.new 0 (len + 1) }
 {
-    item_of_tag(read_body(body))
+    let token = Token {
+        at,
+        len: len + 2,
+        kind: Kind::Tag,
+    };
+    read_item(source, &token)
 }
 
 /// The item that a tag is which was read so, or its error.

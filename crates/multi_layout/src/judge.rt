@@ -3,7 +3,7 @@
 ghost use Rattle.std.specs.Prelude.{◌≡◌, ℕ, ◌+◌, ◌-◌, ◌^◌, ◌<◌, ◌≤◌, ◌*◌, ◌==◌, if◌then◌else◌, [], length, IfOk, IfErr, IfSome, IfNone, OnOk, None, Some, true};
 ghost use Rattle.std.specs.Option.{option_map_or};
 ghost use Rattle.multi_token.specs.Counted.{charged, RisesBetween};
-ghost use Rattle.multi_token.specs.Tokens.{item_spelled};
+ghost use Rattle.multi_token.specs.Tokens.{IsBracketed, item_spelled, octets_of};
 ghost use Rattle.sign_font.specs.Defaults.{default_fault, under};
 ghost use Rattle.sign_font.specs.Cell.{SizedCell};
 ghost use Rattle.sign_font.specs.Sign.{SignData, cell_in};
@@ -26,22 +26,24 @@ use multi_tag::{FontPick, Tag};
 use multi_token::{Bracketed, Source};
 use sign_font::{Cell, Defaults, Sign};
 
-/// Judges what begins with this bracket.
+/// Judges what begins with this bracket at an offset.
 #[inline(always)]
 pub(crate) fn judge_spelled(
     sign: &Terms<'_>,
     state: &mut State,
     source: &mut Source<'_>,
+    at: usize,
     bracket: u8,
-    spelled: Bracketed<'_>,
+    spelled: Bracketed,
 ) -> Result<(), SyntaxError>
-    requires { IsReady state.old }
-    ensures judged { Judges sign.now state.old (meaning (item_spelled bracket spelled.entry)) result state.new }
-    ensures steps { RisesBetween source.old source.new 0 8 }
+    requires ready { IsReady state.old }
+    requires stands { IsBracketed source.old.octets at bracket spelled }
+    ensures judged { Judges sign.now state.old (meaning (item_spelled source.old.octets at bracket spelled)) result state.new }
+    ensures steps { RisesBetween source.old source.new 0 (octets_of spelled + 7) }
 {
     match spelled {
         Bracketed::Doubled => judge_character(sign, state, source, u16::from(bracket)),
-        Bracketed::Tag(body) => match tag_item(body) {
+        Bracketed::Tag(len) => match tag_item(source, at, len) {
             Ok(KnownItem::Tag(tag)) => judge_tag(sign, state, source, tag),
             Ok(KnownItem::Char(number)) => judge_character(sign, state, source, number),
             Err(error) => Err(error),

@@ -1,20 +1,15 @@
 //! Characters behind one with the same attributes: each only lengthens the segment that they share.
 
-ghost use Rattle.std.specs.Prelude.{◌≡◌, ◌+◌, ◌^◌, ◌<◌, ◌≤◌, List, length, IfOk, IfErr};
+ghost use Rattle.std.specs.Prelude.{◌≡◌, ◌+◌, ◌^◌, ◌<◌, ◌≤◌, List, length};
 ghost use Rattle.sign_font.specs.Sign.{SignData};
-ghost use Rattle.sign_font.specs.Text.{place_of};
-ghost use Rattle.multi_layout.specs.Codes.{error_of};
 ghost use Rattle.multi_layout.specs.Meaning.{Meaning};
-ghost use Rattle.multi_layout.specs.Progress.{IsAt, IsBehind, IsRefused};
+ghost use Rattle.multi_layout.specs.Progress.{IsAt, IsBehind};
 ghost use Rattle.multi_layout.specs.Run.{IsBehindCharacter, IsRun, lengthened, line_in_force};
 ghost use Rattle.multi_layout.specs.State.{IsReady, IsStateOf, IsUnfilledOf};
 
-use crate::fault::SyntaxError;
 use crate::state::State;
 use crate::terms::Terms;
-use crate::verdict::Offence;
 use multi_token::Source;
-use sign_font::TextFault;
 
 /// What the characters of a run are judged by, in pixels.
 #[derive(Clone, Copy)]
@@ -56,45 +51,23 @@ impl State {
     }
 }
 
-/// Judges the characters behind one, up to a bracket or the end: the offset, and the octet read there.
+/// Judges the characters behind one that only lengthen its segment: the offset behind them, and the octet read there. It is a
+/// bracket, has no cell or doesn't fit, or is the end.
 pub(crate) fn judge_run(
     sign: &Terms<'_>,
     state: &mut State,
     source: &mut Source<'_>,
     at: usize,
-) -> Result<(usize, Option<u8>), Offence>
+) -> (usize, Option<u8>)
     requires short { length source.old.octets < 2 ^ 32 }
     requires behind { IsBehind sign.now source.old.octets at (IsUnfilledOf sign.now state.old) source.old }
     requires character { IsBehindCharacter state.old }
-    ensures at { IfOk result (λ to. (at ≤ to.0) × IsAt sign.now source.old.octets to.0 to.1 (IsUnfilledOf sign.now state.new) source.new) }
-    ensures refused { IfErr result (λ offence. IsRefused sign.now source.old.octets offence source.new) }
+    ensures further { at ≤ result.0 }
+    ensures at { IsAt sign.now source.old.octets result.0 result.1 (IsUnfilledOf sign.now state.new) source.new }
 {
     let run = state.run();
     let font = state.attributes.font.number;
-    let (text, next) = source.read_plain(at, usize::MAX);
-    match sign.run_width(source, font, run, text) {
-        Ok(width) => {
-            state.lengthen(width, text.len() as u64);
-            Ok((at + text.len(), next))
-        }
-        Err(fault) => Err(offence_in(at, fault)),
-    }
-}
-
-/// The offence of a fault in the text at an offset.
-fn offence_in(at: usize, fault: TextFault) -> Offence
-    requires { at + place_of fault < 2 ^ 64 }
-    ensures at { result.at ≡ at + place_of fault }
-    ensures error { result.error ≡ error_of fault }
-{
-    match fault {
-        TextFault::Undefined(place) => Offence {
-            error: SyntaxError::CharacterNotDefined,
-            at: at + place,
-        },
-        TextFault::TooWide(place) => Offence {
-            error: SyntaxError::TextTooBig,
-            at: at + place,
-        },
-    }
+    let front = sign.read_run(source, at, font, run, false);
+    state.lengthen(u64::from(front.width), front.len as u64);
+    (at + front.len, front.next)
 }

@@ -1,15 +1,16 @@
 //! The sign that a string is for, with the defaults in force for that string.
 
-ghost use Rattle.std.specs.Prelude.{◌≡◌, ◌+◌, ◌≤◌, min, Some, None, IfErr, IfOk, IfSome, OnOk, length, option_map};
+ghost use Rattle.std.specs.Prelude.{◌≡◌, ◌+◌, ◌*◌, ◌^◌, ◌<◌, ◌≤◌, true, Some, None, All, IfSome, drop, length, option_map, slice_get, take};
 ghost use Rattle.multi_token.specs.Counted.{charged, RisesBetween};
+ghost use Rattle.multi_token.specs.Spelling.{IsPlain};
 ghost use Rattle.sign_font.specs.Defaults.{default_fault, under};
 ghost use Rattle.sign_font.specs.Sign.{cell_in, font_numbered, info_of};
 ghost use Rattle.sign_font.specs.Sound.{IsSound, IsSoundSize, IsWithin};
-ghost use Rattle.sign_font.specs.Text.{HasWidth, IsFrontOf, IsTextFault, place_of, width_in};
+ghost use Rattle.sign_font.specs.Text.{HasWidth, IsNoSpace, width_in};
 
 use crate::run::Run;
-use multi_token::Source;
-use sign_font::{Cell, Defaults, FontInfo, LineFill, Sign, TextFault, TextFront};
+use multi_token::{Run as Front, Source};
+use sign_font::{Cell, Defaults, FontInfo, LineFill, Sign};
 use std::marker::Model;
 
 /// A sign, seen with these defaults in place of its own. It doesn't refuse them.
@@ -115,58 +116,58 @@ impl<'a> Terms<'a> {
         self.sign.font(source, number)
     }
 
-    /// The cell of a number in the font of a number, if both are defined. Either way an octet is one step, and a wider number at
-    /// most 8.
+    /// The cell of a number in the font of a number, if both are defined. Either way an octet is one step, and a wider number
+    /// one to eight.
     pub(crate) fn cell(&self, source: &mut Source<'_>, font: u8, number: u16) -> Option<Cell<'_>>
         ensures cell { result ≡ cell_in self.now font number }
         ensures size { IfSome result IsSoundSize }
-        ensures steps { RisesBetween source.old source.new 0 8 }
+        ensures steps { RisesBetween source.old source.new 1 8 }
         ensures sound { IsSound self.now }
     {
         self.sign.cell(source, font, number)
     }
 
-    /// The width in pixels of a text of a run in the font of a number, or the first octet that has no cell or for which too little
-    /// is left. Each cell that is looked up is one step.
-    pub(crate) fn run_width(
+    /// The octets from an offset on that a run can take in the font of a number: none is a bracket nor, if the run is a word, a space,
+    /// each has a cell, and together they go into what is left. The font takes one step, and each of these octets two. So does the
+    /// octet behind them, and the end takes one.
+    pub(crate) fn read_run(
         &self,
         source: &mut Source<'_>,
+        at: usize,
         font: u8,
         run: Run,
-        text: &[u8],
-    ) -> Result<u64, TextFault>
-        ensures width { IfOk result (λ width. HasWidth (width_in self.now font) run.gap text.now width × (width ≤ run.left)) }
-        ensures fault { IfErr result (IsTextFault (width_in self.now font) run.gap run.left text.now) }
-        ensures steps { OnOk result (source.new ≡ charged source.old (length text.now)) }
-        ensures fault_steps { IfErr result (λ fault. source.new ≡ charged source.old (place_of fault + 1)) }
+        word: bool,
+    ) -> Front
+        requires { at ≤ length source.old.octets }
+        ensures within { at + result.len ≤ length source.old.octets }
+        ensures plain { All IsPlain (take result.len (drop at source.old.octets)) }
+        ensures word { word ≡ true → All IsNoSpace (take result.len (drop at source.old.octets)) }
+        ensures width { HasWidth (width_in self.now font) run.gap (take result.len (drop at source.old.octets)) result.width }
+        ensures left { result.width ≤ run.left }
+        ensures next { result.next ≡ slice_get source.old.octets (at + result.len) }
+        ensures steps { RisesBetween source.old source.new (2 * result.len + 1) (2 * result.len + 3) }
+        ensures room { length source.old.octets < 2 ^ 63 }
         ensures sound { IsSound self.now }
     {
-        self.sign.text_width(source, font, text, run.gap, run.left)
-    }
-
-    /// The front of a text of a run in the font of a number: up to the first octet that has no cell or for which too little is left.
-    /// Each cell that is looked up is one step.
-    pub(crate) fn run_front(
-        &self,
-        source: &mut Source<'_>,
-        font: u8,
-        run: Run,
-        text: &[u8],
-    ) -> TextFront
-        ensures front { IsFrontOf (width_in self.now font) run.gap run.left text.now result }
-        ensures steps { source.new ≡ charged source.old (min (result.len + 1) (length text.now)) }
-        ensures sound { IsSound self.now }
-    {
-        self.sign.text_front(source, font, text, run.gap, run.left)
+        let Some(table) = self.sign.advances(source, font, word) else {
+            return Front {
+                len: 0,
+                width: 0,
+                next: source.read(at),
+            };
+        };
+        // no line has as many pixels
+        let room = run.left.min(0x7fff) as u32;
+        source.read_run(at, table, u32::from(run.gap), 0, room)
     }
 
     /// The width in pixels of the cell of a number in the font of a number, if both are defined. Either way an octet is one step,
-    /// and a wider number at most 8.
+    /// and a wider number one to eight.
     pub(crate) fn cell_width(&self, source: &mut Source<'_>, font: u8, number: u16) -> Option<u8>
         ensures width { result ≡ option_map (λ cell. cell.width) (cell_in self.now font number) }
         ensures size { IfSome result (IsWithin 1 64) }
         ensures step { number ≤ 255 → source.new ≡ charged source.old 1 }
-        ensures steps { RisesBetween source.old source.new 0 8 }
+        ensures steps { RisesBetween source.old source.new 1 8 }
         ensures sound { IsSound self.now }
     {
         self.sign.cell_width(source, font, number)

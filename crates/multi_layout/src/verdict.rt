@@ -141,8 +141,8 @@ fn judge_unfilled(
     Ok(())
 }
 
-/// Judges what begins with this octet at an offset, which was read: an item that begins with a bracket, or all characters up to
-/// one. It gives the offset behind, and the octet read there.
+/// Judges what begins with this octet at an offset, which was read: an item that begins with a bracket, or a character and those
+/// behind it that only lengthen its segment. It gives the offset behind, and the octet read there.
 fn judge_from(
     sign: &Terms<'_>,
     state: &mut State,
@@ -159,7 +159,7 @@ fn judge_from(
         return judge_bracket(sign, state, source, at, first);
     }
     match judge_character(sign, state, source, u16::from(first)) {
-        Ok(()) => judge_run(sign, state, source, at + 1),
+        Ok(()) => Ok(judge_run(sign, state, source, at + 1)),
         Err(error) => Err(Offence { error, at }),
     }
 }
@@ -179,8 +179,8 @@ fn judge_bracket(
     requires at { IsAt sign.now source.old.octets at (Some first) (IsUnfilledOf sign.now state.old) source.old }
     ensures at { IfOk result (λ to. (at < to.0) × IsAt sign.now source.old.octets to.0 to.1 (IsUnfilledOf sign.now state.new) source.new) }
     ensures refused { IfErr result (λ offence. IsRefused sign.now source.old.octets offence source.new) }
-    // each octet up to the one behind is read once, and beside that at most 8 cells are looked at
-    ensures steps { IfOk result (λ to. source.new.steps ≤ source.old.steps + (to.0 - at) + 8) }
+    // each octet up to the one behind is read at most twice, and beside that at most 8 cells are looked at
+    ensures steps { IfOk result (λ to. source.new.steps ≤ source.old.steps + 2 * (to.0 - at) + 8) }
 {
     let Ok(spelled) = read_bracket(source, at, first) else {
         return Err(Offence {
@@ -188,7 +188,7 @@ fn judge_bracket(
             at,
         });
     };
-    if let Err(error) = judge_spelled(sign, state, source, first, spelled) {
+    if let Err(error) = judge_spelled(sign, state, source, at, first, spelled) {
         return Err(Offence { error, at });
     }
     let behind = at + spelled.len();

@@ -46,8 +46,8 @@ pub(crate) fn judge_filled(
     Ok(())
 }
 
-/// Judges what begins with this octet at an offset, which was read: an item that begins with a bracket, or all characters up to
-/// one. It gives the offset behind, and the octet read there.
+/// Judges what begins with this octet at an offset, which was read: an item that begins with a bracket, or a character and those
+/// behind it that only lengthen what is kept. It gives the offset behind, and the octet read there.
 fn filled_from(
     sign: &Terms<'_>,
     kept: &mut Filled,
@@ -64,37 +64,26 @@ fn filled_from(
         return filled_bracket(sign, kept, source, at, first);
     }
     match kept.judge_octet(sign, source, first) {
-        Ok(()) => filled_text(sign, kept, source, at + 1),
+        Ok(()) => Ok(filled_run(sign, kept, source, at + 1)),
         Err(error) => Err(Offence { error, at }),
     }
 }
 
-/// Judges the characters behind one, up to a bracket or the end: the offset, and the octet read there.
-fn filled_text(
+/// Judges the characters behind one that only lengthen what is kept: the offset behind them, and the octet read there.
+fn filled_run(
     sign: &Terms<'_>,
     kept: &mut Filled,
     source: &mut Source<'_>,
     at: usize,
-) -> Result<(usize, Option<u8>), Offence>
+) -> (usize, Option<u8>)
     requires short { length source.old.octets < 2 ^ 32 }
     requires behind { IsBehind sign.now source.old.octets at (IsFilledFor sign.now kept.old) source.old }
     requires fits { FitsHere kept.old }
-    ensures at { IfOk result (λ to. (at ≤ to.0) × IsAt sign.now source.old.octets to.0 to.1 (IsFilledFor sign.now kept.new) source.new) }
-    ensures refused { IfErr result (λ offence. IsRefused sign.now source.old.octets offence source.new) }
+    ensures further { at ≤ result.0 }
+    ensures at { IsAt sign.now source.old.octets result.0 result.1 (IsFilledFor sign.now kept.new) source.new }
 {
-    let (text, next) = source.read_plain(at, usize::MAX);
-    let mut done = kept.take_text(sign, source, text);
-    while done < text.len() {
-        if let Err(error) = kept.judge_octet(sign, source, text[done]) {
-            return Err(Offence {
-                error,
-                at: at + done,
-            });
-        }
-        done += 1;
-        done += kept.take_text(sign, source, &text[done..]);
-    }
-    Ok((at + text.len(), next))
+    let (len, next) = kept.take_run(sign, source, at);
+    (at + len, next)
 }
 
 /// Judges the item that begins with this bracket at an offset, which was read. It gives the offset behind, and the octet read
@@ -116,7 +105,7 @@ fn filled_bracket(
         let error = SyntaxError::UnsupportedTag;
         return Err(Offence { error, at });
     };
-    if let Err(error) = kept.judge_spelled(sign, source, first, spelled) {
+    if let Err(error) = kept.judge_spelled(sign, source, at, first, spelled) {
         return Err(Offence { error, at });
     }
     let behind = at + spelled.len();

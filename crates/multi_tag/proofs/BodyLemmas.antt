@@ -1,8 +1,6 @@
 -- The body of a tag has no brackets, so it is handed out whole.
-use Rattle.std.proofs.Common.{◌≡◌, ℕ, ◌<◌, ◌≤◌, ◌+◌, ◌-◌, inl, inr, List, ◌∷◌, length, drop, get_or, Option, Some, None, refl, sym, ap, subst, ◌∙◌, arith, length-drop}
-use Rattle.std.specs.Prelude.{slice_range}
+use Rattle.std.proofs.Common.{◌≡◌, ℕ, ◌<◌, ◌+◌, ◌-◌, inl, inr, List, ◌∷◌, length, drop, get_or, Option, Some, None, refl, sym, ap, subst, ◌∙◌, arith, length-drop}
 use Rattle.std.specs.List.{All}
-use Rattle.std.proofs.Math.Nat.{eq-or-lt_of_le}
 use Rattle.std.proofs.lemmas.List.{get_or-drop, get_or_append_left}
 use Rattle.std.proofs.lemmas.List.Elements.{All-get_or}
 use Rattle.std.proofs.lemmas.Option.{get_or_from_slice_get}
@@ -34,16 +32,3 @@ no_end octets token count (Some octet) tag few ended =
     ∙ (ap (λ ys. get_or ys count 0) (sym (after_opening octets token tag)) ∙ (get_or-drop (token.at + 1) octets count 0 ∙ there)) in
     let plain : IsPlain octet = subst IsPlain inside (All-get_or IsPlain body count 0 short (plain_body octets token tag)) in
     elim ended.1 [ inl opens ↦ plain.0 opens | inr closes ↦ plain.1 closes ]
-
--- the octets without brackets that stand behind the first bracket, no more than the body has, are the body
-pub whole_body : (octets : List ℕ) (token : Token) (front : List ℕ) (ending : Option ℕ) → IsTagOf octets token → length front ≤ token.len - 2 → (length front < token.len - 2 → IsEndedBy octets (token.at + 1 + length front) ending) → length front ≡ token.len - 2
-whole_body octets token front ending tag few ended = elim (eq-or-lt_of_le few) [
-  | inl all ↦ all
-  | inr less ↦ absurd (no_end octets token (length front) ending tag less (ended less))
-]
-
-pub body_read : (octets : List ℕ) (token : Token) (front : List ℕ) → IsTagOf octets token → front ≡ slice_range octets (token.at + 1) (token.at + 1 + length front) → length front ≡ token.len - 2 → front ≡ body_of octets token
-body_read octets token front tag is all =
-    let size = length-tag octets token tag in
-    let end : token.at + 1 + length front ≡ token.at + token.len - 1 = omega (arith, size, all) in
-    is ∙ ap (slice_range octets (token.at + 1)) end

@@ -123,3 +123,10 @@ small_comma octets some is = small_front octets some ∙ ap (λ octet. to_ascii_
 
 pub comma_alone : (octet : ℕ) → to_ascii_lowercase octet ≡ 44 → octet ≡ 44
 comma_alone octet is = grind (arith, nat_tests)
+
+-- a bracket is no letter
+pub small_bracket : (octets : List ℕ) → 1 ≤ length octets → get_or octets 0 0 ≡ 93 → str_to_ascii_lowercase octets ≡ 93 ∷ str_to_ascii_lowercase (take (length octets - 1) (drop 1 octets))
+small_bracket octets some is = small_front octets some ∙ ap (λ octet. to_ascii_lowercase octet ∷ str_to_ascii_lowercase (take (length octets - 1) (drop 1 octets))) is
+
+pub bracket_alone : (octet : ℕ) → to_ascii_lowercase octet ≡ 93 → octet ≡ 93
+bracket_alone octet is = grind (arith, nat_tests)

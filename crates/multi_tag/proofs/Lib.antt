@@ -1,14 +1,19 @@
 mod Examples
+pub mod AheadLemmas
 pub mod BodyLemmas
+pub mod ClosedLemmas
+pub mod ClosedTagLemmas
 pub mod CutLemmas
 pub mod FontLemmas
 pub mod FormLemmas
+pub mod LongLemmas
 pub mod NameLemmas
 pub mod NumberLemmas
 pub mod OneTagLemmas
 pub mod PartLemmas
 pub mod ReadLemmas
 pub mod RectLemmas
+pub mod ShortLemmas
 pub mod TimesLemmas
 pub mod UniqueLemmas
 pub mod TagFormLemmas

@@ -1,4 +1,5 @@
 pub mod Body
+pub mod Closed
 pub mod Fault
 pub mod Form
 pub mod Number

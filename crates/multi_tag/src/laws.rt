@@ -1,6 +1,7 @@
 //! What holds of every body.
 
 ghost use Rattle.multi_tag.specs.Body.{OneTagAtMost};
+ghost use Rattle.multi_tag.specs.Closed.{NoLongBody};
 ghost use Rattle.multi_tag.specs.TagOf.{TagOfIsTheTable};
 
 /// A law of the definitions: a body spells at most one tag.
@@ -12,4 +13,9 @@ pub fn one_tag_at_most()
 /// body is unsupported where no listed name begins it.
 pub fn tag_of_is_the_table()
     ensures { TagOfIsTheTable }
+{}
+
+/// A law of the definitions: a body that spells a tag has at most 25 octets.
+pub fn no_long_body()
+    ensures { NoLongBody }
 {}

@@ -5,9 +5,12 @@
 //! them. Letters may be large or small.
 //!
 //! [`read_tag`] reads the body of a tag, and gives the tag's value or the fault that explains why it has none. [`read_body`]
-//! does so where the body was read already.
+//! does so where the body was read already. [`read_ahead`] reads a tag and its closing bracket at once, if one of the table
+//! stands there, and so does [`read_closed`] of octets that were read already.
 #![tactic(auto)]
 
+mod ahead;
+mod closed;
 mod font;
 mod hex_char;
 mod laws;
@@ -19,6 +22,8 @@ mod rest;
 mod tag;
 mod times;
 
-pub use laws::{one_tag_at_most, tag_of_is_the_table};
+pub use ahead::read_ahead;
+pub use closed::read_closed;
+pub use laws::{no_long_body, one_tag_at_most, tag_of_is_the_table};
 pub use read::{read_body, read_tag};
 pub use tag::{FontPick, Tag, TagFault};

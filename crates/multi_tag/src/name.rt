@@ -54,7 +54,7 @@ pub fn read_name(body: &[u8]) -> Option<(Name, &[u8])>
 
 /// The octets behind a letter, or `None` where they don't begin with it. The letter is given as a small one.
 #[inline(always)]
-fn after_letter(octets: &[u8], letter: u8) -> Option<&[u8]>
+pub fn after_letter(octets: &[u8], letter: u8) -> Option<&[u8]>
     ensures some { IfSome result (λ rest. str_to_ascii_lowercase octets.now ≡ letter ∷ str_to_ascii_lowercase rest.now) }
     ensures none { IfNone result ((rest : List ℕ) → str_to_ascii_lowercase octets.now ≢ letter ∷ rest) }
 {

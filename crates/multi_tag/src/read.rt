@@ -34,9 +34,9 @@ pub fn read_tag(source: &mut Source<'_>, token: &Token) -> Result<Tag, TagFault>
     ensures value_steps { OnOk result (source.new ≡ charged source.old (token.now.len - 2)) }
     ensures fault_steps { OnErr result (RisesBetween source.old source.new 1 (token.now.len - 2)) }
 {
-    // the body has no brackets, so it is handed out whole
-    let (body, _) = source.read_plain(token.at + 1, token.len - 2);
-    read_body(body)
+    // no body that spells a tag has more than 25 octets, and a name stands in the first three
+    let len = (token.len - 2).min(26);
+    read_body(source.ahead(token.at + 1, len))
 }
 
 /// The value of a tag with this body, whose octets were read already. The faults are those of [`read_tag`].

@@ -26,7 +26,7 @@ pub fn read_rect(octets: &[u8]) -> Option<Tag>
 
 /// A number before a comma, and the octets behind the comma.
 #[inline(always)]
-fn read_before_comma(octets: &[u8]) -> Option<(u32, &[u8])>
+pub fn read_before_comma(octets: &[u8]) -> Option<(u32, &[u8])>
     ensures some { IfSome result (λ (number, rest).
         IsPartBefore comma (d 0 99999) (str_to_ascii_lowercase octets.now) number (str_to_ascii_lowercase rest.now)) }
     ensures none { IfNone result (HasNoPartBefore comma (d 0 99999) (str_to_ascii_lowercase octets.now)) }

@@ -3,5 +3,6 @@ mod CountedExamples
 pub mod PlaceLemmas
 mod ReadingExamples
 pub mod ReadingLemmas
+pub mod RunLemmas
 pub mod SpellingLemmas
 pub mod StepLemmas

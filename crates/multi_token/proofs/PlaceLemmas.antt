@@ -184,8 +184,8 @@ length-tag xs t k =
 
 -- what begins with a bracket, as the token that it is
 pub bracketed_token : (xs : List ℕ) (at bracket : ℕ) (spelled : Bracketed) → IsBracketed xs at bracket spelled
-    → (t : Token) × (t.at ≡ at) × (t.len ≡ octets_of spelled) × IsTokenOf xs t × (item_of xs t ≡ item_spelled bracket spelled)
+    → (t : Token) × (t.at ≡ at) × (t.len ≡ octets_of spelled) × IsTokenOf xs t × (item_of xs t ≡ item_spelled xs at bracket spelled)
 bracketed_token xs at bracket bracketed.Doubled token = (record { at = at; len = 2; kind = kinds.Char bracket }, refl, refl, token, refl)
-bracketed_token xs at bracket (bracketed.Tag body) (token, is) =
-    let last : at + 1 + length body.now ≡ at + (length body.now + 2) - 1 = omega arith in
-    (record { at = at; len = length body.now + 2; kind = kinds.Tag }, refl, refl, token, ap Tag (sym (is ∙ ap (slice_range xs (at + 1)) last)))
+bracketed_token xs at bracket (bracketed.Tag len) token =
+    let last : at + (len + 2) - 1 ≡ at + 1 + len = omega arith in
+    (record { at = at; len = len + 2; kind = kinds.Tag }, refl, refl, token, ap Tag (ap (slice_range xs (at + 1)) last))

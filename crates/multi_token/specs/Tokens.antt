@@ -36,15 +36,14 @@ pub record IsTagOf (octets : List ℕ) (token : Token) : Type 0 where
 -- the octets that spell what begins with a bracket (own)
 abbrev pub octets_of : Bracketed → ℕ
 octets_of bracketed.Doubled = 2
-octets_of (bracketed.Tag body) = length body.now + 2
+octets_of (bracketed.Tag len) = len + 2
 
 -- what begins with a bracket at an offset of these octets (own)
 abbrev pub IsBracketed : List ℕ → ℕ → ℕ → Bracketed → Type 0
 IsBracketed octets at bracket bracketed.Doubled = IsTokenOf octets (record { at = at; len = 2; kind = kinds.Char bracket })
-IsBracketed octets at bracket (bracketed.Tag body) = IsTokenOf octets (record { at = at; len = length body.now + 2; kind = kinds.Tag })
-    × (body.now ≡ slice_range octets (at + 1) (at + 1 + length body.now))
+IsBracketed octets at bracket (bracketed.Tag len) = IsTokenOf octets (record { at = at; len = len + 2; kind = kinds.Tag })
 
--- the item that begins with a bracket (own)
-abbrev pub item_spelled : ℕ → Bracketed → Item
-item_spelled bracket bracketed.Doubled = Char bracket
-item_spelled bracket (bracketed.Tag body) = Tag body.now
+-- the item that begins with a bracket at an offset of these octets (own)
+abbrev pub item_spelled : List ℕ → ℕ → ℕ → Bracketed → Item
+item_spelled octets at bracket bracketed.Doubled = Char bracket
+item_spelled octets at bracket (bracketed.Tag len) = Tag (slice_range octets (at + 1) (at + 1 + len))

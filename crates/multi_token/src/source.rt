@@ -1,10 +1,12 @@
 //! Octets that are reached by counted reads alone.
 
-ghost use Rattle.std.specs.Prelude.{◌≡◌, ◌+◌, ◌^◌, ◌<◌, ◌≤◌, ◌⊎◌, length, slice_get, slice_range, take, IfSome, None};
+ghost use Rattle.std.specs.Prelude.{◌≡◌, ℕ, ◌+◌, ◌-◌, ◌*◌, ◌^◌, ◌<◌, ◌≤◌, ◌⊎◌, length, min, slice_get, slice_index, slice_range, take, drop, IfSome, None};
 ghost use Rattle.std.specs.List.{All};
 ghost use Rattle.multi_token.specs.Counted.{charged};
+ghost use Rattle.multi_token.specs.Run.{IsRun, taken};
 ghost use Rattle.multi_token.specs.Spelling.{IsEndedBy, IsPlain, is_bracket};
 
+use crate::advances::Advances;
 use std::marker::Model;
 use step_count::raised;
 
@@ -18,6 +20,17 @@ pub struct Source<'a> {
     steps: u64,
 }
 
+/// The longest front of octets that goes into a room.
+#[derive(Clone, Copy, Debug, PartialEq, Eq)]
+pub struct Run {
+    /// The number of its octets.
+    pub len: usize,
+    /// What is taken with it.
+    pub width: u32,
+    /// The octet that ends it, or `None` at the end.
+    pub next: Option<u8>,
+}
+
 impl<'a> Model for Source<'a> {
     ghost use Rattle.multi_token.specs.Counted.{Counted};
 
@@ -27,6 +40,12 @@ impl<'a> Model for Source<'a> {
 }
 
 impl<'a> Source<'a> {
+    ghost use Rattle.std.specs.Borrow.{sem};
+    ghost use Rattle.std.specs.Io.BufRead.{Rests};
+    ghost use Rattle.std.specs.Prelude.{[]};
+    ghost use mir.Syntax.{named};
+    ghost use Rattle.multi_token.specs.contracts.source.Source.{the_row};
+
     /// A source of these octets, with no step taken.
     pub fn new(octets: &'a [u8]) -> Source<'a>
         ensures { result ≡ record { octets = octets.now; steps = 0 } }
@@ -49,7 +68,7 @@ impl<'a> Source<'a> {
     /// The octets without brackets from an offset on, at most `most` of them, and the octet that ends them: a bracket, or
     /// `None` at the end. Each octet that is handed out takes one step, and so does the octet or the end that ends them.
     /// Where there are `most`, nothing behind them is read, and the answer is `None`.
-    pub fn read_plain(&mut self, from: usize, most: usize) -> (&'a [u8], Option<u8>)
+    pub(crate) fn read_plain(&mut self, from: usize, most: usize) -> (&'a [u8], Option<u8>)
         requires start { from ≤ length self.old.octets }
         ensures few { length result.0.now ≤ most }
         ensures within { from + length result.0.now ≤ length self.old.octets }
@@ -69,6 +88,57 @@ impl<'a> Source<'a> {
         }
         self.charge(len as u64 + 1);
         (&behind[..len], behind.get(len).copied())
+    }
+
+    /// The longest front of the octets from an offset on that goes into a room, where this width is taken already: an octet takes
+    /// a gap and its number in the table. Each octet of the front takes two steps, a read and a look at the table, and so does the
+    /// octet that ends it; the end takes one. No octet is given but the one that ends the front.
+    pub fn read_run(
+        &mut self,
+        from: usize,
+        table: &Advances,
+        gap: u32,
+        width: u32,
+        room: u32,
+    ) -> Run
+        requires start { from ≤ length self.old.octets }
+        requires fits { width ≤ room }
+        requires small { gap + room < 2 ^ 31 }
+        ensures run { IsRun table.now gap width room (drop from self.old.octets) result.len }
+        ensures width { result.width ≡ width + taken table.now gap (take result.len (drop from self.old.octets)) }
+        ensures next { result.next ≡ slice_get self.old.octets (from + result.len) }
+        ensures steps { self.new ≡ charged self.old (min (2 * result.len + 2) (2 * (length self.old.octets - from) + 1)) }
+        // what is in a slice of octets
+        ensures octets { (at : ℕ) → slice_index (drop from self.old.octets) at < 2 ^ 8 }
+        // a slice is no longer than this
+        ensures space { length self.old.octets < 2 ^ 63 }
+    {
+        let behind = &self.octets[from..];
+        let (len, width) = run_front(behind, &table.of, gap, width, room);
+        self.charge(2 * len as u64 + 1 + u64::from(len < behind.len()));
+        Run {
+            len,
+            width,
+            next: behind.get(len).copied(),
+        }
+    }
+
+    /// The octets from an offset on, at most `most` of them: 26 serve for a tag. Each takes one step. They are lent, and gone before the
+    /// source is used again.
+    pub fn ahead(&mut self, from: usize, most: usize) -> &[u8]
+        requires start { from ≤ length self.old.octets }
+        // so many at a time, and no whole string
+        requires few { most ≤ 26 }
+        ensures octets { result.now ≡ take most (drop from self.old.octets) }
+        // the source, once what it lends is given back
+        ensures* steps { sem 𝓛 (Rests (the_row (record { mir = named 0; lft = [] })) self.entry
+            (λ new. new ≡ charged self.old (length result.now))) }
+        // a slice is no longer than this
+        ensures space { length self.old.octets < 2 ^ 63 }
+    {
+        let len = (self.octets.len() - from).min(most);
+        self.charge(len as u64);
+        &self.octets[from..from + len]
     }
 
     /// The number of octets.
@@ -106,6 +176,27 @@ fn plain_front(octets: &[u8], most: usize) -> usize
         len += 1;
     }
     len
+}
+
+/// The longest front that goes into a room, and what is taken with it. Whoever calls this counts the octets that it looks at.
+fn run_front(octets: &[u8], table: &[u16; 256], gap: u32, before: u32, room: u32) -> (usize, u32)
+    requires fits { before ≤ room }
+    requires small { gap + room < 2 ^ 31 }
+    ensures run { IsRun table.now gap before room octets.now result.0 }
+    ensures width { result.1 ≡ before + taken table.now gap (take result.0 octets.now) }
+    ensures octets { (at : ℕ) → slice_index octets.now at < 2 ^ 8 }
+{
+    let mut len = 0;
+    let mut width = before;
+    while len < octets.len() {
+        let wide = width + gap + u32::from(table[usize::from(octets[len])]);
+        if wide > room {
+            return (len, width);
+        }
+        width = wide;
+        len += 1;
+    }
+    (len, width)
 }
 
 /// Whether an octet is a bracket.

@@ -61,9 +61,9 @@ pub fn next_token(source: &mut Source<'_>, at: usize) -> Result<Option<Token>, T
     }
     match read_bracket(source, at, first) {
         Ok(Bracketed::Doubled) => Ok(Some(character(at, 2, first))),
-        Ok(Bracketed::Tag(body)) => Ok(Some(Token {
+        Ok(Bracketed::Tag(len)) => Ok(Some(Token {
             at,
-            len: body.len() + 2,
+            len: len + 2,
             kind: Kind::Tag,
         })),
         Err(fault) => Err(fault),
@@ -72,21 +72,22 @@ pub fn next_token(source: &mut Source<'_>, at: usize) -> Result<Option<Token>, T
 
 /// What begins with a bracket (NTCIP 1203 v03, MULTI).
 #[derive(Clone, Copy, Debug, PartialEq, Eq)]
-pub enum Bracketed<'a> {
+pub enum Bracketed {
     /// The bracket's own character, which two of them spell.
     Doubled,
-    /// A tag, with the octets of its body.
-    Tag(&'a [u8]),
+    /// A tag, with the number of octets of its body: fewer than a slice can have.
+    Tag(usize),
 }
 
-impl Bracketed<'_> {
+impl Bracketed {
     /// The number of octets that spell it.
     pub fn len(&self) -> usize
+        requires { octets_of self.now < 2 ^ 63 }
         ensures { result ≡ octets_of self.now }
     {
         match self {
             Bracketed::Doubled => 2,
-            Bracketed::Tag(body) => body.len() + 2,
+            Bracketed::Tag(len) => *len + 2,
         }
     }
 }
@@ -95,11 +96,11 @@ impl Bracketed<'_> {
 ///
 /// The bracket isn't read again: a doubled bracket takes one step, a tag one for each octet of its body and one for its last
 /// bracket, and a broken bracket at most as many as there are octets from there on.
-pub fn read_bracket<'a>(
-    source: &mut Source<'a>,
+pub fn read_bracket(
+    source: &mut Source<'_>,
     at: usize,
     bracket: u8,
-) -> Result<Bracketed<'a>, TokenFault>
+) -> Result<Bracketed, TokenFault>
     requires bracket { (bracket ≡ 91) ⊎ (bracket ≡ 93) }
     requires stands { slice_get source.old.octets at ≡ Some bracket }
     // whoever read the octet knows this of the source
@@ -121,7 +122,7 @@ pub fn read_bracket<'a>(
 }
 
 /// What begins with an opening bracket, which is read already.
-fn open_bracket<'a>(source: &mut Source<'a>, at: usize) -> Result<Bracketed<'a>, TokenFault>
+fn open_bracket(source: &mut Source<'_>, at: usize) -> Result<Bracketed, TokenFault>
     requires stands { slice_get source.old.octets at ≡ Some 91 }
     requires room { length source.old.octets < 2 ^ 63 }
     ensures spelled { IfOk result (λ spelled.
@@ -138,14 +139,14 @@ fn open_bracket<'a>(source: &mut Source<'a>, at: usize) -> Result<Bracketed<'a>,
             Err(TokenFault { at })
         }
     } else if ending == Some(b']') {
-        Ok(Bracketed::Tag(body))
+        Ok(Bracketed::Tag(len))
     } else {
         Err(TokenFault { at })
     }
 }
 
 /// What begins with a closing bracket, which is read already.
-fn close_bracket<'a>(source: &mut Source<'a>, at: usize) -> Result<Bracketed<'a>, TokenFault>
+fn close_bracket(source: &mut Source<'_>, at: usize) -> Result<Bracketed, TokenFault>
     requires stands { slice_get source.old.octets at ≡ Some 93 }
     requires room { length source.old.octets < 2 ^ 63 }
     ensures spelled { IfOk result (λ spelled.

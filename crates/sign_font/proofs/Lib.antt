@@ -1,3 +1,4 @@
+pub mod AdvanceLemmas
 pub mod BitLemmas
 pub mod DefaultLemmas
 pub mod FaultLemmas

@@ -1,3 +1,4 @@
+pub mod Advance
 pub mod Cell
 pub mod Defaults
 pub mod Fault

@@ -1,10 +1,6 @@
 -- The width of a text.
-use Rattle.std.specs.Prelude.{◌≡◌, ℕ, ◌+◌, ◌-◌, ◌<◌, ◌≤◌, List, ◌∷◌, ◌++◌, All, length, map, take, slice_index, Option, Some, None, option_map}
+use Rattle.std.specs.Prelude.{◌≡◌, ℕ, ◌+◌, List, All, map, Option, Some, option_map}
 use Rattle.std.specs.List.{sum_by}
-use Rattle.sign_font.specs.declared.text.TextFault.{TextFault}
-use Rattle.sign_font.specs.declared.text.TextFault.TheVariants as faults
-use Rattle.sign_font.specs.declared.text.TextFront.{TextFront}
-use Rattle.sign_font.specs.declared.text.TextSpace.{TextSpace}
 use Rattle.sign_font.specs.Sign.{FontData, SignData, cell_in, cell_numbered}
 use Rattle.sign_font.specs.Sound.{IsWithin}
 
@@ -23,52 +19,6 @@ pub record HasWidth (width_of : ℕ → Option ℕ) (gap : ℕ) (text : List ℕ
   pub within : All (IsWithin 1 64) widths
   pub together : pixels ≡ sum_by (λ width. gap + width) widths
 
--- the octets of a text before a place have widths, and are no wider than the room; an octet stands there (own)
-pub record FitsBefore (width_of : ℕ → Option ℕ) (gap room : ℕ) (text : List ℕ) (at : ℕ) : Type 0 where
-  pub stands : at < length text
-  pub pixels : ℕ
-  pub wide : HasWidth width_of gap (take at text) pixels
-  pub narrow : pixels ≤ room
-
--- why a text has no width within a room: its first octet that has no width, or with which it is wider than the room (own)
-abbrev pub IsTextFault : (ℕ → Option ℕ) → ℕ → ℕ → List ℕ → TextFault → Type 0
-IsTextFault width_of gap room text (faults.Undefined at) = FitsBefore width_of gap room text at × (width_of (slice_index text at) ≡ None)
-IsTextFault width_of gap room text (faults.TooWide at) = (before : FitsBefore width_of gap room text at) × (width : ℕ)
-    × (width_of (slice_index text at) ≡ Some width) × IsWithin 1 64 width × (room < before.pixels + (gap + width))
-
--- where a text's fault is (own)
-abbrev pub place_of : TextFault → ℕ
-place_of (faults.Undefined at) = at
-place_of (faults.TooWide at) = at
-
 -- an octet is no space (own)
 abbrev pub IsNoSpace : ℕ → Type 0
 IsNoSpace octet = octet ≡ 32 → ⊥
-
--- where the last space of a text of so many pixels stands, and what stands before it and behind it (own)
-pub record IsLastSpace (width_of : ℕ → Option ℕ) (gap : ℕ) (text : List ℕ) (pixels : ℕ) (space : TextSpace) : Type 0 where
-  pub before : List ℕ
-  pub behind : List ℕ
-  pub parts : text ≡ before ++ 32 ∷ behind
-  pub last : All IsNoSpace behind
-  pub at : space.at ≡ length before
-  pub wide : HasWidth width_of gap before space.before
-  pub width : ℕ
-  pub found : width_of 32 ≡ Some width
-  pub sound : IsWithin 1 64 width
-  pub through : space.through ≡ space.before + (gap + width)
-  pub within : space.through ≤ pixels
-  pub rest : HasWidth width_of gap behind (pixels - space.through)
-
--- what is told of the last space of a text of so many pixels; nothing, if no octet of it is a space (own)
-abbrev pub HasLastSpace : (ℕ → Option ℕ) → ℕ → List ℕ → ℕ → Option TextSpace → Type 0
-HasLastSpace width_of gap text pixels None = All IsNoSpace text
-HasLastSpace width_of gap text pixels (Some space) = IsLastSpace width_of gap text pixels space
-
--- the longest front of a text whose octets have widths, and that is no wider than the room; and its last space (own)
-pub record IsFrontOf (width_of : ℕ → Option ℕ) (gap room : ℕ) (text : List ℕ) (front : TextFront) : Type 0 where
-  pub within : front.len ≤ length text
-  pub wide : HasWidth width_of gap (take front.len text) front.width
-  pub narrow : front.width ≤ room
-  pub space : HasLastSpace width_of gap (take front.len text) front.width front.space
-  pub longest : front.len < length text → (width : ℕ) → width_of (slice_index text front.len) ≡ Some width → room < front.width + (gap + width)

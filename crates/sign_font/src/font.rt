@@ -1,16 +1,16 @@
 //! A font, as a sign keeps it and as it is asked for.
 
-ghost use Rattle.std.specs.Prelude.{◌≡◌, ◌≤◌, ℕ, min, length, IfErr, IfOk, IfSome, option_map};
+ghost use Rattle.std.specs.Prelude.{◌≡◌, ℕ, IfOk, IfSome, option_map};
 ghost use Rattle.multi_token.specs.Counted.{RisesBetween};
+ghost use Rattle.sign_font.specs.Advance.{AreAdvances};
 ghost use Rattle.sign_font.specs.Sign.{font_of, info_of, cell_numbered, sized};
 ghost use Rattle.sign_font.specs.Sound.{IsSoundFont, IsSoundSize, IsWithin};
-ghost use Rattle.sign_font.specs.Text.{HasWidth, IsFrontOf, IsTextFault, width_numbered};
+ghost use Rattle.sign_font.specs.Text.{width_numbered};
 
 use crate::cell::{Cell, Glyph};
 use crate::glyphs::Glyphs;
 use crate::parts::FontPart;
-use crate::text::{TextFault, TextFront, TextSpace};
-use multi_token::Source;
+use multi_token::{Advances, Source};
 use std::alloc::{AllocError, Global};
 use std::marker::Model;
 
@@ -34,17 +34,21 @@ pub struct FontInfo {
 pub(crate) struct Font {
     info: FontInfo,
     glyphs: Glyphs,
+    /// By octet, what it takes of a line in a run of all characters.
+    characters: Advances,
+    /// The same in a word, which a space ends.
+    words: Advances,
 }
 
 impl Model for Font {
     ghost use Rattle.sign_font.specs.Sign.{FontData};
-    ghost use Rattle.sign_font.specs.Kept.{font_kept, IsFontKept};
+    ghost use Rattle.sign_font.specs.Kept.{font_kept, IsFontKeptWith};
 
     ghost Value = { FontData };
 
     ghost view = { λ f. font_kept f.info f.glyphs };
 
-    ghost invariant = { λ f. IsFontKept f.info f.glyphs };
+    ghost invariant = { λ f. IsFontKeptWith f.info f.glyphs f.characters f.words };
 }
 
 impl Font {
@@ -64,10 +68,23 @@ impl Font {
         for cell in part.cells {
             glyphs.push(Glyph::new(alloc, cell, info.height)?)?;
         }
+        let glyphs = Glyphs::new(glyphs);
+        let characters = Advances::new(glyphs.advances(false));
+        let words = Advances::new(glyphs.advances(true));
         Ok(Font {
             info,
-            glyphs: Glyphs::new(glyphs),
+            glyphs,
+            characters,
+            words,
         })
+    }
+
+    /// By octet, what it takes of a line: the width of its cell, or more than any line has for an octet that ends every run, and
+    /// for one without a cell.
+    pub(crate) fn advances(&self, words: bool) -> &Advances
+        ensures { AreAdvances (width_numbered self.now) words result.now }
+    {
+        if words { &self.words } else { &self.characters }
     }
 
     /// The font's number.
@@ -95,11 +112,11 @@ impl Font {
         }
     }
 
-    /// The cell of any number, by halves. Each cell that is compared with it takes one step.
+    /// The cell of any number, by halves. Each cell that is compared with it takes one step, and so does the look where there is none.
     pub(crate) fn search(&self, source: &mut Source<'_>, number: u16) -> Option<Cell<'_>>
         ensures cell { result ≡ option_map (sized self.now) (cell_numbered self.now number) }
         ensures size { IfSome result IsSoundSize }
-        ensures steps { RisesBetween source.old source.new (min 1 (length self.now.cells)) 8 }
+        ensures steps { RisesBetween source.old source.new 1 8 }
     {
         match self.glyphs.search(source, number) {
             Some(glyph) => Some(Cell::new(glyph)),
@@ -114,58 +131,5 @@ impl Font {
     {
         let width = self.glyphs.width(octet);
         if width == 0 { None } else { Some(width) }
-    }
-
-    /// The width of a text with this gap before each of its characters, if it has one within the room.
-    pub(crate) fn text_width(&self, text: &[u8], gap: u8, room: u64) -> Result<u64, TextFault>
-        ensures width { IfOk result (λ width. HasWidth (width_numbered self.now) gap text.now width × (width ≤ room)) }
-        ensures fault { IfErr result (IsTextFault (width_numbered self.now) gap room text.now) }
-    {
-        let mut left = room;
-        let mut at = 0;
-        while at < text.len() {
-            let Some(width) = self.cell_width(text[at]) else {
-                return Err(TextFault::Undefined(at));
-            };
-            let advance = u64::from(gap) + u64::from(width);
-            if advance > left {
-                return Err(TextFault::TooWide(at));
-            }
-            left -= advance;
-            at += 1;
-        }
-        Ok(room - left)
-    }
-
-    /// The front of a text with this gap before each of its characters, within the room.
-    pub(crate) fn text_front(&self, text: &[u8], gap: u8, room: u64) -> TextFront
-        ensures front { IsFrontOf (width_numbered self.now) gap room text.now result }
-    {
-        let mut front = TextFront {
-            len: 0,
-            width: 0,
-            space: None,
-        };
-        while front.len < text.len() {
-            let octet = text[front.len];
-            let Some(width) = self.cell_width(octet) else {
-                return front;
-            };
-            let wide = u64::from(gap) + u64::from(width);
-            if wide > room - front.width {
-                return front;
-            }
-            let through = front.width + wide;
-            if octet == b' ' {
-                front.space = Some(TextSpace {
-                    at: front.len,
-                    before: front.width,
-                    through,
-                });
-            }
-            front.width = through;
-            front.len += 1;
-        }
-        front
     }
 }

@@ -3,9 +3,9 @@
 //! A sign is made from [`SignParts`], the numbers of a file that somebody wrote by hand. If they are outside a limit,
 //! [`Sign::new`] refuses them with the first [`SignFault`]. An accepted [`Sign`] is exactly what was written.
 //!
-//! Only [`Sign::font`], [`Sign::cell`], [`Sign::cell_width`], [`Sign::text_width`] and [`Sign::text_front`] look up its fonts
-//! and their cells. Each look counts as one step: one for a font, and for a cell of a number up to 255, whether they are there or
-//! not, and at most 8 for a cell of a number above 255, which takes none in a font that isn't there or has no cell.
+//! Only [`Sign::font`], [`Sign::advances`], [`Sign::cell`] and [`Sign::cell_width`] look up its fonts and their cells. Each look
+//! counts as one step: one for a font, and for a cell of a number up to 255, whether they are there or not, and one to eight for a
+//! cell of a number above 255. What the table of [`Sign::advances`] says is read by a source alone, which counts those looks.
 #![tactic(auto)]
 
 mod bits;
@@ -18,7 +18,6 @@ mod limits;
 mod parts;
 mod sample;
 mod sign;
-mod text;
 
 pub use cell::Cell;
 pub use fault::{DefaultFault, SignFault};
@@ -26,4 +25,3 @@ pub use font::FontInfo;
 pub use parts::{CellPart, Defaults, FontPart, LineFill, SignParts};
 pub use sample::sample_sign;
 pub use sign::Sign;
-pub use text::{TextFault, TextFront, TextSpace};

@@ -4,27 +4,27 @@ ghost use Rattle.std.specs.Prelude.{◌≡◌, ℕ, ◌+◌, ◌<◌, ◌≤◌,
 ghost use Rattle.std.specs.Option.{option_copied};
 ghost use Rattle.multi_token.specs.Counted.{charged, RisesBetween};
 ghost use Rattle.sign_font.specs.Sign.{sign_of, font_of, font_numbered, info_of, cell_in, tallest};
+ghost use Rattle.sign_font.specs.Advance.{AreAdvances};
 ghost use Rattle.sign_font.specs.Defaults.{default_fault, under};
 ghost use Rattle.sign_font.specs.Limits.{first_fault};
 ghost use Rattle.sign_font.specs.Sound.{IsSound, IsSoundFont, IsSoundSize, IsWithin};
-ghost use Rattle.sign_font.specs.Text.{HasWidth, IsFrontOf, IsTextFault, place_of, width_in};
+ghost use Rattle.sign_font.specs.Text.{width_in};
 
 use crate::cell::Cell;
 use crate::fault::{DefaultFault, SignFault};
 use crate::font::{Font, FontInfo};
 use crate::fonts::Fonts;
+use crate::glyphs::count_miss;
 use crate::limits::{are_known, first_fault};
 use crate::parts::{Defaults, FontPart, LineFill, SignParts};
-use crate::text::{TextFault, TextFront};
-use multi_token::Source;
+use multi_token::{Advances, Source};
 use std::alloc::{AllocError, Global};
 use std::marker::Model;
 
 /// A sign within its limits, with its fonts (own).
 ///
-/// Only `font`, `cell`, `cell_width`, `text_width` and `text_front` look up its fonts and their cells, and each look counts as
-/// one step. `cell` and `cell_width` take up to 8 looks for a number above 255, and none in a font that isn't there or has no
-/// cell. All other calls take no step.
+/// Only `font`, `advances`, `cell` and `cell_width` look up its fonts and their cells, and each look counts as one step. `cell` and
+/// `cell_width` take one to eight for a number above 255. All other calls take no step.
 #[derive(Drop)]
 pub struct Sign {
     width: u16,
@@ -217,19 +217,18 @@ impl Sign {
     /// The cell of a number in the font of a number, or `None` if the sign lacks either.
     ///
     /// A number up to 255 takes one step, found or not. A wider number takes one step for each of the font's cells that is
-    /// compared with it: at most 8, and at least one if the font has a cell, found or not.
+    /// compared with it, at most 8, and one where there is none.
     pub fn cell(&self, source: &mut Source<'_>, font: u8, number: u16) -> Option<Cell<'_>>
         ensures cell { result ≡ cell_in self.now font number }
         ensures size { IfSome result IsSoundSize }
         ensures step { number ≤ 255 → source.new ≡ charged source.old 1 }
-        ensures steps { RisesBetween source.old source.new 0 8 }
-        ensures probed { IfSome (font_numbered self.now font) (λ f. 0 < length f.cells → RisesBetween source.old source.new 1 8) }
+        ensures steps { RisesBetween source.old source.new 1 8 }
         ensures sound { IsSound self.now }
     {
         if number < 256 {
             self.probe(source, font)?.cell(number as u8)
         } else {
-            self.find_font(font)?.search(source, number)
+            self.search(source, font, number)
         }
     }
 
@@ -239,95 +238,46 @@ impl Sign {
         ensures width { result ≡ option_map (λ cell. cell.width) (cell_in self.now font number) }
         ensures size { IfSome result (IsWithin 1 64) }
         ensures step { number ≤ 255 → source.new ≡ charged source.old 1 }
-        ensures steps { RisesBetween source.old source.new 0 8 }
-        ensures probed { IfSome (font_numbered self.now font) (λ f. 0 < length f.cells → RisesBetween source.old source.new 1 8) }
+        ensures steps { RisesBetween source.old source.new 1 8 }
         ensures sound { IsSound self.now }
     {
         if number < 256 {
             self.probe(source, font)?.cell_width(number as u8)
         } else {
-            let cell = self.find_font(font)?.search(source, number)?;
-            Some(cell.width())
+            self.search(source, font, number).map(|cell| cell.width())
         }
     }
 
-    /// The width in pixels of a text, with this gap before each of its characters, by the cells of its octets in the font of a
-    /// number. The fault tells the first octet that has no cell, or with which the text is wider than the room.
+    /// By octet, what it takes of a line in the font of a number, or `None` if the sign has no such font: the width of its cell in
+    /// pixels, 1 to 64. A bracket, an octet without a cell and, where `words` is set, a space take more than any line has, so that
+    /// they end a run. Either way this takes one step.
     ///
-    /// Each cell that is looked up takes one step. None is looked up behind a fault.
-    pub fn text_width(
-        &self,
-        source: &mut Source<'_>,
-        font: u8,
-        text: &[u8],
-        gap: u8,
-        room: u64,
-    ) -> Result<u64, TextFault>
-        ensures width { IfOk result (λ width. HasWidth (width_in self.now font) gap text.now width × (width ≤ room)) }
-        ensures fault { IfErr result (IsTextFault (width_in self.now font) gap room text.now) }
-        ensures steps { OnOk result (source.new ≡ charged source.old (length text.now)) }
-        ensures fault_steps { IfErr result (λ fault. source.new ≡ charged source.old (place_of fault + 1)) }
+    /// Only [`Source::read_run`] can read the table, and counts each look.
+    pub fn advances(&self, source: &mut Source<'_>, font: u8, words: bool) -> Option<&Advances>
+        ensures table { IfSome result (λ table. AreAdvances (width_in self.now font) words table.now) }
+        ensures none { IfNone result ((octet : ℕ) → width_in self.now font octet ≡ None) }
+        ensures step { source.new ≡ charged source.old 1 }
         ensures sound { IsSound self.now }
     {
-        match self.width_of(font, text, gap, room) {
-            Ok(width) => {
-                source.charge(text.len() as u64);
-                Ok(width)
-            }
-            Err(fault) => {
-                source.charge(fault.at() as u64 + 1);
-                Err(fault)
-            }
+        match self.probe(source, font) {
+            Some(font) => Some(font.advances(words)),
+            None => None,
         }
     }
 
-    /// The width of a text, for no step: whoever calls this counts.
-    fn width_of(&self, font: u8, text: &[u8], gap: u8, room: u64) -> Result<u64, TextFault>
-        ensures width { IfOk result (λ width. HasWidth (width_in self.now font) gap text.now width × (width ≤ room)) }
-        ensures fault { IfErr result (IsTextFault (width_in self.now font) gap room text.now) }
+    /// The cell of any number, by halves. A look at a font that isn't there takes one step.
+    fn search(&self, source: &mut Source<'_>, font: u8, number: u16) -> Option<Cell<'_>>
+        ensures cell { result ≡ cell_in self.now font number }
+        ensures size { IfSome result IsSoundSize }
+        ensures steps { RisesBetween source.old source.new 1 8 }
         ensures sound { IsSound self.now }
     {
         match self.find_font(font) {
-            Some(font) => font.text_width(text, gap, room),
-            None if text.is_empty() => Ok(0),
-            None => Err(TextFault::Undefined(0)),
-        }
-    }
-
-    /// The front of a text, with this gap before each of its characters, by the cells of its octets in the font of a number: its
-    /// octets up to the first that has no cell, or with which the text is wider than the room. It is empty if the sign has no
-    /// such font.
-    ///
-    /// Each cell that is looked up takes one step. None is looked up behind the octet that ends the front.
-    pub fn text_front(
-        &self,
-        source: &mut Source<'_>,
-        font: u8,
-        text: &[u8],
-        gap: u8,
-        room: u64,
-    ) -> TextFront
-        ensures front { IsFrontOf (width_in self.now font) gap room text.now result }
-        ensures steps { source.new ≡ charged source.old (min (result.len + 1) (length text.now)) }
-        ensures sound { IsSound self.now }
-    {
-        let front = self.front_of(font, text, gap, room);
-        source.charge(front.len as u64 + u64::from(front.len < text.len()));
-        front
-    }
-
-    /// The front of a text, for no step: whoever calls this counts.
-    fn front_of(&self, font: u8, text: &[u8], gap: u8, room: u64) -> TextFront
-        ensures front { IsFrontOf (width_in self.now font) gap room text.now result }
-        ensures sound { IsSound self.now }
-    {
-        match self.find_font(font) {
-            Some(font) => font.text_front(text, gap, room),
-            None => TextFront {
-                len: 0,
-                width: 0,
-                space: None,
-            },
+            Some(font) => font.search(source, number),
+            None => {
+                count_miss(source);
+                None
+            }
         }
     }
 

@@ -1,5 +1,5 @@
 use crate::tests::so;
-use multi_tag::{FontPick, Tag, TagFault, read_tag};
+use multi_tag::{FontPick, Tag, TagFault, read_ahead, read_closed, read_tag};
 use multi_token::{Kind, Source, next_token};
 
 /// What is read of a string that is one tag, and the steps of reading it; `None` where it is no tag.
@@ -239,4 +239,26 @@ fn a_long_body_is_no_more_steps_than_its_octets(rt: HostRuntime) {
 fn faults_have_their_numbers(rt: HostRuntime) {
     so(&rt, TagFault::Unsupported.code() == 3, "unsupported");
     so(&rt, TagFault::Value.code() == 4, "a wrong value");
+}
+
+#[test]
+fn a_tag_is_read_from_the_octets_ahead(rt: HostRuntime) {
+    // a step for each octet behind the bracket, and no more than 26
+    let rows: [(&[u8], Option<(Tag, usize)>, u64); 6] = [
+        (b"[np]A", Some((Tag::NewPage, 4)), 4),
+        (b"[fo1,1a2B]", Some((font(1, Some(6699)), 10)), 9),
+        (b"[tr1,1,12,7]AAAAAAAAAAAAAAAAAAAA", Some((rect(1, 1, 12, 7), 12)), 26),
+        (b"[nl256]A", None, 7),
+        (b"[np", None, 2),
+        (b"[[", None, 1),
+    ];
+    for (octets, expected, steps) in rows {
+        let mut source = Source::new(octets);
+        so(&rt, source.read(0) == Some(b'['), "the bracket");
+        let found = read_ahead(&mut source, 0);
+        assert!(rt; found == expected, "at {octets:?}");
+        assert!(rt; source.steps() == steps.saturating_add(1), "at {octets:?}");
+    }
+    let closed = read_closed(b"nl2]A") == Some((Tag::NewLine(Some(2)), 4));
+    so(&rt, closed && read_closed(b"nl2").is_none(), "behind a bracket");
 }

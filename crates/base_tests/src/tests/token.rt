@@ -1,5 +1,7 @@
 use crate::tests::so;
-use multi_token::{Bracketed, Kind, Source, Token, TokenFault, next_token, read_bracket};
+use multi_token::{
+    Advances, Bracketed, Kind, Run, Source, Token, TokenFault, next_token, read_bracket,
+};
 
 /// The tokens of a string up to the end or a fault, as far as a table of four holds them, and the steps.
 fn tokens(octets: &[u8]) -> ([Option<Token>; 4], Result<usize, TokenFault>, u64) {
@@ -23,7 +25,7 @@ fn tokens(octets: &[u8]) -> ([Option<Token>; 4], Result<usize, TokenFault>, u64)
 }
 
 /// What begins with the bracket at the front, and the steps after that octet; `None` where there is no bracket.
-fn behind_the_bracket(octets: &[u8]) -> Option<(Result<Bracketed<'_>, TokenFault>, u64)> {
+fn behind_the_bracket(octets: &[u8]) -> Option<(Result<Bracketed, TokenFault>, u64)> {
     let mut source = Source::new(octets);
     let first = source.read(0)?;
     if first != b'[' && first != b']' {
@@ -88,11 +90,11 @@ fn a_broken_bracket_is_a_fault_at_its_octet(rt: HostRuntime) {
 
 #[test]
 fn what_begins_with_a_bracket_goes_on_behind_it(rt: HostRuntime) {
-    let rows: [(&[u8], Bracketed<'_>, u64); 4] = [
+    let rows: [(&[u8], Bracketed, u64); 4] = [
         (b"[[x", Bracketed::Doubled, 1),
         (b"]]", Bracketed::Doubled, 1),
-        (b"[np]A", Bracketed::Tag(b"np"), 3),
-        (b"[tr1,1,0,0]", Bracketed::Tag(b"tr1,1,0,0"), 10),
+        (b"[np]A", Bracketed::Tag(2), 3),
+        (b"[tr1,1,0,0]", Bracketed::Tag(9), 10),
     ];
     for (octets, spelled, steps) in rows {
         let found = behind_the_bracket(octets);
@@ -109,21 +111,46 @@ fn what_begins_with_a_bracket_goes_on_behind_it(rt: HostRuntime) {
 }
 
 #[test]
-fn plain_octets_are_read_up_to_a_bracket_or_a_number_of_them(rt: HostRuntime) {
-    let rows: [(usize, usize, &[u8], Option<u8>, u64); 8] = [
-        (0, usize::MAX, b"AB", Some(b'['), 3),
-        (1, usize::MAX, b"B", Some(b'['), 2),
-        (2, usize::MAX, b"", Some(b'['), 1),
-        (3, usize::MAX, b"np", Some(b']'), 3),
-        (3, 2, b"np", None, 2),
-        (3, 1, b"n", None, 1),
-        (6, 9, b"C", None, 2),
-        (7, 0, b"", None, 0),
+fn a_run_ends_at_its_room_or_at_an_octet_that_takes_more(rt: HostRuntime) {
+    // an A takes 2 and a B 3
+    let mut of = [0x8000; 256];
+    of[65] = 2;
+    of[66] = 3;
+    let table = Advances::new(of);
+    let rows: [(usize, u32, u32, u32, Run, u64); 7] = [
+        (0, 1, 0, 7, run(2, 7, Some(b'[')), 6),
+        (0, 1, 0, 6, run(1, 3, Some(b'B')), 4),
+        (0, 0, 0, 1, run(0, 0, Some(b'A')), 2),
+        (0, 1, 4, 7, run(1, 7, Some(b'B')), 4),
+        (2, 0, 0, 9, run(0, 0, Some(b'[')), 2),
+        (3, 0, 0, 9, run(1, 2, None), 3),
+        (4, 0, 5, 9, run(0, 5, None), 1),
     ];
-    for (from, most, octets, ending, steps) in rows {
+    for (from, gap, width, room, expected, steps) in rows {
+        let mut source = Source::new(b"AB[A");
+        let found = source.read_run(from, &table, gap, width, room);
+        assert!(rt; found == expected, "from {from}");
+        assert!(rt; source.steps() == steps, "from {from}");
+    }
+}
+
+fn run(len: usize, width: u32, next: Option<u8>) -> Run {
+    Run { len, width, next }
+}
+
+#[test]
+fn octets_ahead_are_lent_for_a_step_each(rt: HostRuntime) {
+    let rows: [(usize, usize, &[u8], u64); 5] = [
+        (0, 2, b"AB", 2),
+        (1, 26, b"B[np]C", 6),
+        (3, 2, b"np", 2),
+        (6, 1, b"C", 1),
+        (7, 26, b"", 0),
+    ];
+    for (from, most, octets, steps) in rows {
         let mut source = Source::new(b"AB[np]C");
-        let found = source.read_plain(from, most);
-        assert!(rt; found == (octets, ending), "from {from}");
+        let same = source.ahead(from, most) == octets;
+        so(&rt, same, "the octets");
         assert!(rt; source.steps() == steps, "from {from}");
     }
 }

@@ -18,8 +18,10 @@ struct Walk {
     at: usize,
     /// The number of the font in force.
     font: u8,
-    /// The steps of reading the bodies of tags once more.
-    again: u64,
+    /// The looks of runs beside those of their octets: each looks up its font, and the bracket that ends it.
+    runs: u64,
+    /// Whether the last item is an octet that stands for itself.
+    in_run: bool,
 }
 
 impl Walk {
@@ -28,7 +30,8 @@ impl Walk {
         Walk {
             at: 0,
             font: sign.default_font().number,
-            again: 0,
+            runs: 0,
+            in_run: false,
         }
     }
 
@@ -39,15 +42,14 @@ impl Walk {
             return None;
         };
         self.at = at.saturating_add(token.len);
+        let in_run = token.len == 1;
+        if in_run != self.in_run {
+            self.runs = self.runs.saturating_add(1);
+            self.in_run = in_run;
+        }
         match token.kind {
             Kind::Char(octet) => Some(Tag::HexChar(u16::from(octet))),
-            Kind::Tag => {
-                let before = source.steps();
-                let tag = read_tag(source, &token).ok();
-                let body = source.steps().saturating_sub(before);
-                self.again = self.again.saturating_add(body);
-                tag
-            }
+            Kind::Tag => read_tag(source, &token).ok(),
         }
     }
 
@@ -104,8 +106,8 @@ impl Walk {
     }
 }
 
-/// The steps of judging a string whose lines aren't filled: each octet is read once, the end too, and each cell and font is looked
-/// up once.
+/// The steps of judging a string whose lines aren't filled: each octet is read once, the end too, the body of each tag twice, and each
+/// cell and font is looked up once; then the looks of the runs.
 fn judged(sign: &Sign, octets: &[u8]) -> u64 {
     let mut source = Source::new(octets);
     let mut walk = Walk::new(sign);
@@ -115,7 +117,7 @@ fn judged(sign: &Sign, octets: &[u8]) -> u64 {
         };
         walk.look(sign, &mut source, item);
     }
-    source.steps().saturating_sub(walk.again)
+    source.steps().saturating_add(walk.runs)
 }
 
 /// The steps of finding this page by the clock: the items are read up to its end.
@@ -149,7 +151,8 @@ struct Row {
     octets: &'static [u8],
     clock: u64,
     page: u8,
-    /// The octets that have no room on their line, and are looked up once more where the next one begins.
+    /// What spaces and octets without room take more than others: they end a run, and are looked at once more; and a run that
+    /// begins behind them looks up its font.
     again: u64,
     /// The spaces of the page that are dropped: to draw them no cell is looked up.
     dropped: u64,
@@ -252,13 +255,14 @@ fn each_step_is_a_read_or_a_look(rt: HostRuntime) -> Result<(), Fail> {
     }
 
     let rows = [
-        filled(b"AA AA", 0, 0, 1, 1),
-        filled(b"A A A", 0, 0, 1, 1),
-        filled(b" AAA", 0, 0, 1, 1),
+        filled(b"AA AA", 0, 0, 4, 1),
+        filled(b"A A A", 0, 0, 4, 1),
+        filled(b" AAA", 0, 0, 2, 1),
         filled(b"AA[hc20]AA", 0, 0, 0, 1),
-        filled(b"[jl2]A A[jl4]AA", 0, 0, 0, 1),
-        filled(b"[jp2]AAA [jp4]A", 0, 0, 1, 1),
-        filled(b"[tr1,1,3,0]A A[np]AA AA", 30, 1, 2, 1),
+        filled(b"[jl2]A A[jl4]AA", 0, 0, 2, 1),
+        // behind its dropped space no run begins, so that the bracket isn't looked at
+        filled(b"[jp2]AAA [jp4]A", 0, 0, 0, 1),
+        filled(b"[tr1,1,3,0]A A[np]AA AA", 30, 1, 6, 1),
         plain(b"AAA[nl] A", 0, 0),
     ];
     parts.line_fill = LineFill::Words;

@@ -1,8 +1,7 @@
 use crate::tests::so;
-use multi_token::Source;
+use multi_token::{Run, Source};
 use sign_font::{
-    CellPart, DefaultFault, Defaults, FontInfo, FontPart, LineFill, Sign, SignParts, TextFault,
-    TextFront, TextSpace, sample_sign,
+    CellPart, DefaultFault, Defaults, FontInfo, FontPart, LineFill, Sign, SignParts, sample_sign,
 };
 use std::alloc::{AllocError, Global};
 use std::test::Fail;
@@ -165,16 +164,14 @@ fn only_making_a_sign_takes_memory(rt: HostRuntime) {
         & sign.cell(&mut source, 2, 65).is_some_and(|cell| cell.row(0) == 6 << 60
             && cell.bit(1, 0)
             && cell.width() == 4);
-    // of the five cells the third is looked at, and then the fifth, above which there is none
-    let wide = look(&sign, 1, 65535) == (None, 2);
+    // of the five cells the third is looked at, and then the fifth, above which there is none; a font that isn't there is looked for
+    let wide = look(&sign, 1, 65535) == (None, 2) && look(&sign, 9, 65535) == (None, 1);
     // an A of 3 columns and an I of one, each with a gap of one before it
-    let whole = sign.text_width(&mut source, 1, b"AI", 1, 9) == Ok(6);
-    let cut = sign.text_front(&mut source, 1, b"AIA", 1, 6) == front(2, 6, None);
-    so(
-        &rt,
-        large & wide & whole & cut,
-        "large & wide & whole & cut",
-    );
+    let mut text = Source::new(b"AIA");
+    let whole = sign
+        .advances(&mut text, 1, false)
+        .is_some_and(|table| text.read_run(0, table, 1, 0, 6) == run(2, 6, Some(65)));
+    so(&rt, large & wide & whole, "large & wide & whole");
     let own = sign.defaults();
     so(
         &rt,
@@ -267,67 +264,36 @@ fn the_cells_of_a_are_drawn_row_by_row(rt: HostRuntime) -> Result<(), Fail> {
 }
 
 #[test]
-fn a_text_is_as_wide_as_its_cells_and_gaps(rt: HostRuntime) -> Result<(), Fail> {
-    let sign = Sign::new(rt.alloc(), with_widths(rt.alloc())?)?;
-    // in font 2 an A is 2 columns wide and a B is 3; there is no octet 0, and no font 9
-    let rows: [(u8, &[u8], u8, u64, Result<u64, TextFault>, u64); 9] = [
-        (2, b"", 5, 0, Ok(0), 0),
-        (2, b"AB", 1, 7, Ok(7), 2),
-        (2, b"AB", 1, 900, Ok(7), 2),
-        (2, b"AB", 1, 6, Err(TextFault::TooWide(1)), 2),
-        (2, b"AB", 1, 2, Err(TextFault::TooWide(0)), 1),
-        (2, b"A\0B", 0, 9, Err(TextFault::Undefined(1)), 2),
-        (2, b"AA\0", 0, 3, Err(TextFault::TooWide(1)), 2),
-        (9, b"", 0, 0, Ok(0), 0),
-        (9, b"AB", 0, 9, Err(TextFault::Undefined(0)), 1),
-    ];
-    for (font, text, gap, room, width, steps) in rows {
-        let mut source = Source::new(b"");
-        let found = sign.text_width(&mut source, font, text, gap, room);
-        assert!(rt; found == width, "of {text:?}");
-        assert!(rt; source.steps() == steps, "over {text:?}");
-    }
-    Ok(())
-}
-
-#[test]
-fn the_front_of_a_text_ends_where_it_no_longer_fits(rt: HostRuntime) -> Result<(), Fail> {
+fn a_run_is_as_wide_as_its_cells_and_gaps(rt: HostRuntime) -> Result<(), Fail> {
     let sign = Sign::new(rt.alloc(), with_widths(rt.alloc())?)?;
     // in font 2 an A is 2 columns wide, a B is 3 and a space is 33; there is no octet 0, and no font 9
-    let first = TextSpace {
-        at: 1,
-        before: 3,
-        through: 37,
-    };
-    let second = TextSpace {
-        at: 3,
-        before: 41,
-        through: 75,
-    };
-    let rows: [(u8, &[u8], u8, u64, TextFront, u64); 11] = [
-        (2, b"", 5, 0, front(0, 0, None), 0),
-        (2, b"AB", 1, 7, front(2, 7, None), 2),
-        (2, b"AB", 1, 6, front(1, 3, None), 2),
-        (2, b"AB", 1, 2, front(0, 0, None), 1),
-        (2, b"A\0B", 0, 9, front(1, 2, None), 2),
-        (2, b"A B A", 1, 900, front(5, 78, Some(second)), 5),
-        (2, b"A B A", 1, 77, front(4, 75, Some(second)), 5),
-        (2, b"A B A", 1, 74, front(3, 41, Some(first)), 4),
-        (2, b"A B A", 1, 36, front(1, 3, None), 2),
-        (9, b"", 0, 0, front(0, 0, None), 0),
-        (9, b"AB", 0, 9, front(0, 0, None), 1),
+    let rows: [(bool, &[u8], u32, u32, Run, u64); 8] = [
+        (false, b"AB", 1, 7, run(2, 7, None), 6),
+        (false, b"AB", 1, 6, run(1, 3, Some(b'B')), 5),
+        (false, b"AB", 1, 2, run(0, 0, Some(b'A')), 3),
+        (false, b"A\0B", 0, 9, run(1, 2, Some(0)), 5),
+        (false, b"A[B", 0, 9, run(1, 2, Some(b'[')), 5),
+        (false, b"A B A", 1, 900, run(5, 78, None), 12),
+        (true, b"A B A", 1, 900, run(1, 3, Some(b' ')), 5),
+        (true, b"BA]", 1, 900, run(2, 7, Some(b']')), 7),
     ];
-    for (font, text, gap, room, expected, steps) in rows {
-        let mut source = Source::new(b"");
-        let found = sign.text_front(&mut source, font, text, gap, room);
+    for (words, text, gap, room, expected, steps) in rows {
+        let mut source = Source::new(text);
+        let Some(table) = sign.advances(&mut source, 2, words) else {
+            panic!(rt; "there is a font 2");
+        };
+        let found = source.read_run(0, table, gap, 0, room);
         assert!(rt; found == expected, "of {text:?}");
         assert!(rt; source.steps() == steps, "over {text:?}");
     }
+    let mut source = Source::new(b"AB");
+    let none = sign.advances(&mut source, 9, false).is_none();
+    so(&rt, none && source.steps() == 1, "there is no font 9");
     Ok(())
 }
 
-fn front(len: usize, width: u64, space: Option<TextSpace>) -> TextFront {
-    TextFront { len, width, space }
+fn run(len: usize, width: u32, next: Option<u8>) -> Run {
+    Run { len, width, next }
 }
 
 #[test]

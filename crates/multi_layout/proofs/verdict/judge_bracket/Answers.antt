@@ -8,7 +8,7 @@ use Rattle.multi_layout.specs.Codes.{code_of}
 use Rattle.multi_layout.specs.Meaning.{meaning}
 use Rattle.multi_layout.specs.Offence.{offence}
 use Rattle.multi_layout.specs.State.{IsUnfilledOf}
-use Rattle.multi_layout.proofs.AtLemmas.{bracket_behind, bracket_offends, broken_refused}
+use Rattle.multi_layout.proofs.AtLemmas.{bracket_behind, bracket_offends, bracket_stands, broken_refused}
 use Rattle.multi_layout.proofs.ReadLemmas.{ready_here}
 use Rattle.multi_layout.proofs.verdict.judge_bracket.Goals as goal
 
@@ -17,15 +17,20 @@ returns-in_default-clause-refused c =
     broken_refused c.args.sign.now c.args.source.now.octets c.args.at c.args.first (IsUnfilledOf c.args.sign.now c.args.state.now) c.args.source.now c.requires.at c.requires.short
     c.read_bracket.new.source c.in_default.ensures.fault_steps c.in_default.ensures.none_stands
 
-pub judge_spelled-requires : goal.judge_spelled-requires
-judge_spelled-requires c =
+pub judge_spelled-requires-clause-ready : goal.judge_spelled-requires-clause-ready
+judge_spelled-requires-clause-ready c =
     ready_here c.args.sign.now c.args.source.now.octets c.args.at c.args.state.now c.requires.at.so_far c.requires.short
+
+pub judge_spelled-requires-clause-stands : goal.judge_spelled-requires-clause-stands
+judge_spelled-requires-clause-stands c =
+    bracket_stands c.args.sign.now c.args.source.now.octets c.args.at c.args.first (IsUnfilledOf c.args.sign.now c.args.state.now) c.args.source.now c.requires.at c.requires.short
+    c.in-Ok.spelled c.in-Ok.ensures.spelled c.read_bracket.new.source c.in-Ok.ensures.steps
 
 pub returns-clause-at : goal.returns-clause-at
 returns-clause-at c =
     let r = c.requires.at.so_far in
     let sign = c.args.sign.now in
-    let item = meaning (item_spelled c.args.first c.in-Ok.spelled) in
+    let item = meaning (item_spelled c.read_bracket.new.source.octets c.args.at c.args.first c.in-Ok.spelled) in
     let (fine, of) = c.in_default-judge_spelled.ensures.judged (map meaning r.items) r.is.state_is in
     bracket_behind sign c.args.source.now.octets c.args.at c.args.first (IsUnfilledOf sign c.args.state.now) c.args.source.now c.requires.at c.requires.short
     c.in-Ok.spelled c.in-Ok.ensures.spelled c.read_bracket.new.source c.in-Ok.ensures.steps c.judge_spelled.new.source c.judge_spelled.ensures.steps (IsUnfilledOf sign c.judge_spelled.new.state)
@@ -50,7 +55,7 @@ pub returns-in-Err-clause-refused : goal.returns-in-Err-clause-refused
 returns-in-Err-clause-refused c =
     let r = c.requires.at.so_far in
     let sign = c.args.sign.now in
-    let item = meaning (item_spelled c.args.first c.in-Ok.spelled) in
+    let item = meaning (item_spelled c.read_bracket.new.source.octets c.args.at c.args.first c.in-Ok.spelled) in
     let offends = c.in-Err.ensures.judged (map meaning r.items) r.is.state_is in
     bracket_offends sign c.args.source.now.octets c.args.at c.args.first (IsUnfilledOf sign c.args.state.now) c.args.source.now c.requires.at c.requires.short
     c.in-Ok.spelled c.in-Ok.ensures.spelled c.read_bracket.new.source c.in-Ok.ensures.steps c.judge_spelled.new.source c.judge_spelled.ensures.steps c.in-Err.error

@@ -11,8 +11,8 @@ use Rattle.multi_layout.proofs.words.filled_from.Goals as goal
 pub judge_octet-requires : goal.judge_octet-requires
 judge_octet-requires c = record { ready = filled_ready_here c.args.sign.now c.args.source.now.octets c.args.at c.args.kept.now c.requires.at.so_far c.requires.short }
 
-pub filled_text-requires-clause-behind : goal.filled_text-requires-clause-behind
-filled_text-requires-clause-behind c =
+pub filled_run-requires-clause-behind : goal.filled_run-requires-clause-behind
+filled_run-requires-clause-behind c =
     let r = c.requires.at.so_far in
     let sign = c.args.sign.now in
     let (fine, of) = c.in-Ok.ensures.judged (map meaning r.items) r.is.of in

@@ -24,7 +24,7 @@ returns-then-eq-2-clause-spelled c =
     let last : slice_get xs end ≡ Some 93 = sym ended.0 ∙ told c.read_plain-ending.result.1 93 (sym c.if-eq-2.ensures) in
     let size : end + 1 - c.args.at ≡ length body + 2 = omega arith in
     let k : length body + 1 ≡ length body + 2 - 1 = omega arith in
-    ((rw (← size) (tag_token xs c.args.at end c.requires.room c.requires.stands (omega (arith, c.if-len-eq0.false)) plain last), found.octets), steps ∙ ap (charged c.args.source.now) k)
+    (rw (← size) (tag_token xs c.args.at end c.requires.room c.requires.stands (omega (arith, c.if-len-eq0.false)) plain last), steps ∙ ap (charged c.args.source.now) k)
 
 pub returns-else-eq-clause-fault : goal.returns-else-eq-clause-fault
 returns-else-eq-clause-fault c =

@@ -1,4 +1,4 @@
-use Rattle.std.proofs.Common.{◌≡◌, ℕ, ◌+◌, ◌-◌, List, drop, length, Result, Ok, Err, refl}
+use Rattle.std.proofs.Common.{◌≡◌, ℕ, ◌+◌, ◌-◌, List, drop, Result, Ok, Err, refl}
 use Rattle.std.specs.Prelude.{IfOk, IsErr}
 use Rattle.multi_token.specs.Counted.{Counted, charged}
 use Rattle.multi_token.specs.Spelling.{Char, HasNoItem}
@@ -11,8 +11,8 @@ use Rattle.multi_token.proofs.token.read_bracket.Goals as goal
 
 item_stands : (octets : List ℕ) (at bracket : ℕ) (spelled : Bracketed) → IsBracketed octets at bracket spelled → ¬ (HasNoItem (drop at octets))
 item_stands octets at bracket bracketed.Doubled token none = none (Char bracket) (drop (at + 2) octets) token.begins
-item_stands octets at bracket (bracketed.Tag body) (token, is) none =
-    none (item_of octets (record { at = at; len = length body.now + 2; kind = kinds.Tag })) (drop (at + (length body.now + 2)) octets) token.begins
+item_stands octets at bracket (bracketed.Tag len) token none =
+    none (item_of octets (record { at = at; len = len + 2; kind = kinds.Tag })) (drop (at + (len + 2)) octets) token.begins
 
 refused : (octets : List ℕ) (at bracket : ℕ) (old new : Counted) (r : Result Bracketed TokenFault) → IfOk r (λ spelled. IsBracketed octets at bracket spelled × (new ≡ charged old (octets_of spelled - 1)))
     → HasNoItem (drop at octets) → IsErr r

@@ -32,8 +32,8 @@ loop-cell-preserved c =
           omega arith;
     }
 
-pub new-requires-2 : goal.new-requires-2
-new-requires-2 c =
+pub new-glyphs-requires : goal.new-glyphs-requires
+new-glyphs-requires c =
     let at = c.loop-cell in
     let part = c.args.part in
     let none : into_iter_items at.cell-iterator ≡ [] = nil_from_length _ (omega (arith, at.invariant.len, c.in-None.ensures.steps.0)) in

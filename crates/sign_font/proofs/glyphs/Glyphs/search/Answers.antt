@@ -1,4 +1,4 @@
-use Rattle.std.proofs.Common.{◌≡◌, ◌<◌, ◌≤◌, length, get_or, min, ◌+◌, ◌-◌, ◌*◌, ◌/◌, ◌^◌, arith, ap, sym, ◌∙◌}
+use Rattle.std.proofs.Common.{◌≡◌, ◌<◌, ◌≤◌, length, get_or, ◌+◌, ◌-◌, ◌*◌, ◌/◌, ◌^◌, arith, ap, sym, ◌∙◌}
 use Rattle.multi_token.specs.Counted.{charged}
 use Rattle.multi_token.proofs.StepLemmas.{charged-charged}
 use Rattle.sign_font.specs.Cell.{SizedCell}
@@ -25,7 +25,7 @@ returns-then-here-number-clause-cell c =
 pub returns-then-here-number-clause-steps : goal.returns-then-here-number-clause-steps
 returns-then-here-number-clause-steps c =
     let at = c.loop-probe in
-    let one : min 1 (length c.args.self.now) ≤ at._probe + 1 = omega arith in
+    let one : 1 ≤ at._probe + 1 = omega arith in
     let most : at._probe + 1 ≤ 8 = omega (arith, c.loop-probe-test.true) in
     (at._probe + 1, one, most, c.charge.ensures ∙ ap (λ s. charged s 1) at.invariant.steps ∙ charged-charged c.args.source.now at._probe 1)
 

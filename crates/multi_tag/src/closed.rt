@@ -1,0 +1,231 @@
+//! Tags in octets behind an opening bracket, in one reading.
+
+ghost use Rattle.std.specs.Prelude.{◌≡◌, ◌≢◌, ◌≤◌, ℕ, List, ◌∷◌, IfSome, IfNone, Some, None};
+ghost use Rattle.std.specs.Str.{str_to_ascii_lowercase};
+ghost use Rattle.multi_tag.specs.declared.name.Name.TheVariants as names;
+ghost use Rattle.multi_tag.specs.Body.{table};
+ghost use Rattle.multi_tag.specs.Closed.{HasNoClosedTag, IsClosedTag};
+ghost use Rattle.multi_tag.specs.Form.{d, d?, h, nothing};
+ghost use Rattle.multi_tag.specs.Number.{IsDigit};
+ghost use Rattle.multi_tag.specs.Part.{HasNoPartBefore, IsPartBefore, times};
+
+use crate::name::{Name, after_letter, read_name};
+use crate::number::{in_range, read_numeral};
+use crate::rect::read_before_comma;
+use crate::tag::{FontPick, Tag};
+
+/// The tag whose body begins the octets, and the number of octets up to the one behind its closing bracket.
+#[inline(always)]
+pub fn read_closed(octets: &[u8]) -> Option<(Tag, usize)>
+    ensures some { IfSome result (λ (tag, len). IsClosedTag octets.now tag len) }
+    ensures none { IfNone result (HasNoClosedTag octets.now) }
+{
+    let (name, rest) = read_name(octets)?;
+    let (tag, behind) = read_rest(rest, name)?;
+    Some((tag, octets.len() - behind.len()))
+}
+
+/// What stands behind a name and before a bracket, and the octets behind the bracket.
+#[inline(always)]
+fn read_rest(octets: &[u8], name: Name) -> Option<(Tag, &[u8])>
+    ensures some { IfSome result (λ (tag, behind).
+        IsPartBefore 93 (table name).rest (str_to_ascii_lowercase octets.now) tag (str_to_ascii_lowercase behind.now)) }
+    ensures none { IfNone result (HasNoPartBefore 93 (table name).rest (str_to_ascii_lowercase octets.now)) }
+{
+    match name {
+        Name::NewPage => Some((Tag::NewPage, after_letter(octets, b']')?)),
+        Name::NewLine => {
+            let (value, behind) = read_optional(octets, 0, 255)?;
+            Some((Tag::NewLine(value), behind))
+        }
+        Name::LineJust => {
+            let (value, behind) = read_optional(octets, 2, 5)?;
+            Some((Tag::LineJust(value), behind))
+        }
+        Name::PageJust => {
+            let (value, behind) = read_optional(octets, 2, 4)?;
+            Some((Tag::PageJust(value), behind))
+        }
+        Name::Font => read_font(octets),
+        Name::CharSpacing => {
+            let (value, behind) = read_optional(octets, 0, 255)?;
+            Some((Tag::CharSpacing(value?), behind))
+        }
+        Name::CharSpacingEnd => Some((Tag::CharSpacingEnd, after_letter(octets, b']')?)),
+        Name::PageTime => {
+            let (on, off, behind) = read_times(octets, b'o')?;
+            Some((Tag::PageTime { on, off }, behind))
+        }
+        Name::Flash => read_flash(octets),
+        Name::FlashEnd => Some((Tag::FlashEnd, after_letter(octets, b']')?)),
+        Name::Fore => {
+            let (value, behind) = read_optional(octets, 0, 9)?;
+            Some((Tag::Fore(value), behind))
+        }
+        Name::Back => {
+            let (value, behind) = read_optional(octets, 0, 9)?;
+            Some((Tag::Back(value), behind))
+        }
+        Name::Rect => read_rect(octets),
+        Name::HexChar => {
+            let (number, behind) = read_hexadecimal(octets, 1)?;
+            Some((Tag::HexChar(number), behind))
+        }
+    }
+}
+
+/// A number from `low` to `high`, or none, before a bracket.
+#[inline(always)]
+fn read_optional(octets: &[u8], low: u8, high: u8) -> Option<(Option<u8>, &[u8])>
+    ensures some { IfSome result (λ (value, behind).
+        IsPartBefore 93 (d? low high) (str_to_ascii_lowercase octets.now) value (str_to_ascii_lowercase behind.now)) }
+    ensures none { IfNone result (HasNoPartBefore 93 (d? low high) (str_to_ascii_lowercase octets.now)) }
+{
+    let (value, rest) = read_numeral(octets, 10, 5);
+    let value = in_range(value, low, high)?;
+    Some((value, after_letter(rest, b']')?))
+}
+
+/// A hexadecimal number of one to four digits, from `low` to 65,535, before a bracket.
+#[inline(always)]
+fn read_hexadecimal(octets: &[u8], low: u16) -> Option<(u16, &[u8])>
+    ensures some { IfSome result (λ (value, behind).
+        IsPartBefore 93 (h low 65535) (str_to_ascii_lowercase octets.now) value (str_to_ascii_lowercase behind.now)) }
+    ensures none { IfNone result (HasNoPartBefore 93 (h low 65535) (str_to_ascii_lowercase octets.now)) }
+{
+    let (value, rest) = read_numeral(octets, 16, 4);
+    let value = value?;
+    let behind = after_letter(rest, b']')?;
+    if value < u32::from(low) {
+        return None;
+    }
+    Some((value as u16, behind))
+}
+
+/// A number before a bracket.
+#[inline(always)]
+fn read_coordinate(octets: &[u8]) -> Option<(u32, &[u8])>
+    ensures some { IfSome result (λ (value, behind).
+        IsPartBefore 93 (d 0 99999) (str_to_ascii_lowercase octets.now) value (str_to_ascii_lowercase behind.now)) }
+    ensures none { IfNone result (HasNoPartBefore 93 (d 0 99999) (str_to_ascii_lowercase octets.now)) }
+{
+    let (value, rest) = read_numeral(octets, 10, 5);
+    let value = value?;
+    Some((value, after_letter(rest, b']')?))
+}
+
+/// One time, or two times with this letter between them, before a bracket. The letter is given as a small one.
+#[inline(always)]
+fn read_times(octets: &[u8], letter: u8) -> Option<(Option<u8>, Option<u8>, &[u8])>
+    requires letter { ¬ (IsDigit 10 letter) }
+    requires other { letter ≢ 93 }
+    ensures some { IfSome result (λ (first, second, behind).
+        IsPartBefore 93 (times letter) (str_to_ascii_lowercase octets.now) (first, second) (str_to_ascii_lowercase behind.now)) }
+    ensures none { IfNone result (HasNoPartBefore 93 (times letter) (str_to_ascii_lowercase octets.now)) }
+{
+    let (value, rest) = read_numeral(octets, 10, 5);
+    let first = in_range(value, 0, 255)?;
+    let [stop, rest @ ..] = rest else {
+        return None;
+    };
+    let stop = stop.to_ascii_lowercase();
+    if stop == b']' {
+        return Some((first, None, rest));
+    }
+    if stop != letter {
+        return None;
+    }
+    let (second, behind) = read_optional(rest, 0, 255)?;
+    Some((first, second, behind))
+}
+
+/// The times of a flash before a bracket: it is on first if they begin with a 't', and off first if they begin with an 'o'.
+#[inline(never)]
+fn read_flash(octets: &[u8]) -> Option<(Tag, &[u8])>
+    ensures some { IfSome result (λ (tag, behind).
+        IsPartBefore 93 (table names.Flash).rest (str_to_ascii_lowercase octets.now) tag (str_to_ascii_lowercase behind.now)) }
+    ensures none { IfNone result (HasNoPartBefore 93 (table names.Flash).rest (str_to_ascii_lowercase octets.now)) }
+{
+    let [first, rest @ ..] = octets else {
+        return None;
+    };
+    match first.to_ascii_lowercase() {
+        b']' => {
+            let tag = Tag::Flash {
+                off_first: false,
+                on: None,
+                off: None,
+            };
+            Some((tag, rest))
+        }
+        b't' => {
+            let (on, off, behind) = read_times(rest, b'o')?;
+            let tag = Tag::Flash {
+                off_first: false,
+                on,
+                off,
+            };
+            Some((tag, behind))
+        }
+        b'o' => {
+            let (off, on, behind) = read_times(rest, b't')?;
+            let tag = Tag::Flash {
+                off_first: true,
+                on,
+                off,
+            };
+            Some((tag, behind))
+        }
+        _ => None,
+    }
+}
+
+/// A font, and its version after a comma, before a bracket.
+#[inline(never)]
+fn read_font(octets: &[u8]) -> Option<(Tag, &[u8])>
+    ensures some { IfSome result (λ (tag, behind).
+        IsPartBefore 93 (table names.Font).rest (str_to_ascii_lowercase octets.now) tag (str_to_ascii_lowercase behind.now)) }
+    ensures none { IfNone result (HasNoPartBefore 93 (table names.Font).rest (str_to_ascii_lowercase octets.now)) }
+{
+    let (value, rest) = read_numeral(octets, 10, 5);
+    let number = in_range(value, 1, 255)?;
+    let [stop, rest @ ..] = rest else {
+        return None;
+    };
+    if *stop == b']' {
+        let Some(number) = number else {
+            return Some((Tag::Font(None), rest));
+        };
+        let pick = FontPick {
+            number,
+            version: None,
+        };
+        return Some((Tag::Font(Some(pick)), rest));
+    }
+    if *stop != b',' {
+        return None;
+    }
+    let number = number?;
+    let (version, behind) = read_hexadecimal(rest, 0)?;
+    Some((
+        Tag::Font(Some(FontPick {
+            number,
+            version: Some(version),
+        })),
+        behind,
+    ))
+}
+
+/// Four numbers with commas between them, before a bracket.
+#[inline(never)]
+fn read_rect(octets: &[u8]) -> Option<(Tag, &[u8])>
+    ensures some { IfSome result (λ (tag, behind).
+        IsPartBefore 93 (table names.Rect).rest (str_to_ascii_lowercase octets.now) tag (str_to_ascii_lowercase behind.now)) }
+    ensures none { IfNone result (HasNoPartBefore 93 (table names.Rect).rest (str_to_ascii_lowercase octets.now)) }
+{
+    let (x, octets) = read_before_comma(octets)?;
+    let (y, octets) = read_before_comma(octets)?;
+    let (w, octets) = read_before_comma(octets)?;
+    let (h, behind) = read_coordinate(octets)?;
+    Some((Tag::Rect { x, y, w, h }, behind))
+}

@@ -1,0 +1,14 @@
+use Rattle.std.proofs.Common.{length, ◌-◌, ◌≡◌, ◌+◌, ◌^◌, ◌<◌, ◌≤◌, take}
+use Rattle.multi_token.specs.Run.{taken}
+use Rattle.multi_token.proofs.source.run_front.Given as goal
+
+abbrev pub invariant-loop-len : goal.invariant-loop-len
+invariant-loop-len l = record {
+  within : l.len ≤ length l.octets;
+  fits : l.width ≤ l.room;
+  small : l.gap + l.room < 2 ^ 31;
+  width : l.width ≡ l.before + taken l.table l.gap (take l.len l.octets);
+}
+
+abbrev pub decreases-loop-len : goal.decreases-loop-len
+decreases-loop-len l = length l.octets - l.len
