@@ -247,7 +247,11 @@ fn a_tag_is_read_from_the_octets_ahead(rt: HostRuntime) {
     let rows: [(&[u8], Option<(Tag, usize)>, u64); 6] = [
         (b"[np]A", Some((Tag::NewPage, 4)), 4),
         (b"[fo1,1a2B]", Some((font(1, Some(6699)), 10)), 9),
-        (b"[tr1,1,12,7]AAAAAAAAAAAAAAAAAAAA", Some((rect(1, 1, 12, 7), 12)), 26),
+        (
+            b"[tr1,1,12,7]AAAAAAAAAAAAAAAAAAAA",
+            Some((rect(1, 1, 12, 7), 12)),
+            26,
+        ),
         (b"[nl256]A", None, 7),
         (b"[np", None, 2),
         (b"[[", None, 1),
@@ -260,5 +264,9 @@ fn a_tag_is_read_from_the_octets_ahead(rt: HostRuntime) {
         assert!(rt; source.steps() == steps.saturating_add(1), "at {octets:?}");
     }
     let closed = read_closed(b"nl2]A") == Some((Tag::NewLine(Some(2)), 4));
-    so(&rt, closed && read_closed(b"nl2").is_none(), "behind a bracket");
+    so(
+        &rt,
+        closed && read_closed(b"nl2").is_none(),
+        "behind a bracket",
+    );
 }

@@ -168,9 +168,9 @@ fn only_making_a_sign_takes_memory(rt: HostRuntime) {
     let wide = look(&sign, 1, 65535) == (None, 2) && look(&sign, 9, 65535) == (None, 1);
     // an A of 3 columns and an I of one, each with a gap of one before it
     let mut text = Source::new(b"AIA");
-    let whole = sign
-        .advances(&mut text, 1, false)
-        .is_some_and(|table| text.read_run(0, table, 1, 0, 6) == run(2, 6, Some(65)));
+    let whole = sign.advances(&mut text, 1, false).is_some_and(|table| text.read_run(
+        0, table, 1, 0, 6,
+    ) == run(2, 6, Some(65)));
     so(&rt, large & wide & whole, "large & wide & whole");
     let own = sign.defaults();
     so(
