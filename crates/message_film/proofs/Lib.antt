@@ -1,3 +1,4 @@
 pub mod ReelLemmas
 pub mod MovingLemmas
 pub mod PeriodLemmas
+pub mod FlashLemmas

@@ -157,14 +157,17 @@ next side other sign text octets clock sided same =
     ∙ sym (more side sign text clock)
 
 -- a film that is too large so far is too large in the end
-pub large : (side other width height clock tenths : ℕ) (points : List (List ℕ)) → other ≡ side → length points ≡ 10 * clock → clock < tenths
-    → 64000000 < most_of_film other width height ((length points + 10) / 10) → 64000000 ≤ most_of_film side width height tenths
-large side other width height clock tenths points sided count less too_large =
-    let size = most_of_picture (side * width * (side * height)) in
-    let few : (length points + 10) / 10 ≤ tenths = omega (arith, count, less) in
-    let product : (length points + 10) / 10 * size ≤ tenths * size = mul-le-mul_right size few in
-    let same : 64000000 < most_of_film side width height ((length points + 10) / 10) = subst (λ s. 64000000 < most_of_film s width height ((length points + 10) / 10)) sided too_large in
-    omega (arith, same, product)
+pub large : (side : ℕ) (sign : SignData) (reel : ReelData) (clock tenths octets : ℕ) → reel.side ≡ side → reel.width ≡ sign.width → reel.height ≡ sign.height
+    → length reel.points ≡ 10 * (clock + 1) → clock < tenths → octets ≤ most_of_film reel.side reel.width reel.height (length reel.points / 10) → 64000000 < octets
+    → 64000000 ≤ most_of_film side sign.width sign.height tenths
+large side sign reel clock tenths octets sided wide high count less most too_large =
+    let size = most_of_picture (side * sign.width * (side * sign.height)) in
+    let few : length reel.points / 10 ≤ tenths = omega (arith, count, less) in
+    let product : length reel.points / 10 * size ≤ tenths * size = mul-le-mul_right size few in
+    let same = ap (λ s. most_of_film s reel.width reel.height (length reel.points / 10)) sided
+    ∙ ap (λ w. most_of_film side w reel.height (length reel.points / 10)) wide
+    ∙ ap (λ h. most_of_film side sign.width h (length reel.points / 10)) high in
+    omega (arith, same, product, most, too_large)
 
 pub large_end : (side : ℕ) (sign : SignData) (reel : ReelData) (tenths octets : ℕ) → reel.side ≡ side → reel.width ≡ sign.width → reel.height ≡ sign.height
     → length reel.points ≡ 10 * tenths → octets ≤ most_of_film reel.side reel.width reel.height (length reel.points / 10) + 1 → 64000000 < octets

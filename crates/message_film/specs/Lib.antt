@@ -1,3 +1,4 @@
 pub mod Moving
 pub mod Reel
 pub mod Period
+pub mod Film

@@ -1,6 +1,7 @@
 -- After how many tenths of a second what a text shows begins again.
-use Rattle.std.specs.Prelude.{◌≡◌, ◌≢◌, ◌⊎◌, ℕ, ◌+◌, ◌*◌, List, length, IfSome}
+use Rattle.std.specs.Prelude.{◌≡◌, ◌≢◌, ◌⊎◌, ℕ, ◌+◌, ◌*◌, ◌%◌, ◌<◌, ◌≤◌, List, length, IfSome}
 use Rattle.std.specs.List.{AllByRecursion}
+use Rattle.std.specs.Option.{option_map_or}
 use Rattle.sign_font.specs.declared.parts.Defaults.{Defaults}
 use Rattle.sign_font.specs.Sign.{SignData}
 use Rattle.multi_layout.specs.Attributes.{given_flash}
@@ -35,3 +36,31 @@ CycleIsPeriod = (sign : SignData) (text : List ℕ) → length (times_of sign te
 abbrev pub FlashesHavePeriod : Type 0
 FlashesHavePeriod = (sign : SignData) (text : List ℕ) (tenths : ℕ) → (length (times_of sign text) ≡ 1) ⊎ (cycle (times_of sign text) ≡ 0)
     → AllByRecursion (Allows sign.defaults tenths) (meanings text) → IsPeriod sign text tenths
+
+-- the time of the flash that an item gives, on and off together, in tenths of a second; 0 where it gives none (NTCIP 1203 v03, MULTI tag 'fl')
+abbrev pub flash_time : Defaults → Meaning → ℕ
+flash_time defaults item = option_map_or (λ given. option_map_or (λ (flash : FlashTimes). flash.on + flash.off) given 0) (given_flash defaults item) 0
+
+-- the least multiple of some tenths of a second in which a flash of this time is over a whole number of times; where there is no flash, these
+-- tenths themselves (own)
+abbrev pub IsCommonTime : ℕ → ℕ → ℕ → Type 0
+IsCommonTime tenths flash common =
+    ((flash ≡ 0) × (common ≡ tenths))
+    ⊎ ((1 ≤ flash) × ((times : ℕ) × (1 ≤ times) × (common ≡ times * tenths) × (common % flash ≡ 0)
+    × ((fewer : ℕ) → 1 ≤ fewer → fewer < times → fewer * tenths % flash ≢ 0)))
+
+-- some tenths of a second, at least one, in which each flash of a text is over a whole number of times (own)
+abbrev pub EndsFlashes : SignData → List ℕ → ℕ → Type 0
+EndsFlashes sign text tenths = (1 ≤ tenths) × AllByRecursion (Allows sign.defaults tenths) (meanings text)
+
+-- the least such time; 4,294,967,295 tenths, the most that a clock has, stand for that long or longer (own)
+pub record IsFlashPeriod (sign : SignData) (text : List ℕ) (tenths : ℕ) : Type 0 where
+  pub some : 1 ≤ tenths
+  pub least : (other : ℕ) → EndsFlashes sign text other → tenths ≤ other
+  pub ends : tenths < 4294967295 → EndsFlashes sign text tenths
+
+-- a text plays for one cycle before it begins anew; one page, or a cycle of 0, for as long as all its flashes need together (own)
+abbrev pub PlaysFor : SignData → List ℕ → ℕ → Type 0
+PlaysFor sign text tenths =
+    ((length (times_of sign text) ≢ 1) × (1 ≤ tenths) × (tenths ≡ cycle (times_of sign text)))
+    ⊎ (((length (times_of sign text) ≡ 1) ⊎ (cycle (times_of sign text) ≡ 0)) × IsFlashPeriod sign text tenths)

@@ -1,11 +1,11 @@
 //! A message of a sign in time.
-ghost use Rattle.std.specs.Prelude.{◌≡◌, ◌∷◌, [], ◌++◌, ◌+◌, ◌/◌, ◌≤◌, ◌<◌, IfErr, IfOk, OnOk, length, replicate};
+ghost use Rattle.std.specs.Prelude.{◌≡◌, ◌∷◌, [], ◌++◌, ◌≤◌, ℕ, IfErr, IfOk, IfSome, OnOk, length, replicate};
 ghost use Rattle.multi_layout.specs.Times.{shown};
 ghost use Rattle.page_picture.specs.Shown.{IsThere};
+ghost use Rattle.message_film.specs.Film.{IsNoFilm, IsTooLong, IsUnmade, Lasts};
 ghost use Rattle.message_film.specs.Moving.{IsFilmOf, moving, seen_points};
-ghost use Rattle.message_film.specs.Reel.{most_of_film};
-ghost use Rattle.message_film.specs.declared.play.FilmFault.TheVariants.{TooLarge};
 
+use crate::period::playing_time;
 use crate::reel::Reel;
 use multi_layout::{Checked, Shown};
 use page_picture::draw_colours;
@@ -16,15 +16,22 @@ use thiserror::Error;
 /// The most octets of a film: 64 MB.
 pub const MOST_OCTETS: usize = 64_000_000;
 
+/// The most tenths of a second that a film lasts: ten minutes.
+pub const LONGEST_FILM: u16 = 6000;
+
 /// Why there is no film (own).
 #[derive(Clone, Copy, Debug, PartialEq, Eq, Error)]
 pub enum FilmFault {
     /// Memory was refused.
     #[error("out of memory")]
     Memory,
-    /// The file would have more than 64,000,000 octets.
-    #[error("too large: a film has at most 64 MB")]
-    TooLarge,
+    /// The file of a film of so many tenths of a second would have more than 64,000,000 octets.
+    #[error("too large: a film of {tenths} tenths of a second has more than 64 MB")]
+    TooLarge { tenths: u16 },
+    /// The string begins anew after so many tenths of a second, and a film lasts for at most 6,000. `u32::MAX` stands for that long or
+    /// longer.
+    #[error("too long: it begins anew after {tenths} tenths of a second")]
+    TooLong { tenths: u32 },
 }
 
 /// One moment of a string that this sign accepts, as a file in GIF with one picture, of a tenth of a second: what is shown, with `side` by
@@ -55,25 +62,17 @@ fn push_moment(
     checked: &mut Checked<'_>,
     reel: &mut Reel,
     clock: u16,
-) -> Result<(), FilmFault>
+) -> Result<(), AllocError>
     requires sign { checked.old.sign ≡ sign.now }
     requires size { (reel.old.width ≡ sign.now.width) × (reel.old.height ≡ sign.now.height) }
     ensures points { OnOk result (reel.new.points ≡ reel.old.points ++ replicate 10 (seen_points reel.old.side sign.now checked.old.source.octets (shown sign.now checked.old.source.octets clock))) }
     ensures size { OnOk result ((reel.new.side ≡ reel.old.side) × (reel.new.width ≡ reel.old.width) × (reel.new.height ≡ reel.old.height)) }
     ensures palette { OnOk result (reel.new.palette ≡ reel.old.palette) }
-    ensures large { IfErr result (λ fault. fault ≡ TooLarge → 64000000 < most_of_film reel.old.side sign.now.width sign.now.height ((length reel.old.points + 10) / 10)) }
     ensures kept { OnOk result ((checked.new.sign ≡ checked.old.sign) × (checked.new.source.octets ≡ checked.old.source.octets)) }
 {
     let shown = checked.locate(u64::from(clock));
-    let Ok(colours) = draw_colours(alloc, sign, checked, shown) else {
-        return Err(FilmFault::Memory);
-    };
-    let Ok(()) = reel.push(alloc, colours) else {
-        return Err(FilmFault::Memory);
-    };
-    if reel.len() > MOST_OCTETS {
-        return Err(FilmFault::TooLarge);
-    }
+    let moment = draw_colours(alloc, sign, checked, shown)?;
+    reel.push(alloc, moment)?;
     Ok(())
 }
 
@@ -91,23 +90,76 @@ pub fn film(
     requires some { 1 ≤ tenths }
     ensures film { IfOk result (λ octets. IsFilmOf side sign.now (moving side sign.now checked.old.source.octets tenths) octets.items) }
     ensures size { IfOk result (λ octets. length octets.items ≤ 64000000) }
-    ensures large { IfErr result (λ fault. fault ≡ TooLarge → 64000000 ≤ most_of_film side sign.now.width sign.now.height tenths) }
+    ensures fault { IfErr result (IsUnmade side sign.now tenths) }
     ensures kept { OnOk result ((checked.new.sign ≡ checked.old.sign) × (checked.new.source.octets ≡ checked.old.source.octets)) }
 {
     let Ok(mut reel) = Reel::new(alloc, side, sign.width(), sign.height(), sign.classic()) else {
         return Err(FilmFault::Memory);
     };
     for clock in 0..tenths {
-        match push_moment(alloc, sign, checked, &mut reel, clock) {
-            Ok(()) => {}
-            Err(fault) => return Err(fault),
+        let Ok(()) = push_moment(alloc, sign, checked, &mut reel, clock) else {
+            return Err(FilmFault::Memory);
+        };
+        if reel.len() > MOST_OCTETS {
+            return Err(FilmFault::TooLarge { tenths });
         }
     }
     let Ok(octets) = reel.finish(alloc) else {
         return Err(FilmFault::Memory);
     };
     if octets.len() > MOST_OCTETS {
-        return Err(FilmFault::TooLarge);
+        return Err(FilmFault::TooLarge { tenths });
     }
     Ok(octets)
+}
+
+/// For how many tenths of a second a film lasts: for the seconds that are asked for, and else until the string begins anew.
+fn tenths_of(
+    sign: &Sign,
+    checked: &Checked<'_>,
+    octets: &[u8],
+    seconds: Option<u16>,
+) -> Result<u16, FilmFault>
+    requires sign { checked.now.sign ≡ sign.now }
+    requires octets { checked.now.source.octets ≡ octets.now }
+    requires seconds { IfSome seconds (λ count. (1 ≤ count) × (count ≤ 600)) }
+    ensures lasts { IfOk result (Lasts sign.now octets.now seconds) }
+    ensures range { IfOk result (λ tenths. (1 ≤ tenths) × (tenths ≤ 6000)) }
+    ensures fault { IfErr result (IsTooLong sign.now octets.now seconds) }
+{
+    if let Some(count) = seconds {
+        return Ok(10 * count);
+    }
+    let tenths = playing_time(sign, checked, octets);
+    if tenths > u32::from(LONGEST_FILM) {
+        return Err(FilmFault::TooLong { tenths });
+    }
+    Ok(tenths as u16)
+}
+
+/// A string that this sign accepts, as it plays, over and over, as a file in GIF, with `side` by `side` points for each pixel: until it
+/// begins anew ([`playing_time`]), or for its first seconds, 1 to 600, if these are asked for. The octets are those of the string. The film
+/// lasts for at most 6,000 tenths of a second, and its file has at most 64,000,000 octets.
+pub fn as_it_plays(
+    alloc: Global,
+    sign: &Sign,
+    checked: &mut Checked<'_>,
+    octets: &[u8],
+    side: u8,
+    seconds: Option<u16>,
+) -> Result<Vec<u8>, FilmFault>
+    requires sign { checked.old.sign ≡ sign.now }
+    requires octets { checked.old.source.octets ≡ octets.now }
+    requires side { side ≤ 16 }
+    requires seconds { IfSome seconds (λ count. (1 ≤ count) × (count ≤ 600)) }
+    ensures plays { IfOk result (λ file. (tenths : ℕ) × Lasts sign.now octets.now seconds tenths × (tenths ≤ 6000)
+        × IsFilmOf side sign.now (moving side sign.now octets.now tenths) file.items) }
+    ensures size { IfOk result (λ file. length file.items ≤ 64000000) }
+    ensures fault { IfErr result (IsNoFilm side sign.now octets.now seconds) }
+{
+    let tenths = match tenths_of(sign, checked, octets, seconds) {
+        Ok(tenths) => tenths,
+        Err(fault) => return Err(fault),
+    };
+    film(alloc, sign, checked, side, tenths)
 }

@@ -1,4 +1,4 @@
-use Rattle.std.proofs.Common.{◌≡◌, ◌++◌, length, refl, replicate, sym, ap, ◌∙◌, arith}
+use Rattle.std.proofs.Common.{◌≡◌, ◌+◌, ◌++◌, length, refl, replicate, sym, ap, ◌∙◌, arith}
 use Rattle.multi_layout.specs.Times.{shown}
 use Rattle.page_picture.specs.Palette.{palette}
 use Rattle.message_film.specs.Moving.{seen_points}
@@ -36,15 +36,22 @@ loop-clock-preserved c =
           ∙ MovingLemmas.next c.args.side l.reel.side sign text l.checked.source.octets l.clock h.side h.text;
     }
 
-pub returns-in-Err-clause-large : goal.returns-in-Err-clause-large
-returns-in-Err-clause-large c = λ is.
+pub returns-then-len-gt-MOST_OCTETS-clause-fault : goal.returns-then-len-gt-MOST_OCTETS-clause-fault
+returns-then-len-gt-MOST_OCTETS-clause-fault c =
     let l = c.loop-clock in
+    let h = l.invariant in
+    let p = c.in-Ok-push_moment.ensures in
     let sign = c.args.sign.now in
-    let count = ap length l.invariant.points ∙ MovingLemmas.count c.args.side sign c.args.checked.now.source.octets l.clock in
-    MovingLemmas.large c.args.side l.reel.side sign.width sign.height l.clock c.args.tenths l.reel.points l.invariant.side count c.loop-clock-test.true (c.in-Err.ensures.large is)
+    let text = c.args.checked.now.source.octets in
+    let reel = c.push_moment.new.reel in
+    let points = p.points
+    ∙ ap (λ q. q ++ replicate 10 (seen_points l.reel.side sign l.checked.source.octets (shown sign l.checked.source.octets l.clock))) h.points
+    ∙ MovingLemmas.next c.args.side l.reel.side sign text l.checked.source.octets l.clock h.side h.text in
+    let count = ap length points ∙ MovingLemmas.count c.args.side sign text (l.clock + 1) in
+    (refl, MovingLemmas.large c.args.side sign reel l.clock c.args.tenths c.len.result (p.size.0 ∙ h.side) (p.size.1 ∙ h.size.0) (p.size.2 ∙ h.size.1) count c.loop-clock-test.true c.len.ensures c.if-len-gt-MOST_OCTETS.true)
 
-pub returns-then-len-gt-MOST_OCTETS-clause-large : goal.returns-then-len-gt-MOST_OCTETS-clause-large
-returns-then-len-gt-MOST_OCTETS-clause-large c = λ _.
+pub returns-then-len-gt-MOST_OCTETS-2-clause-fault : goal.returns-then-len-gt-MOST_OCTETS-2-clause-fault
+returns-then-len-gt-MOST_OCTETS-2-clause-fault c =
     let l = c.loop-clock in
     let sign = c.args.sign.now in
     let last = c.loop-clock-test.false in
@@ -52,5 +59,6 @@ returns-then-len-gt-MOST_OCTETS-clause-large c = λ _.
     let end : l.clock ≡ c.args.tenths = omega (arith, last, most) in
     let count = ap length l.invariant.points ∙ MovingLemmas.count c.args.side sign c.args.checked.now.source.octets l.clock in
     let octets = c.in-Ok-finish.ensures.size in
-    MovingLemmas.large_end c.args.side sign l.reel c.args.tenths (length c.in-Ok-finish.octets.items) l.invariant.side l.invariant.size.0 l.invariant.size.1 (omega (arith, count, end)) octets
-    (omega (arith, c.len.ensures, c.if-len-gt-MOST_OCTETS.true))
+    let large = MovingLemmas.large_end c.args.side sign l.reel c.args.tenths (length c.in-Ok-finish.octets.items) l.invariant.side l.invariant.size.0 l.invariant.size.1 (omega (arith, count, end)) octets
+    (omega (arith, c.len-2.ensures, c.if-len-gt-MOST_OCTETS-2.true)) in
+    (refl, large)

@@ -20,7 +20,7 @@ returns-clause-points c =
     let text_is = ap (λ s. s.octets) located.steps.3 in
     let seen : c.locate-shown.result ≡ shown sign text c.args.clock =
     located.shown ∙ ap (λ s. shown s text c.from.result) c.requires.sign ∙ ap (shown sign text) c.from.ensures in
-    let drawn : c.in-Ok.colours.items ≡ colours sign text (shown sign text c.args.clock) =
-    c.in-Ok.ensures.colours ∙ ap (λ t. colours sign t c.locate-shown.result) text_is ∙ ap (colours sign text) seen in
-    c.in-Ok-push.ensures.points
-    ∙ ap (λ p. reel.points ++ replicate 10 p) (MovingLemmas.moment reel.side reel.width reel.height sign text c.in-Ok.colours.items (shown sign text c.args.clock) c.requires.size.0 c.requires.size.1 drawn)
+    let drawn : c.in_ok-moment.moment.items ≡ colours sign text (shown sign text c.args.clock) =
+    c.in_ok-moment.ensures.colours ∙ ap (λ t. colours sign t c.locate-shown.result) text_is ∙ ap (colours sign text) seen in
+    c.in_ok-push.ensures.points
+    ∙ ap (λ p. reel.points ++ replicate 10 p) (MovingLemmas.moment reel.side reel.width reel.height sign text c.in_ok-moment.moment.items (shown sign text c.args.clock) c.requires.size.0 c.requires.size.1 drawn)

@@ -1,0 +1,77 @@
+use Rattle.std.proofs.Common.{◌≡◌, ◌+◌, ◌-◌, ◌*◌, drop, length, None, refl, sym, ap, ◌∙◌, arith}
+use Rattle.multi_token.specs.Counted.{Counted}
+use Rattle.multi_token.proofs.StepLemmas.{charged-zero, rises_then}
+use Rattle.sign_font.specs.declared.parts.Defaults.{Defaults}
+use Rattle.multi_layout.specs.Meaning.{meanings}
+use Rattle.message_change.specs.declared.walk.Walk.{Walk}
+use Rattle.message_change.proofs.WalkLemmas
+use Rattle.message_change.proofs.seek.first_page.Goals as goal
+
+pub loop-said-init : goal.loop-said-init
+loop-said-init c = record {
+  octets = refl;
+  within = omega arith;
+  walk = λ sign same. WalkLemmas.first_started sign c.args.source.now.octets c.args.clock c.new-walk.result (c.new-walk.ensures ∙ ap WalkLemmas.start_of (sym same));
+  steps = (0, omega arith, omega arith, sym (charged-zero c.args.source.now));
+}
+
+pub returns-then-begins_page-clause-change : goal.returns-then-begins_page-clause-change
+returns-then-begins_page-clause-change c = λ sign same.
+    let octets = c.args.source.now.octets in
+    let l = c.loop-said in
+    let i = l.invariant in
+    let n = (rw i.octets at c.in-Some.ensures.next) in
+    let page = WalkLemmas.page_said n.item c.in-Some.said.tag n.is ∙ sym c.begins_page.ensures ∙ c.if-begins_page.true in
+    WalkLemmas.first_found sign octets l.at c.args.clock n.item l.walk (meanings (drop (l.at + c.in-Some.said.len) octets)) (i.walk sign same) n.next page
+
+pub returns-then-begins_page-clause-steps : goal.returns-then-begins_page-clause-steps
+returns-then-begins_page-clause-steps c =
+    let l = c.loop-said in
+    let i = l.invariant in
+    let n = (rw i.octets at c.in-Some.ensures.next) in
+    let within = n.within in
+    let some = n.some in
+    let len = c.in-Some.said.len in
+    let k = rises_then c.args.source.now l.source c.next_said.new.source 0 (2 * l.at) 0 (2 * len - 1) i.steps c.in-Some.ensures.steps in
+    (k.0, k.1, omega (arith, k.2, within, some), k.3)
+
+pub overflow_add-at : goal.overflow_add-at
+overflow_add-at c =
+    let i = c.loop-said.invariant in
+    let n = (rw i.octets at c.in-Some.ensures.next) in
+    let within = n.within in
+    let room = n.room in
+    omega (arith, within, room)
+
+pub loop-said-preserved : goal.loop-said-preserved
+loop-said-preserved c =
+    let octets = c.args.source.now.octets in
+    let l = c.loop-said in
+    let i = l.invariant in
+    let n = (rw i.octets at c.in-Some.ensures.next) in
+    let some = n.some in
+    let len = c.in-Some.said.len in
+    let page = WalkLemmas.page_said n.item c.in-Some.said.tag n.is ∙ sym c.begins_page.ensures ∙ c.if-begins_page.false in
+    let k = rises_then c.args.source.now l.source c.next_said.new.source 0 (2 * l.at) 0 (2 * len - 1) i.steps c.in-Some.ensures.steps in
+    record {
+      octets = ap (λ (s : Counted). s.octets) c.in-Some.ensures.steps.3 ∙ i.octets;
+      within = n.within;
+      walk = λ sign same. WalkLemmas.first_more sign octets l.at (l.at + len) c.args.clock n.item l.walk c.pass.new.self (i.walk sign same) n.next page
+          (λ here is. c.pass.ensures.in_force sign here n.item same n.is is) (c.pass.ensures.soonest n.item n.is);
+      steps = (k.0, k.1, omega (arith, k.2, some), k.3);
+    }
+
+pub returns-clause-change : goal.returns-clause-change
+returns-clause-change c = λ sign same.
+    let l = c.loop-said in
+    let i = l.invariant in
+    WalkLemmas.first_end sign c.args.source.now.octets l.at c.args.clock l.walk (i.walk sign same) (rw i.octets at c.in_default.ensures.end)
+
+pub returns-clause-steps : goal.returns-clause-steps
+returns-clause-steps c =
+    let l = c.loop-said in
+    let i = l.invariant in
+    let within = i.within in
+    let long = ap length i.octets in
+    let k = rises_then c.args.source.now l.source c.next_said.new.source 0 (2 * l.at) 0 (length l.source.octets - l.at + 1) i.steps c.in_default.ensures.end_steps in
+    (k.0, k.1, omega (arith, k.2, within, long), k.3)

@@ -1,0 +1,13 @@
+use Rattle.std.proofs.Common.{◌≡◌, ◌-◌, ◌≤◌, length}
+use Rattle.message_film.proofs.FlashLemmas.{Passed}
+use Rattle.message_film.proofs.period.flash_period.Given as goal
+
+abbrev pub invariant-loop-token : goal.invariant-loop-token
+invariant-loop-token l = record {
+  source : l.source.octets ≡ l.octets;
+  within : l.at ≤ length l.octets;
+  passed : Passed l.sign l.octets l.at l.period;
+}
+
+abbrev pub decreases-loop-token : goal.decreases-loop-token
+decreases-loop-token l = length l.octets - l.at
