@@ -12,7 +12,7 @@ use Rattle.sign_font.specs.declared.parts.LineFill.TheVariants.{Words}
 use Rattle.sign_font.specs.Sign.{SignData}
 use Rattle.multi_layout.specs.declared.cursor.Cursor.{Cursor}
 use Rattle.multi_layout.specs.declared.cursor.NextItem.{NextItem}
-use Rattle.multi_layout.specs.declared.filled.Filled.{Filled}
+use Rattle.multi_layout.specs.declared.pass.Pass.{Pass}
 use Rattle.multi_layout.specs.declared.read.AreaLines.{AreaLines}
 use Rattle.multi_layout.specs.declared.table.LineTable.{LineTable}
 use Rattle.multi_layout.specs.Address.{Standing, in_area, spots, standing}
@@ -39,7 +39,7 @@ abbrev item_at : Piece → Item
 item_at piece = piece.item
 
 -- the reading so far: the pieces read and left, none of which begins an area, and what is kept of the items up to there
-pub record SoFarFilled (sign : SignData) (octets : List ℕ) (before behind : List Piece) (at : ℕ) (kept : Filled) (lines : LineTable) : Type 0 where
+pub record SoFarFilled (sign : SignData) (octets : List ℕ) (before behind : List Piece) (at : ℕ) (kept : Pass) (lines : LineTable) : Type 0 where
   pub pieces : List Piece
   pub left : List Piece
   pub split : behind ≡ pieces ++ left
@@ -73,7 +73,7 @@ module _ {sign : SignData} (words : sign.line_fill ≡ Words) {octets : List ℕ
   state : IsStateOf sign (laid_items Words sign ms ms) cursor.state
   state = state_begins Words sign ms rest cursor.state none (subst (λ l. IsStateOf sign l cursor.state) front b.state_is)
 
-  pub nothing_filled : (kept : Filled)
+  pub nothing_filled : (kept : Pass)
       → ((sign : SignData) (items : List Meaning) → IsStateOf sign (laid_items Words sign items items) cursor.state → present_area sign items ≡ [] → IsFilledOf sign items kept)
       → (lines : LineTable) → ((just : ℕ) → group_lines just lines ≡ []) → IsOrdered lines → SoFarFilled sign octets before behind cursor.at kept lines
   nothing_filled kept made lines empty ordered =
@@ -99,7 +99,7 @@ module _ {sign : SignData} (words : sign.line_fill ≡ Words) {octets : List ℕ
       }
 
 -- one more item
-module _ {sign : SignData} {octets : List ℕ} {before behind : List Piece} {at : ℕ} {kept : Filled} {lines : LineTable} (so : SoFarFilled sign octets before behind at kept lines) where
+module _ {sign : SignData} {octets : List ℕ} {before behind : List Piece} {at : ℕ} {kept : Pass} {lines : LineTable} (so : SoFarFilled sign octets before behind at kept lines) where
   pub record NextFilled (next : NextItem) : Type 0 where
     pub piece : Piece
     pub rest : List Piece
@@ -138,7 +138,7 @@ module _ {sign : SignData} {octets : List ℕ} {before behind : List Piece} {at 
     pub filled_advances : (new : ℕ) → new ≡ at + next.len → (at < new) × (new ≤ length octets)
     filled_advances new to = (omega (arith, to, spelling_some n.piece.item, n.read.len), within sign octets (items_of done ++ n.piece.item ∷ []) (items_of n.rest) new (placed_then new to))
 
-    pub filled_on : (new : ℕ) → new ≡ at + next.len → begins_area (meant_by next.item) ≡ false → (kept' : Filled) (lines' : LineTable)
+    pub filled_on : (new : ℕ) → new ≡ at + next.len → begins_area (meant_by next.item) ≡ false → (kept' : Pass) (lines' : LineTable)
         → IsReadFilled sign (items_of done ++ n.piece.item ∷ []) kept'.state.area.present kept' lines' → SoFarFilled sign octets before behind new kept' lines'
     filled_on new to plain kept' lines' read =
         let again : done ++ n.piece ∷ [] ≡ before ++ (so.pieces ++ n.piece ∷ []) = append_assoc before so.pieces (n.piece ∷ []) in

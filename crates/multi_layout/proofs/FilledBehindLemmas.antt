@@ -10,7 +10,7 @@ use Rattle.sign_font.specs.declared.parts.LineFill.TheVariants.{Off, Words}
 use Rattle.sign_font.specs.Sign.{SignData}
 use Rattle.multi_layout.specs.declared.area.Area.{Area}
 use Rattle.multi_layout.specs.declared.fault.SyntaxError.{SyntaxError}
-use Rattle.multi_layout.specs.declared.filled.Filled.{Filled}
+use Rattle.multi_layout.specs.declared.pass.Pass.{Pass}
 use Rattle.multi_layout.specs.declared.state.State.{State}
 use Rattle.multi_layout.specs.Address.{Break, Cover, Spot, Standing, in_area, in_group, is_break, spots, standing}
 use Rattle.multi_layout.specs.Filling.{filled}
@@ -49,7 +49,7 @@ present_laid sign items state st =
     ap (λ (a : Area). a.present) st.area ∙ (λ i. largest (λ (t : Spot). t.at.page_just) (in_area (here i).area (are i)))
     ∙ largest_laid Words (standing sign items).rectangle.width (standing sign items).area all all [] (sym (append-nil all))
 
-module _ (sign : SignData) (items : List Meaning) (kept : Filled) (of : IsFilledOf sign items kept) (tag : Tag) (state : State)
+module _ (sign : SignData) (items : List Meaning) (kept : Pass) (of : IsFilledOf sign items kept) (tag : Tag) (state : State)
     (st : IsStateOf sign (laid_items Words sign items items ++ Does tag ∷ []) state) where
   abbrev more : List Meaning
   more = items ++ Does tag ∷ []
@@ -85,7 +85,7 @@ module _ (sign : SignData) (items : List Meaning) (kept : Filled) (of : IsFilled
   }
 
 -- a line ends
-module _ (sign : SignData) (items : List Meaning) (kept : Filled) (of : IsFilledOf sign items kept) (gap : Option ℕ) (fine : offence Off sign (laid_items Words sign items items) (Does (NewLine gap)) ≡ None)
+module _ (sign : SignData) (items : List Meaning) (kept : Pass) (of : IsFilledOf sign items kept) (gap : Option ℕ) (fine : offence Off sign (laid_items Words sign items items) (Does (NewLine gap)) ≡ None)
     (state : State) (st : IsStateOf sign (laid_items Words sign items items ++ Does (NewLine gap) ∷ []) state) where
   abbrev nl : Spot
   nl = record { at = standing sign items; put = Break gap }
@@ -147,7 +147,7 @@ module _ (sign : SignData) (items : List Meaning) (kept : Filled) (of : IsFilled
   }
 
 -- what is kept behind a tag that is judged behind the items as they are laid out
-module _ (sign : SignData) (items : List Meaning) (kept : Filled) (of : IsFilledOf sign items kept) where
+module _ (sign : SignData) (items : List Meaning) (kept : Pass) (of : IsFilledOf sign items kept) where
   abbrev laid : List Meaning
   laid = laid_items Words sign items items
 

@@ -9,7 +9,7 @@ use Rattle.multi_layout.specs.declared.fill.Split.{Split}
 use Rattle.multi_layout.specs.declared.line.Character.{Character}
 use Rattle.multi_layout.specs.declared.line.Line.{Line}
 use Rattle.multi_layout.specs.declared.attributes.Attributes.{Attributes}
-use Rattle.multi_layout.specs.declared.filled.Filled.{Filled}
+use Rattle.multi_layout.specs.declared.pass.Pass.{Pass}
 use Rattle.multi_layout.specs.Address.{Glyph, Spot, Standing, area_of, group_of, in_group, is_break, spots, standing}
 use Rattle.multi_layout.specs.Filling.{filled, is_space}
 use Rattle.multi_layout.specs.FillSums.{EndsLine, FillsArea, order_sum, split_sum}
@@ -33,7 +33,7 @@ not_not true false e = sym e
 not_not false true e = sym e
 not_not false false e = refl
 
-module _ (sign : SignData) (items : List Meaning) (kept : Filled) (of : IsFilledOf sign items kept) where
+module _ (sign : SignData) (items : List Meaning) (kept : Pass) (of : IsFilledOf sign items kept) where
   -- the next item stands where it does among the items as they are laid out
   here : standing sign (laid_items Words sign items items) ≡ standing sign items
   here = (are_laid Words sign items items [] (sym (append-nil items))).0

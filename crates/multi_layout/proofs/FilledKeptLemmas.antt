@@ -11,9 +11,9 @@ use Rattle.sign_font.specs.Sign.{SignData, CellData, cell_in, cell_numbered}
 use Rattle.multi_layout.specs.declared.area.Area.{Area}
 use Rattle.multi_layout.specs.declared.attributes.Attributes.{Attributes}
 use Rattle.multi_layout.specs.declared.fill.Split.{Split}
-use Rattle.multi_layout.specs.declared.filled.Filled.{Filled}
+use Rattle.multi_layout.specs.declared.pass.Pass.{Pass}
 use Rattle.multi_layout.specs.declared.line.Character.{Character}
-use Rattle.multi_layout.specs.declared.filled.Order.{Order}
+use Rattle.multi_layout.specs.declared.pass.Order.{Order}
 use Rattle.multi_layout.specs.declared.line.Line.{Line}
 use Rattle.multi_layout.specs.Address.{Glyph, Spot, Standing, group_of, in_group, is_break, put_at, spots, standing}
 use Rattle.multi_layout.specs.Filling.{filled, is_space}
@@ -84,7 +84,7 @@ module _ (sign : SignData) (items : List Meaning) (number : ℕ) (cell : CellDat
   width_more : (standing sign more).rectangle.width ≡ s.at.rectangle.width
   width_more = ap (λ (t : Standing). t.rectangle.width) (standing_push sign items (Shows number))
 
-  module _ (kept : Filled) (of : IsFilledOf sign items kept) (apart : conflicts (spots sign items) (shown sign items number cell found) ≡ false) where
+  module _ (kept : Pass) (of : IsFilledOf sign items kept) (apart : conflicts (spots sign items) (shown sign items number cell found) ≡ false) where
     back : kept.state.area.present ≤ s.at.page_just
     back = no_back (spots sign items) s s.at.page_just kept.state.area.present refl (present_is sign items number cell found kept.state of.state_is) apart
 
@@ -132,7 +132,7 @@ module _ (sign : SignData) (items : List Meaning) (number : ℕ) (cell : CellDat
         }
 
 -- a character that doesn't offend isn't before the present group
-module _ (sign : SignData) (items : List Meaning) (kept : Filled) (of : IsFilledOf sign items kept) (number : ℕ) (fine : offence Words sign items (Shows number) ≡ None) where
+module _ (sign : SignData) (items : List Meaning) (kept : Pass) (of : IsFilledOf sign items kept) (number : ℕ) (fine : offence Words sign items (Shows number) ≡ None) where
   on_by : (o : Option CellData) → cell_numbered (standing sign items).font number ≡ o → kept.state.area.present ≤ kept.state.attributes.page_just
   on_by None found = let wrong : ◌≡◌ {A = Option ℕ} (Some 7) None = sym (offends_without sign items number found) ∙ fine in absurd cc
   on_by (Some cell) found =
@@ -144,7 +144,7 @@ module _ (sign : SignData) (items : List Meaning) (kept : Filled) (of : IsFilled
   goes_on = on_by (cell_numbered (standing sign items).font number) refl
 
 -- a character is judged whose cell was found and which doesn't conflict
-module _ (sign : SignData) (items : List Meaning) (kept : Filled) (of : IsFilledOf sign items kept) (number : ℕ) (c : SizedCell) (some : cell_in sign kept.state.attributes.font.number number ≡ Some c)
+module _ (sign : SignData) (items : List Meaning) (kept : Pass) (of : IsFilledOf sign items kept) (number : ℕ) (c : SizedCell) (some : cell_in sign kept.state.attributes.font.number number ≡ Some c)
     (clash : Bool) (clashing : (line : List Spot) (s : Spot) → kept.order ≡ order_sum line → s.at.line_just ≡ kept.state.attributes.line_just → clash ≡ list_any (clashes s) line)
     (goes_on : Bool) (goes : goes_on ≡ (kept.state.attributes.page_just == kept.state.area.present)) (free : (nat_lt kept.state.attributes.page_just kept.state.area.present || (goes_on && clash)) ≡ false)
     (character : Character) (just : character.just ≡ kept.state.attributes.line_just) (spacing : character.spacing ≡ kept.state.attributes.spacing) (wide : character.width ≡ c.width)
@@ -188,7 +188,7 @@ module _ (sign : SignData) (items : List Meaning) (kept : Filled) (of : IsFilled
       )
 
 -- a character is passed that doesn't offend
-module _ (sign : SignData) (items : List Meaning) (kept : Filled) (of : IsFilledOf sign items kept) (number : ℕ) (c : SizedCell) (some : cell_in sign kept.state.attributes.font.number number ≡ Some c)
+module _ (sign : SignData) (items : List Meaning) (kept : Pass) (of : IsFilledOf sign items kept) (number : ℕ) (c : SizedCell) (some : cell_in sign kept.state.attributes.font.number number ≡ Some c)
     (fine : offence Words sign items (Shows number) ≡ None) (goes_on : Bool) (goes : goes_on ≡ (kept.state.attributes.page_just == kept.state.area.present))
     (character : Character) (just : character.just ≡ kept.state.attributes.line_just) (spacing : character.spacing ≡ kept.state.attributes.spacing) (wide : character.width ≡ c.width)
     (font : character.font ≡ kept.state.attributes.font) (area' : Area) (split' : Option Split) (ended : Option Line)

@@ -4,7 +4,7 @@ use Rattle.std.proofs.Common.{◌≡◌, ℕ, Bool, true, false, ◌&&◌, ◌||
 use Rattle.std.specs.Prelude.{nat_lt}
 use Rattle.std.specs.List.{after_last, list_any, All}
 use Rattle.std.proofs.lemmas.Bool.{le-ltb}
-use Rattle.multi_layout.specs.declared.filled.Order.{Order}
+use Rattle.multi_layout.specs.declared.pass.Order.{Order}
 use Rattle.multi_layout.specs.Address.{Spot, is_break}
 use Rattle.multi_layout.specs.FillSums.{order_sum}
 use Rattle.multi_layout.specs.Filling.{CutAt, soft_break, filled}

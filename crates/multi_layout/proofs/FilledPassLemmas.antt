@@ -9,7 +9,7 @@ use Rattle.sign_font.specs.Sign.{SignData}
 use Rattle.sign_font.specs.Sound.{IsSound}
 use Rattle.multi_layout.specs.declared.area.Area.{Area}
 use Rattle.multi_layout.specs.declared.area.Group.{Group}
-use Rattle.multi_layout.specs.declared.filled.Filled.{Filled}
+use Rattle.multi_layout.specs.declared.pass.Pass.{Pass}
 use Rattle.multi_layout.specs.declared.item.KnownItem.{KnownItem}
 use Rattle.multi_layout.specs.declared.item.KnownItem.TheVariants as known
 use Rattle.multi_layout.specs.declared.item.KnownItem.TheVariants.{Char}
@@ -46,7 +46,7 @@ use Rattle.multi_layout.proofs.WalkLemmas.{last_fine, length-meanings}
 
 -- WHAT WAS READ
 
-module _ {sign : SignData} (sound : IsSound sign) (words : sign.line_fill ≡ Words) {items : List Item} {present : ℕ} {kept : Filled} {lines : LineTable} (r : IsReadFilled sign items present kept lines) where
+module _ {sign : SignData} (sound : IsSound sign) (words : sign.line_fill ≡ Words) {items : List Item} {present : ℕ} {kept : Pass} {lines : LineTable} (r : IsReadFilled sign items present kept lines) where
   abbrev ms : List Meaning
   ms = map meaning items
 
@@ -78,7 +78,7 @@ module _ {sign : SignData} (sound : IsSound sign) (words : sign.line_fill ≡ Wo
       kept.state.area.present low high refl
 
 -- the group before the item is left, if the item belongs to a later one
-pub group_left : {sign : SignData} {items : List Item} {kept : Filled} {lines : LineTable} → IsReadFilled sign items kept.state.area.present kept lines → (x : Meaning) (lines' : LineTable)
+pub group_left : {sign : SignData} {items : List Item} {kept : Pass} {lines : LineTable} → IsReadFilled sign items kept.state.area.present kept lines → (x : Meaning) (lines' : LineTable)
     → ((spots : List Spot) → All IsPlacing spots → kept.state.area ≡ area_sum spots → HasKnown kept.state.area.present spots lines → HasKnown (next_group kept.state x) spots lines')
     → IsOrdered lines' → (IsLow lines → IsLow lines') → IsReadFilled sign items (next_group kept.state x) kept lines'
 group_left {sign} {items} {kept} {lines} r x lines' known ordered low =
@@ -109,7 +109,7 @@ pub tag_unsized : (sign : SignData) (ms : List Meaning) (tag : Tag) → offence 
 tag_unsized sign ms tag fine = unsized_if Off sign (laid_items Words sign ms ms) (Does tag) (sym (offends_as_laid sign ms tag) ∙ fine) (has_place (Does tag)) refl
 
 -- what has a place isn't before the present group
-pub next_order : {sign : SignData} → sign.line_fill ≡ Words → {items : List Item} {kept : Filled} → IsFilledOf sign (map meaning items) kept → {item : Item} (read : KnownItem) → IsNextRead sign items item read
+pub next_order : {sign : SignData} → sign.line_fill ≡ Words → {items : List Item} {kept : Pass} → IsFilledOf sign (map meaning items) kept → {item : Item} (read : KnownItem) → IsNextRead sign items item read
     → has_place (meant_by read) ≡ true → kept.state.area.present ≤ kept.state.attributes.page_just
 next_order {sign} words {items} {kept} of {item} (Char number) next place = goes_on sign (map meaning items) kept of number (next_fine words next)
 next_order {sign} words {items} {kept} of {item} (known.Tag tag) next place =
@@ -118,7 +118,7 @@ next_order {sign} words {items} {kept} of {item} (known.Tag tag) next place =
 
 -- A CHARACTER
 
-module _ {sign : SignData} (sound : IsSound sign) (words : sign.line_fill ≡ Words) {items : List Item} {old new : Filled} {lines : LineTable}
+module _ {sign : SignData} (sound : IsSound sign) (words : sign.line_fill ≡ Words) {items : List Item} {old new : Pass} {lines : LineTable}
     (r : IsReadFilled sign items old.state.attributes.page_just old lines) {item : Item} {number : ℕ} (next : IsNextRead sign items item (Char number))
     {ended : Option Line} (b : IsFilledBehind sign (map meaning items) number old new ended) where
   abbrev here : List Meaning
@@ -201,7 +201,7 @@ module _ {sign : SignData} (sound : IsSound sign) (words : sign.line_fill ≡ Wo
 
 -- A TAG
 
-module _ {sign : SignData} (sound : IsSound sign) (words : sign.line_fill ≡ Words) {items : List Item} {old new : Filled} {lines : LineTable} {tag : Tag}
+module _ {sign : SignData} (sound : IsSound sign) (words : sign.line_fill ≡ Words) {items : List Item} {old new : Pass} {lines : LineTable} {tag : Tag}
     (r : IsReadFilled sign items (next_group old.state (Does tag)) old lines) {item : Item} (next : IsNextRead sign items item (known.Tag tag))
     (of' : IsFilledOf sign (map meaning items ++ Does tag ∷ []) new) where
   abbrev tag_items : List Meaning

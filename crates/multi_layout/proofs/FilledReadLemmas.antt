@@ -9,7 +9,7 @@ use Rattle.multi_token.specs.Tokens.{IsTokenOf, item_of}
 use Rattle.multi_token.proofs.PlaceLemmas.{single_token}
 use Rattle.sign_font.specs.declared.parts.LineFill.TheVariants.{Words}
 use Rattle.sign_font.specs.Sign.{SignData}
-use Rattle.multi_layout.specs.declared.filled.Filled.{Filled}
+use Rattle.multi_layout.specs.declared.pass.Pass.{Pass}
 use Rattle.multi_layout.specs.declared.state.State.{State}
 use Rattle.multi_layout.specs.Address.{Spot, Standing, in_group, is_break, standing}
 use Rattle.multi_layout.specs.Filling.{filled}
@@ -45,7 +45,7 @@ filled_start sign items state st none =
       fits = subst (AllOpenFit (Some width)) (sym none) (λ just. nothing_fits width);
     }
 
-module _ (sign : SignData) (items : List Meaning) (kept : Filled) (of : IsFilledOf sign items kept) where
+module _ (sign : SignData) (items : List Meaning) (kept : Pass) (of : IsFilledOf sign items kept) where
   -- what is kept of few items is small enough
   pub filled_ready : length items ≤ 2 ^ 32 → IsFilledReady kept
   filled_ready few = record {
@@ -60,12 +60,12 @@ module _ (sign : SignData) (items : List Meaning) (kept : Filled) (of : IsFilled
   pub kept_times : kept.state.cycle ≡ cycle (ended_times sign items)
   kept_times = of.state_is.times ∙ ap cycle (same_times Words sign items items [] (sym (append-nil items)))
 
-module _ (sign : SignData) (octets : List ℕ) (at : ℕ) (kept : Filled) (r : ReadSoFar sign octets at (IsFilledFor sign kept)) where
+module _ (sign : SignData) (octets : List ℕ) (at : ℕ) (kept : Pass) (r : ReadSoFar sign octets at (IsFilledFor sign kept)) where
   pub filled_ready_here : length octets < 2 ^ 32 → IsFilledReady kept
   filled_ready_here short = filled_ready sign (map meaning r.items) kept r.is.of (few_here sign octets at (IsFilledFor sign kept) r short)
 
   module _ (t : Token) (here : t.at ≡ at) (stands : IsTokenOf octets t) where
-    pub filled_more : (new : Filled) → offence Words sign (map meaning r.items) (meaning (item_of octets t)) ≡ None → IsFilledOf sign (map meaning r.items ++ meaning (item_of octets t) ∷ []) new
+    pub filled_more : (new : Pass) → offence Words sign (map meaning r.items) (meaning (item_of octets t)) ≡ None → IsFilledOf sign (map meaning r.items ++ meaning (item_of octets t) ∷ []) new
         → ReadSoFar sign octets (at + t.len) (IsFilledFor sign new)
     filled_more new fine of =
         read_more sign octets at (IsFilledFor sign kept) r t here stands (IsFilledFor sign new)
@@ -77,18 +77,18 @@ module _ (sign : SignData) (octets : List ℕ) (at : ℕ) (kept : Filled) (r : R
         (subst (λ setting. offence setting sign (map meaning r.items) (meaning (item_of octets t)) ≡ Some code) (sym r.is.words) offends)
 
 -- one more octet that stands for itself
-module _ (sign : SignData) (octets : List ℕ) (at : ℕ) (kept : Filled) (r : ReadSoFar sign octets at (IsFilledFor sign kept)) (octet : ℕ) (short : length octets < 2 ^ 63) (here : slice_get octets at ≡ Some octet) (plain : IsPlain octet) where
+module _ (sign : SignData) (octets : List ℕ) (at : ℕ) (kept : Pass) (r : ReadSoFar sign octets at (IsFilledFor sign kept)) (octet : ℕ) (short : length octets < 2 ^ 63) (here : slice_get octets at ≡ Some octet) (plain : IsPlain octet) where
   abbrev token : Token
   token = record { at = at; len = 1; kind = kinds.Char octet }
 
   stands : IsTokenOf octets token
   stands = single_token octets at octet short here plain
 
-  pub octet_judged : (new : Filled) → (offence Words sign (map meaning r.items) (Shows octet) ≡ None) × IsFilledOf sign (map meaning r.items ++ Shows octet ∷ []) new → ReadSoFar sign octets (at + 1) (IsFilledFor sign new)
+  pub octet_judged : (new : Pass) → (offence Words sign (map meaning r.items) (Shows octet) ≡ None) × IsFilledOf sign (map meaning r.items ++ Shows octet ∷ []) new → ReadSoFar sign octets (at + 1) (IsFilledFor sign new)
   octet_judged new judged = filled_more sign octets at kept r token refl stands new judged.0 judged.1
 
 -- what is told of a string where all its items are read
-pub filled_told : (sign : SignData) (octets : List ℕ) (at : ℕ) (kept : Filled) (source : Counted) → IsAt sign octets at None (IsFilledFor sign kept) source → IsTold sign octets kept.state.pages (whole_times kept.state) source
+pub filled_told : (sign : SignData) (octets : List ℕ) (at : ℕ) (kept : Pass) (source : Counted) → IsAt sign octets at None (IsFilledFor sign kept) source → IsTold sign octets kept.state.pages (whole_times kept.state) source
 filled_told sign octets at kept source i =
     let end = at_end octets at i.so_far.within (sym i.octet) in
     let items = map meaning i.so_far.items in

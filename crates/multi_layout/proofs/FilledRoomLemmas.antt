@@ -7,7 +7,7 @@ use Rattle.multi_tag.specs.declared.tag.Tag.{Tag}
 use Rattle.sign_font.specs.declared.parts.LineFill.TheVariants.{Words}
 use Rattle.sign_font.specs.Sign.{SignData, CellData, cell_numbered}
 use Rattle.sign_font.specs.Sound.{IsSound}
-use Rattle.multi_layout.specs.declared.filled.Filled.{Filled}
+use Rattle.multi_layout.specs.declared.pass.Pass.{Pass}
 use Rattle.multi_layout.specs.Address.{Standing, in_group, is_break, spots, standing}
 use Rattle.multi_layout.specs.FilledState.{IsFilledOf}
 use Rattle.multi_layout.specs.Filling.{filled}
@@ -103,7 +103,7 @@ module _ (sign : SignData) (sound : IsSound sign) (words : sign.line_fill ≡ Wo
   pub laid_room : HasRoom (present_area sign (laid sign ms))
   laid_room = room_of sign sound sound.font (laid sign ms) high down
 
-  pub laid_narrow : (kept : Filled) → IsFilledOf sign ms kept → IsNarrowArea (present_area sign (laid sign ms))
+  pub laid_narrow : (kept : Pass) → IsFilledOf sign ms kept → IsNarrowArea (present_area sign (laid sign ms))
   laid_narrow kept of =
       let group : (j : ℕ) → in_group j (present_area sign (laid sign ms)) ≡ filled (Some (standing sign ms).rectangle.width) (in_group j (present_area sign ms)) = laid_group_is sign ms in
       narrow_of sign sound (laid sign ms)

@@ -11,7 +11,7 @@ use Rattle.sign_font.specs.Sign.{SignData, cell_in}
 use Rattle.multi_layout.specs.declared.area.Area.{Area}
 use Rattle.multi_layout.specs.declared.attributes.Attributes.{Attributes}
 use Rattle.multi_layout.specs.declared.fill.Split.{Split}
-use Rattle.multi_layout.specs.declared.filled.Filled.{Filled}
+use Rattle.multi_layout.specs.declared.pass.Pass.{Pass}
 use Rattle.multi_layout.specs.declared.line.Character.{Character}
 use Rattle.multi_layout.specs.declared.line.Line.{Line}
 use Rattle.multi_layout.specs.declared.line.Segment.{Segment}
@@ -122,14 +122,14 @@ module _ (here : Attributes) (gap width : ℕ) (gap_is : gap ≡ unwrap_or here.
       by_any false none = rw none (record { left = omega arith; centre = omega arith; right = omega arith; part = record { width = omega (arith, small); count = omega arith }; known = known })
 
 -- what is kept with one more character of this width
-abbrev pub with_one : ℕ → ℕ → Bool → Filled → Filled
+abbrev pub with_one : ℕ → ℕ → Bool → Pass → Pass
 with_one gap width space kept = record {
   state = lengthened ((line_in_force kept.state).part.width + (gap + width)) ((line_in_force kept.state).part.count + 1) kept.state;
   split = split_one kept.state.attributes gap width space (line_in_force kept.state) kept.split;
   order = kept.order;
 }
 
-module _ (kept : Filled) (run : IsFilledRun kept) (gap room : ℕ) (runs : IsRun kept.state gap room) (width : ℕ) (some : 1 ≤ width) (fits : (line_in_force kept.state).part.width + (gap + width) ≤ room) (space : Bool) where
+module _ (kept : Pass) (run : IsFilledRun kept) (gap room : ℕ) (runs : IsRun kept.state gap room) (width : ℕ) (some : 1 ≤ width) (fits : (line_in_force kept.state).part.width + (gap + width) ≤ room) (space : Bool) where
   abbrev here : Attributes
   here = kept.state.attributes
 
@@ -183,7 +183,7 @@ both_true true b e f = f
 both_true false b e f = e
 
 -- one more octet of a run
-module _ (sign : SignData) (octets : List ℕ) (at : ℕ) (kept : Filled) (r : ReadSoFar sign octets at (IsFilledFor sign kept)) (octet : ℕ) (short : length octets < 2 ^ 63) (here : slice_get octets at ≡ Some octet) (plain : IsPlain octet)
+module _ (sign : SignData) (octets : List ℕ) (at : ℕ) (kept : Pass) (r : ReadSoFar sign octets at (IsFilledFor sign kept)) (octet : ℕ) (short : length octets < 2 ^ 63) (here : slice_get octets at ≡ Some octet) (plain : IsPlain octet)
     (run : IsFilledRun kept) (gap room : ℕ) (runs : IsRun kept.state gap room) (wide : ℕ) (some : 1 ≤ wide) (small : wide ≤ 64)
     (width_is : Some wide ≡ option_map (λ (c : SizedCell). c.width) (cell_in sign kept.state.attributes.font.number octet)) (fits : (line_in_force kept.state).part.width + (gap + wide) ≤ room) where
   pub one_taken : ReadSoFar sign octets (at + 1) (IsFilledFor sign (with_one gap wide (octet == 32) kept))

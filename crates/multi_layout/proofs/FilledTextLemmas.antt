@@ -13,7 +13,7 @@ use Rattle.sign_font.specs.Sound.{IsWithin}
 use Rattle.sign_font.specs.Text.{HasWidth, IsNoSpace, width_in}
 use Rattle.multi_layout.specs.declared.attributes.Attributes.{Attributes}
 use Rattle.multi_layout.specs.declared.fill.Split.{Split}
-use Rattle.multi_layout.specs.declared.filled.Filled.{Filled}
+use Rattle.multi_layout.specs.declared.pass.Pass.{Pass}
 use Rattle.multi_layout.specs.declared.line.Line.{Line}
 use Rattle.multi_layout.specs.FilledRun.{IsFilledRun, even_line, longer_line, with_run, with_run_behind, with_word}
 use Rattle.multi_layout.specs.FilledState.{IsFilledFor}
@@ -65,14 +65,14 @@ module _ (here : Attributes) (gap : ℕ) where
   split_twice pixels count width None = refl
   split_twice pixels count width (Some parts) = ap (λ l. let p : Split = record parts { behind = l } in Some p) (run_twice pixels count width parts.behind)
 
-with_none : (gap : ℕ) (kept : Filled) → with_word gap 0 0 kept ≡ kept
+with_none : (gap : ℕ) (kept : Pass) → with_word gap 0 0 kept ≡ kept
 with_none gap kept =
     let line = line_in_force kept.state in
     let wide : line.part.width + 0 ≡ line.part.width = omega arith in
     let many : line.part.count + 0 ≡ line.part.count = omega arith in
     rw (wide, many, split_none kept.state.attributes gap kept.split) refl
 
-with_twice : (gap pixels count width : ℕ) (kept : Filled) → with_word gap pixels count (with_one gap width false kept) ≡ with_word gap (gap + width + pixels) (1 + count) kept
+with_twice : (gap pixels count width : ℕ) (kept : Pass) → with_word gap pixels count (with_one gap width false kept) ≡ with_word gap (gap + width + pixels) (1 + count) kept
 with_twice gap pixels count width kept =
     let line = line_in_force kept.state in
     let wide : line.part.width + (gap + width) + pixels ≡ line.part.width + (gap + width + pixels) = omega arith in
@@ -81,7 +81,7 @@ with_twice gap pixels count width kept =
 
 module _ (sign : SignData) (octets : List ℕ) (short : length octets < 2 ^ 63) (gap room : ℕ) where
   -- the first octet of a text
-  first_taken : (octet : ℕ) (rest : List ℕ) (width at : ℕ) (kept : Filled) → ReadSoFar sign octets at (IsFilledFor sign kept) → IsFilledRun kept → IsRun kept.state gap room → drop at octets ≡ octet ∷ rest → IsPlain octet
+  first_taken : (octet : ℕ) (rest : List ℕ) (width at : ℕ) (kept : Pass) → ReadSoFar sign octets at (IsFilledFor sign kept) → IsFilledRun kept → IsRun kept.state gap room → drop at octets ≡ octet ∷ rest → IsPlain octet
       → Some width ≡ width_in sign kept.state.attributes.font.number octet → IsWithin 1 64 width → (line_in_force kept.state).part.width + (gap + width) ≤ room
       → ReadSoFar sign octets (at + 1) (IsFilledFor sign (with_one gap width (octet == 32) kept)) × (drop (at + 1) octets ≡ rest)
   first_taken octet rest width at kept r run runs e plain is within fits =
@@ -90,7 +90,7 @@ module _ (sign : SignData) (octets : List ℕ) (short : length octets < 2 ^ 63) 
         behind_first (sym (drop_read octets at octet here) ∙ e),
       )
 
-  word_taken : (text rest widths : List ℕ) (at : ℕ) (kept : Filled) → ReadSoFar sign octets at (IsFilledFor sign kept) → IsFilledRun kept → IsRun kept.state gap room → drop at octets ≡ text ++ rest → All IsPlain text → All IsNoSpace text
+  word_taken : (text rest widths : List ℕ) (at : ℕ) (kept : Pass) → ReadSoFar sign octets at (IsFilledFor sign kept) → IsFilledRun kept → IsRun kept.state gap room → drop at octets ≡ text ++ rest → All IsPlain text → All IsNoSpace text
       → map (width_in sign kept.state.attributes.font.number) text ≡ map Some widths → All (IsWithin 1 64) widths → (line_in_force kept.state).part.width + sum_by (λ w. gap + w) widths ≤ room
       → ReadSoFar sign octets (at + length text) (IsFilledFor sign (with_word gap (sum_by (λ w. gap + w) widths) (length text) kept))
   word_taken [] rest [] at kept r run runs e plain word each within fits =
@@ -120,7 +120,7 @@ module _ (sign : SignData) (octets : List ℕ) (short : length octets < 2 ^ 63) 
       rw (← to, ← same) all
 
 -- a text without a space
-module _ (sign : SignData) (octets : List ℕ) (at : ℕ) (kept : Filled) (r : ReadSoFar sign octets at (IsFilledFor sign kept)) (short : length octets < 2 ^ 63) (run : IsFilledRun kept) (gap left : ℕ)
+module _ (sign : SignData) (octets : List ℕ) (at : ℕ) (kept : Pass) (r : ReadSoFar sign octets at (IsFilledFor sign kept)) (short : length octets < 2 ^ 63) (run : IsFilledRun kept) (gap left : ℕ)
     (runs : IsRun kept.state gap ((line_in_force kept.state).part.width + left)) where
   abbrev width_of : ℕ → Option ℕ
   width_of = width_in sign kept.state.attributes.font.number

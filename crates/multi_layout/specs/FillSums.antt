@@ -6,7 +6,7 @@ use Rattle.sign_font.specs.Sign.{info_of}
 use Rattle.multi_layout.specs.declared.area.Area.{Area}
 use Rattle.multi_layout.specs.declared.area.Group.{Group}
 use Rattle.multi_layout.specs.declared.fill.Split.{Split}
-use Rattle.multi_layout.specs.declared.filled.Order.{Order}
+use Rattle.multi_layout.specs.declared.pass.Order.{Order}
 use Rattle.multi_layout.specs.declared.line.Character.{Character}
 use Rattle.multi_layout.specs.declared.line.Line.{Line}
 use Rattle.multi_layout.specs.Address.{Spot, in_group, is_break}

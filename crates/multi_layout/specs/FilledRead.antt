@@ -3,7 +3,7 @@ use Rattle.std.specs.Prelude.{◌≡◌, ℕ, ◌^◌, ◌≤◌, List, [], ◌�
 use Rattle.multi_token.specs.Spelling.{Item}
 use Rattle.sign_font.specs.declared.parts.LineFill.TheVariants.{Words}
 use Rattle.sign_font.specs.Sign.{SignData}
-use Rattle.multi_layout.specs.declared.filled.Filled.{Filled}
+use Rattle.multi_layout.specs.declared.pass.Pass.{Pass}
 use Rattle.multi_layout.specs.declared.item.KnownItem.{KnownItem}
 use Rattle.multi_layout.specs.declared.table.LineTable.{LineTable}
 use Rattle.multi_layout.specs.FilledState.{IsFilledOf}
@@ -22,7 +22,7 @@ pub record AreFine (sign : SignData) (items : List Item) : Type 0 where
 
 -- this is kept of the items of an accepted string, and the table has the lines of their area, as it is laid out, that are known
 -- when items go on in this group (own)
-pub record IsReadFilled (sign : SignData) (items : List Item) (present : ℕ) (kept : Filled) (lines : LineTable) : Type 0 where
+pub record IsReadFilled (sign : SignData) (items : List Item) (present : ℕ) (kept : Pass) (lines : LineTable) : Type 0 where
   pub fine : AreFine sign items
   pub of : IsFilledOf sign (map meaning items) kept
   pub known : HasKnown present (present_area sign (laid_items Words sign (map meaning items) (map meaning items))) lines

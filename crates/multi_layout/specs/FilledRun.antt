@@ -3,13 +3,13 @@ use Rattle.std.specs.Prelude.{◌≡◌, ℕ, ◌+◌, ◌-◌, true, ◌==◌, 
 use Rattle.std.specs.Option.{IfSome, option_map}
 use Rattle.multi_layout.specs.declared.attributes.Attributes.{Attributes}
 use Rattle.multi_layout.specs.declared.fill.Split.{Split}
-use Rattle.multi_layout.specs.declared.filled.Filled.{Filled}
-use Rattle.multi_layout.specs.declared.filled.Order.{Order}
+use Rattle.multi_layout.specs.declared.pass.Pass.{Pass}
+use Rattle.multi_layout.specs.declared.pass.Order.{Order}
 use Rattle.multi_layout.specs.declared.line.Line.{Line}
 use Rattle.multi_layout.specs.Run.{IsBehindCharacter, IsBehindOne, kept_fits, kept_fits_height, lengthened, lengthened_line, line_in_force}
 
 -- by what is kept, the present line and the present area fit the rectangle in force (own)
-pub record FitsHere (kept : Filled) : Type 0 where
+pub record FitsHere (kept : Pass) : Type 0 where
   pub width : kept_fits kept.state.attributes.rectangle.width (line_in_force kept.state) ≡ true
   pub height : kept_fits_height kept.state.attributes.rectangle.height kept.state.area ≡ true
 
@@ -23,7 +23,7 @@ GoesOnBehind here split = IfSome split (λ s. s.behind.any ≡ true → IsBehind
 
 -- the last character was put into the present area with the attributes in force, what is there fits, and so a character here only
 -- lengthens what is kept (own)
-pub record IsFilledRun (kept : Filled) : Type 0 where
+pub record IsFilledRun (kept : Pass) : Type 0 where
   pub behind : IsBehindCharacter kept.state
   pub order : IsOrderOf kept.state.attributes.line_just kept.order
   pub split : GoesOnBehind kept.state.attributes kept.split
@@ -56,7 +56,7 @@ abbrev pub with_run_behind : Attributes → ℕ → ℕ → ℕ → Split → Sp
 with_run_behind here gap pixels count split = record split { behind = with_run here gap pixels count split.behind }
 
 -- what is kept with so many more characters of a run, of so many pixels with this gap before each; none is a space (own)
-abbrev pub with_word : ℕ → ℕ → ℕ → Filled → Filled
+abbrev pub with_word : ℕ → ℕ → ℕ → Pass → Pass
 with_word gap pixels count kept = record {
   state = lengthened ((line_in_force kept.state).part.width + pixels) ((line_in_force kept.state).part.count + count) kept.state;
   split = option_map (with_run_behind kept.state.attributes gap pixels count) kept.split;

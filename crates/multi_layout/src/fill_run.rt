@@ -11,7 +11,7 @@ ghost use Rattle.multi_layout.specs.Sums.{IsLineBelow};
 
 use crate::attributes::Attributes;
 use crate::fill::Split;
-use crate::filled::Filled;
+use crate::pass::Pass;
 use crate::line::{Line, Segment};
 use crate::terms::Terms;
 use multi_token::Source;
@@ -70,7 +70,7 @@ impl Line {
     }
 }
 
-impl Filled {
+impl Pass {
     /// Takes the octets from an offset on, which stand for themselves, as long as they stay on the present line: up to a bracket, a
     /// space, or the first that has no cell or doesn't fit, or none where the first would not have the attributes of the character
     /// before it. The answer is how many it took, and the octet read behind them. Each look counts.

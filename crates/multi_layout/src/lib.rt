@@ -15,7 +15,7 @@ mod draw;
 mod fault;
 mod fill;
 mod fill_run;
-mod filled;
+mod pass;
 mod item;
 mod judge;
 mod laws;

@@ -22,7 +22,7 @@ ghost use Rattle.multi_layout.specs.Walk.{GoesBehind, IsBefore, IsBetween, IsFir
 
 use crate::area::Area;
 use crate::cursor::{Cursor, NextItem};
-use crate::filled::Filled;
+use crate::pass::Pass;
 use crate::item::KnownItem;
 use crate::state::State;
 use crate::table::{CountedLine, LineTable};
@@ -102,7 +102,7 @@ fn read_filled(sign: &Terms<'_>, source: &mut Source<'_>, cursor: Cursor, read: 
         → IsAreaRead sign.now before behind cursor read.new source.old source.new }
 {
     let mut cursor = cursor;
-    let mut kept = Filled::new(cursor.state);
+    let mut kept = Pass::new(cursor.state);
     while let Some(next) = next_plain(&cursor, source) {
         pass_filled(sign, source, &mut kept, next.item, &mut read.lines);
         cursor.at += next.len;
@@ -174,7 +174,7 @@ fn pass_item(
 fn pass_filled(
     sign: &Terms<'_>,
     source: &mut Source<'_>,
-    kept: &mut Filled,
+    kept: &mut Pass,
     item: KnownItem,
     lines: &mut LineTable,
 )
@@ -198,7 +198,7 @@ fn pass_filled(
 fn pass_shown(
     sign: &Terms<'_>,
     source: &mut Source<'_>,
-    kept: &mut Filled,
+    kept: &mut Pass,
     number: u16,
     lines: &mut LineTable,
 )
@@ -225,7 +225,7 @@ fn pass_shown(
 fn pass_tag(
     sign: &Terms<'_>,
     source: &mut Source<'_>,
-    kept: &mut Filled,
+    kept: &mut Pass,
     tag: Tag,
     lines: &mut LineTable,
 )

@@ -8,7 +8,7 @@ ghost use Rattle.multi_layout.specs.Progress.{IsTold, IsAt, IsBehind, IsRefused}
 ghost use Rattle.multi_layout.specs.State.{whole_times};
 
 use crate::fault::SyntaxError;
-use crate::filled::Filled;
+use crate::pass::Pass;
 use crate::state::State;
 use crate::terms::Terms;
 use crate::verdict::Offence;
@@ -28,7 +28,7 @@ pub(crate) fn judge_filled(
     ensures small { OnOk result (state.new.cycle ≤ 510 * state.new.pages) }
     ensures refused { IfErr result (λ offence. IsRefused sign.now source.old.octets offence source.new) }
 {
-    let mut kept = Filled::new(State::new(sign));
+    let mut kept = Pass::new(State::new(sign));
     let mut at = 0;
     let mut next = source.read(at);
     while let Some(first) = next {
@@ -50,7 +50,7 @@ pub(crate) fn judge_filled(
 /// behind it that only lengthen what is kept. It gives the offset behind, and the octet read there.
 fn filled_from(
     sign: &Terms<'_>,
-    kept: &mut Filled,
+    kept: &mut Pass,
     source: &mut Source<'_>,
     at: usize,
     first: u8,
@@ -72,7 +72,7 @@ fn filled_from(
 /// Judges the characters behind one that only lengthen what is kept: the offset behind them, and the octet read there.
 fn filled_run(
     sign: &Terms<'_>,
-    kept: &mut Filled,
+    kept: &mut Pass,
     source: &mut Source<'_>,
     at: usize,
 ) -> (usize, Option<u8>)
@@ -90,7 +90,7 @@ fn filled_run(
 /// there.
 fn filled_bracket(
     sign: &Terms<'_>,
-    kept: &mut Filled,
+    kept: &mut Pass,
     source: &mut Source<'_>,
     at: usize,
     first: u8,

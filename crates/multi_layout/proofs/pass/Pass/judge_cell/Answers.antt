@@ -3,7 +3,7 @@ use Rattle.multi_layout.specs.declared.line.Character.{Character}
 use Rattle.multi_layout.specs.Sums.{IsBelow}
 use Rattle.multi_layout.proofs.FilledJudgedLemmas.{filled_conflict}
 use Rattle.multi_layout.proofs.FilledKeptLemmas.{exit_fits, exit_too_big, laid_count}
-use Rattle.multi_layout.proofs.filled.Filled.judge_cell.Goals as goal
+use Rattle.multi_layout.proofs.pass.Pass.judge_cell.Goals as goal
 
 pub returns-then-page_just-present-clause-judged : goal.returns-then-page_just-present-clause-judged
 returns-then-page_just-present-clause-judged c = λ sign items cell of some wide. filled_conflict sign items c.args.self.now of c.args.number cell some c.clashes.result c.clashes.ensures c.if-page_just-present.true

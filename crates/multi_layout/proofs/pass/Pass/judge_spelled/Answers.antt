@@ -8,7 +8,7 @@ use Rattle.multi_layout.specs.Codes.{code_of}
 use Rattle.multi_layout.specs.Meaning.{meaning}
 use Rattle.multi_layout.specs.Offence.{offence}
 use Rattle.multi_layout.proofs.OffenceLemmas.{offence-faulty}
-use Rattle.multi_layout.proofs.filled.Filled.judge_spelled.Goals as goal
+use Rattle.multi_layout.proofs.pass.Pass.judge_spelled.Goals as goal
 
 pub returns-in-Err-clause-judged : goal.returns-in-Err-clause-judged
 returns-in-Err-clause-judged c = λ items of.

@@ -1,11 +1,11 @@
 use Rattle.std.proofs.Common.{◌≡◌, Bool, true, false, ◌&&◌, [], refl, sym, ap}
 use Rattle.std.specs.Prelude.{nat_lt}
 use Rattle.std.specs.List.{list_any}
-use Rattle.multi_layout.specs.declared.filled.Order.{Order}
+use Rattle.multi_layout.specs.declared.pass.Order.{Order}
 use Rattle.multi_layout.specs.Address.{Spot}
 use Rattle.multi_layout.specs.FillSums.{order_sum}
 use Rattle.multi_layout.proofs.FilledOrderLemmas.{order_more}
-use Rattle.multi_layout.proofs.filled.Order.with.Goals as goal
+use Rattle.multi_layout.proofs.pass.Order.with.Goals as goal
 
 pub returns : goal.returns
 returns c line s is apart goes stays = order_more line s c.args.just (c.args.goes_on && c.args.self.now.has_parts) is apart (by_goes c.args.goes_on goes stays)

@@ -1,7 +1,7 @@
 use Rattle.sign_font.specs.Sign.{cell_in}
 use Rattle.multi_layout.proofs.FilledJudgedLemmas.{filled_undefined}
 use Rattle.multi_layout.proofs.RunReadLemmas.{cell_of_width, no_cell}
-use Rattle.multi_layout.proofs.filled.Filled.judge_character.Goals as goal
+use Rattle.multi_layout.proofs.pass.Pass.judge_character.Goals as goal
 
 pub returns-in-Some-clause-judged : goal.returns-in-Some-clause-judged
 returns-in-Some-clause-judged c = λ items of.

@@ -30,7 +30,7 @@ use multi_token::{Bracketed, Source};
 
 /// The running state behind some items of a string, where lines are filled.
 #[derive(Clone, Copy)]
-pub(crate) struct Filled {
+pub(crate) struct Pass {
     /// That of the items as they are laid out, where a dropped space is the end of its line.
     pub(crate) state: State,
     /// The parts of the present line around its last space.
@@ -79,13 +79,13 @@ impl Order {
     }
 }
 
-impl Filled {
+impl Pass {
     /// What is kept where an area begins, from the state there.
-    pub(crate) fn new(state: State) -> Filled
+    pub(crate) fn new(state: State) -> Pass
         ensures { (sign : SignData) (items : List Meaning) → IsStateOf sign (laid_items Words sign items items) state
             → present_area sign items ≡ [] → IsFilledOf sign items result }
     {
-        Filled {
+        Pass {
             state,
             split: None,
             order: Order::new(),

@@ -2,7 +2,7 @@ use Rattle.std.proofs.Common.{◌*◌, length, ap, refl, subst, ◌∙◌}
 use Rattle.multi_layout.specs.declared.line.Character.{Character}
 use Rattle.multi_layout.specs.Sums.{IsBelow}
 use Rattle.multi_layout.proofs.FilledKeptLemmas.{laid_count, passed_behind}
-use Rattle.multi_layout.proofs.filled.Filled.pass_cell.Goals as goal
+use Rattle.multi_layout.proofs.pass.Pass.pass_cell.Goals as goal
 
 pub returns : goal.returns
 returns c = record {

@@ -1,8 +1,8 @@
 use Rattle.std.proofs.Common.{None, subst, sym}
-use Rattle.multi_layout.specs.declared.filled.Order.{Order}
+use Rattle.multi_layout.specs.declared.pass.Order.{Order}
 use Rattle.multi_layout.specs.FilledState.{IsFilledOf}
 use Rattle.multi_layout.proofs.FilledReadLemmas.{filled_start}
-use Rattle.multi_layout.proofs.filled.Filled.new.Goals as goal
+use Rattle.multi_layout.proofs.pass.Pass.new.Goals as goal
 
 pub returns : goal.returns
 returns c = λ sign items st none. subst (λ (l : Order). IsFilledOf sign items (record { state = c.args.state; split = None; order = l })) (sym c.new.ensures) (filled_start sign items c.args.state st none)

@@ -3,7 +3,7 @@ use Rattle.sign_font.specs.declared.parts.LineFill.TheVariants.{Words}
 use Rattle.multi_layout.specs.LaidItems.{laid_items}
 use Rattle.multi_layout.specs.Meaning.{meaning}
 use Rattle.multi_layout.proofs.FilledTextLemmas.{front_taken}
-use Rattle.multi_layout.proofs.filled.Filled.take_run.Goals as goal
+use Rattle.multi_layout.proofs.pass.Pass.take_run.Goals as goal
 
 pub returns-clause-taken : goal.returns-clause-taken
 returns-clause-taken c = λ r.
