@@ -49,6 +49,7 @@ pub mod GroupLaidLemmas
 pub mod GroupSumLemmas
 pub mod HeightLemmas
 pub mod InForceLemmas
+pub mod ItemAtLemmas
 pub mod JudgedLemmas
 pub mod KnownLinesLemmas
 pub mod KnownStepLemmas
@@ -72,6 +73,7 @@ pub mod PageLoopLemmas
 pub mod PagesLemmas
 pub mod PagesTurnLemmas
 pub mod PaintLemmas
+pub mod PassLemmas
 pub mod PictureExamples
 pub mod PictureLemmas
 pub mod PieceLemmas

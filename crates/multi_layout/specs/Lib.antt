@@ -11,6 +11,7 @@ pub mod FilledRun
 pub mod FilledState
 pub mod Filling
 pub mod Fit
+pub mod ItemAt
 pub mod KnownItem
 pub mod Laid
 pub mod LaidItems
@@ -21,6 +22,7 @@ pub mod Meaning
 pub mod Offence
 pub mod Pages
 pub mod Paging
+pub mod PassOf
 pub mod Passes
 pub mod Picture
 pub mod Place

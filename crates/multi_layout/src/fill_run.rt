@@ -11,8 +11,8 @@ ghost use Rattle.multi_layout.specs.Sums.{IsLineBelow};
 
 use crate::attributes::Attributes;
 use crate::fill::Split;
-use crate::pass::Pass;
 use crate::line::{Line, Segment};
+use crate::pass::Pass;
 use crate::terms::Terms;
 use multi_token::Source;
 use sign_font::FontInfo;

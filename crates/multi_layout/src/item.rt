@@ -1,6 +1,6 @@
 //! The items of a string, as they are read.
 
-ghost use Rattle.std.specs.Prelude.{◌≡◌, ◌+◌, ◌-◌, IfOk, IfErr, slice_range};
+ghost use Rattle.std.specs.Prelude.{◌≡◌, ◌+◌, ◌-◌, Err, IfOk, IfErr, slice_range};
 ghost use Rattle.multi_token.specs.Counted.{RisesBetween};
 ghost use Rattle.multi_token.specs.Spelling as spelled;
 ghost use Rattle.multi_token.specs.Tokens.{IsTokenOf, item_of};
@@ -97,7 +97,16 @@ fn item_of_tag(read: Result<Tag, TagFault>) -> Result<KnownItem, SyntaxError>
     match read {
         Ok(Tag::HexChar(number)) => Ok(KnownItem::Char(number)),
         Ok(tag) => Ok(KnownItem::Tag(tag)),
-        Err(TagFault::Unsupported) => Err(SyntaxError::UnsupportedTag),
-        Err(TagFault::Value) => Err(SyntaxError::UnsupportedTagValue),
+        Err(fault) => Err(tag_error(fault)),
+    }
+}
+
+/// The error of a tag at fault.
+pub(crate) fn tag_error(fault: TagFault) -> SyntaxError
+    ensures { meaning_of_tag (Err fault) ≡ Faulty (code_of result) }
+{
+    match fault {
+        TagFault::Unsupported => SyntaxError::UnsupportedTag,
+        TagFault::Value => SyntaxError::UnsupportedTagValue,
     }
 }

@@ -26,31 +26,6 @@ use multi_tag::{FontPick, Tag};
 use multi_token::{Bracketed, Source};
 use sign_font::{Cell, Defaults, Sign};
 
-/// Judges what begins with this bracket at an offset.
-#[inline(always)]
-pub(crate) fn judge_spelled(
-    sign: &Terms<'_>,
-    state: &mut State,
-    source: &mut Source<'_>,
-    at: usize,
-    bracket: u8,
-    spelled: Bracketed,
-) -> Result<(), SyntaxError>
-    requires ready { IsReady state.old }
-    requires stands { IsBracketed source.old.octets at bracket spelled }
-    ensures judged { Judges sign.now state.old (meaning (item_spelled source.old.octets at bracket spelled)) result state.new }
-    ensures steps { RisesBetween source.old source.new 0 (octets_of spelled + 7) }
-{
-    match spelled {
-        Bracketed::Doubled => judge_character(sign, state, source, u16::from(bracket)),
-        Bracketed::Tag(len) => match tag_item(source, at, len) {
-            Ok(KnownItem::Tag(tag)) => judge_tag(sign, state, source, tag),
-            Ok(KnownItem::Char(number)) => judge_character(sign, state, source, number),
-            Err(error) => Err(error),
-        },
-    }
-}
-
 /// Judges what a tag says.
 #[inline(always)]
 pub(crate) fn judge_tag(
@@ -76,30 +51,9 @@ pub(crate) fn judge_tag(
     }
 }
 
-/// Judges a character: whether its font has a cell for it, and whether it may stand on its line and fits.
-#[inline(always)]
-pub(crate) fn judge_character(
-    sign: &Terms<'_>,
-    state: &mut State,
-    source: &mut Source<'_>,
-    number: u16,
-) -> Result<(), SyntaxError>
-    requires { IsReady state.old }
-    ensures judged { Judges sign.now state.old (Shows number) result state.new }
-    ensures behind { OnOk result (IsBehindCharacter state.new) }
-    ensures step { number ≤ 255 → source.new ≡ charged source.old 1 }
-    ensures steps { RisesBetween source.old source.new 0 8 }
-{
-    let font = state.attributes.font.number;
-    match sign.cell_width(source, font, number) {
-        Some(width) => judge_cell(state, number, width),
-        None => Err(SyntaxError::CharacterNotDefined),
-    }
-}
-
 /// Judges a character whose cell has this width in pixels.
 #[inline(always)]
-fn judge_cell(state: &mut State, number: u16, width: u8) -> Result<(), SyntaxError>
+pub(crate) fn judge_cell(state: &mut State, number: u16, width: u8) -> Result<(), SyntaxError>
     requires { IsReady state.old }
     ensures judged { (sign : SignData) (cell : SizedCell) → cell_in sign state.old.attributes.font.number number ≡ Some cell → width ≡ cell.width
         → Judges sign state.old (Shows number) result state.new }

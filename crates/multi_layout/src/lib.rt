@@ -8,6 +8,7 @@
 
 mod area;
 mod attributes;
+mod bracket;
 mod cell;
 mod checked;
 mod cursor;
@@ -15,13 +16,13 @@ mod draw;
 mod fault;
 mod fill;
 mod fill_run;
-mod pass;
 mod item;
 mod judge;
 mod laws;
 mod line;
 mod pages;
 mod paint;
+mod pass;
 mod place;
 mod read;
 mod run;
@@ -30,7 +31,6 @@ mod table;
 mod terms;
 mod times;
 mod verdict;
-mod words;
 
 pub use checked::Checked;
 pub use fault::{Fault, SyntaxError};

@@ -1,9 +1,8 @@
-//! What is kept of the items that were read, where lines are filled by words.
+//! One pass over a string from the left: what is kept of its items, and how each of them is judged.
 
 ghost use Rattle.std.specs.Prelude.{◌≡◌, ◌+◌, ◌^◌, ◌≤◌, true, false, List, [], ◌∷◌, ◌++◌, None, Some, IfSome, OnOk};
 ghost use Rattle.std.specs.List.{list_any};
 ghost use Rattle.multi_token.specs.Counted.{RisesBetween, charged};
-ghost use Rattle.multi_token.specs.Tokens.{IsBracketed, item_spelled, octets_of};
 ghost use Rattle.sign_font.specs.declared.parts.LineFill.TheVariants.{Words};
 ghost use Rattle.sign_font.specs.Cell.{SizedCell};
 ghost use Rattle.sign_font.specs.Sign.{SignData, cell_in};
@@ -12,23 +11,27 @@ ghost use Rattle.multi_layout.specs.FilledRun.{FitsHere};
 ghost use Rattle.multi_layout.specs.FilledState.{IsFilledBehind, IsFilledJudged, IsFilledOf, IsFilledReady, JudgesFilled, begins_line};
 ghost use Rattle.multi_layout.specs.FillSums.{order_sum};
 ghost use Rattle.multi_layout.specs.LaidItems.{laid_items};
-ghost use Rattle.multi_layout.specs.Meaning.{Does, Meaning, Shows, meaning};
+ghost use Rattle.multi_layout.specs.KnownItem.{IsKnownItem, meant_by};
+ghost use Rattle.multi_layout.specs.Meaning.{Does, Meaning, Shows};
 ghost use Rattle.multi_layout.specs.Offence.{clashes, offence};
+ghost use Rattle.multi_layout.specs.PassOf.{IsItemJudged, IsPassBehind, IsPassOf, IsPassReady, JudgesItem};
 ghost use Rattle.multi_layout.specs.State.{IsKnown, IsStateOf, present_area};
 ghost use Rattle.multi_layout.specs.Sums.{IsLineBelow};
 
 use crate::attributes::Rectangle;
 use crate::fault::SyntaxError;
 use crate::fill::Split;
-use crate::item::{KnownItem, tag_item};
-use crate::judge::judge_tag;
+use crate::item::KnownItem;
+use crate::judge::{judge_cell, judge_tag};
 use crate::line::Line;
 use crate::state::State;
 use crate::terms::Terms;
 use multi_tag::Tag;
-use multi_token::{Bracketed, Source};
+use multi_token::Source;
 
-/// The running state behind some items of a string, where lines are filled.
+/// What is kept behind some items of a string.
+///
+/// Its calls take as `WORDS` whether lines are filled. Only where they are does it keep more than the state.
 #[derive(Clone, Copy)]
 pub(crate) struct Pass {
     /// That of the items as they are laid out, where a dropped space is the end of its line.
@@ -82,7 +85,8 @@ impl Order {
 impl Pass {
     /// What is kept where an area begins, from the state there.
     pub(crate) fn new(state: State) -> Pass
-        ensures { (sign : SignData) (items : List Meaning) → IsStateOf sign (laid_items Words sign items items) state
+        ensures state { result.state ≡ state }
+        ensures filled { (sign : SignData) (items : List Meaning) → IsStateOf sign (laid_items Words sign items items) state
             → present_area sign items ≡ [] → IsFilledOf sign items result }
     {
         Pass {
@@ -92,32 +96,84 @@ impl Pass {
         }
     }
 
-    /// Judges what begins with this bracket at an offset.
-    pub(crate) fn judge_spelled(
+    /// Judges an item.
+    #[inline(always)]
+    pub(crate) fn judge_item<const WORDS: bool>(
         &mut self,
         sign: &Terms<'_>,
         source: &mut Source<'_>,
-        at: usize,
-        bracket: u8,
-        spelled: Bracketed,
+        item: KnownItem,
     ) -> Result<(), SyntaxError>
-        requires ready { IsFilledReady self.old }
-        requires stands { IsBracketed source.old.octets at bracket spelled }
-        ensures judged { JudgesFilled sign.now self.old (meaning (item_spelled source.old.octets at bracket spelled)) result self.new }
-        ensures steps { RisesBetween source.old source.new 0 (octets_of spelled + 7) }
+        requires ready { IsPassReady WORDS self.old }
+        requires known { IsKnownItem item }
+        ensures judged { JudgesItem WORDS sign.now self.old (meant_by item) result self.new }
+        ensures steps { RisesBetween source.old source.new 0 8 }
     {
-        match spelled {
-            Bracketed::Doubled => self.judge_character(sign, source, u16::from(bracket)),
-            Bracketed::Tag(len) => match tag_item(source, at, len) {
-                Ok(KnownItem::Tag(tag)) => self.judge_tag(sign, source, tag),
-                Ok(KnownItem::Char(number)) => self.judge_character(sign, source, number),
-                Err(error) => Err(error),
-            },
+        match item {
+            KnownItem::Char(number) => self.judge_character::<WORDS>(sign, source, number),
+            KnownItem::Tag(tag) => self.judge_tag::<WORDS>(sign, source, tag),
+        }
+    }
+
+    /// Judges a character: whether its font has a cell for it, and whether it may stand on its line and fits.
+    #[inline(always)]
+    pub(crate) fn judge_character<const WORDS: bool>(
+        &mut self,
+        sign: &Terms<'_>,
+        source: &mut Source<'_>,
+        number: u16,
+    ) -> Result<(), SyntaxError>
+        requires ready { IsPassReady WORDS self.old }
+        ensures judged { JudgesItem WORDS sign.now self.old (Shows number) result self.new }
+        ensures behind { OnOk result (IsPassBehind WORDS self.new) }
+        ensures step { number ≤ 255 → source.new ≡ charged source.old 1 }
+        ensures steps { RisesBetween source.old source.new 0 8 }
+    {
+        let font = self.state.attributes.font.number;
+        match sign.cell_width(source, font, number) {
+            Some(width) => self.judge_cell::<WORDS>(number, width),
+            None => Err(SyntaxError::CharacterNotDefined),
+        }
+    }
+
+    /// Judges a character whose cell has this width in pixels.
+    #[inline(always)]
+    fn judge_cell<const WORDS: bool>(&mut self, number: u16, width: u8) -> Result<(), SyntaxError>
+        requires ready { IsPassReady WORDS self.old }
+        ensures judged { (sign : SignData) (items : List Meaning) (cell : SizedCell) → IsPassOf WORDS sign self.old items
+            → cell_in sign self.old.state.attributes.font.number number ≡ Some cell → width ≡ cell.width
+            → IsItemJudged WORDS sign items (Shows number) result self.new }
+        ensures behind { OnOk result (IsPassBehind WORDS self.new) }
+    {
+        if WORDS {
+            self.fill_cell(number, width)
+        } else {
+            judge_cell(&mut self.state, number, width)
         }
     }
 
     /// Judges what a tag says.
-    pub(crate) fn judge_tag(
+    #[inline(always)]
+    fn judge_tag<const WORDS: bool>(
+        &mut self,
+        sign: &Terms<'_>,
+        source: &mut Source<'_>,
+        tag: Tag,
+    ) -> Result<(), SyntaxError>
+        requires ready { IsPassReady WORDS self.old }
+        requires known { IsKnown tag }
+        ensures judged { JudgesItem WORDS sign.now self.old (Does tag) result self.new }
+        ensures steps { RisesBetween source.old source.new 0 1 }
+    {
+        if WORDS {
+            self.fill_tag(sign, source, tag)
+        } else {
+            judge_tag(sign, &mut self.state, source, tag)
+        }
+    }
+
+    /// Judges what a tag says, where lines are filled.
+    pub(crate) fn fill_tag(
         &mut self,
         sign: &Terms<'_>,
         source: &mut Source<'_>,
@@ -136,43 +192,8 @@ impl Pass {
         judged
     }
 
-    /// Judges an octet that stands for itself.
-    pub(crate) fn judge_octet(
-        &mut self,
-        sign: &Terms<'_>,
-        source: &mut Source<'_>,
-        octet: u8,
-    ) -> Result<(), SyntaxError>
-        requires ready { IsFilledReady self.old }
-        ensures judged { JudgesFilled sign.now self.old (Shows octet) result self.new }
-        ensures fits { OnOk result (FitsHere self.new) }
-        ensures step { source.new ≡ charged source.old 1 }
-    {
-        self.judge_character(sign, source, u16::from(octet))
-    }
-
-    /// Judges a character: whether its font has a cell for it, and whether it may stand on its line and fits.
-    pub(crate) fn judge_character(
-        &mut self,
-        sign: &Terms<'_>,
-        source: &mut Source<'_>,
-        number: u16,
-    ) -> Result<(), SyntaxError>
-        requires ready { IsFilledReady self.old }
-        ensures judged { JudgesFilled sign.now self.old (Shows number) result self.new }
-        ensures fits { OnOk result (FitsHere self.new) }
-        ensures step { number ≤ 255 → source.new ≡ charged source.old 1 }
-        ensures steps { RisesBetween source.old source.new 0 8 }
-    {
-        let font = self.state.attributes.font.number;
-        match sign.cell_width(source, font, number) {
-            Some(width) => self.judge_cell(number, width),
-            None => Err(SyntaxError::CharacterNotDefined),
-        }
-    }
-
-    /// Judges a character whose cell has this width in pixels.
-    pub(crate) fn judge_cell(&mut self, number: u16, width: u8) -> Result<(), SyntaxError>
+    /// Judges a character whose cell has this width in pixels, where lines are filled.
+    fn fill_cell(&mut self, number: u16, width: u8) -> Result<(), SyntaxError>
         requires ready { IsFilledReady self.old }
         ensures judged { (sign : SignData) (items : List Meaning) (cell : SizedCell) → IsFilledOf sign items self.old
             → cell_in sign self.old.state.attributes.font.number number ≡ Some cell → width ≡ cell.width

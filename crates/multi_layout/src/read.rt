@@ -22,8 +22,8 @@ ghost use Rattle.multi_layout.specs.Walk.{GoesBehind, IsBefore, IsBetween, IsFir
 
 use crate::area::Area;
 use crate::cursor::{Cursor, NextItem};
-use crate::pass::Pass;
 use crate::item::KnownItem;
+use crate::pass::Pass;
 use crate::state::State;
 use crate::table::{CountedLine, LineTable};
 use crate::terms::Terms;
@@ -240,7 +240,7 @@ fn pass_tag(
     ensures steps { RisesBetween source.old source.new 0 8 }
 {
     let group = kept.state.area.group_for(kept.state.attributes.page_just);
-    let Ok(()) = kept.judge_tag(sign, source, tag) else {
+    let Ok(()) = kept.fill_tag(sign, source, tag) else {
         unreachable!();
     };
     if let Tag::NewLine(_) = tag {

@@ -1,24 +1,23 @@
 //! The verdict on a string, in one reading from the left with running sums.
 
-ghost use Rattle.std.specs.Prelude.{◌≡◌, ℕ, ◌+◌, ◌^◌, ◌<◌, ◌≤◌, ◌*◌, ◌-◌, ◌⊎◌, [], length, slice_get, IfOk, IfErr, OnOk, None, Some};
+ghost use Rattle.std.specs.Prelude.{◌≡◌, Bool, ℕ, ◌+◌, ◌^◌, ◌<◌, ◌≤◌, ◌*◌, ◌-◌, ◌⊎◌, [], length, slice_get, IfOk, IfErr, OnOk, None, Some};
 ghost use Rattle.multi_token.specs.Counted.{charged, RisesBetween};
-ghost use Rattle.multi_token.specs.Tokens.{IsTokenOf, item_of};
-ghost use Rattle.sign_font.specs.declared.parts.LineFill.TheVariants.{Off};
 ghost use Rattle.sign_font.specs.Defaults.{default_fault, under};
 ghost use Rattle.multi_layout.specs.Codes.{code_of};
 ghost use Rattle.multi_layout.specs.Limits.{check_limit};
-ghost use Rattle.multi_layout.specs.Progress.{IsTold, IsAt, IsRefused};
-ghost use Rattle.multi_layout.specs.State.{IsStateOf, IsUnfilledOf, whole_times};
+ghost use Rattle.multi_layout.specs.Progress.{IsAt, IsBehind, IsRefused, IsTold};
+ghost use Rattle.multi_layout.specs.PassOf.{IsPassBehind, IsPassOf, fill_of};
+ghost use Rattle.multi_layout.specs.State.{whole_times};
 ghost use Rattle.multi_layout.specs.Verdict.{Accepted, IsVerdict, Refused};
 
+use crate::bracket::read_spelled;
 use crate::checked::Checked;
 use crate::fault::{Fault, SyntaxError};
-use crate::judge::{judge_character, judge_spelled};
+use crate::pass::Pass;
 use crate::run::judge_run;
 use crate::state::State;
 use crate::terms::Terms;
-use crate::words::judge_filled;
-use multi_token::{Source, read_bracket};
+use multi_token::Source;
 use sign_font::{Defaults, LineFill, Sign};
 
 /// The first error of a string, and the offset of its item.
@@ -81,11 +80,11 @@ pub fn check_with<'a>(
 {
     let terms = Terms::new(sign, defaults);
     let mut source = source;
-    let mut state = State::new(&terms);
-    match judge(&terms, &mut state, &mut source) {
+    let mut pass = Pass::new(State::new(&terms));
+    match judge(&terms, &mut pass, &mut source) {
         Ok(()) => Ok(Checked {
-            pages: state.pages,
-            cycle: state.whole_cycle(),
+            pages: pass.state.pages,
+            cycle: pass.state.whole_cycle(),
             terms,
             source,
         }),
@@ -97,40 +96,40 @@ pub fn check_with<'a>(
     }
 }
 
-/// Goes from the state before the first item through an accepted string, and leaves its pages and times in the state, or goes to
-/// the first item that offends.
+/// Goes from the pass before the first item through an accepted string, and leaves its pages and times in the pass, or goes to the
+/// first item that offends.
 #[inline(always)]
-fn judge(sign: &Terms<'_>, state: &mut State, source: &mut Source<'_>) -> Result<(), Offence>
-    requires start { IsStateOf sign.now [] state.old }
+fn judge(sign: &Terms<'_>, pass: &mut Pass, source: &mut Source<'_>) -> Result<(), Offence>
+    requires start { (words : Bool) → sign.now.line_fill ≡ fill_of words → IsPassOf words sign.now pass.old [] }
     requires fresh { source.old.steps ≡ 0 }
     requires short { length source.old.octets < 2 ^ 32 }
-    ensures accepted { OnOk result (IsTold sign.now source.old.octets state.new.pages (whole_times state.new) source.new) }
-    ensures small { OnOk result (state.new.cycle ≤ 510 * state.new.pages) }
+    ensures accepted { OnOk result (IsTold sign.now source.old.octets pass.new.state.pages (whole_times pass.new.state) source.new) }
+    ensures small { OnOk result (pass.new.state.cycle ≤ 510 * pass.new.state.pages) }
     ensures refused { IfErr result (λ offence. IsRefused sign.now source.old.octets offence source.new) }
 {
     match sign.line_fill() {
-        LineFill::Off => judge_unfilled(sign, state, source),
-        LineFill::Words => judge_filled(sign, state, source),
+        LineFill::Off => judge_all::<false>(sign, pass, source),
+        LineFill::Words => judge_all::<true>(sign, pass, source),
     }
 }
 
-/// The same where lines aren't filled.
-fn judge_unfilled(
+/// The same for lines of one kind: filled or not.
+fn judge_all<const WORDS: bool>(
     sign: &Terms<'_>,
-    state: &mut State,
+    pass: &mut Pass,
     source: &mut Source<'_>,
 ) -> Result<(), Offence>
-    requires start { IsUnfilledOf sign.now state.old [] }
+    requires start { IsPassOf WORDS sign.now pass.old [] }
     requires fresh { source.old.steps ≡ 0 }
     requires short { length source.old.octets < 2 ^ 32 }
-    ensures accepted { OnOk result (IsTold sign.now source.old.octets state.new.pages (whole_times state.new) source.new) }
-    ensures small { OnOk result (state.new.cycle ≤ 510 * state.new.pages) }
+    ensures accepted { OnOk result (IsTold sign.now source.old.octets pass.new.state.pages (whole_times pass.new.state) source.new) }
+    ensures small { OnOk result (pass.new.state.cycle ≤ 510 * pass.new.state.pages) }
     ensures refused { IfErr result (λ offence. IsRefused sign.now source.old.octets offence source.new) }
 {
     let mut at = 0;
     let mut next = source.read(at);
     while let Some(first) = next {
-        match judge_from(sign, state, source, at, first) {
+        match judge_from::<WORDS>(sign, pass, source, at, first) {
             Ok((behind, octet)) => {
                 at = behind;
                 next = octet;
@@ -142,24 +141,24 @@ fn judge_unfilled(
 }
 
 /// Judges what begins with this octet at an offset, which was read: an item that begins with a bracket, or a character and those
-/// behind it that only lengthen its segment. It gives the offset behind, and the octet read there.
-fn judge_from(
+/// behind it that only lengthen its line. It gives the offset behind, and the octet read there.
+fn judge_from<const WORDS: bool>(
     sign: &Terms<'_>,
-    state: &mut State,
+    pass: &mut Pass,
     source: &mut Source<'_>,
     at: usize,
     first: u8,
 ) -> Result<(usize, Option<u8>), Offence>
     requires short { length source.old.octets < 2 ^ 32 }
-    requires at { IsAt sign.now source.old.octets at (Some first) (IsUnfilledOf sign.now state.old) source.old }
-    ensures at { IfOk result (λ to. (at < to.0) × IsAt sign.now source.old.octets to.0 to.1 (IsUnfilledOf sign.now state.new) source.new) }
+    requires at { IsAt sign.now source.old.octets at (Some first) (IsPassOf WORDS sign.now pass.old) source.old }
+    ensures at { IfOk result (λ to. (at < to.0) × IsAt sign.now source.old.octets to.0 to.1 (IsPassOf WORDS sign.now pass.new) source.new) }
     ensures refused { IfErr result (λ offence. IsRefused sign.now source.old.octets offence source.new) }
 {
     if first == b'[' || first == b']' {
-        return judge_bracket(sign, state, source, at, first);
+        return judge_bracket::<WORDS>(sign, pass, source, at, first);
     }
-    match judge_character(sign, state, source, u16::from(first)) {
-        Ok(()) => Ok(judge_run(sign, state, source, at + 1)),
+    match pass.judge_character::<WORDS>(sign, source, u16::from(first)) {
+        Ok(()) => Ok(judge_run::<WORDS>(sign, pass, source, at + 1)),
         Err(error) => Err(Offence { error, at }),
     }
 }
@@ -167,30 +166,28 @@ fn judge_from(
 /// Judges the item that begins with this bracket at an offset, which was read. It gives the offset behind, and the octet read
 /// there.
 #[inline(always)]
-fn judge_bracket(
+fn judge_bracket<const WORDS: bool>(
     sign: &Terms<'_>,
-    state: &mut State,
+    pass: &mut Pass,
     source: &mut Source<'_>,
     at: usize,
     first: u8,
 ) -> Result<(usize, Option<u8>), Offence>
     requires bracket { (first ≡ 91) ⊎ (first ≡ 93) }
     requires short { length source.old.octets < 2 ^ 32 }
-    requires at { IsAt sign.now source.old.octets at (Some first) (IsUnfilledOf sign.now state.old) source.old }
-    ensures at { IfOk result (λ to. (at < to.0) × IsAt sign.now source.old.octets to.0 to.1 (IsUnfilledOf sign.now state.new) source.new) }
+    requires at { IsAt sign.now source.old.octets at (Some first) (IsPassOf WORDS sign.now pass.old) source.old }
+    ensures at { IfOk result (λ to. (at < to.0) × IsAt sign.now source.old.octets to.0 to.1 (IsPassOf WORDS sign.now pass.new) source.new) }
     ensures refused { IfErr result (λ offence. IsRefused sign.now source.old.octets offence source.new) }
-    // each octet up to the one behind is read at most twice, and beside that at most 8 cells are looked at
-    ensures steps { IfOk result (λ to. source.new.steps ≤ source.old.steps + 2 * (to.0 - at) + 8) }
 {
-    let Ok(spelled) = read_bracket(source, at, first) else {
-        return Err(Offence {
-            error: SyntaxError::UnsupportedTag,
-            at,
-        });
+    let spelled = match read_spelled(source, at, first) {
+        Ok(spelled) => spelled,
+        Err(error) => return Err(Offence { error, at }),
     };
-    if let Err(error) = judge_spelled(sign, state, source, at, first, spelled) {
-        return Err(Offence { error, at });
+    match pass.judge_item::<WORDS>(sign, source, spelled.item) {
+        Ok(()) => {
+            let behind = at + spelled.len;
+            Ok((behind, source.read(behind)))
+        }
+        Err(error) => Err(Offence { error, at }),
     }
-    let behind = at + spelled.len();
-    Ok((behind, source.read(behind)))
 }

@@ -17,33 +17,34 @@ use Rattle.multi_tag.specs.Body.{table, Spells, SpellsSmall}
 use Rattle.multi_tag.specs.Closed.{IsClosedTag, HasNoClosedTag, IsTagAt, HasNoTagAt}
 use Rattle.multi_tag.proofs.ShortLemmas.{short_body}
 
--- no name is empty
-name_some : (name : Name) → 1 ≤ length (table name).name
-name_some names.NewPage = lit≤ tt
-name_some names.NewLine = lit≤ tt
-name_some names.LineJust = lit≤ tt
-name_some names.PageJust = lit≤ tt
-name_some names.Font = lit≤ tt
-name_some names.CharSpacing = lit≤ tt
-name_some names.CharSpacingEnd = lit≤ tt
-name_some names.PageTime = lit≤ tt
-name_some names.Flash = lit≤ tt
-name_some names.FlashEnd = lit≤ tt
-name_some names.Fore = lit≤ tt
-name_some names.Back = lit≤ tt
-name_some names.Rect = lit≤ tt
-name_some names.HexChar = lit≤ tt
+-- each name has two octets or more
+name_long : (name : Name) → 2 ≤ length (table name).name
+name_long names.NewPage = lit≤ tt
+name_long names.NewLine = lit≤ tt
+name_long names.LineJust = lit≤ tt
+name_long names.PageJust = lit≤ tt
+name_long names.Font = lit≤ tt
+name_long names.CharSpacing = lit≤ tt
+name_long names.CharSpacingEnd = lit≤ tt
+name_long names.PageTime = lit≤ tt
+name_long names.Flash = lit≤ tt
+name_long names.FlashEnd = lit≤ tt
+name_long names.Fore = lit≤ tt
+name_long names.Back = lit≤ tt
+name_long names.Rect = lit≤ tt
+name_long names.HexChar = lit≤ tt
 
-body_some : (body : List ℕ) (tag : Tag) → Spells body tag → 1 ≤ length body
+-- and so has each body
+pub body_long : (body : List ℕ) (tag : Tag) → Spells body tag → 2 ≤ length body
 unfolding Spells SpellsSmall
-body_some body tag (name, rest, is, f) = omega (arith, ap length is, length-append (table name).name rest, name_some name, length-map body to_ascii_lowercase)
+body_long body tag (name, rest, is, f) = omega (arith, ap length is, length-append (table name).name rest, name_long name, length-map body to_ascii_lowercase)
 
 module _ (xs : List ℕ) (at : ℕ) where
   -- what was read is a tag there
   stands_there : (body behind : List ℕ) (tag : Tag) → length xs < 2 ^ 63 → slice_get xs at ≡ Some 91 → drop (at + 1) xs ≡ body ++ 93 ∷ behind → Spells body tag → IsTagAt xs at tag (length body + 2)
   stands_there body behind tag room opens is spells =
       let end = at + 1 + length body in
-      let some = body_some body tag spells in
+      let some = body_long body tag spells in
       let size : end - (at + 1) ≡ length body = omega arith in
       let within : slice_range xs (at + 1) end ≡ body = ap (λ n. take n (drop (at + 1) xs)) size ∙ (ap (take (length body)) is ∙ take-append_seam body (93 ∷ behind)) in
       let last : drop end xs ≡ 93 ∷ behind = sym (drop-drop (length body) (at + 1) xs) ∙ (ap (drop (length body)) is ∙ drop-append_seam body (93 ∷ behind)) in

@@ -1,8 +1,10 @@
-use Rattle.std.proofs.Common.{ℕ, ◌≡◌, ◌^◌, ◌<◌, List, length, sym, subst}
+use Rattle.std.proofs.Common.{ℕ, ◌≡◌, ◌^◌, ◌<◌, List, [], length, sym, subst}
 use Rattle.multi_token.specs.Counted.{Counted}
 use Rattle.sign_font.specs.Sign.{SignData}
 use Rattle.multi_layout.specs.Progress.{IsTold}
+use Rattle.multi_layout.specs.State.{IsStateOf}
 use Rattle.multi_layout.specs.Verdict.{Accepted, IsCycle, IsVerdict}
+use Rattle.multi_layout.proofs.PassLemmas.{pass_start}
 use Rattle.multi_layout.proofs.verdict.check_with.Goals as goal
 
 -- what is told of an accepted string holds of the source that comes back
@@ -20,4 +22,10 @@ invariant_of-result c = checked c.new-terms.result c.args.source.octets _ _ c.wh
 
 pub returns-in-Ok-clause-accepted : goal.returns-in-Ok-clause-accepted
 returns-in-Ok-clause-accepted c =
-    (c.judge.new.state.pages, subst (λ (s : SignData). IsVerdict s c.args.source.octets (Accepted c.judge.new.state.pages)) c.new-terms.ensures c.in-Ok.ensures.accepted.verdict)
+    (c.judge.new.pass.state.pages, subst (λ (s : SignData). IsVerdict s c.args.source.octets (Accepted c.judge.new.pass.state.pages)) c.new-terms.ensures c.in-Ok.ensures.accepted.verdict)
+
+pub judge-requires-clause-start : goal.judge-requires-clause-start
+judge-requires-clause-start c = λ words is.
+    let sign = c.new-terms.result in
+    pass_start sign c.new-pass.result words is (subst (IsStateOf sign []) (sym c.new-pass.ensures.state) c.new.ensures.start)
+    (λ st none. c.new-pass.ensures.filled sign [] (subst (IsStateOf sign _) c.new-pass.ensures.state st) none)

@@ -1,62 +1,53 @@
-use Rattle.std.proofs.Common.{ap, arith, ◌∙◌, ◌-◌, ◌≡◌, None, Some, map, sym, subst}
-use Rattle.multi_token.specs.Counted.{Counted, charged}
-use Rattle.multi_token.specs.Tokens.{item_of, item_spelled, octets_of}
-use Rattle.multi_token.proofs.PlaceLemmas.{bracketed_token}
+use Rattle.std.proofs.Common.{◌≡◌, ℕ, ◌-◌, ◌*◌, ◌+◌, ◌≤◌, ◌==◌, List, not, map, ap, sym, subst, arith}
+use Rattle.multi_token.specs.Counted.{Counted, RisesBetween}
 use Rattle.multi_token.proofs.ReadingLemmas.{spelling_some}
-use Rattle.sign_font.specs.declared.parts.LineFill.{LineFill}
-use Rattle.multi_layout.specs.Codes.{code_of}
-use Rattle.multi_layout.specs.Meaning.{meaning}
-use Rattle.multi_layout.specs.Offence.{offence}
-use Rattle.multi_layout.specs.State.{IsUnfilledOf}
-use Rattle.multi_layout.proofs.AtLemmas.{bracket_behind, bracket_offends, bracket_stands, broken_refused}
-use Rattle.multi_layout.proofs.ReadLemmas.{ready_here}
+use Rattle.multi_token.specs.Tokens.{item_of}
+use Rattle.multi_token.proofs.StepLemmas.{rises_then, rises_more}
+use Rattle.multi_layout.specs.ItemAt.{IsItemAt}
+use Rattle.multi_layout.specs.KnownItem.{meant_by}
+use Rattle.multi_layout.specs.Meaning.{Meaning, meaning}
+use Rattle.multi_layout.specs.PassOf.{IsPassOf}
+use Rattle.multi_layout.specs.Progress.{ReadSoFar}
+use Rattle.multi_layout.proofs.AtLemmas.{fault_refused, item_behind, item_offends}
+use Rattle.multi_layout.proofs.PassLemmas.{pass_ready_here}
 use Rattle.multi_layout.proofs.verdict.judge_bracket.Goals as goal
 
-pub returns-in_default-clause-refused : goal.returns-in_default-clause-refused
-returns-in_default-clause-refused c =
-    broken_refused c.args.sign.now c.args.source.now.octets c.args.at c.args.first (IsUnfilledOf c.args.sign.now c.args.state.now) c.args.source.now c.requires.at c.requires.short
-    c.read_bracket.new.source c.in_default.ensures.fault_steps c.in_default.ensures.none_stands
+-- the steps of reading an item and of judging it
+steps_of : (old read judged : Counted) (at len : ℕ) (means : Meaning) → IsItemAt old.octets at len means → RisesBetween old read (len - 1) (9 * len - 9) → RisesBetween read judged 0 8 → RisesBetween old judged (len - 1) (9 * len - 1)
+steps_of old read judged at len means (t, at_is, len_is, token, meant) reads judges =
+    let some = spelling_some (item_of old.octets t) in
+    let all = rises_then old read judged (len - 1) (9 * len - 9) 0 8 reads judges in
+    (all.0, omega (arith, all.1), omega (arith, all.2, len_is, token.len, some), all.3)
 
-pub judge_spelled-requires-clause-ready : goal.judge_spelled-requires-clause-ready
-judge_spelled-requires-clause-ready c =
-    ready_here c.args.sign.now c.args.source.now.octets c.args.at c.args.state.now c.requires.at.so_far c.requires.short
-
-pub judge_spelled-requires-clause-stands : goal.judge_spelled-requires-clause-stands
-judge_spelled-requires-clause-stands c =
-    bracket_stands c.args.sign.now c.args.source.now.octets c.args.at c.args.first (IsUnfilledOf c.args.sign.now c.args.state.now) c.args.source.now c.requires.at c.requires.short
-    c.in-Ok.spelled c.in-Ok.ensures.spelled c.read_bracket.new.source c.in-Ok.ensures.steps
-
-pub returns-clause-at : goal.returns-clause-at
-returns-clause-at c =
-    let r = c.requires.at.so_far in
-    let sign = c.args.sign.now in
-    let item = meaning (item_spelled c.read_bracket.new.source.octets c.args.at c.args.first c.in-Ok.spelled) in
-    let (fine, of) = c.in_default-judge_spelled.ensures.judged (map meaning r.items) r.is.state_is in
-    bracket_behind sign c.args.source.now.octets c.args.at c.args.first (IsUnfilledOf sign c.args.state.now) c.args.source.now c.requires.at c.requires.short
-    c.in-Ok.spelled c.in-Ok.ensures.spelled c.read_bracket.new.source c.in-Ok.ensures.steps c.judge_spelled.new.source c.judge_spelled.ensures.steps (IsUnfilledOf sign c.judge_spelled.new.state)
-    (subst (λ (setting : LineFill). offence setting sign (map meaning r.items) item ≡ None) (sym r.is.off) fine) (record { off = r.is.off; state_is = of })
-    c.len.result c.len.ensures c.read.result c.read.new.self c.read.ensures.octet c.read.ensures.step
-
-pub returns-clause-steps : goal.returns-clause-steps
-returns-clause-steps c =
-    let xs = c.args.source.now.octets in
-    let (t, here, len, token, item) = bracketed_token xs c.args.at c.args.first c.in-Ok.spelled c.in-Ok.ensures.spelled in
-    let k = c.judge_spelled.ensures.steps in
-    let rises : c.read_bracket.new.source.steps ≡ (charged c.args.source.now (octets_of c.in-Ok.spelled - 1)).steps = ap (λ (s : Counted). s.steps) c.in-Ok.ensures.steps in
-    let tag_steps : c.judge_spelled.new.source.steps ≡ (charged c.read_bracket.new.source k.0).steps = ap (λ (s : Counted). s.steps) k.3 in
-    let size : t.len ≡ c.len.result = len ∙ sym c.len.ensures in
-    let read : c.read.new.self.steps ≡ (charged c.judge_spelled.new.source 1).steps = ap (λ (s : Counted). s.steps) c.read.ensures.step in
-    let long = token.len in
-    let some = spelling_some (item_of xs t) in
-    let few = k.2 in
-    omega arith
+pub judge_item-requires-clause-ready : goal.judge_item-requires-clause-ready
+judge_item-requires-clause-ready g c =
+    pass_ready_here c.args.sign.now c.args.source.now.octets c.args.at c.args.pass.now (not (g.row.WORDS == 0)) c.requires.at.so_far c.requires.short
 
 pub returns-in-Err-clause-refused : goal.returns-in-Err-clause-refused
-returns-in-Err-clause-refused c =
+returns-in-Err-clause-refused g c =
+    fault_refused c.args.sign.now c.args.source.now.octets c.args.at c.args.first (IsPassOf (not (g.row.WORDS == 0)) c.args.sign.now c.args.pass.now) c.args.source.now c.requires.at c.requires.short
+    c.in-Err.error c.in-Err.ensures.fault c.read_spelled.new.source c.in-Err.ensures.fault_steps
+
+pub returns-in-Ok-judge_item-clause-at : goal.returns-in-Ok-judge_item-clause-at
+returns-in-Ok-judge_item-clause-at g c =
     let r = c.requires.at.so_far in
     let sign = c.args.sign.now in
-    let item = meaning (item_spelled c.read_bracket.new.source.octets c.args.at c.args.first c.in-Ok.spelled) in
-    let offends = c.in-Err.ensures.judged (map meaning r.items) r.is.state_is in
-    bracket_offends sign c.args.source.now.octets c.args.at c.args.first (IsUnfilledOf sign c.args.state.now) c.args.source.now c.requires.at c.requires.short
-    c.in-Ok.spelled c.in-Ok.ensures.spelled c.read_bracket.new.source c.in-Ok.ensures.steps c.judge_spelled.new.source c.judge_spelled.ensures.steps c.in-Err.error
-    (subst (λ (setting : LineFill). offence setting sign (map meaning r.items) item ≡ Some (code_of c.in-Err.error)) (sym r.is.off) offends)
+    let words = not (g.row.WORDS == 0) in
+    let spelled = c.in-Ok.spelled in
+    let (fine, of) = c.in-Ok-judge_item.ensures.judged (map meaning r.items) r.is in
+    item_behind sign c.args.source.now.octets c.args.at c.args.first (IsPassOf words sign c.args.pass.now) c.args.source.now c.requires.at c.requires.short
+    spelled.len (meant_by spelled.item) c.in-Ok.ensures.item c.judge_item.new.source
+    (steps_of c.args.source.now c.read_spelled.new.source c.judge_item.new.source c.args.at spelled.len (meant_by spelled.item) c.in-Ok.ensures.item c.in-Ok.ensures.steps c.judge_item.ensures.steps)
+    (IsPassOf words sign c.judge_item.new.self) fine of
+    c.read.result c.read.new.self c.read.ensures.octet c.read.ensures.step
+
+pub returns-in-Err-judge_item-clause-refused : goal.returns-in-Err-judge_item-clause-refused
+returns-in-Err-judge_item-clause-refused g c =
+    let r = c.requires.at.so_far in
+    let sign = c.args.sign.now in
+    let words = not (g.row.WORDS == 0) in
+    let spelled = c.in-Ok.spelled in
+    item_offends sign c.args.source.now.octets c.args.at c.args.first (IsPassOf words sign c.args.pass.now) c.args.source.now c.requires.at c.requires.short
+    spelled.len (meant_by spelled.item) c.in-Ok.ensures.item c.judge_item.new.source
+    (steps_of c.args.source.now c.read_spelled.new.source c.judge_item.new.source c.args.at spelled.len (meant_by spelled.item) c.in-Ok.ensures.item c.in-Ok.ensures.steps c.judge_item.ensures.steps)
+    c.in-Err-judge_item.error (c.in-Err-judge_item.ensures.judged (map meaning r.items) r.is)

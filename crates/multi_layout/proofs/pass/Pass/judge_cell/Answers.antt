@@ -1,37 +1,21 @@
-use Rattle.std.proofs.Common.{◌≡◌, Bool, true, false, ◌&&◌, sym, ◌^◌, ◌*◌, length, ap, refl, subst, ◌∙◌}
-use Rattle.multi_layout.specs.declared.line.Character.{Character}
-use Rattle.multi_layout.specs.Sums.{IsBelow}
-use Rattle.multi_layout.proofs.FilledJudgedLemmas.{filled_conflict}
-use Rattle.multi_layout.proofs.FilledKeptLemmas.{exit_fits, exit_too_big, laid_count}
+use Rattle.std.proofs.Common.{subst, sym}
+use Rattle.multi_layout.specs.declared.pass.Pass.{Pass}
+use Rattle.multi_layout.specs.Meaning.{Shows}
+use Rattle.multi_layout.specs.PassOf.{IsItemJudged, IsPassOf}
+use Rattle.multi_layout.proofs.PassLemmas.{is_false, is_true, judged_filled, judged_unfilled}
 use Rattle.multi_layout.proofs.pass.Pass.judge_cell.Goals as goal
 
-pub returns-then-page_just-present-clause-judged : goal.returns-then-page_just-present-clause-judged
-returns-then-page_just-present-clause-judged c = λ sign items cell of some wide. filled_conflict sign items c.args.self.now of c.args.number cell some c.clashes.result c.clashes.ensures c.if-page_just-present.true
+pub returns-then-this-ne0-clause-judged : goal.returns-then-this-ne0-clause-judged
+returns-then-this-ne0-clause-judged g c = λ sign items cell of found wide.
+    let words = is_true g.row.WORDS c.if-this-ne0.true in
+    let kept = subst (λ w. IsPassOf w sign c.args.self.now items) words of in
+    subst (λ w. IsItemJudged w sign items (Shows c.args.number) c.fill_cell.result c.fill_cell.new.self) (sym words)
+    (judged_filled sign items (Shows c.args.number) c.fill_cell.result c.fill_cell.new.self kept.words (c.fill_cell.ensures.judged sign items cell kept.of found wide))
 
-pub fits_height-requires : goal.fits_height-requires
-fits_height-requires c = record { below = (c.fill_character-placed.ensures.grows (2 ^ 62) c.requires.ready.state.below c.requires.ready.split).0 }
-
-first_true : (a b : Bool) → (a && b) ≡ true → (a ≡ true) × (b ≡ true)
-first_true true b e = (refl, e)
-first_true false b e = cc
-
-pub returns-then-placed-fits_height-clause-judged : goal.returns-then-placed-fits_height-clause-judged
-returns-then-placed-fits_height-clause-judged c = λ sign items cell of some wide.
-    let (below, split) = c.fill_character-placed.ensures.grows (1024 * length items) (subst (λ n. IsBelow (1024 * n) c.args.self.now.state.area) (laid_count sign items) of.state_is.below) of.split_below in
-    exit_fits sign items c.args.self.now of c.args.number cell some c.clashes.result c.clashes.ensures _ refl c.if-page_just-present.false
-    c.character-character.result (ap (λ (k : Character). k.just) c.character-character.ensures) (ap (λ (k : Character). k.spacing) c.character-character.ensures)
-    (ap (λ (k : Character). k.width) c.character-character.ensures ∙ wide) (ap (λ (k : Character). k.font) c.character-character.ensures) _ _ c.fill_character-placed.result.ended (λ cell found. c.fill_character-placed.ensures.sum)
-    c.fill_character-placed.result.fits c.fits_height.result c.fill_character-placed.ensures.fits c.fits_height.ensures.sum c.if-placed-fits_height.true
-    c.with-self.result (λ line s just. c.with-self.ensures line s (just ∙ ap (λ (k : Character). k.just) c.character-character.ensures)) below split
-
-pub returns-else-placed-fits_height-clause-judged : goal.returns-else-placed-fits_height-clause-judged
-returns-else-placed-fits_height-clause-judged c = λ sign items cell of some wide.
-    exit_too_big sign items c.args.self.now of c.args.number cell some c.clashes.result c.clashes.ensures _ refl c.if-page_just-present.false
-    c.character-character.result (ap (λ (k : Character). k.just) c.character-character.ensures) (ap (λ (k : Character). k.spacing) c.character-character.ensures)
-    (ap (λ (k : Character). k.width) c.character-character.ensures ∙ wide) (ap (λ (k : Character). k.font) c.character-character.ensures) _ _ c.fill_character-placed.result.ended (λ cell found. c.fill_character-placed.ensures.sum)
-    c.fill_character-placed.result.fits c.fits_height.result c.fill_character-placed.ensures.fits c.fits_height.ensures.sum c.if-placed-fits_height.false
-
-pub returns-then-placed-fits_height-clause-fits : goal.returns-then-placed-fits_height-clause-fits
-returns-then-placed-fits_height-clause-fits c =
-    let both = first_true c.fill_character-placed.result.fits c.fits_height.result c.if-placed-fits_height.true in
-    record { width = sym c.fill_character-placed.ensures.kept_fits ∙ both.0; height = sym c.fits_height.ensures.kept ∙ both.1 }
+pub returns-else-this-ne0-clause-judged : goal.returns-else-this-ne0-clause-judged
+returns-else-this-ne0-clause-judged g c = λ sign items cell of found wide.
+    let words = is_false g.row.WORDS c.if-this-ne0.false in
+    let new : Pass = record { state = c.judge_cell.new.state; split = c.args.self.now.split; order = c.args.self.now.order } in
+    let kept = subst (λ w. IsPassOf w sign c.args.self.now items) words of in
+    subst (λ w. IsItemJudged w sign items (Shows c.args.number) c.judge_cell.result new) (sym words)
+    (judged_unfilled sign items (Shows c.args.number) c.judge_cell.result new kept.off (c.judge_cell.ensures.judged sign cell found wide items kept.state_is))

@@ -1,8 +1,12 @@
-use Rattle.std.proofs.Common.{None, subst, sym}
+use Rattle.std.proofs.Common.{None, refl, subst, sym}
 use Rattle.multi_layout.specs.declared.pass.Order.{Order}
 use Rattle.multi_layout.specs.FilledState.{IsFilledOf}
 use Rattle.multi_layout.proofs.FilledReadLemmas.{filled_start}
 use Rattle.multi_layout.proofs.pass.Pass.new.Goals as goal
 
 pub returns : goal.returns
-returns c = λ sign items st none. subst (λ (l : Order). IsFilledOf sign items (record { state = c.args.state; split = None; order = l })) (sym c.new.ensures) (filled_start sign items c.args.state st none)
+returns c = record {
+  state = refl;
+  filled = λ sign items st none.
+      subst (λ (l : Order). IsFilledOf sign items (record { state = c.args.state; split = None; order = l })) (sym c.new.ensures) (filled_start sign items c.args.state st none);
+}

@@ -3,7 +3,7 @@ use Rattle.multi_token.specs.Counted.{Counted, charged}
 use Rattle.multi_layout.specs.Meaning.{meaning}
 use Rattle.multi_layout.proofs.ReadLemmas.{ready_here}
 use Rattle.multi_layout.proofs.RunReadLemmas.{front_read}
-use Rattle.multi_layout.proofs.run.judge_run.Goals as goal
+use Rattle.multi_layout.proofs.run.judge_line.Goals as goal
 
 pub lengthen-requires-clause-width : goal.lengthen-requires-clause-width
 lengthen-requires-clause-width c =

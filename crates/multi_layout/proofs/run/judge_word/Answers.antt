@@ -1,11 +1,11 @@
 use Rattle.std.proofs.Common.{◌≡◌, ap, arith}
 use Rattle.multi_token.specs.Counted.{Counted, charged}
 use Rattle.multi_layout.proofs.FilledReadLemmas.{filled_ready_here}
-use Rattle.multi_layout.proofs.words.filled_run.Goals as goal
+use Rattle.multi_layout.proofs.run.judge_word.Goals as goal
 
 pub take_run-len-requires-clause-ready : goal.take_run-len-requires-clause-ready
 take_run-len-requires-clause-ready c =
-    filled_ready_here c.args.sign.now c.args.source.now.octets c.args.at c.args.kept.now c.requires.behind.so_far c.requires.short
+    filled_ready_here c.args.sign.now c.args.source.now.octets c.args.at c.args.pass.now c.requires.behind.so_far c.requires.short
 
 pub returns-clause-at : goal.returns-clause-at
 returns-clause-at c =

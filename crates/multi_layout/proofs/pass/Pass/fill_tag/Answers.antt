@@ -5,7 +5,7 @@ use Rattle.multi_layout.specs.LaidItems.{laid_items}
 use Rattle.sign_font.specs.declared.parts.LineFill.TheVariants.{Words}
 use Rattle.multi_layout.specs.Meaning.{Does}
 use Rattle.multi_layout.proofs.FilledBehindLemmas.{judged-begins, judged-stays}
-use Rattle.multi_layout.proofs.pass.Pass.judge_tag.Goals as goal
+use Rattle.multi_layout.proofs.pass.Pass.fill_tag.Goals as goal
 
 pub returns-then-begins_line-clause-judged : goal.returns-then-begins_line-clause-judged
 returns-then-begins_line-clause-judged c = λ items of.

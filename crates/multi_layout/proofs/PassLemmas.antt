@@ -1,0 +1,74 @@
+-- What is kept of the items that were read, by whether lines are filled.
+use Rattle.std.proofs.Common.{◌≡◌, ℕ, ◌+◌, ◌*◌, ◌^◌, ◌<◌, ◌≤◌, Bool, true, false, List, [], ◌∷◌, ◌++◌, length, Option, Some, None, Result, Ok, Err, not, ◌==◌, refl, ap, sym, subst}
+use Rattle.std.proofs.lemmas.Bool.{eq-eqb, ne_eqb}
+use Rattle.multi_token.specs.Counted.{Counted}
+use Rattle.sign_font.specs.declared.parts.LineFill.{LineFill}
+use Rattle.sign_font.specs.declared.parts.LineFill.TheVariants.{Off, Words}
+use Rattle.sign_font.specs.Sign.{SignData, cell_in}
+use Rattle.multi_layout.specs.declared.fault.SyntaxError.{SyntaxError}
+use Rattle.multi_layout.specs.declared.pass.Pass.{Pass}
+use Rattle.multi_layout.specs.Address.{spots}
+use Rattle.multi_layout.specs.Codes.{code_of}
+use Rattle.multi_layout.specs.FilledState.{IsFilledJudged, IsFilledOf}
+use Rattle.multi_layout.specs.LaidItems.{laid_items}
+use Rattle.multi_layout.specs.Meaning.{Meaning, Shows}
+use Rattle.multi_layout.specs.Offence.{offence}
+use Rattle.multi_layout.specs.PassOf.{IsItemJudged, IsPassOf, IsPassReady, fill_of}
+use Rattle.multi_layout.specs.Progress.{IsAt, IsTold, ReadSoFar}
+use Rattle.multi_layout.specs.State.{IsJudged, IsStateOf, present_area, whole_times}
+use Rattle.multi_layout.proofs.FilledJudgedLemmas.{filled_undefined}
+use Rattle.multi_layout.proofs.FilledReadLemmas.{filled_ready_here, filled_told}
+use Rattle.multi_layout.proofs.JudgedLemmas.{judged-undefined}
+use Rattle.multi_layout.proofs.ReadLemmas.{ready_here, unfilled_told}
+
+-- whether lines are filled, as a number that isn't 0
+pub is_true : (n : ℕ) → (n ≡ 0 → ⊥) → not (n == 0) ≡ true
+is_true n other = ap not (ne_eqb n 0 other)
+
+pub is_false : (n : ℕ) → n ≡ 0 → not (n == 0) ≡ false
+is_false n none = ap not (eq-eqb n 0 none)
+
+-- an item that is judged where lines are filled
+pub judged_filled : (sign : SignData) (items : List Meaning) (item : Meaning) (result : Result (Unit {0}) SyntaxError) (pass : Pass) → sign.line_fill ≡ Words → IsFilledJudged sign items item result pass
+    → IsItemJudged true sign items item result pass
+judged_filled sign items item (Ok done) pass words (fine, of) =
+    (subst (λ (setting : LineFill). offence setting sign items item ≡ None) (sym words) fine, record { words = words; of = of })
+judged_filled sign items item (Err error) pass words offends = subst (λ (setting : LineFill). offence setting sign items item ≡ Some (code_of error)) (sym words) offends
+
+-- and where they aren't
+pub judged_unfilled : (sign : SignData) (items : List Meaning) (item : Meaning) (result : Result (Unit {0}) SyntaxError) (pass : Pass) → sign.line_fill ≡ Off → IsJudged sign items item result pass.state
+    → IsItemJudged false sign items item result pass
+judged_unfilled sign items item (Ok done) pass off (fine, st) =
+    (subst (λ (setting : LineFill). offence setting sign items item ≡ None) (sym off) fine, record { off = off; state_is = st })
+judged_unfilled sign items item (Err error) pass off offends = subst (λ (setting : LineFill). offence setting sign items item ≡ Some (code_of error)) (sym off) offends
+
+-- before the first item
+pub pass_start : (sign : SignData) (pass : Pass) (words : Bool) → sign.line_fill ≡ fill_of words → IsStateOf sign [] pass.state
+    → (IsStateOf sign (laid_items Words sign [] []) pass.state → present_area sign [] ≡ [] → IsFilledOf sign [] pass) → IsPassOf words sign pass []
+unfolding spots
+pass_start sign pass true is st filled = record { words = is; of = filled st refl }
+pass_start sign pass false is st filled = record { off = is; state_is = st }
+
+-- a character without a cell
+pub pass_undefined : (sign : SignData) (items : List Meaning) (pass : Pass) (words : Bool) → IsPassOf words sign pass items → (number : ℕ) → cell_in sign pass.state.attributes.font.number number ≡ None
+    → offence sign.line_fill sign items (Shows number) ≡ Some 7
+pass_undefined sign items pass true is number none =
+    subst (λ (setting : LineFill). offence setting sign items (Shows number) ≡ Some 7) (sym is.words) (filled_undefined sign items pass is.of number none)
+pass_undefined sign items pass false is number none =
+    subst (λ (setting : LineFill). offence setting sign items (Shows number) ≡ Some 7) (sym is.off) (judged-undefined sign items pass.state is.state_is number none)
+
+module _ (sign : SignData) (octets : List ℕ) (at : ℕ) (pass : Pass) where
+  -- what is kept of a string that was read so far is small enough
+  pub pass_ready_here : (words : Bool) → ReadSoFar sign octets at (IsPassOf words sign pass) → length octets < 2 ^ 32 → IsPassReady words pass
+  pass_ready_here true r short = filled_ready_here sign octets at pass r short
+  pass_ready_here false r short = ready_here sign octets at pass.state r short
+
+  -- at the end all is told
+  pub pass_told : (words : Bool) (source : Counted) → IsAt sign octets at None (IsPassOf words sign pass) source → IsTold sign octets pass.state.pages (whole_times pass.state) source
+  pass_told true source i = filled_told sign octets at pass source i
+  pass_told false source i = unfilled_told sign octets at pass.state source i
+
+-- the pages before the present one are short
+pub pass_small : (sign : SignData) (pass : Pass) (words : Bool) (items : List Meaning) → IsPassOf words sign pass items → pass.state.cycle ≤ 510 * pass.state.pages
+pass_small sign pass true items is = is.of.state_is.short
+pass_small sign pass false items is = is.state_is.short

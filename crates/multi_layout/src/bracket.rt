@@ -1,0 +1,98 @@
+//! Items that begin with a bracket, each read once.
+
+ghost use Rattle.std.specs.Prelude.{◌≡◌, ◌≢◌, ◌+◌, ◌-◌, ◌*◌, ◌^◌, ◌<◌, ◌⊎◌, IfOk, IfErr, OnErr, Some, length, slice_get};
+ghost use Rattle.multi_token.specs.Counted.{RisesBetween};
+ghost use Rattle.multi_tag.specs.Closed.{HasNoTagAt};
+ghost use Rattle.multi_layout.specs.Codes.{code_of};
+ghost use Rattle.multi_layout.specs.ItemAt.{IsFaultAt, IsItemAt};
+ghost use Rattle.multi_layout.specs.KnownItem.{IsKnownItem, meant_by};
+ghost use Rattle.multi_layout.specs.Meaning.{said_by};
+ghost use Rattle.multi_layout.specs.State.{IsKnown};
+
+use crate::fault::SyntaxError;
+use crate::item::{KnownItem, tag_error};
+use multi_tag::{Tag, read_ahead, read_tag};
+use multi_token::{Bracketed, Kind, Source, Token, read_bracket};
+
+/// An item that begins with a bracket.
+#[derive(Clone, Copy)]
+pub(crate) struct Spelled {
+    pub(crate) item: KnownItem,
+    /// The octets that spell it, its brackets with them.
+    pub(crate) len: usize,
+}
+
+/// The item that begins with this bracket at an offset, which was read, or the error of a bracket with which none begins and of a
+/// tag that has no value.
+///
+/// The octet behind the bracket is read, and for a tag at most 26 from there on, since no tag with a value has more. Only what has
+/// none is read to its last bracket.
+#[inline(always)]
+pub(crate) fn read_spelled(
+    source: &mut Source<'_>,
+    at: usize,
+    bracket: u8,
+) -> Result<Spelled, SyntaxError>
+    requires bracket { (bracket ≡ 91) ⊎ (bracket ≡ 93) }
+    requires stands { slice_get source.old.octets at ≡ Some bracket }
+    // whoever read the bracket knows this of the source
+    requires room { length source.old.octets < 2 ^ 63 }
+    ensures item { IfOk result (λ spelled. IsItemAt source.old.octets at spelled.len (meant_by spelled.item)) }
+    ensures known { IfOk result (λ spelled. IsKnownItem spelled.item) }
+    ensures fault { IfErr result (λ error. IsFaultAt source.old.octets at (code_of error)) }
+    ensures steps { IfOk result (λ spelled. RisesBetween source.old source.new (spelled.len - 1) (9 * spelled.len - 9)) }
+    ensures fault_steps { OnErr result (RisesBetween source.old source.new 0 (4 * (length source.old.octets - at))) }
+{
+    if source.read(at + 1) == Some(bracket) {
+        return Ok(Spelled {
+            item: KnownItem::Char(u16::from(bracket)),
+            len: 2,
+        });
+    }
+    if bracket == b']' {
+        return Err(SyntaxError::UnsupportedTag);
+    }
+    match read_ahead(source, at) {
+        Some((tag, len)) => Ok(Spelled {
+            item: said(tag),
+            len,
+        }),
+        None => Err(fault_of(source, at)),
+    }
+}
+
+/// The item that says this: a character, or the tag.
+#[inline(always)]
+fn said(tag: Tag) -> KnownItem
+    ensures meant { meant_by result ≡ said_by tag }
+    ensures known { IsKnown tag → IsKnownItem result }
+{
+    match tag {
+        Tag::HexChar(number) => KnownItem::Char(number),
+        tag => KnownItem::Tag(tag),
+    }
+}
+
+/// The error of a single opening bracket at an offset with which no tag begins that has a value.
+#[inline(never)]
+fn fault_of(source: &mut Source<'_>, at: usize) -> SyntaxError
+    requires stands { slice_get source.old.octets at ≡ Some 91 }
+    requires single { slice_get source.old.octets (at + 1) ≢ Some 91 }
+    requires none { HasNoTagAt source.old.octets at }
+    requires room { length source.old.octets < 2 ^ 63 }
+    ensures fault { IsFaultAt source.old.octets at (code_of result) }
+    ensures steps { RisesBetween source.old source.new 0 (2 * (length source.old.octets - at)) }
+{
+    let Ok(Bracketed::Tag(len)) = read_bracket(source, at, b'[') else {
+        return SyntaxError::UnsupportedTag;
+    };
+    let token = Token {
+        at,
+        len: len + 2,
+        kind: Kind::Tag,
+    };
+    match read_tag(source, &token) {
+        Err(fault) => tag_error(fault),
+        Ok(_) => SyntaxError::UnsupportedTag,
+    }
+}
