@@ -3,7 +3,7 @@ use Rattle.std.proofs.Common.{◌≡◌, ℕ, suc, ◌+◌, ◌-◌, ◌^◌, �
 use Rattle.std.specs.List.{All, sum_by}
 use Rattle.std.specs.Option.{option_map}
 use Rattle.std.proofs.lemmas.Bool.{ne_eqb}
-use Rattle.std.proofs.lemmas.List.{length-drop, length-take-le, take-append-drop}
+use Rattle.std.proofs.lemmas.List.{length-drop, length-map, length-take-le, take-append-drop}
 use Rattle.std.proofs.lemmas.List.Elements.{All-head, All-tail}
 use Rattle.std.proofs.lemmas.List.Sums.{sum_by-append}
 use Rattle.multi_token.specs.Spelling.{IsPlain}
@@ -119,6 +119,23 @@ module _ (sign : SignData) (octets : List ℕ) (short : length octets < 2 ^ 63) 
       with_twice gap (sum_by (λ v. gap + v) widths) (length text) w kept ∙ (λ i. with_word gap (sym total i) (one_more i) kept) in
       rw (← to, ← same) all
 
+-- what is kept with a word is that of a run
+word_goes_on : (gap room : ℕ) (widths : List ℕ) (kept : Pass) → IsFilledRun kept → IsRun kept.state gap room → All (IsWithin 1 64) widths → (line_in_force kept.state).part.width + sum_by (λ w. gap + w) widths ≤ room
+    → IsFilledRun (with_word gap (sum_by (λ w. gap + w) widths) (length widths) kept)
+word_goes_on gap room [] kept run runs within fits = rw (with_none gap kept) run
+word_goes_on gap room (w ∷ widths) kept run runs within fits =
+    let line = line_in_force kept.state in
+    let small = All-head (IsWithin 1 64) w widths within in
+    let total : sum_by (λ v. gap + v) (w ∷ widths) ≡ gap + w + sum_by (λ v. gap + v) widths = sum_by-append (λ v. gap + v) (w ∷ []) widths ∙ omega arith in
+    let here : line.part.width + (gap + w) ≤ room = omega (arith, total, fits) in
+    let one = one_goes_on kept run gap room runs w small.0 here false in
+    let all = word_goes_on gap room widths (with_one gap w false kept) one (run_stays kept.state gap room (line.part.width + (gap + w)) (line.part.count + 1) runs)
+    (All-tail (IsWithin 1 64) w widths within) (omega (arith, total, fits)) in
+    let one_more : 1 + length widths ≡ suc (length widths) = omega arith in
+    let same : with_word gap (sum_by (λ v. gap + v) widths) (length widths) (with_one gap w false kept) ≡ with_word gap (sum_by (λ v. gap + v) (w ∷ widths)) (suc (length widths)) kept =
+    with_twice gap (sum_by (λ v. gap + v) widths) (length widths) w kept ∙ (λ i. with_word gap (sym total i) (one_more i) kept) in
+    subst IsFilledRun same all
+
 -- a text without a space
 module _ (sign : SignData) (octets : List ℕ) (at : ℕ) (kept : Pass) (r : ReadSoFar sign octets at (IsFilledFor sign kept)) (short : length octets < 2 ^ 63) (run : IsFilledRun kept) (gap left : ℕ)
     (runs : IsRun kept.state gap ((line_in_force kept.state).part.width + left)) where
@@ -134,7 +151,19 @@ module _ (sign : SignData) (octets : List ℕ) (at : ℕ) (kept : Pass) (r : Rea
       let together = has.together in
       rw together (word_taken sign octets short gap (line.part.width + left) text rest has.widths at kept r run runs here plain word has.each has.within (omega (arith, narrow, together)))
 
+  word_runs : (text : List ℕ) (pixels : ℕ) → HasWidth width_of gap text pixels → pixels ≤ left → IsFilledRun (with_word gap pixels (length text) kept)
+  word_runs text pixels has narrow =
+      let together = has.together in
+      let many : length has.widths ≡ length text = sym (length-map has.widths Some) ∙ sym (ap length has.each) ∙ length-map text width_of in
+      subst (λ n. IsFilledRun (with_word gap pixels n kept)) many
+      (rw together (word_goes_on gap (line.part.width + left) has.widths kept run runs has.within (omega (arith, narrow, together))))
+
   -- the same for the front of what stands there
+  pub front_runs : (len pixels : ℕ) → at + len ≤ length octets → HasWidth width_of gap (take len (drop at octets)) pixels → pixels ≤ left → IsFilledRun (with_word gap pixels len kept)
+  front_runs len pixels within has narrow =
+      let size : length (take len (drop at octets)) ≡ len = length-take-le len (drop at octets) (rw (length-drop at octets) (omega (arith, within))) in
+      rw size at (word_runs (take len (drop at octets)) pixels has narrow)
+
   pub front_taken : (len pixels : ℕ) → at + len ≤ length octets → All IsPlain (take len (drop at octets)) → All IsNoSpace (take len (drop at octets)) → HasWidth width_of gap (take len (drop at octets)) pixels → pixels ≤ left
       → ReadSoFar sign octets (at + len) (IsFilledFor sign (with_word gap pixels len kept))
   front_taken len pixels within plain word has narrow =

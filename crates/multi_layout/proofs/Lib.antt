@@ -94,6 +94,7 @@ pub mod StandingLemmas
 pub mod StateLemmas
 pub mod TableLemmas
 pub mod TagLemmas
+pub mod TextLemmas
 pub mod TimesLemmas
 pub mod UnfilledLemmas
 pub mod VerdictExamples

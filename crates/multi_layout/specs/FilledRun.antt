@@ -1,11 +1,12 @@
 -- A run where lines are filled: characters behind one with the same attributes, as long as they stay on its line (own).
-use Rattle.std.specs.Prelude.{◌≡◌, ℕ, ◌+◌, ◌-◌, true, ◌==◌, nat_lt, Option, Some, if◌then◌else◌}
+use Rattle.std.specs.Prelude.{◌≡◌, ℕ, ◌+◌, ◌-◌, true, ◌==◌, nat_lt, [], Option, Some, if◌then◌else◌}
 use Rattle.std.specs.Option.{IfSome, option_map}
 use Rattle.multi_layout.specs.declared.attributes.Attributes.{Attributes}
 use Rattle.multi_layout.specs.declared.fill.Split.{Split}
 use Rattle.multi_layout.specs.declared.pass.Pass.{Pass}
 use Rattle.multi_layout.specs.declared.pass.Order.{Order}
 use Rattle.multi_layout.specs.declared.line.Line.{Line}
+use Rattle.multi_layout.specs.Sums.{line_sum}
 use Rattle.multi_layout.specs.Run.{IsBehindCharacter, IsBehindOne, kept_fits, kept_fits_height, lengthened, lengthened_line, line_in_force}
 
 -- by what is kept, the present line and the present area fit the rectangle in force (own)
@@ -60,5 +61,13 @@ abbrev pub with_word : ℕ → ℕ → ℕ → Pass → Pass
 with_word gap pixels count kept = record {
   state = lengthened ((line_in_force kept.state).part.width + pixels) ((line_in_force kept.state).part.count + count) kept.state;
   split = option_map (with_run_behind kept.state.attributes gap pixels count) kept.split;
+  order = kept.order;
+}
+
+-- what is kept with a space behind a run, of so many pixels with the gap before it: the line may be broken there (own)
+abbrev pub with_space : ℕ → Pass → Pass
+with_space pixels kept = record {
+  state = lengthened ((line_in_force kept.state).part.width + pixels) ((line_in_force kept.state).part.count + 1) kept.state;
+  split = Some (record { before = line_in_force kept.state; font = kept.state.attributes.font; behind = line_sum [] });
   order = kept.order;
 }

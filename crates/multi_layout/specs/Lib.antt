@@ -31,6 +31,7 @@ pub mod Run
 pub mod State
 pub mod Sums
 pub mod Table
+pub mod Text
 pub mod Times
 pub mod Verdict
 pub mod Walk

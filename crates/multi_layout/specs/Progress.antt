@@ -21,12 +21,12 @@ pub record ReadSoFar (sign : SignData) (octets : List ℕ) (at : ℕ) (IsKept : 
   pub is : IsKept (map meaning items)
   pub few : length items ≤ at
 
--- the items before an offset are judged, and each of their octets took one to nine steps, two fewer in all (own)
+-- the items before an offset are judged, and each of their octets took one to nine steps, three fewer in all (own)
 pub record IsBehind (sign : SignData) (octets : List ℕ) (at : ℕ) (IsKept : List Meaning → Type 0) (source : Counted) : Type 0 where
   pub so_far : ReadSoFar sign octets at IsKept
   pub same : source.octets ≡ octets
   pub least : at ≤ source.steps
-  pub most : source.steps + 2 ≤ 9 * at
+  pub most : source.steps + 3 ≤ 9 * at
 
 -- the items before an offset are judged, and the octet there is read, for one step more (own)
 pub record IsAt (sign : SignData) (octets : List ℕ) (at : ℕ) (first : Option ℕ) (IsKept : List Meaning → Type 0) (source : Counted) : Type 0 where

@@ -1,18 +1,20 @@
-//! Characters behind one with the same attributes, where lines are filled: as long as they stay on its line, each only
-//! lengthens what is kept.
+//! Text behind a character with the same attributes, where lines are filled: as long as it stays on its line, each word and
+//! each space only lengthens what is kept.
 
-ghost use Rattle.std.specs.Prelude.{◌≡◌, ◌+◌, ◌*◌, ◌^◌, ◌<◌, ◌≤◌, true, IfSome, length, slice_get};
-ghost use Rattle.multi_token.specs.Counted.{RisesBetween};
-ghost use Rattle.multi_layout.specs.FilledRun.{FitsHere, GoesOnBehind, IsFilledRun, IsOrderOf, longer_line, with_run, with_word};
+ghost use Rattle.std.specs.Prelude.{◌≡◌, ℕ, ◌+◌, ◌*◌, ◌^◌, ◌<◌, ◌≤◌, true, false, IfSome, length, Option};
+ghost use Rattle.multi_token.specs.Counted.{charged};
+ghost use Rattle.multi_layout.specs.FilledRun.{FitsHere, GoesOnBehind, IsFilledRun, IsOrderOf, longer_line, with_run, with_space, with_word};
 ghost use Rattle.multi_layout.specs.FilledState.{IsFilledFor, IsFilledReady};
-ghost use Rattle.multi_layout.specs.Progress.{ReadSoFar};
+ghost use Rattle.multi_layout.specs.Progress.{IsAt, IsBehind};
 ghost use Rattle.multi_layout.specs.Run.{IsBehindOne, line_in_force};
 ghost use Rattle.multi_layout.specs.Sums.{IsLineBelow};
+ghost use Rattle.multi_layout.specs.Text.{IsInText, TakesSpace};
 
 use crate::attributes::Attributes;
 use crate::fill::Split;
 use crate::line::{Line, Segment};
 use crate::pass::Pass;
+use crate::run::Run;
 use crate::terms::Terms;
 use multi_token::Source;
 use sign_font::FontInfo;
@@ -70,36 +72,109 @@ impl Line {
     }
 }
 
-impl Pass {
-    /// Takes the octets from an offset on, which stand for themselves, as long as they stay on the present line: up to a bracket, a
-    /// space, or the first that has no cell or doesn't fit, or none where the first would not have the attributes of the character
-    /// before it. The answer is how many it took, and the octet read behind them. Each look counts.
-    pub(crate) fn take_run(
-        &mut self,
-        sign: &Terms<'_>,
-        source: &mut Source<'_>,
-        at: usize,
-    ) -> (usize, Option<u8>)
-        requires ready { IsFilledReady self.old }
-        requires fits { FitsHere self.old }
-        requires at { at ≤ length source.old.octets }
-        requires short { length source.old.octets < 2 ^ 32 }
-        ensures within { at + result.0 ≤ length source.old.octets }
-        ensures taken { ReadSoFar sign.now source.old.octets at (IsFilledFor sign.now self.old)
-            → ReadSoFar sign.now source.old.octets (at + result.0) (IsFilledFor sign.now self.new) }
-        ensures next { result.1 ≡ slice_get source.old.octets (at + result.0) }
-        ensures steps { RisesBetween source.old source.new (2 * result.0 + 1) (2 * result.0 + 3) }
-    {
-        if !self.goes_on() {
-            return (0, source.read(at));
-        }
-        let run = self.state.run();
-        let font = self.state.attributes.font.number;
-        let word = sign.read_run(source, at, font, run, true);
-        self.take(run.gap, u64::from(word.width), word.len as u64);
-        (word.len, word.next)
-    }
+/// What became of a word.
+#[derive(Clone, Copy)]
+pub(crate) enum Word {
+    /// A space stands behind it, and was taken with it: the offset behind the space.
+    Spaced(usize),
+    /// The offset behind it, and the octet read there.
+    Ended(usize, Option<u8>),
+}
 
+/// Judges the characters behind one that only lengthen its line, where lines are filled: the offset behind them, and the octet read
+/// there. It is a bracket, has no cell or doesn't fit, or is the end, or a character there would not have the attributes of the one
+/// before it.
+#[inline(always)]
+pub(crate) fn judge_text(
+    sign: &Terms<'_>,
+    pass: &mut Pass,
+    source: &mut Source<'_>,
+    at: usize,
+) -> (usize, Option<u8>)
+    requires short { length source.old.octets < 2 ^ 32 }
+    requires behind { IsBehind sign.now source.old.octets at (IsFilledFor sign.now pass.old) source.old }
+    requires fits { FitsHere pass.old }
+    ensures further { at ≤ result.0 }
+    ensures at { IsAt sign.now source.old.octets result.0 result.1 (IsFilledFor sign.now pass.new) source.new }
+{
+    if pass.goes_on() {
+        take_text(sign, pass, source, at)
+    } else {
+        (at, source.read(at))
+    }
+}
+
+/// Takes words and the spaces behind them, as long as they stay on the present line.
+fn take_text(
+    sign: &Terms<'_>,
+    pass: &mut Pass,
+    source: &mut Source<'_>,
+    at: usize,
+) -> (usize, Option<u8>)
+    requires short { length source.old.octets < 2 ^ 32 }
+    requires behind { IsBehind sign.now source.old.octets at (IsFilledFor sign.now pass.old) source.old }
+    requires run { IsFilledRun pass.old }
+    ensures further { at ≤ result.0 }
+    ensures at { IsAt sign.now source.old.octets result.0 result.1 (IsFilledFor sign.now pass.new) source.new }
+{
+    let mut run = pass.state.run();
+    let mut at = at;
+    loop {
+        match take_word(sign, pass, source, &mut run, at) {
+            Word::Spaced(behind) => at = behind,
+            Word::Ended(behind, next) => return (behind, next),
+        }
+    }
+}
+
+/// Takes the octets from an offset on, which stand for themselves, up to a bracket, a space, or the first that has no cell or
+/// doesn't fit the present line, and the space too, if it fits.
+fn take_word(
+    sign: &Terms<'_>,
+    pass: &mut Pass,
+    source: &mut Source<'_>,
+    run: &mut Run,
+    at: usize,
+) -> Word
+    requires short { length source.old.octets < 2 ^ 32 }
+    requires text { IsInText sign.now source.old.octets at run.old pass.old source.old }
+    ensures spaced { (behind : ℕ) → result ≡ Word.Spaced behind → (at < behind) × IsInText sign.now source.old.octets behind run.new pass.new source.new }
+    ensures ended { (behind : ℕ) (next : Option ℕ) → result ≡ Word.Ended behind next
+        → (at ≤ behind) × IsAt sign.now source.old.octets behind next (IsFilledFor sign.now pass.new) source.new }
+{
+    let font = pass.state.attributes.font.number;
+    let word = sign.read_run(source, at, font, *run, true);
+    pass.take(run.gap, u64::from(word.width), word.len as u64);
+    run.left -= u64::from(word.width);
+    let behind = at + word.len;
+    if word.next == Some(b' ') && take_space(sign, pass, source, run) {
+        Word::Spaced(behind + 1)
+    } else {
+        Word::Ended(behind, word.next)
+    }
+}
+
+/// Takes a space, if it has a cell and fits the present line. Looking for the cell is one step.
+fn take_space(sign: &Terms<'_>, pass: &mut Pass, source: &mut Source<'_>, run: &mut Run) -> bool
+    requires ready { IsFilledReady pass.old }
+    ensures taken { result ≡ true → (width : ℕ) × TakesSpace sign.now run.old pass.old width run.new pass.new }
+    ensures left { result ≡ false → (run.new ≡ run.old) × (pass.new ≡ pass.old) }
+    ensures step { source.new ≡ charged source.old 1 }
+{
+    let font = pass.state.attributes.font.number;
+    let Some(width) = sign.cell_width(source, font, u16::from(b' ')) else {
+        return false;
+    };
+    let pixels = u64::from(run.gap) + u64::from(width);
+    if pixels > run.left {
+        return false;
+    }
+    run.left -= pixels;
+    pass.space(pixels);
+    true
+}
+
+impl Pass {
     /// Whether a character here has the attributes of the one before it, so that it only lengthens what is kept.
     fn goes_on(&self) -> bool
         requires { FitsHere self.now }
@@ -129,6 +204,20 @@ impl Pass {
             parts.behind = parts.behind.with_run(&here, gap, pixels, count);
         }
         self.state.lengthen(pixels, count);
+    }
+
+    /// Adds a space, of so many pixels with the gap before it: the line may be broken there.
+    fn space(&mut self, pixels: u64)
+        requires ready { IsFilledReady self.old }
+        requires narrow { pixels < 2 ^ 32 }
+        ensures { self.new ≡ with_space pixels self.old }
+    {
+        self.split = Some(Split {
+            before: self.state.area.group.line,
+            font: self.state.attributes.font,
+            behind: Line::new(),
+        });
+        self.state.lengthen(pixels, 1);
     }
 }
 

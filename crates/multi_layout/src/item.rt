@@ -65,28 +65,6 @@ pub(crate) fn read_item(source: &mut Source<'_>, token: &Token) -> Result<KnownI
     }
 }
 
-/// The item that a tag at an offset is whose body has so many octets, or its error.
-pub(crate) fn tag_item(
-    source: &mut Source<'_>,
-    at: usize,
-    len: usize,
-) -> Result<KnownItem, SyntaxError>
-    requires { IsTokenOf source.old.octets (record { at = at; len = len + 2; kind = Kind.Tag }) }
-    ensures read { IfOk result (λ item.
-        meaning (spelled.Tag (slice_range source.old.octets (at + 1) (at + 1 + len))) ≡ meant_by item) }
-    ensures known { IfOk result IsKnownItem }
-    ensures fault { IfErr result (λ error.
-        meaning (spelled.Tag (slice_range source.old.octets (at + 1) (at + 1 + len))) ≡ Faulty (code_of error)) }
-    ensures steps { RisesBetween source.old source.new 0 (len + 1) }
-{
-    let token = Token {
-        at,
-        len: len + 2,
-        kind: Kind::Tag,
-    };
-    read_item(source, &token)
-}
-
 /// The item that a tag is which was read so, or its error.
 #[inline(always)]
 fn item_of_tag(read: Result<Tag, TagFault>) -> Result<KnownItem, SyntaxError>

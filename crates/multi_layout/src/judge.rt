@@ -19,11 +19,10 @@ use crate::area::Area;
 use crate::attributes::{Rectangle, whole_sign};
 use crate::checked::Checked;
 use crate::fault::{Fault, SyntaxError};
-use crate::item::{KnownItem, tag_item};
 use crate::state::State;
 use crate::terms::Terms;
 use multi_tag::{FontPick, Tag};
-use multi_token::{Bracketed, Source};
+use multi_token::Source;
 use sign_font::{Cell, Defaults, Sign};
 
 /// Judges what a tag says.

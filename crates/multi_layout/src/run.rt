@@ -2,14 +2,13 @@
 
 ghost use Rattle.std.specs.Prelude.{◌≡◌, ◌+◌, ◌^◌, ◌<◌, ◌≤◌, List, length};
 ghost use Rattle.sign_font.specs.Sign.{SignData};
-ghost use Rattle.multi_layout.specs.FilledRun.{FitsHere};
-ghost use Rattle.multi_layout.specs.FilledState.{IsFilledFor};
 ghost use Rattle.multi_layout.specs.Meaning.{Meaning};
 ghost use Rattle.multi_layout.specs.PassOf.{IsPassBehind, IsPassOf};
 ghost use Rattle.multi_layout.specs.Progress.{IsAt, IsBehind};
 ghost use Rattle.multi_layout.specs.Run.{IsBehindCharacter, IsRun, lengthened, line_in_force};
 ghost use Rattle.multi_layout.specs.State.{IsReady, IsStateOf, IsUnfilledOf};
 
+use crate::fill_run::judge_text;
 use crate::pass::Pass;
 use crate::state::State;
 use crate::terms::Terms;
@@ -56,7 +55,7 @@ impl State {
 }
 
 /// Judges the characters behind one that only lengthen its line: the offset behind them, and the octet read there. It is a
-/// bracket, has no cell or doesn't fit, or is the end; where lines are filled, it may be a space too.
+/// bracket, has no cell or doesn't fit, or is the end.
 #[inline(always)]
 pub(crate) fn judge_run<const WORDS: bool>(
     sign: &Terms<'_>,
@@ -71,7 +70,7 @@ pub(crate) fn judge_run<const WORDS: bool>(
     ensures at { IsAt sign.now source.old.octets result.0 result.1 (IsPassOf WORDS sign.now pass.new) source.new }
 {
     if WORDS {
-        judge_word(sign, pass, source, at)
+        judge_text(sign, pass, source, at)
     } else {
         judge_line(sign, &mut pass.state, source, at)
     }
@@ -96,22 +95,4 @@ fn judge_line(
     let front = sign.read_run(source, at, font, run, false);
     state.lengthen(u64::from(front.width), front.len as u64);
     (at + front.len, front.next)
-}
-
-/// The same where lines are filled.
-#[inline(always)]
-fn judge_word(
-    sign: &Terms<'_>,
-    pass: &mut Pass,
-    source: &mut Source<'_>,
-    at: usize,
-) -> (usize, Option<u8>)
-    requires short { length source.old.octets < 2 ^ 32 }
-    requires behind { IsBehind sign.now source.old.octets at (IsFilledFor sign.now pass.old) source.old }
-    requires fits { FitsHere pass.old }
-    ensures further { at ≤ result.0 }
-    ensures at { IsAt sign.now source.old.octets result.0 result.1 (IsFilledFor sign.now pass.new) source.new }
-{
-    let (len, next) = pass.take_run(sign, source, at);
-    (at + len, next)
 }

@@ -183,11 +183,9 @@ fn judge_bracket<const WORDS: bool>(
         Ok(spelled) => spelled,
         Err(error) => return Err(Offence { error, at }),
     };
+    let behind = at + spelled.len;
     match pass.judge_item::<WORDS>(sign, source, spelled.item) {
-        Ok(()) => {
-            let behind = at + spelled.len;
-            Ok((behind, source.read(behind)))
-        }
+        Ok(()) => Ok((behind, source.read(behind))),
         Err(error) => Err(Offence { error, at }),
     }
 }

@@ -16,7 +16,7 @@ use Rattle.multi_layout.proofs.read.read_filled.Goals as goal
 pub loop-next-init : goal.loop-next-init
 loop-next-init c =
     record {
-      so_far = λ before behind b begins. nothing_filled c.requires.words b begins c.new-kept.result c.new-kept.ensures c.args.read.now.lines c.requires.none c.requires.ordered;
+      so_far = λ before behind b begins. nothing_filled c.requires.words b begins c.new-kept.result c.new-kept.ensures.filled c.args.read.now.lines c.requires.none c.requires.ordered;
       forward = omega arith;
       steps = (0, omega arith, omega arith, sym (charged-zero c.args.source.now));
     }
