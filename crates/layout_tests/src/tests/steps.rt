@@ -3,7 +3,7 @@
 
 use crate::tests::so;
 use multi_layout::{Shown, check};
-use multi_tag::{Tag, read_tag};
+use multi_tag::{Tag, read_ahead, read_tag};
 use multi_token::{Kind, Source, next_token};
 use page_plane::Plane;
 use sign_font::{LineFill, Sign, sample_sign};
@@ -42,15 +42,32 @@ impl Walk {
             return None;
         };
         self.at = at.saturating_add(token.len);
-        let in_run = token.len == 1;
-        if in_run != self.in_run {
-            self.runs = self.runs.saturating_add(1);
-            self.in_run = in_run;
-        }
         match token.kind {
             Kind::Char(octet) => Some(Tag::HexChar(u16::from(octet))),
             Kind::Tag => read_tag(source, &token).ok(),
         }
+    }
+
+    /// Reads the next item as it is judged: its first octet, the octet behind a bracket, and those ahead of a tag.
+    fn read_once(&mut self, source: &mut Source<'_>) -> Option<Tag> {
+        let at = self.at.min(source.len());
+        let first = source.read(at)?;
+        let (item, len) = if first != b'[' && first != b']' {
+            (Tag::HexChar(u16::from(first)), 1)
+        } else if source.read(at + 1) == Some(first) {
+            (Tag::HexChar(u16::from(first)), 2)
+        } else if first == b'[' {
+            read_ahead(source, at)?
+        } else {
+            return None;
+        };
+        self.at = at.saturating_add(len);
+        let in_run = len == 1;
+        if in_run != self.in_run {
+            self.runs = self.runs.saturating_add(1);
+            self.in_run = in_run;
+        }
+        Some(item)
     }
 
     /// Looks up the cell of a character, or the font that a tag names.
@@ -106,13 +123,14 @@ impl Walk {
     }
 }
 
-/// The steps of judging a string whose lines aren't filled: each octet is read once, the end too, the body of each tag twice, and each
-/// cell and font is looked up once; then the looks of the runs.
+/// The steps of judging a string whose lines aren't filled: each octet is read once, the end too, the octet behind each bracket
+/// twice, with each tag 26 octets more or as many as there are, and each cell and font is looked up once; then the looks of the
+/// runs.
 fn judged(sign: &Sign, octets: &[u8]) -> u64 {
     let mut source = Source::new(octets);
     let mut walk = Walk::new(sign);
     for _ in 0..=octets.len() {
-        let Some(item) = walk.read(&mut source) else {
+        let Some(item) = walk.read_once(&mut source) else {
             break;
         };
         walk.look(sign, &mut source, item);
@@ -151,8 +169,8 @@ struct Row {
     octets: &'static [u8],
     clock: u64,
     page: u8,
-    /// What spaces and octets without room take more than others: they end a run, and are looked at once more; and a run that
-    /// begins behind them looks up its font.
+    /// What spaces and octets without room take more than others: they end a run, and are looked at once more, a space without
+    /// room twice; and a run that begins behind them looks up its font.
     again: u64,
     /// The spaces of the page that are dropped: to draw them no cell is looked up.
     dropped: u64,
@@ -256,13 +274,13 @@ fn each_step_is_a_read_or_a_look(rt: HostRuntime) -> Result<(), Fail> {
 
     let rows = [
         filled(b"AA AA", 0, 0, 4, 1),
-        filled(b"A A A", 0, 0, 4, 1),
+        filled(b"A A A", 0, 0, 5, 1),
         filled(b" AAA", 0, 0, 2, 1),
         filled(b"AA[hc20]AA", 0, 0, 0, 1),
         filled(b"[jl2]A A[jl4]AA", 0, 0, 2, 1),
         // behind its dropped space no run begins, so that the bracket isn't looked at
-        filled(b"[jp2]AAA [jp4]A", 0, 0, 0, 1),
-        filled(b"[tr1,1,3,0]A A[np]AA AA", 30, 1, 6, 1),
+        filled(b"[jp2]AAA [jp4]A", 0, 0, 1, 1),
+        filled(b"[tr1,1,3,0]A A[np]AA AA", 30, 1, 7, 1),
         plain(b"AAA[nl] A", 0, 0),
     ];
     parts.line_fill = LineFill::Words;
