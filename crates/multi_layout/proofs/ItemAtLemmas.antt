@@ -1,14 +1,12 @@
 -- What stands at an offset of a string, from what was read there.
-use Rattle.std.proofs.Common.{◌≡◌, ℕ, ◌+◌, ◌-◌, ◌*◌, ◌^◌, ◌<◌, ◌≤◌, Bool, true, false, List, length, slice_get, inl, inr, ◌⊎◌, Option, Result, Ok, Err, Some, None, refl, sym, ap, ◌∙◌, arith}
+use Rattle.std.proofs.Common.{◌≡◌, ℕ, ◌+◌, ◌-◌, ◌*◌, ◌^◌, ◌<◌, ◌≤◌, true, false, List, length, slice_get, inr, ◌⊎◌, Option, Ok, Err, Some, None, refl, sym, ap, ◌∙◌, arith}
 use Rattle.std.specs.Prelude.{min, nat_eq}
 use Rattle.std.specs.Option.{option_eq}
 use Rattle.std.proofs.lemmas.Bool.{eq-eqb, eqb-true, false≢true}
 use Rattle.multi_token.specs.declared.token.Token.{Token}
 use Rattle.multi_token.specs.declared.token.Kind.TheVariants as kinds
-use Rattle.multi_token.specs.Spelling.{HasNoItem}
-use Rattle.multi_token.specs.Tokens.{IsTagOf, IsTokenOf, body_of, item_of}
+use Rattle.multi_token.specs.Tokens.{IsTagOf, body_of}
 use Rattle.multi_token.proofs.PlaceLemmas.{doubled_token, length-tag}
-use Rattle.multi_tag.specs.Body.{Spells}
 use Rattle.multi_tag.specs.Closed.{IsTagAt}
 use Rattle.multi_tag.specs.declared.tag.Tag.{Tag}
 use Rattle.multi_tag.specs.declared.tag.TagFault.{TagFault}
@@ -17,7 +15,7 @@ use Rattle.multi_tag.proofs.AheadLemmas.{body_long}
 use Rattle.multi_tag.proofs.ShortLemmas.{short_body}
 use Rattle.multi_tag.proofs.TagOfLemmas.{tag_of-spelled}
 use Rattle.multi_layout.specs.ItemAt.{IsFaultAt, IsItemAt}
-use Rattle.multi_layout.specs.Meaning.{Faulty, Meaning, Shows, meaning, meaning_of_tag, said_by}
+use Rattle.multi_layout.specs.Meaning.{Faulty, Shows, meaning_of_tag, said_by}
 use Rattle.multi_layout.specs.State.{IsKnown}
 use Rattle.multi_layout.proofs.MeaningLemmas.{known_of, meaning-tag}
 

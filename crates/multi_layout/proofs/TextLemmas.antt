@@ -1,5 +1,5 @@
 -- A word and the space behind it, where lines are filled.
-use Rattle.std.proofs.Common.{◌≡◌, ◌≢◌, ℕ, ◌+◌, ◌-◌, ◌*◌, ◌^◌, ◌<◌, ◌≤◌, List, length, take, drop, slice_get, true, Option, Some, ap, sym, subst, ◌∙◌, arith}
+use Rattle.std.proofs.Common.{◌≡◌, ℕ, ◌+◌, ◌-◌, ◌*◌, ◌^◌, ◌<◌, ◌≤◌, List, length, take, drop, slice_get, true, Option, Some, ap, subst, ◌∙◌, arith}
 use Rattle.std.specs.List.{All}
 use Rattle.multi_token.specs.Counted.{Counted, RisesBetween, charged}
 use Rattle.multi_token.specs.Spelling.{IsPlain}

@@ -1,11 +1,11 @@
-use Rattle.std.proofs.Common.{◌≡◌, ℕ, ◌+◌, ◌-◌, ◌*◌, length, List, Ok, Err, refl, ap, sym, subst, ◌∙◌, arith}
+use Rattle.std.proofs.Common.{◌≡◌, ℕ, ◌+◌, ◌-◌, ◌*◌, length, List, Err, refl, ap, subst, ◌∙◌, arith}
 use Rattle.std.specs.Prelude.{IfOk}
 use Rattle.multi_token.specs.Counted.{Counted, RisesBetween, charged}
 use Rattle.multi_token.specs.declared.token.Bracketed.{Bracketed}
 use Rattle.multi_token.specs.declared.token.Bracketed.TheVariants as bracketed
 use Rattle.multi_token.specs.declared.token.Kind.TheVariants as kinds
 use Rattle.multi_token.specs.declared.token.Token.{Token}
-use Rattle.multi_token.specs.Tokens.{IsBracketed, IsTokenOf, body_of, octets_of}
+use Rattle.multi_token.specs.Tokens.{IsBracketed, body_of, octets_of}
 use Rattle.multi_token.proofs.StepLemmas.{rises_then, rises_more}
 use Rattle.multi_tag.specs.Body.{Spells}
 use Rattle.multi_tag.specs.TagOf.{tag_of}

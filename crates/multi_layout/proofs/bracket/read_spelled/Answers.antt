@@ -1,10 +1,9 @@
 use Rattle.std.proofs.Common.{◌≡◌, ℕ, ◌+◌, ◌-◌, ◌*◌, length, List, Some, inl, refl, ap, sym, subst, ◌∙◌, arith}
 use Rattle.std.specs.Prelude.{min, slice_get}
 use Rattle.std.proofs.lemmas.Option.{slice_get_within}
-use Rattle.multi_token.specs.Counted.{Counted, RisesBetween, charged}
+use Rattle.multi_token.specs.Counted.{Counted, charged}
 use Rattle.multi_token.proofs.PlaceLemmas.{none_closing}
 use Rattle.multi_token.proofs.StepLemmas.{charged-charged, rises_then, rises_more}
-use Rattle.multi_layout.specs.ItemAt.{IsFaultAt, IsItemAt}
 use Rattle.multi_tag.specs.Closed.{IsTagAt}
 use Rattle.multi_layout.proofs.ItemAtLemmas.{ahead_steps, doubled_at, read_is, read_not, tag_at}
 use Rattle.multi_layout.proofs.bracket.read_spelled.Goals as goal

@@ -1,4 +1,4 @@
-use Rattle.std.proofs.Common.{◌≡◌, ℕ, ◌≤◌, List, length, map, ap, subst, arith}
+use Rattle.std.proofs.Common.{ℕ, List, length, map, ap, subst, arith}
 use Rattle.sign_font.specs.declared.parts.LineFill.TheVariants.{Words}
 use Rattle.multi_layout.specs.FilledState.{IsFilledFor}
 use Rattle.multi_layout.specs.LaidItems.{laid_items}

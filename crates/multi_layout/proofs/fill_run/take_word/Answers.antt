@@ -1,6 +1,6 @@
-use Rattle.std.proofs.Common.{◌≡◌, ℕ, ◌+◌, ◌-◌, ◌*◌, ◌≤◌, List, Option, Some, refl, ap, sym, subst, ◌∙◌, arith}
+use Rattle.std.proofs.Common.{◌≡◌, ℕ, ◌+◌, ◌-◌, ◌*◌, List, Option, refl, ap, sym, subst, ◌∙◌, arith}
 use Rattle.multi_token.specs.Counted.{Counted, RisesBetween, charged}
-use Rattle.multi_token.proofs.StepLemmas.{rises_more, rises_then}
+use Rattle.multi_token.proofs.StepLemmas.{rises_then}
 use Rattle.multi_layout.specs.declared.pass.Pass.{Pass}
 use Rattle.sign_font.specs.Sign.{SignData}
 use Rattle.sign_font.specs.Text.{width_in}

@@ -1,13 +1,12 @@
-use Rattle.std.proofs.Common.{◌≡◌, ℕ, ◌-◌, ◌*◌, ◌+◌, ◌≤◌, ◌==◌, List, not, map, ap, sym, subst, arith}
+use Rattle.std.proofs.Common.{ℕ, ◌-◌, ◌*◌, ◌==◌, not, map, arith}
 use Rattle.multi_token.specs.Counted.{Counted, RisesBetween}
 use Rattle.multi_token.proofs.ReadingLemmas.{spelling_some}
 use Rattle.multi_token.specs.Tokens.{item_of}
-use Rattle.multi_token.proofs.StepLemmas.{rises_then, rises_more}
+use Rattle.multi_token.proofs.StepLemmas.{rises_then}
 use Rattle.multi_layout.specs.ItemAt.{IsItemAt}
 use Rattle.multi_layout.specs.KnownItem.{meant_by}
 use Rattle.multi_layout.specs.Meaning.{Meaning, meaning}
 use Rattle.multi_layout.specs.PassOf.{IsPassOf}
-use Rattle.multi_layout.specs.Progress.{ReadSoFar}
 use Rattle.multi_layout.proofs.AtLemmas.{fault_refused, item_behind, item_offends}
 use Rattle.multi_layout.proofs.PassLemmas.{pass_ready_here}
 use Rattle.multi_layout.proofs.verdict.judge_bracket.Goals as goal

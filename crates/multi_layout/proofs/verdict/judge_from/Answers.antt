@@ -1,4 +1,4 @@
-use Rattle.std.proofs.Common.{◌≡◌, ◌≤◌, ◌==◌, not, None, Some, map, arith}
+use Rattle.std.proofs.Common.{◌≤◌, ◌==◌, not, map, arith}
 use Rattle.multi_layout.specs.Meaning.{meaning}
 use Rattle.multi_layout.specs.PassOf.{IsPassOf}
 use Rattle.multi_layout.proofs.AtLemmas.{octet_behind, octet_offends}
