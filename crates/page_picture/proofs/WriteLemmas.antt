@@ -3,7 +3,7 @@ use Rattle.std.proofs.Common.{◌≡◌, ℕ, zero, suc, ◌+◌, ◌-◌, ◌*�
 use Rattle.std.proofs.Math.ListN.{get_or-append}
 use Rattle.std.proofs.lemmas.Bool.{cases_Bool}
 use Rattle.std.proofs.lemmas.Slice.{drop-append-drop}
-use Rattle.std.proofs.lemmas.List.{drop_all, get_or-replicate, length-append, length-replicate, take-append-drop, take_at, take_more}
+use Rattle.std.proofs.lemmas.List.{drop_all, get_or-replicate, length-append, length-replicate, take-append-drop, take_all, take_at, take_more}
 use Rattle.std.specs.List.{find, range_with_len}
 use Rattle.std.specs.Option.{option_map_or}
 use Rattle.multi_token.specs.Counted.{Counted, RisesBetween}
@@ -151,3 +151,10 @@ vec_written size count old new all few whole long is =
     let alone = is ∙ ap (λ l. all ++ l) (drop_all size old none) ∙ append-nil all in
     let enough : length all ≡ count = omega (arith, few, long) in
     ap (λ l. take count (l ++ drop (length new) old)) alone ∙ take_at all (drop (length new) old) count enough
+
+-- a list of all values has these values
+pub all_values : (width height : ℕ) (l : List ℕ) → length l ≡ width * height → l ≡ values (value_at l width) width height
+all_values width height l whole =
+    let most : length l ≤ width * height = omega (arith, whole) in
+    let least : width * height ≤ length l = omega (arith, whole) in
+    sym (take_all (width * height) l most) ∙ rows_taken (value_at l width) width height l least (λ column row left above. refl)

@@ -1,5 +1,4 @@
 pub mod Colours
-pub mod Planes
 pub mod Dots
 pub mod Palette
 pub mod Ppm

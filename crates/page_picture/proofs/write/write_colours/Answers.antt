@@ -1,5 +1,4 @@
-use Rattle.std.proofs.Common.{◌≡◌, ◌*◌, ◌≤◌, length, replicate, ◌++◌, drop, ap, ◌∙◌, sym, subst, arith}
-use Rattle.multi_layout.specs.declared.times.Shown.TheVariants.{Page}
+use Rattle.std.proofs.Common.{◌*◌, replicate, ◌++◌, drop, ap, ◌∙◌, sym, arith}
 use Rattle.page_picture.specs.Shown.{colours}
 use Rattle.page_picture.proofs.ShownLemmas
 use Rattle.page_picture.proofs.WriteLemmas

@@ -1,4 +1,4 @@
-use Rattle.std.proofs.Common.{◌-◌, ◌<◌, ◌+◌, ◌≤◌, length, refl, ap, ◌∙◌, sym, subst, arith, ◌≡◌}
+use Rattle.std.proofs.Common.{◌-◌, ◌<◌, ◌+◌, ◌≤◌, length, refl, ap, ◌∙◌, subst, arith, ◌≡◌}
 use Rattle.multi_token.specs.Counted.{Counted, RisesBetween}
 use Rattle.page_plane.specs.Plane.{is_lit}
 use Rattle.multi_layout.specs.Limits.{plane_limit, reading_limit}
