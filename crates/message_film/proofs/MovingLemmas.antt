@@ -1,14 +1,12 @@
 -- What a text shows, tenth by tenth.
-use Rattle.std.proofs.Common.{◌≡◌, ℕ, zero, suc, ◌+◌, ◌*◌, ◌/◌, ◌<◌, ◌≤◌, List, [], ◌∷◌, ◌++◌, length, get_or, map, replicate, refl, sym, ap, ◌∙◌, subst, arith, append-nil, length-append}
-use Rattle.std.proofs.Math.ListN.{get_or-append}
+use Rattle.std.proofs.Common.{◌≡◌, ℕ, zero, suc, ◌+◌, ◌*◌, ◌/◌, ◌<◌, ◌≤◌, List, [], ◌∷◌, ◌++◌, length, map, replicate, refl, sym, ap, ◌∙◌, subst, arith, append-nil, length-append}
 use Rattle.std.proofs.Math.Nat.{mul-le-mul_right}
-use Rattle.std.proofs.lemmas.List.{get_or-append-add}
 use Rattle.std.proofs.lemmas.Grind.{flat_map-append}
 use Rattle.std.specs.List.{flat_map, range_with_len}
 use Rattle.sign_font.specs.Sign.{SignData}
 use Rattle.multi_layout.specs.declared.times.Shown.{Shown}
 use Rattle.multi_layout.specs.Times.{shown}
-use Rattle.page_picture.specs.Colours.{row_values, values}
+use Rattle.page_picture.proofs.ColourLemmas.{value_of}
 use Rattle.page_picture.specs.Dots.{dot_line, dots, line_points, row_points, value_at}
 use Rattle.page_picture.specs.Shown.{colours, shown_colour_at}
 use Rattle.page_picture.specs.Palette.{palette}
@@ -86,50 +84,10 @@ dots_same side at other width height same =
     rows_same (λ line. line_points side at row line width) (λ line. line_points side other row line width) 0 side (λ line _.
     lines_same side at other row line 0 width (λ column left. same column row (omega (arith, left)) (omega (arith, above)))))
 
-row_get : (at : ℕ → ℕ → ℕ) (row a n k : ℕ) → k < n → get_or (map (λ column. at column row) (range_with_len a n)) k 0 ≡ at (a + k) row
-row_get at row a zero k below = absurd (omega (arith, below))
-row_get at row a (suc n) zero below = ap (λ c. at c row) (omega arith)
-row_get at row a (suc n) (suc k) below =
-    let next : a + 1 + k ≡ a + suc k = omega arith in
-    row_get at row (a + 1) n k (omega (arith, below)) ∙ ap (λ c. at c row) next
-
-row_count : (at : ℕ → ℕ → ℕ) (row a n : ℕ) → length (map (λ column. at column row) (range_with_len a n)) ≡ n
-row_count at row a zero = refl
-row_count at row a (suc n) = ap suc (row_count at row (a + 1) n)
-
-values_get : (at : ℕ → ℕ → ℕ) (width a n row column : ℕ) → column < width → row < n
-    → get_or (flat_map (row_values at width) (range_with_len a n)) (width * row + column) 0 ≡ at column (a + row)
-values_get at width a zero row column left above = absurd (omega (arith, above))
-values_get at width a (suc n) zero column left above =
-    let first = row_values at width a in
-    let rest = flat_map (row_values at width) (range_with_len (a + 1) n) in
-    let count = row_count at a 0 width in
-    let place : width * 0 + column ≡ column = omega arith in
-    let here : a ≡ a + 0 = omega arith in
-    let left_of : 0 + column ≡ column = omega arith in
-    ap (λ k. get_or (first ++ rest) k 0) place
-    ∙ get_or-append first rest 0 column (omega (arith, count, left))
-    ∙ row_get at a 0 width column left
-    ∙ ap (λ k. at k a) left_of
-    ∙ ap (at column) here
-values_get at width a (suc n) (suc row) column left above =
-    let first = row_values at width a in
-    let rest = flat_map (row_values at width) (range_with_len (a + 1) n) in
-    let count = row_count at a 0 width in
-    let next : a + 1 + row ≡ a + suc row = omega arith in
-    let place : width * suc row + column ≡ length first + (width * row + column) = omega (arith, count) in
-    ap (λ k. get_or (first ++ rest) k 0) place
-    ∙ get_or-append-add first rest (width * row + column) 0
-    ∙ values_get at width (a + 1) n row column left (omega (arith, above))
-    ∙ ap (at column) next
-
 -- the points of the colours of what is shown
 pub seen : (side : ℕ) (sign : SignData) (text : List ℕ) (at : Shown) → points_of side sign.width sign.height (colours sign text at) ≡ seen_points side sign text at
-unfolding values
 seen side sign text at = dots_same side (value_at (colours sign text at) sign.width) (shown_colour_at sign text at) sign.width sign.height
-    (λ column row left above.
-    let from : 0 + row ≡ row = omega arith in
-    values_get (shown_colour_at sign text at) sign.width 0 sign.height row column left above ∙ ap (shown_colour_at sign text at column) from)
+    (value_of (shown_colour_at sign text at) sign.width sign.height)
 
 -- a moment that is drawn
 pub moment : (side width height : ℕ) (sign : SignData) (text drawn : List ℕ) (at : Shown) → width ≡ sign.width → height ≡ sign.height → drawn ≡ colours sign text at

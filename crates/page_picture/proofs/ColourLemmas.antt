@@ -1,30 +1,15 @@
--- The planes of a page's colours, and the colours that they make.
-use Rattle.std.proofs.Common.{◌≡◌, ℕ, zero, suc, ◌+◌, ◌<◌, ◌≤◌, true, false, List, [], ◌∷◌, ◌++◌, length, map, refl, sym, ap, ◌∙◌, arith, replicate, ◌*◌, subst, inl, inr}
-use Rattle.std.proofs.lemmas.Bool.{cases_Bool}
-use Rattle.std.proofs.lemmas.List.{replicate-append-replicate}
-use Rattle.std.proofs.lemmas.List.Elements.{All-cons}
-use Rattle.std.specs.List.{All, find, flat_map, range_with_len}
-use Rattle.std.specs.Option.{option_map_or}
-use Rattle.page_plane.specs.Plane.{BitPlane, is_lit}
+-- The colours of pixels, in one list.
+use Rattle.std.proofs.Common.{◌≡◌, ℕ, zero, suc, ◌+◌, ◌<◌, List, [], ◌∷◌, ◌++◌, length, map, refl, ap, ◌∙◌, arith, replicate, ◌*◌, subst, get_or}
+use Rattle.std.proofs.Math.ListN.{get_or-append}
+use Rattle.std.proofs.lemmas.List.{get_or-append-add, replicate-append-replicate}
+use Rattle.std.specs.List.{flat_map, range_with_len}
+use Rattle.page_plane.specs.Plane.{BitPlane}
 use Rattle.sign_font.specs.Sign.{SignData}
-use Rattle.sign_font.specs.Sound.{IsSound}
 use Rattle.multi_layout.specs.Drawn.{Lights}
-use Rattle.multi_layout.specs.Pages.{IsSized}
 use Rattle.multi_layout.specs.Picture.{picture}
 use Rattle.octet_text.proofs.TextLemmas.{flat_map_more, flat_map_same, map_more, map_same}
-use Rattle.page_picture.specs.Colours.{IsPage, first_lit, row_values, values}
-use Rattle.page_picture.specs.Planes.{AreSized, HaveColours}
-
--- PLANES
-
--- one more plane is that of the next colour
-pub colours_more : (sign : SignData) (octets : List ℕ) (page phase colour next : ℕ) (planes : List BitPlane) (plane : BitPlane) → next ≡ colour + length planes
-    → HaveColours sign octets page phase colour planes → IsSized plane sign → Lights plane (picture sign octets page phase next)
-    → HaveColours sign octets page phase colour (planes ++ plane ∷ [])
-colours_more sign octets page phase colour next [] plane is have sized shows =
-    (sized, subst (λ c. Lights plane (picture sign octets page phase c)) (let same : next ≡ colour = omega (arith, is) in same) shows, tt)
-colours_more sign octets page phase colour next (first ∷ planes) plane is have sized shows =
-    (have.0, have.1, colours_more sign octets page phase (colour + 1) next planes plane (omega (arith, is)) have.2 sized shows)
+use Rattle.page_picture.specs.Colours.{row_values, values}
+use Rattle.page_picture.specs.Dots.{value_at}
 
 -- what a plane shows by a sign and octets it shows by the same ones
 pub lights_by : (sign other : SignData) (octets others : List ℕ) (page phase colour : ℕ) (plane : BitPlane) → other ≡ sign → others ≡ octets
@@ -32,51 +17,6 @@ pub lights_by : (sign other : SignData) (octets others : List ℕ) (page phase c
 lights_by sign other octets others page phase colour plane same_sign same_octets shows =
     subst (λ (s : SignData). Lights plane (picture s octets page phase colour)) same_sign
     (subst (λ l. Lights plane (picture other l page phase colour)) same_octets shows)
-
--- planes of the sign's size have its pixels
-pub all_inside : (sign : SignData) (octets : List ℕ) (page phase colour : ℕ) (planes : List BitPlane) → HaveColours sign octets page phase colour planes
-    → All (λ plane. (sign.width ≤ plane.width) × (sign.height ≤ plane.height)) planes
-all_inside sign octets page phase colour [] have = λ k d below. absurd (omega (arith, below))
-all_inside sign octets page phase colour (plane ∷ planes) have =
-    All-cons (λ plane. (sign.width ≤ plane.width) × (sign.height ≤ plane.height)) plane planes
-    (let wide : sign.width ≤ plane.width = omega (arith, have.0.0) in let high : sign.height ≤ plane.height = omega (arith, have.0.1) in (wide, high)) (all_inside sign octets page phase (colour + 1) planes have.2)
-
--- the colour by the planes is that by the picture
-coloured : (sign : SignData) (octets : List ℕ) (page phase colour : ℕ) (planes : List BitPlane) (column row : ℕ) → column < sign.width → row < sign.height
-    → HaveColours sign octets page phase colour planes
-    → first_lit colour planes column row ≡ option_map_or (λ c. c) (find (λ c. picture sign octets page phase c column row) (range_with_len colour (length planes))) 0
-coloured sign octets page phase colour [] column row left above have = refl
-coloured sign octets page phase colour (plane ∷ planes) column row left above have =
-    let shows : is_lit plane column row ≡ picture sign octets page phase colour column row = have.1 column row (omega (arith, left, have.0.0)) (omega (arith, above, have.0.1)) in
-    let rest = coloured sign octets page phase (colour + 1) planes column row left above have.2 in
-    elim (cases_Bool (picture sign octets page phase colour column row)) [
-      | inl is ↦ let lit : is_lit plane column row ≡ true = shows ∙ is in rw (lit, is) refl
-      | inr isn't ↦ let dark : is_lit plane column row ≡ false = shows ∙ isn't in rw (dark, isn't) rest
-    ]
-
--- the colours by the planes of all nine are those of the page
-pub is_page : (sign : SignData) (octets : List ℕ) (page phase width height : ℕ) (planes : List BitPlane) → length planes ≡ 9 → width ≡ sign.width → height ≡ sign.height
-    → HaveColours sign octets page phase 1 planes → IsPage sign octets page phase (record { width = width; height = height; planes = planes })
-is_page sign octets page phase width height planes nine wide high have = record {
-  width = wide;
-  height = high;
-  pixels = λ column row left above.
-      coloured sign octets page phase 1 planes column row left above have
-      ∙ ap (λ n. option_map_or (λ c. c) (find (λ c. picture sign octets page phase c column row) (range_with_len 1 n)) 0) nine;
-}
-
--- the planes of all nine colours have the sign's size
-pub are_sized : (sign : SignData) (octets : List ℕ) (page phase width height : ℕ) (planes : List BitPlane) → IsSound sign → length planes ≡ 9 → width ≡ sign.width
-    → height ≡ sign.height → HaveColours sign octets page phase 1 planes → AreSized width height planes
-are_sized sign octets page phase width height planes sound nine wide high have = record {
-  width_range = (omega (arith, wide, sound.width.0), omega (arith, wide, sound.width.1));
-  height_range = (omega (arith, high, sound.height.0), omega (arith, high, sound.height.1));
-  few = omega (arith, nine);
-  inside = subst (λ w. All (λ plane. (w ≤ plane.width) × (height ≤ plane.height)) planes) (sym wide)
-      (subst (λ h. All (λ plane. (sign.width ≤ plane.width) × (h ≤ plane.height)) planes) (sym high) (all_inside sign octets page phase 1 planes have));
-}
-
--- VALUES
 
 -- no row is there at first
 pub values_none : (at : ℕ → ℕ → ℕ) (width : ℕ) → values at width 0 ≡ []
@@ -120,3 +60,47 @@ zero_rows a width (suc n) =
 pub values_zero : (width height : ℕ) → values (λ column row. 0) width height ≡ replicate (width * height) 0
 unfolding values
 values_zero width height = zero_rows 0 width height
+
+row_get : (at : ℕ → ℕ → ℕ) (row a n k : ℕ) → k < n → get_or (map (λ column. at column row) (range_with_len a n)) k 0 ≡ at (a + k) row
+row_get at row a zero k below = absurd (omega (arith, below))
+row_get at row a (suc n) zero below = ap (λ c. at c row) (omega arith)
+row_get at row a (suc n) (suc k) below =
+    let next : a + 1 + k ≡ a + suc k = omega arith in
+    row_get at row (a + 1) n k (omega (arith, below)) ∙ ap (λ c. at c row) next
+
+row_count : (at : ℕ → ℕ → ℕ) (row a n : ℕ) → length (map (λ column. at column row) (range_with_len a n)) ≡ n
+row_count at row a zero = refl
+row_count at row a (suc n) = ap suc (row_count at row (a + 1) n)
+
+values_get : (at : ℕ → ℕ → ℕ) (width a n row column : ℕ) → column < width → row < n
+    → get_or (flat_map (row_values at width) (range_with_len a n)) (width * row + column) 0 ≡ at column (a + row)
+values_get at width a zero row column left above = absurd (omega (arith, above))
+values_get at width a (suc n) zero column left above =
+    let first = row_values at width a in
+    let rest = flat_map (row_values at width) (range_with_len (a + 1) n) in
+    let count = row_count at a 0 width in
+    let place : width * 0 + column ≡ column = omega arith in
+    let here : a ≡ a + 0 = omega arith in
+    let left_of : 0 + column ≡ column = omega arith in
+    ap (λ k. get_or (first ++ rest) k 0) place
+    ∙ get_or-append first rest 0 column (omega (arith, count, left))
+    ∙ row_get at a 0 width column left
+    ∙ ap (λ k. at k a) left_of
+    ∙ ap (at column) here
+values_get at width a (suc n) (suc row) column left above =
+    let first = row_values at width a in
+    let rest = flat_map (row_values at width) (range_with_len (a + 1) n) in
+    let count = row_count at a 0 width in
+    let next : a + 1 + row ≡ a + suc row = omega arith in
+    let place : width * suc row + column ≡ length first + (width * row + column) = omega (arith, count) in
+    ap (λ k. get_or (first ++ rest) k 0) place
+    ∙ get_or-append-add first rest (width * row + column) 0
+    ∙ values_get at width (a + 1) n row column left (omega (arith, above))
+    ∙ ap (at column) next
+
+-- the value of a pixel in the list of all
+pub value_of : (at : ℕ → ℕ → ℕ) (width height column row : ℕ) → column < width → row < height → value_at (values at width height) width column row ≡ at column row
+unfolding values
+value_of at width height column row left above =
+    let from : 0 + row ≡ row = omega arith in
+    values_get at width 0 height row column left above ∙ ap (at column) from

@@ -11,22 +11,15 @@ use Rattle.multi_layout.specs.Meaning.{meanings}
 use Rattle.multi_layout.specs.Picture.{pixel_at}
 use Rattle.multi_layout.specs.Times.{shown}
 use Rattle.multi_layout.proofs.TimesLemmas.{page_below}
-use Rattle.page_picture.specs.Colours.{ColourData, IsPage, colour_at, page_colour, row_values, values}
-use Rattle.page_picture.specs.Shown.{IsThere, colours, shown_colour_at}
-use Rattle.page_picture.proofs.ColourLemmas.{values_same, values_zero}
+use Rattle.page_picture.specs.Colours.{ColourData, row_values, values}
+use Rattle.page_picture.specs.Dots.{value_at}
+use Rattle.page_picture.specs.Shown.{AreShown, IsThere, colours, shown_colour_at}
+use Rattle.page_picture.proofs.ColourLemmas.{value_of, values_zero}
 
 -- what is shown at a clock is a page of the text, or nothing is
 pub there_at : (sign : SignData) (text : List ℕ) (clock : ℕ) (seen : Shown) → seen ≡ shown sign text clock → IsThere text seen
 there_at sign text clock (Page page phase) is = page_below sign text clock page phase (sym is)
 there_at sign text clock Off is = tt
-
--- the colours of a page are those that are shown of it
-pub shown_page : (sign : SignData) (text : List ℕ) (page phase : ℕ) (drawn : ColourData) → IsPage sign text page phase drawn
-    → values (colour_at drawn) drawn.width drawn.height ≡ colours sign text (Page page phase)
-shown_page sign text page phase drawn is =
-    ap (λ w. values (colour_at drawn) w drawn.height) is.width
-    ∙ ap (values (colour_at drawn) sign.width) is.height
-    ∙ values_same (colour_at drawn) (page_colour sign text page phase) sign.width sign.height is.pixels
 
 -- in an off time all colours are 0
 pub shown_off : (sign : SignData) (text : List ℕ) → replicate (sign.width * sign.height) 0 ≡ colours sign text Off
@@ -64,3 +57,15 @@ pub colours_small : (sign : SignData) (text : List ℕ) (seen : Shown) → All (
 unfolding values
 colours_small sign text seen = rows_small (shown_colour_at sign text seen) sign.width 0 sign.height
     (λ column row. let most = found_below (λ colour. pixel_at sign (meanings text) seen colour column row) 1 8 in omega (arith, most))
+
+-- a page with these colours is what is shown
+pub are_shown : (sign : SignData) (text : List ℕ) (seen : Shown) (page : ColourData) → page.width ≡ sign.width → page.height ≡ sign.height → page.colours ≡ colours sign text seen
+    → AreShown sign text seen page
+are_shown sign text seen page wide high all = record {
+  width = wide;
+  height = high;
+  pixels = λ column row left above.
+      ap (λ l. value_at l page.width column row) all
+      ∙ ap (λ w. value_at (colours sign text seen) w column row) wide
+      ∙ value_of (shown_colour_at sign text seen) sign.width sign.height column row left above;
+}

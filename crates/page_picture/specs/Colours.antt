@@ -1,10 +1,10 @@
 -- The colours of a page's pixels.
-use Rattle.std.specs.Prelude.{◌≡◌, ℕ, ◌+◌, ◌<◌, Bool, List, [], ◌∷◌, map, if◌then◌else◌}
-use Rattle.std.specs.List.{find, flat_map, range_with_len}
+use Rattle.std.specs.Prelude.{◌≡◌, ℕ, ◌*◌, ◌<◌, ◌≤◌, Bool, List, length, map}
+use Rattle.std.specs.List.{All, find, flat_map, range_with_len}
 use Rattle.std.specs.Option.{option_map_or}
-use Rattle.page_plane.specs.Plane.{BitPlane, is_lit}
 use Rattle.sign_font.specs.Sign.{SignData}
 use Rattle.multi_layout.specs.Picture.{picture}
+use Rattle.page_picture.specs.Dots.{value_at}
 
 -- the colour of a pixel: the first of the colours 1 to 9 that it has, and else 0, which is black (own)
 abbrev pub colour_by : (ℕ → Bool) → ℕ
@@ -22,20 +22,22 @@ row_values at count row = map (λ column. at column row) (range_with_len 0 count
 unfoldable pub values : (ℕ → ℕ → ℕ) → ℕ → ℕ → List ℕ
 values at width count = flat_map (row_values at width) (range_with_len 0 count)
 
--- the size of a page, and the planes of its colours 1 to 9 (own)
+-- the size of a page, and the colours of all its pixels, row by row from the top, and each row from the left (own)
 pub record ColourData : Type 0 where
   pub width : ℕ
   pub height : ℕ
-  pub planes : List BitPlane
-
--- the colour of a pixel by the planes of successive colours: that of the first plane that has it lit (own)
-abbrev pub first_lit : ℕ → List BitPlane → ℕ → ℕ → ℕ
-first_lit colour [] column row = 0
-first_lit colour (plane ∷ planes) column row = if is_lit plane column row then colour else first_lit (colour + 1) planes column row
+  pub colours : List ℕ
 
 -- the colour of a pixel, 0 to 9 (own)
 abbrev pub colour_at : ColourData → ℕ → ℕ → ℕ
-colour_at colours column row = first_lit 1 colours.planes column row
+colour_at page column row = value_at page.colours page.width column row
+
+-- a page has a size within a sign's limits, and a colour from 0 to 9 for each pixel (own)
+pub record IsWhole (page : ColourData) : Type 0 where
+  pub width_range : (1 ≤ page.width) × (page.width ≤ 1024)
+  pub height_range : (1 ≤ page.height) × (page.height ≤ 128)
+  pub count : length page.colours ≡ page.width * page.height
+  pub range : All (λ colour. colour ≤ 9) page.colours
 
 -- the colours are those of a page at a phase (own)
 pub record IsPage (sign : SignData) (octets : List ℕ) (page phase : ℕ) (colours : ColourData) : Type 0 where
