@@ -5,8 +5,8 @@ use Rattle.multi_layout.specs.declared.times.Shown.{Shown}
 use Rattle.multi_layout.specs.Limits.{check_limit, drawing_limit}
 use Rattle.page_picture.specs.Shown.{colours}
 
--- the colours of what is shown of a text stand at the front of octets, and those behind them are as before; or there are fewer octets than pixels, and
--- nothing is written (own)
+-- the colours of what is shown of a text stand at the front of octets, and those behind them are as before; or there are fewer octets
+-- than pixels, and nothing is written (own)
 abbrev pub WritesColours : SignData → List ℕ → Shown → List ℕ → List ℕ → Bool → Type 0
 WritesColours sign text seen old new true =
     (sign.width * sign.height ≤ length old) × (new ≡ colours sign text seen ++ drop (sign.width * sign.height) old)

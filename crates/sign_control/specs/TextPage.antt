@@ -1,11 +1,17 @@
 -- The pages of a text that isn't shown.
 use Rattle.std.specs.Prelude.{◌≤◌, ◌<◌, ◌^◌, ℕ, ◌+◌, List, length}
+use Rattle.sign_font.specs.Defaults.{under}
 use Rattle.sign_font.specs.Sign.{SignData}
 use Rattle.multi_layout.specs.Limits.{check_limit, drawing_limit}
 use Rattle.multi_layout.specs.Meaning.{meanings}
 use Rattle.multi_layout.specs.Verdict.{Accepted, IsVerdict, Refused, pages_of}
 use Rattle.sign_control.specs.declared.page.NoPage.{NoPage}
 use Rattle.sign_control.specs.declared.page.NoPage.TheVariants as why
+use Rattle.sign_control.specs.State.{StateData}
+
+-- the sign with the defaults in force (NTCIP 1203 v03, group multiCfg)
+abbrev pub in_force : SignData → StateData → SignData
+in_force sign state = under sign state.defaults
 
 -- a text isn't too long to be judged (own)
 abbrev pub IsShort : List ℕ → Type 0

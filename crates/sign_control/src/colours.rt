@@ -10,12 +10,12 @@ ghost use Rattle.sign_control.specs.Change.{IsCounted};
 ghost use Rattle.sign_control.specs.Colours.{TellsColours, WritesColours, colours_limit, page_colours_limit};
 ghost use Rattle.sign_control.specs.Headline.{shown_by, shown_now};
 ghost use Rattle.sign_control.specs.State.{IsAccepted};
-ghost use Rattle.sign_control.specs.TextPage.{HasPage, LacksPage};
+ghost use Rattle.sign_control.specs.TextPage.{HasPage, LacksPage, in_force};
 
 use crate::check::accepted_text;
 use crate::controller::Controller;
 use crate::page::{NoPage, PageAt, text_with_page};
-use multi_layout::{Checked, Shown};
+use multi_layout::Shown;
 use page_picture::write_colours;
 use page_plane::Plane;
 use sign_font::{Defaults, Sign};
@@ -35,7 +35,8 @@ fn write_shown(
     requires accepted { IsAccepted (under sign.now defaults) text.now }
     requires short { length text.now ≤ 4096 }
     requires size { IsSized plane.old sign.now }
-    ensures colours { TellsColours (under sign.now defaults) text.now (shown (under sign.now defaults) text.now clock) octets.old octets.new result.0 }
+    ensures colours { TellsColours (under sign.now defaults) text.now (shown (under sign.now defaults) text.now clock)
+        octets.old octets.new result.0 }
     ensures size { (plane.new.width ≡ plane.old.width) × (plane.new.height ≡ plane.old.height) }
     ensures most { result.1 ≤ colours_limit sign.now (length text.now) }
 {
@@ -83,13 +84,16 @@ fn write_text(
 }
 
 impl Controller {
-    /// Writes the colours of all pixels of what the display shows at its clock into the first octets, and tells which page that is: 0 to 9,
-    /// an octet each, row by row from the top, and each row from the left. In an off time all are 0. The octets behind them stay as they are.
+    /// Writes the colours of all pixels of what the display shows at its clock into the first octets, and tells which page that is: 0 to
+    /// 9, an octet each, row by row from the top, and each row from the left. In an off time all are 0. The octets behind them stay as
+    /// they are.
     ///
-    /// The display's own text is drawn by the defaults with which it is shown. `None` if there are fewer octets than pixels, and then nothing
-    /// is written. For n octets this takes at most 9 times the steps of drawing one colour, and those of judging the text and finding the page.
+    /// The display's own text is drawn by the defaults with which it is shown. `None` if there are fewer octets than pixels, and then
+    /// nothing is written. For n octets this takes at most 9 times the steps of drawing one colour, and those of judging the text and
+    /// finding the page.
     pub fn colours(&mut self, octets: &mut [u8]) -> Option<Shown>
-        ensures colours { TellsColours (shown_by self.old.sign self.old.state) self.old.state.text (shown_now self.old.sign self.old.state) octets.old octets.new result }
+        ensures colours { TellsColours (shown_by self.old.sign self.old.state) self.old.state.text (shown_now self.old.sign self.old.state)
+            octets.old octets.new result }
         ensures kept { (self.new.sign ≡ self.old.sign) × (self.new.state ≡ self.old.state) }
         ensures steps { IsCounted self.old.steps (colours_limit self.old.sign (length self.old.state.text)) self.new.steps }
     {
@@ -105,8 +109,8 @@ impl Controller {
         shown
     }
 
-    /// Writes the colours of all pixels of a page of a text at a phase, as [`Controller::colours`] writes them, by the defaults in force. What the
-    /// display shows stays. The answer is false if there are fewer octets than pixels, and then nothing is written.
+    /// Writes the colours of all pixels of a page of a text at a phase, as [`Controller::colours`] writes them, by the defaults in force.
+    /// What the display shows stays. The answer is false if there are fewer octets than pixels, and then nothing is written.
     ///
     /// The first error that is true comes, as in [`Controller::draw_page`], and then nothing is written either.
     pub fn write_page(
@@ -116,9 +120,10 @@ impl Controller {
         phase: u64,
         octets: &mut [u8],
     ) -> Result<bool, NoPage>
-        ensures found { OnOk result (HasPage (under self.old.sign self.old.state.defaults) text.now page) }
-        ensures colours { IfOk result (WritesColours (under self.old.sign self.old.state.defaults) text.now (Page page phase) octets.old octets.new) }
-        ensures missing { IfErr result (LacksPage (under self.old.sign self.old.state.defaults) text.now page) }
+        ensures found { OnOk result (HasPage (in_force self.old.sign self.old.state) text.now page) }
+        ensures colours { IfOk result (WritesColours (in_force self.old.sign self.old.state) text.now (Page page phase)
+            octets.old octets.new) }
+        ensures missing { IfErr result (LacksPage (in_force self.old.sign self.old.state) text.now page) }
         ensures unwritten { IfErr result (λ why. octets.new ≡ octets.old) }
         ensures kept { (self.new.sign ≡ self.old.sign) × (self.new.state ≡ self.old.state) }
         ensures steps { IsCounted self.old.steps (page_colours_limit self.old.sign (length text.now)) self.new.steps }

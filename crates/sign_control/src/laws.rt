@@ -20,8 +20,8 @@ pub fn headline()
     ensures { Headline }
 {}
 
-/// At each time before [`crate::Controller::next_change`] the duration goes on, the display shows the same page or stays in its off time, and
-/// every pixel keeps its colour.
+/// At each time before [`crate::Controller::next_change`] the duration goes on, the display shows the same page or stays in its off time,
+/// and every pixel keeps its colour.
 pub fn stays_until_next_change()
     ensures { StaysUntilNextChange }
 {

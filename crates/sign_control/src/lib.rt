@@ -1,10 +1,10 @@
 //! What a sign shows: the activation of messages, their durations, and the frame of the display.
 //!
 //! A [`Controller`] is made once of a sign and its store, and takes then all memory that it ever takes but that of the replies of a
-//! [`Controller::run`]. Each [`Command`] makes one step of its state and has one [`Reply`]. The display has its own copy of the message that was
-//! activated, so a message that is changed later is still shown as it was. [`Controller::frame`] draws one colour of it at its clock,
-//! [`Controller::colours`] all of them, and [`Controller::next_change`] tells for how long it stays as it is. [`Controller::draw_page`] and
-//! [`Controller::write_page`] draw a text that isn't shown.
+//! [`Controller::run`]. Each [`Command`] makes one step of its state and has one [`Reply`]. The display has its own copy of the message
+//! that was activated, so a message that is changed later is still shown as it was. [`Controller::frame`] draws one colour of it at its
+//! clock, [`Controller::colours`] all of them, and [`Controller::next_change`] tells for how long it stays as it is.
+//! [`Controller::draw_page`] and [`Controller::write_page`] draw a text that isn't shown.
 //!
 //! Time is handed in, in tenths of a second: where nobody sends a `Tick`, the clock stands.
 #![tactic(auto)]

@@ -8,7 +8,7 @@ ghost use Rattle.multi_layout.specs.Picture.{picture};
 ghost use Rattle.sign_font.specs.Defaults.{default_fault, under};
 ghost use Rattle.sign_font.specs.Sound.{IsSound};
 ghost use Rattle.sign_control.specs.Change.{IsCounted};
-ghost use Rattle.sign_control.specs.TextPage.{HasPage, LacksPage, page_limit};
+ghost use Rattle.sign_control.specs.TextPage.{HasPage, LacksPage, in_force, page_limit};
 
 use crate::check::check_text;
 use crate::controller::Controller;
@@ -117,9 +117,9 @@ impl Controller {
     /// has no such page. For n octets this takes at most 27n + 3 + R * n + B * (n / 4 + 1) steps. R is the height of the tallest font, and
     /// B the number of octets of the plane.
     pub fn draw_page(&mut self, text: &[u8], page: u8, phase: u64, colour: u8) -> Result<(), NoPage>
-        ensures found { OnOk result (HasPage (under self.old.sign self.old.state.defaults) text.now page) }
-        ensures drawn { OnOk result (Lights self.new.plane (picture (under self.old.sign self.old.state.defaults) text.now page phase colour)) }
-        ensures missing { IfErr result (LacksPage (under self.old.sign self.old.state.defaults) text.now page) }
+        ensures found { OnOk result (HasPage (in_force self.old.sign self.old.state) text.now page) }
+        ensures drawn { OnOk result (Lights self.new.plane (picture (in_force self.old.sign self.old.state) text.now page phase colour)) }
+        ensures missing { IfErr result (LacksPage (in_force self.old.sign self.old.state) text.now page) }
         ensures kept { (self.new.sign ≡ self.old.sign) × (self.new.state ≡ self.old.state) }
         ensures steps { IsCounted self.old.steps (page_limit self.old.sign (length text.now)) self.new.steps }
     {
