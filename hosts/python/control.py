@@ -4,7 +4,9 @@
     control.py SIGN_FILE
 
 A script is lines on standard input, as docs/formats.md describes them, and each has the reply that `signctl run` writes. The status is 1
-after a line that is none of a script, and 2 if there is no controller.
+after a line that is none of a script, 2 if there is no controller, and 3 if two answers of the library don't agree.
+
+Time passes as for a display driver that sleeps until what is shown may change.
 """
 import ctypes
 import re
@@ -18,8 +20,9 @@ U8, U16, U32, U64, SIZE = ctypes.c_uint8, ctypes.c_uint16, ctypes.c_uint32, ctyp
 # Each call returns an outcome, which is one octet, but for this one.
 LIBRARY.latsefur_controller_free.restype = None
 for call in (
-    "sign", "controller_new", "request", "set_multi", "set_owner", "set_priority", "set_beacon", "set_pixel_service", "clear", "work",
-    "activate", "set_end", "tick", "set_default", "report", "row", "defaults", "frame",
+    "controller_new", "request", "set_multi", "set_owner", "set_priority", "set_beacon", "set_pixel_service", "clear", "work",
+    "activate", "set_end", "tick", "set_default", "report", "row", "defaults", "frame", "colours", "next_change",
+    "held_sign", "held_check", "held_plane_of_page", "held_colours_of_page",
 ):
     getattr(LIBRARY, f"latsefur_{call}").restype = U8
 
@@ -39,6 +42,7 @@ Report = structure(
     *((name, U16) for name in ("used", "shown_number", "crc", "remaining", "position")),
     *((name, U8) for name in ("mode", "shown_memory", "priority", "activate", "validate", "multi")),
 )
+Verdict = structure("Verdict", ("at", SIZE), ("cycle", U32), ("outcome", U8), ("code", U8), ("pages", U8))
 FIELDS = ["font", "line", "page", "page_on", "page_off", "flash_on", "flash_off", "fore", "back"]
 Defaults = structure("Defaults", *((name, U8) for name in FIELDS))
 
@@ -50,6 +54,13 @@ REPLIES = {
 
 class BadLine(Exception):
     pass
+
+
+def hold(agrees, what):
+    """Ends the host if two answers don't agree."""
+    if not agrees:
+        print(f"control: {what}", file=sys.stderr)
+        sys.exit(3)
 
 
 def number(word, most):
@@ -80,10 +91,10 @@ class Controller:
 
     def __init__(self, sign):
         self.handle, self.facts, self.reply = Handle(), Facts(), Reply()
-        if LIBRARY.latsefur_sign(sign, SIZE(len(sign)), ctypes.byref(self.facts)) != DONE:
-            sys.exit(2)
         if LIBRARY.latsefur_controller_new(sign, SIZE(len(sign)), ctypes.byref(self.handle)) != DONE:
             sys.exit(2)
+        self.question(LIBRARY.latsefur_held_sign, ctypes.byref(self.facts))
+        self.stride = (self.facts.width + 7) // 8
 
     def free(self):
         LIBRARY.latsefur_controller_free(ctypes.byref(self.handle))
@@ -119,15 +130,59 @@ class Controller:
         self.question(LIBRARY.latsefur_defaults, ctypes.byref(defaults))
         return " ".join(["defaults", *(str(getattr(defaults, name)) for name in FIELDS)])
 
+    def plane(self, call, *arguments):
+        """A plane that a call draws, as a line for each row, and the outcome."""
+        octets = (U8 * (self.stride * self.facts.height))()
+        outcome = self.question(call, *arguments, octets, SIZE(len(octets)))
+        rows = [octets[row * self.stride:(row + 1) * self.stride] for row in range(self.facts.height)]
+        lines = ["".join(f"{octet:08b}" for octet in row)[:self.facts.width] for row in rows]
+        return [line.replace("0", ".").replace("1", "#") for line in lines], outcome
+
+    def colours(self, call, *arguments):
+        """The colours that a call tells, as octets, and the outcome."""
+        octets = (U8 * (self.facts.width * self.facts.height))()
+        outcome = self.question(call, *arguments, octets, SIZE(len(octets)))
+        return bytes(octets), outcome
+
+    def lines_of(self, colours, colour):
+        """The pixels of a colour, as a line for each row."""
+        told = colours.translate(bytes(ord("#") if value == colour else ord(".") for value in range(256))).decode()
+        return [told[at:at + self.facts.width] for at in range(0, len(told), self.facts.width)]
+
+    def shown(self):
+        shown = Shown()
+        colours, _ = self.colours(LIBRARY.latsefur_colours, ctypes.byref(shown))
+        return shown, colours
+
     def frame(self, colour):
-        stride = (self.facts.width + 7) // 8
-        shown, plane = Shown(), (U8 * (stride * self.facts.height))()
-        self.question(LIBRARY.latsefur_frame, U8(colour), ctypes.byref(shown), plane, SIZE(len(plane)))
-        lines = [f"page {shown.page} phase {shown.phase}" if shown.is_on else "off"]
-        for row in range(self.facts.height):
-            bits = "".join(f"{octet:08b}" for octet in plane[row * stride:(row + 1) * stride])
-            lines.append(bits[:self.facts.width].replace("0", ".").replace("1", "#"))
-        return "\n".join(lines)
+        shown = Shown()
+        lines, _ = self.plane(LIBRARY.latsefur_frame, U8(colour), ctypes.byref(shown))
+        same, colours = self.shown()
+        hold(lines == self.lines_of(colours, colour), "a frame has other pixels than the colours")
+        hold((same.page, same.phase, same.is_on) == (shown.page, shown.phase, shown.is_on), "a frame shows another page than the colours")
+        return "\n".join([f"page {shown.page} phase {shown.phase}" if shown.is_on else "off", *lines])
+
+    def judge(self, text):
+        """Judges a text by the defaults in force, and draws its first page in all colours and in one."""
+        verdict, page = Verdict(), (text, SIZE(len(text)), U8(0), U64(0))
+        outcome = self.question(LIBRARY.latsefur_held_check, text, SIZE(len(text)), ctypes.byref(verdict))
+        colours, told = self.colours(LIBRARY.latsefur_held_colours_of_page, *page)
+        lines, drawn = self.plane(LIBRARY.latsefur_held_plane_of_page, *page, U8(1))
+        hold(verdict.outcome == outcome == told == drawn, "a text is drawn otherwise than judged")
+        hold(outcome != DONE or lines == self.lines_of(colours, 1), "the plane of a page has other pixels than its colours")
+
+    def tick(self, tenths):
+        """Lets time pass, and sleeps up to a tenth before what is shown may change: until then it must stay."""
+        left = U32()
+        self.question(LIBRARY.latsefur_next_change, U32(tenths), ctypes.byref(left))
+        asleep = max(left.value - 1, 0)
+        hold(left.value <= tenths, "the next change is later than was asked for")
+        if asleep:
+            (shown, colours), told = self.shown(), self.ask(LIBRARY.latsefur_tick, U32(asleep))
+            later, then = self.shown()
+            hold(told == "ticked", "a duration ended before the next change")
+            hold((later.page, later.is_on, then) == (shown.page, shown.is_on, colours), "what is shown changed before the next change")
+        return self.ask(LIBRARY.latsefur_tick, U32(tenths - asleep))
 
     def answer(self, line):
         """The reply to a line of a script."""
@@ -139,12 +194,14 @@ class Controller:
             memory, message = number(words[0], 255), number(words[1], 65535)
             text = b" ".join(words[2:]) if name == b"multi" else octets(b" ".join(words[2:]))
             call = LIBRARY.latsefur_set_owner if name == b"owner" else LIBRARY.latsefur_set_multi
+            if name != b"owner":
+                self.judge(text)
             return self.ask(call, U8(memory), U16(message), text, SIZE(len(text)))
         if name in (b"activate", b"end") and len(words) == 1:
             code = octets(words[0])
             return self.ask(LIBRARY.latsefur_activate if name == b"activate" else LIBRARY.latsefur_set_end, code, SIZE(len(code)))
         if name == b"tick" and len(words) == 1:
-            return self.ask(LIBRARY.latsefur_tick, U32(number(words[0], 2**32 - 1)))
+            return self.tick(number(words[0], 2**32 - 1))
         if name == b"default" and len(words) == 2 and words[0].decode("latin-1") in FIELDS:
             return self.ask(LIBRARY.latsefur_set_default, U8(FIELDS.index(words[0].decode()) + 1), U8(number(words[1], 255)))
         if name == b"row" and len(words) == 2:
