@@ -13,7 +13,7 @@ from array import array
 from ctypes import POINTER, Structure, c_char, c_char_p, c_size_t, c_uint8, c_uint16, c_uint32, c_uint64, c_void_p, cast
 from itertools import accumulate
 from pathlib import Path
-from typing import Any, Iterator, Optional, Sequence, Union
+from typing import Any, Optional, Sequence, Union
 
 from .errors import LibraryNotFound, WrongLibrary, named
 
@@ -46,18 +46,12 @@ class VerdictFacts(Structure):
     _fields_ = [("at", c_size_t), ("cycle", c_uint32), ("outcome", c_uint8), ("code", c_uint8), ("pages", c_uint8)]
 
 
+# The fields of a verdict one after the other, for `struct` and for NumPy; `refused` is the outcome.
 VERDICT = struct.Struct("=QIBBBx")
-
-
-class Verdicts:
-    """Room for the verdicts on some texts."""
-
-    def __init__(self, count: int) -> None:
-        self.room = (VerdictFacts * count)()
-
-    def told(self) -> Iterator[tuple[int, ...]]:
-        """Each verdict as its `at`, `cycle`, `outcome`, `code` and `pages`."""
-        return VERDICT.iter_unpack(bytes(self.room))
+RECORD: Any = {
+    "names": ["at", "cycle", "refused", "error", "pages"], "formats": ["<u8", "<u4", "u1", "u1", "u1"],
+    "offsets": [0, 8, 12, 13, 14], "itemsize": 16,
+}
 
 
 class ShownFacts(Structure):

@@ -5,12 +5,15 @@ from ctypes import byref, create_string_buffer
 from dataclasses import dataclass
 from functools import lru_cache
 from pathlib import Path
-from typing import Any, Callable, Iterable, Optional, SupportsIndex, Union
+from typing import TYPE_CHECKING, Any, Callable, Iterable, Optional, SupportsIndex, Union
 
 from .errors import TextTooLong
-from .library import DONE, REFUSED, Library, PathLike, ShownFacts, SignFacts, Texts, VerdictFacts, Verdicts, load
+from .library import DONE, RECORD, REFUSED, VERDICT, Library, PathLike, ShownFacts, SignFacts, Texts, VerdictFacts, load
 from .picture import Picture, Plane, Shown, stride_of
 from .values import MultiError, Text, number_of, octets_of
+
+if TYPE_CHECKING:
+    import numpy
 
 MOST_CLOCK = 2**64 - 1
 
@@ -122,12 +125,20 @@ class Sign:
 
     def check_all(self, texts: Iterable[Text]) -> list[Verdict]:
         """The verdicts on these texts, in their order. The sign file is read once."""
-        given = [octets_of(text) for text in texts]
-        if not given:
-            return []
-        asked, room = Texts(given), Verdicts(len(given))
-        self._call("check_all", asked.given, len(given), room.room, len(given))
-        return [told_verdict(*told) for told in room.told()]
+        return [told_verdict(*told) for told in VERDICT.iter_unpack(self._check_all(texts))]
+
+    def check_array(self, texts: Iterable[Text]) -> numpy.ndarray[Any, Any]:
+        """The verdicts on these texts as a NumPy array of records, in their order, without an object for each.
+
+        A record has `refused`, `error` (0 if the text is accepted), `at`, `pages` and `cycle`, as `Verdict` says them. Raises `ImportError`
+        where NumPy isn't there.
+        """
+        import numpy
+
+        told = numpy.frombuffer(self._check_all(texts), numpy.dtype(RECORD))
+        if (told["refused"] > REFUSED).any():
+            raise TextTooLong
+        return told
 
     def shown(self, text: Text, clock: SupportsIndex = 0) -> Optional[Shown]:
         """The page of a text that is shown at a clock, 0 to 2**64 - 1, or `None` in the off time of a page. Raises `TextRefused`."""
@@ -176,6 +187,15 @@ class Sign:
 
     def _call(self, name: str, *words: Any, answers: tuple[int, ...] = (DONE,)) -> int:
         return self._library.call(name, self._octets, len(self._octets), *words, answers=answers)
+
+    def _check_all(self, texts: Iterable[Text]) -> bytes:
+        """The verdicts on texts, as the library writes them."""
+        given = [octets_of(text) for text in texts]
+        if not given:
+            return b""
+        asked, room = Texts(given), (VerdictFacts * len(given))()
+        self._call("check_all", asked.given, len(given), room, len(given))
+        return bytes(room)
 
     def _picture(self, name: str, text: Text, *words: int) -> Picture:
         octets, buffer = octets_of(text), create_string_buffer(self.width * self.height)

@@ -93,6 +93,20 @@ class Texts(unittest.TestCase):
         self.assertEqual((array.shape, array.tobytes()), ((7, 12), bytes(picture)))
         self.assertTrue((plane.array() == (array == 1)).all())
 
+    def test_arrays_of_verdicts(self) -> None:
+        try:
+            import numpy
+        except ImportError:
+            self.assertRaises(ImportError, self.sign.check_array, ["A"])
+            self.skipTest("NumPy isn't there")
+        texts = ["A[np]I", b"AAAA", "", "[[B"]
+        told = self.sign.check_array(texts)
+        self.assertEqual(told["refused"].tolist(), [0, 1, 0, 1])
+        for verdict, record in zip(self.sign.check_all(texts), told):
+            known = verdict.pages, verdict.cycle, int(verdict.error or 0), verdict.at
+            self.assertEqual(known, tuple(int(record[name]) for name in ("pages", "cycle", "error", "at")))
+        self.assertEqual((len(self.sign.check_array([])), numpy.count_nonzero(told["refused"])), (0, 2))
+
     def test_errors(self) -> None:
         for call in (self.sign.shown, self.sign.colours, self.sign.plane, self.sign.pages):
             self.assertRaises(latsefur.TextRefused, call, "B")
