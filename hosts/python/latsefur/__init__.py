@@ -12,13 +12,13 @@
 from . import script
 from .controller import NO_END, ActivationCode, Controller, EndCode, message_crc
 from .errors import (
-    BadLength, LatsefurError, LibraryNotFound, NoController, NoDefault, NoMemory, NoPage, NoSignFile, NotAnOctet, Outcome, SignFault,
+    BadLength, LatsefurError, LibraryNotFound, NoController, NoDefault, NoFont, NoMemory, NoPage, NoSignFile, NotAnOctet, Outcome, SignFault,
     TableFault, TextRefused, TextTooLong, TooSmall, WrongLibrary,
 )
 from .library import Library, load
 from .picture import COLOURS, Picture, Plane, Shown
 from .replies import (
-    Activated, Defaults, Done, Ended, Frame, Idle, Message, NotSet, NotShown, Refused, Reply, Report, Ticked, Worked
+    Activated, Defaults, Display, Done, Ended, Font, Frame, Idle, Message, NotSet, NotShown, Refused, Reply, Report, Table, Ticked, Worked
 )
 from .sign import Sign, Verdict
 from .values import (
@@ -27,8 +27,9 @@ from .values import (
 
 __all__ = [
     "COLOURS", "NO_END", "ActivateError", "Activated", "ActivationCode", "BadLength", "Controller", "Default", "DefaultError", "Defaults",
-    "Done", "EndCode", "Ended", "Frame", "Idle", "LatsefurError", "Library", "LibraryNotFound", "Memory", "Message", "MultiError",
-    "NoController", "NoDefault", "NoMemory", "NoPage", "NoSignFile", "NotAnOctet", "NotSet", "NotShown", "Outcome", "Picture", "Plane",
-    "Refused", "Reply", "Report", "Request", "Shown", "Sign", "SignFault", "SourceMode", "Status", "TableError", "TableFault", "Text",
-    "TextRefused", "TextTooLong", "Ticked", "TooSmall", "ValidateError", "Verdict", "Worked", "WrongLibrary", "load", "message_crc", "script",
+    "Display", "Done", "EndCode", "Ended", "Font", "Frame", "Idle", "LatsefurError", "Library", "LibraryNotFound", "Memory", "Message",
+    "MultiError", "NoController", "NoDefault", "NoFont", "NoMemory", "NoPage", "NoSignFile", "NotAnOctet", "NotSet", "NotShown", "Outcome",
+    "Picture", "Plane", "Refused", "Reply", "Report", "Request", "Shown", "Sign", "SignFault", "SourceMode", "Status", "Table",
+    "TableError", "TableFault", "Text", "TextRefused", "TextTooLong", "Ticked", "TooSmall", "ValidateError", "Verdict", "Worked",
+    "WrongLibrary", "load", "message_crc", "script",
 ]

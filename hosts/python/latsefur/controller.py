@@ -3,15 +3,20 @@ from __future__ import annotations
 
 import threading
 import weakref
-from ctypes import byref, c_uint64, create_string_buffer
+from ctypes import byref, c_uint32, c_uint64, create_string_buffer
 from dataclasses import dataclass
 from types import TracebackType
 from typing import Any, NoReturn, Optional, SupportsIndex, Union
 
-from .library import DONE, REFUSED, DefaultFacts, Handle, Library, MessageFacts, PathLike, ReplyFacts, ReportFacts, ShownFacts, load
-from .picture import Plane, stride_of
-from .replies import Activated, Defaults, Done, Ended, Frame, Idle, Message, NotSet, NotShown, Refused, Reply, Report, Ticked, Worked
-from .sign import Sign, shown_of
+from .library import (
+    DONE, REFUSED, DefaultFacts, FontFacts, Handle, Library, MessageFacts, PathLike, ReplyFacts, ReportFacts, ShownFacts, TableFacts, VerdictFacts,
+    load,
+)
+from .picture import Picture, Plane, stride_of
+from .replies import (
+    Activated, Defaults, Display, Done, Ended, Font, Frame, Idle, Message, NotSet, NotShown, Refused, Reply, Report, Table, Ticked, Worked
+)
+from .sign import MOST_CLOCK, Sign, Verdict, shown_of, told_verdict
 from .values import ActivateError, Default, DefaultError, MultiError, SourceMode, Status, TableError, Text, ValidateError, number_of, octets_of
 
 # A text has at most 4,096 octets in the table of any sign, and an owner 127.
@@ -233,6 +238,53 @@ class Controller:
         shown, plane = ShownFacts(), create_string_buffer(stride_of(width) * height)
         self._call("frame", number_of("colour", colour, 255), byref(shown), plane, len(plane))
         return Frame(shown_of(shown), Plane(width, height, plane.raw))
+
+    def colours(self) -> Display:
+        """What the display shows now, in its colours. This and the calls below need a library of version 2, and raise `WrongLibrary`."""
+        width, height = self._sign.width, self._sign.height
+        shown, buffer = ShownFacts(), create_string_buffer(width * height)
+        self._call("colours", byref(shown), buffer, len(buffer))
+        return Display(shown_of(shown), Picture(width, height, buffer.raw))
+
+    def next_change(self, most: SupportsIndex = 2**32 - 1) -> int:
+        """For how many tenths of a second, at most `most`, what the display shows stays as it is if no command comes."""
+        tenths = c_uint32()
+        self._call("next_change", number_of("most", most, 2**32 - 1), byref(tenths))
+        return tenths.value
+
+    def table(self) -> Table:
+        """The limits of the message table."""
+        facts = TableFacts()
+        self._call("held_table", byref(facts))
+        return Table(*(getattr(facts, name) for name, *_ in TableFacts._fields_))
+
+    def font(self, number: SupportsIndex) -> Font:
+        """The font of a number, 0 to 255. Raises `NoFont`."""
+        facts = FontFacts()
+        self._call("held_font", number_of("number", number, 255), byref(facts))
+        return Font(*(getattr(facts, name) for name, *_ in FontFacts._fields_))
+
+    def check(self, text: Text) -> Verdict:
+        """The verdict on a text, as `Sign.check` gives it, but by the defaults in force, and without a look at the sign file."""
+        octets, facts = octets_of(text), VerdictFacts()
+        self._call("held_check", octets, len(octets), byref(facts), answers=(DONE, REFUSED))
+        return told_verdict(facts.at, facts.cycle, facts.outcome, facts.code, facts.pages)
+
+    def colours_of_page(self, text: Text, page: SupportsIndex, phase: SupportsIndex = 0) -> Picture:
+        """The colour of every pixel of a page of a text, by the defaults in force. What the display shows stays. Raises `TextRefused` and
+        `NoPage`."""
+        octets, width, height = octets_of(text), self._sign.width, self._sign.height
+        words, buffer = (number_of("page", page, 255), number_of("phase", phase, MOST_CLOCK)), create_string_buffer(width * height)
+        self._call("held_colours_of_page", octets, len(octets), *words, buffer, len(buffer))
+        return Picture(width, height, buffer.raw)
+
+    def plane_of_page(self, text: Text, page: SupportsIndex, colour: SupportsIndex = 1, phase: SupportsIndex = 0) -> Plane:
+        """Which pixels of a page of a text have a colour, by the defaults in force. Raises `TextRefused` and `NoPage`."""
+        octets, width, height = octets_of(text), self._sign.width, self._sign.height
+        words = number_of("page", page, 255), number_of("phase", phase, MOST_CLOCK), number_of("colour", colour, 255)
+        buffer = create_string_buffer(stride_of(width) * height)
+        self._call("held_plane_of_page", octets, len(octets), *words, buffer, len(buffer))
+        return Plane(width, height, buffer.raw)
 
     def steps(self) -> int:
         """The steps that were counted; 2**64 - 1 may stand for more."""

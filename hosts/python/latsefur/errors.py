@@ -105,10 +105,17 @@ class NoDefault(Outcome, ValueError):
     number, said = 11, "no default has this number"
 
 
+class NoFont(Outcome, LookupError):
+    """The sign has no font of this number."""
+
+    number, said = 12, "the sign has no such font"
+
+
 NAMED: dict[int, type[Outcome]] = {
     known.number: known
     for known in (
-        TextRefused, NoMemory, NoSignFile, SignFault, TooSmall, NoPage, TextTooLong, TableFault, NoController, BadLength, NoDefault
+        TextRefused, NoMemory, NoSignFile, SignFault, TooSmall, NoPage, TextTooLong, TableFault, NoController, BadLength, NoDefault,
+        NoFont,
     )
 }
 

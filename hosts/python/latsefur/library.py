@@ -23,7 +23,7 @@ DONE, REFUSED = 0, 1
 VARIABLE = "LATSEFUR_LIBRARY"
 NAME = "liblatsefur.so"
 
-# The version of the header that this package was written for. A later one has more calls, and the structures of this.
+# The oldest version of the header whose library can be called. Each later one has more calls, and the structures of those before.
 OLDEST_VERSION = 1
 
 PathLike = Union[str, "os.PathLike[str]"]
@@ -129,6 +129,14 @@ class MessageFacts(Structure):
     ]
 
 
+class TableFacts(Structure):
+    _fields_ = [("bytes", c_uint32), ("slots", c_uint16), ("max_string", c_uint16), ("permanents", c_uint8)]
+
+
+class FontFacts(Structure):
+    _fields_ = [("version", c_uint16), *((name, c_uint8) for name in ("number", "height", "char_spacing", "line_spacing"))]
+
+
 OCTETS = [c_char_p, c_size_t]
 BUFFER = [POINTER(c_char), c_size_t]
 HANDLE = [POINTER(Handle)]
@@ -164,6 +172,16 @@ EXPORTS: dict[str, list[Any]] = {
     "row": [*MESSAGE, POINTER(MessageFacts), *BUFFER, *BUFFER],
     "frame": [*HANDLE, c_uint8, POINTER(ShownFacts), *BUFFER],
 }
+# The calls that a library of version 2 has more.
+LATER: dict[str, list[Any]] = {
+    "colours": [*HANDLE, POINTER(ShownFacts), *BUFFER],
+    "next_change": [*HANDLE, c_uint32, POINTER(c_uint32)],
+    "held_table": [*HANDLE, POINTER(TableFacts)],
+    "held_font": [*HANDLE, c_uint8, POINTER(FontFacts)],
+    "held_check": [*HANDLE, *OCTETS, POINTER(VerdictFacts)],
+    "held_plane_of_page": [*HANDLE, *OCTETS, c_uint8, c_uint64, c_uint8, *BUFFER],
+    "held_colours_of_page": [*HANDLE, *OCTETS, c_uint8, c_uint64, *BUFFER],
+}
 OTHERS: dict[str, tuple[Any, list[Any]]] = {
     "controller_free": (None, HANDLE),
     "message_crc": (c_uint16, [*OCTETS, c_uint8, c_uint8]),
@@ -181,11 +199,13 @@ class Library:
             raise WrongLibrary(f"{path} can't be loaded: {fault}") from fault
         self.path = path
         self.calls: dict[str, Any] = {}
-        returned = {name: (c_uint8, words) for name, words in EXPORTS.items()} | OTHERS
+        returned = {name: (c_uint8, words) for name, words in (EXPORTS | LATER).items()} | OTHERS
         for name, (result, words) in returned.items():
             try:
                 call = getattr(loaded, f"latsefur_{name}")
             except AttributeError as fault:
+                if name in LATER:
+                    continue
                 raise WrongLibrary(f"{path} has no call latsefur_{name}") from fault
             call.restype, call.argtypes = result, words
             self.calls[name] = call
@@ -197,7 +217,9 @@ class Library:
         return f"<latsefur library {str(self.path)!r}, version {self.version}>"
 
     def call(self, name: str, *words: Any, answers: tuple[int, ...] = (DONE,)) -> int:
-        """Makes a call. Any other outcome than these answers is raised."""
+        """Makes a call. Any other outcome than these answers is raised, and `WrongLibrary` if the library hasn't the call."""
+        if name not in self.calls:
+            raise WrongLibrary(f"{self.path} has version {self.version}, and the call latsefur_{name} came later")
         outcome = int(self.calls[name](*words))
         if outcome not in answers:
             raise named(outcome)

@@ -4,7 +4,7 @@ from __future__ import annotations
 from dataclasses import dataclass
 from typing import Optional
 
-from .picture import Plane, Shown
+from .picture import Picture, Plane, Shown
 from .values import ActivateError, DefaultError, MultiError, SourceMode, Status, TableError, ValidateError
 
 
@@ -179,3 +179,33 @@ class Frame:
 
     def __str__(self) -> str:
         return f"{self.shown or 'off'}\n{self.plane}"
+
+
+@dataclass(frozen=True)
+class Display:
+    """What the display shows now: the page, or `None` in the off time of one, and the colour of every pixel."""
+
+    shown: Optional[Shown]
+    picture: Picture
+
+
+@dataclass(frozen=True)
+class Table:
+    """The limits of a message table: the octets of all texts and owners together, how many changeable messages there are, the octets of one
+    text, and how many permanent messages there are."""
+
+    bytes: int
+    slots: int
+    max_string: int
+    permanents: int
+
+
+@dataclass(frozen=True)
+class Font:
+    """A font of a sign (object fontTable). Height and spacings are in pixels; version 0 is none."""
+
+    version: int
+    number: int
+    height: int
+    char_spacing: int
+    line_spacing: int

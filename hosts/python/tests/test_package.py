@@ -205,6 +205,27 @@ class Controllers(unittest.TestCase):
         gc.collect()
         self.assertFalse(free.alive)
 
+    def test_what_it_holds(self) -> None:
+        with Controller(Sign(SAMPLE)) as controller:
+            if controller.sign.library.version < 2:
+                self.assertRaises(latsefur.WrongLibrary, controller.colours)
+                self.skipTest("the library has version 1")
+            stored(controller, "A[np]I")
+            self.assertEqual(controller.table(), latsefur.Table(bytes=4, slots=1, max_string=64, permanents=1))
+            self.assertEqual(controller.font(1), latsefur.Font(6699, 1, 3, 1, 1))
+            self.assertRaises(latsefur.NoFont, controller.font, 9)
+            controller.set_default(Default.PAGE_ON, 10)
+            self.assertEqual(controller.check("A[np]I"), Verdict(pages=2, cycle=20))
+            self.assertFalse(controller.check("B"))
+            sign = controller.sign
+            self.assertEqual(controller.colours_of_page("A[np]I", 1), sign.colours("A[np]I", 30))
+            self.assertEqual(controller.plane_of_page("A[np]I", 1), sign.plane("A[np]I", 1, 30))
+            self.assertRaises(latsefur.NoPage, controller.plane_of_page, "A", 1)
+            stored(controller, "A")
+            controller.activate(ActivationCode(3, 1, message_crc("A"), duration=1))
+            self.assertEqual(controller.colours(), latsefur.Display(Shown(0, 0), sign.colours("A")))
+            self.assertEqual((controller.next_change(), controller.next_change(7)), (599, 7))
+
     def test_threads(self) -> None:
         with Controller(Sign(SAMPLE)) as controller:
             stored(controller, "A")
@@ -274,6 +295,7 @@ class Libraries(unittest.TestCase):
         declared = set(re.findall(r"^(?:uint8_t|uint16_t|uint32_t|void) latsefur_(\w+)\(", header, re.M))
         known = {*latsefur.library.EXPORTS, *latsefur.library.OTHERS}
         self.assertEqual(known - declared, set())
+        self.assertEqual(declared - known - {*latsefur.library.LATER, "held_sign"}, set())
         numbers = {int(number): name for name, number in re.findall(r"LATSEFUR_(\w+) = (\d+),? +/\* (?!.*REPLY)", header) if "REPLY" not in name}
         for number, name in numbers.items():
             if number > 1:
