@@ -229,7 +229,7 @@ class Library:
 def places() -> list[Path]:
     """Where a library is looked for if none is named: in the package, then in the repository that the package stands in."""
     here = Path(__file__).resolve().parent
-    return [here / NAME, *(above / "out" / "hosts" / NAME for above in here.parents[2:3])]
+    return [here / NAME, *(above / "out" / "hosts" / NAME for above in list(here.parents)[2:3])]
 
 
 LOADED: dict[Path, Library] = {}

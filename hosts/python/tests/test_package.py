@@ -59,7 +59,7 @@ class Texts(unittest.TestCase):
         ])
 
     def test_a_character_is_an_octet(self) -> None:
-        sign = Sign(SAMPLE.replace(b"number = 65, width = 3", b"number = 233, width = 3").replace(b"AAAI", b"I").replace(b"number = 73", b"number = 234"))
+        sign = Sign(SAMPLE.replace(b"number = 93", b"number = 233"))
         self.assertTrue(sign.check("\u00e9"))
         self.assertTrue(sign.check(b"\xe9"))
         with self.assertRaises(latsefur.NotAnOctet) as raised:
@@ -113,7 +113,7 @@ class Texts(unittest.TestCase):
         self.assertRaises(latsefur.NoPage, self.sign.colours_of_page, "A", 1)
         self.assertRaises(latsefur.NoPage, self.sign.plane_of_page, "A", 255)
         self.assertRaises(latsefur.NoSignFile, Sign, b"")
-        self.assertRaises(latsefur.SignFault, Sign, sign_with(SIGNS / "sample.toml", "height = 0").encode())
+        self.assertRaises(latsefur.SignFault, Sign, sign_with(SIGNS / "sample.toml", "width = 0").encode())
         self.assertRaises(FileNotFoundError, Sign.from_file, SIGNS / "none.toml")
         for clock in (-1, 2**64):
             self.assertRaises(ValueError, self.sign.shown, "A", clock)
