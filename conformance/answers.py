@@ -2,11 +2,13 @@
 
     python3 answers.py fill --engine second < inputs.jsonl > cases.jsonl
     python3 answers.py fill --engine program --program ./signctl < inputs.jsonl > others.jsonl
+    python3 answers.py fill --engine library < inputs.jsonl > others.jsonl
     python3 answers.py compare cases.jsonl others.jsonl
 
 The engine `second` is the second reading of the specification.  The engine `program` asks a
 program with the command line of `signctl`; it can't be asked for a page's times, nor for a
-string with a line feed or with a carriage return at its end.
+string with a line feed or with a carriage return at its end.  The engine `library` asks the
+Python package `latsefur`, which can't be asked for a page's times.
 """
 
 from __future__ import annotations
@@ -16,9 +18,10 @@ import json
 import re
 import subprocess
 import sys
+from importlib import import_module
 from itertools import groupby
 from pathlib import Path
-from typing import Any, Iterable, Iterator, Protocol, Sequence
+from typing import Any, Callable, Iterable, Iterator, Protocol, Sequence
 
 from second_control import BadLine, Controller, script_line
 from second_multi import Picture, Text
@@ -181,6 +184,48 @@ def frame_of(head: str, clock: int, planes: Sequence[str]) -> Case:
     return {"clock": clock, "page": int(page), "phase": int(phase), "pixels": runs}
 
 
+# ---------------------------------------------------------------- the Python package
+
+
+class Library:
+    """The Python package `latsefur`, as it is installed or as it stands in the repository."""
+
+    def __init__(self) -> None:
+        sys.path.append(str(Path(__file__).resolve().parent.parent / "hosts" / "python"))
+        self.package = import_module("latsefur")
+
+    def answers(self, sign: bytes, cases: Sequence[Case]) -> Answers:
+        ask = {"string": self.string, "script": self.script}
+        known = self.package.Sign(sign)
+        return {case["id"]: ask[case["kind"]](known, case) for case in cases}
+
+    def string(self, sign: Any, case: Case) -> Case:
+        octets = octets_of(case)
+        verdict = sign.check(octets)
+        if not verdict:
+            return {"error": [int(verdict.error), verdict.at]}
+        frames = [self.frame(sign, octets, clock) for clock in case.get("clocks", [])]
+        return {"pages": verdict.pages, "frames": frames}
+
+    def frame(self, sign: Any, octets: bytes, clock: int) -> Case:
+        shown, pixels = sign.shown(octets, clock), run_lengths(bytes(sign.colours(octets, clock)))
+        if shown is None:
+            return {"clock": clock, "off": pixels}
+        return {"clock": clock, "page": shown.page, "phase": shown.phase, "pixels": pixels}
+
+    def script(self, sign: Any, case: Case) -> Case:
+        script = self.package.script
+        replies: list[str] = []
+        with self.package.Controller(sign) as controller:
+            for number, line in enumerate(case["lines"], 1):
+                try:
+                    reply = "" if script.passed_over(line) else str(script.answer(controller, line))
+                except script.BadLine:
+                    return {"replies": replies, "bad_line": number}
+                replies.append(reply)
+        return {"replies": replies}
+
+
 # ---------------------------------------------------------------- filling in and comparing
 
 ANSWERED = ("error", "pages", "times", "frames", "replies", "bad_line")
@@ -234,7 +279,7 @@ def main(words: Sequence[str]) -> int:
     parser = argparse.ArgumentParser(description="Answers of the conformance cases.")
     forms = parser.add_subparsers(dest="form", required=True)
     filling = forms.add_parser("fill")
-    filling.add_argument("--engine", choices=["second", "program"], default="second")
+    filling.add_argument("--engine", choices=["second", "program", "library"], default="second")
     filling.add_argument("--program", nargs="+", default=["signctl"])
     comparing = forms.add_parser("compare")
     comparing.add_argument("first")
@@ -242,8 +287,12 @@ def main(words: Sequence[str]) -> int:
     given = parser.parse_args(words)
     if given.form == "compare":
         return 1 if compare(read_cases(given.first), read_cases(given.second)) else 0
-    engines: dict[str, Engine] = {"second": SecondReading(), "program": Program(given.program)}
-    for case in fill(engines[given.engine], sys.stdin):
+    engines: dict[str, Callable[[], Engine]] = {
+        "second": SecondReading,
+        "program": lambda: Program(given.program),
+        "library": Library,
+    }
+    for case in fill(engines[given.engine](), sys.stdin):
         print(json.dumps(case, separators=(",", ":")))
     return 0
 

@@ -13,6 +13,7 @@ import sys
 import tomllib
 from dataclasses import dataclass, field, fields
 from itertools import pairwise
+from pathlib import Path
 from typing import Any, Callable, Optional, Sequence
 
 from second_control import (
@@ -230,51 +231,8 @@ MOST_INPUT = 16_777_216
 MOST_LINE = 8_300
 MOST_STRING = 4_096
 
-SAMPLE_SIGN = b"""
-width = 12
-height = 7
-scheme = "monochrome"
-max_pages = 2
-slots = 1
-bytes = 4
-max_string = 64
-
-[defaults]
-font = 1
-line = 3
-page = 3
-page_on = 30
-page_off = 0
-flash_on = 5
-flash_off = 5
-fore = 1
-back = 0
-
-[[font]]
-number = 1
-version = 6699
-height = 3
-char_spacing = 1
-line_spacing = 1
-cell = [
-  { number = 32, width = 2, bits = "00" },
-  { number = 65, width = 3, bits = "5e80" },
-  { number = 73, width = 1, bits = "e0" },
-  { number = 91, width = 2, bits = "ec" },
-  { number = 93, width = 2, bits = "dc" },
-]
-
-[[font]]
-number = 2
-height = 5
-char_spacing = 2
-line_spacing = 2
-cell = [ { number = 65, width = 4, bits = "69f990" } ]
-
-[[permanent]]
-multi = "AAAI"
-priority = 5
-"""
+# The sign that the program has built in.
+SAMPLE_SIGN = Path(__file__).resolve().parent.parent / "signs" / "sample.toml"
 
 Answer = Callable[[Controller, bytes], Reply]
 
@@ -321,7 +279,7 @@ def fault_of_end(cut: bool, no_sign: bool, unfinished: bool, line: int) -> Optio
 
 def answer_input(answer: Answer, sample: bool, octets: bytes) -> Output:
     """The answers up to the first fault: to lines alone, or to the lines after a sign file."""
-    controller = make_controller(SAMPLE_SIGN) if sample else None
+    controller = make_controller(SAMPLE_SIGN.read_bytes()) if sample else None
     *whole, rest = octets[:MOST_INPUT].split(b"\n")
     out: list[bytes] = []
     begin = 0

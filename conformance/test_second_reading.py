@@ -19,7 +19,7 @@ from second_multi import (
     read_items,
 )
 
-SAMPLE = program.SAMPLE_SIGN
+SAMPLE = program.SAMPLE_SIGN.read_bytes()
 Places = list[tuple[int, int]]
 
 

@@ -1,0 +1,212 @@
+//! The enumerations of NTCIP 1203 that the library takes and answers with.
+
+/// An enumeration by its numbers.
+macro_rules! codes {
+    ($(#[$about:meta])* $name:ident { $($(#[$said:meta])* $variant:ident = $number:literal),* $(,)? }) => {
+        $(#[$about])*
+        #[derive(Clone, Copy, Debug, PartialEq, Eq, Hash)]
+        #[non_exhaustive]
+        pub enum $name {
+            $($(#[$said])* $variant,)*
+            /// A number that this crate has no name for.
+            Unlisted(u8),
+        }
+
+        impl $name {
+            /// The number.
+            pub fn number(self) -> u8 {
+                match self {
+                    $($name::$variant => $number,)*
+                    $name::Unlisted(number) => number,
+                }
+            }
+        }
+
+        impl From<u8> for $name {
+            fn from(number: u8) -> $name {
+                match number {
+                    $($number => $name::$variant,)*
+                    number => $name::Unlisted(number),
+                }
+            }
+        }
+
+        impl From<$name> for u8 {
+            fn from(code: $name) -> u8 {
+                code.number()
+            }
+        }
+    };
+}
+
+codes! {
+    /// What is wrong with a text (dmsMultiSyntaxError).
+    MultiError {
+        /// other
+        Other = 1,
+        /// none: nothing is wrong
+        None = 2,
+        /// unsupportedTag
+        UnsupportedTag = 3,
+        /// unsupportedTagValue
+        UnsupportedTagValue = 4,
+        /// textTooBig
+        TextTooBig = 5,
+        /// fontNotDefined
+        FontNotDefined = 6,
+        /// characterNotDefined
+        CharacterNotDefined = 7,
+        /// tagConflict
+        TagConflict = 11,
+        /// tooManyPages
+        TooManyPages = 12,
+        /// fontVersionID
+        FontVersionId = 13,
+    }
+}
+
+codes! {
+    /// The kinds of memory that a message may be in (dmsMessageMemoryType).
+    Memory {
+        /// permanent
+        Permanent = 2,
+        /// changeable
+        Changeable = 3,
+        /// currentBuffer
+        CurrentBuffer = 5,
+        /// blank
+        Blank = 7,
+    }
+}
+
+codes! {
+    /// What a host may ask of a message's status (dmsMessageStatus).
+    Request {
+        /// modifyReq
+        Modify = 6,
+        /// validateReq
+        Validate = 7,
+        /// notUsedReq
+        NotUsed = 8,
+    }
+}
+
+codes! {
+    /// The status of a message (dmsMessageStatus).
+    Status {
+        /// notUsed
+        NotUsed = 1,
+        /// modifying
+        Modifying = 2,
+        /// validating
+        Validating = 3,
+        /// valid
+        Valid = 4,
+        /// error
+        Error = 5,
+    }
+}
+
+codes! {
+    /// What the sign found when it judged a message (dmsValidateMessageError).
+    ValidateError {
+        /// other
+        Other = 1,
+        /// none
+        None = 2,
+        /// beacons
+        Beacons = 3,
+        /// pixelService
+        PixelService = 4,
+        /// syntaxMULTI
+        SyntaxMulti = 5,
+    }
+}
+
+codes! {
+    /// Why a message isn't shown (dmsActivateMsgError).
+    ActivateError {
+        /// other
+        Other = 1,
+        /// none
+        None = 2,
+        /// priority
+        Priority = 3,
+        /// messageStatus
+        MessageStatus = 4,
+        /// messageMemoryType
+        MessageMemoryType = 5,
+        /// messageNumber
+        MessageNumber = 6,
+        /// messageCRC
+        MessageCrc = 7,
+        /// syntaxMULTI
+        SyntaxMulti = 8,
+    }
+}
+
+codes! {
+    /// Why the message table refuses a command.
+    TableError {
+        /// the memory type isn't one of [`Memory`]
+        MemoryType = 1,
+        /// there is no message of this number
+        Number = 2,
+        /// messages of this memory type aren't written
+        ReadOnly = 3,
+        /// the message's status doesn't take this
+        WrongState = 4,
+        /// the value is outside its range
+        BadValue = 5,
+        /// the text or the owner is too long
+        TooLong = 6,
+        /// the table has no room left for it
+        NoSpace = 7,
+    }
+}
+
+codes! {
+    /// Why the sign refuses a default.
+    DefaultError {
+        /// the value is outside its range
+        BadValue = 9,
+        /// the sign has no such font
+        NoFont = 10,
+    }
+}
+
+codes! {
+    /// Why the sign shows what it shows (dmsMsgSourceMode).
+    SourceMode {
+        /// other
+        Other = 1,
+        /// central
+        Central = 8,
+        /// endDuration
+        EndDuration = 14,
+    }
+}
+
+codes! {
+    /// The defaults of a sign (group multiCfg).
+    DefaultField {
+        /// the number of the font
+        Font = 1,
+        /// where lines stand
+        Line = 2,
+        /// where groups of lines stand
+        Page = 3,
+        /// how long a page is shown, in tenths of a second
+        PageOn = 4,
+        /// how long the sign is dark after it, in tenths of a second
+        PageOff = 5,
+        /// how long flashing text is shown, in tenths of a second
+        FlashOn = 6,
+        /// how long it is dark, in tenths of a second
+        FlashOff = 7,
+        /// the colour of text
+        Fore = 8,
+        /// the colour of the page
+        Back = 9,
+    }
+}

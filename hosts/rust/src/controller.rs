@@ -1,0 +1,497 @@
+//! A controller, which keeps the messages of one sign and what the sign shows.
+
+use crate::codes::{ActivateError, DefaultError, DefaultField, MultiError, SourceMode, Status, TableError, ValidateError};
+use crate::error::{done, Error};
+use crate::ffi::{self, Handle};
+use crate::picture::{stride, Plane, Shown};
+use crate::sign::Sign;
+use std::fmt;
+use std::ptr::null_mut;
+
+/// A text has at most so many octets in the table of any sign.
+const MOST_TEXT: usize = 4096;
+/// An owner has at most so many.
+const MOST_OWNER: usize = 127;
+
+/// The reply to a command. It is written as `signctl run` does.
+#[derive(Clone, Copy, Debug, PartialEq, Eq)]
+#[non_exhaustive]
+pub enum Reply {
+    /// The command was obeyed.
+    Done,
+    /// The message table refuses the command, and nothing has changed.
+    Refused(TableError),
+    /// No message waits to be judged.
+    Idle,
+    /// A message was judged.
+    Worked {
+        /// Its number among the changeable ones.
+        number: u16,
+        /// What it became: valid or error.
+        status: Status,
+        /// The register after it.
+        validate_error: ValidateError,
+        /// The register after it.
+        multi_error: MultiError,
+        /// The octet of that error, counted from 0.
+        multi_position: u16,
+    },
+    /// The message is shown.
+    Shown,
+    /// The message isn't shown, and the display keeps what it shows.
+    NotShown(ActivateError),
+    /// The sign refuses the default.
+    NotSet(DefaultError),
+    /// Time has passed.
+    Ticked,
+    /// Time has passed, and a duration has ended.
+    Ended,
+}
+
+impl Reply {
+    fn of(facts: ffi::Reply) -> Reply {
+        match facts.kind {
+            1 => Reply::Refused(facts.code.into()),
+            2 => Reply::Idle,
+            3 => Reply::Worked {
+                number: facts.number,
+                status: facts.status.into(),
+                validate_error: facts.validate_error.into(),
+                multi_error: facts.multi_error.into(),
+                multi_position: facts.multi_position,
+            },
+            4 => Reply::Shown,
+            5 => Reply::NotShown(facts.code.into()),
+            6 => Reply::NotSet(facts.code.into()),
+            7 => Reply::Ticked,
+            8 => Reply::Ended,
+            _ => Reply::Done,
+        }
+    }
+}
+
+impl fmt::Display for Reply {
+    fn fmt(&self, to: &mut fmt::Formatter<'_>) -> fmt::Result {
+        match self {
+            Reply::Done => to.write_str("done"),
+            Reply::Refused(why) => write!(to, "refused {}", why.number()),
+            Reply::Idle => to.write_str("idle"),
+            Reply::Worked { number, status, validate_error, multi_error, multi_position } => {
+                let (status, validate, multi) = (status.number(), validate_error.number(), multi_error.number());
+                write!(to, "worked {number} {status} {validate} {multi} {multi_position}")
+            }
+            Reply::Shown => to.write_str("shown"),
+            Reply::NotShown(why) => write!(to, "not shown {}", why.number()),
+            Reply::NotSet(why) => write!(to, "refused {}", why.number()),
+            Reply::Ticked => to.write_str("ticked"),
+            Reply::Ended => to.write_str("ended"),
+        }
+    }
+}
+
+/// A message of the table (object dmsMessageTable).
+#[derive(Clone, Debug, PartialEq, Eq)]
+pub struct Message {
+    /// Its status.
+    pub status: Status,
+    /// Its run-time priority, 1 to 255.
+    pub priority: u8,
+    /// Its beacon, 0 or 1.
+    pub beacon: u8,
+    /// Its pixel service, 0 or 1.
+    pub pixel_service: u8,
+    /// Its CRC; 0 of a blank message.
+    pub crc: u16,
+    /// Its owner, at most 127 octets.
+    pub owner: Vec<u8>,
+    /// Its text.
+    pub text: Vec<u8>,
+}
+
+/// The state of the sign.
+#[derive(Clone, Copy, Debug, PartialEq, Eq)]
+pub struct Report {
+    /// Tenths of a second since the display began to show the message; `u64::MAX` may stand for more.
+    pub clock: u64,
+    /// Octets that texts and owners may still take (dmsFreeChangeableMemory).
+    pub free: u32,
+    /// The address of who asked for the message (dmsMsgRequesterID).
+    pub requester: u32,
+    /// Changeable messages that are used (dmsNumChangeableMsg).
+    pub used: u16,
+    /// The memory type of the message that is shown (dmsMsgTableSource).
+    pub shown_memory: u8,
+    /// Its number.
+    pub shown_number: u16,
+    /// Its CRC; 0 of a blank message.
+    pub crc: u16,
+    /// Its run-time priority.
+    pub priority: u8,
+    /// Minutes left, rounded up; 65,535 has no end (dmsMessageTimeRemaining).
+    pub remaining: u16,
+    /// Why it is shown.
+    pub mode: SourceMode,
+    /// The register of the last activation.
+    pub activate: ActivateError,
+    /// The register of the last validation.
+    pub validate: ValidateError,
+    /// The register of the last text that was judged.
+    pub multi: MultiError,
+    /// The octet of its error, counted from 0.
+    pub position: u16,
+}
+
+/// The defaults in force (group multiCfg). Times are in tenths of a second.
+#[derive(Clone, Copy, Debug, PartialEq, Eq)]
+#[allow(missing_docs)]
+pub struct Defaults {
+    pub font: u8,
+    pub line: u8,
+    pub page: u8,
+    pub page_on: u8,
+    pub page_off: u8,
+    pub flash_on: u8,
+    pub flash_off: u8,
+    pub fore: u8,
+    pub back: u8,
+}
+
+/// What the display shows now.
+#[derive(Clone, Debug, PartialEq, Eq)]
+pub struct Frame {
+    /// The page, or `None` in the off time of one.
+    pub shown: Option<Shown>,
+    /// Which pixels have the colour that was asked for.
+    pub plane: Plane,
+}
+
+/// Which message is shown, for how long, and who asks (dmsActivateMessage).
+#[derive(Clone, Copy, Debug, PartialEq, Eq)]
+pub struct ActivationCode {
+    /// In minutes; 65,535 has no end.
+    pub duration: u16,
+    /// The activate priority.
+    pub priority: u8,
+    /// The memory type, as of [`Memory`](crate::Memory).
+    pub memory: u8,
+    /// The number of the message.
+    pub number: u16,
+    /// Its CRC, as of [`message_crc`].
+    pub crc: u16,
+    /// The address of who asks.
+    pub requester: [u8; 4],
+}
+
+impl ActivationCode {
+    /// The 12 octets of the code, the high octet of each number first.
+    pub fn octets(&self) -> [u8; 12] {
+        let ([d0, d1], [n0, n1], [c0, c1]) = (self.duration.to_be_bytes(), self.number.to_be_bytes(), self.crc.to_be_bytes());
+        let [r0, r1, r2, r3] = self.requester;
+        [d0, d1, self.priority, self.memory, n0, n1, c0, c1, r0, r1, r2, r3]
+    }
+}
+
+/// The CRC of a message's text, beacon and pixel service (dmsMessageCRC), which an activation code has.
+///
+/// ```
+/// assert_eq!(latsefur::message_crc(b"A", 0, 0), 0x9a66);
+/// ```
+pub fn message_crc(text: &[u8], beacon: u8, pixel_service: u8) -> u16 {
+    // SAFETY: the octets are those of a slice.
+    unsafe { ffi::latsefur_message_crc(text.as_ptr(), text.len(), beacon, pixel_service) }
+}
+
+/// The controller of a sign: its message table, what the sign shows, its clock and its defaults. `docs/messages.md` says what each command does.
+///
+/// Nothing runs between calls: time passes by [`tick`](Controller::tick) alone. It may go to another thread, and is used by one at a time. Its
+/// memory is given back when it is dropped. Memory types are those of [`Memory`](crate::Memory), and messages are numbered from 1; any number is
+/// taken, and the reply says what the controller thinks of it.
+///
+/// ```
+/// use latsefur::{message_crc, ActivationCode, Controller, Memory, Reply, Request, Sign};
+///
+/// let sign = Sign::from_file("../../signs/portable.toml")?;
+/// let mut controller = Controller::new(&sign)?;
+/// let (memory, text) = (Memory::Changeable, b"ROAD[np]WORK");
+/// controller.request(memory, 1, Request::Modify)?;
+/// controller.set_multi(memory, 1, text)?;
+/// controller.request(memory, 1, Request::Validate)?;
+/// controller.work()?;
+/// let code = ActivationCode {
+///     duration: 1,
+///     priority: 255,
+///     memory: memory.number(),
+///     number: 1,
+///     crc: message_crc(text, 0, 0),
+///     requester: [127, 0, 0, 1],
+/// };
+/// assert_eq!(controller.activate(&code.octets())?, Reply::Shown);
+/// assert_eq!(controller.tick(599)?, Reply::Ticked);
+/// assert_eq!(controller.tick(1)?, Reply::Ended);
+/// # Ok::<(), latsefur::Error>(())
+/// ```
+///
+/// It isn't shared by threads:
+///
+/// ```compile_fail
+/// fn shared(_: impl Sync) {}
+/// let sign = latsefur::Sign::from_file("../../signs/portable.toml").unwrap();
+/// shared(latsefur::Controller::new(&sign).unwrap());
+/// ```
+#[derive(Debug)]
+pub struct Controller {
+    handle: Handle,
+    width: u16,
+    height: u16,
+}
+
+// SAFETY: what the handle holds may go to another thread between calls, and each call borrows it alone. Its pointer keeps it from being `Sync`.
+unsafe impl Send for Controller {}
+
+impl Drop for Controller {
+    fn drop(&mut self) {
+        // SAFETY: the handle was made by `new` alone, has no copy, and isn't used after this.
+        unsafe { ffi::latsefur_controller_free(&mut self.handle) }
+    }
+}
+
+impl Controller {
+    /// The controller of a sign.
+    ///
+    /// # Errors
+    ///
+    /// [`Error::TableFault`] if the message table of the sign file is outside a limit, and [`Error::NoMemory`]. No other call takes memory of the
+    /// library.
+    pub fn new(sign: &Sign) -> Result<Controller, Error> {
+        let mut made = Controller { handle: Handle { held: null_mut(), full: 0 }, width: sign.width(), height: sign.height() };
+        // SAFETY: the octets are those of a slice; the handle is zeros, and is borrowed by this call alone.
+        done(unsafe { ffi::latsefur_controller_new(sign.file().as_ptr(), sign.file().len(), &mut made.handle) })?;
+        Ok(made)
+    }
+
+    /// A command, whose call borrows the handle and the reply alone.
+    fn ask(&mut self, call: impl FnOnce(&mut Handle, &mut ffi::Reply) -> u8) -> Result<Reply, Error> {
+        let mut facts = ffi::Reply::default();
+        done(call(&mut self.handle, &mut facts))?;
+        Ok(Reply::of(facts))
+    }
+
+    /// Asks for a status, one of [`Request`](crate::Request). A message waits until [`work`](Controller::work) judges it.
+    ///
+    /// # Errors
+    ///
+    /// None comes of a sound library, here and wherever nothing else is said.
+    pub fn request(&mut self, memory: impl Into<u8>, number: u16, status: impl Into<u8>) -> Result<Reply, Error> {
+        let (memory, status) = (memory.into(), status.into());
+        // SAFETY: the handle and the reply are borrowed by this call alone.
+        self.ask(|handle, reply| unsafe { ffi::latsefur_request(handle, memory, number, status, reply) })
+    }
+
+    /// Sets the text.
+    ///
+    /// # Errors
+    ///
+    /// As [`request`](Controller::request).
+    pub fn set_multi(&mut self, memory: impl Into<u8>, number: u16, text: &[u8]) -> Result<Reply, Error> {
+        let memory = memory.into();
+        // SAFETY: the octets are those of a slice; the handle and the reply are borrowed by this call alone.
+        self.ask(|handle, reply| unsafe { ffi::latsefur_set_multi(handle, memory, number, text.as_ptr(), text.len(), reply) })
+    }
+
+    /// Sets the owner, of at most 127 octets.
+    ///
+    /// # Errors
+    ///
+    /// As [`request`](Controller::request).
+    pub fn set_owner(&mut self, memory: impl Into<u8>, number: u16, owner: &[u8]) -> Result<Reply, Error> {
+        let memory = memory.into();
+        // SAFETY: the octets are those of a slice; the handle and the reply are borrowed by this call alone.
+        self.ask(|handle, reply| unsafe { ffi::latsefur_set_owner(handle, memory, number, owner.as_ptr(), owner.len(), reply) })
+    }
+
+    /// Sets the run-time priority, 1 to 255.
+    ///
+    /// # Errors
+    ///
+    /// As [`request`](Controller::request).
+    pub fn set_priority(&mut self, memory: impl Into<u8>, number: u16, value: u8) -> Result<Reply, Error> {
+        let memory = memory.into();
+        // SAFETY: the handle and the reply are borrowed by this call alone.
+        self.ask(|handle, reply| unsafe { ffi::latsefur_set_priority(handle, memory, number, value, reply) })
+    }
+
+    /// Sets the beacon, 0 or 1.
+    ///
+    /// # Errors
+    ///
+    /// As [`request`](Controller::request).
+    pub fn set_beacon(&mut self, memory: impl Into<u8>, number: u16, value: u8) -> Result<Reply, Error> {
+        let memory = memory.into();
+        // SAFETY: the handle and the reply are borrowed by this call alone.
+        self.ask(|handle, reply| unsafe { ffi::latsefur_set_beacon(handle, memory, number, value, reply) })
+    }
+
+    /// Sets the pixel service, 0 or 1.
+    ///
+    /// # Errors
+    ///
+    /// As [`request`](Controller::request).
+    pub fn set_pixel_service(&mut self, memory: impl Into<u8>, number: u16, value: u8) -> Result<Reply, Error> {
+        let memory = memory.into();
+        // SAFETY: the handle and the reply are borrowed by this call alone.
+        self.ask(|handle, reply| unsafe { ffi::latsefur_set_pixel_service(handle, memory, number, value, reply) })
+    }
+
+    /// Empties every slot.
+    ///
+    /// # Errors
+    ///
+    /// As [`request`](Controller::request).
+    pub fn clear(&mut self) -> Result<Reply, Error> {
+        // SAFETY: the handle and the reply are borrowed by this call alone.
+        self.ask(|handle, reply| unsafe { ffi::latsefur_clear(handle, reply) })
+    }
+
+    /// Judges the message that waits.
+    ///
+    /// # Errors
+    ///
+    /// As [`request`](Controller::request).
+    pub fn work(&mut self) -> Result<Reply, Error> {
+        // SAFETY: the handle and the reply are borrowed by this call alone.
+        self.ask(|handle, reply| unsafe { ffi::latsefur_work(handle, reply) })
+    }
+
+    /// Shows a message, named by the 12 octets of an [`ActivationCode`].
+    ///
+    /// # Errors
+    ///
+    /// [`Error::BadLength`] for another number of octets.
+    pub fn activate(&mut self, code: &[u8]) -> Result<Reply, Error> {
+        // SAFETY: the octets are those of a slice; the handle and the reply are borrowed by this call alone.
+        self.ask(|handle, reply| unsafe { ffi::latsefur_activate(handle, code.as_ptr(), code.len(), reply) })
+    }
+
+    /// Names the message that follows a duration, by 5 octets: memory type, number and CRC (dmsEndDurationMessage).
+    ///
+    /// # Errors
+    ///
+    /// [`Error::BadLength`] for another number of octets.
+    pub fn set_end(&mut self, code: &[u8]) -> Result<Reply, Error> {
+        // SAFETY: the octets are those of a slice; the handle and the reply are borrowed by this call alone.
+        self.ask(|handle, reply| unsafe { ffi::latsefur_set_end(handle, code.as_ptr(), code.len(), reply) })
+    }
+
+    /// Lets tenths of a second pass.
+    ///
+    /// # Errors
+    ///
+    /// As [`request`](Controller::request).
+    pub fn tick(&mut self, tenths: u32) -> Result<Reply, Error> {
+        // SAFETY: the handle and the reply are borrowed by this call alone.
+        self.ask(|handle, reply| unsafe { ffi::latsefur_tick(handle, tenths, reply) })
+    }
+
+    /// Sets a default.
+    ///
+    /// # Errors
+    ///
+    /// [`Error::NoDefault`] if the number names none.
+    pub fn set_default(&mut self, field: DefaultField, value: u8) -> Result<Reply, Error> {
+        // SAFETY: the handle and the reply are borrowed by this call alone.
+        self.ask(|handle, reply| unsafe { ffi::latsefur_set_default(handle, field.number(), value, reply) })
+    }
+
+    /// The state of the sign. It takes the controller mutably, as all questions do, since the library has one call at a time.
+    ///
+    /// # Errors
+    ///
+    /// As [`request`](Controller::request).
+    pub fn report(&mut self) -> Result<Report, Error> {
+        let mut facts = ffi::Report::default();
+        // SAFETY: the handle and the report are borrowed by this call alone.
+        done(unsafe { ffi::latsefur_report(&mut self.handle, &mut facts) })?;
+        Ok(Report {
+            clock: facts.clock,
+            free: facts.free,
+            requester: facts.requester,
+            used: facts.used,
+            shown_memory: facts.shown_memory,
+            shown_number: facts.shown_number,
+            crc: facts.crc,
+            priority: facts.priority,
+            remaining: facts.remaining,
+            mode: facts.mode.into(),
+            activate: facts.activate.into(),
+            validate: facts.validate.into(),
+            multi: facts.multi.into(),
+            position: facts.position,
+        })
+    }
+
+    /// A message, or why there is none. Memory type 5 and number 1 is what the display shows.
+    ///
+    /// # Errors
+    ///
+    /// As [`request`](Controller::request).
+    pub fn message(&mut self, memory: impl Into<u8>, number: u16) -> Result<Result<Message, TableError>, Error> {
+        let (mut facts, mut text, mut owner) = (ffi::Message::default(), vec![0; MOST_TEXT], vec![0; MOST_OWNER]);
+        let (text_at, owner_at) = (text.as_mut_ptr(), owner.as_mut_ptr());
+        // SAFETY: the buffers have these lengths; they, the facts and the handle are borrowed by this call alone.
+        let outcome =
+            unsafe { ffi::latsefur_row(&mut self.handle, memory.into(), number, &mut facts, text_at, MOST_TEXT, owner_at, MOST_OWNER) };
+        if outcome == 1 {
+            return Ok(Err(facts.code.into()));
+        }
+        done(outcome)?;
+        text.truncate(facts.multi);
+        owner.truncate(facts.owner);
+        Ok(Ok(Message {
+            status: facts.status.into(),
+            priority: facts.priority,
+            beacon: facts.beacon,
+            pixel_service: facts.pixel,
+            crc: facts.crc,
+            owner,
+            text,
+        }))
+    }
+
+    /// The defaults in force.
+    ///
+    /// # Errors
+    ///
+    /// As [`request`](Controller::request).
+    pub fn defaults(&mut self) -> Result<Defaults, Error> {
+        let mut facts = ffi::Defaults::default();
+        // SAFETY: the handle and the defaults are borrowed by this call alone.
+        done(unsafe { ffi::latsefur_defaults(&mut self.handle, &mut facts) })?;
+        let ffi::Defaults { font, line, page, page_on, page_off, flash_on, flash_off, fore, back } = facts;
+        Ok(Defaults { font, line, page, page_on, page_off, flash_on, flash_off, fore, back })
+    }
+
+    /// What the display shows now, and which pixels have a colour; none has one above 9.
+    ///
+    /// # Errors
+    ///
+    /// As [`request`](Controller::request).
+    pub fn frame(&mut self, colour: u8) -> Result<Frame, Error> {
+        let mut facts = ffi::Shown::default();
+        let mut octets = vec![0; stride(self.width) * usize::from(self.height)];
+        // SAFETY: the plane has this length; it, what is shown and the handle are borrowed by this call alone.
+        done(unsafe { ffi::latsefur_frame(&mut self.handle, colour, &mut facts, octets.as_mut_ptr(), octets.len()) })?;
+        Ok(Frame { shown: Shown::of(facts), plane: Plane { width: self.width, octets } })
+    }
+
+    /// The steps that were counted; `u64::MAX` may stand for more.
+    ///
+    /// # Errors
+    ///
+    /// As [`request`](Controller::request).
+    pub fn steps(&mut self) -> Result<u64, Error> {
+        let mut steps = 0;
+        // SAFETY: the handle and the count are borrowed by this call alone.
+        done(unsafe { ffi::latsefur_steps(&mut self.handle, &mut steps) })?;
+        Ok(steps)
+    }
+}

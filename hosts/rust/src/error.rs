@@ -1,0 +1,78 @@
+//! What goes wrong, by name.
+
+use std::fmt;
+use std::io;
+
+/// An outcome of the library that gives no answer, or a file that can't be read.
+///
+/// A text that a sign refuses is no error of [`Sign::check`](crate::Sign::check): its verdict says why. It is one for the calls that draw it.
+#[derive(Debug)]
+#[non_exhaustive]
+pub enum Error {
+    /// The file can't be read.
+    File(io::Error),
+    /// The sign refuses the text.
+    TextRefused,
+    /// Memory was refused. The same call may succeed later.
+    NoMemory,
+    /// The octets aren't a sign file; `signctl sign` says where they are wrong.
+    NoSignFile,
+    /// The sign file can be read, but its sign is outside a limit.
+    SignFault,
+    /// The text has no page of this number.
+    NoPage,
+    /// The text has 4,294,967,296 octets or more, and isn't judged.
+    TextTooLong,
+    /// The sign is sound, but the message table of its sign file is outside a limit.
+    TableFault,
+    /// An activation code hasn't 12 octets, or an end code 5.
+    BadLength,
+    /// The number names no default.
+    NoDefault,
+    /// The library has answered with an outcome that this call hasn't.
+    Outcome(u8),
+}
+
+impl fmt::Display for Error {
+    fn fmt(&self, to: &mut fmt::Formatter<'_>) -> fmt::Result {
+        match self {
+            Error::File(fault) => write!(to, "the file can't be read: {fault}"),
+            Error::TextRefused => to.write_str("the sign refuses the text"),
+            Error::NoMemory => to.write_str("memory was refused"),
+            Error::NoSignFile => to.write_str("the octets can't be read as a sign file"),
+            Error::SignFault => to.write_str("the sign of the sign file is outside its limits"),
+            Error::NoPage => to.write_str("the text has no such page"),
+            Error::TextTooLong => to.write_str("the text has 2^32 octets or more"),
+            Error::TableFault => to.write_str("the message table of the sign file is outside its limits"),
+            Error::BadLength => to.write_str("the code hasn't the length that it must have"),
+            Error::NoDefault => to.write_str("no default has this number"),
+            Error::Outcome(outcome) => write!(to, "the library answers with the outcome {outcome}"),
+        }
+    }
+}
+
+impl std::error::Error for Error {
+    fn source(&self) -> Option<&(dyn std::error::Error + 'static)> {
+        match self {
+            Error::File(fault) => Some(fault),
+            _ => None,
+        }
+    }
+}
+
+/// The error of an outcome, if it is one.
+pub(crate) fn done(outcome: u8) -> Result<(), Error> {
+    Err(match outcome {
+        0 => return Ok(()),
+        1 => Error::TextRefused,
+        2 => Error::NoMemory,
+        3 => Error::NoSignFile,
+        4 => Error::SignFault,
+        6 => Error::NoPage,
+        7 => Error::TextTooLong,
+        8 => Error::TableFault,
+        10 => Error::BadLength,
+        11 => Error::NoDefault,
+        outcome => Error::Outcome(outcome),
+    })
+}

@@ -1,0 +1,31 @@
+//! What a roadside message sign of NTCIP 1203 v03 says to a message in MULTI, and the pages that it shows, by a library whose code is proved to
+//! do what its definitions say.
+//!
+//! [`Sign`] judges texts and draws their pages, and [`Controller`] keeps messages and shows them. All times are in tenths of a second; pages,
+//! rows, columns and octets count from 0, and messages from 1.
+//!
+//! ```
+//! let sign = latsefur::Sign::from_file("../../signs/portable.toml")?;
+//! println!("{}", sign.check(b"ROAD[nl]WORK[nl]AHEAD")?); // ok 1
+//! # Ok::<(), latsefur::Error>(())
+//! ```
+#![deny(unsafe_op_in_unsafe_fn)]
+
+mod codes;
+mod controller;
+mod error;
+mod ffi;
+mod picture;
+mod sign;
+
+pub use codes::{ActivateError, DefaultError, DefaultField, Memory, MultiError, Request, SourceMode, Status, TableError, ValidateError};
+pub use controller::{message_crc, ActivationCode, Controller, Defaults, Frame, Message, Reply, Report};
+pub use error::Error;
+pub use picture::{Picture, Plane, Shown};
+pub use sign::{Sign, Verdict};
+
+/// The version of the library, which is that of `hosts/latsefur.h`. It rises with each change of that header.
+pub fn library_version() -> u32 {
+    // SAFETY: it takes nothing.
+    unsafe { ffi::latsefur_version() }
+}
