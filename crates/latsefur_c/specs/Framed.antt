@@ -36,8 +36,8 @@ DrawsFrame controller colour was told old new outcome =
     ⊎ ((outcome ≡ 0) × StandsInFront (IsFrameOf controller colour) old new
     × IsShownAs (shown (under controller.sign controller.state.display.defaults) controller.state.text controller.state.display.clock) told)
 
--- the colours of all pixels of what the display shows stand at the front of a buffer, and the page is told; or the buffer is too small (5), and nothing
--- is told (own)
+-- the colours of all pixels of what the display shows stand at the front of a buffer, and the page is told; or the buffer is too small
+-- (5), and nothing is told (own)
 abbrev pub PaintsFrame : ControllerData → LatsefurShown → LatsefurShown → List ℕ → List ℕ → ℕ → Type 0
 PaintsFrame controller was told old new outcome =
     let sign = shown_by controller.sign controller.state in

@@ -50,7 +50,8 @@ abbrev pub PaintsPage : SignData → List ℕ → ℕ → ℕ → List ℕ → L
 PaintsPage sign text page phase old new outcome =
     DrawsText sign text page phase (FitsColours sign text (Page page phase) old new outcome) old new outcome
 
--- a page is drawn on the sign that is held, by the defaults in force, and state and sign stay; or there is no controller (9), and nothing is drawn (own)
+-- a page is drawn on the sign that is held, by the defaults in force, and state and sign stay; or there is no controller (9), and
+-- nothing is drawn (own)
 abbrev pub DrawsHeld : Option ControllerData → List ℕ → ℕ → ℕ → ℕ → Option ControllerData → List ℕ → List ℕ → ℕ → Type 0
 DrawsHeld None text page phase colour new old buffer outcome = (outcome ≡ 9) × (new ≡ None) × (buffer ≡ old)
 DrawsHeld (Some held) text page phase colour new old buffer outcome =

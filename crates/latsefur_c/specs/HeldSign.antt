@@ -10,8 +10,8 @@ use Rattle.latsefur_c.specs.declared.font.LatsefurFont.{LatsefurFont}
 use Rattle.latsefur_c.specs.declared.table.LatsefurTable.{LatsefurTable}
 use Rattle.latsefur_c.specs.Judged.{IsJudged}
 
--- the limits of a message table, and how many permanent messages it has (NTCIP 1203 v03, dmsMaxChangeableMsg and dmsNumPermanentMsg; the others
--- are own)
+-- the limits of a message table, and how many permanent messages it has (NTCIP 1203 v03, dmsMaxChangeableMsg and dmsNumPermanentMsg; the
+-- others are own)
 abbrev pub table_of : StoreData → LatsefurTable
 table_of store = record {
   bytes = store.limits.bytes;
@@ -44,7 +44,8 @@ FindsFont (Some held) number new was told outcome = (new ≡ Some held) × Tells
 abbrev pub sign_in_force : ControllerData → SignData
 sign_in_force held = under held.sign held.state.defaults
 
--- a text is judged on the sign that is held, by the defaults in force, and the controller stays as it is; or there is none (9), and nothing is told (own)
+-- a text is judged on the sign that is held, by the defaults in force, and the controller stays as it is; or there is none (9), and
+-- nothing is told (own)
 abbrev pub JudgesHeld : Option ControllerData → List ℕ → Option ControllerData → LatsefurVerdict → LatsefurVerdict → ℕ → Type 0
 JudgesHeld None text new was told outcome = (outcome ≡ 9) × (new ≡ None) × (told ≡ was)
 JudgesHeld (Some held) text new was told outcome = (new ≡ Some held) × IsJudged (sign_in_force held) text told × (outcome ≡ told.outcome)

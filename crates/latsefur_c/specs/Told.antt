@@ -53,8 +53,9 @@ Rows None message new was told old_text new_text old_owner new_owner outcome = (
 Rows (Some held) message new was told old_text new_text old_owner new_owner outcome =
     (new ≡ Some held) × TellsRow (row_shown held.state message) was told old_text new_text old_owner new_owner outcome
 
--- it is told for how many tenths, at most this many, what the display shows stays, and so do state and sign; or there is no controller (9), and nothing
--- is told (own)
+-- it is told for how many tenths, at most this many, what the display shows stays, and so do state and sign; or there is no controller
+-- (9), and nothing is told (own)
 abbrev pub TellsChange : Option ControllerData → ℕ → Option ControllerData → ℕ → ℕ → ℕ → Type 0
 TellsChange None most new was told outcome = (outcome ≡ 9) × (new ≡ None) × (told ≡ was)
-TellsChange (Some held) most new was told outcome = (outcome ≡ 0) × IsSomeAnd new (IsIn held) × (told ≡ next_change held.sign held.state most)
+TellsChange (Some held) most new was told outcome =
+    (outcome ≡ 0) × IsSomeAnd new (IsIn held) × (told ≡ next_change held.sign held.state most)

@@ -98,8 +98,13 @@ impl Walk {
     /// Begins the next page, where the present one is over at a time.
     pub(crate) fn turn(&mut self)
         requires { self.old.begin + self.old.on + self.old.off < 2 ^ 64 }
-        ensures { self.new ≡ record { begin = self.old.begin + (self.old.on + self.old.off); on = self.old.on; off = self.old.off;
-            flash = self.old.flash; soonest = None } }
+        ensures { self.new ≡ record {
+          begin = self.old.begin + (self.old.on + self.old.off);
+          on = self.old.on;
+          off = self.old.off;
+          flash = self.old.flash;
+          soonest = None;
+        } }
     {
         self.begin = self.begin + (u64::from(self.on) + u64::from(self.off));
         self.soonest = None;

@@ -12,6 +12,7 @@ use sign_font::{Defaults, Sign};
 
 /// Whether a sign accepts a text by these defaults. Every text of this crate is judged here, and the steps of the source that
 /// comes back are reported by whoever asks.
+#[inline(always)]
 pub(crate) fn check_text<'a>(
     sign: &'a Sign,
     defaults: Defaults,

@@ -85,7 +85,10 @@ fn the_next_change_is_that_of_a_page_a_flash_or_a_duration(rt: HostRuntime) -> R
         let before = controller.steps();
         let told = controller.next_change(most);
         let counted = controller.steps() > before;
-        assert!(rt; told == wanted && counted, "{told} at {clock}, for {wanted}");
+        assert!(rt;
+            told == wanted && counted,
+            "{told} at {clock}, for {wanted}"
+        );
     }
     Ok(())
 }
