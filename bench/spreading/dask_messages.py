@@ -38,11 +38,15 @@ def judged(path, signs):
     })
 
 
-def verdicts(client, signs, paths):
-    """The verdicts on all files, as a data frame of Dask with a part for each file. Each worker is sent the signs once, and reads them once."""
-    (there,) = client.scatter([signs], broadcast=True)
+def verdicts(signs, paths):
+    """The verdicts on all files, as a data frame of Dask with a part for each file.
+
+    The table of signs is a value of the graph, so each worker is sent it once and reads it once; and unlike what `Client.scatter` has sent, it
+    can be sent again if the workers that have it are gone.
+    """
+    table = dask.delayed(signs, traverse=False)
     files = dask.bag.from_sequence(paths, npartitions=len(paths))
-    parts = [dask.delayed(judged_part)(part, there) for part in files.to_delayed()]
+    parts = [dask.delayed(judged_part)(part, table) for part in files.to_delayed()]
     kinds = {"sign": pandas.CategoricalDtype(list(signs)), "reason": pandas.CategoricalDtype(REASONS)}
     meta = pandas.DataFrame({name: pandas.Series(dtype=kinds.get(name, kind)) for name, kind in COLUMNS.items()})
     return dask.dataframe.from_delayed(parts, meta=meta, verify_meta=False)
@@ -65,9 +69,9 @@ def main():
     parser.add_argument("signs", type=Path)
     parser.add_argument("messages", nargs="+")
     words = parser.parse_args()
-    cluster = words.scheduler or LocalCluster(words.processes, threads_per_worker=1, dashboard_address=None)
-    with Client(cluster) as client:
-        frame = verdicts(client, table_of_signs(words.signs), words.messages)
+    cluster = words.scheduler or LocalCluster(n_workers=words.processes, threads_per_worker=1, dashboard_address=None)
+    with Client(cluster):
+        frame = verdicts(table_of_signs(words.signs), words.messages)
         refused = frame[frame.reason != "accepted"]
         counts = refused.groupby(["sign", "reason"], observed=True).size().compute()
         print(counts.sort_index().to_string())

@@ -224,7 +224,7 @@ class Controllers(unittest.TestCase):
             stored(controller, "A")
             controller.activate(ActivationCode(3, 1, message_crc("A"), duration=1))
             self.assertEqual(controller.colours(), latsefur.Display(Shown(0, 0), sign.colours("A")))
-            self.assertEqual((controller.next_change(), controller.next_change(7)), (599, 7))
+            self.assertEqual((controller.next_change(), controller.next_change(7)), (600, 7))
 
     def test_threads(self) -> None:
         with Controller(Sign(SAMPLE)) as controller:
