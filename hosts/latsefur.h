@@ -40,7 +40,7 @@ extern "C" {
 
 /* The version of this header. It rises with each change of it. `latsefur_version` tells that of the library, so a host that loads the
  * library while it runs can compare the two. */
-#define LATSEFUR_VERSION 1
+#define LATSEFUR_VERSION 2
 uint32_t latsefur_version(void);
 
 /* How a call ended. With an outcome other than LATSEFUR_DONE what the host lent is left as it was, but for verdicts, as said there. */
@@ -56,7 +56,8 @@ enum {
     LATSEFUR_TABLE_FAULT = 8,  /* the sign file is read and its sign is sound, but its message table is outside the limits */
     LATSEFUR_NO_CONTROLLER = 9, /* the handle holds no controller */
     LATSEFUR_BAD_LENGTH = 10,  /* a code hasn't the length that it must have */
-    LATSEFUR_NO_DEFAULT = 11   /* the number names no default */
+    LATSEFUR_NO_DEFAULT = 11,  /* the number names no default */
+    LATSEFUR_NO_FONT = 12      /* the sign has no font of this number */
 };
 
 /* Why a text is refused: the numbers of dmsMultiSyntaxError. docs/multi.md says when each comes. */
@@ -245,6 +246,23 @@ typedef struct {
     uint8_t beacon, pixel;
 } latsefur_message;
 
+/* The limits of the message table that a controller holds. */
+typedef struct {
+    uint32_t bytes;      /* octets of all texts and owners together, at most 1,000,000 */
+    uint16_t slots;      /* changeable messages, 1 to 1,000 (dmsMaxChangeableMsg) */
+    uint16_t max_string; /* octets of one text, 1 to 4,096 */
+    uint8_t permanents;  /* permanent messages, at most 255 (dmsNumPermanentMsg) */
+} latsefur_table_facts;
+
+/* A font of the sign that a controller holds (object fontTable). */
+typedef struct {
+    uint16_t version;     /* fontVersionID; 0 if none is known */
+    uint8_t number;       /* 1 to 255 */
+    uint8_t height;       /* rows, in pixels: 1 to 64 */
+    uint8_t char_spacing; /* columns between two characters, in pixels */
+    uint8_t line_spacing; /* rows between two lines, in pixels */
+} latsefur_font_facts;
+
 /* Makes the controller of a sign file, which isn't read again. One that the handle held is freed, once the new one is made.
  *
  * Other outcomes: NO_MEMORY, NO_SIGN_FILE, SIGN_FAULT, TABLE_FAULT. The handle then holds what it held. */
@@ -282,8 +300,8 @@ uint8_t latsefur_tick(latsefur_controller *handle, uint32_t tenths, latsefur_rep
 /* Sets a default. Another outcome: NO_DEFAULT. */
 uint8_t latsefur_set_default(latsefur_controller *handle, uint8_t field, uint8_t value, latsefur_reply *reply);
 
-/* The questions. Each writes its answer if the outcome is DONE, and changes nothing else but the count of steps, by `latsefur_frame`.
- * Another outcome of each: NO_CONTROLLER. */
+/* The questions. Each writes its answer if the outcome is DONE. It changes nothing else but the count of steps, which rises by the calls that
+ * draw and by `latsefur_next_change`. Another outcome of each: NO_CONTROLLER. */
 uint8_t latsefur_report(latsefur_controller *handle, latsefur_report_facts *report);
 uint8_t latsefur_defaults(latsefur_controller *handle, latsefur_default_facts *defaults);
 uint8_t latsefur_steps(latsefur_controller *handle, uint64_t *steps);
@@ -297,6 +315,37 @@ uint8_t latsefur_row(latsefur_controller *handle, uint8_t memory, uint16_t numbe
 /* Draws which pixels have a colour in what the display shows now, as `latsefur_plane_at` does, and tells which page that is. Another
  * outcome: TOO_SMALL. */
 uint8_t latsefur_frame(latsefur_controller *handle, uint8_t colour, latsefur_shown *shown, uint8_t *plane, size_t plane_len);
+
+/* Tells the colour of every pixel of what the display shows now, as `latsefur_colours_at` does, and which page that is. Another outcome:
+ * TOO_SMALL. */
+uint8_t latsefur_colours(latsefur_controller *handle, latsefur_shown *shown, uint8_t *colours, size_t colours_len);
+
+/* Tells for how many tenths of a second from now on, at most `most`, what the display shows stays as it is: the same page or off time, each pixel
+ * in its colour, and the duration not over. So a display driver that has drawn may sleep for this time, if no command comes, and then lets as
+ * much pass by `latsefur_tick`. It is 0 if `most` is, or if the next tick of any length ends the duration. What is shown then may be as it was, where a
+ * flash or a page looks like what was before it. */
+uint8_t latsefur_next_change(latsefur_controller *handle, uint32_t most, uint32_t *tenths);
+
+/* ---- The sign that a controller holds ----
+ *
+ * These ask of the sign and the message table of the controller, by the defaults in force. They read no sign file. Another outcome of each:
+ * NO_CONTROLLER. */
+uint8_t latsefur_held_sign(latsefur_controller *handle, latsefur_sign_facts *facts);
+uint8_t latsefur_held_table(latsefur_controller *handle, latsefur_table_facts *table);
+
+/* Tells the font of a number. Another outcome: NO_FONT. */
+uint8_t latsefur_held_font(latsefur_controller *handle, uint8_t number, latsefur_font_facts *font);
+
+/* Judges a text, as `latsefur_check` does, but by the defaults in force. `verdict` is written if the outcome is DONE, REFUSED or TOO_LONG, and its
+ * own outcome is then the same. */
+uint8_t latsefur_held_check(latsefur_controller *handle, const uint8_t *text, size_t text_len, latsefur_verdict *verdict);
+
+/* Draws a page of a text at a phase, as `latsefur_plane_of_page` and `latsefur_colours_of_page` do, but by the defaults in force. What the
+ * display shows stays. Other outcomes: REFUSED, TOO_LONG, NO_PAGE, TOO_SMALL. */
+uint8_t latsefur_held_plane_of_page(latsefur_controller *handle, const uint8_t *text, size_t text_len, uint8_t page, uint64_t phase,
+                                    uint8_t colour, uint8_t *plane, size_t plane_len);
+uint8_t latsefur_held_colours_of_page(latsefur_controller *handle, const uint8_t *text, size_t text_len, uint8_t page, uint64_t phase,
+                                      uint8_t *colours, size_t colours_len);
 
 /* The CRC of a message's text, beacon and pixel service (dmsMessageCRC). An activation code has it, the high octet first. */
 uint16_t latsefur_message_crc(const uint8_t *text, size_t text_len, uint8_t beacon, uint8_t pixel);
@@ -317,6 +366,8 @@ LATSEFUR_HAS_SIZE(latsefur_reply, 10);
 LATSEFUR_HAS_SIZE(latsefur_report_facts, 32);
 LATSEFUR_HAS_SIZE(latsefur_default_facts, 9);
 LATSEFUR_HAS_SIZE(latsefur_message, 24);
+LATSEFUR_HAS_SIZE(latsefur_table_facts, 12);
+LATSEFUR_HAS_SIZE(latsefur_font_facts, 6);
 #endif
 
 #ifdef __cplusplus

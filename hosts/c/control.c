@@ -3,7 +3,9 @@
  *   control SIGN_FILE
  *
  * A script is lines on standard input, as docs/formats.md describes them, and each has the reply that `signctl run` writes. The status is 1
- * after a line that is none of a script, and 2 if there is no controller. */
+ * after a line that is none of a script, 2 if there is no controller, and 3 if two answers of the library don't agree.
+ *
+ * Time passes as for a display driver that sleeps until what is shown may change. */
 #include "latsefur.h"
 
 #include <stdio.h>
@@ -140,11 +142,60 @@ static uint8_t write_defaults(void) {
     return outcome;
 }
 
+static void hold(int agrees, const char *what) {
+    if (!agrees) {
+        fprintf(stderr, "control: %s\n", what);
+        exit(3);
+    }
+}
+
+static uint8_t plane[LATSEFUR_PLANE_SIZE(LATSEFUR_MAX_WIDTH, LATSEFUR_MAX_HEIGHT)];
+static uint8_t colours[LATSEFUR_COLOURS_SIZE(LATSEFUR_MAX_WIDTH, LATSEFUR_MAX_HEIGHT)];
+
+/* Whether the plane of a colour has the pixels of this colour. */
+static int has_colour(uint8_t colour) {
+    size_t stride = (facts.width + 7u) / 8, row, column;
+    for (row = 0; row < facts.height; row++)
+        for (column = 0; column < facts.width; column++)
+            if ((plane[row * stride + column / 8] >> (7 - column % 8) & 1) != (colours[row * facts.width + column] == colour))
+                return 0;
+    return 1;
+}
+
+/* The verdict on a text by the defaults in force, and its first page in all colours and in one. */
+static void judge(const uint8_t *text, size_t length) {
+    latsefur_verdict verdict = {0};
+    uint8_t outcome = latsefur_held_check(&handle, text, length, &verdict);
+    hold(outcome == verdict.outcome, "a verdict has another outcome");
+    hold(latsefur_held_colours_of_page(&handle, text, length, 0, 0, colours, sizeof colours) == outcome, "a text is drawn otherwise than judged");
+    hold(latsefur_held_plane_of_page(&handle, text, length, 0, 0, 1, plane, sizeof plane) == outcome, "a text is drawn otherwise than judged");
+    hold(outcome != LATSEFUR_DONE || has_colour(1), "the plane of a page has other pixels than its colours");
+}
+
+/* Lets time pass, and sleeps up to a tenth before what is shown may change: until then it must stay. */
+static uint8_t pass(uint32_t tenths, latsefur_reply *reply) {
+    static uint8_t before[sizeof colours];
+    latsefur_shown shown = {0}, later = {0};
+    uint32_t left = 0;
+    uint8_t outcome = latsefur_next_change(&handle, tenths, &left);
+    hold(outcome == LATSEFUR_DONE && left <= tenths, "the next change is later than was asked for");
+    if (left < 2)
+        return latsefur_tick(&handle, tenths, reply);
+    latsefur_colours(&handle, &shown, before, sizeof before);
+    latsefur_tick(&handle, left - 1, reply);
+    hold(reply->kind == LATSEFUR_REPLY_TICKED, "a duration ended before the next change");
+    latsefur_colours(&handle, &later, colours, sizeof colours);
+    hold(later.page == shown.page && later.is_on == shown.is_on, "another page was shown before the next change");
+    hold(memcmp(before, colours, LATSEFUR_COLOURS_SIZE(facts.width, facts.height)) == 0, "a pixel changed before the next change");
+    return latsefur_tick(&handle, tenths - (left - 1), reply);
+}
+
 static uint8_t write_frame(uint8_t colour) {
-    static uint8_t plane[LATSEFUR_PLANE_SIZE(LATSEFUR_MAX_WIDTH, LATSEFUR_MAX_HEIGHT)];
-    latsefur_shown shown = {0};
+    latsefur_shown shown = {0}, same = {0};
     size_t stride = (facts.width + 7u) / 8, row, column;
     uint8_t outcome = latsefur_frame(&handle, colour, &shown, plane, sizeof plane);
+    hold(latsefur_colours(&handle, &same, colours, sizeof colours) == outcome && has_colour(colour), "a frame has other pixels than the colours");
+    hold(same.page == shown.page && same.phase == shown.phase && same.is_on == shown.is_on, "a frame shows another page than the colours");
     if (shown.is_on)
         printf("page %d phase %llu\n", shown.page, (unsigned long long)shown.phase);
     else
@@ -203,6 +254,7 @@ static uint8_t command_message(words *line, const char *text_end, latsefur_reply
         return LATSEFUR_DONE;
     if (name == 6)
         return latsefur_set_owner(&handle, memory, number_of, into, count, reply);
+    judge(into, count);
     return latsefur_set_multi(&handle, memory, number_of, into, count, reply);
 }
 
@@ -225,7 +277,7 @@ static uint8_t command(words *line, latsefur_reply *reply, int *is_known) {
     }
     if (is_word(line, "tick")) {
         uint32_t tenths = number(line, UINT32_MAX);
-        return line->is_bad || *line->at ? (line->is_bad = 1, LATSEFUR_DONE) : latsefur_tick(&handle, tenths, reply);
+        return line->is_bad || *line->at ? (line->is_bad = 1, LATSEFUR_DONE) : pass(tenths, reply);
     }
     if (is_word(line, "default")) {
         uint8_t name = field(line), value = line->is_bad ? 0 : (uint8_t)number(line, 255);
@@ -279,10 +331,10 @@ static uint8_t make(const char *path) {
         exit(2);
     length = fread(file, 1, (size_t)1 << 24, from);
     fclose(from);
-    outcome = latsefur_sign(file, length, &facts);
-    if (outcome == LATSEFUR_DONE)
-        outcome = latsefur_controller_new(file, length, &handle);
+    outcome = latsefur_controller_new(file, length, &handle);
     free(file);
+    if (outcome == LATSEFUR_DONE)
+        outcome = latsefur_held_sign(&handle, &facts);
     return outcome;
 }
 

@@ -80,6 +80,23 @@ static const uint8_t *octets_of(const char *text) {
     return (const uint8_t *)text;
 }
 
+/* The number behind this key of the sign file, and how often these words stand in it. */
+static unsigned long number_at(const char *key) {
+    const char *at = strstr((const char *)file, key);
+    EXPECT(at != NULL);
+    return strtoul(at + strlen(key), NULL, 10);
+}
+
+static int count_of(const char *words) {
+    const char *at = (const char *)file;
+    int count = 0;
+    while ((at = strstr(at, words)) != NULL) {
+        at++;
+        count++;
+    }
+    return count;
+}
+
 /* The exports on a sign file and a text, each by a number, with outputs that have no value yet but marks. */
 typedef struct {
     latsefur_sign_facts facts;
@@ -621,13 +638,93 @@ static void test_stack(void) {
     expect_on_stack(octets_of(nested), (size_t)(at - nested), 2 << 20, LATSEFUR_NO_SIGN_FILE);
 }
 
+/* What a controller tells of its sign is what the sign file says. */
+static void use_held_sign(latsefur_controller *held) {
+    latsefur_sign_facts told = {0};
+    latsefur_table_facts table = {0};
+    latsefur_font_facts font = {0};
+    int number, fonts = 0;
+    EXPECT(latsefur_held_sign(held, &told) == LATSEFUR_DONE && told.width == facts.width && told.height == facts.height);
+    EXPECT(told.max_pages == facts.max_pages && told.classic == facts.classic);
+    EXPECT(latsefur_held_table(held, &table) == LATSEFUR_DONE && table.slots == number_at("\nslots = ") && table.bytes == number_at("\nbytes = "));
+    EXPECT(table.max_string == number_at("\nmax_string = ") && table.permanents == count_of("[[permanent]]"));
+    for (number = 0; number < 256; number++) {
+        uint8_t outcome = latsefur_held_font(held, (uint8_t)number, &font);
+        EXPECT(outcome == LATSEFUR_DONE || outcome == LATSEFUR_NO_FONT);
+        if (outcome == LATSEFUR_DONE)
+            EXPECT(font.number == number && font.height >= 1 && font.height <= 64);
+        fonts += outcome == LATSEFUR_DONE;
+    }
+    EXPECT(fonts == count_of("[[font]]"));
+}
+
+/* A text on the sign that is held: the verdict and the pictures of the calls that take the sign file. */
+static void expect_held(latsefur_controller *held, const char *text, uint8_t page, uint8_t wanted) {
+    static outputs same;
+    size_t text_len = strlen(text), plane = LATSEFUR_PLANE_SIZE(facts.width, facts.height), colours;
+    const uint8_t *octets = octets_of(text);
+    colours = LATSEFUR_COLOURS_SIZE(facts.width, facts.height);
+    memset(&same, MARK, sizeof same);
+    EXPECT(latsefur_held_check(held, octets, text_len, &same.verdict) == same.verdict.outcome);
+    EXPECT(latsefur_held_plane_of_page(held, octets, text_len, page, 3, 1, same.plane, sizeof same.plane) == wanted);
+    EXPECT(latsefur_held_colours_of_page(held, octets, text_len, page, 3, same.colours, sizeof same.colours) == wanted);
+    is_watched = 0;
+    EXPECT(call(CHECK, file, file_len, octets, text_len) == same.verdict.outcome);
+    EXPECT(out.verdict.pages == same.verdict.pages && out.verdict.cycle == same.verdict.cycle);
+    EXPECT(out.verdict.code == same.verdict.code && out.verdict.at == same.verdict.at);
+    memset(&out, MARK, sizeof out);
+    EXPECT(latsefur_plane_of_page(file, file_len, octets, text_len, page, 3, 1, out.plane, sizeof out.plane) == wanted);
+    EXPECT(latsefur_colours_of_page(file, file_len, octets, text_len, page, 3, out.colours, sizeof out.colours) == wanted);
+    is_watched = 1;
+    EXPECT(memcmp(out.plane, same.plane, sizeof out.plane) == 0 && memcmp(out.colours, same.colours, sizeof out.colours) == 0);
+    if (wanted == LATSEFUR_DONE) {
+        memset(&same, MARK, sizeof same);
+        EXPECT(latsefur_held_plane_of_page(held, octets, text_len, page, 3, 1, same.plane, plane - 1) == LATSEFUR_TOO_SMALL);
+        EXPECT(latsefur_held_colours_of_page(held, octets, text_len, page, 3, same.colours, colours - 1) == LATSEFUR_TOO_SMALL);
+        EXPECT(memcmp(&same, &marked, sizeof same) == 0);
+    }
+}
+
+static void use_held_texts(latsefur_controller *held) {
+    expect_held(held, "[cf3]A[np][flt2o2]A", 0, LATSEFUR_DONE);
+    expect_held(held, "[cf3]A[np][flt2o2]A", 1, LATSEFUR_DONE);
+    expect_held(held, "[cf3]A[np][flt2o2]A", 2, LATSEFUR_NO_PAGE);
+    expect_held(held, "A[zz]", 0, LATSEFUR_REFUSED);
+    expect_held(held, "", 0, LATSEFUR_DONE);
+}
+
+/* The next change of a message of one page that flashes: 3 tenths lit, 2 dark, and shown for a minute. */
+static void use_next_change(latsefur_controller *held) {
+    static const uint32_t wanted[] = {3, 2, 1, 2, 1};
+    latsefur_reply reply = {0};
+    const uint8_t *text = octets_of("[flt3o2]A");
+    uint16_t crc = latsefur_message_crc(text, 9, 0, 0);
+    uint8_t code[12] = {0, 1, 255, 3, 0, 1, (uint8_t)(crc >> 8), (uint8_t)crc, 127, 0, 0, 1};
+    uint32_t tenths, clock;
+    latsefur_request(held, 3, 1, 6, &reply);
+    latsefur_set_multi(held, 3, 1, text, 9, &reply);
+    latsefur_request(held, 3, 1, 7, &reply);
+    latsefur_work(held, &reply);
+    EXPECT(latsefur_activate(held, code, 12, &reply) == LATSEFUR_DONE && reply.kind == LATSEFUR_REPLY_SHOWN);
+    for (clock = 0; clock < 600; clock++) {
+        EXPECT(latsefur_next_change(held, 600, &tenths) == LATSEFUR_DONE && tenths == wanted[clock % 5]);
+        EXPECT(latsefur_next_change(held, 1, &tenths) == LATSEFUR_DONE && tenths == 1);
+        EXPECT(latsefur_next_change(held, 0, &tenths) == LATSEFUR_DONE && tenths == 0);
+        EXPECT(latsefur_tick(held, 1, &reply) == LATSEFUR_DONE);
+    }
+    EXPECT(reply.kind == LATSEFUR_REPLY_ENDED); /* blank 1 is shown now, without end */
+    EXPECT(latsefur_next_change(held, UINT32_MAX, &tenths) == LATSEFUR_DONE && tenths == UINT32_MAX);
+    EXPECT(latsefur_clear(held, &reply) == LATSEFUR_DONE);
+}
+
 /* A controller on the sign file: all commands and questions, with a message that is shown for a minute. */
 static void use_controller(latsefur_controller *held) {
     static uint8_t octets[4096], owner[127];
     const uint8_t *text = octets_of("A");
     uint16_t crc = latsefur_message_crc(text, 1, 0, 0);
     uint8_t code[12] = {0, 1, 255, 3, 0, 1, (uint8_t)(crc >> 8), (uint8_t)crc, 127, 0, 0, 1};
-    size_t plane = LATSEFUR_PLANE_SIZE(facts.width, facts.height);
+    size_t plane = LATSEFUR_PLANE_SIZE(facts.width, facts.height), colours = LATSEFUR_COLOURS_SIZE(facts.width, facts.height);
+    uint32_t tenths = 0;
     latsefur_reply reply = {0};
     latsefur_report_facts report = {0};
     latsefur_default_facts defaults = {0};
@@ -667,6 +764,12 @@ static void use_controller(latsefur_controller *held) {
     EXPECT(is_marked(out.plane, sizeof out.plane));
     EXPECT(latsefur_frame(held, 1, &shown, out.plane, plane) == LATSEFUR_DONE);
     EXPECT(is_marked(out.plane + plane, sizeof out.plane - plane));
+    memset(&out, MARK, sizeof out);
+    EXPECT(latsefur_colours(held, &out.shown, out.colours, colours - 1) == LATSEFUR_TOO_SMALL && is_untouched());
+    EXPECT(latsefur_colours(held, &out.shown, out.colours, colours) == LATSEFUR_DONE);
+    EXPECT(out.shown.page == shown.page && out.shown.phase == shown.phase && out.shown.is_on == shown.is_on);
+    EXPECT(is_marked(out.colours + colours, sizeof out.colours - colours));
+    EXPECT(latsefur_next_change(held, 9, &tenths) == LATSEFUR_DONE && tenths == 1);
     EXPECT(latsefur_tick(held, 1, &reply) == LATSEFUR_DONE && reply.kind == LATSEFUR_REPLY_ENDED);
 }
 
@@ -675,6 +778,9 @@ static void expect_no_controller(latsefur_controller *held) {
     latsefur_reply reply = {0};
     latsefur_report_facts report = {0};
     latsefur_message row = {0};
+    latsefur_table_facts table = {0};
+    latsefur_font_facts font = {0};
+    uint32_t tenths = 7;
     uint8_t code[12] = {0};
     memset(&out, MARK, sizeof out);
     EXPECT(latsefur_work(held, &reply) == LATSEFUR_NO_CONTROLLER && latsefur_tick(held, 1, &reply) == LATSEFUR_NO_CONTROLLER);
@@ -682,6 +788,13 @@ static void expect_no_controller(latsefur_controller *held) {
     EXPECT(latsefur_report(held, &report) == LATSEFUR_NO_CONTROLLER && report.remaining == 0);
     EXPECT(latsefur_row(held, 3, 1, &row, out.plane, 10, out.colours, 10) == LATSEFUR_NO_CONTROLLER && row.status == 0);
     EXPECT(latsefur_frame(held, 1, &out.shown, out.plane, sizeof out.plane) == LATSEFUR_NO_CONTROLLER);
+    EXPECT(latsefur_colours(held, &out.shown, out.colours, sizeof out.colours) == LATSEFUR_NO_CONTROLLER);
+    EXPECT(latsefur_next_change(held, 1, &tenths) == LATSEFUR_NO_CONTROLLER && tenths == 7);
+    EXPECT(latsefur_held_sign(held, &out.facts) == LATSEFUR_NO_CONTROLLER && latsefur_held_table(held, &table) == LATSEFUR_NO_CONTROLLER);
+    EXPECT(latsefur_held_font(held, 1, &font) == LATSEFUR_NO_CONTROLLER && font.number == 0 && table.slots == 0);
+    EXPECT(latsefur_held_check(held, code, 1, &out.verdict) == LATSEFUR_NO_CONTROLLER);
+    EXPECT(latsefur_held_plane_of_page(held, code, 0, 0, 0, 1, out.plane, sizeof out.plane) == LATSEFUR_NO_CONTROLLER);
+    EXPECT(latsefur_held_colours_of_page(held, code, 0, 0, 0, out.colours, sizeof out.colours) == LATSEFUR_NO_CONTROLLER);
     EXPECT(is_untouched());
     latsefur_controller_free(held);
 }
@@ -708,6 +821,10 @@ static void test_controller(void) {
     EXPECT(kept > 0);
     requests = 0;
     is_watched = 1;
+    use_held_sign(&held);
+    use_held_texts(&held);
+    if (number_at("\nbytes = ") >= 9)
+        use_next_change(&held);
     use_controller(&held);
     use_controller(&held);
     EXPECT(requests == 0 && blocks == kept);

@@ -80,6 +80,43 @@ static uint8_t frame(void) {
     return latsefur_frame(&held, 1, &shown, picture, sizeof picture);
 }
 
+static uint8_t frame_colours(void) {
+    static latsefur_shown shown;
+    return latsefur_colours(&held, &shown, picture, sizeof picture);
+}
+
+static uint8_t next_change(void) {
+    static uint32_t tenths;
+    return latsefur_next_change(&held, 600, &tenths);
+}
+
+static uint8_t held_sign(void) {
+    static latsefur_sign_facts facts;
+    return latsefur_held_sign(&held, &facts);
+}
+
+static uint8_t held_table(void) {
+    static latsefur_table_facts facts;
+    return latsefur_held_table(&held, &facts);
+}
+
+static uint8_t held_font(void) {
+    static latsefur_font_facts facts;
+    return latsefur_held_font(&held, 1, &facts);
+}
+
+static uint8_t held_check(void) {
+    return latsefur_held_check(&held, text, text_len, verdicts);
+}
+
+static uint8_t held_plane(void) {
+    return latsefur_held_plane_of_page(&held, text, text_len, 0, 0, 1, picture, sizeof picture);
+}
+
+static uint8_t held_colours(void) {
+    return latsefur_held_colours_of_page(&held, text, text_len, 0, 0, picture, sizeof picture);
+}
+
 /* Writes the time of a call, shared out over so many texts. */
 static void measure(const char *name, uint8_t (*call)(void), int rounds, int shared) {
     double least = 0, spent;
@@ -95,7 +132,7 @@ static void measure(const char *name, uint8_t (*call)(void), int rounds, int sha
         if (run == 0 || spent < least)
             least = spent;
     }
-    printf("%-28s %9.2f\n", name, least);
+    printf("%-30s %9.2f\n", name, least);
 }
 
 int main(int count, char **words) {
@@ -125,6 +162,14 @@ int main(int count, char **words) {
     measure("latsefur_set_multi", set_multi, rounds, 1);
     measure("latsefur_report", report, rounds, 1);
     measure("latsefur_frame", frame, rounds, 1);
+    measure("latsefur_colours", frame_colours, rounds, 1);
+    measure("latsefur_next_change", next_change, rounds, 1);
+    measure("latsefur_held_sign", held_sign, rounds, 1);
+    measure("latsefur_held_table", held_table, rounds, 1);
+    measure("latsefur_held_font", held_font, rounds, 1);
+    measure("latsefur_held_check", held_check, rounds, 1);
+    measure("latsefur_held_plane_of_page", held_plane, rounds, 1);
+    measure("latsefur_held_colours_of_page", held_colours, rounds, 1);
     latsefur_controller_free(&held);
     return 0;
 }

@@ -5,7 +5,9 @@
 //! ```
 //!
 //! A script is lines on standard input, as docs/formats.md describes them, and each has the reply that `signctl run` writes. The status is 1
-//! after a line that is none of a script, and 2 if there is no controller.
+//! after a line that is none of a script, 2 if there is no controller, and 3 if two answers of the library don't agree.
+//!
+//! Time passes as for a display driver that sleeps until what is shown may change.
 
 use latsefur::{Controller, Reply};
 use std::io::{self, BufRead, BufWriter, Write};
@@ -63,6 +65,16 @@ mod latsefur {
 
     #[repr(C)]
     #[derive(Clone, Copy, Debug, Default)]
+    pub struct Verdict {
+        pub at: usize,
+        pub cycle: u32,
+        pub outcome: u8,
+        pub code: u8,
+        pub pages: u8,
+    }
+
+    #[repr(C)]
+    #[derive(Clone, Copy, Debug, Default, PartialEq)]
     pub struct Shown {
         pub phase: u64,
         pub page: u8,
@@ -88,7 +100,6 @@ mod latsefur {
 
     #[link(name = "latsefur", kind = "static")]
     extern "C" {
-        fn latsefur_sign(sign_file: Octets, len: usize, facts: *mut Facts) -> u8;
         fn latsefur_controller_new(sign_file: Octets, len: usize, handle: *mut Handle) -> u8;
         fn latsefur_controller_free(handle: *mut Handle);
         fn latsefur_request(handle: *mut Handle, memory: u8, number: u16, status: u8, reply: *mut Reply) -> u8;
@@ -106,6 +117,30 @@ mod latsefur {
         fn latsefur_report(handle: *mut Handle, report: *mut Report) -> u8;
         fn latsefur_defaults(handle: *mut Handle, defaults: *mut [u8; 9]) -> u8;
         fn latsefur_frame(handle: *mut Handle, colour: u8, shown: *mut Shown, plane: *mut u8, len: usize) -> u8;
+        fn latsefur_colours(handle: *mut Handle, shown: *mut Shown, colours: *mut u8, len: usize) -> u8;
+        fn latsefur_next_change(handle: *mut Handle, most: u32, tenths: *mut u32) -> u8;
+        fn latsefur_held_sign(handle: *mut Handle, facts: *mut Facts) -> u8;
+        fn latsefur_held_check(handle: *mut Handle, text: Octets, len: usize, verdict: *mut Verdict) -> u8;
+        #[allow(clippy::too_many_arguments)]
+        fn latsefur_held_plane_of_page(
+            handle: *mut Handle,
+            text: Octets,
+            text_len: usize,
+            page: u8,
+            phase: u64,
+            colour: u8,
+            plane: *mut u8,
+            len: usize,
+        ) -> u8;
+        fn latsefur_held_colours_of_page(
+            handle: *mut Handle,
+            text: Octets,
+            text_len: usize,
+            page: u8,
+            phase: u64,
+            colours: *mut u8,
+            len: usize,
+        ) -> u8;
         #[allow(clippy::too_many_arguments)]
         fn latsefur_row(
             handle: *mut Handle,
@@ -149,12 +184,11 @@ mod latsefur {
                 handle: Handle { held: null_mut(), full: 0 },
                 facts: Facts::default(),
             };
-            let outcome = unsafe { latsefur_sign(sign_file.as_ptr(), sign_file.len(), &mut made.facts) };
-            if outcome != 0 {
-                return Err(outcome);
-            }
             match unsafe { latsefur_controller_new(sign_file.as_ptr(), sign_file.len(), &mut made.handle) } {
-                0 => Ok(made),
+                0 => {
+                    unsafe { latsefur_held_sign(&mut made.handle, &mut made.facts) };
+                    Ok(made)
+                }
                 outcome => Err(outcome),
             }
         }
@@ -235,9 +269,53 @@ mod latsefur {
         /// What the display shows, and the plane of a colour of it.
         pub fn frame(&mut self, colour: u8) -> (Shown, Vec<u8>) {
             let mut shown = Shown::default();
-            let mut plane = vec![0; usize::from(self.facts.width).div_ceil(8) * usize::from(self.facts.height)];
+            let mut plane = self.plane();
             unsafe { latsefur_frame(&mut self.handle, colour, &mut shown, plane.as_mut_ptr(), plane.len()) };
             (shown, plane)
+        }
+
+        fn plane(&self) -> Vec<u8> {
+            vec![0; usize::from(self.facts.width).div_ceil(8) * usize::from(self.facts.height)]
+        }
+
+        /// What the display shows, and the colours of all its pixels.
+        pub fn colours(&mut self) -> (Shown, Vec<u8>) {
+            let mut shown = Shown::default();
+            let mut colours = vec![0; usize::from(self.facts.width) * usize::from(self.facts.height)];
+            unsafe { latsefur_colours(&mut self.handle, &mut shown, colours.as_mut_ptr(), colours.len()) };
+            (shown, colours)
+        }
+
+        /// For how many tenths, at most so many, the display shows what it shows.
+        pub fn next_change(&mut self, most: u32) -> u32 {
+            let mut tenths = 0;
+            unsafe { latsefur_next_change(&mut self.handle, most, &mut tenths) };
+            tenths
+        }
+
+        /// The verdict on a text by the defaults in force.
+        pub fn check(&mut self, text: &[u8]) -> Verdict {
+            let mut verdict = Verdict::default();
+            unsafe { latsefur_held_check(&mut self.handle, text.as_ptr(), text.len(), &mut verdict) };
+            verdict
+        }
+
+        /// The plane of a colour of the first page of a text, or the outcome that says why there is none.
+        pub fn first_plane(&mut self, text: &[u8], colour: u8) -> Result<Vec<u8>, u8> {
+            let mut plane = self.plane();
+            let outcome = unsafe {
+                latsefur_held_plane_of_page(&mut self.handle, text.as_ptr(), text.len(), 0, 0, colour, plane.as_mut_ptr(), plane.len())
+            };
+            if outcome == 0 { Ok(plane) } else { Err(outcome) }
+        }
+
+        /// The colours of the first page of a text, or the outcome that says why there are none.
+        pub fn first_colours(&mut self, text: &[u8]) -> Result<Vec<u8>, u8> {
+            let mut colours = vec![0; usize::from(self.facts.width) * usize::from(self.facts.height)];
+            let outcome = unsafe {
+                latsefur_held_colours_of_page(&mut self.handle, text.as_ptr(), text.len(), 0, 0, colours.as_mut_ptr(), colours.len())
+            };
+            if outcome == 0 { Ok(colours) } else { Err(outcome) }
         }
     }
 }
@@ -304,18 +382,71 @@ fn report(controller: &mut Controller) -> String {
     )
 }
 
+/// Ends the host if two answers don't agree.
+fn hold(agrees: bool, what: &str) {
+    if !agrees {
+        eprintln!("control: {what}");
+        exit(3);
+    }
+}
+
+/// The pixels of a plane, each row behind the other.
+fn pixels(plane: &[u8], width: usize) -> Vec<bool> {
+    plane
+        .chunks(width.div_ceil(8))
+        .flat_map(|row| (0..width).map(|column| row[column / 8] >> (7 - column % 8) & 1 == 1))
+        .collect()
+}
+
+/// The pixels that have a colour.
+fn coloured(colours: &[u8], colour: u8) -> Vec<bool> {
+    colours.iter().map(|&other| other == colour).collect()
+}
+
 fn frame(controller: &mut Controller, colour: u8) -> String {
     let (shown, plane) = controller.frame(colour);
+    let (same, colours) = controller.colours();
     let width = usize::from(controller.facts.width);
+    let lit = pixels(&plane, width);
+    hold(same == shown, "a frame shows another page than the colours");
+    hold(lit == coloured(&colours, colour), "a frame has other pixels than the colours");
     let mut lines = match shown.is_on {
         0 => "off".to_string(),
         _ => format!("page {} phase {}", shown.page, shown.phase),
     };
-    for octets in plane.chunks(width.div_ceil(8)) {
+    for row in lit.chunks(width) {
         lines.push('\n');
-        lines.extend((0..width).map(|column| if octets[column / 8] >> (7 - column % 8) & 1 == 1 { '#' } else { '.' }));
+        lines.extend(row.iter().map(|&is_lit| if is_lit { '#' } else { '.' }));
     }
     lines
+}
+
+/// Judges a text by the defaults in force, and draws its first page in all colours and in one.
+fn judge(controller: &mut Controller, text: &[u8]) {
+    let verdict = controller.check(text);
+    match (controller.first_colours(text), controller.first_plane(text, 1)) {
+        (Ok(colours), Ok(plane)) => {
+            let lit = pixels(&plane, usize::from(controller.facts.width));
+            hold(verdict.outcome == 0 && verdict.pages > 0, "a text is drawn otherwise than judged");
+            hold(lit == coloured(&colours, 1), "the plane of a page has other pixels than its colours");
+        }
+        (told, drawn) => hold(told == Err(verdict.outcome) && drawn == Err(verdict.outcome), "a text is drawn otherwise than judged"),
+    }
+}
+
+/// Lets time pass, and sleeps up to a tenth before what is shown may change: until then it must stay.
+fn pass(controller: &mut Controller, tenths: u32) -> Option<Reply> {
+    let left = controller.next_change(tenths);
+    hold(left <= tenths, "the next change is later than was asked for");
+    let asleep = left.saturating_sub(1);
+    if asleep > 0 {
+        let (shown, colours) = controller.colours();
+        let told = controller.tick(asleep)?;
+        let (later, then) = controller.colours();
+        hold(told.kind == 7, "a duration ended before the next change");
+        hold((later.page, later.is_on) == (shown.page, shown.is_on) && then == colours, "what is shown changed before the next change");
+    }
+    controller.tick(tenths - asleep)
 }
 
 /// The reply to a line of a script, if it is one.
@@ -338,17 +469,19 @@ fn answer(controller: &mut Controller, line: &[u8]) -> Option<String> {
         (b"multi" | b"multix" | b"owner", 3.., _) => {
             let (memory, of) = message(&words)?;
             let text = words[3..].join(&b' ');
-            match words[0] {
-                b"multi" => controller.set_multi(memory, of, &text),
-                b"multix" => controller.set_multi(memory, of, &octets(&text)?),
-                _ => controller.set_owner(memory, of, &octets(&text)?),
+            let text = if words[0] == b"multi" { text } else { octets(&text)? };
+            if words[0] == b"owner" {
+                controller.set_owner(memory, of, &text)
+            } else {
+                judge(controller, &text);
+                controller.set_multi(memory, of, &text)
             }
         }
         (b"clear", 1, _) => controller.clear(),
         (b"work", 1, _) => controller.work(),
         (b"activate", 2, _) => controller.activate(&octets(words[1])?),
         (b"end", 2, _) => controller.set_end(&octets(words[1])?),
-        (b"tick", 2, _) => controller.tick(number(words[1], u64::from(u32::MAX))? as u32),
+        (b"tick", 2, _) => pass(controller, number(words[1], u64::from(u32::MAX))? as u32),
         (b"default", 3, _) => {
             let field = FIELDS.iter().position(|&name| name == words[1])? as u8 + 1;
             controller.set_default(field, number(words[2], 255)? as u8)

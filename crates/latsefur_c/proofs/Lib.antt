@@ -4,3 +4,4 @@ pub mod SeenLemmas
 pub mod JudgedLemmas
 pub mod BufferLemmas
 pub mod FrameLemmas
+pub mod HeldLemmas

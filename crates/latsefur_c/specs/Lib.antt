@@ -8,3 +8,5 @@ pub mod Framed
 pub mod Told
 pub mod Field
 pub mod Version
+pub mod HeldSign
+pub mod HeldPage

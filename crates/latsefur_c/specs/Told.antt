@@ -1,9 +1,10 @@
 -- What a controller tells of itself, in numbers.
-use Rattle.std.specs.Prelude.{◌≡◌, ◌⊎◌, ◌<◌, ℕ, List, Option, Some, None, Result, Ok, Err, ◌++◌, drop, length}
+use Rattle.std.specs.Prelude.{◌≡◌, ◌⊎◌, ◌<◌, ℕ, List, Option, Some, None, IsSomeAnd, Result, Ok, Err, ◌++◌, drop, length}
 use Rattle.message_store.specs.Codes.{fault_code}
 use Rattle.message_store.specs.declared.fault.StoreFault.{StoreFault}
 use Rattle.message_store.specs.declared.message.MsgRef.{MsgRef}
 use Rattle.message_store.specs.Row.{RowData}
+use Rattle.sign_control.specs.Change.{next_change}
 use Rattle.sign_control.specs.Report.{report_of, row_shown}
 use Rattle.sign_control.specs.declared.report.Report.{Report}
 use Rattle.sign_control.specs.State.{ControllerData}
@@ -11,6 +12,7 @@ use Rattle.sign_font.specs.declared.parts.Defaults.{Defaults}
 use Rattle.latsefur_c.specs.declared.defaults.LatsefurDefaults.{LatsefurDefaults}
 use Rattle.latsefur_c.specs.declared.report.LatsefurReport.{LatsefurReport}
 use Rattle.latsefur_c.specs.declared.row.LatsefurRow.{LatsefurRow}
+use Rattle.latsefur_c.specs.Held.{IsIn}
 
 -- the numbers of a report (own)
 abbrev pub report_numbers : Report → LatsefurReport
@@ -50,3 +52,9 @@ abbrev pub Rows : Option ControllerData → MsgRef → Option ControllerData →
 Rows None message new was told old_text new_text old_owner new_owner outcome = (outcome ≡ 9) × (new ≡ None) × (told ≡ was) × (new_text ≡ old_text) × (new_owner ≡ old_owner)
 Rows (Some held) message new was told old_text new_text old_owner new_owner outcome =
     (new ≡ Some held) × TellsRow (row_shown held.state message) was told old_text new_text old_owner new_owner outcome
+
+-- it is told for how many tenths, at most this many, what the display shows stays, and so do state and sign; or there is no controller (9), and nothing
+-- is told (own)
+abbrev pub TellsChange : Option ControllerData → ℕ → Option ControllerData → ℕ → ℕ → ℕ → Type 0
+TellsChange None most new was told outcome = (outcome ≡ 9) × (new ≡ None) × (told ≡ was)
+TellsChange (Some held) most new was told outcome = (outcome ≡ 0) × IsSomeAnd new (IsIn held) × (told ≡ next_change held.sign held.state most)

@@ -1,11 +1,12 @@
 //! The verdict on a text.
-ghost use Rattle.std.specs.Prelude.{◌≡◌};
+ghost use Rattle.std.specs.Prelude.{◌≡◌, None};
+ghost use Rattle.sign_font.specs.Defaults.{default_fault, under};
 ghost use Rattle.latsefur_c.specs.Judged.{IsJudged};
 
 use crate::outcome::{DONE, REFUSED, TOO_LONG};
-use multi_layout::check;
+use multi_layout::check_with;
 use multi_token::Source;
-use sign_font::Sign;
+use sign_font::{Defaults, Sign};
 
 /// What a sign says of a text. What isn't named for an outcome is 0.
 #[repr(C)]
@@ -35,9 +36,17 @@ const NOTHING: LatsefurVerdict = LatsefurVerdict {
     pages: 0,
 };
 
-/// What a sign says of a text.
+/// What a sign says of a text by its own defaults.
 pub(crate) fn judged(sign: &Sign, text: &[u8]) -> LatsefurVerdict
     ensures { IsJudged sign.now text.now result }
+{
+    judged_by(sign, sign.defaults(), text)
+}
+
+/// What a sign says of a text by these defaults.
+pub(crate) fn judged_by(sign: &Sign, defaults: Defaults, text: &[u8]) -> LatsefurVerdict
+    requires taken { default_fault sign.now defaults ≡ None }
+    ensures { IsJudged (under sign.now defaults) text.now result }
 {
     if text.len() > MAX_TEXT {
         return LatsefurVerdict {
@@ -45,7 +54,7 @@ pub(crate) fn judged(sign: &Sign, text: &[u8]) -> LatsefurVerdict
             ..NOTHING
         };
     }
-    match check(sign, Source::new(text)) {
+    match check_with(sign, defaults, Source::new(text)) {
         Ok(checked) => LatsefurVerdict {
             outcome: DONE,
             cycle: checked.cycle(),

@@ -1,9 +1,9 @@
 //! The verdict and the pages of messages, and a controller that a host holds, for programs in C, and in what can call C.
 //!
 //! `export` has the calls that take the octets of a sign file and of a text. The sign file is read anew by each, and all memory is given back
-//! before it returns. `hold`, `commands` and `questions` have the calls with a handle in the host's memory: the controller behind it is made
-//! of a sign file once, and lives until it is freed. What comes back is a number, one of those of `outcome`; a picture goes into a buffer of the
-//! caller. The header `hosts/latsefur.h` says the same to an engineer who writes in C.
+//! before it returns. `hold`, `commands`, `questions` and `held` have the calls with a handle in the host's memory: the controller behind it
+//! is made of a sign file once, and lives until it is freed. What comes back is a number, one of those of `outcome`; a picture goes into a
+//! buffer of the caller. The header `hosts/latsefur.h` says the same to an engineer who writes in C.
 #![tactic(auto)]
 
 mod buffer;
@@ -14,9 +14,13 @@ mod defaults;
 mod draw;
 mod export;
 mod facts;
+mod font;
 mod handle;
+mod held;
 mod hold;
 mod outcome;
+mod page;
+mod paint;
 mod plane;
 mod questions;
 mod reply;
@@ -26,4 +30,5 @@ mod seen;
 mod setup;
 mod shown;
 mod sign;
+mod table;
 mod version;

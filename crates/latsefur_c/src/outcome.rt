@@ -35,3 +35,6 @@ pub(crate) const BAD_LENGTH: u8 = 10;
 
 /// The number names no default.
 pub(crate) const NO_DEFAULT: u8 = 11;
+
+/// The sign has no font of this number.
+pub(crate) const NO_FONT: u8 = 12;

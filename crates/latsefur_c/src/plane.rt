@@ -9,7 +9,7 @@ use page_plane::Plane;
 use sign_control::Controller;
 
 /// Writes the octets of a plane at the front of a buffer, if it has room for them. The number says whether it had.
-fn write_plane(plane: &Plane, buffer: &mut [u8]) -> u8
+pub(crate) fn write_plane(plane: &Plane, buffer: &mut [u8]) -> u8
     ensures { WritesPlane plane.now buffer.old buffer.new result }
 {
     let len = (usize::from(plane.width()) + 7) / 8;

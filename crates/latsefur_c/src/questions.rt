@@ -2,12 +2,13 @@
 ghost use Rattle.std.specs.Prelude.{◌≡◌};
 ghost use Rattle.message_store.specs.Crc.{message_crc};
 ghost use Rattle.sign_control.specs.Report.{report_of};
-ghost use Rattle.latsefur_c.specs.Framed.{Frames};
-ghost use Rattle.latsefur_c.specs.Told.{Rows, Tells, default_numbers, report_numbers};
+ghost use Rattle.latsefur_c.specs.Framed.{Frames, Paints};
+ghost use Rattle.latsefur_c.specs.Told.{Rows, Tells, TellsChange, default_numbers, report_numbers};
 
 use crate::defaults::{LatsefurDefaults, default_numbers};
 use crate::handle::LatsefurController;
 use crate::outcome::{DONE, NO_CONTROLLER};
+use crate::paint::paint_frame;
 use crate::plane::draw_frame;
 use crate::report::{LatsefurReport, reported};
 use crate::row::{LatsefurRow, tell_row};
@@ -105,6 +106,42 @@ pub extern "C" fn latsefur_frame(
     let outcome = draw_frame(&mut held, colour, shown, plane);
     *handle = LatsefurController::of(held);
     outcome
+}
+
+/// Draws what the display shows in all its colours, straight into a buffer, and tells which page that is.
+#[unsafe(no_mangle)]
+pub extern "C" fn latsefur_colours(
+    alloc: Global,
+    handle: &mut LatsefurController,
+    shown: &mut LatsefurShown,
+    colours: &mut [u8],
+) -> u8
+    ensures drawn { Paints handle.old.slot.held handle.new.slot.held shown.old shown.new colours.old colours.new result }
+{
+    let Some(mut held) = handle.take(alloc) else {
+        return NO_CONTROLLER;
+    };
+    let outcome = paint_frame(&mut held, shown, colours);
+    *handle = LatsefurController::of(held);
+    outcome
+}
+
+/// Tells for how many tenths of a second from now on, at most this many, what the display shows stays as it is.
+#[unsafe(no_mangle)]
+pub extern "C" fn latsefur_next_change(
+    alloc: Global,
+    handle: &mut LatsefurController,
+    most: u32,
+    tenths: &mut u32,
+) -> u8
+    ensures told { TellsChange handle.old.slot.held most handle.new.slot.held tenths.old tenths.new result }
+{
+    let Some(mut held) = handle.take(alloc) else {
+        return NO_CONTROLLER;
+    };
+    *tenths = held.next_change(most);
+    *handle = LatsefurController::of(held);
+    DONE
 }
 
 /// The CRC of a message (NTCIP 1203 v03, dmsMessageCRC): of its text, its beacon and its pixel service.

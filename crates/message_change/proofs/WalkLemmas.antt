@@ -1,171 +1,27 @@
--- On the way through a text: the next item, what is in force behind it, and the change that was found.
-use Rattle.std.proofs.Common.{◌≡◌, ℕ, ◌+◌, ◌-◌, ◌<◌, ◌≤◌, Bool, true, false, ◌==◌, ◌&&◌, ◌||◌, ◌%◌, ◌^◌, nat_lt, cond, List, [], ◌∷◌, ◌++◌, drop, length, map, Option, Some, None, Err, refl, sym, ap, ◌∙◌, subst, inl, inr, arith, append-nil, append_assoc}
+-- On the way through a text: what is in force behind an item, and the change that was found.
+use Rattle.std.proofs.Common.{◌≡◌, ℕ, ◌+◌, ◌-◌, ◌<◌, ◌≤◌, true, false, ◌==◌, ◌||◌, ◌%◌, ◌^◌, nat_lt, cond, List, [], ◌∷◌, ◌++◌, drop, length, Option, Some, None, refl, sym, ap, ◌∙◌, subst, inl, inr, arith, append-nil, append_assoc}
 use Rattle.std.proofs.Math.Nat.{mod-lt}
-use Rattle.std.proofs.Math.Seq.{drop-length}
-use Rattle.std.proofs.lemmas.Bool.{and_right, cases_Bool, cases_lt, eq-eqb, le-ltb, lt-ltb, ne_eqb, or_left, or_right}
-use Rattle.std.proofs.lemmas.List.{length-append}
-use Rattle.std.proofs.lemmas.List.Elements.{All-cons, All-nil}
-use Rattle.std.proofs.lemmas.List.Sums.{fold-append, sum_by-append, sum_by-cons}
-use Rattle.std.specs.List.{cons_option, count_by}
+use Rattle.std.proofs.lemmas.Bool.{cases_lt, eq-eqb, le-ltb, lt-ltb, ne_eqb, or_left, or_right}
+use Rattle.std.specs.List.{cons_option}
 use Rattle.std.specs.Option.{option_map}
-use Rattle.multi_token.specs.declared.token.Token.{Token}
-use Rattle.multi_token.specs.Reading.{reading}
-use Rattle.multi_token.specs.Spelling.{BeginsWith, HasNoItem, IsItem, IsReading, Item, spell, spelling}
-use Rattle.multi_token.specs.Tokens.{IsTokenOf, item_of}
-use Rattle.multi_token.proofs.ReadingLemmas.{each_string_has_a_reading, spelling_some}
-use Rattle.multi_token.proofs.SpellingLemmas.{one_reading}
-use Rattle.multi_tag.specs.declared.tag.Tag.{Tag}
-use Rattle.multi_tag.specs.declared.tag.TagFault.{TagFault}
-use Rattle.multi_tag.specs.declared.tag.TagFault.TheVariants.{Unsupported, Value}
-use Rattle.multi_tag.specs.declared.tag.Tag.TheVariants.{NewPage, NewLine, LineJust, PageJust, Font, CharSpacing, CharSpacingEnd, PageTime, Flash, FlashEnd, Fore, Back, Rect, HexChar}
+use Rattle.multi_tag.specs.declared.tag.Tag.TheVariants.{NewPage}
 use Rattle.sign_font.specs.declared.parts.Defaults.{Defaults}
 use Rattle.sign_font.specs.Sign.{SignData}
 use Rattle.multi_layout.specs.Address.{Standing, standing}
-use Rattle.multi_layout.specs.declared.attributes.FlashTimes.{FlashTimes}
-use Rattle.multi_layout.specs.Meaning.{Does, Faulty, Meaning, is_new_page, meaning, meaning_of_tag, meanings}
+use Rattle.multi_layout.specs.Meaning.{Does, Meaning, is_new_page, meanings}
 use Rattle.multi_layout.specs.State.{standing_behind}
-use Rattle.multi_layout.specs.Times.{Times, cycle, ended_times, page_times, shown_within, times_at}
+use Rattle.multi_layout.specs.Times.{Times, cycle, ended_times, page_times, times_at}
 use Rattle.multi_layout.specs.Verdict.{Accepted, IsCycle, IsVerdict}
-use Rattle.multi_layout.specs.Words.{some_after}
 use Rattle.multi_layout.proofs.StandingLemmas.{standing_push}
 use Rattle.multi_layout.proofs.TimesLemmas.{cycle_push, ended_count, times_are, times_are_all, times_count}
 use Rattle.multi_layout.proofs.AcceptedLemmas.{accepted_is, cycle_is}
-use Rattle.multi_layout.proofs.WordLemmas.{push_ind, some_after-append, some_after_push}
+use Rattle.multi_layout.proofs.WordLemmas.{some_after_push}
 use Rattle.message_change.specs.Change.{change_at, change_of, change_within, flash_left, flash_on, flashes_left, is_shown, page_flashes, part_left, sooner, times_left}
 use Rattle.message_change.specs.declared.walk.Walk.{Walk}
-use Rattle.message_change.specs.Walk.{IsIn, IsSaid, is_page_said, page_left, times_of}
+use Rattle.message_change.specs.Walk.{IsIn, page_left, times_of}
 use Rattle.message_change.proofs.TurnLemmas.{IsTurnOf, left_of, off_left, off_shown, on_left, on_shown}
-
--- THE NEXT ITEM
-
--- what is left behind an item is read as if it stood alone
-reading_next : (octets rest : List ℕ) (item : Item) → BeginsWith octets item rest → (reading octets).items ≡ item ∷ (reading rest).items
-reading_next octets rest item begins =
-    let behind = each_string_has_a_reading rest in
-    let whole : IsReading octets (item ∷ (reading rest).items) (reading rest).rest = record {
-      each = All-cons IsItem item (reading rest).items begins.0 behind.each;
-      spelled = begins.1 ∙ ap (λ l. spelling item ++ l) behind.spelled ∙ sym (append_assoc (spelling item) (spell (reading rest).items) (reading rest).rest);
-      ends = behind.ends;
-    } in
-    (one_reading octets (reading octets).items (item ∷ (reading rest).items) (reading octets).rest (reading rest).rest (each_string_has_a_reading octets) whole).0
-
-pub meanings_next : (octets : List ℕ) (token : Token) → IsTokenOf octets token → meanings (drop token.at octets) ≡ meaning (item_of octets token) ∷ meanings (drop (token.at + token.len) octets)
-meanings_next octets token is = ap (map meaning) (reading_next (drop token.at octets) (drop (token.at + token.len) octets) (item_of octets token) is.begins)
-
-pub meanings_none : (octets : List ℕ) → HasNoItem octets → meanings octets ≡ []
-meanings_none octets none =
-    let empty : IsReading octets [] octets = record { each = All-nil IsItem; spelled = refl; ends = none } in
-    ap (map meaning) (one_reading octets (reading octets).items [] (reading octets).rest octets (each_string_has_a_reading octets) empty).0
-
-nothing_begins : HasNoItem []
-nothing_begins item rest begins =
-    let some = spelling_some item in
-    let long = ap length begins.1 ∙ length-append (spelling item) rest in
-    omega (arith, some, long)
-
-pub meanings_end : (octets : List ℕ) (at : ℕ) → at ≡ length octets → meanings (drop at octets) ≡ []
-meanings_end octets at end = ap meanings (ap (λ n. drop n octets) end ∙ drop-length octets) ∙ meanings_none [] nothing_begins
-
--- a tag at fault
-pub faulty : (item : Meaning) (fault : TagFault) → item ≡ meaning_of_tag (Err fault) → (code : ℕ) × (item ≡ Faulty code)
-faulty item Unsupported is = (3, is)
-faulty item Value is = (4, is)
-
--- a page begins behind what says so alone
-pub page_said : (item : Meaning) (said : Option Tag) → IsSaid item said → is_new_page item ≡ is_page_said said
-page_said item None (code, is) = ap is_new_page is
-page_said item (Some NewPage) is = ap is_new_page is
-page_said item (Some (NewLine gap)) is = ap is_new_page is
-page_said item (Some (LineJust just)) is = ap is_new_page is
-page_said item (Some (PageJust just)) is = ap is_new_page is
-page_said item (Some (Font pick)) is = ap is_new_page is
-page_said item (Some (CharSpacing pixels)) is = ap is_new_page is
-page_said item (Some CharSpacingEnd) is = ap is_new_page is
-page_said item (Some (PageTime on off)) is = ap is_new_page is
-page_said item (Some (Flash first on off)) is = ap is_new_page is
-page_said item (Some FlashEnd) is = ap is_new_page is
-page_said item (Some (Fore colour)) is = ap is_new_page is
-page_said item (Some (Back colour)) is = ap is_new_page is
-page_said item (Some (Rect x y w h)) is = ap is_new_page is
-page_said item (Some (HexChar number)) is = ap is_new_page is
-
-new_page_is : (item : Meaning) → is_new_page item ≡ true → item ≡ Does NewPage
-new_page_is (Does NewPage) is = refl
-new_page_is _ is = absurd cc
-
--- FLASHES OF A PAGE
-
-page_is : (sign : SignData) (before : List Meaning) → (standing sign before).page ≡ count_by is_new_page before
-unfolding standing
-page_is sign before = refl
-
-page_push : (sign : SignData) (before : List Meaning) (item : Meaning) → (standing sign (before ++ item ∷ [])).page ≡ (standing sign before).page + cond (is_new_page item) 1 0
-page_push sign before item = ap (λ (s : Standing). s.page) (standing_push sign before item)
-
-flashes_push : (sign : SignData) (before : List Meaning) (item : Meaning) (page : ℕ)
-    → page_flashes sign (before ++ item ∷ []) page ≡ page_flashes sign before page ++ cons_option (flash_on page (standing sign before) item) []
-unfolding page_flashes
-flashes_push sign before item page = some_after_push (λ b x. flash_on page (standing sign b) x) before item
-
-no_flashes : (sign : SignData) (page : ℕ) → page_flashes sign [] page ≡ []
-unfolding page_flashes
-no_flashes sign page = refl
-
-apart : (page : ℕ) (at : Standing) (item : Meaning) → (at.page ≡ page → ⊥) → flash_on page at item ≡ None
-apart page at item other = ap (λ b. cond b (Some at.flash) None) (and_right (is_shown item) (at.page == page) (ne_eqb at.page page other))
-
--- a page that hasn't begun has none
-none_later : (sign : SignData) (before : List Meaning) → (page : ℕ) → (standing sign before).page < page → page_flashes sign before page ≡ []
-none_later sign = push_ind (λ before. (page : ℕ) → (standing sign before).page < page → page_flashes sign before page ≡ []) (λ page later. no_flashes sign page) step
-  where
-    step : (before : List Meaning) (item : Meaning) → ((page : ℕ) → (standing sign before).page < page → page_flashes sign before page ≡ []) → (page : ℕ)
-        → (standing sign (before ++ item ∷ [])).page < page → page_flashes sign (before ++ item ∷ []) page ≡ []
-    step before item none page later =
-        let more = page_push sign before item in
-        let earlier : (standing sign before).page < page = omega (arith, more, later) in
-        flashes_push sign before item page
-        ∙ ap (λ l. l ++ cons_option (flash_on page (standing sign before) item) []) (none page earlier)
-        ∙ ap (λ o. cons_option o []) (apart page (standing sign before) item (λ same. omega (arith, same, earlier)))
-
-none_made : {X Y : Type 0} (f : List X → X → Option Y) (xs : List X) → ((before : List X) (x : X) → f before x ≡ None) → some_after f xs ≡ []
-none_made f [] none = refl
-none_made f (x ∷ xs) none = ap (λ o. cons_option o (some_after (λ before. f (x ∷ before)) xs)) (none [] x) ∙ none_made (λ before. f (x ∷ before)) xs (λ before. none (x ∷ before))
-
--- behind a new page there are no more of the page before
-flashes_ended : (sign : SignData) (before rest : List Meaning) → page_flashes sign (before ++ Does NewPage ∷ rest) (standing sign before).page ≡ page_flashes sign before (standing sign before).page
-unfolding page_flashes
-flashes_ended sign before rest =
-    let page = (standing sign before).page in
-    let on : List Meaning → Meaning → Option (Option FlashTimes) = λ b x. flash_on page (standing sign b) x in
-    some_after-append on before (Does NewPage ∷ rest)
-    ∙ ap (λ l. some_after on before ++ l) (none_made (λ b. on (before ++ Does NewPage ∷ b)) rest (λ b x.
-    apart page (standing sign (before ++ Does NewPage ∷ b)) x (λ same.
-    let here = page_is sign before in
-    let there = page_is sign (before ++ Does NewPage ∷ b) in
-    let all = sum_by-append (λ y. cond (is_new_page y) 1 0) before (Does NewPage ∷ b) in
-    let first = sum_by-cons (λ y. cond (is_new_page y) 1 0) (Does NewPage) b in
-    omega (arith, same, here, there, all, first))))
-    ∙ append-nil (some_after on before)
-
-left_push : (phase : ℕ) (flashes : List (Option FlashTimes)) (flash : Option FlashTimes) → flashes_left phase (flashes ++ flash ∷ []) ≡ sooner (flashes_left phase flashes) (flash_left phase flash)
-left_push phase flashes flash = fold-append (λ soonest f. sooner soonest (flash_left phase f)) None flashes (flash ∷ [])
-
--- the soonest change behind one more item of a page
-soonest_push : (sign : SignData) (before : List Meaning) (item : Meaning) (phase : ℕ) → let page = (standing sign before).page in
-    flashes_left phase (page_flashes sign (before ++ item ∷ []) page)
-    ≡ cond (is_shown item) (sooner (flashes_left phase (page_flashes sign before page)) (flash_left phase (standing sign before).flash)) (flashes_left phase (page_flashes sign before page))
-soonest_push sign before item phase =
-    let at = standing sign before in
-    let flashes = page_flashes sign before at.page in
-    let here : (at.page == at.page) ≡ true = eq-eqb at.page at.page refl in
-    ap (flashes_left phase) (flashes_push sign before item at.page) ∙ elim (cases_Bool (is_shown item)) [
-      | inl is ↦
-          let on : flash_on at.page at item ≡ Some at.flash = rw (is, here) refl in
-          ap (λ o. flashes_left phase (flashes ++ cons_option o [])) on ∙ left_push phase flashes at.flash ∙ ap (λ b. cond b (sooner (flashes_left phase flashes) (flash_left phase at.flash)) (flashes_left phase flashes)) (sym is)
-      | inr isn't ↦
-          let none : flash_on at.page at item ≡ None = ap (λ b. cond (b && (at.page == at.page)) (Some at.flash) None) isn't in
-          ap (λ o. flashes_left phase (flashes ++ cons_option o [])) none ∙ ap (flashes_left phase) (append-nil flashes) ∙ ap (λ b. cond b (sooner (flashes_left phase flashes) (flash_left phase at.flash)) (flashes_left phase flashes)) (sym isn't)
-    ]
+use Rattle.message_change.proofs.NextItemLemmas.{new_page_is}
+use Rattle.message_change.proofs.PageFlashLemmas.{apart, flashes_ended, flashes_push, no_flashes, none_later, page_is, page_push, soonest_push}
 
 -- THE WAY
 

@@ -53,8 +53,8 @@ times_left [] time = 0
 times_left (page ∷ pages) time =
     if nat_lt time (page.on + page.off) then part_left page.on (page.on + page.off) time else times_left pages (time - (page.on + page.off))
 
--- the next change of what is shown at a time of the cycle: of a page the end of its on time or a change of one of its flashes, and else the end of
--- the off time (own)
+-- the next change of what is shown at a time of the cycle: of a page the end of its on time or a change of one of its flashes, and else
+-- the end of the off time (own)
 abbrev pub change_of : SignData → List Meaning → ℕ → Shown → Option ℕ
 change_of sign items left (Page page phase) = sooner (flashes_left phase (page_flashes sign items page)) (Some left)
 change_of sign items left Off = Some left
@@ -63,11 +63,13 @@ change_of sign items left Off = Some left
 abbrev pub change_within : SignData → List Meaning → ℕ → Option ℕ
 change_within sign items time = let pages = page_times sign items in change_of sign items (times_left pages time) (shown_within pages time)
 
--- the tenths from a clock to the next change of what the items show: of one page, or of a cycle of 0, the next change of a flash of page 0 (own)
+-- the tenths from a clock to the next change of what the items show: of one page, or of a cycle of 0, the next change of a flash of
+-- page 0 (own)
 unfoldable pub change_at : SignData → List Meaning → ℕ → Option ℕ
 change_at sign items clock =
     let pages = page_times sign items in
-    if (length pages == 1) || (cycle pages == 0) then flashes_left clock (page_flashes sign items 0) else change_within sign items (clock % cycle pages)
+    if (length pages == 1) || (cycle pages == 0) then flashes_left clock (page_flashes sign items 0)
+    else change_within sign items (clock % cycle pages)
 
 -- some tenths pass before a change, if there is one (own)
 abbrev pub IsBefore : ℕ → Option ℕ → Type 0
@@ -80,8 +82,10 @@ IsSamePage (Page page phase) (Page other later) = other ≡ page
 IsSamePage Off Off = Unit {0}
 IsSamePage _ _ = ⊥
 
--- a law: until the next change a text shows the same page, or nothing, and every pixel keeps its colour (NTCIP 1203 v03, MULTI tags 'pt' and 'fl')
+-- a law: until the next change a text shows the same page, or nothing, and every pixel keeps its colour (NTCIP 1203 v03, MULTI tags
+-- 'pt' and 'fl')
 abbrev pub Stays : Type 0
 Stays = (sign : SignData) (text : List ℕ) (clock tenths : ℕ) → IsBefore tenths (change_at sign (meanings text) clock)
     → IsSamePage (shown sign text clock) (shown sign text (clock + tenths))
-    × ((colour column row : ℕ) → pixel_at sign (meanings text) (shown sign text (clock + tenths)) colour column row ≡ pixel_at sign (meanings text) (shown sign text clock) colour column row)
+    × ((colour column row : ℕ) → pixel_at sign (meanings text) (shown sign text (clock + tenths)) colour column row
+    ≡ pixel_at sign (meanings text) (shown sign text clock) colour column row)

@@ -12,9 +12,9 @@ use multi_layout::Checked;
 use multi_token::Source;
 use sign_font::Defaults;
 
-/// For how many tenths of a second from a clock on what a sign shows of an accepted string stays as it is: up to the end of the page's on time
-/// or of its off time, or to the next change of a flash of the page, whichever comes first. `None` if it never changes. The second number is that of the
-/// steps over the string: at most 2n + 1 for n octets.
+/// For how many tenths of a second from a clock on what a sign shows of an accepted string stays as it is: up to the end of the page's on
+/// time or of its off time, or to the next change of a flash of the page, whichever comes first. `None` if it never changes. The second
+/// number is that of the steps over the string: at most 2n + 1 for n octets.
 ///
 /// The text is that of the string, with at most 4,294,967,295 octets, and the defaults are those by which it was accepted.
 pub fn next_change(
@@ -59,7 +59,8 @@ fn change_in(
 
 /// The next change of the first page, which is always shown.
 fn first_page(source: &mut Source<'_>, defaults: Defaults, clock: u64) -> Option<u64>
-    ensures change { (sign : SignData) → sign.defaults ≡ defaults → result ≡ flashes_left clock (page_flashes sign (meanings source.old.octets) 0) }
+    ensures change { (sign : SignData) → sign.defaults ≡ defaults
+        → result ≡ flashes_left clock (page_flashes sign (meanings source.old.octets) 0) }
     ensures steps { RisesBetween source.old source.new 0 (2 * length source.old.octets + 1) }
 {
     let mut walk = Walk::new(defaults);

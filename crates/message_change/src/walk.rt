@@ -38,10 +38,11 @@ impl Walk {
 
     /// Goes behind an item that begins no page, at a phase of the page.
     pub(crate) fn pass(&mut self, defaults: Defaults, said: Option<Tag>, phase: u64)
-        ensures in_force { (sign : SignData) (at : Standing) (item : Meaning) → sign.defaults ≡ defaults → IsSaid item said → IsIn at self.old
-            → IsIn (standing_behind sign at item) self.new }
+        ensures in_force { (sign : SignData) (at : Standing) (item : Meaning) → sign.defaults ≡ defaults → IsSaid item said
+            → IsIn at self.old → IsIn (standing_behind sign at item) self.new }
         ensures soonest { (item : Meaning) → IsSaid item said
-            → self.new.soonest ≡ (if is_shown item then sooner self.old.soonest (flash_left phase (option_map times_of self.old.flash)) else self.old.soonest) }
+            → self.new.soonest ≡ (if is_shown item
+            then sooner self.old.soonest (flash_left phase (option_map times_of self.old.flash)) else self.old.soonest) }
         ensures begin { self.new.begin ≡ self.old.begin }
     {
         match said {
@@ -52,8 +53,10 @@ impl Walk {
 
     /// Goes behind what a tag says.
     fn put(&mut self, defaults: Defaults, tag: Tag, phase: u64)
-        ensures in_force { (sign : SignData) (at : Standing) → sign.defaults ≡ defaults → IsIn at self.old → IsIn (standing_behind sign at (said_by tag)) self.new }
-        ensures soonest { self.new.soonest ≡ (if is_shown (said_by tag) then sooner self.old.soonest (flash_left phase (option_map times_of self.old.flash)) else self.old.soonest) }
+        ensures in_force { (sign : SignData) (at : Standing) → sign.defaults ≡ defaults → IsIn at self.old
+            → IsIn (standing_behind sign at (said_by tag)) self.new }
+        ensures soonest { self.new.soonest ≡ (if is_shown (said_by tag)
+            then sooner self.old.soonest (flash_left phase (option_map times_of self.old.flash)) else self.old.soonest) }
         ensures begin { self.new.begin ≡ self.old.begin }
     {
         match tag {
@@ -74,8 +77,8 @@ impl Walk {
         }
     }
 
-    /// The tenths of a second from a time of the cycle, which the page began at or before, to the next change, or `None` if the page is over
-    /// by then.
+    /// The tenths of a second from a time of the cycle, which the page began at or before, to the next change, or `None` if the page is
+    /// over by then.
     pub(crate) fn left(&self, time: u64) -> Option<u64>
         requires { self.now.begin ≤ time }
         ensures { result ≡ page_left self.now.soonest self.now.on self.now.off (time - self.now.begin) }
@@ -95,7 +98,8 @@ impl Walk {
     /// Begins the next page, where the present one is over at a time.
     pub(crate) fn turn(&mut self)
         requires { self.old.begin + self.old.on + self.old.off < 2 ^ 64 }
-        ensures { self.new ≡ record { begin = self.old.begin + (self.old.on + self.old.off); on = self.old.on; off = self.old.off; flash = self.old.flash; soonest = None } }
+        ensures { self.new ≡ record { begin = self.old.begin + (self.old.on + self.old.off); on = self.old.on; off = self.old.off;
+            flash = self.old.flash; soonest = None } }
     {
         self.begin = self.begin + (u64::from(self.on) + u64::from(self.off));
         self.soonest = None;

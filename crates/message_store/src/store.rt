@@ -1,6 +1,6 @@
 //! The store: what it is made of, and what it tells of itself.
 
-ghost use Rattle.std.specs.Prelude.{◌≡◌, ◌+◌, ◌≤◌, length, map, true, false, not, IfOk, IfErr, OnOk, Err};
+ghost use Rattle.std.specs.Prelude.{◌≡◌, ◌≤◌, ◌+◌, length, map, true, false, not, IfOk, IfErr, OnOk, Err};
 ghost use Rattle.std.specs.List.{count_by};
 ghost use Rattle.message_store.specs.Limits.{IsKept, can_be_made, made};
 ghost use Rattle.message_store.specs.Slot.{is_not_used, used_bytes, used_slots};
@@ -87,6 +87,14 @@ impl Store {
         ensures kept { IsKept self.now }
     {
         self.limits
+    }
+
+    /// The permanent messages, as they were handed in, in the order of their numbers from 1 on; at most 255.
+    pub fn permanents(&self) -> &[Permanent]
+        ensures permanents { map permanent_of result.now ≡ self.now.permanent }
+        ensures few { length result.now ≤ 255 }
+    {
+        &self.permanent
     }
 
     /// The used bytes: the octets of all texts and owners.

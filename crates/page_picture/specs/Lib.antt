@@ -3,4 +3,5 @@ pub mod Planes
 pub mod Dots
 pub mod Palette
 pub mod Ppm
+pub mod Painted
 pub mod Shown

@@ -2,8 +2,9 @@
 //! a file in PPM.
 //!
 //! [`PageColours`] is a page at a phase. It tells the colour of a pixel, gives all colours in one list, and draws the page as it looks on
-//! a sign: a round dot for each pixel, lit in its colour or dark. [`draw_colours`] gives all colours of what a message shows at a clock,
-//! [`dot_points`] the dots of such colours as numbers of a palette, and [`palette_of`] the palette.
+//! a sign: a round dot for each pixel, lit in its colour or dark. [`write_colours`] writes all colours of what a message shows at a clock into
+//! lent octets, and [`draw_colours`] into octets of its own. [`dot_points`] gives the dots of such colours as numbers of a palette, and
+//! [`palette_of`] the palette.
 #![tactic(auto)]
 
 mod colours;
@@ -12,8 +13,10 @@ mod palette;
 mod points;
 mod ppm;
 mod shown;
+mod write;
 
 pub use colours::PageColours;
 pub use palette::palette_of;
 pub use points::dot_points;
 pub use shown::draw_colours;
+pub use write::write_colours;

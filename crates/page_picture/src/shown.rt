@@ -3,8 +3,9 @@ ghost use Rattle.std.specs.Prelude.{◌≡◌, ◌*◌, ◌≤◌, IfOk, length}
 ghost use Rattle.std.specs.List.{All};
 ghost use Rattle.page_picture.specs.Shown.{IsThere, colours};
 
-use crate::colours::PageColours;
+use crate::write::write_colours;
 use multi_layout::{Checked, Shown};
+use page_plane::Plane;
 use sign_font::Sign;
 use std::alloc::{AllocError, Global};
 
@@ -23,16 +24,14 @@ pub fn draw_colours(
     ensures count { IfOk result (λ octets. length octets.items ≡ sign.now.width * sign.now.height) }
     ensures kept { (checked.new.sign ≡ checked.old.sign) × (checked.new.source.octets ≡ checked.old.source.octets) }
 {
-    match shown {
-        Shown::Page { page, phase } => {
-            let drawn = PageColours::new(alloc, sign, checked, page, phase)?;
-            let octets = drawn.octets(alloc)?;
-            Ok(octets)
-        }
-        Shown::Off => {
-            let count = usize::from(sign.width()) * usize::from(sign.height());
-            let octets = Vec::from_elem(alloc, 0u8, count)?;
-            Ok(octets)
-        }
+    let Ok(mut plane) = Plane::new(alloc, sign.width(), sign.height()) else {
+        return Err(AllocError);
+    };
+    let count = usize::from(sign.width()) * usize::from(sign.height());
+    let mut octets = Vec::from_elem(alloc, 0u8, count)?;
+    if !write_colours(checked, shown, &mut plane, &mut octets) {
+        // There is an octet for each pixel.
+        unreachable!();
     }
+    Ok(octets)
 }

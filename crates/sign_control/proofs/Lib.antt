@@ -1,4 +1,5 @@
 pub mod BudgetLemmas
+pub mod ChangeLemmas
 mod CodeExamples
 pub mod ColourLemmas
 mod CountExamples

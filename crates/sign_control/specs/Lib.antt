@@ -8,3 +8,6 @@ pub mod Run
 pub mod Headline
 pub mod Report
 pub mod Lending
+pub mod Change
+pub mod TextPage
+pub mod Colours

@@ -1,4 +1,4 @@
-//! The controller: its making, its commands, and what it shows.
+//! The controller: its making, and the frame of what it shows.
 
 ghost use Rattle.std.specs.Prelude.{◌≡◌, ◌+◌, ◌-◌, ◌≤◌, length, IfOk};
 ghost use Rattle.std.specs.Borrow.{sem};

@@ -2,7 +2,7 @@
 
 ghost use Rattle.std.specs.Prelude.{◌≡◌};
 ghost use Rattle.sign_control.specs.Activation.{blank_one, candidate_of, displayed};
-ghost use Rattle.sign_control.specs.State.{no_errors, start};
+ghost use Rattle.sign_control.specs.State.{start};
 
 use crate::activation::{Candidate, blank_one};
 use crate::code::{ActivateError, SourceMode};

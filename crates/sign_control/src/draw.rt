@@ -12,7 +12,7 @@ ghost use Rattle.sign_font.specs.Defaults.{default_fault, under};
 ghost use Rattle.sign_font.specs.Sound.{IsSound};
 ghost use Rattle.sign_control.specs.State.{IsAccepted, IsThere};
 
-use crate::check::check_text;
+use crate::check::accepted_text;
 use multi_layout::{Checked, Shown};
 use page_plane::Plane;
 use sign_font::{Defaults, Sign};
@@ -37,9 +37,7 @@ pub(crate) fn draw_shown(
     ensures least { length text.now + 1 + (plane.new.steps - plane.old.steps) ≤ result.1 }
     ensures most { result.1 ≤ frame_limit sign.now (length text.now) }
 {
-    let Ok(mut checked) = check_text(sign, defaults, text) else {
-        unreachable!();
-    };
+    let mut checked = accepted_text(sign, defaults, text);
     let before = plane.steps();
     let shown = checked.locate(clock);
     draw(&mut checked, shown, colour, plane);

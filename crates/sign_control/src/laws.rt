@@ -1,7 +1,10 @@
 //! Laws of the step of commands, which no call has to be trusted for.
 
+ghost use Rattle.sign_control.specs.Change.{StaysUntilNextChange};
 ghost use Rattle.sign_control.specs.Headline.{Headline};
 ghost use Rattle.sign_control.specs.Run.{EveryRunStaysWithin};
+
+use message_change::stays;
 
 /// After every command of every list of them the used bytes are at most the store's budget, the used slots at most its
 /// slots, and used and free bytes together are the budget.
@@ -16,3 +19,11 @@ pub fn every_run_stays_within()
 pub fn headline()
     ensures { Headline }
 {}
+
+/// At each time before [`crate::Controller::next_change`] the duration goes on, the display shows the same page or stays in its off time,
+/// and every pixel keeps its colour.
+pub fn stays_until_next_change()
+    ensures { StaysUntilNextChange }
+{
+    stays();
+}

@@ -1,7 +1,8 @@
 //! What a controller tells of itself.
 
-ghost use Rattle.std.specs.Prelude.{◌≡◌, ◌≤◌, ◌*◌, IfSome};
+ghost use Rattle.std.specs.Prelude.{◌≡◌, ◌≤◌, ◌*◌, IfSome, None};
 ghost use Rattle.message_store.specs.Row.{row_result};
+ghost use Rattle.sign_font.specs.Defaults.{default_fault};
 ghost use Rattle.sign_control.specs.Report.{minutes_left, report_of, row_shown};
 
 use crate::controller::Controller;
@@ -61,9 +62,10 @@ impl Controller {
         self.steps
     }
 
-    /// The defaults in force.
+    /// The defaults in force, which the sign doesn't refuse.
     pub fn defaults(&self) -> Defaults
         ensures defaults { result ≡ self.now.state.defaults }
+        ensures taken { default_fault self.now.sign result ≡ None }
     {
         self.defaults
     }

@@ -1,5 +1,6 @@
 //! The controller of the sample sign: one slot, 4 bytes, and the permanent message `AAAI`.
 
+mod change;
 mod frame;
 mod lists;
 mod memory;

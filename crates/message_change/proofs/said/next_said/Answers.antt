@@ -5,7 +5,7 @@ use Rattle.multi_token.proofs.StepLemmas.{rises_then}
 use Rattle.multi_token.specs.Tokens.{item_of}
 use Rattle.multi_layout.specs.Meaning.{meaning, meanings}
 use Rattle.message_change.specs.Walk.{IsSaid}
-use Rattle.message_change.proofs.WalkLemmas
+use Rattle.message_change.proofs.NextItemLemmas
 use Rattle.message_change.proofs.said.next_said.Goals as goal
 
 pub returns-in-Ok-Some-clause-next : goal.returns-in-Ok-Some-clause-next
@@ -19,7 +19,7 @@ returns-in-Ok-Some-clause-next c =
     let within = is.within in
     record {
       item = meaning (item_of octets token);
-      next = subst (λ n. meanings (drop n octets) ≡ meaning (item_of octets token) ∷ meanings (drop (n + token.len) octets)) here (WalkLemmas.meanings_next octets token is);
+      next = subst (λ n. meanings (drop n octets) ≡ meaning (item_of octets token) ∷ meanings (drop (n + token.len) octets)) here (NextItemLemmas.meanings_next octets token is);
       is = subst (λ l. IsSaid (meaning (item_of l token)) c.said_by.result) same c.said_by.ensures.said;
       some = omega (arith, some, len);
       within = omega (arith, within, here);
@@ -37,7 +37,7 @@ returns-in-Ok-Some-clause-steps c =
     (k.0, omega arith, omega (arith, k.2, some, len), k.3)
 
 pub returns-in-Ok-None-clause-end : goal.returns-in-Ok-None-clause-end
-returns-in-Ok-None-clause-end c = WalkLemmas.meanings_end c.args.source.now.octets c.args.at (rw c.in-Ok-None.field-0-is at c.in-Ok-None.ensures.end)
+returns-in-Ok-None-clause-end c = NextItemLemmas.meanings_end c.args.source.now.octets c.args.at (rw c.in-Ok-None.field-0-is at c.in-Ok-None.ensures.end)
 
 pub returns-in-Err-clause-end : goal.returns-in-Err-clause-end
-returns-in-Err-clause-end c = WalkLemmas.meanings_none (drop c.args.at c.args.source.now.octets) c.in-Err.ensures.none_stands
+returns-in-Err-clause-end c = NextItemLemmas.meanings_none (drop c.args.at c.args.source.now.octets) c.in-Err.ensures.none_stands

@@ -1,9 +1,11 @@
 use Rattle.std.proofs.Common.{◌≡◌, ◌+◌, ◌-◌, ◌*◌, drop, length, None, refl, sym, ap, ◌∙◌, arith}
 use Rattle.multi_token.specs.Counted.{Counted}
-use Rattle.multi_token.proofs.StepLemmas.{charged-zero, rises_then}
+use Rattle.multi_token.proofs.StepLemmas.{charged-zero}
 use Rattle.sign_font.specs.declared.parts.Defaults.{Defaults}
 use Rattle.multi_layout.specs.Meaning.{meanings}
 use Rattle.message_change.specs.declared.walk.Walk.{Walk}
+use Rattle.message_change.proofs.NextItemLemmas
+use Rattle.message_change.proofs.PassedLemmas
 use Rattle.message_change.proofs.WalkLemmas
 use Rattle.message_change.proofs.seek.first_page.Goals as goal
 
@@ -21,7 +23,7 @@ returns-then-begins_page-clause-change c = λ sign same.
     let l = c.loop-said in
     let i = l.invariant in
     let n = (rw i.octets at c.in-Some.ensures.next) in
-    let page = WalkLemmas.page_said n.item c.in-Some.said.tag n.is ∙ sym c.begins_page.ensures ∙ c.if-begins_page.true in
+    let page = NextItemLemmas.page_said n.item c.in-Some.said.tag n.is ∙ sym c.begins_page.ensures ∙ c.if-begins_page.true in
     WalkLemmas.first_found sign octets l.at c.args.clock n.item l.walk (meanings (drop (l.at + c.in-Some.said.len) octets)) (i.walk sign same) n.next page
 
 pub returns-then-begins_page-clause-steps : goal.returns-then-begins_page-clause-steps
@@ -30,10 +32,7 @@ returns-then-begins_page-clause-steps c =
     let i = l.invariant in
     let n = (rw i.octets at c.in-Some.ensures.next) in
     let within = n.within in
-    let some = n.some in
-    let len = c.in-Some.said.len in
-    let k = rises_then c.args.source.now l.source c.next_said.new.source 0 (2 * l.at) 0 (2 * len - 1) i.steps c.in-Some.ensures.steps in
-    (k.0, k.1, omega (arith, k.2, within, some), k.3)
+    PassedLemmas.one_more c.args.source.now l.source c.next_said.new.source l.at c.in-Some.said.len _ i.steps c.in-Some.ensures.steps n.some (omega (arith, within))
 
 pub overflow_add-at : goal.overflow_add-at
 overflow_add-at c =
@@ -49,16 +48,14 @@ loop-said-preserved c =
     let l = c.loop-said in
     let i = l.invariant in
     let n = (rw i.octets at c.in-Some.ensures.next) in
-    let some = n.some in
     let len = c.in-Some.said.len in
-    let page = WalkLemmas.page_said n.item c.in-Some.said.tag n.is ∙ sym c.begins_page.ensures ∙ c.if-begins_page.false in
-    let k = rises_then c.args.source.now l.source c.next_said.new.source 0 (2 * l.at) 0 (2 * len - 1) i.steps c.in-Some.ensures.steps in
+    let page = NextItemLemmas.page_said n.item c.in-Some.said.tag n.is ∙ sym c.begins_page.ensures ∙ c.if-begins_page.false in
     record {
       octets = ap (λ (s : Counted). s.octets) c.in-Some.ensures.steps.3 ∙ i.octets;
       within = n.within;
       walk = λ sign same. WalkLemmas.first_more sign octets l.at (l.at + len) c.args.clock n.item l.walk c.pass.new.self (i.walk sign same) n.next page
           (λ here is. c.pass.ensures.in_force sign here n.item same n.is is) (c.pass.ensures.soonest n.item n.is);
-      steps = (k.0, k.1, omega (arith, k.2, some), k.3);
+      steps = PassedLemmas.one_more c.args.source.now l.source c.next_said.new.source l.at len _ i.steps c.in-Some.ensures.steps n.some (omega arith);
     }
 
 pub returns-clause-change : goal.returns-clause-change
@@ -71,7 +68,5 @@ pub returns-clause-steps : goal.returns-clause-steps
 returns-clause-steps c =
     let l = c.loop-said in
     let i = l.invariant in
-    let within = i.within in
     let long = ap length i.octets in
-    let k = rises_then c.args.source.now l.source c.next_said.new.source 0 (2 * l.at) 0 (length l.source.octets - l.at + 1) i.steps c.in_default.ensures.end_steps in
-    (k.0, k.1, omega (arith, k.2, within, long), k.3)
+    PassedLemmas.no_more c.args.source.now l.source c.next_said.new.source l.at (length l.source.octets) _ i.steps c.in_default.ensures.end_steps i.within (omega (arith, long))

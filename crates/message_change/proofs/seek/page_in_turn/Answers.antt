@@ -1,8 +1,10 @@
 use Rattle.std.proofs.Common.{◌≡◌, ◌+◌, ◌-◌, ◌*◌, ◌≤◌, drop, length, None, refl, sym, ap, subst, ◌∙◌, arith}
 use Rattle.multi_token.specs.Counted.{Counted}
-use Rattle.multi_token.proofs.StepLemmas.{charged-zero, rises_then}
+use Rattle.multi_token.proofs.StepLemmas.{charged-zero}
 use Rattle.multi_layout.specs.Meaning.{meanings}
 use Rattle.message_change.specs.declared.walk.Walk.{Walk}
+use Rattle.message_change.proofs.NextItemLemmas
+use Rattle.message_change.proofs.PassedLemmas
 use Rattle.message_change.proofs.WalkLemmas
 use Rattle.message_change.proofs.seek.page_in_turn.Goals as goal
 use Rattle.message_change.proofs.seek.page_in_turn.Goals.{then-begins_page+in_default-left, else-begins_page}
@@ -25,7 +27,7 @@ returns-in-Some-left-clause-change c = λ sign same within.
     let i = l.invariant in
     let early = i.early in
     let n = (rw i.octets at c.in-Some.ensures.next) in
-    let page = WalkLemmas.page_said n.item c.in-Some.said.tag n.is ∙ sym c.begins_page.ensures ∙ c.if-begins_page.true in
+    let page = NextItemLemmas.page_said n.item c.in-Some.said.tag n.is ∙ sym c.begins_page.ensures ∙ c.if-begins_page.true in
     let until = WalkLemmas.some_left l.walk.soonest c.left.result l.walk.on l.walk.off (c.args.time - l.walk.begin) c.in-Some-left.left (sym c.left.ensures) c.in-Some-left.is in
     sym c.in-Some-left.is ∙ c.left.ensures
     ∙ WalkLemmas.turn_found sign octets l.at c.args.time n.item l.walk (meanings (drop (l.at + c.in-Some.said.len) octets)) (i.walk sign same) early n.next page (omega (arith, until, early))
@@ -36,10 +38,7 @@ returns-in-Some-left-clause-steps c =
     let i = l.invariant in
     let n = (rw i.octets at c.in-Some.ensures.next) in
     let within = n.within in
-    let some = n.some in
-    let len = c.in-Some.said.len in
-    let k = rises_then c.args.source.now l.source c.next_said.new.source 0 (2 * l.at) 0 (2 * len - 1) i.steps c.in-Some.ensures.steps in
-    (k.0, k.1, omega (arith, k.2, within, some), k.3)
+    PassedLemmas.one_more c.args.source.now l.source c.next_said.new.source l.at c.in-Some.said.len _ i.steps c.in-Some.ensures.steps n.some (omega (arith, within))
 
 pub overflow_add-at : goal.overflow_add-at
 overflow_add-at c =
@@ -57,10 +56,8 @@ loop-said-preserved c =
     let time = c.args.time in
     let early = i.early in
     let n = (rw i.octets at c.in-Some.ensures.next) in
-    let some = n.some in
     let len = c.in-Some.said.len in
-    let said = WalkLemmas.page_said n.item c.in-Some.said.tag n.is ∙ sym c.begins_page.ensures in
-    let k = rises_then c.args.source.now l.source c.next_said.new.source 0 (2 * l.at) 0 (2 * len - 1) i.steps c.in-Some.ensures.steps in
+    let said = NextItemLemmas.page_said n.item c.in-Some.said.tag n.is ∙ sym c.begins_page.ensures in
     record {
       octets = ap (λ (s : Counted). s.octets) c.in-Some.ensures.steps.3 ∙ i.octets;
       within = n.within;
@@ -81,7 +78,7 @@ loop-said-preserved c =
             (WalkLemmas.turn_more sign octets l.at (l.at + len) time n.item l.walk w.pass.new.self (i.walk sign same) n.next (said ∙ w.if-begins_page.false)
             (λ here is. w.pass.ensures.in_force sign here n.item same n.is is) (w.pass.ensures.soonest n.item n.is) w.pass.ensures.begin)
       ];
-      steps = (k.0, k.1, omega (arith, k.2, some), k.3);
+      steps = PassedLemmas.one_more c.args.source.now l.source c.next_said.new.source l.at len _ i.steps c.in-Some.ensures.steps n.some (omega arith);
     }
 
 pub returns-clause-change : goal.returns-clause-change
@@ -94,7 +91,5 @@ pub returns-clause-steps : goal.returns-clause-steps
 returns-clause-steps c =
     let l = c.loop-said in
     let i = l.invariant in
-    let within = i.within in
     let long = ap length i.octets in
-    let k = rises_then c.args.source.now l.source c.next_said.new.source 0 (2 * l.at) 0 (length l.source.octets - l.at + 1) i.steps c.in_default.ensures.end_steps in
-    (k.0, k.1, omega (arith, k.2, within, long), k.3)
+    PassedLemmas.no_more c.args.source.now l.source c.next_said.new.source l.at (length l.source.octets) _ i.steps c.in_default.ensures.end_steps i.within (omega (arith, long))

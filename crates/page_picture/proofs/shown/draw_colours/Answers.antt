@@ -1,26 +1,21 @@
-use Rattle.std.proofs.Common.{◌≡◌, ◌*◌, ◌≤◌, ap, ◌∙◌, length, replicate, subst, sym}
+use Rattle.std.proofs.Common.{◌≡◌, ℕ, ◌*◌, ◌≤◌, ap, ◌∙◌, ◌++◌, drop, length, replicate, subst, sym}
+use Rattle.std.proofs.lemmas.List.{length-replicate}
 use Rattle.std.specs.List.{All}
-use Rattle.multi_layout.specs.declared.times.Shown.TheVariants.{Page}
+use Rattle.sign_font.specs.Sign.{SignData}
 use Rattle.page_picture.specs.Shown.{colours}
 use Rattle.page_picture.proofs.ShownLemmas
+use Rattle.page_picture.proofs.WriteLemmas
 use Rattle.page_picture.proofs.shown.draw_colours.Goals as goal
 
-pub returns-in_ok-octets-in-Page : goal.returns-in_ok-octets-in-Page
-returns-in_ok-octets-in-Page c =
-    let sign = c.args.sign.now in
+pub returns-clause-range : goal.returns-clause-range
+returns-clause-range c =
+    let sign = c.args.checked.now.sign in
     let text = c.args.checked.now.source.octets in
-    let is = c.in_ok-octets-in-Page.ensures ∙ ShownLemmas.shown_page sign text c.in-Page.page c.in-Page.phase _ c.in_ok-drawn-in-Page.ensures.page in
-    let small = ShownLemmas.colours_small sign text (Page c.in-Page.page c.in-Page.phase) in
-    record {
-      colours = is ∙ ap (colours sign text) (sym c.in-Page.is);
-      range = subst (All (λ colour. colour ≤ 9)) (sym is) small.0;
-      count = ap length is ∙ small.1;
-      kept = c.in_ok-drawn-in-Page.ensures.kept;
-    }
-
-pub returns-in_ok-octets-in-Off-clause-colours : goal.returns-in_ok-octets-in-Off-clause-colours
-returns-in_ok-octets-in-Off-clause-colours c =
-    let sign = c.args.sign.now in
-    let zeros : c.in_ok-octets-in-Off.octets.items ≡ replicate (c.from.result * c.from-in-Off.result) 0 = c.in_ok-octets-in-Off.ensures.items_if_clones_equal (λ y e. e) in
-    let count = ap (λ n. replicate (n * c.from-in-Off.result) 0) (c.from.ensures ∙ c.width.ensures.width) ∙ ap (λ n. replicate (sign.width * n) 0) (c.from-in-Off.ensures ∙ c.height.ensures.height) in
-    rw c.in-Off.is (zeros ∙ count ∙ ShownLemmas.shown_off sign c.args.checked.now.source.octets)
+    let size = sign.width * sign.height in
+    let small = ShownLemmas.colours_small sign text c.args.shown in
+    let count = ap (λ w. w * c.from-2.result) (c.from.ensures ∙ c.width-2.ensures.width) ∙ ap (λ h. c.args.sign.now.width * h) (c.from-2.ensures ∙ c.height-2.ensures.height) ∙ ap (λ (s : SignData). s.width * s.height) (sym c.requires.sign) in
+    let octets = c.in_ok-octets.octets in
+    let zeros : octets.items ≡ replicate (c.from.result * c.from-2.result) 0 = c.in_ok-octets.ensures.items_if_clones_equal (λ y e. e) in
+    let whole : length octets.items ≡ size = ap length zeros ∙ length-replicate {A = ℕ} (c.from.result * c.from-2.result) 0 ∙ count in
+    let is = c.write_colours.ensures.colours c.if-not-write_colours.false ∙ ap (λ l. colours sign text c.args.shown ++ drop size l) c.deref_mut.ensures.value in
+    subst (All (λ colour. colour ≤ 9)) (sym (WriteLemmas.vec_written size octets.len octets.items c.write_colours.new.octets (colours sign text c.args.shown) (c.in_ok-octets.ensures.len ∙ count) whole small.1 is)) small.0

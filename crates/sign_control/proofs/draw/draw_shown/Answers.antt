@@ -1,4 +1,4 @@
-use Rattle.std.proofs.Common.{refl, ap, ◌∙◌, sym, subst, arith, ℕ, List, length}
+use Rattle.std.proofs.Common.{ap, ◌∙◌, sym, subst, arith, ℕ, List, length}
 use Rattle.multi_token.specs.Counted.{Counted}
 use Rattle.multi_layout.proofs.PagesLemmas.{drawing_few}
 use Rattle.multi_layout.specs.Limits.{plane_limit}
@@ -8,16 +8,12 @@ use Rattle.sign_font.proofs.DefaultLemmas.{sound_under}
 use Rattle.multi_layout.specs.Meaning.{meanings}
 use Rattle.multi_layout.specs.Verdict.{pages_of}
 use Rattle.sign_control.specs.State.{IsThere}
-use Rattle.sign_control.proofs.FrameLemmas.{there, not_refused}
+use Rattle.sign_control.proofs.FrameLemmas.{there}
 use Rattle.sign_control.proofs.draw.draw_shown.Goals as goal
-
-pub unreachable-requires : goal.unreachable-requires
-unreachable-requires c =
-    not_refused (under c.args.sign.now c.args.defaults) c.args.text.now _ c.in_default.field-0.code c.in_default.field-0.at c.requires.accepted refl c.in_default.ensures.refused
 
 pub draw-requires-clause-there : goal.draw-requires-clause-there
 draw-requires-clause-there c =
-    let old = c.in-Ok.checked in
+    let old = c.accepted_text-checked.result in
     let (k, low, high, is) = c.locate-shown.ensures.steps in
     let octets = ap (λ (s : Counted). s.octets) is in
     let P : List ℕ → Type 0 = λ l. IsThere c.locate-shown.result (pages_of (meanings l)) in
@@ -29,15 +25,15 @@ overflow_add-result c =
     let (k, low, high, is) = c.locate-shown.ensures.steps in
     let (j, low', high', is') = c.draw.ensures.steps in
     let octets = ap (λ (s : Counted). length s.octets) is in
-    let kept = ap (λ (l : List ℕ). length l) c.in-Ok.ensures.kept.1 in
-    let same = c.locate-shown.ensures.kept ∙ c.in-Ok.ensures.kept.0 in
+    let kept = ap (λ (l : List ℕ). length l) c.accepted_text-checked.ensures.kept.1 in
+    let same = c.locate-shown.ensures.kept ∙ c.accepted_text-checked.ensures.kept.0 in
     let limit = ap (λ (s : SignData). plane_limit s (length c.locate-shown.new.self.source.octets)) same in
     let limit' = ap (λ n. plane_limit sign n) (octets ∙ kept) in
     omega (
       arith,
       drawing_few sign (length c.args.text.now) (sound_under c.args.sign.now c.args.defaults c.requires.sound c.requires.taken) (omega (arith, c.requires.short)),
       c.requires.short,
-      c.in-Ok.ensures.steps,
+      c.accepted_text-checked.ensures.steps,
       octets,
       kept,
       high,

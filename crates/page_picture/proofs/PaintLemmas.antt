@@ -1,0 +1,137 @@
+-- Pixels that are painted, one after the other.
+use Rattle.std.proofs.Common.{◌≡◌, ℕ, zero, suc, ◌+◌, ◌*◌, ◌<◌, ◌≤◌, Bool, true, false, ◌==◌, ◌&&◌, ◌||◌, nat_lt, List, length, set, drop, get_or, refl, sym, ap, subst, ◌∙◌, arith, inl, inr, if◌then◌else◌}
+use Rattle.std.proofs.Math.Nat.{mul-le-mul_left}
+use Rattle.std.proofs.lemmas.Bool.{and_right, cases_Bool, cases_eq, cases_lt, eq-eqb, le-ltb, lt-ltb, ne_eqb}
+use Rattle.std.proofs.lemmas.List.{drop-set-lt, get_or-set_other, get_or-set_same, length-set}
+use Rattle.page_picture.specs.Dots.{value_at}
+use Rattle.page_picture.specs.Painted.{IsPainted}
+use Rattle.page_picture.proofs.CountLemmas.{row_inside}
+
+-- where a test has nothing, nothing is painted
+pub painted_none : (width height colour : ℕ) (has : ℕ → ℕ → Bool) (octets : List ℕ) → ((column row : ℕ) → has column row ≡ false)
+    → IsPainted width height colour has octets octets
+painted_none width height colour has octets none = record {
+  count = refl;
+  pixels = λ column row left above. rw (none column row) refl;
+  behind = refl;
+}
+
+either : (colour old mid new : ℕ) (one two both : Bool) → mid ≡ (if one then colour else old) → new ≡ (if two then colour else mid) → both ≡ (one || two)
+    → new ≡ (if both then colour else old)
+either colour old mid new true true both first second all = rw all second
+either colour old mid new true false both first second all = rw all (second ∙ first)
+either colour old mid new false true both first second all = rw all second
+either colour old mid new false false both first second all = rw all (second ∙ first)
+
+-- what is painted after other pixels
+pub painted_more : (width height colour : ℕ) (one two both : ℕ → ℕ → Bool) (old mid new : List ℕ)
+    → ((column row : ℕ) → both column row ≡ (one column row || two column row))
+    → IsPainted width height colour one old mid → IsPainted width height colour two mid new → IsPainted width height colour both old new
+painted_more width height colour one two both old mid new all first second = record {
+  count = second.count ∙ first.count;
+  pixels = λ column row left above.
+      either colour (value_at old width column row) (value_at mid width column row) (value_at new width column row) (one column row) (two column row) (both column row)
+      (first.pixels column row left above) (second.pixels column row left above) (all column row);
+  behind = second.behind ∙ first.behind;
+}
+
+-- what is painted by a test is painted by one with the same pixels
+pub painted_same : (width height colour : ℕ) (one other : ℕ → ℕ → Bool) (old new : List ℕ)
+    → ((column row : ℕ) → column < width → row < height → other column row ≡ one column row)
+    → IsPainted width height colour one old new → IsPainted width height colour other old new
+painted_same width height colour one other old new same is = record {
+  count = is.count;
+  pixels = λ column row left above. rw (same column row left above) (is.pixels column row left above);
+  behind = is.behind;
+}
+
+-- another pixel stands at another place
+other_row : (width x y column row : ℕ) → x < width → column < width → (y ≡ row → ⊥) → width * y + x ≡ width * row + column → ⊥
+other_row width x y column row left beside other same = elim (cases_lt y row) [
+  | inl below ↦ let most : width * (y + 1) ≤ width * row = mul-le-mul_left width (omega (arith, below)) in omega (arith, most, same, left)
+  | inr least ↦ elim (cases_lt row y) [
+    | inl below ↦ let most : width * (row + 1) ≤ width * y = mul-le-mul_left width (omega (arith, below)) in omega (arith, most, same, beside)
+    | inr most ↦ other (omega (arith, least, most))
+  ]
+]
+
+-- one pixel is painted, if it is lit
+pub painted_one : (width height colour column row : ℕ) (lit : ℕ → ℕ → Bool) (octets : List ℕ) → column < width → row < height → width * height ≤ length octets
+    → IsPainted width height colour (λ x y. (y == row) && ((x == column) && lit x y)) octets
+    (set octets (width * row + column) (if lit column row then colour else get_or octets (width * row + column) 0))
+painted_one width height colour column row lit octets beside here whole =
+    let end = row_inside width height row here in
+    let place = width * row + column in
+    let new = if lit column row then colour else get_or octets place 0 in
+    record {
+      count = length-set octets place new;
+      pixels = λ x y left above. elim (cases_eq y row) [
+        | inl is ↦ elim (cases_eq x column) [
+          | inl same ↦ rw (eq-eqb y row is, eq-eqb x column same, is, same) (get_or-set_same octets place new 0 (omega (arith, end, whole, beside)))
+          | inr other ↦ rw (eq-eqb y row is, ne_eqb x column other, is) (get_or-set_other octets place (width * row + x) new 0 (λ e. other (omega (arith, e))))
+        ]
+        | inr isn't ↦ rw (ne_eqb y row isn't) (get_or-set_other octets place (width * y + x) new 0 (other_row width x y column row left beside isn't))
+      ];
+      behind = drop-set-lt (width * height) octets place new (omega (arith, end, beside));
+    }
+
+-- one column more of a row
+pub column_more : (y row x column : ℕ) (lit : Bool) → ((y == row) && (nat_lt x (column + 1) && lit)) ≡ (((y == row) && (nat_lt x column && lit)) || ((y == row) && ((x == column) && lit)))
+column_more y row x column lit = elim (cases_eq y row) [
+  | inr isn't ↦ rw (ne_eqb y row isn't) refl
+  | inl is ↦ rw (eq-eqb y row is) (elim (cases_lt x column) [
+    | inl less ↦
+        let next : x < column + 1 = omega (arith, less) in
+        rw (lt-ltb x (column + 1) next, lt-ltb x column less) (elim (cases_Bool lit) [
+          | inl on ↦ rw on refl
+          | inr off ↦ rw (off, and_right (x == column) false refl) refl
+        ])
+    | inr least ↦ elim (cases_eq x column) [
+      | inl same ↦
+          let next : x < column + 1 = omega (arith, same) in
+          rw (lt-ltb x (column + 1) next, le-ltb x column least, eq-eqb x column same) refl
+      | inr other ↦
+          let next : column + 1 ≤ x = elim (cases_lt column x) [ inl more ↦ omega (arith, more) | inr most ↦ absurd (other (omega (arith, least, most))) ] in
+          rw (le-ltb x (column + 1) next, le-ltb x column least, ne_eqb x column other) refl
+    ]
+  ])
+]
+
+-- one row more
+pub row_more : (y row : ℕ) (lit : Bool) → (nat_lt y (row + 1) && lit) ≡ ((nat_lt y row && lit) || ((y == row) && lit))
+row_more y row lit = elim (cases_lt y row) [
+  | inl less ↦
+      let next : y < row + 1 = omega (arith, less) in
+      rw (lt-ltb y (row + 1) next, lt-ltb y row less) (elim (cases_Bool lit) [
+        | inl on ↦ rw on refl
+        | inr off ↦ rw (off, and_right (y == row) false refl) refl
+      ])
+  | inr least ↦ elim (cases_eq y row) [
+    | inl same ↦
+        let next : y < row + 1 = omega (arith, same) in
+        rw (lt-ltb y (row + 1) next, le-ltb y row least, eq-eqb y row same) refl
+    | inr other ↦
+        let next : row + 1 ≤ y = elim (cases_lt row y) [ inl more ↦ omega (arith, more) | inr most ↦ absurd (other (omega (arith, least, most))) ] in
+        rw (le-ltb y (row + 1) next, le-ltb y row least, ne_eqb y row other) refl
+  ]
+]
+
+-- the next pixel of a row
+pub painted_next : (width height colour column row place : ℕ) (is_lit : Bool) (lit : ℕ → ℕ → Bool) (old mid new : List ℕ) → column < width → row < height
+    → width * height ≤ length old → place ≡ width * row + column → is_lit ≡ lit column row → new ≡ set mid place (if is_lit then colour else get_or mid place 0)
+    → IsPainted width height colour (λ x y. (y == row) && (nat_lt x column && lit x y)) old mid
+    → IsPainted width height colour (λ x y. (y == row) && (nat_lt x (column + 1) && lit x y)) old new
+painted_next width height colour column row place is_lit lit old mid new beside here whole at shows is before =
+    let count = before.count in
+    painted_more width height colour (λ x y. (y == row) && (nat_lt x column && lit x y)) (λ x y. (y == row) && ((x == column) && lit x y))
+    (λ x y. (y == row) && (nat_lt x (column + 1) && lit x y)) old mid new (λ x y. column_more y row x column (lit x y)) before
+    (subst (IsPainted width height colour (λ x y. (y == row) && ((x == column) && lit x y)) mid)
+    (ap (λ p. set mid p (if lit column row then colour else get_or mid p 0)) (sym at) ∙ ap (λ b. set mid place (if b then colour else get_or mid place 0)) (sym shows) ∙ sym is)
+    (painted_one width height colour column row lit mid beside here (omega (arith, whole, count))))
+
+-- the next row
+pub painted_row : (width height colour row : ℕ) (lit : ℕ → ℕ → Bool) (old mid new : List ℕ) → IsPainted width height colour (λ x y. nat_lt y row && lit x y) old mid
+    → IsPainted width height colour (λ x y. (y == row) && lit x y) mid new → IsPainted width height colour (λ x y. nat_lt y (row + 1) && lit x y) old new
+painted_row width height colour row lit old mid new =
+    painted_more width height colour (λ x y. nat_lt y row && lit x y) (λ x y. (y == row) && lit x y) (λ x y. nat_lt y (row + 1) && lit x y) old mid new
+    (λ x y. row_more y row (lit x y))

@@ -1,0 +1,120 @@
+//! The colours of what is shown of a text, written over lent octets.
+ghost use Rattle.std.specs.Prelude.{◌≡◌, ◌+◌, ◌*◌, ◌<◌, ◌≤◌, ◌==◌, ◌&&◌, ◌++◌, true, false, nat_le, length, drop, replicate, set, slice_index, if◌then◌else◌};
+ghost use Rattle.multi_token.specs.Counted.{RisesBetween};
+ghost use Rattle.page_plane.specs.Plane.{is_lit};
+ghost use Rattle.multi_layout.specs.Limits.{plane_limit, reading_limit};
+ghost use Rattle.multi_layout.specs.Pages.{IsSized, page_count};
+ghost use Rattle.page_picture.specs.Colours.{page_colour};
+ghost use Rattle.page_picture.specs.Painted.{HaveValues, IsPainted};
+ghost use Rattle.page_picture.specs.Shown.{IsThere, colours};
+
+use multi_layout::{Checked, Shown};
+use page_plane::Plane;
+
+/// The colours besides black.
+const COLOURS: u8 = 9;
+
+/// Gives an octet this colour where `lit`.
+fn paint(octets: &mut [u8], place: usize, lit: bool, colour: u8)
+    requires { place < length octets.old }
+    ensures { octets.new ≡ set octets.old place (if lit then colour else slice_index octets.old place) }
+{
+    if lit {
+        octets[place] = colour;
+    }
+}
+
+/// Gives the pixels of a row that a plane has lit this colour.
+fn paint_row(octets: &mut [u8], plane: &Plane, row: u16, colour: u8)
+    requires whole { plane.now.width * plane.now.height ≤ length octets.old }
+    requires row { row < plane.now.height }
+    ensures { IsPainted plane.now.width plane.now.height colour (λ x y. (y == row) && is_lit plane.now x y) octets.old octets.new }
+{
+    let start = usize::from(plane.width()) * usize::from(row);
+    for column in 0..plane.width() {
+        paint(
+            octets,
+            start + usize::from(column),
+            plane.pixel(column, row),
+            colour,
+        );
+    }
+}
+
+/// Gives the pixels that a plane has lit this colour.
+fn paint_lit(octets: &mut [u8], plane: &Plane, colour: u8)
+    requires { plane.now.width * plane.now.height ≤ length octets.old }
+    ensures { IsPainted plane.now.width plane.now.height colour (is_lit plane.now) octets.old octets.new }
+{
+    for row in 0..plane.height() {
+        paint_row(octets, plane, row, colour);
+    }
+}
+
+/// Gives the pixels of a page at a phase their colours, where all are black. The string must have the page.
+fn write_page(checked: &mut Checked<'_>, page: u8, phase: u64, plane: &mut Plane, octets: &mut [u8])
+    requires size { IsSized plane.old checked.old.sign }
+    requires page { page < page_count checked.old }
+    requires whole { checked.old.sign.width * checked.old.sign.height ≤ length octets.old }
+    requires black { HaveValues checked.old.sign.width checked.old.sign.height (λ column row. 0) octets.old }
+    ensures colours { HaveValues checked.old.sign.width checked.old.sign.height (page_colour checked.old.sign checked.old.source.octets page phase) octets.new }
+    ensures count { length octets.new ≡ length octets.old }
+    ensures behind { drop (checked.old.sign.width * checked.old.sign.height) octets.new ≡ drop (checked.old.sign.width * checked.old.sign.height) octets.old }
+    ensures kept { checked.new.sign ≡ checked.old.sign }
+    ensures size { (plane.new.width ≡ plane.old.width) × (plane.new.height ≡ plane.old.height) }
+    ensures steps { RisesBetween checked.old.source checked.new.source 0 (9 * reading_limit (length checked.old.source.octets)) }
+    ensures plane_steps { (plane.old.steps ≤ plane.new.steps)
+        × (plane.new.steps ≤ plane.old.steps + 9 * plane_limit checked.old.sign (length checked.old.source.octets)) }
+{
+    for done in 0..COLOURS {
+        let colour = COLOURS - done;
+        if !checked.draw(page, phase, colour, plane) {
+            // The string has the page.
+            unreachable!();
+        }
+        paint_lit(octets, plane, colour);
+    }
+}
+
+/// Gives the first octets the value 0.
+fn blacken(octets: &mut [u8], count: usize)
+    requires { count ≤ length octets.old }
+    ensures { octets.new ≡ replicate count 0 ++ drop count octets.old }
+{
+    octets[..count].fill(0);
+}
+
+/// Writes the colours of all pixels of what is shown of a string into the first octets: 0 to 9, an octet each, row by row from the top, and
+/// each row from the left. In an off time all are 0. The octets behind them stay as they are.
+///
+/// The plane, in which the page is drawn, must have the sign's size, and what is shown must be a page of the string or an off time. The
+/// answer is false if there are fewer octets than pixels, and then nothing changes. This takes no memory. For a string of n octets it takes
+/// at most 9 times the steps of [`Checked::draw`] over the string and over the plane.
+pub fn write_colours(
+    checked: &mut Checked<'_>,
+    shown: Shown,
+    plane: &mut Plane,
+    octets: &mut [u8],
+) -> bool
+    requires size { IsSized plane.old checked.old.sign }
+    requires there { IsThere checked.old.source.octets shown }
+    ensures room { result ≡ nat_le (checked.old.sign.width * checked.old.sign.height) (length octets.old) }
+    ensures colours { result ≡ true → octets.new ≡ colours checked.old.sign checked.old.source.octets shown
+        ++ drop (checked.old.sign.width * checked.old.sign.height) octets.old }
+    ensures refused { result ≡ false → (checked.new ≡ checked.old) × (plane.new ≡ plane.old) × (octets.new ≡ octets.old) }
+    ensures kept { checked.new.sign ≡ checked.old.sign }
+    ensures size { (plane.new.width ≡ plane.old.width) × (plane.new.height ≡ plane.old.height) }
+    ensures steps { RisesBetween checked.old.source checked.new.source 0 (9 * reading_limit (length checked.old.source.octets)) }
+    ensures plane_steps { (plane.old.steps ≤ plane.new.steps)
+        × (plane.new.steps ≤ plane.old.steps + 9 * plane_limit checked.old.sign (length checked.old.source.octets)) }
+{
+    let count = usize::from(plane.width()) * usize::from(plane.height());
+    if octets.len() < count {
+        return false;
+    }
+    blacken(octets, count);
+    if let Shown::Page { page, phase } = shown {
+        write_page(checked, page, phase, plane, octets);
+    }
+    true
+}
