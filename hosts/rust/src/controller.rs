@@ -3,8 +3,8 @@
 use crate::codes::{ActivateError, DefaultError, DefaultField, MultiError, SourceMode, Status, TableError, ValidateError};
 use crate::error::{done, Error};
 use crate::ffi::{self, Handle};
-use crate::picture::{stride, Plane, Shown};
-use crate::sign::Sign;
+use crate::picture::{stride, Picture, Plane, Shown};
+use crate::sign::{Sign, Verdict};
 use std::fmt;
 use std::ptr::null_mut;
 
@@ -163,6 +163,43 @@ pub struct Frame {
     pub shown: Option<Shown>,
     /// Which pixels have the colour that was asked for.
     pub plane: Plane,
+}
+
+/// What the display shows now, in its colours.
+#[derive(Clone, Debug, PartialEq, Eq)]
+pub struct Display {
+    /// The page, or `None` in the off time of one.
+    pub shown: Option<Shown>,
+    /// The colour of every pixel.
+    pub picture: Picture,
+}
+
+/// The limits of a message table.
+#[derive(Clone, Copy, Debug, PartialEq, Eq)]
+pub struct Table {
+    /// Octets of all texts and owners together.
+    pub bytes: u32,
+    /// Changeable messages (dmsMaxChangeableMsg).
+    pub slots: u16,
+    /// Octets of one text.
+    pub max_string: u16,
+    /// Permanent messages (dmsNumPermanentMsg).
+    pub permanents: u8,
+}
+
+/// A font of a sign (object fontTable).
+#[derive(Clone, Copy, Debug, PartialEq, Eq)]
+pub struct Font {
+    /// Its version; 0 is none.
+    pub version: u16,
+    /// Its number, 1 to 255.
+    pub number: u8,
+    /// Rows, in pixels.
+    pub height: u8,
+    /// Columns between two characters, in pixels.
+    pub char_spacing: u8,
+    /// Rows between two lines, in pixels.
+    pub line_spacing: u8,
 }
 
 /// Which message is shown, for how long, and who asks (dmsActivateMessage).
@@ -481,6 +518,102 @@ impl Controller {
         // SAFETY: the plane has this length; it, what is shown and the handle are borrowed by this call alone.
         done(unsafe { ffi::latsefur_frame(&mut self.handle, colour, &mut facts, octets.as_mut_ptr(), octets.len()) })?;
         Ok(Frame { shown: Shown::of(facts), plane: Plane { width: self.width, octets } })
+    }
+
+    /// What the display shows now, in its colours.
+    ///
+    /// # Errors
+    ///
+    /// As [`request`](Controller::request).
+    pub fn colours(&mut self) -> Result<Display, Error> {
+        let mut facts = ffi::Shown::default();
+        let mut colours = vec![0; usize::from(self.width) * usize::from(self.height)];
+        // SAFETY: the colours have this length; they, what is shown and the handle are borrowed by this call alone.
+        done(unsafe { ffi::latsefur_colours(&mut self.handle, &mut facts, colours.as_mut_ptr(), colours.len()) })?;
+        Ok(Display { shown: Shown::of(facts), picture: Picture { width: self.width, colours } })
+    }
+
+    /// For how many tenths of a second, at most `most`, what the display shows stays as it is if no command comes.
+    ///
+    /// # Errors
+    ///
+    /// As [`request`](Controller::request).
+    pub fn next_change(&mut self, most: u32) -> Result<u32, Error> {
+        let mut tenths = 0;
+        // SAFETY: the handle and the tenths are borrowed by this call alone.
+        done(unsafe { ffi::latsefur_next_change(&mut self.handle, most, &mut tenths) })?;
+        Ok(tenths)
+    }
+
+    /// The limits of the message table.
+    ///
+    /// # Errors
+    ///
+    /// As [`request`](Controller::request).
+    pub fn table(&mut self) -> Result<Table, Error> {
+        let mut facts = ffi::Table::default();
+        // SAFETY: the handle and the table are borrowed by this call alone.
+        done(unsafe { ffi::latsefur_held_table(&mut self.handle, &mut facts) })?;
+        let ffi::Table { bytes, slots, max_string, permanents } = facts;
+        Ok(Table { bytes, slots, max_string, permanents })
+    }
+
+    /// The font of a number.
+    ///
+    /// # Errors
+    ///
+    /// [`Error::NoFont`] if the sign has none.
+    pub fn font(&mut self, number: u8) -> Result<Font, Error> {
+        let mut facts = ffi::Font::default();
+        // SAFETY: the handle and the font are borrowed by this call alone.
+        done(unsafe { ffi::latsefur_held_font(&mut self.handle, number, &mut facts) })?;
+        let ffi::Font { version, number, height, char_spacing, line_spacing } = facts;
+        Ok(Font { version, number, height, char_spacing, line_spacing })
+    }
+
+    /// The verdict on a text, as [`Sign::check`] gives it, but by the defaults in force, and without a look at the sign file.
+    ///
+    /// # Errors
+    ///
+    /// [`Error::TextTooLong`].
+    pub fn check(&mut self, text: &[u8]) -> Result<Verdict, Error> {
+        let mut facts = ffi::Verdict::default();
+        // SAFETY: the octets are those of a slice; the handle and the verdict are borrowed by this call alone.
+        let outcome = unsafe { ffi::latsefur_held_check(&mut self.handle, text.as_ptr(), text.len(), &mut facts) };
+        if outcome != 1 {
+            done(outcome)?;
+        }
+        Verdict::of(facts)
+    }
+
+    /// The colour of every pixel of a page of a text, by the defaults in force. What the display shows stays.
+    ///
+    /// # Errors
+    ///
+    /// [`Error::TextRefused`], [`Error::NoPage`] and [`Error::TextTooLong`].
+    pub fn colours_of_page(&mut self, text: &[u8], page: u8, phase: u64) -> Result<Picture, Error> {
+        let mut colours = vec![0; usize::from(self.width) * usize::from(self.height)];
+        let (colours_at, len) = (colours.as_mut_ptr(), colours.len());
+        // SAFETY: the octets are those of a slice, and the colours have this length; they and the handle are borrowed by this call alone.
+        done(unsafe {
+            ffi::latsefur_held_colours_of_page(&mut self.handle, text.as_ptr(), text.len(), page, phase, colours_at, len)
+        })?;
+        Ok(Picture { width: self.width, colours })
+    }
+
+    /// Which pixels of a page of a text have a colour, by the defaults in force. What the display shows stays.
+    ///
+    /// # Errors
+    ///
+    /// [`Error::TextRefused`], [`Error::NoPage`] and [`Error::TextTooLong`].
+    pub fn plane_of_page(&mut self, text: &[u8], page: u8, colour: u8, phase: u64) -> Result<Plane, Error> {
+        let mut octets = vec![0; stride(self.width) * usize::from(self.height)];
+        let (plane_at, len) = (octets.as_mut_ptr(), octets.len());
+        // SAFETY: the octets are those of a slice, and the plane has this length; it and the handle are borrowed by this call alone.
+        done(unsafe {
+            ffi::latsefur_held_plane_of_page(&mut self.handle, text.as_ptr(), text.len(), page, phase, colour, plane_at, len)
+        })?;
+        Ok(Plane { width: self.width, octets })
     }
 
     /// The steps that were counted; `u64::MAX` may stand for more.

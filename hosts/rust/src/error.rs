@@ -29,6 +29,8 @@ pub enum Error {
     BadLength,
     /// The number names no default.
     NoDefault,
+    /// The sign has no font of this number.
+    NoFont,
     /// The library has answered with an outcome that this call hasn't.
     Outcome(u8),
 }
@@ -46,6 +48,7 @@ impl fmt::Display for Error {
             Error::TableFault => to.write_str("the message table of the sign file is outside its limits"),
             Error::BadLength => to.write_str("the code hasn't the length that it must have"),
             Error::NoDefault => to.write_str("no default has this number"),
+            Error::NoFont => to.write_str("the sign has no such font"),
             Error::Outcome(outcome) => write!(to, "the library answers with the outcome {outcome}"),
         }
     }
@@ -73,6 +76,7 @@ pub(crate) fn done(outcome: u8) -> Result<(), Error> {
         8 => Error::TableFault,
         10 => Error::BadLength,
         11 => Error::NoDefault,
+        12 => Error::NoFont,
         outcome => Error::Outcome(outcome),
     })
 }

@@ -100,6 +100,25 @@ pub struct Message {
     pub pixel: u8,
 }
 
+#[repr(C)]
+#[derive(Clone, Copy, Debug, Default)]
+pub struct Table {
+    pub bytes: u32,
+    pub slots: u16,
+    pub max_string: u16,
+    pub permanents: u8,
+}
+
+#[repr(C)]
+#[derive(Clone, Copy, Debug, Default)]
+pub struct Font {
+    pub version: u16,
+    pub number: u8,
+    pub height: u8,
+    pub char_spacing: u8,
+    pub line_spacing: u8,
+}
+
 type Octets = *const u8;
 
 #[link(name = "latsefur", kind = "static")]
@@ -191,5 +210,29 @@ extern "C" {
         owner_len: usize,
     ) -> u8;
     pub fn latsefur_frame(handle: *mut Handle, colour: u8, shown: *mut Shown, plane: *mut u8, plane_len: usize) -> u8;
+    pub fn latsefur_colours(handle: *mut Handle, shown: *mut Shown, colours: *mut u8, colours_len: usize) -> u8;
+    pub fn latsefur_next_change(handle: *mut Handle, most: u32, tenths: *mut u32) -> u8;
+    pub fn latsefur_held_table(handle: *mut Handle, table: *mut Table) -> u8;
+    pub fn latsefur_held_font(handle: *mut Handle, number: u8, font: *mut Font) -> u8;
+    pub fn latsefur_held_check(handle: *mut Handle, text: Octets, text_len: usize, verdict: *mut Verdict) -> u8;
+    pub fn latsefur_held_plane_of_page(
+        handle: *mut Handle,
+        text: Octets,
+        text_len: usize,
+        page: u8,
+        phase: u64,
+        colour: u8,
+        plane: *mut u8,
+        plane_len: usize,
+    ) -> u8;
+    pub fn latsefur_held_colours_of_page(
+        handle: *mut Handle,
+        text: Octets,
+        text_len: usize,
+        page: u8,
+        phase: u64,
+        colours: *mut u8,
+        colours_len: usize,
+    ) -> u8;
     pub fn latsefur_message_crc(text: Octets, text_len: usize, beacon: u8, pixel: u8) -> u16;
 }

@@ -19,7 +19,7 @@ mod picture;
 mod sign;
 
 pub use codes::{ActivateError, DefaultError, DefaultField, Memory, MultiError, Request, SourceMode, Status, TableError, ValidateError};
-pub use controller::{message_crc, ActivationCode, Controller, Defaults, Frame, Message, Reply, Report};
+pub use controller::{message_crc, ActivationCode, Controller, Defaults, Display, Font, Frame, Message, Reply, Report, Table};
 pub use error::Error;
 pub use picture::{Picture, Plane, Shown};
 pub use sign::{Sign, Verdict};

@@ -32,7 +32,7 @@ impl Verdict {
         matches!(self, Verdict::Accepted { .. })
     }
 
-    fn of(facts: ffi::Verdict) -> Result<Verdict, Error> {
+    pub(crate) fn of(facts: ffi::Verdict) -> Result<Verdict, Error> {
         match facts.outcome {
             1 => Ok(Verdict::Refused { error: facts.code.into(), at: facts.at }),
             outcome => done(outcome).map(|()| Verdict::Accepted { pages: facts.pages, cycle: facts.cycle }),

@@ -2,7 +2,9 @@
 
 mod common;
 
-use latsefur::{message_crc, Controller, DefaultField, Error, Memory, MultiError, Reply, Request, Sign, Verdict};
+use latsefur::{
+    message_crc, ActivationCode, Controller, DefaultField, Error, Font, Memory, MultiError, Reply, Request, Sign, Table, Verdict,
+};
 use std::error::Error as _;
 use std::fs;
 
@@ -61,6 +63,30 @@ fn a_controller_goes_to_another_thread() {
     .unwrap();
     assert_eq!(held.message(Memory::Changeable, 1).unwrap().unwrap().crc, message_crc(b"A", 0, 0));
     assert!(held.steps().is_ok());
+}
+
+#[test]
+fn a_controller_tells_what_it_holds() {
+    let sign = Sign::new(sample()).unwrap();
+    let mut held = Controller::new(&sign).unwrap();
+    assert_eq!(held.table().unwrap(), Table { bytes: 4, slots: 1, max_string: 64, permanents: 1 });
+    assert_eq!(held.font(1).unwrap(), Font { version: 6699, number: 1, height: 3, char_spacing: 1, line_spacing: 1 });
+    assert!(matches!(held.font(9), Err(Error::NoFont)));
+    held.set_default(DefaultField::PageOn, 10).unwrap();
+    assert_eq!(held.check(b"A[np]I").unwrap(), Verdict::Accepted { pages: 2, cycle: 20 });
+    assert!(!held.check(b"B").unwrap().is_accepted());
+    assert_eq!(held.colours_of_page(b"A[np]I", 1, 0).unwrap(), sign.colours(b"A[np]I", 30).unwrap());
+    assert_eq!(held.plane_of_page(b"A[np]I", 1, 1, 0).unwrap(), sign.plane(b"A[np]I", 1, 30).unwrap());
+    assert!(matches!(held.plane_of_page(b"A", 1, 1, 0), Err(Error::NoPage)));
+    held.request(Memory::Changeable, 1, Request::Modify).unwrap();
+    held.set_multi(Memory::Changeable, 1, b"A").unwrap();
+    held.request(Memory::Changeable, 1, Request::Validate).unwrap();
+    held.work().unwrap();
+    let (memory, crc) = (Memory::Changeable.number(), message_crc(b"A", 0, 0));
+    let code = ActivationCode { duration: 1, priority: 255, memory, number: 1, crc, requester: [127, 0, 0, 1] };
+    assert_eq!(held.activate(&code.octets()).unwrap(), Reply::Shown);
+    assert_eq!(held.colours().unwrap().picture, sign.colours(b"A", 0).unwrap());
+    assert_eq!((held.next_change(u32::MAX).unwrap(), held.next_change(7).unwrap()), (600, 7));
 }
 
 #[test]
