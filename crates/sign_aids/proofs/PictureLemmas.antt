@@ -1,20 +1,21 @@
--- A page of a message as a picture.
-use Rattle.std.proofs.Common.{◌≡◌, ℕ, ◌+◌, ◌<◌, ◌≤◌, ◌^◌, List, [], ◌∷◌, ◌++◌, length, Option, append_assoc, append-nil, refl, sym, ap, ◌∙◌, subst, arith}
+-- A message as a picture.
+use Rattle.std.proofs.Common.{◌≡◌, ℕ, ◌+◌, ◌<◌, ◌≤◌, List, [], ◌∷◌, ◌++◌, length, Option, append_assoc, append-nil, refl, sym, ap, ◌∙◌, subst, arith}
 use Rattle.std.specs.Io.KnownBytes.{Consumes}
 use Rattle.std.proofs.KnownBytes.{Consumes-trans}
 use Rattle.std.proofs.lemmas.List.{length-append}
 use Rattle.sign_font.specs.Sign.{SignData}
-use Rattle.multi_layout.specs.Meaning.{meanings}
-use Rattle.multi_layout.specs.Verdict.{Accepted, IsVerdict, Verdict, pages_of, verdict}
-use Rattle.multi_layout.proofs.AcceptedLemmas.{accepted_is}
+use Rattle.multi_layout.specs.Verdict.{Accepted, IsVerdict, Verdict, verdict}
 use Rattle.multi_layout.proofs.VerdictLemmas.{one_verdict}
-use Rattle.page_picture.specs.Colours.{ColourData, IsPage}
-use Rattle.page_picture.specs.Ppm.{ppm_of}
+use Rattle.message_picture.specs.declared.draw.DrawFault.{DrawFault}
+use Rattle.message_picture.specs.declared.draw.DrawFault.TheVariants as draws
+use Rattle.message_picture.specs.declared.view.View.{View}
+use Rattle.message_picture.specs.Drawn as drawing
+use Rattle.message_picture.specs.Drawn.{IsDrawn}
 use Rattle.tool_streams.specs.declared.fault.ToolFault.{ToolFault}
 use Rattle.tool_streams.specs.declared.lines.LineStart.{LineStart}
 use Rattle.sign_aids.specs.declared.picture.PictureFault.TheVariants as faults
 use Rattle.tool_streams.specs.Lines.{IsOneLine, octets_of}
-use Rattle.sign_aids.specs.Pictures.{DrawsPage, IsNoMessage}
+use Rattle.sign_aids.specs.Pictures.{DrawsMessage, IsFaultOf, IsNoMessage, picture_fault}
 use Rattle.tool_streams.specs.Streams.{IsLineFault}
 
 -- the one verdict on octets is that on equal ones
@@ -25,26 +26,27 @@ verdict_is sign line octets v same is = sym ((one_verdict sign line v).0 (subst 
 pub verdict_by : (sign judge : SignData) (octets line : List ℕ) (v : Verdict) → judge ≡ sign → octets ≡ line → IsVerdict judge octets v → verdict sign line ≡ v
 verdict_by sign judge octets line v same_sign same is = verdict_is sign line octets v same (subst (λ (s : SignData). IsVerdict s octets v) same_sign is)
 
--- a page of an accepted string is one of its pages
-pub has_page : (sign : SignData) (octets line : List ℕ) (pages page : ℕ) → octets ≡ line → length line ≤ 4096 → IsVerdict sign octets (Accepted pages) → page < pages
-    → page < pages_of (meanings octets)
-has_page sign octets line pages page same short is below =
-    let few : length octets < 2 ^ 32 = omega (arith, short, ap length same) in
-    let count = (accepted_is sign octets pages is few).1 in
-    omega (arith, count, below)
-
--- the picture of a page of equal octets
-pub draws : (sign judge : SignData) (octets line : List ℕ) (pages page phase : ℕ) (colours : ColourData) (text : List ℕ) → judge ≡ sign → octets ≡ line → length line ≤ 4096
-    → IsVerdict judge octets (Accepted pages) → page < pages → IsPage sign octets page phase colours → text ≡ ppm_of sign.classic colours → DrawsPage sign line page phase text
-draws sign judge octets line pages page phase colours text same_sign same short is below drawn written = record {
+-- the file of a message that is accepted
+pub picture_of : (side : ℕ) (sign judge : SignData) (octets line : List ℕ) (pages : ℕ) (view : View) (file : List ℕ) → judge ≡ sign → octets ≡ line → length line ≤ 4096
+    → IsVerdict judge octets (Accepted pages) → IsDrawn side sign line view file → DrawsMessage side sign line view file
+picture_of side sign judge octets line pages view file same_sign same short is drawn = record {
   short = short;
   pages = pages;
   accepted = verdict_by sign judge octets line (Accepted pages) same_sign same is;
-  has = below;
-  colours = colours;
-  drawn = subst (λ l. IsPage sign l page phase colours) same drawn;
-  written = written;
+  drawn = drawn;
 }
+
+-- why there is none
+pub no_picture : (side : ℕ) (sign judge : SignData) (octets line : List ℕ) (pages : ℕ) (view : View) (why : DrawFault) → judge ≡ sign → octets ≡ line
+    → IsVerdict judge octets (Accepted pages) → drawing.IsUndrawn side sign line view why → IsFaultOf side sign line view (picture_fault why)
+no_picture side sign judge octets line pages view draws.Memory same_sign same is undrawn =
+    (pages, verdict_by sign judge octets line (Accepted pages) same_sign same is, (draws.Memory, refl, undrawn))
+no_picture side sign judge octets line pages view (draws.NoPage count) same_sign same is undrawn =
+    (pages, verdict_by sign judge octets line (Accepted pages) same_sign same is, (draws.NoPage count, refl, undrawn))
+no_picture side sign judge octets line pages view (draws.TooLarge tenths) same_sign same is undrawn =
+    (pages, verdict_by sign judge octets line (Accepted pages) same_sign same is, (draws.TooLarge tenths, refl, undrawn))
+no_picture side sign judge octets line pages view (draws.TooLong tenths) same_sign same is undrawn =
+    (pages, verdict_by sign judge octets line (Accepted pages) same_sign same is, (draws.TooLong tenths, refl, undrawn))
 
 -- ---- what stands behind the sign
 

@@ -1,10 +1,13 @@
--- What is written of a message whose page is drawn.
+-- What is written of a message that is drawn.
 use Rattle.std.specs.Prelude.{◌≡◌, ◌⊎◌, ℕ, ◌+◌, ◌<◌, ◌≤◌, Bool, List, [], ◌∷◌, ◌++◌, length, Option, Result, Ok, Err}
 use Rattle.std.specs.Io.KnownBytes.{Appends, Consumes, IsAtEnd}
 use Rattle.sign_font.specs.Sign.{SignData}
 use Rattle.multi_layout.specs.Verdict.{Accepted, Refused, verdict}
-use Rattle.page_picture.specs.Colours.{ColourData, IsPage}
-use Rattle.page_picture.specs.Ppm.{ppm_of}
+use Rattle.message_picture.specs.declared.draw.DrawFault.{DrawFault}
+use Rattle.message_picture.specs.declared.draw.DrawFault.TheVariants as draws
+use Rattle.message_picture.specs.declared.view.View.{View}
+use Rattle.message_picture.specs.Drawn as drawing
+use Rattle.message_picture.specs.Drawn.{IsDrawn}
 use Rattle.tool_streams.specs.declared.fault.ToolFault.{ToolFault}
 use Rattle.tool_streams.specs.declared.fault.ToolFault.TheVariants.{Memory, Write}
 use Rattle.tool_streams.specs.declared.lines.LineStart.{LineStart}
@@ -31,23 +34,27 @@ pub record HasMessage (sample : Bool) (input input' : Option (List ℕ)) (setup 
   pub reads : Consumes input between taken
   pub last : TakesLast between input' line
 
--- a text is the picture of a page at a phase, of a message of at most 4,096 octets that the sign takes (own)
-pub record DrawsPage (sign : SignData) (octets : List ℕ) (page phase : ℕ) (text : List ℕ) : Type 0 where
+-- octets are the file that is asked for, of a message of at most 4,096 octets that the sign takes (own)
+pub record DrawsMessage (side : ℕ) (sign : SignData) (octets : List ℕ) (view : View) (file : List ℕ) : Type 0 where
   pub short : length octets ≤ 4096
   pub pages : ℕ
   pub accepted : verdict sign octets ≡ Accepted pages
-  pub has : page < pages
-  pub colours : ColourData
-  pub drawn : IsPage sign octets page phase colours
-  pub written : text ≡ ppm_of sign.classic colours
+  pub drawn : IsDrawn side sign octets view file
 
--- the sign refuses the message so, or it has too many octets, or only so many pages, or memory was refused (own)
-abbrev pub IsFaultOf : SignData → List ℕ → ℕ → PictureFault → Type 0
-IsFaultOf sign octets page (faults.Refused code at) = verdict sign octets ≡ Refused code at
-IsFaultOf sign octets page (faults.NoPage pages) = (verdict sign octets ≡ Accepted pages) × (pages ≤ page)
-IsFaultOf sign octets page faults.TooLong = 4096 < length octets
-IsFaultOf sign octets page (faults.Tool e) = e ≡ Memory
-IsFaultOf sign octets page fault = ⊥
+-- why a message isn't drawn, in the words of the program (own)
+abbrev pub picture_fault : DrawFault → PictureFault
+picture_fault draws.Memory = faults.Tool Memory
+picture_fault (draws.NoPage pages) = faults.NoPage pages
+picture_fault (draws.TooLarge tenths) = faults.LargeFilm tenths
+picture_fault (draws.TooLong tenths) = faults.LongFilm tenths
+
+-- the sign refuses the message so, or it has too many octets; or the sign takes it, and it isn't drawn for such a reason (own)
+abbrev pub IsFaultOf : ℕ → SignData → List ℕ → View → PictureFault → Type 0
+IsFaultOf side sign octets view (faults.Refused code at) = verdict sign octets ≡ Refused code at
+IsFaultOf side sign octets view faults.TooLong = 4096 < length octets
+IsFaultOf side sign octets view faults.NoMessage = ⊥
+IsFaultOf side sign octets view (faults.SecondMessage line) = ⊥
+IsFaultOf side sign octets view fault = (pages : ℕ) × (verdict sign octets ≡ Accepted pages) × ((why : DrawFault) × (fault ≡ picture_fault why) × drawing.IsUndrawn side sign octets view why)
 
 -- what stands behind the sign isn't one message: it is nothing, or a second line begins, or a line has a fault (own)
 abbrev pub IsNoMessage : LineStart → Option (List ℕ) → Option (List ℕ) → PictureFault → Type 0
@@ -58,21 +65,22 @@ IsNoMessage place input input' (faults.Tool e) = (lines : List (List ℕ)) × (m
     × (length (octets_of lines) + left ≡ place.left) × IsLineFault (place.number + length lines) left more input' e
 IsNoMessage place input input' fault = ⊥
 
--- why no page is drawn: there is no sign, for the same reason as in the other modes, or behind it isn't one message, or that has no such
--- page on this sign (own)
-abbrev pub IsUndrawn : Bool → ℕ → Option (List ℕ) → Option (List ℕ) → PictureFault → Type 0
-IsUndrawn sample page input input' fault =
+-- why nothing is drawn: there is no sign, for the same reason as in the other modes, or behind it isn't one message, or that isn't drawn (own)
+abbrev pub IsUndrawn : Bool → ℕ → View → Option (List ℕ) → Option (List ℕ) → PictureFault → Type 0
+IsUndrawn sample side view input input' fault =
     ((e : ToolFault) × (fault ≡ faults.Tool e) × Fails sample input input' e)
     ⊎ ((taken : List ℕ) × (setup : Setup) × (place : LineStart) × (between : Option (List ℕ)) × Leads sample taken (Ok setup) place
     × Consumes input between taken × IsNoMessage place between input' fault)
-    ⊎ ((setup : Setup) × (line : List ℕ) × HasMessage sample input input' setup line × IsFaultOf setup.sign (text_of line) page fault)
+    ⊎ ((setup : Setup) × (line : List ℕ) × HasMessage sample input input' setup line × IsFaultOf side setup.sign (text_of line) view fault)
 
--- the whole input is read, and the page of its one message is written as a picture, or its beginning, if the writer fails; or there is a
--- fault, and nothing is written (own)
-abbrev pub DrawsInput : Bool → ℕ → ℕ → Option (List ℕ) → Option (List ℕ) → Option (List ℕ) → Option (List ℕ) → Result (Unit {0}) PictureFault → Type 0
-DrawsInput sample page phase input input' output output' (Ok done) = (setup : Setup) × (line text : List ℕ) × HasMessage sample input input' setup line
-    × DrawsPage setup.sign (text_of line) page phase text × Appends output output' text
-DrawsInput sample page phase input input' output output' (Err e) =
-    (Appends output output' [] × IsUndrawn sample page input input' e)
-    ⊎ ((e ≡ faults.Tool Write) × ((setup : Setup) × (line sent unsent : List ℕ) × HasMessage sample input input' setup line
-    × DrawsPage setup.sign (text_of line) page phase (sent ++ unsent) × Appends output output' sent))
+-- the whole input is read, and octets are the file of its one message (own)
+abbrev pub IsPicture : Bool → ℕ → View → Option (List ℕ) → Option (List ℕ) → List ℕ → Type 0
+IsPicture sample side view input input' file = (setup : Setup) × (line : List ℕ) × HasMessage sample input input' setup line
+    × DrawsMessage side setup.sign (text_of line) view file
+
+-- the file of the one message of an input is written, or its beginning, if the writer fails; or there is a fault, and nothing is written (own)
+abbrev pub DrawsInput : Bool → ℕ → View → Option (List ℕ) → Option (List ℕ) → Option (List ℕ) → Option (List ℕ) → Result (Unit {0}) PictureFault → Type 0
+DrawsInput sample side view input input' output output' (Ok done) = (file : List ℕ) × IsPicture sample side view input input' file × Appends output output' file
+DrawsInput sample side view input input' output output' (Err e) =
+    (Appends output output' [] × IsUndrawn sample side view input input' e)
+    ⊎ ((e ≡ faults.Tool Write) × ((sent unsent : List ℕ) × IsPicture sample side view input input' (sent ++ unsent) × Appends output output' sent))

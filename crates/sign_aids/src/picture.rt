@@ -1,11 +1,12 @@
-//! A page of a message, written as a picture in PPM.
+//! A message, drawn and written as a file.
 ghost use Rattle.std.specs.Prelude.{◌≡◌, ◌+◌, ◌≤◌, IfOk, IfErr};
+ghost use Rattle.message_picture.specs.Drawn.{AllowsSeconds};
 ghost use Rattle.tool_streams.specs.Lines.{input_limit};
-ghost use Rattle.sign_aids.specs.Pictures.{DrawsInput, DrawsPage, IsFaultOf, IsNoMessage, TakesLast};
+ghost use Rattle.sign_aids.specs.Pictures.{DrawsInput, DrawsMessage, IsFaultOf, IsNoMessage, IsPicture, IsUndrawn, TakesLast, picture_fault};
 
+use message_picture::{DrawFault, View, draw_message};
 use multi_layout::check;
 use multi_token::Source;
-use page_picture::PageColours;
 use sign_font::Sign;
 use sign_tool::{Start, begin};
 use std::alloc::Global;
@@ -34,6 +35,13 @@ pub enum PictureFault {
     /// The message has no such page, but this many.
     #[error("no such page: the last is {pages}")]
     NoPage { pages: u8 },
+    /// The message begins anew after so many tenths of a second, and a film lasts for at most 6,000. `u32::MAX` stands for that long or
+    /// longer.
+    #[error("too long: the message begins anew after {tenths} tenths of a second, and a film lasts for at most 6000; --seconds N takes the first N")]
+    LongFilm { tenths: u32 },
+    /// A film of so many tenths of a second may have more than 64,000,000 octets.
+    #[error("too large: a film of {tenths} tenths of a second has more than 64 MB; --seconds N takes the first N")]
+    LargeFilm { tenths: u16 },
 }
 
 /// Reads the one message of an input, from this line on, and sees that the input ends behind it.
@@ -74,16 +82,30 @@ fn read_message<R: Read>(
     }
 }
 
-/// The picture of a page of a message at a phase.
+/// Why a message is not drawn, as this crate says it.
+fn picture_fault(fault: DrawFault) -> PictureFault
+    ensures { result ≡ picture_fault fault }
+{
+    match fault {
+        DrawFault::Memory => PictureFault::Tool(ToolFault::Memory),
+        DrawFault::NoPage { pages } => PictureFault::NoPage { pages },
+        DrawFault::TooLarge { tenths } => PictureFault::LargeFilm { tenths },
+        DrawFault::TooLong { tenths } => PictureFault::LongFilm { tenths },
+    }
+}
+
+/// The file of a message.
 fn picture_of(
     alloc: Global,
     sign: &Sign,
     message: &[u8],
-    page: u8,
-    phase: u64,
+    view: View,
+    side: u8,
 ) -> Result<Vec<u8>, PictureFault>
-    ensures drawn { IfOk result (λ text. DrawsPage sign.now message.now page phase text.items) }
-    ensures fault { IfErr result (λ e. IsFaultOf sign.now message.now page e) }
+    requires side { side ≤ 16 }
+    requires seconds { AllowsSeconds view }
+    ensures drawn { IfOk result (λ file. DrawsMessage side sign.now message.now view file.items) }
+    ensures fault { IfErr result (λ e. IsFaultOf side sign.now message.now view e) }
 {
     if message.len() > MAX_STRING {
         return Err(PictureFault::TooLong);
@@ -97,34 +119,25 @@ fn picture_of(
             });
         }
     };
-    let pages = checked.pages();
-    if page >= pages {
-        return Err(PictureFault::NoPage { pages });
+    match draw_message(alloc, sign, &mut checked, message, view, side) {
+        Ok(file) => Ok(file),
+        Err(fault) => Err(picture_fault(fault)),
     }
-    let Ok(colours) = PageColours::new(alloc, sign, &mut checked, page, phase) else {
-        return Err(PictureFault::Tool(ToolFault::Memory));
-    };
-    let mut text = Vec::new(alloc);
-    let Ok(()) = colours.push_ppm(&mut text, sign.classic()) else {
-        return Err(PictureFault::Tool(ToolFault::Memory));
-    };
-    Ok(text)
 }
 
-/// Reads an input to its end, and writes a page of its one message as a file in PPM. The page is counted from 0, and is drawn as it is
-/// at the phase, in tenths of a second since it began.
-///
-/// The input is that of `check`, with one message. A picture has 8 by 8 points for each pixel, and at most 25,165,841 octets. Nothing is
-/// written of a message that isn't drawn. After the fault `Write` the writer has taken a beginning of the picture.
-pub fn run_picture<R: Read, W: Write>(
+/// Reads an input to its end, and draws its one message: the octets of a file in PPM or GIF, with `side` by `side` points for each pixel, 1 to
+/// 16. The input is that of `check`, with one message.
+pub fn draw_picture<R: Read>(
     alloc: Global,
     sample: bool,
-    page: u8,
-    phase: u64,
+    view: View,
+    side: u8,
     reader: &mut R,
-    writer: &mut W,
-) -> Result<(), PictureFault>
-    ensures drawn { DrawsInput sample page phase (R.remaining reader.old) (R.remaining reader.new) (W.contents writer.old) (W.contents writer.new) result }
+) -> Result<Vec<u8>, PictureFault>
+    requires side { side ≤ 16 }
+    requires seconds { AllowsSeconds view }
+    ensures drawn { IfOk result (λ file. IsPicture sample side view (R.remaining reader.old) (R.remaining reader.new) file.items) }
+    ensures fault { IfErr result (IsUndrawn sample side view (R.remaining reader.old) (R.remaining reader.new)) }
 {
     let start = match begin(alloc, sample, reader) {
         Ok(start) => start,
@@ -135,11 +148,31 @@ pub fn run_picture<R: Read, W: Write>(
         Ok(line) => line,
         Err(fault) => return Err(fault),
     };
-    let text = match picture_of(alloc, &setup.sign, text_of(&line), page, phase) {
-        Ok(text) => text,
+    match picture_of(alloc, &setup.sign, text_of(&line), view, side) {
+        Ok(file) => Ok(file),
+        Err(fault) => Err(fault),
+    }
+}
+
+/// Draws the one message of an input as [`draw_picture`] does, and writes the file. Nothing is written of a message that isn't drawn. After
+/// the fault `Write` the writer has taken a beginning of the file.
+pub fn run_picture<R: Read, W: Write>(
+    alloc: Global,
+    sample: bool,
+    view: View,
+    side: u8,
+    reader: &mut R,
+    writer: &mut W,
+) -> Result<(), PictureFault>
+    requires side { side ≤ 16 }
+    requires seconds { AllowsSeconds view }
+    ensures drawn { DrawsInput sample side view (R.remaining reader.old) (R.remaining reader.new) (W.contents writer.old) (W.contents writer.new) result }
+{
+    let file = match draw_picture(alloc, sample, view, side, reader) {
+        Ok(file) => file,
         Err(fault) => return Err(fault),
     };
-    match write_whole(writer, &text) {
+    match write_whole(writer, &file) {
         Ok(()) => Ok(()),
         Err(fault) => Err(PictureFault::Tool(fault)),
     }
