@@ -1,5 +1,6 @@
 mod file;
 mod film;
+mod picture;
 
 use std::process::Abort;
 

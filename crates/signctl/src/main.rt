@@ -24,8 +24,11 @@
 //! `signctl explain` reads what `check` reads, and says of each message why it is refused, or draws its pages. `--phase` says when each page
 //! is drawn, in tenths of a second since it began. The exit status is 1 if a message was refused.
 //!
-//! `signctl picture` reads what `check` reads, with one message, and writes a page of it as a picture in PPM, with 8 by 8 points for each
-//! pixel. `--page` says which page, counted from 1, and `--phase` when, in tenths of a second since the page began.
+//! `signctl picture` reads what `check` reads, with one message, and writes it as a picture in PPM, or with `--gif` in GIF. `--page` says
+//! which page, counted from 1, and `--phase` when, in tenths of a second since the page began; or `--clock` says when, since the message
+//! began to be shown. With `--all` the picture is the message as it plays, until it begins anew or for its first `--seconds`. A pixel has
+//! `--scale` by `--scale` points, 8 by 8 if it isn't given. `--output` names a file that is written in place of standard output, and whose
+//! ending says the format.
 //!
 //! `signctl sign` reads a sign file alone, and writes what it describes, or all faults that it finds in it. `--font` shows the
 //! characters of a font in place of the description. `signctl font` reads a font in BDF, and writes it as the `[[font]]` table of a
@@ -46,6 +49,7 @@
 //! | `refused: error C at octet A; signctl explain tells why` | the sign refuses the message that is to be drawn |
 //! | `too long: a message has at most 4096 octets` | the message that is to be drawn has more |
 //! | `no such page: the last is N` | the message has no such page |
+//! | `too long: ..`, `too large: ..` | the message plays for longer than a film lasts, or the film has too many octets |
 //! | `read failed`, `write failed`, `out of memory` | what they say |
 //! | `line N: ` and what is wrong | the line of a font in BDF is wrong, as `font_bdf::BdfProblem` says |
 //!
@@ -69,8 +73,12 @@ fn run(rt: &HostRuntime, words: &[&str]) -> u8 {
     let mut output = rt.stdout();
     let mut errors = rt.stderr();
     match BufReader::new(alloc, rt.stdin()) {
-        Ok(mut input) => main_with::main_with(alloc, words, &mut input, &mut output, &mut errors),
-        Err(_) => main_with::main_with(alloc, words, &mut rt.stdin(), &mut output, &mut errors),
+        Ok(mut input) => {
+            main_with::main_with(alloc, rt, words, &mut input, &mut output, &mut errors)
+        }
+        Err(_) => {
+            main_with::main_with(alloc, rt, words, &mut rt.stdin(), &mut output, &mut errors)
+        }
     }
 }
 

@@ -1,13 +1,15 @@
 //! What the words of a command line ask for.
 
+use clap::error::ErrorKind;
 use clap::{Arg, ArgAction, ArgMatches, Command, Error, value_parser};
 use font_bdf::FontSetting;
+use message_picture::{Moment, View};
 use sign_tool::Mode;
 use std::alloc::{AllocError, Global};
 
 /// What was asked for (own).
 #[derive(Clone, Copy)]
-pub(crate) enum Request {
+pub(crate) enum Request<'a> {
     /// A run over lines.
     Lines {
         mode: Mode,
@@ -21,19 +23,25 @@ pub(crate) enum Request {
         /// When pages are drawn, in tenths of a second since each began.
         phase: u32,
     },
-    /// A page of a message as a picture.
-    Picture {
-        /// Whether the sample sign was named. If not, the input begins with a sign file.
-        sample: bool,
-        /// The page, counted from 0.
-        page: u8,
-        /// When it is drawn, in tenths of a second since it began.
-        phase: u32,
-    },
+    /// A message as a picture.
+    Picture(PictureRequest<'a>),
     /// What a sign file describes, or the characters of one of its fonts.
     Sign(Option<u8>),
     /// The table of a font.
     Font(FontSetting),
+}
+
+/// A message as a picture (own).
+#[derive(Clone, Copy)]
+pub(crate) struct PictureRequest<'a> {
+    /// Whether the sample sign was named. If not, the input begins with a sign file.
+    pub(crate) sample: bool,
+    /// What is drawn of the message.
+    pub(crate) view: View,
+    /// How many points side by side a pixel has.
+    pub(crate) side: u8,
+    /// The name of the file that is written, if not the output.
+    pub(crate) file: Option<&'a str>,
 }
 
 /// `--sample`, which stands in place of a sign file.
@@ -123,15 +131,87 @@ fn page_option<'a>(alloc: Global) -> Arg<'a> {
         .default_value("1")
 }
 
+/// `--clock`, at which the message is drawn.
+fn moment_option<'a>(alloc: Global) -> Result<Arg<'a>, AllocError> {
+    Arg::new(alloc, "clock")
+        .long("clock")
+        .value_name("N")
+        .help("Draws what is shown N tenths of a second after the message began, 0 to 4294967295")
+        .value_parser(value_parser!(u32))
+        .conflicts_with_all(&["page", "phase"])
+}
+
+/// `--gif`, which is written in place of PPM.
+fn gif_flag<'a>(alloc: Global) -> Arg<'a> {
+    Arg::new(alloc, "gif")
+        .long("gif")
+        .help("Writes GIF in place of PPM")
+        .action(ArgAction::SetTrue)
+}
+
+/// `--all`, for the message as it plays.
+fn all_flag<'a>(alloc: Global) -> Result<Arg<'a>, AllocError> {
+    Arg::new(alloc, "all")
+        .long("all")
+        .help("Draws the message as it plays, over and over, in GIF")
+        .action(ArgAction::SetTrue)
+        .conflicts_with_all(&["page", "phase", "clock"])
+}
+
+/// `--seconds`, for the beginning of it.
+fn seconds_option<'a>(alloc: Global) -> Result<Arg<'a>, AllocError> {
+    Arg::new(alloc, "seconds")
+        .long("seconds")
+        .value_name("N")
+        .help("With --all: draws the first N seconds, 1 to 600")
+        .value_parser(value_parser!(u16).range(1..=600))
+        .requires_arg("all")
+}
+
+/// `--scale`, the size of a pixel.
+fn scale_option<'a>(alloc: Global) -> Arg<'a> {
+    Arg::new(alloc, "scale")
+        .long("scale")
+        .value_name("N")
+        .help("Draws each pixel with N by N points, 1 to 16; its dot is round from 4 on")
+        .value_parser(value_parser!(u8).range(1..=16))
+        .default_value("8")
+}
+
+/// `--output`, the file that is written.
+fn output_option<'a>(alloc: Global) -> Arg<'a> {
+    Arg::new(alloc, "output")
+        .long("output")
+        .value_name("FILE")
+        .help("Writes this file, in the format of its ending, .gif or .ppm")
+}
+
+/// With what is drawn of a message.
+fn with_view<'a>(alloc: Global, picture: Command<'a>) -> Result<Command<'a>, AllocError> {
+    picture
+        .arg(page_option(alloc))?
+        .arg(phase_option(alloc))?
+        .arg(moment_option(alloc)?)?
+        .arg(all_flag(alloc)?)?
+        .arg(seconds_option(alloc)?)
+}
+
+/// With how it is written.
+fn with_file<'a>(alloc: Global, picture: Command<'a>) -> Result<Command<'a>, AllocError> {
+    picture
+        .arg(gif_flag(alloc))?
+        .arg(scale_option(alloc))?
+        .arg(output_option(alloc))
+}
+
 /// `signctl picture`, which takes one message.
 fn picture_command<'a>(alloc: Global) -> Result<Command<'a>, AllocError> {
-    Command::new(alloc, "picture")
+    let picture = Command::new(alloc, "picture")
         .about(
-            "Reads a sign file, a line %% and one message, and writes a page of it as a picture in PPM",
+            "Reads a sign file, a line %% and one message, and writes it as a picture in PPM or GIF",
         )
-        .arg(sample_flag(alloc))?
-        .arg(page_option(alloc))?
-        .arg(phase_option(alloc))
+        .arg(sample_flag(alloc))?;
+    with_file(alloc, with_view(alloc, picture)?)
 }
 
 /// `--font`, whose characters are shown.
@@ -285,9 +365,79 @@ fn setting_of(font: &ArgMatches<'_>) -> FontSetting {
     }
 }
 
+/// What a file with this name, or the output, is written in: whether it is GIF, or why it is nothing.
+fn is_gif(file: Option<&str>, gif: bool) -> Result<bool, &'static str> {
+    let Some(file) = file else {
+        return Ok(gif);
+    };
+    if file.ends_with(".gif") {
+        return Ok(true);
+    }
+    if !file.ends_with(".ppm") {
+        return Err("the name of a picture's file ends in .gif or .ppm");
+    }
+    if gif {
+        return Err("a file whose name ends in .ppm is no GIF");
+    }
+    Ok(false)
+}
+
+/// The moment that is drawn.
+fn moment_of(picture: &ArgMatches<'_>) -> Moment {
+    let clock: Option<u32> = picture.get_one("clock");
+    if let Some(clock) = clock {
+        return Moment::Clock {
+            clock: u64::from(clock),
+        };
+    }
+    let page: u8 = picture.get_one("page").unwrap_or(1);
+    let phase: u32 = picture.get_one("phase").unwrap_or(0);
+    Moment::Page {
+        page: page.saturating_sub(1),
+        phase: u64::from(phase),
+    }
+}
+
+/// What is drawn of a message, or why it is nothing.
+fn view_of(picture: &ArgMatches<'_>, gif: bool) -> Result<View, &'static str> {
+    if picture.get_flag("all") {
+        if !gif {
+            return Err(
+                "--all writes GIF: it goes with --gif, or with a file whose name ends in .gif",
+            );
+        }
+        return Ok(View::Film {
+            seconds: picture.get_one("seconds"),
+        });
+    }
+    let moment = moment_of(picture);
+    Ok(if gif {
+        View::Gif { moment }
+    } else {
+        View::Ppm { moment }
+    })
+}
+
+/// The picture that is asked for, or why it is none.
+fn picture_of<'a>(
+    picture: &ArgMatches<'a>,
+    sample: bool,
+) -> Result<PictureRequest<'a>, &'static str> {
+    let file = picture.get_str("output");
+    let gif = is_gif(file, picture.get_flag("gif"))?;
+    let view = view_of(picture, gif)?;
+    Ok(PictureRequest {
+        sample,
+        view,
+        side: picture.get_one("scale").unwrap_or(8),
+        file,
+    })
+}
+
 /// Reads the words, the program's name first. Help is an `Err` too, and so is refused memory.
-pub(crate) fn request_of<'a>(alloc: Global, words: &'a [&'a str]) -> Result<Request, Error> {
-    let matches = command(alloc)?.try_get_matches_from(words)?;
+pub(crate) fn request_of<'a>(alloc: Global, words: &'a [&'a str]) -> Result<Request<'a>, Error> {
+    let mut tool = command(alloc)?;
+    let matches = tool.try_get_matches_from_mut(words)?;
     if let Some(font) = matches.subcommand_matches("font") {
         return Ok(Request::Font(setting_of(font)));
     }
@@ -302,12 +452,10 @@ pub(crate) fn request_of<'a>(alloc: Global, words: &'a [&'a str]) -> Result<Requ
         return Ok(Request::Explain { sample, phase });
     }
     if let Some(picture) = matches.subcommand_matches("picture") {
-        let page: u8 = picture.get_one("page").unwrap_or(1);
-        return Ok(Request::Picture {
-            sample,
-            page: page.saturating_sub(1),
-            phase: picture.get_one("phase").unwrap_or(0),
-        });
+        return match picture_of(picture, sample) {
+            Ok(asked) => Ok(Request::Picture(asked)),
+            Err(why) => Err(tool.error(ErrorKind::ArgumentConflict, why)?),
+        };
     }
     Ok(Request::Lines {
         mode: mode_of(&matches),

@@ -12,8 +12,7 @@ pub returns-in-Ok-picture_of-clause-drawn : goal.returns-in-Ok-picture_of-clause
 returns-in-Ok-picture_of-clause-drawn g c =
     let (taken, took, leads) = c.in-Ok.ensures.starts in
     let line = c.in-Ok-read_message.line.items in
-    let said = c.text_of.ensures.text ∙ ap text_of c.deref.ensures.value in
-    (
+    let said = c.text_of.ensures.text ∙ ap text_of c.deref.ensures.value in (
       c.in-Ok.start.setup,
       line,
       record {

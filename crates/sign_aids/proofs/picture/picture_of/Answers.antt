@@ -21,4 +21,4 @@ returns-in-Err-draw_message-clause-fault c =
     let same = ap (λ (s : Counted). s.octets) c.new.ensures in
     let accepted = c.in-Ok.ensures.accepted in
     subst (IsFaultOf c.args.side c.args.sign.now c.args.message.now c.args.view) (sym c.picture_fault.ensures)
-        (PictureLemmas.no_picture c.args.side c.args.sign.now c.args.sign.now _ c.args.message.now accepted.0 c.args.view c.in-Err-draw_message.fault refl same accepted.1 c.in-Err-draw_message.ensures.fault)
+    (PictureLemmas.no_picture c.args.side c.args.sign.now c.args.sign.now _ c.args.message.now accepted.0 c.args.view c.in-Err-draw_message.fault refl same accepted.1 c.in-Err-draw_message.ensures.fault)

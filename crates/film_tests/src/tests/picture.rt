@@ -1,0 +1,104 @@
+//! Messages as pictures in files.
+
+use crate::tests::so;
+use message_picture::{DrawFault, Moment, View, draw_message};
+use multi_layout::check;
+use multi_token::Source;
+use sign_font::{Sign, sample_sign};
+
+/// Two pages, of which the first is shown for a second and then is off for half a second. The sign has 12 by 7 pixels.
+const MESSAGE: &[u8] = b"[pt10o5]I[np]A";
+
+/// Red, green and blue of a dot that is lit on a monochrome sign, and of one that is dark.
+const LIT: [u8; 3] = [255, 176, 0];
+
+const DARK: [u8; 3] = [40, 40, 40];
+
+/// What a file in PPM of 12 by 7 points begins with.
+const HEAD: &[u8] = b"P6\n12 7\n255\n";
+
+#[test]
+fn a_moment_is_drawn_in_ppm(rt: HostRuntime) {
+    let alloc = rt.alloc();
+    let parts = sample_sign(alloc).expect(&rt, "the parts");
+    let sign = Sign::new(alloc, parts).expect(&rt, "a sign");
+    let Ok(mut checked) = check(&sign, Source::new(MESSAGE)) else {
+        panic!(rt; "the string is accepted");
+    };
+    // The moment, and the shares of the points of row 2, column 5, and of row 3, column 4: an `I` has only the first, an `A` both, and an
+    // off time none.
+    let rows = [
+        (Moment::Page { page: 0, phase: 0 }, LIT, DARK),
+        (Moment::Page { page: 1, phase: 0 }, LIT, LIT),
+        (Moment::Clock { clock: 9 }, LIT, DARK),
+        (Moment::Clock { clock: 10 }, DARK, DARK),
+        (Moment::Clock { clock: 14 }, DARK, DARK),
+        (Moment::Clock { clock: 15 }, LIT, LIT),
+    ];
+    for (moment, first, second) in rows {
+        let view = View::Ppm { moment };
+        let file = draw_message(alloc, &sign, &mut checked, MESSAGE, view, 1).expect(&rt, "a file");
+        so(&rt, file.len() == 12 + 3 * 84, "the length of the file");
+        so(
+            &rt,
+            file.get(..12).expect(&rt, "a head") == HEAD,
+            "its head",
+        );
+        so(
+            &rt,
+            file.get(99..102).expect(&rt, "a point") == first.as_slice(),
+            "row 2",
+        );
+        so(
+            &rt,
+            file.get(132..135).expect(&rt, "a point") == second.as_slice(),
+            "row 3",
+        );
+    }
+    let view = View::Ppm {
+        moment: Moment::Page { page: 2, phase: 0 },
+    };
+    let missing = draw_message(alloc, &sign, &mut checked, MESSAGE, view, 1);
+    so(
+        &rt,
+        missing == Err(DrawFault::NoPage { pages: 2 }),
+        "no third page",
+    );
+}
+
+#[test]
+fn a_moment_and_a_film_are_drawn_in_gif(rt: HostRuntime) {
+    let alloc = rt.alloc();
+    let parts = sample_sign(alloc).expect(&rt, "the parts");
+    let sign = Sign::new(alloc, parts).expect(&rt, "a sign");
+    let Ok(mut checked) = check(&sign, Source::new(MESSAGE)) else {
+        panic!(rt; "the string is accepted");
+    };
+    let views = [
+        View::Gif {
+            moment: Moment::Clock { clock: 10 },
+        },
+        View::Film { seconds: None },
+        View::Film { seconds: Some(1) },
+    ];
+    for view in views {
+        let file = draw_message(alloc, &sign, &mut checked, MESSAGE, view, 4).expect(&rt, "a file");
+        let head = file.get(..10).expect(&rt, "a head");
+        // 48 by 28 points
+        so(
+            &rt,
+            head == b"GIF89a\x30\x00\x1c\x00".as_slice(),
+            "its head",
+        );
+    }
+    let message = b"[flt1o250][flt1o240][flt1o238][flt1o232]I";
+    let Ok(mut checked) = check(&sign, Source::new(message)) else {
+        panic!(rt; "the string is accepted");
+    };
+    let view = View::Film { seconds: None };
+    let long = draw_message(alloc, &sign, &mut checked, message, view, 1);
+    let want = DrawFault::TooLong {
+        tenths: 3_368_562_317,
+    };
+    so(&rt, long == Err(want), "more than ten minutes");
+}
