@@ -5,6 +5,8 @@ use message_picture::{DrawFault, Moment, View, draw_message};
 use multi_layout::check;
 use multi_token::Source;
 use sign_font::{Sign, sample_sign};
+use std::alloc::Global;
+use std::process::Abort;
 
 /// Two pages, of which the first is shown for a second and then is off for half a second. The sign has 12 by 7 pixels.
 const MESSAGE: &[u8] = b"[pt10o5]I[np]A";
@@ -17,14 +19,27 @@ const DARK: [u8; 3] = [40, 40, 40];
 /// What a file in PPM of 12 by 7 points begins with.
 const HEAD: &[u8] = b"P6\n12 7\n255\n";
 
+/// A short text as a picture, by a verdict of its own.
+fn drawn(
+    rt: &impl Abort,
+    alloc: Global,
+    sign: &Sign,
+    text: &[u8],
+    view: View,
+    side: u8,
+) -> Result<Vec<u8>, DrawFault> {
+    assert!(rt; text.len() <= 100);
+    let Ok(mut checked) = check(sign, Source::new(text)) else {
+        panic!(rt; "the string is accepted");
+    };
+    draw_message(alloc, sign, &mut checked, text, view, side)
+}
+
 #[test]
 fn a_moment_is_drawn_in_ppm(rt: HostRuntime) {
     let alloc = rt.alloc();
     let parts = sample_sign(alloc).expect(&rt, "the parts");
     let sign = Sign::new(alloc, parts).expect(&rt, "a sign");
-    let Ok(mut checked) = check(&sign, Source::new(MESSAGE)) else {
-        panic!(rt; "the string is accepted");
-    };
     // The moment, and the shares of the points of row 2, column 5, and of row 3, column 4: an `I` has only the first, an `A` both, and an
     // off time none.
     let rows = [
@@ -37,7 +52,7 @@ fn a_moment_is_drawn_in_ppm(rt: HostRuntime) {
     ];
     for (moment, first, second) in rows {
         let view = View::Ppm { moment };
-        let file = draw_message(alloc, &sign, &mut checked, MESSAGE, view, 1).expect(&rt, "a file");
+        let file = drawn(&rt, alloc, &sign, MESSAGE, view, 1).expect(&rt, "a file");
         so(&rt, file.len() == 12 + 3 * 84, "the length of the file");
         so(
             &rt,
@@ -58,7 +73,7 @@ fn a_moment_is_drawn_in_ppm(rt: HostRuntime) {
     let view = View::Ppm {
         moment: Moment::Page { page: 2, phase: 0 },
     };
-    let missing = draw_message(alloc, &sign, &mut checked, MESSAGE, view, 1);
+    let missing = drawn(&rt, alloc, &sign, MESSAGE, view, 1);
     so(
         &rt,
         missing == Err(DrawFault::NoPage { pages: 2 }),
@@ -71,9 +86,6 @@ fn a_moment_and_a_film_are_drawn_in_gif(rt: HostRuntime) {
     let alloc = rt.alloc();
     let parts = sample_sign(alloc).expect(&rt, "the parts");
     let sign = Sign::new(alloc, parts).expect(&rt, "a sign");
-    let Ok(mut checked) = check(&sign, Source::new(MESSAGE)) else {
-        panic!(rt; "the string is accepted");
-    };
     let views = [
         View::Gif {
             moment: Moment::Clock { clock: 10 },
@@ -82,7 +94,7 @@ fn a_moment_and_a_film_are_drawn_in_gif(rt: HostRuntime) {
         View::Film { seconds: Some(1) },
     ];
     for view in views {
-        let file = draw_message(alloc, &sign, &mut checked, MESSAGE, view, 4).expect(&rt, "a file");
+        let file = drawn(&rt, alloc, &sign, MESSAGE, view, 4).expect(&rt, "a file");
         let head = file.get(..10).expect(&rt, "a head");
         // 48 by 28 points
         so(
@@ -92,11 +104,8 @@ fn a_moment_and_a_film_are_drawn_in_gif(rt: HostRuntime) {
         );
     }
     let message = b"[flt1o250][flt1o240][flt1o238][flt1o232]I";
-    let Ok(mut checked) = check(&sign, Source::new(message)) else {
-        panic!(rt; "the string is accepted");
-    };
     let view = View::Film { seconds: None };
-    let long = draw_message(alloc, &sign, &mut checked, message, view, 1);
+    let long = drawn(&rt, alloc, &sign, message, view, 1);
     let want = DrawFault::TooLong {
         tenths: 3_368_562_317,
     };
