@@ -3,7 +3,6 @@
 use crate::tests::so;
 use multi_layout::{Shown, check, check_with};
 use multi_token::Source;
-use page_picture::write_colours;
 use page_plane::Plane;
 use sign_font::{LineFill, Sign, sample_sign};
 
@@ -29,23 +28,6 @@ fn only_making_a_sign_and_a_plane_takes_memory(rt: HostRuntime) {
         &rt,
         checked.locate(30) == second && checked.draw(0, 0, 1, &mut plane),
         "page 1 is found, and page 0 drawn",
-    );
-    let mut colours = [9u8; 84];
-    so(
-        &rt,
-        write_colours(&mut checked, second, &mut plane, &mut colours),
-        "there are as many octets as pixels",
-    );
-    so(
-        &rt,
-        colours.iter().filter(|colour| **colour == 1).count() == 6,
-        "an `A` has six pixels",
-    );
-    let mut few = [9u8; 83];
-    so(
-        &rt,
-        !write_colours(&mut checked, second, &mut plane, &mut few) && few == [9u8; 83],
-        "there is an octet too few",
     );
     let mut pages = checked.each_page(0, 1, plane);
     for page in 0..2 {
