@@ -138,7 +138,8 @@ fn moment_option<'a>(alloc: Global) -> Result<Arg<'a>, AllocError> {
         .value_name("N")
         .help("Draws what is shown N tenths of a second after the message began, 0 to 4294967295")
         .value_parser(value_parser!(u32))
-        .conflicts_with_all(&["page", "phase"])
+        .conflicts_with("page")?
+        .conflicts_with("phase")
 }
 
 /// `--gif`, which is written in place of PPM.
@@ -155,7 +156,9 @@ fn all_flag<'a>(alloc: Global) -> Result<Arg<'a>, AllocError> {
         .long("all")
         .help("Draws the message as it plays, over and over, in GIF")
         .action(ArgAction::SetTrue)
-        .conflicts_with_all(&["page", "phase", "clock"])
+        .conflicts_with("page")?
+        .conflicts_with("phase")?
+        .conflicts_with("clock")
 }
 
 /// `--seconds`, for the beginning of it.

@@ -1,5 +1,8 @@
 //! Messages as pictures in files.
 
+ghost use Rattle.std.specs.Prelude.{◌≤◌};
+ghost use Rattle.message_picture.specs.Drawn.{AllowsSeconds};
+
 use crate::tests::so;
 use message_picture::{DrawFault, Moment, View, draw_message};
 use multi_layout::check;
@@ -27,7 +30,10 @@ fn drawn(
     text: &[u8],
     view: View,
     side: u8,
-) -> Result<Vec<u8>, DrawFault> {
+) -> Result<Vec<u8>, DrawFault>
+    requires side { side ≤ 16 }
+    requires seconds { AllowsSeconds view }
+{
     assert!(rt; text.len() <= 100);
     let Ok(mut checked) = check(sign, Source::new(text)) else {
         panic!(rt; "the string is accepted");
