@@ -153,9 +153,8 @@ module _ (kept : Pass) (run : IsFilledRun kept) (gap room : ℕ) (runs : IsRun k
         behind = record {
           group = run.behind.group;
           line = record { segment = one.segment; parts = one.parts; any = one.any; height = one.height; spacing = one.spacing; last = one.last };
-          width = still_fits;
-          height = run.behind.height;
         };
+        fits = record { width = still_fits; height = run.fits.height };
         order = run.order;
         split = split_goes_on here gap width runs.gap_is space line kept.split run.split;
       }
@@ -206,7 +205,7 @@ module _ (sign : SignData) (octets : List ℕ) (at : ℕ) (kept : Pass) (r : Rea
       (λ cell found. fills_one kept run gap room runs wide some fits (octet == 32) known)
       (kept_fits attributes.rectangle.width longer) (kept_fits_height attributes.rectangle.height area)
       (λ l e. kept_fits_is l longer attributes.rectangle.width e known) (λ l placing e. kept_area_fits l area attributes.rectangle.height placing e (omega (arith, st.below.known)))
-      (both_true (kept_fits attributes.rectangle.width longer) (kept_fits_height attributes.rectangle.height area) (still_fits kept run gap room runs wide some fits (octet == 32)) run.behind.height)
+      (both_true (kept_fits attributes.rectangle.width longer) (kept_fits_height attributes.rectangle.height area) (still_fits kept run gap room runs wide some fits (octet == 32)) run.fits.height)
       kept.order (λ line s just apart goes stays. order_stays line s kept.order (goes refl) (run.order.0 ∙ sym just) (run.order.1 ∙ ap (λ n. nat_lt n 5) (sym just)))
       (longer_below (1024 * length items) (line.part.width + (gap + wide)) (line.part.count + 1) kept.state.area below (omega (arith, below.group.line.part.width, runs.narrow, small)) (omega (arith, below.group.line.part.count)))
       (split_grows attributes gap wide runs.gap_is (1024 * length items) (octet == 32) line kept.split st.line_just.1 runs.narrow small below.group.line of.split_below) in

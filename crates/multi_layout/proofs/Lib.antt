@@ -6,6 +6,7 @@ pub mod AreaLemmas
 pub mod AreaLinesLemmas
 pub mod AreaSumLemmas
 pub mod AttributeExamples
+pub mod BeforeLemmas
 pub mod BehindLemmas
 pub mod BoundLemmas
 pub mod BreakLemmas

@@ -48,7 +48,7 @@ joined before area s big false g placing small =
     ap (line_fits s.at.rectangle.width) whole ∙ line_none s.at.rectangle.width
 
 -- behind the items of an accepted string the present line of each group fits the rectangle in force
-lines_fit_always : (sign : SignData) (items : List Meaning) → IsFine sign items → LinesFit (standing sign items).rectangle.width (present_area sign items)
+pub lines_fit_always : (sign : SignData) (items : List Meaning) → IsFine sign items → LinesFit (standing sign items).rectangle.width (present_area sign items)
 lines_fit_always sign =
     holds_always sign (λ r area. LinesFit r.width area) (λ r just. line_none r.width)
     (λ before put placing small old just.

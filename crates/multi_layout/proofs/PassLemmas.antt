@@ -16,10 +16,12 @@ use Rattle.multi_layout.specs.Offence.{offence}
 use Rattle.multi_layout.specs.PassOf.{IsItemJudged, IsPassOf, IsPassReady, fill_of}
 use Rattle.multi_layout.specs.Progress.{IsAt, IsTold, ReadSoFar}
 use Rattle.multi_layout.specs.State.{IsJudged, IsStateOf, present_area, whole_times}
+use Rattle.multi_layout.specs.Words.{some_after}
 use Rattle.multi_layout.proofs.FilledJudgedLemmas.{filled_undefined}
 use Rattle.multi_layout.proofs.FilledReadLemmas.{filled_ready_here, filled_told}
 use Rattle.multi_layout.proofs.JudgedLemmas.{judged-undefined}
 use Rattle.multi_layout.proofs.ReadLemmas.{ready_here, unfilled_told}
+use Rattle.multi_layout.proofs.WordLemmas.{none_more}
 
 -- whether lines are filled, as a number that isn't 0
 pub is_true : (n : ℕ) → (n ≡ 0 → ⊥) → not (n == 0) ≡ true
@@ -36,18 +38,18 @@ judged_filled sign items item (Ok done) pass words (fine, of) =
 judged_filled sign items item (Err error) pass words offends = subst (λ (setting : LineFill). offence setting sign items item ≡ Some (code_of error)) (sym words) offends
 
 -- and where they aren't
-pub judged_unfilled : (sign : SignData) (items : List Meaning) (item : Meaning) (result : Result (Unit {0}) SyntaxError) (pass : Pass) → sign.line_fill ≡ Off → IsJudged sign items item result pass.state
+pub judged_unfilled : (sign : SignData) (items : List Meaning) (item : Meaning) (result : Result (Unit {0}) SyntaxError) (pass : Pass) → sign.line_fill ≡ Off → some_after (offence Off sign) items ≡ [] → IsJudged sign items item result pass.state
     → IsItemJudged false sign items item result pass
-judged_unfilled sign items item (Ok done) pass off (fine, st) =
-    (subst (λ (setting : LineFill). offence setting sign items item ≡ None) (sym off) fine, record { off = off; state_is = st })
-judged_unfilled sign items item (Err error) pass off offends = subst (λ (setting : LineFill). offence setting sign items item ≡ Some (code_of error)) (sym off) offends
+judged_unfilled sign items item (Ok done) pass off none (fine, st) =
+    (subst (λ (setting : LineFill). offence setting sign items item ≡ None) (sym off) fine, record { off = off; fine = none_more (offence Off sign) items item none fine; state_is = st })
+judged_unfilled sign items item (Err error) pass off none offends = subst (λ (setting : LineFill). offence setting sign items item ≡ Some (code_of error)) (sym off) offends
 
 -- before the first item
 pub pass_start : (sign : SignData) (pass : Pass) (words : Bool) → sign.line_fill ≡ fill_of words → IsStateOf sign [] pass.state
     → (IsStateOf sign (laid_items Words sign [] []) pass.state → present_area sign [] ≡ [] → IsFilledOf sign [] pass) → IsPassOf words sign pass []
 unfolding spots
 pass_start sign pass true is st filled = record { words = is; of = filled st refl }
-pass_start sign pass false is st filled = record { off = is; state_is = st }
+pass_start sign pass false is st filled = record { off = is; fine = refl; state_is = st }
 
 -- a character without a cell
 pub pass_undefined : (sign : SignData) (items : List Meaning) (pass : Pass) (words : Bool) → IsPassOf words sign pass items → (number : ℕ) → cell_in sign pass.state.attributes.font.number number ≡ None

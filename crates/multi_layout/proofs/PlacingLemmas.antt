@@ -11,6 +11,7 @@ use Rattle.multi_layout.specs.declared.attributes.Attributes.{Attributes}
 use Rattle.multi_layout.specs.declared.line.Character.{Character}
 use Rattle.multi_layout.specs.declared.state.State.{State}
 use Rattle.multi_layout.specs.Address.{Break, Glyph, Spot, area_of, in_group, is_break, is_glyph, spots, standing}
+use Rattle.multi_layout.specs.Fit.{FitsWithout}
 use Rattle.multi_layout.specs.Meaning.{Meaning, Shows, Does}
 use Rattle.multi_layout.specs.Offence.{clashes, conflicts, never_big, offence, unsized_offence}
 use Rattle.multi_layout.specs.State.{IsStateOf, present_area}
@@ -91,7 +92,9 @@ module _ (sign : SignData) (items : List Meaning) (state : State) (st : IsStateO
         (sum : (xs : List Spot) (s : Spot) → All IsPlacing xs → state.area ≡ area_sum xs → IsCharacter s character → s.at.page_just ≡ state.attributes.page_just → state.area.present ≤ state.attributes.page_just
         → list_any (clashes s) (after_last is_break (in_group state.attributes.page_just xs)) ≡ false → area ≡ area_sum (xs ++ s ∷ []))
         (f : Bool)
-        (fits : (before : List Spot) (s : Spot) → is_glyph s ≡ true → area ≡ area_sum (area_of s before ++ s ∷ []) → area.present ≡ s.at.page_just → s.at.rectangle.width ≡ state.attributes.rectangle.width → s.at.rectangle.height ≡ state.attributes.rectangle.height → f ≡ not (too_big Off before s)) where
+        (fits : (before : List Spot) (s : Spot) → is_glyph s ≡ true → area ≡ area_sum (area_of s before ++ s ∷ []) → area.present ≡ s.at.page_just → s.at.line_just ≡ state.attributes.line_just
+        → s.at.rectangle.width ≡ state.attributes.rectangle.width → s.at.rectangle.height ≡ state.attributes.rectangle.height → FitsWithout before s → f ≡ not (too_big Off before s))
+        (without : (s : Spot) → s.at ≡ standing sign items → FitsWithout (spots sign items) s) where
       pub character-exit-too_big : r ≡ false → f ≡ false → offence Off sign items (Shows number) ≡ Some 5
       character-exit-too_big is big =
           let (cell, found, width) = cell_found sign items state st number c some in
@@ -103,7 +106,7 @@ module _ (sign : SignData) (items : List Meaning) (state : State) (st : IsStateO
           let grown = sum (present_area sign items) s placing st.area (is_character c character just spacing wide font cell width) page_is order apart in
           let present = present_behind (present_area sign items) s state.area area st.area grown (omega (arith, order, page_is)) in
           character-too_big sign items state st number cell found (sym (answer before s st.area refl page_is line_is) ∙ is)
-          (not_false f (too_big Off before s) (fits before s refl grown present width_is height_is) big)
+          (not_false f (too_big Off before s) (fits before s refl grown present line_is width_is height_is (without s refl)) big)
 
       pub character-exit-fits : r ≡ false → f ≡ true → IsBelow (1024 * length items + 1024) area
           → (offence Off sign items (Shows number) ≡ None) × IsStateOf sign (items ++ Shows number ∷ []) (record state { area = area })
@@ -117,7 +120,7 @@ module _ (sign : SignData) (items : List Meaning) (state : State) (st : IsStateO
           let grown = sum (present_area sign items) s placing st.area (is_character c character just spacing wide font cell width) page_is order apart in
           let present = present_behind (present_area sign items) s state.area area st.area grown (omega (arith, order, page_is)) in (
             character-fits sign items state st number cell found (sym (answer before s st.area refl page_is line_is) ∙ is)
-                (not_true f (too_big Off before s) (fits before s refl grown present width_is height_is) fine),
+                (not_true f (too_big Off before s) (fits before s refl grown present line_is width_is height_is (without s refl)) fine),
             state-character sign items state st number cell found area grown below,
           )
 

@@ -26,6 +26,7 @@ use Rattle.multi_layout.specs.Verdict.{Accepted, IsCycle, IsVerdict, Refused, br
 use Rattle.multi_layout.proofs.JudgedLemmas.{ready}
 use Rattle.multi_layout.proofs.WalkLemmas.{length-meanings}
 use Rattle.multi_layout.proofs.VerdictLemmas.{item_refused, offences_push, one_verdict}
+use Rattle.multi_layout.proofs.WordLemmas.{none_more}
 
 -- where no octet stands is the end
 pub at_end : (octets : List ℕ) (at : ℕ) → at ≤ length octets → slice_get octets at ≡ None → length octets ≡ at
@@ -124,7 +125,8 @@ module _ (sign : SignData) (octets : List ℕ) (at : ℕ) (state : State) (r : R
         → ReadSoFar sign octets (at + t.len) (IsUnfilledOf sign new)
     unfilled_more new fine st =
         read_more sign octets at (IsUnfilledOf sign state) r t here stands (IsUnfilledOf sign new)
-        (subst (λ setting. offence setting sign (map meaning r.items) (meaning (item_of octets t)) ≡ None) (sym r.is.off) fine) (record { off = r.is.off; state_is = st })
+        (subst (λ setting. offence setting sign (map meaning r.items) (meaning (item_of octets t)) ≡ None) (sym r.is.off) fine)
+        (record { off = r.is.off; fine = none_more (offence Off sign) (map meaning r.items) (meaning (item_of octets t)) r.is.fine fine; state_is = st })
 
 -- what is told of a string where all its items are read
 pub unfilled_told : (sign : SignData) (octets : List ℕ) (at : ℕ) (state : State) (source : Counted) → IsAt sign octets at None (IsUnfilledOf sign state) source → IsTold sign octets state.pages (whole_times state) source

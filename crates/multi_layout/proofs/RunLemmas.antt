@@ -14,8 +14,8 @@ use Rattle.multi_layout.specs.declared.line.Character.{Character}
 use Rattle.multi_layout.specs.declared.line.Line.{Line}
 use Rattle.multi_layout.specs.declared.line.Segment.{Segment}
 use Rattle.multi_layout.specs.declared.state.State.{State}
-use Rattle.multi_layout.specs.Address.{Spot, area_of, in_group, is_break, is_glyph, lines_of, segment}
-use Rattle.multi_layout.specs.Fit.{area_fits, fit, line_fits}
+use Rattle.multi_layout.specs.Address.{Spot, area_of, in_group, is_break, is_glyph, lines_of, segment, spots, standing}
+use Rattle.multi_layout.specs.Fit.{FitsWithout, area_fits, fit, line_fits}
 use Rattle.multi_layout.specs.Line.{average, height_of, width_of}
 use Rattle.multi_layout.specs.Meaning.{Meaning, Shows}
 use Rattle.multi_layout.specs.Offence.{clashes, conflicts, offence}
@@ -166,7 +166,8 @@ not_full n = elim (cases_eq n 5) [
 -- ---- what a character of the run does
 
 module _ (sign : SignData) (items : List Meaning) (state : State) (st : IsStateOf sign items state) (gap room : ℕ) (run : IsRun state gap room)
-    (number : ℕ) (cell : SizedCell) (found : cell_in sign state.attributes.font.number number ≡ Some cell) (wide : 1 ≤ cell.width) where
+    (number : ℕ) (cell : SizedCell) (found : cell_in sign state.attributes.font.number number ≡ Some cell) (wide : 1 ≤ cell.width)
+    (without : (s : Spot) → s.at ≡ standing sign items → FitsWithout (spots sign items) s) where
   abbrev pub longer : Area
   longer = lengthened_area ((line_in_force state).part.width + (gap + cell.width)) ((line_in_force state).part.count + 1) state.area
 
@@ -222,4 +223,4 @@ module _ (sign : SignData) (items : List Meaning) (state : State) (st : IsStateO
       → (offence Off sign items (Shows number) ≡ None) × IsStateOf sign (items ++ Shows number ∷ []) (lengthened ((line_in_force state).part.width + (gap + cell.width)) ((line_in_force state).part.count + 1) state)
   run_goes_on fits below =
       character-exit-fits sign items state st number cell found false agrees seen longer refl refl refl refl sum_behind
-      (nat_le ((line_in_force state).part.width + (gap + cell.width)) room) fits_behind refl (le-leb ((line_in_force state).part.width + (gap + cell.width)) room fits) below
+      (nat_le ((line_in_force state).part.width + (gap + cell.width)) room) (λ before s glyph sum present line w h alone. fits_behind before s glyph sum present w h) without refl (le-leb ((line_in_force state).part.width + (gap + cell.width)) room fits) below

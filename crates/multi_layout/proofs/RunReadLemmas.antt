@@ -20,6 +20,7 @@ use Rattle.multi_layout.specs.Progress.{ReadSoFar}
 use Rattle.multi_layout.specs.Run.{IsRun, lengthened, line_in_force}
 use Rattle.multi_layout.specs.State.{IsUnfilledOf}
 use Rattle.multi_layout.specs.Sums.{IsBelow}
+use Rattle.multi_layout.proofs.BeforeLemmas.{fits_without}
 use Rattle.multi_layout.proofs.ReadLemmas.{unfilled_more}
 use Rattle.multi_layout.proofs.RunLemmas.{longer_below, run_goes_on, run_stays}
 
@@ -49,7 +50,7 @@ module _ (sign : SignData) (octets : List ℕ) (at : ℕ) (state : State) (r : R
         let below : IsBelow (1024 * length (map meaning r.items) + 1024) (lengthened ((line_in_force state).part.width + (gap + cell.width)) ((line_in_force state).part.count + 1) state).area =
         longer_below (1024 * length (map meaning r.items)) ((line_in_force state).part.width + (gap + cell.width)) ((line_in_force state).part.count + 1) state.area st.below
         (omega (arith, st.below.group.line.part.width, run.narrow, narrow, is)) (omega (arith, st.below.group.line.part.count)) in
-        let behind = run_goes_on sign (map meaning r.items) state st gap room run octet cell found (omega (arith, some, is)) (omega (arith, fits, is)) below in
+        let behind = run_goes_on sign (map meaning r.items) state st gap room run octet cell found (omega (arith, some, is)) (fits_without sign (map meaning r.items) r.is.fine) (omega (arith, fits, is)) below in
         let longer = unfilled_more sign octets at state r token refl stands (lengthened ((line_in_force state).part.width + (gap + cell.width)) ((line_in_force state).part.count + 1) state) behind.0 behind.1 in
         rw is longer
 

@@ -69,6 +69,10 @@ some_after-append f xs ys = ap (λ l. filter_map (λ o. o) l) (each_after-append
 pub some_after_push : {X Y : Type 0} (f : List X → X → Option Y) (xs : List X) (x : X) → some_after f (xs ++ x ∷ []) ≡ some_after f xs ++ cons_option (f xs x) []
 some_after_push f xs x = ap (λ l. filter_map (λ o. o) l) (each_after_push f xs x) ∙ filter_map-append (λ o. o) (each_after f xs) (f xs x ∷ [])
 
+-- of none is made something, and of one more neither
+pub none_more : {X Y : Type 0} (f : List X → X → Option Y) (xs : List X) (x : X) → some_after f xs ≡ [] → f xs x ≡ None → some_after f (xs ++ x ∷ []) ≡ []
+none_more f xs x none fine = some_after_push f xs x ∙ ap (λ l. l ++ cons_option (f xs x) []) none ∙ ap (λ o. cons_option o []) fine
+
 -- a loop's step
 module _ {X : Type 0} (xs : List X) (i : ℕ) (d : X) (within : i < length xs) where
   pub some_after_more : {Y : Type 0} (f : List X → X → Option Y) → some_after f (take (i + 1) xs) ≡ some_after f (take i xs) ++ cons_option (f (take i xs) (get_or xs i d)) []

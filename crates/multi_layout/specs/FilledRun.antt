@@ -7,12 +7,7 @@ use Rattle.multi_layout.specs.declared.pass.Pass.{Pass}
 use Rattle.multi_layout.specs.declared.pass.Order.{Order}
 use Rattle.multi_layout.specs.declared.line.Line.{Line}
 use Rattle.multi_layout.specs.Sums.{line_sum}
-use Rattle.multi_layout.specs.Run.{IsBehindCharacter, IsBehindOne, kept_fits, kept_fits_height, lengthened, lengthened_line, line_in_force}
-
--- by what is kept, the present line and the present area fit the rectangle in force (own)
-pub record FitsHere (kept : Pass) : Type 0 where
-  pub width : kept_fits kept.state.attributes.rectangle.width (line_in_force kept.state) ≡ true
-  pub height : kept_fits_height kept.state.attributes.rectangle.height kept.state.area ≡ true
+use Rattle.multi_layout.specs.Run.{Fits, IsBehindCharacter, IsBehindOne, lengthened, lengthened_line, line_in_force}
 
 -- the order is that of characters of which the last has this line justification (own)
 abbrev pub IsOrderOf : ℕ → Order → Type 0
@@ -26,6 +21,7 @@ GoesOnBehind here split = IfSome split (λ s. s.behind.any ≡ true → IsBehind
 -- lengthens what is kept (own)
 pub record IsFilledRun (kept : Pass) : Type 0 where
   pub behind : IsBehindCharacter kept.state
+  pub fits : Fits kept.state
   pub order : IsOrderOf kept.state.attributes.line_just kept.order
   pub split : GoesOnBehind kept.state.attributes kept.split
 

@@ -6,11 +6,10 @@ use Rattle.sign_font.specs.Sign.{SignData}
 use Rattle.multi_layout.specs.declared.fault.SyntaxError.{SyntaxError}
 use Rattle.multi_layout.specs.declared.pass.Pass.{Pass}
 use Rattle.multi_layout.specs.Codes.{code_of}
-use Rattle.multi_layout.specs.FilledRun.{FitsHere}
 use Rattle.multi_layout.specs.FilledState.{IsFilledFor, IsFilledReady}
 use Rattle.multi_layout.specs.Meaning.{Meaning}
 use Rattle.multi_layout.specs.Offence.{offence}
-use Rattle.multi_layout.specs.Run.{IsBehindCharacter}
+use Rattle.multi_layout.specs.Run.{Fits, IsBehindCharacter}
 use Rattle.multi_layout.specs.State.{IsReady, IsUnfilledOf}
 
 -- whether lines are filled, as a sign says it (own)
@@ -28,9 +27,9 @@ abbrev pub IsPassReady : Bool → Pass → Type 0
 IsPassReady true pass = IsFilledReady pass
 IsPassReady false pass = IsReady pass.state
 
--- a pass over lines of this kind is behind a character that fits (own)
+-- a pass over lines of this kind is behind a character (own)
 abbrev pub IsPassBehind : Bool → Pass → Type 0
-IsPassBehind true pass = FitsHere pass
+IsPassBehind true pass = Fits pass.state
 IsPassBehind false pass = IsBehindCharacter pass.state
 
 -- one more item is judged: it doesn't offend and the pass is then that of the items with it, or it offends by this error (own)

@@ -31,6 +31,22 @@ kept_group_height just area = if just == area.present then kept_height area.grou
 abbrev pub kept_fits_height : ℕ → Area → Bool
 kept_fits_height height area = fit (kept_group_height 2 area) (kept_group_height 3 area) (kept_group_height 4 area) height
 
+-- a line whose present segment has this width and number of characters (own)
+abbrev pub lengthened_line : ℕ → ℕ → Line → Line
+lengthened_line width count line = record line { part = record line.part { width = width; count = count } }
+
+-- by what is kept of a line, its segments before the present one fit a width (own)
+abbrev pub FitsBefore : ℕ → Line → Type 0
+FitsBefore width line = kept_fits width (lengthened_line 0 0 line) ≡ true
+
+-- the height of the group with a page justification, if it is before the present one, by what is kept of the area (own)
+abbrev pub kept_before : ℕ → Area → ℕ
+kept_before just area = if just == area.present then 0 else (if just == 2 then area.top else (if just == 3 then area.middle else 0))
+
+-- by what is kept of an area, its groups before the present one fit a height (own)
+abbrev pub GroupsFitBefore : ℕ → Area → Type 0
+GroupsFitBefore height area = fit (kept_before 2 area) (kept_before 3 area) (kept_before 4 area) height ≡ true
+
 -- by what is kept of a line, a character with a line justification may stand on it (own)
 abbrev pub IsOpen : ℕ → Line → Type 0
 IsOpen just line = (line.present ≤ just) × (just ≡ 5 → line.has_parts ≡ false)
@@ -48,10 +64,6 @@ pub record IsBehindOne (just : ℕ) (font : FontInfo) (line : Line) : Type 0 whe
   pub spacing : font.line_spacing ≤ line.spacing
   pub last : line.part.last ≡ Some font.char_spacing
 
--- a line whose present segment has this width and number of characters (own)
-abbrev pub lengthened_line : ℕ → ℕ → Line → Line
-lengthened_line width count line = record line { part = record line.part { width = width; count = count } }
-
 -- a group whose present segment has this width and number of characters (own)
 abbrev pub lengthened_group : ℕ → ℕ → Group → Group
 lengthened_group width count group = record group { line = lengthened_line width count group.line }
@@ -68,10 +80,13 @@ lengthened width count state = record state { area = lengthened_area width count
 abbrev pub line_in_force : State → Line
 line_in_force state = state.area.group.line
 
--- the last character was put into the present area with the attributes in force, and what is there fits (own)
+-- the last character was put into the present area with the attributes in force (own)
 pub record IsBehindCharacter (state : State) : Type 0 where
   pub group : state.area.present ≡ state.attributes.page_just
   pub line : IsBehindOne state.attributes.line_just state.attributes.font (line_in_force state)
+
+-- by what is kept, the present line and the present area fit the rectangle in force (own)
+pub record Fits (state : State) : Type 0 where
   pub width : kept_fits state.attributes.rectangle.width (line_in_force state) ≡ true
   pub height : kept_fits_height state.attributes.rectangle.height state.area ≡ true
 

@@ -16,6 +16,7 @@ use Rattle.multi_layout.specs.Offence.{offence}
 use Rattle.multi_layout.specs.Sums.{IsBelow, area_sum}
 use Rattle.multi_layout.specs.Times.{cycle, ended_times}
 use Rattle.multi_layout.specs.Verdict.{pages_of}
+use Rattle.multi_layout.specs.Words.{some_after}
 
 -- the placing items of the present area, in which the next item stands (own)
 abbrev pub present_area : SignData → List Meaning → List Spot
@@ -70,9 +71,10 @@ pub record IsStateOf (sign : SignData) (items : List Meaning) (state : State) : 
 abbrev pub whole_times : State → ℕ
 whole_times state = state.cycle + state.attributes.on + state.attributes.off
 
--- lines aren't filled, and the state is that of these items (own)
+-- lines aren't filled, the state is that of these items, and none of them offends (own)
 pub record IsUnfilledOf (sign : SignData) (state : State) (items : List Meaning) : Type 0 where
   pub off : sign.line_fill ≡ Off
+  pub fine : some_after (offence Off sign) items ≡ []
   pub state_is : IsStateOf sign items state
 
 -- the state is small enough that no sum overflows, and its justifications are known ones (own)

@@ -5,14 +5,14 @@ ghost use Rattle.std.specs.List.{All, after_last, list_any};
 ghost use Rattle.std.specs.Option.{option_map_or, unwrap_or};
 ghost use Rattle.sign_font.specs.declared.parts.LineFill.TheVariants.{Off};
 ghost use Rattle.multi_layout.specs.Address.{Spot, is_glyph, is_break, area_of, in_group, lines_of};
-ghost use Rattle.multi_layout.specs.Fit.{area_fits, fit};
+ghost use Rattle.multi_layout.specs.Fit.{FitsWithout, area_fits, fit};
 ghost use Rattle.multi_layout.specs.Laid.{too_big};
 ghost use Rattle.multi_layout.specs.Line.{average, height_of};
 ghost use Rattle.multi_layout.specs.Offence.{clashes, conflicts};
-ghost use Rattle.multi_layout.specs.Run.{IsBehindOne, IsOpen, IsOpenArea, kept_fits, kept_fits_height, kept_group_height, kept_height, lengthened_area};
+ghost use Rattle.multi_layout.specs.Run.{GroupsFitBefore, IsBehindOne, IsOpen, IsOpenArea, kept_fits_height, kept_group_height, kept_height, lengthened_area};
 ghost use Rattle.multi_layout.specs.Sums.{group_sum, area_sum, area_sum_in, IsPlacing, IsCharacter, IsBreak, IsGroupBelow, IsBelow};
 
-use crate::line::{Character, Line, gap_or_average, parts_fit};
+use crate::line::{Character, Line, gap_or_average, parts_fit, room_for};
 use sign_font::FontInfo;
 
 /// The last line that an `nl` ended.
@@ -232,16 +232,26 @@ impl Area {
         page_just < self.present
     }
 
-    /// Whether the area fits a rectangle of this width and height in pixels, as far as its last item goes: a character.
+    /// Whether the area fits a rectangle of this width and height in pixels, as it does without its last item: a character.
     #[inline(always)]
     pub(crate) fn fits_with_character(&self, width: u16, height: u16) -> bool
         requires below { IsBelow (2 ^ 62 + 1024) self.now }
-        ensures kept { result ≡ true → (kept_fits width self.now.group.line ≡ true) × (kept_fits_height height self.now ≡ true) }
-        ensures fits { (before : List Spot) (s : Spot) → is_glyph s ≡ true → self.now ≡ area_sum (area_of s before ++ s ∷ [])
-            → self.now.present ≡ s.at.page_just → s.at.rectangle.width ≡ width → s.at.rectangle.height ≡ height
-            → result ≡ not (too_big Off before s) }
+        requires page_just { (2 ≤ self.now.present) × (self.now.present ≤ 4) }
+        requires line_just { (2 ≤ self.now.group.line.present) × (self.now.group.line.present ≤ 5) }
+        ensures { (before : List Spot) (s : Spot) → is_glyph s ≡ true → self.now ≡ area_sum (area_of s before ++ s ∷ [])
+            → self.now.present ≡ s.at.page_just → self.now.group.line.present ≡ s.at.line_just → s.at.rectangle.width ≡ width
+            → s.at.rectangle.height ≡ height → FitsWithout before s → result ≡ not (too_big Off before s) }
     {
-        self.group.line.fits(width) & self.fits_height(height)
+        self.group.line.still_fits(width) & self.still_fits(height)
+    }
+
+    /// Whether the area fits a height in pixels, into which its groups before the present one fit.
+    fn still_fits(&self, height: u16) -> bool
+        requires below { IsBelow (2 ^ 62 + 1024) self.now }
+        requires page_just { (2 ≤ self.now.present) × (self.now.present ≤ 4) }
+        ensures { (area : List Spot) → self.now ≡ area_sum area → GroupsFitBefore height self.now → result ≡ kept_fits_height height self.now }
+    {
+        self.group.height() <= room_for(self.present, self.top, self.middle, height)
     }
 
     /// Whether the area fits a rectangle of this height in pixels, as far as its last item goes: an `nl`.

@@ -3,10 +3,10 @@
 
 ghost use Rattle.std.specs.Prelude.{◌≡◌, ℕ, ◌+◌, ◌*◌, ◌^◌, ◌<◌, ◌≤◌, true, false, IfSome, length, Option};
 ghost use Rattle.multi_token.specs.Counted.{charged};
-ghost use Rattle.multi_layout.specs.FilledRun.{FitsHere, GoesOnBehind, IsFilledRun, IsOrderOf, longer_line, with_run, with_space, with_word};
+ghost use Rattle.multi_layout.specs.FilledRun.{GoesOnBehind, IsFilledRun, IsOrderOf, longer_line, with_run, with_space, with_word};
 ghost use Rattle.multi_layout.specs.FilledState.{IsFilledFor, IsFilledReady};
 ghost use Rattle.multi_layout.specs.Progress.{IsAt, IsBehind};
-ghost use Rattle.multi_layout.specs.Run.{IsBehindOne, line_in_force};
+ghost use Rattle.multi_layout.specs.Run.{Fits, IsBehindOne, line_in_force};
 ghost use Rattle.multi_layout.specs.Sums.{IsLineBelow};
 ghost use Rattle.multi_layout.specs.Text.{IsInText, TakesSpace};
 
@@ -93,7 +93,7 @@ pub(crate) fn judge_text(
 ) -> (usize, Option<u8>)
     requires short { length source.old.octets < 2 ^ 32 }
     requires behind { IsBehind sign.now source.old.octets at (IsFilledFor sign.now pass.old) source.old }
-    requires fits { FitsHere pass.old }
+    requires fits { Fits pass.old.state }
     ensures further { at ≤ result.0 }
     ensures at { IsAt sign.now source.old.octets result.0 result.1 (IsFilledFor sign.now pass.new) source.new }
 {
@@ -177,7 +177,7 @@ fn take_space(sign: &Terms<'_>, pass: &mut Pass, source: &mut Source<'_>, run: &
 impl Pass {
     /// Whether a character here has the attributes of the one before it, so that it only lengthens what is kept.
     fn goes_on(&self) -> bool
-        requires { FitsHere self.now }
+        requires { Fits self.now.state }
         ensures { result ≡ true → IsFilledRun self.now }
     {
         let here = &self.state.attributes;

@@ -1,6 +1,6 @@
 //! The verdict on a string, in one reading from the left with running sums.
 
-ghost use Rattle.std.specs.Prelude.{◌≡◌, ℕ, ◌+◌, ◌-◌, ◌^◌, ◌<◌, ◌≤◌, ◌*◌, ◌==◌, if◌then◌else◌, [], length, IfOk, IfErr, IfSome, IfNone, OnOk, None, Some, true};
+ghost use Rattle.std.specs.Prelude.{◌≡◌, ℕ, ◌+◌, ◌-◌, ◌^◌, ◌<◌, ◌≤◌, ◌*◌, ◌==◌, if◌then◌else◌, [], length, List, IfOk, IfErr, IfSome, IfNone, OnOk, None, Some, true};
 ghost use Rattle.std.specs.Option.{option_map_or};
 ghost use Rattle.multi_token.specs.Counted.{charged, RisesBetween};
 ghost use Rattle.multi_token.specs.Tokens.{IsBracketed, item_spelled, octets_of};
@@ -9,10 +9,10 @@ ghost use Rattle.sign_font.specs.Cell.{SizedCell};
 ghost use Rattle.sign_font.specs.Sign.{SignData, cell_in};
 ghost use Rattle.multi_layout.specs.Codes.{code_of};
 ghost use Rattle.multi_layout.specs.Limits.{check_limit};
-ghost use Rattle.multi_layout.specs.Meaning.{Does, Faulty, Shows, meaning};
+ghost use Rattle.multi_layout.specs.Meaning.{Does, Faulty, Meaning, Shows, meaning};
 ghost use Rattle.multi_layout.specs.KnownItem.{IsKnownItem, meant_by};
 ghost use Rattle.multi_layout.specs.Run.{IsBehindCharacter};
-ghost use Rattle.multi_layout.specs.State.{IsKnown, IsReady, IsStateOf, Judges};
+ghost use Rattle.multi_layout.specs.State.{IsJudged, IsKnown, IsReady, IsStateOf, IsUnfilledOf, Judges};
 ghost use Rattle.multi_layout.specs.Verdict.{Accepted, IsCycle, IsVerdict, Refused};
 
 use crate::area::Area;
@@ -54,8 +54,9 @@ pub(crate) fn judge_tag(
 #[inline(always)]
 pub(crate) fn judge_cell(state: &mut State, number: u16, width: u8) -> Result<(), SyntaxError>
     requires { IsReady state.old }
-    ensures judged { (sign : SignData) (cell : SizedCell) → cell_in sign state.old.attributes.font.number number ≡ Some cell → width ≡ cell.width
-        → Judges sign state.old (Shows number) result state.new }
+    ensures judged { (sign : SignData) (items : List Meaning) (cell : SizedCell) → IsUnfilledOf sign state.old items
+        → cell_in sign state.old.attributes.font.number number ≡ Some cell → width ≡ cell.width
+        → IsJudged sign items (Shows number) result state.new }
     ensures behind { OnOk result (IsBehindCharacter state.new) }
 {
     let page_just = state.attributes.page_just;

@@ -4,10 +4,10 @@ ghost use Rattle.std.specs.Prelude.{◌≡◌, ℕ, ◌+◌, ◌^◌, ◌≤◌,
 ghost use Rattle.std.specs.List.{AllPass, list_any};
 ghost use Rattle.std.specs.Option.{option_map_or, unwrap_or};
 ghost use Rattle.multi_layout.specs.Address.{Spot, is_glyph, segment};
-ghost use Rattle.multi_layout.specs.Fit.{fit, line_fits};
+ghost use Rattle.multi_layout.specs.Fit.{fit, line_fits, room_for};
 ghost use Rattle.multi_layout.specs.Line.{average, width_of};
 ghost use Rattle.multi_layout.specs.Offence.{clashes};
-ghost use Rattle.multi_layout.specs.Run.{IsBehindOne, IsOpen, kept_fits, kept_width, lengthened_line};
+ghost use Rattle.multi_layout.specs.Run.{FitsBefore, IsBehindOne, IsOpen, kept_fits, kept_width, lengthened_line};
 ghost use Rattle.multi_layout.specs.Sums.{segment_sum, line_sum, line_sum_in, IsCharacter, IsSegmentBelow, IsLineBelow};
 
 use sign_font::FontInfo;
@@ -203,25 +203,24 @@ impl Line {
         }
     }
 
-    /// The most pixels that the present segment may have within a width, into which the line fits as it is.
+    /// The most pixels that the present segment may have within a width, into which those before it fit.
     pub(crate) fn room(&self, width: u16) -> u64
         requires known { (2 ≤ self.now.present) × (self.now.present ≤ 5) }
-        requires below { IsLineBelow (2 ^ 62) self.now }
-        requires fits { kept_fits width self.now ≡ true }
-        ensures room { (line : List Spot) (pixels count : ℕ) → self.now ≡ line_sum line → 1 ≤ pixels
+        requires below { IsLineBelow (2 ^ 62 + 1024) self.now }
+        ensures room { (line : List Spot) (pixels count : ℕ) → self.now ≡ line_sum line → FitsBefore width self.now
             → kept_fits width (lengthened_line pixels count self.now) ≡ nat_le pixels result }
         ensures most { result ≤ width }
     {
-        let width = u64::from(width);
-        match self.present {
-            3 => width.saturating_sub(2 * self.left),
-            4 if self.centre == 0 => width.saturating_sub(self.left),
-            4 => {
-                let rest = width.saturating_sub(self.centre);
-                rest - rest / 2
-            }
-            _ => width,
-        }
+        room_for(self.present, self.left, self.centre, width)
+    }
+
+    /// Whether the line fits a width in pixels, into which its segments before the present one fit.
+    pub(crate) fn still_fits(&self, width: u16) -> bool
+        requires known { (2 ≤ self.now.present) × (self.now.present ≤ 5) }
+        requires below { IsLineBelow (2 ^ 62 + 1024) self.now }
+        ensures { (line : List Spot) → self.now ≡ line_sum line → FitsBefore width self.now → result ≡ kept_fits width self.now }
+    {
+        self.part.width <= self.room(width)
     }
 
     /// Gives the present segment this width and number of characters.
@@ -278,6 +277,25 @@ pub(crate) fn gap_or_average(given: Option<u8>, earlier: u8, later: u8) -> u8
     match given {
         Some(gap) => gap,
         None => ((u16::from(earlier) + u16::from(later) + 1) / 2) as u8,
+    }
+}
+
+/// The most that a part may have within a length into which those before it fit: in the middle 3, at the end 4, else at the start or
+/// alone.
+pub(crate) fn room_for(just: u8, start: u64, middle: u64, length: u16) -> u64
+    requires below { start ≤ 2 ^ 62 + 2048 }
+    ensures room { result ≡ room_for just start middle length }
+    ensures most { result ≤ length }
+{
+    let length = u64::from(length);
+    match just {
+        3 => length.saturating_sub(2 * start),
+        4 if middle == 0 => length.saturating_sub(start),
+        4 => {
+            let rest = length.saturating_sub(middle);
+            rest - rest / 2
+        }
+        _ => length,
     }
 }
 

@@ -7,13 +7,13 @@ ghost use Rattle.sign_font.specs.declared.parts.LineFill.TheVariants.{Words};
 ghost use Rattle.sign_font.specs.Cell.{SizedCell};
 ghost use Rattle.sign_font.specs.Sign.{SignData, cell_in};
 ghost use Rattle.multi_layout.specs.Address.{Spot};
-ghost use Rattle.multi_layout.specs.FilledRun.{FitsHere};
 ghost use Rattle.multi_layout.specs.FilledState.{IsFilledBehind, IsFilledJudged, IsFilledOf, IsFilledReady, JudgesFilled, begins_line};
 ghost use Rattle.multi_layout.specs.FillSums.{order_sum};
 ghost use Rattle.multi_layout.specs.LaidItems.{laid_items};
 ghost use Rattle.multi_layout.specs.KnownItem.{IsKnownItem, meant_by};
 ghost use Rattle.multi_layout.specs.Meaning.{Does, Meaning, Shows};
 ghost use Rattle.multi_layout.specs.Offence.{clashes, offence};
+ghost use Rattle.multi_layout.specs.Run.{Fits};
 ghost use Rattle.multi_layout.specs.PassOf.{IsItemJudged, IsPassBehind, IsPassOf, IsPassReady, JudgesItem};
 ghost use Rattle.multi_layout.specs.State.{IsKnown, IsStateOf, present_area};
 ghost use Rattle.multi_layout.specs.Sums.{IsLineBelow};
@@ -198,7 +198,7 @@ impl Pass {
         ensures judged { (sign : SignData) (items : List Meaning) (cell : SizedCell) → IsFilledOf sign items self.old
             → cell_in sign self.old.state.attributes.font.number number ≡ Some cell → width ≡ cell.width
             → IsFilledJudged sign items (Shows number) result self.new }
-        ensures fits { OnOk result (FitsHere self.new) }
+        ensures fits { OnOk result (Fits self.new.state) }
     {
         let attributes = self.state.attributes;
         let (page_just, present) = (attributes.page_just, self.state.area.present);

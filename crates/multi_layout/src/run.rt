@@ -5,7 +5,7 @@ ghost use Rattle.sign_font.specs.Sign.{SignData};
 ghost use Rattle.multi_layout.specs.Meaning.{Meaning};
 ghost use Rattle.multi_layout.specs.PassOf.{IsPassBehind, IsPassOf};
 ghost use Rattle.multi_layout.specs.Progress.{IsAt, IsBehind};
-ghost use Rattle.multi_layout.specs.Run.{IsBehindCharacter, IsRun, lengthened, line_in_force};
+ghost use Rattle.multi_layout.specs.Run.{Fits, IsBehindCharacter, IsRun, lengthened, line_in_force};
 ghost use Rattle.multi_layout.specs.State.{IsReady, IsStateOf, IsUnfilledOf};
 
 use crate::fill_run::judge_text;
@@ -28,7 +28,7 @@ impl State {
     pub(crate) fn run(&self) -> Run
         requires behind { IsBehindCharacter self.now }
         requires ready { IsReady self.now }
-        ensures run { (items : List Meaning) (sign : SignData) → IsStateOf sign items self.now
+        ensures run { (items : List Meaning) (sign : SignData) → IsStateOf sign items self.now → Fits self.now
             → IsRun self.now result.gap ((line_in_force self.now).part.width + result.left) }
         ensures left { result.left < 2 ^ 16 }
     {

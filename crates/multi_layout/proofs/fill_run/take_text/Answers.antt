@@ -18,7 +18,7 @@ loop-behind-init c =
       record {
         behind = c.requires.behind;
         fits = c.requires.run;
-        runs = c.run-run.ensures.run (laid_items Words c.args.sign.now items items) c.args.sign.now r.is.of.state_is;
+        runs = c.run-run.ensures.run (laid_items Words c.args.sign.now items items) c.args.sign.now r.is.of.state_is c.requires.run.fits;
         left = c.run-run.ensures.left;
       },
       omega arith,

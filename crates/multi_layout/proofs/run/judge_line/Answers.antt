@@ -1,6 +1,7 @@
 use Rattle.std.proofs.Common.{◌≡◌, map, ap, arith}
 use Rattle.multi_token.specs.Counted.{Counted, charged}
 use Rattle.multi_layout.specs.Meaning.{meaning}
+use Rattle.multi_layout.proofs.BeforeLemmas.{unfilled_fits}
 use Rattle.multi_layout.proofs.ReadLemmas.{ready_here}
 use Rattle.multi_layout.proofs.RunReadLemmas.{front_read}
 use Rattle.multi_layout.proofs.run.judge_line.Goals as goal
@@ -22,7 +23,7 @@ returns-clause-at c =
     let state = c.args.state.now in
     let r = c.requires.behind.so_far in
     let front = c.read_run-front.ensures in
-    let run = c.run-run.ensures.run (map meaning r.items) sign r.is.state_is in
+    let run = c.run-run.ensures.run (map meaning r.items) sign r.is.state_is (unfilled_fits sign (map meaning r.items) state r.is) in
     let k = front.steps in
     let rises : c.read_run-front.new.source.steps ≡ (charged c.args.source.now k.0).steps = ap (λ (s : Counted). s.steps) k.3 in
     let fewest = k.1 in
