@@ -1,6 +1,6 @@
 -- What fits behind one more character, where what was before it fits: only the present segment and the present group can be too much.
-use Rattle.std.proofs.Common.{◌≡◌, ℕ, ◌≤◌, Bool, true, false, ◌&&◌, ◌==◌, inl, inr, List, [], ◌∷◌, ◌++◌, None, refl, sym, ap, subst, ◌∙◌, arith}
-use Rattle.std.specs.Prelude.{nat_le, nat_lt}
+use Rattle.std.proofs.Common.{◌≡◌, ℕ, ◌≤◌, Bool, true, false, ◌&&◌, inl, inr, List, [], ◌∷◌, ◌++◌, None, refl, sym, ap, subst, ◌∙◌, arith}
+use Rattle.std.specs.Prelude.{nat_le}
 use Rattle.std.specs.List.{All, after_last}
 use Rattle.sign_font.specs.declared.parts.LineFill.TheVariants.{Off}
 use Rattle.sign_font.specs.Sign.{SignData}
@@ -19,7 +19,7 @@ use Rattle.multi_layout.specs.Offence.{offence}
 use Rattle.multi_layout.specs.State.{IsUnfilledOf, present_area}
 use Rattle.multi_layout.specs.Words.{some_after}
 use Rattle.multi_layout.specs.Run.{Fits, line_in_force, FitsBefore, GroupsFitBefore, kept_before, kept_fits, kept_fits_height, kept_group_height, kept_height, kept_width, lengthened_line}
-use Rattle.multi_layout.specs.Sums.{IsPlacing, area_sum, height_before, line_sum, width_before}
+use Rattle.multi_layout.specs.Sums.{IsPlacing, area_sum, line_sum}
 use Rattle.multi_layout.proofs.AreaSumLemmas.{area_placing, in_group_other, own_line}
 use Rattle.multi_layout.proofs.FitLemmas.{room_end, room_middle, room_start, smaller_fits}
 use Rattle.multi_layout.proofs.LineSumLemmas.{segment_other}

@@ -13,7 +13,7 @@ use Rattle.multi_tag.specs.TagOf.{tag_of}
 use Rattle.multi_tag.specs.declared.name.Name.{Name}
 use Rattle.multi_tag.specs.declared.name.Name.TheVariants as names
 use Rattle.multi_tag.specs.declared.tag.Tag.{Tag}
-use Rattle.multi_tag.specs.declared.tag.Tag.TheVariants.{NewPage, NewLine, LineJust, PageJust, Font, CharSpacing, CharSpacingEnd, PageTime, Flash, FlashEnd, Fore, Back, Rect, HexChar}
+use Rattle.multi_tag.specs.declared.tag.Tag.TheVariants.{NewPage, NewLine, Back, Rect}
 use Rattle.multi_tag.specs.declared.tag.TagFault.{TagFault}
 use Rattle.multi_tag.specs.declared.tag.TagFault.TheVariants.{Unsupported, Value}
 use Rattle.multi_tag.proofs.TagOfLemmas.{tag_of_is_the_table}
@@ -131,48 +131,15 @@ quiet_put defaults at NewPage quiet plain = cc
 quiet_put defaults at (Rect x y w h) quiet plain = cc
 quiet_put defaults at (Back given) quiet plain = absurd quiet
 quiet_put defaults at (NewLine gap) quiet plain = inr (gap, refl)
-quiet_put defaults at (LineJust just) quiet plain = inl refl
-quiet_put defaults at (PageJust just) quiet plain = inl refl
-quiet_put defaults at (Font pick) quiet plain = inl refl
-quiet_put defaults at (CharSpacing pixels) quiet plain = inl refl
-quiet_put defaults at CharSpacingEnd quiet plain = inl refl
-quiet_put defaults at (PageTime on off) quiet plain = inl refl
-quiet_put defaults at (Flash off_first on off) quiet plain = inl refl
-quiet_put defaults at FlashEnd quiet plain = inl refl
-quiet_put defaults at (HexChar number) quiet plain = inl refl
-quiet_put defaults at (Fore colour) quiet plain = inl refl
+quiet_put defaults at tag quiet plain = inl refl
 
 pub no_page : (tag : Tag) → begins_area (Does tag) ≡ false → is_new_page (Does tag) ≡ false
 no_page NewPage plain = cc
-no_page (NewLine gap) plain = refl
-no_page (LineJust just) plain = refl
-no_page (PageJust just) plain = refl
-no_page (Font pick) plain = refl
-no_page (CharSpacing pixels) plain = refl
-no_page CharSpacingEnd plain = refl
-no_page (PageTime on off) plain = refl
-no_page (Flash off_first on off) plain = refl
-no_page FlashEnd plain = refl
-no_page (HexChar number) plain = refl
-no_page (Fore colour) plain = refl
-no_page (Back given) plain = refl
-no_page (Rect x y w h) plain = refl
+no_page tag plain = refl
 
 back_or_quiet : (tag : Tag) → ((given : Option ℕ) × (tag ≡ Back given)) ⊎ IsQuiet tag
 back_or_quiet (Back given) = inl (given, refl)
-back_or_quiet NewPage = inr tt
-back_or_quiet (NewLine gap) = inr tt
-back_or_quiet (LineJust just) = inr tt
-back_or_quiet (PageJust just) = inr tt
-back_or_quiet (Font pick) = inr tt
-back_or_quiet (CharSpacing pixels) = inr tt
-back_or_quiet CharSpacingEnd = inr tt
-back_or_quiet (PageTime on off) = inr tt
-back_or_quiet (Flash off_first on off) = inr tt
-back_or_quiet FlashEnd = inr tt
-back_or_quiet (HexChar number) = inr tt
-back_or_quiet (Fore colour) = inr tt
-back_or_quiet (Rect x y w h) = inr tt
+back_or_quiet tag = inr tt
 
 -- a tag that begins no area
 pub tag_drawn : (sign : SignData) (layer : Layer) (before rest : List Meaning) (tag : Tag) (old new : BitPlane) → begins_area (Does tag) ≡ false

@@ -5,7 +5,7 @@ use Rattle.std.specs.Option.{unwrap_or}
 use Rattle.std.proofs.lemmas.Bool.{cases_eq}
 use Rattle.std.proofs.lemmas.List.{length-append}
 use Rattle.multi_tag.specs.declared.tag.Tag.{Tag}
-use Rattle.multi_tag.specs.declared.tag.Tag.TheVariants.{NewPage, NewLine, LineJust, PageJust, Font, CharSpacing, CharSpacingEnd, PageTime, Flash, FlashEnd, Fore, Back, Rect, HexChar}
+use Rattle.multi_tag.specs.declared.tag.Tag.TheVariants.{NewPage, NewLine, Back, Rect}
 use Rattle.sign_font.specs.declared.parts.LineFill.TheVariants.{Off, Words}
 use Rattle.sign_font.specs.Sign.{SignData}
 use Rattle.multi_layout.specs.declared.area.Area.{Area}
@@ -158,33 +158,14 @@ module _ (sign : SignData) (items : List Meaning) (kept : Pass) (of : IsFilledOf
       of_tag NewPage e = cc
       of_tag (NewLine gap) e = cc
       of_tag (Rect x y w h) e = cc
-      of_tag (Back colour) e = refl
-      of_tag (LineJust just) e = refl
-      of_tag (PageJust just) e = refl
-      of_tag (Font pick) e = refl
-      of_tag (CharSpacing pixels) e = refl
-      of_tag CharSpacingEnd e = refl
-      of_tag (PageTime on off) e = refl
-      of_tag (Flash off_first on off) e = refl
-      of_tag FlashEnd e = refl
-      of_tag (Fore colour) e = refl
-      of_tag (HexChar number) e = refl
+      of_tag tag e = refl
 
   area_stays : (tag : Tag) → begins_line tag ≡ false → present_area sign (items ++ Does tag ∷ []) ≡ present_area sign items
   area_stays NewPage e = cc
   area_stays (NewLine gap) e = cc
   area_stays (Rect x y w h) e = cc
   area_stays (Back colour) e = present_area-cover sign items (Does (Back colour)) (Cover (standing sign items).page (unwrap_or colour sign.defaults.back)) refl refl refl
-  area_stays (LineJust just) e = present_area-nothing sign items (Does (LineJust just)) refl refl
-  area_stays (PageJust just) e = present_area-nothing sign items (Does (PageJust just)) refl refl
-  area_stays (Font pick) e = present_area-nothing sign items (Does (Font pick)) refl refl
-  area_stays (CharSpacing pixels) e = present_area-nothing sign items (Does (CharSpacing pixels)) refl refl
-  area_stays CharSpacingEnd e = present_area-nothing sign items (Does CharSpacingEnd) refl refl
-  area_stays (PageTime on off) e = present_area-nothing sign items (Does (PageTime on off)) refl refl
-  area_stays (Flash off_first on off) e = present_area-nothing sign items (Does (Flash off_first on off)) refl refl
-  area_stays FlashEnd e = present_area-nothing sign items (Does FlashEnd) refl refl
-  area_stays (Fore colour) e = present_area-nothing sign items (Does (Fore colour)) refl refl
-  area_stays (HexChar number) e = present_area-nothing sign items (Does (HexChar number)) refl refl
+  area_stays tag e = present_area-nothing sign items (Does tag) refl refl
 
   pub judged-stays : (tag : Tag) (result : Result (Unit {0}) SyntaxError) (state : State) → begins_line tag ≡ false → IsJudged sign laid (Does tag) result state
       → IsFilledJudged sign items (Does tag) result (record { state = state; split = kept.split; order = kept.order })
@@ -196,17 +177,7 @@ module _ (sign : SignData) (items : List Meaning) (kept : Pass) (of : IsFilledOf
   begins_of NewPage state e fine st = begins sign items kept of NewPage state st (present_area-new sign items (Does NewPage) refl)
   begins_of (NewLine gap) state e fine st = ends sign items kept of gap fine state st
   begins_of (Rect x y w h) state e fine st = begins sign items kept of (Rect x y w h) state st (present_area-new sign items (Does (Rect x y w h)) refl)
-  begins_of (Back colour) state e fine st = cc
-  begins_of (LineJust just) state e fine st = cc
-  begins_of (PageJust just) state e fine st = cc
-  begins_of (Font pick) state e fine st = cc
-  begins_of (CharSpacing pixels) state e fine st = cc
-  begins_of CharSpacingEnd state e fine st = cc
-  begins_of (PageTime on off) state e fine st = cc
-  begins_of (Flash off_first on off) state e fine st = cc
-  begins_of FlashEnd state e fine st = cc
-  begins_of (Fore colour) state e fine st = cc
-  begins_of (HexChar number) state e fine st = cc
+  begins_of tag state e fine st = cc
 
   pub judged-begins : (tag : Tag) (result : Result (Unit {0}) SyntaxError) (state : State) → begins_line tag ≡ true → IsJudged sign laid (Does tag) result state
       → IsFilledJudged sign items (Does tag) result (record { state = state; split = None; order = order_sum [] })

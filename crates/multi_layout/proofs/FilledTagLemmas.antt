@@ -1,10 +1,10 @@
 -- A tag offends behind some items, where lines are filled, just where it does behind the items as they are laid out.
-use Rattle.std.proofs.Common.{◌≡◌, ℕ, ◌+◌, true, false, cond, not, ◌||◌, nat_lt, List, [], ◌∷◌, ◌++◌, Option, Some, None, refl, sym, ap, subst, ◌∙◌, append-nil}
+use Rattle.std.proofs.Common.{◌≡◌, ℕ, ◌+◌, true, false, cond, not, ◌||◌, nat_lt, List, [], ◌∷◌, ◌++◌, Option, Some, refl, sym, ap, subst, ◌∙◌, append-nil}
 use Rattle.std.specs.List.{All, count_by, list_any}
 use Rattle.std.proofs.lemmas.Bool.{eq-eqb}
 use Rattle.std.proofs.lemmas.List.Elements.{All-push, All-weaker}
 use Rattle.multi_tag.specs.declared.tag.Tag.{Tag}
-use Rattle.multi_tag.specs.declared.tag.Tag.TheVariants.{NewPage, NewLine, LineJust, PageJust, Font, CharSpacing, CharSpacingEnd, PageTime, Flash, FlashEnd, Fore, Back, Rect, HexChar}
+use Rattle.multi_tag.specs.declared.tag.Tag.TheVariants.{NewPage, NewLine, Font}
 use Rattle.sign_font.specs.declared.parts.LineFill.TheVariants.{Off, Words}
 use Rattle.sign_font.specs.Sign.{SignData}
 use Rattle.multi_layout.specs.Address.{Break, Put, Spot, Standing, area_of, in_area, spots, standing}
@@ -86,16 +86,5 @@ module _ (sign : SignData) (items : List Meaning) where
       (λ i. first_code ((goes_back_laid gap i || false, 11) ∷ (too_big_laid_break gap i, 5) ∷ []))
       ∙ sym (λ i. first_code (placing_cases (too_big Off) (here.1 i) (record { at = here.0 i; put = Break gap })))
   offends_as_laid NewPage = ap (λ n. first_code ((nat_lt sign.max_pages (n + 2), 12) ∷ [])) same_pages
-  offends_as_laid (Back colour) = refl
-  offends_as_laid (LineJust just) = refl
-  offends_as_laid (PageJust just) = refl
-  offends_as_laid (Font None) = refl
   offends_as_laid (Font (Some pick)) = refl
-  offends_as_laid (CharSpacing pixels) = refl
-  offends_as_laid CharSpacingEnd = refl
-  offends_as_laid (PageTime on off) = refl
-  offends_as_laid (Flash off_first on off) = refl
-  offends_as_laid FlashEnd = refl
-  offends_as_laid (Fore colour) = refl
-  offends_as_laid (Rect x y w h) = refl
-  offends_as_laid (HexChar number) = refl
+  offends_as_laid tag = refl

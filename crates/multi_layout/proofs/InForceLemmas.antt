@@ -7,12 +7,12 @@ use Rattle.std.specs.Option.{IfSome, option_map, unwrap_or}
 use Rattle.std.proofs.lemmas.Bool.{cases_Bool, false≢true}
 use Rattle.std.proofs.lemmas.Bool.Decides.{nat_tests}
 use Rattle.std.proofs.lemmas.List.Elements.{All-nil, All-cons, All-head, All-tail, All-append, All-filter, All-weaker}
-use Rattle.multi_tag.specs.declared.tag.Tag.TheVariants.{NewPage, NewLine, LineJust, PageJust, Font, CharSpacing, CharSpacingEnd, PageTime, Flash, FlashEnd, Fore, Back, Rect, HexChar}
+use Rattle.multi_tag.specs.declared.tag.Tag.TheVariants.{NewPage, NewLine, Font, Back, Rect}
 use Rattle.sign_font.specs.declared.parts.Defaults.{Defaults}
 use Rattle.sign_font.specs.Sign.{SignData, CellData, FontData, font_numbered, cell_numbered}
 use Rattle.sign_font.specs.Sound.{IsSound, IsSoundCell, IsSoundFont}
 use Rattle.multi_layout.specs.declared.attributes.Rectangle.{Rectangle}
-use Rattle.multi_layout.specs.Meaning.{Meaning, Shows, Does, Faulty}
+use Rattle.multi_layout.specs.Meaning.{Meaning, Shows, Does}
 use Rattle.multi_layout.specs.Attributes.{default_font, given_font, given_rectangle, is_inside, rectangle, whole_sign}
 use Rattle.multi_layout.specs.Address.{Standing, standing, Put, Glyph, Spot, put_at, spot_at, spots, is_glyph, is_break}
 use Rattle.multi_layout.specs.Line.{glyph_width}
@@ -96,20 +96,7 @@ module _ (sign : SignData) (big : List Spot → Spot → Bool) where
   given_in_sign : (before : List Meaning) (x : Meaning) → offence_by big sign before x ≡ None → IfSome (given_rectangle sign x) (IsInSign sign)
   given_in_sign before (Does NewPage) none = whole_in_sign sign
   given_in_sign before (Does (Rect x y w h)) none = rectangle_in_sign sign x y w h (passed (is_inside sign x y w h) 4 (sym (offence-rectangle big sign before x y w h) ∙ none))
-  given_in_sign before (Does (NewLine gap)) none = tt
-  given_in_sign before (Does (LineJust just)) none = tt
-  given_in_sign before (Does (PageJust just)) none = tt
-  given_in_sign before (Does (Font pick)) none = tt
-  given_in_sign before (Does (CharSpacing pixels)) none = tt
-  given_in_sign before (Does CharSpacingEnd) none = tt
-  given_in_sign before (Does (PageTime on off)) none = tt
-  given_in_sign before (Does (Flash off_first on off)) none = tt
-  given_in_sign before (Does FlashEnd) none = tt
-  given_in_sign before (Does (HexChar number)) none = tt
-  given_in_sign before (Does (Fore colour)) none = tt
-  given_in_sign before (Does (Back colour)) none = tt
-  given_in_sign before (Shows number) none = tt
-  given_in_sign before (Faulty code) none = tt
+  given_in_sign before x none = tt
 
   first_in_sign : IsInSign sign (standing sign []).rectangle
   unfolding standing
@@ -172,18 +159,7 @@ high_put defaults here (Shows number) high = mapped (cell_numbered here.font num
 high_put defaults here (Does NewPage) high = (high.0, λ glyph. absurd (false≢true glyph))
 high_put defaults here (Does (NewLine gap)) high = (high.0, λ glyph. absurd (false≢true glyph))
 high_put defaults here (Does (Back colour)) high = (high.0, λ glyph. absurd (false≢true glyph))
-high_put defaults here (Does (LineJust just)) high = tt
-high_put defaults here (Does (PageJust just)) high = tt
-high_put defaults here (Does (Font pick)) high = tt
-high_put defaults here (Does (CharSpacing pixels)) high = tt
-high_put defaults here (Does CharSpacingEnd) high = tt
-high_put defaults here (Does (PageTime on off)) high = tt
-high_put defaults here (Does (Flash off_first on off)) high = tt
-high_put defaults here (Does FlashEnd) high = tt
-high_put defaults here (Does (HexChar number)) high = tt
-high_put defaults here (Does (Fore colour)) high = tt
-high_put defaults here (Does (Rect x y w h)) high = tt
-high_put defaults here (Faulty code) high = tt
+high_put defaults here x high = tt
 
 high_spot : (here : Standing) (o : Option Put) → IfSome o (λ put. let spot : Spot = record { at = here; put = put } in High spot)
     → All High (cons_option (option_map (λ p. let s : Spot = record { at = here; put = p } in s) o) [])
@@ -203,21 +179,7 @@ module _ (sign : SignData) (sound : IsSound sign) (some : IsSome (font_numbered 
   given_high : (x : Meaning) → IfSome (given_font sign x) HighFont
   given_high (Does (Font None)) = default_high
   given_high (Does (Font (Some pick))) = high_numbered sign pick.number sound
-  given_high (Does NewPage) = tt
-  given_high (Does (Rect x y w h)) = tt
-  given_high (Does (NewLine gap)) = tt
-  given_high (Does (LineJust just)) = tt
-  given_high (Does (PageJust just)) = tt
-  given_high (Does (CharSpacing pixels)) = tt
-  given_high (Does CharSpacingEnd) = tt
-  given_high (Does (PageTime on off)) = tt
-  given_high (Does (Flash off_first on off)) = tt
-  given_high (Does FlashEnd) = tt
-  given_high (Does (HexChar number)) = tt
-  given_high (Does (Fore colour)) = tt
-  given_high (Does (Back colour)) = tt
-  given_high (Shows number) = tt
-  given_high (Faulty code) = tt
+  given_high x = tt
 
   first_high : IsHigh sign []
   unfolding standing spots

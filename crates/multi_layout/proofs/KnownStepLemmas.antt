@@ -3,7 +3,7 @@ use Rattle.std.proofs.Common.{◌≡◌, ℕ, ◌<◌, ◌≤◌, true, false, c
 use Rattle.std.specs.Option.{option_map, unwrap_or}
 use Rattle.std.proofs.lemmas.Bool.{false≢true}
 use Rattle.multi_tag.specs.declared.tag.Tag.{Tag}
-use Rattle.multi_tag.specs.declared.tag.Tag.TheVariants.{NewPage, NewLine, LineJust, PageJust, Font, CharSpacing, CharSpacingEnd, PageTime, Flash, FlashEnd, Fore, Back, Rect, HexChar}
+use Rattle.multi_tag.specs.declared.tag.Tag.TheVariants.{NewPage, NewLine, Back, Rect}
 use Rattle.sign_font.specs.Sign.{SignData, CellData, cell_numbered}
 use Rattle.multi_layout.specs.declared.area.Area.{Area}
 use Rattle.multi_layout.specs.declared.attributes.Attributes.{Attributes}
@@ -11,7 +11,7 @@ use Rattle.multi_layout.specs.declared.state.State.{State}
 use Rattle.multi_layout.specs.declared.table.CountedLine.{CountedLine}
 use Rattle.multi_layout.specs.declared.table.LineTable.{LineTable}
 use Rattle.multi_layout.specs.Address.{Spot, Glyph, Break, Cover, in_group, spots, standing}
-use Rattle.multi_layout.specs.Meaning.{begins_area, Does, Faulty, has_place, Meaning, Shows}
+use Rattle.multi_layout.specs.Meaning.{begins_area, Does, has_place, Meaning, Shows}
 use Rattle.multi_layout.specs.Passes.{HasKnown, HasRoom, ends_line, next_group}
 use Rattle.multi_layout.specs.Offence.{conflicts, never_big, unsized_offence}
 use Rattle.multi_layout.specs.State.{IsStateOf, present_area}
@@ -26,22 +26,8 @@ use Rattle.multi_layout.proofs.StateLemmas.{present_area-placing, present_area-n
 use Rattle.multi_layout.proofs.TableLemmas.{open_entry}
 
 line_end : (x : Meaning) → ends_line x ≡ true → (gap : Option ℕ) × (x ≡ Does (NewLine gap))
-line_end (Shows number) e = absurd (false≢true e)
-line_end (Faulty code) e = absurd (false≢true e)
-line_end (Does NewPage) e = absurd (false≢true e)
 line_end (Does (NewLine gap)) e = (gap, refl)
-line_end (Does (LineJust just)) e = absurd (false≢true e)
-line_end (Does (PageJust just)) e = absurd (false≢true e)
-line_end (Does (Font pick)) e = absurd (false≢true e)
-line_end (Does (CharSpacing pixels)) e = absurd (false≢true e)
-line_end (Does CharSpacingEnd) e = absurd (false≢true e)
-line_end (Does (PageTime on off)) e = absurd (false≢true e)
-line_end (Does (Flash off_first on off)) e = absurd (false≢true e)
-line_end (Does FlashEnd) e = absurd (false≢true e)
-line_end (Does (HexChar number)) e = absurd (false≢true e)
-line_end (Does (Fore colour)) e = absurd (false≢true e)
-line_end (Does (Back colour)) e = absurd (false≢true e)
-line_end (Does (Rect x y w h)) e = absurd (false≢true e)
+line_end x e = absurd (false≢true e)
 
 -- each tag but `nl` ends none
 pub ends_not : (tag : Tag) → ((gap : Option ℕ) → tag ≡ NewLine gap → ⊥) → ends_line (Does tag) ≡ false
@@ -72,20 +58,7 @@ module _ (sign : SignData) (items : List Meaning) (state : State) (st : IsStateO
       let spot : Spot = record { at = standing sign items; put = Break gap } in
       no_back (spots sign items) spot state.attributes.page_just state.area.present page_is present_is
       (no_conflict (conflicts (spots sign items) spot) false (sym (offence-break never_big sign items gap) ∙ fine))
-  order (Faulty code) fine p = absurd (false≢true p)
-  order (Does NewPage) fine p = absurd (false≢true p)
-  order (Does (LineJust just)) fine p = absurd (false≢true p)
-  order (Does (PageJust just)) fine p = absurd (false≢true p)
-  order (Does (Font pick)) fine p = absurd (false≢true p)
-  order (Does (CharSpacing pixels)) fine p = absurd (false≢true p)
-  order (Does CharSpacingEnd) fine p = absurd (false≢true p)
-  order (Does (PageTime on off)) fine p = absurd (false≢true p)
-  order (Does (Flash off_first on off)) fine p = absurd (false≢true p)
-  order (Does FlashEnd) fine p = absurd (false≢true p)
-  order (Does (HexChar number)) fine p = absurd (false≢true p)
-  order (Does (Fore colour)) fine p = absurd (false≢true p)
-  order (Does (Back colour)) fine p = absurd (false≢true p)
-  order (Does (Rect x y w h)) fine p = absurd (false≢true p)
+  order x fine p = absurd (false≢true p)
 
   -- an item without a place leaves the area, and its lines
   known_stays : (x : Meaning) (after : State) → IsStateOf sign (items ++ x ∷ []) after → has_place x ≡ false → present_area sign (items ++ x ∷ []) ≡ present_area sign items
@@ -111,23 +84,13 @@ module _ (sign : SignData) (items : List Meaning) (state : State) (st : IsStateO
   pub known_same : (x : Meaning) → unsized_offence sign items x ≡ None → (after : State) → IsStateOf sign (items ++ x ∷ []) after → begins_area x ≡ false → ends_line x ≡ false
       → (table : LineTable) → HasKnown (next_group state x) (present_area sign items) table → HasKnown after.area.present (present_area sign (items ++ x ∷ [])) table
   known_same (Shows number) fine after st' stays open' table has = known_glyph number (cell_numbered (standing sign items).font number) refl fine after st' table has
-  known_same (Faulty code) fine after st' stays open' table has = known_stays (Faulty code) after st' refl (present_area-nothing sign items (Faulty code) refl refl) table has
   known_same (Does NewPage) fine after st' stays open' table has = absurd (false≢true (sym stays))
   known_same (Does (NewLine gap)) fine after st' stays open' table has = absurd (false≢true (sym open'))
   known_same (Does (Rect x y w h)) fine after st' stays open' table has = absurd (false≢true (sym stays))
   known_same (Does (Back colour)) fine after st' stays open' table has =
       known_stays (Does (Back colour)) after st' refl
       (present_area-cover sign items (Does (Back colour)) (Cover (standing sign items).page (unwrap_or colour sign.defaults.back)) refl refl refl) table has
-  known_same (Does (LineJust just)) fine after st' stays open' table has = known_stays (Does (LineJust just)) after st' refl (present_area-nothing sign items (Does (LineJust just)) refl refl) table has
-  known_same (Does (PageJust just)) fine after st' stays open' table has = known_stays (Does (PageJust just)) after st' refl (present_area-nothing sign items (Does (PageJust just)) refl refl) table has
-  known_same (Does (Font pick)) fine after st' stays open' table has = known_stays (Does (Font pick)) after st' refl (present_area-nothing sign items (Does (Font pick)) refl refl) table has
-  known_same (Does (CharSpacing pixels)) fine after st' stays open' table has = known_stays (Does (CharSpacing pixels)) after st' refl (present_area-nothing sign items (Does (CharSpacing pixels)) refl refl) table has
-  known_same (Does CharSpacingEnd) fine after st' stays open' table has = known_stays (Does CharSpacingEnd) after st' refl (present_area-nothing sign items (Does CharSpacingEnd) refl refl) table has
-  known_same (Does (PageTime on off)) fine after st' stays open' table has = known_stays (Does (PageTime on off)) after st' refl (present_area-nothing sign items (Does (PageTime on off)) refl refl) table has
-  known_same (Does (Flash off_first on off)) fine after st' stays open' table has = known_stays (Does (Flash off_first on off)) after st' refl (present_area-nothing sign items (Does (Flash off_first on off)) refl refl) table has
-  known_same (Does FlashEnd) fine after st' stays open' table has = known_stays (Does FlashEnd) after st' refl (present_area-nothing sign items (Does FlashEnd) refl refl) table has
-  known_same (Does (HexChar number)) fine after st' stays open' table has = known_stays (Does (HexChar number)) after st' refl (present_area-nothing sign items (Does (HexChar number)) refl refl) table has
-  known_same (Does (Fore colour)) fine after st' stays open' table has = known_stays (Does (Fore colour)) after st' refl (present_area-nothing sign items (Does (Fore colour)) refl refl) table has
+  known_same x fine after st' stays open' table has = known_stays x after st' refl (present_area-nothing sign items x refl refl) table has
 
   -- an item that ends a line of the group in force
   module _ (x : Meaning) (ends : ends_line x ≡ true) (fine : unsized_offence sign items x ≡ None) where

@@ -3,12 +3,12 @@ use Rattle.std.proofs.Common.{◌≡◌, ℕ, true, List, [], ◌∷◌, ◌++�
 use Rattle.std.specs.List.{cons_option}
 use Rattle.std.specs.Option.{option_map}
 use Rattle.std.proofs.lemmas.Bool.{false≢true}
-use Rattle.multi_tag.specs.declared.tag.Tag.TheVariants.{NewPage, NewLine, LineJust, PageJust, Font, CharSpacing, CharSpacingEnd, PageTime, Flash, FlashEnd, Fore, Back, Rect, HexChar}
+use Rattle.multi_tag.specs.declared.tag.Tag.TheVariants.{NewLine}
 use Rattle.sign_font.specs.declared.parts.Defaults.{Defaults}
 use Rattle.sign_font.specs.Sign.{SignData, CellData}
 use Rattle.sign_font.specs.declared.parts.LineFill.{LineFill}
 use Rattle.multi_layout.specs.Address.{Spot, Put, Glyph, Break, Cover, Standing, standing, spots, spot_at, put_at, is_glyph}
-use Rattle.multi_layout.specs.Meaning.{Does, Faulty, has_place, Meaning, Shows}
+use Rattle.multi_layout.specs.Meaning.{Does, has_place, Meaning, Shows}
 use Rattle.multi_layout.specs.State.{standing_behind}
 use Rattle.multi_layout.specs.Laid.{laid_spot, laid}
 use Rattle.multi_layout.specs.LaidItems.{laid_item, laid_items, laid_of}
@@ -22,59 +22,20 @@ use Rattle.multi_layout.proofs.WordLemmas.{each_after_push, push_ind}
 -- what is put by an item that has a place
 placed_glyph : (defaults : Defaults) (at : Standing) (item : Meaning) (cell : CellData) → put_at defaults at item ≡ Some (Glyph cell) → has_place item ≡ true
 placed_glyph defaults at (Shows number) cell e = refl
-placed_glyph defaults at (Faulty code) cell e = cc
-placed_glyph defaults at (Does NewPage) cell e = cc
 placed_glyph defaults at (Does (NewLine gap)) cell e = refl
-placed_glyph defaults at (Does (LineJust just)) cell e = cc
-placed_glyph defaults at (Does (PageJust just)) cell e = cc
-placed_glyph defaults at (Does (Font pick)) cell e = cc
-placed_glyph defaults at (Does (CharSpacing pixels)) cell e = cc
-placed_glyph defaults at (Does CharSpacingEnd) cell e = cc
-placed_glyph defaults at (Does (PageTime on off)) cell e = cc
-placed_glyph defaults at (Does (Flash off_first on off)) cell e = cc
-placed_glyph defaults at (Does FlashEnd) cell e = cc
-placed_glyph defaults at (Does (Fore colour)) cell e = cc
-placed_glyph defaults at (Does (Back colour)) cell e = cc
-placed_glyph defaults at (Does (Rect x y w h)) cell e = cc
-placed_glyph defaults at (Does (HexChar number)) cell e = cc
+placed_glyph defaults at x cell e = cc
 
 placed_break : (defaults : Defaults) (at : Standing) (item : Meaning) (gap : Option ℕ) → put_at defaults at item ≡ Some (Break gap) → has_place item ≡ true
 placed_break defaults at (Shows number) gap e = refl
-placed_break defaults at (Faulty code) gap e = cc
-placed_break defaults at (Does NewPage) gap e = cc
 placed_break defaults at (Does (NewLine other)) gap e = refl
-placed_break defaults at (Does (LineJust just)) gap e = cc
-placed_break defaults at (Does (PageJust just)) gap e = cc
-placed_break defaults at (Does (Font pick)) gap e = cc
-placed_break defaults at (Does (CharSpacing pixels)) gap e = cc
-placed_break defaults at (Does CharSpacingEnd) gap e = cc
-placed_break defaults at (Does (PageTime on off)) gap e = cc
-placed_break defaults at (Does (Flash off_first on off)) gap e = cc
-placed_break defaults at (Does FlashEnd) gap e = cc
-placed_break defaults at (Does (Fore colour)) gap e = cc
-placed_break defaults at (Does (Back colour)) gap e = cc
-placed_break defaults at (Does (Rect x y w h)) gap e = cc
-placed_break defaults at (Does (HexChar number)) gap e = cc
+placed_break defaults at x gap e = cc
 
 -- an item that has a place gives nothing that stays in force, as an `nl` gives nothing
 module _ (sign : SignData) (here : Standing) where
   nothing_given : (item : Meaning) (gap : Option ℕ) → has_place item ≡ true → standing_behind sign here (Does (NewLine gap)) ≡ standing_behind sign here item
   nothing_given (Shows number) gap e = refl
-  nothing_given (Faulty code) gap e = absurd (false≢true e)
-  nothing_given (Does NewPage) gap e = absurd (false≢true e)
   nothing_given (Does (NewLine other)) gap e = refl
-  nothing_given (Does (LineJust just)) gap e = absurd (false≢true e)
-  nothing_given (Does (PageJust just)) gap e = absurd (false≢true e)
-  nothing_given (Does (Font pick)) gap e = absurd (false≢true e)
-  nothing_given (Does (CharSpacing pixels)) gap e = absurd (false≢true e)
-  nothing_given (Does CharSpacingEnd) gap e = absurd (false≢true e)
-  nothing_given (Does (PageTime on off)) gap e = absurd (false≢true e)
-  nothing_given (Does (Flash off_first on off)) gap e = absurd (false≢true e)
-  nothing_given (Does FlashEnd) gap e = absurd (false≢true e)
-  nothing_given (Does (Fore colour)) gap e = absurd (false≢true e)
-  nothing_given (Does (Back colour)) gap e = absurd (false≢true e)
-  nothing_given (Does (Rect x y w h)) gap e = absurd (false≢true e)
-  nothing_given (Does (HexChar number)) gap e = absurd (false≢true e)
+  nothing_given x gap e = absurd (false≢true e)
 
 module _ (defaults : Defaults) (at : Standing) where
   abbrev spot_of : Put → Spot

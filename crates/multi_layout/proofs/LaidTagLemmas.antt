@@ -3,7 +3,7 @@ use Rattle.std.proofs.Common.{◌≡◌, ℕ, true, List, [], ◌∷◌, ◌++�
 use Rattle.std.specs.List.{All}
 use Rattle.std.proofs.lemmas.List.Elements.{All-weaker}
 use Rattle.multi_tag.specs.declared.tag.Tag.{Tag}
-use Rattle.multi_tag.specs.declared.tag.Tag.TheVariants.{NewPage, NewLine, LineJust, PageJust, Font, CharSpacing, CharSpacingEnd, PageTime, Flash, FlashEnd, Fore, Back, Rect, HexChar}
+use Rattle.multi_tag.specs.declared.tag.Tag.TheVariants.{NewPage, NewLine, Back}
 use Rattle.sign_font.specs.declared.parts.LineFill.{LineFill}
 use Rattle.sign_font.specs.declared.parts.LineFill.TheVariants.{Off, Words}
 use Rattle.sign_font.specs.Sign.{SignData}
@@ -58,14 +58,4 @@ module _ (setting : LineFill) (sign : SignData) (items : List Meaning) where
       (placed_leaves setting (spots sign items) (spot_of (Break gap)) (spot_of (Break gap)) (rw (eq-eqb (standing sign items).area (standing sign items).area refl, eq-eqb (standing sign items).page_just (standing sign items).page_just refl) refl) same_fill (break_grows (fill_at setting (standing sign items)) gap)) refl
   laid_tag NewPage = laid_behind setting sign items (Does NewPage) _ _ refl (unplaced_leaves setting (spots sign items) _ refl refl) refl
   laid_tag (Back colour) = laid_behind setting sign items (Does (Back colour)) _ _ refl (unplaced_leaves setting (spots sign items) _ refl refl) refl
-  laid_tag (LineJust just) = laid_nothing setting sign items (Does (LineJust just)) refl
-  laid_tag (PageJust just) = laid_nothing setting sign items (Does (PageJust just)) refl
-  laid_tag (Font pick) = laid_nothing setting sign items (Does (Font pick)) refl
-  laid_tag (CharSpacing pixels) = laid_nothing setting sign items (Does (CharSpacing pixels)) refl
-  laid_tag CharSpacingEnd = laid_nothing setting sign items (Does CharSpacingEnd) refl
-  laid_tag (PageTime on off) = laid_nothing setting sign items (Does (PageTime on off)) refl
-  laid_tag (Flash off_first on off) = laid_nothing setting sign items (Does (Flash off_first on off)) refl
-  laid_tag FlashEnd = laid_nothing setting sign items (Does FlashEnd) refl
-  laid_tag (Fore colour) = laid_nothing setting sign items (Does (Fore colour)) refl
-  laid_tag (Rect x y w h) = laid_nothing setting sign items (Does (Rect x y w h)) refl
-  laid_tag (HexChar number) = laid_nothing setting sign items (Does (HexChar number)) refl
+  laid_tag tag = laid_nothing setting sign items (Does tag) refl

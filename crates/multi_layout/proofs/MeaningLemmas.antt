@@ -1,5 +1,5 @@
 -- What a token's item means, from what its tag was read as.
-use Rattle.std.proofs.Common.{◌≡◌, ℕ, List, Some, None, Result, Ok, Err, refl, ap, ◌∙◌}
+use Rattle.std.proofs.Common.{◌≡◌, ℕ, List, Some, Result, Ok, Err, refl, ap, ◌∙◌}
 use Rattle.std.specs.Prelude.{IfOk}
 use Rattle.multi_token.specs.declared.token.Token.{Token}
 use Rattle.multi_token.specs.declared.token.Kind.TheVariants as kinds
@@ -7,7 +7,7 @@ use Rattle.multi_token.specs.Spelling as items
 use Rattle.multi_token.specs.Tokens.{body_of, item_of}
 use Rattle.multi_tag.specs.Body.{Spells}
 use Rattle.multi_tag.specs.declared.tag.Tag.{Tag}
-use Rattle.multi_tag.specs.declared.tag.Tag.TheVariants.{NewPage, NewLine, LineJust, PageJust, Font, CharSpacing, CharSpacingEnd, PageTime, Flash, FlashEnd, Fore, Back, Rect, HexChar}
+use Rattle.multi_tag.specs.declared.tag.Tag.TheVariants.{LineJust, PageJust, HexChar}
 use Rattle.multi_tag.specs.declared.tag.TagFault.{TagFault}
 use Rattle.multi_tag.specs.TagOf.{tag_of}
 use Rattle.multi_tag.proofs.TagOfLemmas.{line_just_known, page_just_known}
@@ -16,22 +16,9 @@ use Rattle.multi_layout.specs.State.{IsKnown}
 
 -- a tag that is read gives a known justification
 pub known_of : (body : List ℕ) (tag : Tag) → Spells body tag → IsKnown tag
-known_of body (LineJust None) s = tt
 known_of body (LineJust (Some just)) s = line_just_known body just s
-known_of body (PageJust None) s = tt
 known_of body (PageJust (Some just)) s = page_just_known body just s
-known_of body NewPage s = tt
-known_of body (NewLine gap) s = tt
-known_of body (Font pick) s = tt
-known_of body (CharSpacing pixels) s = tt
-known_of body CharSpacingEnd s = tt
-known_of body (PageTime on off) s = tt
-known_of body (Flash off_first on off) s = tt
-known_of body FlashEnd s = tt
-known_of body (HexChar number) s = tt
-known_of body (Fore colour) s = tt
-known_of body (Back colour) s = tt
-known_of body (Rect x y w h) s = tt
+known_of body tag s = tt
 
 -- and so does what was read
 pub known_read : (body : List ℕ) (result : Result Tag TagFault) → IfOk result (Spells body) → IfOk result IsKnown
@@ -39,21 +26,12 @@ known_read body (Ok tag) s = known_of body tag s
 known_read body (Err fault) s = tt
 
 -- a tag that says that some tag is done is that tag
+does_same : (a b : Tag) → Does a ≡ Does b → a ≡ b
+does_same a b e = cc
+
 pub does_tag : (said tag : Tag) → said_by said ≡ Does tag → said ≡ tag
-does_tag NewPage tag e = cc
-does_tag (NewLine gap) tag e = cc
-does_tag (LineJust just) tag e = cc
-does_tag (PageJust just) tag e = cc
-does_tag (Font pick) tag e = cc
-does_tag (CharSpacing pixels) tag e = cc
-does_tag CharSpacingEnd tag e = cc
-does_tag (PageTime on off) tag e = cc
-does_tag (Flash off_first on off) tag e = cc
-does_tag FlashEnd tag e = cc
-does_tag (Fore colour) tag e = cc
-does_tag (Back colour) tag e = cc
-does_tag (Rect x y w h) tag e = cc
 does_tag (HexChar number) tag e = cc
+does_tag said tag e = does_same said tag e
 
 -- the item of a tag means what its body is read as
 pub meaning-tag : (octets : List ℕ) (token : Token) (result : Result Tag TagFault) → token.kind ≡ kinds.Tag → tag_of (body_of octets token) ≡ result → meaning (item_of octets token) ≡ meaning_of_tag result

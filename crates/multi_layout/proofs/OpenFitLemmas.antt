@@ -5,7 +5,7 @@ use Rattle.std.specs.Option.{option_map, unwrap_or}
 use Rattle.std.proofs.lemmas.Bool.{cases_eq}
 use Rattle.std.proofs.lemmas.List.{map-append}
 use Rattle.multi_tag.specs.declared.tag.Tag.{Tag}
-use Rattle.multi_tag.specs.declared.tag.Tag.TheVariants.{NewPage, NewLine, LineJust, PageJust, Font, CharSpacing, CharSpacingEnd, PageTime, Flash, FlashEnd, Fore, Back, Rect, HexChar}
+use Rattle.multi_tag.specs.declared.tag.Tag.TheVariants.{NewPage, NewLine, Back, Rect}
 use Rattle.multi_token.specs.Spelling.{Item}
 use Rattle.sign_font.specs.declared.parts.LineFill.TheVariants.{Words}
 use Rattle.sign_font.specs.Sign.{SignData, CellData, cell_numbered}
@@ -91,16 +91,7 @@ module _ (sign : SignData) where
   fits_tag items (Rect x y w k) h = area_begins items (Does (Rect x y w k)) refl
   fits_tag items (NewLine gap) h = fits_break items gap h
   fits_tag items (Back colour) h = area_stays items (Does (Back colour)) refl (present_area-cover sign items (Does (Back colour)) (Cover (standing sign items).page (unwrap_or colour sign.defaults.back)) refl refl refl) h
-  fits_tag items (LineJust just) h = area_stays items (Does (LineJust just)) refl (present_area-nothing sign items (Does (LineJust just)) refl refl) h
-  fits_tag items (PageJust just) h = area_stays items (Does (PageJust just)) refl (present_area-nothing sign items (Does (PageJust just)) refl refl) h
-  fits_tag items (Font pick) h = area_stays items (Does (Font pick)) refl (present_area-nothing sign items (Does (Font pick)) refl refl) h
-  fits_tag items (CharSpacing pixels) h = area_stays items (Does (CharSpacing pixels)) refl (present_area-nothing sign items (Does (CharSpacing pixels)) refl refl) h
-  fits_tag items CharSpacingEnd h = area_stays items (Does CharSpacingEnd) refl (present_area-nothing sign items (Does CharSpacingEnd) refl refl) h
-  fits_tag items (PageTime on off) h = area_stays items (Does (PageTime on off)) refl (present_area-nothing sign items (Does (PageTime on off)) refl refl) h
-  fits_tag items (Flash off_first on off) h = area_stays items (Does (Flash off_first on off)) refl (present_area-nothing sign items (Does (Flash off_first on off)) refl refl) h
-  fits_tag items FlashEnd h = area_stays items (Does FlashEnd) refl (present_area-nothing sign items (Does FlashEnd) refl refl) h
-  fits_tag items (Fore colour) h = area_stays items (Does (Fore colour)) refl (present_area-nothing sign items (Does (Fore colour)) refl refl) h
-  fits_tag items (HexChar number) h = area_stays items (Does (HexChar number)) refl (present_area-nothing sign items (Does (HexChar number)) refl refl) h
+  fits_tag items tag h = area_stays items (Does tag) refl (present_area-nothing sign items (Does tag) refl refl) h
 
   -- a character that doesn't offend
   fits_cell : (items : List Meaning) (number : ℕ) (o : Option CellData) → cell_numbered (standing sign items).font number ≡ o → first_code (character_cases (too_big Words) sign items o) ≡ None

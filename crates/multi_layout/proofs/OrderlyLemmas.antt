@@ -5,13 +5,13 @@ use Rattle.std.specs.Option.{option_map}
 use Rattle.std.proofs.lemmas.List.{map-append}
 use Rattle.std.proofs.lemmas.List.Folds.{list_any-append}
 use Rattle.multi_token.specs.Spelling.{Item}
-use Rattle.multi_tag.specs.declared.tag.Tag.TheVariants.{NewPage, NewLine, LineJust, PageJust, Font, CharSpacing, CharSpacingEnd, PageTime, Flash, FlashEnd, Fore, Back, Rect, HexChar}
+use Rattle.multi_tag.specs.declared.tag.Tag.TheVariants.{NewPage, NewLine, Font}
 use Rattle.sign_font.specs.declared.parts.LineFill.{LineFill}
 use Rattle.sign_font.specs.Sign.{SignData, CellData, cell_numbered}
 use Rattle.multi_layout.specs.Address.{Break, Glyph, Put, Spot, Standing, area_of, in_area, is_break, is_glyph, line_before, put_at, spots, standing}
 use Rattle.multi_layout.specs.Laid.{laid, laid_spot, too_big}
 use Rattle.multi_layout.specs.LaidItems.{laid_item, laid_items, laid_of, laid_out}
-use Rattle.multi_layout.specs.Meaning.{Does, Faulty, Meaning, Shows, has_place, is_new_page, meaning}
+use Rattle.multi_layout.specs.Meaning.{Does, Meaning, Shows, has_place, is_new_page, meaning}
 use Rattle.multi_layout.specs.Offence.{clashes, conflicts, first_code, goes_back, never_big, offence, offence_by, unsized_offence}
 use Rattle.multi_layout.specs.Verdict.{offences}
 use Rattle.multi_layout.specs.Walk.{IsOrderly}
@@ -149,21 +149,9 @@ module _ (setting : LineFill) (sign : SignData) (all : List Meaning) where
   unfolding offence_by
   same_offence xs ys pages (Shows number) e = absurd cc
   same_offence xs ys pages (Does (NewLine gap)) e = absurd cc
-  same_offence xs ys pages (Faulty code) e = refl
   same_offence xs ys pages (Does NewPage) e = ap (λ n. first_code ((nat_lt sign.max_pages (n + 2), 12) ∷ [])) pages
-  same_offence xs ys pages (Does (Back colour)) e = refl
-  same_offence xs ys pages (Does (LineJust just)) e = refl
-  same_offence xs ys pages (Does (PageJust just)) e = refl
-  same_offence xs ys pages (Does (Font None)) e = refl
   same_offence xs ys pages (Does (Font (Some pick))) e = refl
-  same_offence xs ys pages (Does (CharSpacing pixels)) e = refl
-  same_offence xs ys pages (Does CharSpacingEnd) e = refl
-  same_offence xs ys pages (Does (PageTime on off)) e = refl
-  same_offence xs ys pages (Does (Flash off_first on off)) e = refl
-  same_offence xs ys pages (Does FlashEnd) e = refl
-  same_offence xs ys pages (Does (Fore colour)) e = refl
-  same_offence xs ys pages (Does (Rect x y w h)) e = refl
-  same_offence xs ys pages (Does (HexChar number)) e = refl
+  same_offence xs ys pages x e = refl
 
   pages_same : (some more : List Meaning) → all ≡ some ++ more → count_by is_new_page (before some) ≡ count_by is_new_page some
   unfolding standing

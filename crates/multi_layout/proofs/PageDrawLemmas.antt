@@ -229,11 +229,9 @@ module _ (sign : SignData) (octets : List ℕ) (before behind : List Piece) (lay
 
 -- what begins an area and no page is a rectangle, which puts nothing
 pub area_no_page : (defaults : Defaults) (at : Standing) (m : Meaning) → begins_area m ≡ true → is_new_page m ≡ false → put_at defaults at m ≡ None
-area_no_page defaults at (Shows number) area other = cc
-area_no_page defaults at (Faulty code) area other = cc
-area_no_page defaults at (Does NewPage) area other = cc
 area_no_page defaults at (Does (Rect x y w h)) area other = refl
 area_no_page defaults at (Does _) area other = cc
+area_no_page defaults at x area other = cc
 
 pub new_page_is : (m : Meaning) → is_new_page m ≡ true → m ≡ Does NewPage
 new_page_is (Shows number) is = cc

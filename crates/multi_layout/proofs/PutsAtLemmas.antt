@@ -2,12 +2,12 @@
 use Rattle.std.proofs.Common.{◌≡◌, inl, inr, ℕ, ◌+◌, ◌<◌, ◌≤◌, Bool, true, false, ◌==◌, List, [], ◌∷◌, ◌++◌, length, Option, Some, None, refl, sym, ap, ◌∙◌, arith, append_assoc, append-nil, length-append}
 use Rattle.std.specs.Option.{option_map}
 use Rattle.std.proofs.lemmas.Bool.{cases_lt, eqb-true}
-use Rattle.multi_tag.specs.declared.tag.Tag.TheVariants.{NewPage, NewLine, LineJust, PageJust, Font, CharSpacing, CharSpacingEnd, PageTime, Flash, FlashEnd, Fore, Back, Rect, HexChar}
+use Rattle.multi_tag.specs.declared.tag.Tag.TheVariants.{NewPage, NewLine, Back}
 use Rattle.sign_font.specs.declared.parts.Defaults.{Defaults}
 use Rattle.sign_font.specs.Sign.{SignData, CellData, cell_numbered}
 use Rattle.multi_layout.specs.Address.{Break, Cover, Glyph, Put, Spot, Standing, is_glyph, put_at, spots, standing}
 use Rattle.multi_layout.specs.Filling.{is_space}
-use Rattle.multi_layout.specs.Meaning.{Does, Faulty, Meaning, Shows}
+use Rattle.multi_layout.specs.Meaning.{Does, Meaning, Shows}
 use Rattle.multi_layout.proofs.FilledKeptLemmas.{found_cell}
 use Rattle.multi_layout.proofs.GroupLaidLemmas.{is_member, members, members_push, members_with}
 use Rattle.multi_layout.proofs.SpotsLemmas.{spots_behind, spots_more, spots_nothing, spots_with}
@@ -33,18 +33,7 @@ space_shown defaults here (Shows number) put e space = ap Shows (space_cell here
 space_shown defaults here (Does (NewLine gap)) put e space = absurd (let is : Break gap ≡ put = cc in let wrong : false ≡ true = ap (λ put. let s : Spot = record { at = here; put = put } in is_space s) is ∙ space in cc)
 space_shown defaults here (Does NewPage) put e space = absurd (let is : Cover (here.page + 1) here.back ≡ put = cc in let wrong : false ≡ true = ap (λ put. let s : Spot = record { at = here; put = put } in is_space s) is ∙ space in cc)
 space_shown defaults here (Does (Back colour)) put e space = absurd (let is : Cover here.page (Rattle.std.specs.Option.unwrap_or colour defaults.back) ≡ put = cc in let wrong : false ≡ true = ap (λ put. let s : Spot = record { at = here; put = put } in is_space s) is ∙ space in cc)
-space_shown defaults here (Faulty code) put e space = absurd cc
-space_shown defaults here (Does (LineJust just)) put e space = absurd cc
-space_shown defaults here (Does (PageJust just)) put e space = absurd cc
-space_shown defaults here (Does (Font pick)) put e space = absurd cc
-space_shown defaults here (Does (CharSpacing pixels)) put e space = absurd cc
-space_shown defaults here (Does CharSpacingEnd) put e space = absurd cc
-space_shown defaults here (Does (PageTime on off)) put e space = absurd cc
-space_shown defaults here (Does (Flash off_first on off)) put e space = absurd cc
-space_shown defaults here (Does FlashEnd) put e space = absurd cc
-space_shown defaults here (Does (Fore colour)) put e space = absurd cc
-space_shown defaults here (Does (Rect x y w h)) put e space = absurd cc
-space_shown defaults here (Does (HexChar number)) put e space = absurd cc
+space_shown defaults here x put e space = absurd cc
 
 -- THE ITEM OF A SPOT
 

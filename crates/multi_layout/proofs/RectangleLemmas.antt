@@ -4,10 +4,10 @@ use Rattle.std.specs.List.{All, cons_option}
 use Rattle.std.specs.Option.{option_map, unwrap_or}
 use Rattle.std.proofs.lemmas.Bool.{false≢true}
 use Rattle.std.proofs.lemmas.List.Elements.{All-nil, All-cons, All-append, All-weaker}
-use Rattle.multi_tag.specs.declared.tag.Tag.TheVariants.{NewPage, NewLine, LineJust, PageJust, Font, CharSpacing, CharSpacingEnd, PageTime, Flash, FlashEnd, Fore, Back, Rect, HexChar}
+use Rattle.multi_tag.specs.declared.tag.Tag.TheVariants.{NewPage, Rect}
 use Rattle.sign_font.specs.Sign.{SignData}
 use Rattle.multi_layout.specs.Attributes.{given_rectangle}
-use Rattle.multi_layout.specs.Meaning.{Meaning, Shows, Does, Faulty, begins_area}
+use Rattle.multi_layout.specs.Meaning.{Meaning, Does, begins_area}
 use Rattle.multi_layout.specs.Address.{Spot, Put, Standing, put_at, spot_at, spots, standing}
 use Rattle.multi_layout.proofs.LayoutLemmas.{spots_push}
 use Rattle.multi_layout.proofs.StandingLemmas.{standing_push}
@@ -15,22 +15,9 @@ use Rattle.multi_layout.proofs.WordLemmas.{push_ind}
 
 -- an item that begins no area gives no rectangle
 given_none : (sign : SignData) (x : Meaning) → begins_area x ≡ false → given_rectangle sign x ≡ None
-given_none sign (Shows number) e = refl
-given_none sign (Faulty code) e = refl
 given_none sign (Does NewPage) e = absurd (false≢true (sym e))
-given_none sign (Does (NewLine gap)) e = refl
-given_none sign (Does (LineJust just)) e = refl
-given_none sign (Does (PageJust just)) e = refl
-given_none sign (Does (Font pick)) e = refl
-given_none sign (Does (CharSpacing pixels)) e = refl
-given_none sign (Does CharSpacingEnd) e = refl
-given_none sign (Does (PageTime on off)) e = refl
-given_none sign (Does (Flash off_first on off)) e = refl
-given_none sign (Does FlashEnd) e = refl
-given_none sign (Does (HexChar number)) e = refl
-given_none sign (Does (Fore colour)) e = refl
-given_none sign (Does (Back colour)) e = refl
 given_none sign (Does (Rect x y w h)) e = absurd (false≢true (sym e))
+given_none sign x e = refl
 
 module _ (sign : SignData) where
   area_behind : (items : List Meaning) (x : Meaning) (b : Bool) → begins_area x ≡ b → (standing sign (items ++ x ∷ [])).area ≡ (standing sign items).area + cond b 1 0

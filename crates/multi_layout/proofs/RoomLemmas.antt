@@ -5,12 +5,12 @@ use Rattle.std.specs.Prelude.{IsSome}
 use Rattle.std.specs.List.{after_last}
 use Rattle.std.specs.Option.{option_map, unwrap_or}
 use Rattle.std.proofs.lemmas.Bool.{false≢true, le-leb}
-use Rattle.multi_tag.specs.declared.tag.Tag.TheVariants.{NewPage, NewLine, LineJust, PageJust, Font, CharSpacing, CharSpacingEnd, PageTime, Flash, FlashEnd, Fore, Back, Rect, HexChar}
+use Rattle.multi_tag.specs.declared.tag.Tag.TheVariants.{NewPage, NewLine, Back, Rect}
 use Rattle.sign_font.specs.declared.parts.LineFill.TheVariants.{Off}
 use Rattle.sign_font.specs.Sign.{SignData, CellData, font_numbered, cell_numbered}
 use Rattle.sign_font.specs.Sound.{IsSound}
 use Rattle.multi_layout.specs.declared.attributes.Rectangle.{Rectangle}
-use Rattle.multi_layout.specs.Meaning.{Meaning, Shows, Does, Faulty, begins_area}
+use Rattle.multi_layout.specs.Meaning.{Meaning, Shows, Does, begins_area}
 use Rattle.multi_layout.specs.Attributes.{given_rectangle, whole_sign}
 use Rattle.multi_layout.specs.Address.{Standing, area_of, standing, Put, Glyph, Break, Cover, Spot, put_at, spots, is_glyph, is_break, in_group, lines_of}
 use Rattle.multi_layout.specs.Fit.{area_fits, line_fits}
@@ -105,17 +105,7 @@ module _ (sign : SignData) (P : Rectangle → List Spot → Type 0) (first : (r 
   next_holds before (Does NewPage) none old = holds_new before (Does NewPage) refl
   next_holds before (Does (Rect x y w h)) none old = holds_new before (Does (Rect x y w h)) refl
   next_holds before (Does (Back colour)) none old = holds_cover before colour old
-  next_holds before (Does (LineJust just)) none old = holds_same before (Does (LineJust just)) refl refl refl old
-  next_holds before (Does (PageJust just)) none old = holds_same before (Does (PageJust just)) refl refl refl old
-  next_holds before (Does (Font pick)) none old = holds_same before (Does (Font pick)) refl refl refl old
-  next_holds before (Does (CharSpacing pixels)) none old = holds_same before (Does (CharSpacing pixels)) refl refl refl old
-  next_holds before (Does CharSpacingEnd) none old = holds_same before (Does CharSpacingEnd) refl refl refl old
-  next_holds before (Does (PageTime on off)) none old = holds_same before (Does (PageTime on off)) refl refl refl old
-  next_holds before (Does (Flash off_first on off)) none old = holds_same before (Does (Flash off_first on off)) refl refl refl old
-  next_holds before (Does FlashEnd) none old = holds_same before (Does FlashEnd) refl refl refl old
-  next_holds before (Does (HexChar number)) none old = holds_same before (Does (HexChar number)) refl refl refl old
-  next_holds before (Does (Fore colour)) none old = holds_same before (Does (Fore colour)) refl refl refl old
-  next_holds before (Faulty code) none old = holds_same before (Faulty code) refl refl refl old
+  next_holds before x none old = holds_same before x refl refl refl old
 
   pub holds_always : (items : List Meaning) → IsFine sign items → P (standing sign items).rectangle (present_area sign items)
   holds_always = each_ind sign (offence Off sign) Holds first_holds next_holds

@@ -7,7 +7,7 @@ use Rattle.std.proofs.lemmas.List.Elements.{filter-append}
 use Rattle.std.proofs.lemmas.List.Sums.{sum_by_push}
 use Rattle.multi_token.specs.Spelling.{Item}
 use Rattle.multi_tag.specs.declared.tag.Tag.{Tag}
-use Rattle.multi_tag.specs.declared.tag.Tag.TheVariants.{NewPage, NewLine, LineJust, PageJust, Font, CharSpacing, CharSpacingEnd, PageTime, Flash, FlashEnd, Fore, Back, Rect, HexChar}
+use Rattle.multi_tag.specs.declared.tag.Tag.TheVariants.{NewPage, NewLine, Font}
 use Rattle.sign_font.specs.declared.parts.LineFill.{LineFill}
 use Rattle.sign_font.specs.Sign.{SignData, font_numbered}
 use Rattle.multi_layout.specs.declared.cursor.Cursor.{Cursor}
@@ -15,7 +15,7 @@ use Rattle.multi_layout.specs.declared.cursor.NextItem.{NextItem}
 use Rattle.multi_layout.specs.declared.state.State.{State}
 use Rattle.multi_layout.specs.Address.{Standing, spots, standing}
 use Rattle.multi_layout.specs.KnownItem.{meant_by}
-use Rattle.multi_layout.specs.Meaning.{BeginsPage, Does, Faulty, Meaning, Shows, has_place, is_new_page, meaning}
+use Rattle.multi_layout.specs.Meaning.{BeginsPage, Does, Meaning, Shows, has_place, is_new_page, meaning}
 use Rattle.multi_layout.specs.Offence.{first_code, offence, offence_by, unsized_offence}
 use Rattle.multi_layout.specs.State.{IsReady, IsStateOf, attributes_of, present_area, standing_behind}
 use Rattle.multi_layout.specs.Sums.{area_sum}
@@ -103,23 +103,11 @@ module _ (sign : SignData) where
   unfolding offence_by
   offends_unplaced setting ms (Shows number) e = absurd cc
   offends_unplaced setting ms (Does (NewLine gap)) e = absurd cc
-  offends_unplaced setting ms (Faulty code) e = refl
   offends_unplaced setting ms (Does NewPage) e =
       let pages : count_by is_new_page (unplaced ms) ≡ count_by is_new_page ms = omega (arith, (same_unplaced ms).2) in
       ap (λ n. first_code ((nat_lt sign.max_pages (n + 2), 12) ∷ [])) pages
-  offends_unplaced setting ms (Does (Back colour)) e = refl
-  offends_unplaced setting ms (Does (LineJust just)) e = refl
-  offends_unplaced setting ms (Does (PageJust just)) e = refl
-  offends_unplaced setting ms (Does (Font None)) e = refl
   offends_unplaced setting ms (Does (Font (Some pick))) e = refl
-  offends_unplaced setting ms (Does (CharSpacing pixels)) e = refl
-  offends_unplaced setting ms (Does CharSpacingEnd) e = refl
-  offends_unplaced setting ms (Does (PageTime on off)) e = refl
-  offends_unplaced setting ms (Does (Flash off_first on off)) e = refl
-  offends_unplaced setting ms (Does FlashEnd) e = refl
-  offends_unplaced setting ms (Does (Fore colour)) e = refl
-  offends_unplaced setting ms (Does (Rect x y w h)) e = refl
-  offends_unplaced setting ms (Does (HexChar number)) e = refl
+  offends_unplaced setting ms x e = refl
 
   few_unplaced : (ms : List Meaning) → length (unplaced ms) ≤ length ms
   few_unplaced = push_ind (λ ms. length (unplaced ms) ≤ length ms) (omega arith) (λ ms x ih. one ms x (has_place x) refl ih)
@@ -151,21 +139,8 @@ pub sized : (setting : LineFill) (sign : SignData) (ms : List Meaning) (x : Mean
 unfolding offence_by
 sized setting sign ms (Shows number) e = absurd cc
 sized setting sign ms (Does (NewLine gap)) e = absurd cc
-sized setting sign ms (Faulty code) e = refl
-sized setting sign ms (Does NewPage) e = refl
-sized setting sign ms (Does (Back colour)) e = refl
-sized setting sign ms (Does (LineJust just)) e = refl
-sized setting sign ms (Does (PageJust just)) e = refl
-sized setting sign ms (Does (Font None)) e = refl
 sized setting sign ms (Does (Font (Some pick))) e = refl
-sized setting sign ms (Does (CharSpacing pixels)) e = refl
-sized setting sign ms (Does CharSpacingEnd) e = refl
-sized setting sign ms (Does (PageTime on off)) e = refl
-sized setting sign ms (Does (Flash off_first on off)) e = refl
-sized setting sign ms (Does FlashEnd) e = refl
-sized setting sign ms (Does (Fore colour)) e = refl
-sized setting sign ms (Does (Rect x y w h)) e = refl
-sized setting sign ms (Does (HexChar number)) e = refl
+sized setting sign ms x e = refl
 
 -- THE WAY
 

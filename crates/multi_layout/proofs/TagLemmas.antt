@@ -5,7 +5,7 @@ use Rattle.std.proofs.lemmas.Bool.{cases_Bool}
 use Rattle.std.proofs.lemmas.Bool.Decides.{nat_tests}
 use Rattle.multi_tag.specs.declared.tag.FontPick.{FontPick}
 use Rattle.multi_tag.specs.declared.tag.Tag.{Tag}
-use Rattle.multi_tag.specs.declared.tag.Tag.TheVariants.{NewPage, NewLine, LineJust, PageJust, Font, CharSpacing, CharSpacingEnd, PageTime, Flash, FlashEnd, Fore, Back, Rect, HexChar}
+use Rattle.multi_tag.specs.declared.tag.Tag.TheVariants.{NewPage, NewLine, LineJust, PageJust, Font, Back, Rect}
 use Rattle.sign_font.specs.declared.parts.LineFill.TheVariants.{Off}
 use Rattle.sign_font.specs.declared.font.FontInfo.{FontInfo}
 use Rattle.sign_font.specs.Sign.{SignData, FontData, font_numbered, info_of}
@@ -29,16 +29,7 @@ simple_of NewPage a b c d = a refl
 simple_of (NewLine gap) a b c d = b gap refl
 simple_of (Font pick) a b c d = c pick refl
 simple_of (Rect x y w h) a b c d = d x y w h refl
-simple_of (LineJust just) a b c d = tt
-simple_of (PageJust just) a b c d = tt
-simple_of (CharSpacing pixels) a b c d = tt
-simple_of CharSpacingEnd a b c d = tt
-simple_of (PageTime on off) a b c d = tt
-simple_of (Flash off_first on off) a b c d = tt
-simple_of FlashEnd a b c d = tt
-simple_of (HexChar number) a b c d = tt
-simple_of (Fore colour) a b c d = tt
-simple_of (Back colour) a b c d = tt
+simple_of tag a b c d = tt
 
 known_line : (just : Option ℕ) (default : ℕ) → IsKnown (LineJust just) → (2 ≤ default) × (default ≤ 5) → (2 ≤ unwrap_or just default) × (unwrap_or just default ≤ 5)
 known_line None default k d = d
@@ -89,44 +80,14 @@ module _ (sign : SignData) (items : List Meaning) (state : State) (st : IsStateO
     state-attribute sign items state attributes (Does (PageJust just)) st refl refl refl is st.font
         (along_line _ (ap (λ (a : Attributes). a.line_just) is) line) (along_page _ (ap (λ (a : Attributes). a.page_just) is) (known_page just sign.defaults.page k sound.page)) below,
   )
-  judged-simple (CharSpacing pixels) s k is = (
-    refl,
-    state-attribute sign items state attributes (Does (CharSpacing pixels)) st refl refl refl is st.font
-        (along_line _ (ap (λ (a : Attributes). a.line_just) is) line) (along_page _ (ap (λ (a : Attributes). a.page_just) is) page) below,
-  )
-  judged-simple CharSpacingEnd s k is = (
-    refl,
-    state-attribute sign items state attributes (Does CharSpacingEnd) st refl refl refl is st.font
-        (along_line _ (ap (λ (a : Attributes). a.line_just) is) line) (along_page _ (ap (λ (a : Attributes). a.page_just) is) page) below,
-  )
-  judged-simple (PageTime on off) s k is = (
-    refl,
-    state-attribute sign items state attributes (Does (PageTime on off)) st refl refl refl is st.font
-        (along_line _ (ap (λ (a : Attributes). a.line_just) is) line) (along_page _ (ap (λ (a : Attributes). a.page_just) is) page) below,
-  )
-  judged-simple (Flash off_first on off) s k is = (
-    refl,
-    state-attribute sign items state attributes (Does (Flash off_first on off)) st refl refl refl is st.font
-        (along_line _ (ap (λ (a : Attributes). a.line_just) is) line) (along_page _ (ap (λ (a : Attributes). a.page_just) is) page) below,
-  )
-  judged-simple FlashEnd s k is = (
-    refl,
-    state-attribute sign items state attributes (Does FlashEnd) st refl refl refl is st.font
-        (along_line _ (ap (λ (a : Attributes). a.line_just) is) line) (along_page _ (ap (λ (a : Attributes). a.page_just) is) page) below,
-  )
-  judged-simple (HexChar number) s k is = (
-    refl,
-    state-attribute sign items state attributes (Does (HexChar number)) st refl refl refl is st.font
-        (along_line _ (ap (λ (a : Attributes). a.line_just) is) line) (along_page _ (ap (λ (a : Attributes). a.page_just) is) page) below,
-  )
-  judged-simple (Fore colour) s k is = (
-    refl,
-    state-attribute sign items state attributes (Does (Fore colour)) st refl refl refl is st.font
-        (along_line _ (ap (λ (a : Attributes). a.line_just) is) line) (along_page _ (ap (λ (a : Attributes). a.page_just) is) page) below,
-  )
   judged-simple (Back colour) s k is = (
     refl,
     state-cover sign items state attributes colour st is
+        (along_line _ (ap (λ (a : Attributes). a.line_just) is) line) (along_page _ (ap (λ (a : Attributes). a.page_just) is) page) below,
+  )
+  judged-simple tag s k is = (
+    refl,
+    state-attribute sign items state attributes (Does tag) st refl refl refl is st.font
         (along_line _ (ap (λ (a : Attributes). a.line_just) is) line) (along_page _ (ap (λ (a : Attributes). a.page_just) is) page) below,
   )
 
