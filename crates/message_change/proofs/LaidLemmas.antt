@@ -33,21 +33,8 @@ alike_shown sign number (Some spot) = elim (cases_Bool (is_break spot)) [
 laid_alike : (sign : SignData) (setting : LineFill) (all before : List Spot) (at : Standing) (item : Meaning)
     → Alike sign item (laid_of item (option_map (laid_spot setting all before) (spot_at sign.defaults at item)))
 laid_alike sign setting all before at (Shows number) = alike_shown sign number (option_map (laid_spot setting all before) (spot_at sign.defaults at (Shows number)))
-laid_alike sign setting all before at (Does NewPage) = inl refl
 laid_alike sign setting all before at (Does (NewLine gap)) = inr (refl, refl, (given_gap (record { at = at; put = Break gap }), refl))
-laid_alike sign setting all before at (Does (LineJust just)) = inl refl
-laid_alike sign setting all before at (Does (PageJust just)) = inl refl
-laid_alike sign setting all before at (Does (Font pick)) = inl refl
-laid_alike sign setting all before at (Does (CharSpacing pixels)) = inl refl
-laid_alike sign setting all before at (Does CharSpacingEnd) = inl refl
-laid_alike sign setting all before at (Does (PageTime on off)) = inl refl
-laid_alike sign setting all before at (Does (Flash first on off)) = inl refl
-laid_alike sign setting all before at (Does FlashEnd) = inl refl
-laid_alike sign setting all before at (Does (Fore colour)) = inl refl
-laid_alike sign setting all before at (Does (Back colour)) = inl refl
-laid_alike sign setting all before at (Does (Rect x y w h)) = inl refl
-laid_alike sign setting all before at (Does (HexChar number)) = inl refl
-laid_alike sign setting all before at (Faulty code) = inl refl
+laid_alike sign setting all before at x = inl refl
 
 -- items stand alike if they stand on the same page, with the same flash in force
 record StandsAlike (one other : Standing) : Type 0 where
@@ -105,21 +92,7 @@ shown_steady page phase tenths number at laid (Some cell) alike before = λ here
 same_steady : (sign : SignData) (page phase tenths : ℕ) (at laid : Standing) (item : Meaning) → StandsAlike at laid → IfSome (flash_on page at item) (λ flash. IsBefore tenths (flash_left phase flash))
     → IfSome (spot_at sign.defaults laid item) (IsSteady page phase tenths)
 same_steady sign page phase tenths at laid (Shows number) alike before = shown_steady page phase tenths number at laid (cell_numbered laid.font number) alike before
-same_steady sign page phase tenths at laid (Does NewPage) alike before = tt
-same_steady sign page phase tenths at laid (Does (NewLine gap)) alike before = tt
-same_steady sign page phase tenths at laid (Does (LineJust just)) alike before = tt
-same_steady sign page phase tenths at laid (Does (PageJust just)) alike before = tt
-same_steady sign page phase tenths at laid (Does (Font pick)) alike before = tt
-same_steady sign page phase tenths at laid (Does (CharSpacing pixels)) alike before = tt
-same_steady sign page phase tenths at laid (Does CharSpacingEnd) alike before = tt
-same_steady sign page phase tenths at laid (Does (PageTime on off)) alike before = tt
-same_steady sign page phase tenths at laid (Does (Flash first on off)) alike before = tt
-same_steady sign page phase tenths at laid (Does FlashEnd) alike before = tt
-same_steady sign page phase tenths at laid (Does (Fore colour)) alike before = tt
-same_steady sign page phase tenths at laid (Does (Back colour)) alike before = tt
-same_steady sign page phase tenths at laid (Does (Rect x y w h)) alike before = tt
-same_steady sign page phase tenths at laid (Does (HexChar number)) alike before = tt
-same_steady sign page phase tenths at laid (Faulty code) alike before = tt
+same_steady sign page phase tenths at laid x alike before = tt
 
 laid_steady : (sign : SignData) (page phase tenths : ℕ) (at laid : Standing) (item next : Meaning) → StandsAlike at laid → Alike sign item next
     → IfSome (flash_on page at item) (λ flash. IsBefore tenths (flash_left phase flash)) → IfSome (spot_at sign.defaults laid next) (IsSteady page phase tenths)

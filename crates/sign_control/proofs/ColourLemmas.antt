@@ -143,42 +143,14 @@ laid_out_coloured sign octets =
 
 module _ (sign : SignData) (fore : IsColour sign.defaults.fore) (back : IsColour sign.defaults.back) where
   fore_given : (item : Meaning) → IsColoured item → IfSome (given_fore sign.defaults item) IsColour
-  fore_given (Shows number) is = tt
-  fore_given (Faulty code) is = tt
-  fore_given (Does NewPage) is = tt
-  fore_given (Does (NewLine gap)) is = tt
-  fore_given (Does (LineJust just)) is = tt
-  fore_given (Does (PageJust just)) is = tt
-  fore_given (Does (Font pick)) is = tt
-  fore_given (Does (CharSpacing pixels)) is = tt
-  fore_given (Does CharSpacingEnd) is = tt
-  fore_given (Does (PageTime on off)) is = tt
-  fore_given (Does (Flash off_first on off)) is = tt
-  fore_given (Does FlashEnd) is = tt
   fore_given (Does (Fore None)) is = fore
   fore_given (Does (Fore (Some colour))) is = is
-  fore_given (Does (Back colour)) is = tt
-  fore_given (Does (Rect x y w h)) is = tt
-  fore_given (Does (HexChar number)) is = tt
+  fore_given x is = tt
 
   back_given : (item : Meaning) → IsColoured item → IfSome (given_back sign.defaults item) IsColour
-  back_given (Shows number) is = tt
-  back_given (Faulty code) is = tt
-  back_given (Does NewPage) is = tt
-  back_given (Does (NewLine gap)) is = tt
-  back_given (Does (LineJust just)) is = tt
-  back_given (Does (PageJust just)) is = tt
-  back_given (Does (Font pick)) is = tt
-  back_given (Does (CharSpacing pixels)) is = tt
-  back_given (Does CharSpacingEnd) is = tt
-  back_given (Does (PageTime on off)) is = tt
-  back_given (Does (Flash off_first on off)) is = tt
-  back_given (Does FlashEnd) is = tt
-  back_given (Does (Fore colour)) is = tt
   back_given (Does (Back None)) is = back
   back_given (Does (Back (Some colour))) is = is
-  back_given (Does (Rect x y w h)) is = tt
-  back_given (Does (HexChar number)) is = tt
+  back_given x is = tt
 
   -- the colours in force
   fore_in_force : (before : List Meaning) → Each IsColoured before → IsColour (in_force (given_fore sign.defaults) sign.defaults.fore before)
@@ -206,22 +178,10 @@ module _ (sign : SignData) (fore : IsColour sign.defaults.fore) (back : IsColour
 
   put_coloured : (at : Standing) (item : Meaning) → IsColour at.back → IsColoured item → IfSome (put_at sign.defaults at item) IsPutColoured
   put_coloured at (Shows number) behind is = glyph_coloured (cell_numbered at.font number)
-  put_coloured at (Faulty code) behind is = tt
   put_coloured at (Does NewPage) behind is = behind
-  put_coloured at (Does (NewLine gap)) behind is = tt
-  put_coloured at (Does (LineJust just)) behind is = tt
-  put_coloured at (Does (PageJust just)) behind is = tt
-  put_coloured at (Does (Font pick)) behind is = tt
-  put_coloured at (Does (CharSpacing pixels)) behind is = tt
-  put_coloured at (Does CharSpacingEnd) behind is = tt
-  put_coloured at (Does (PageTime on off)) behind is = tt
-  put_coloured at (Does (Flash off_first on off)) behind is = tt
-  put_coloured at (Does FlashEnd) behind is = tt
-  put_coloured at (Does (Fore colour)) behind is = tt
   put_coloured at (Does (Back None)) behind is = back
   put_coloured at (Does (Back (Some colour))) behind is = is
-  put_coloured at (Does (Rect x y w h)) behind is = tt
-  put_coloured at (Does (HexChar number)) behind is = tt
+  put_coloured at x behind is = tt
 
   spot_coloured : (before : List Meaning) (item : Meaning) → Each IsColoured before → IsColoured item → IfSome (spot_at sign.defaults (standing sign before) item) IsSpotColoured
   unfolding standing
