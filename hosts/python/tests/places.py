@@ -7,7 +7,7 @@ from typing import Iterator, Optional
 
 TOP = Path(__file__).resolve().parents[3]
 SIGNS = TOP / "signs"
-sys.path.insert(0, str(TOP / ".ci"))
+sys.path.insert(0, str(TOP / "tests"))
 
 from sign_examples import examples_of, sign_with  # noqa: E402
 
