@@ -350,7 +350,7 @@ uint8_t latsefur_held_colours_of_page(latsefur_controller *handle, const uint8_t
 /* The CRC of a message's text, beacon and pixel service (dmsMessageCRC). An activation code has it, the high octet first. */
 uint16_t latsefur_message_crc(const uint8_t *text, size_t text_len, uint8_t beacon, uint8_t pixel);
 
-/* The sizes that the library takes these structures to have; the platform is Linux on x86-64. */
+/* The sizes that the library takes these structures to have; the platform is Linux on x86-64 or AArch64. */
 #if defined(__cplusplus) && __cplusplus >= 201103L
 #define LATSEFUR_HAS_SIZE(type, size) static_assert(sizeof(type) == (size), #type " has another size than the library takes it to have")
 #elif defined(__STDC_VERSION__) && __STDC_VERSION__ >= 201112L
