@@ -20,6 +20,9 @@ const MINUTE = 600;
 const EXPLAINED_AFTER = 60;
 const SPOKEN_AFTER = 700;
 
+// Milliseconds after which a question is asked again that wasn't answered.
+const RETRIED_AFTER = 1000;
+
 // A picture as round dots. It draws only the dots that differ from those that are there.
 class Dots {
   constructor(canvas, width, height, classic) {
@@ -130,17 +133,20 @@ async function renew(begin, keeps = false) {
 
 async function loadMore(begin) {
   const mine = film;
+  let rest = 0;
   loading = true;
   try {
     const answer = await told("message", question(begin, AHEAD));
     if (mine === film && mine.revision === revision && answer.accepted) {
-      const kept = film.until === begin ? film.frames.filter((_, place, all) => !(all[place + 1] && all[place + 1].time <= now())) : [];
+      const isOver = (_, place, all) => all[place + 1] && all[place + 1].time <= now();
+      const kept = film.until === begin ? film.frames.filter((...frame) => !isOver(...frame)) : [];
       film.frames = [...kept, ...framesOf(answer)];
       film.until = answer.until;
     }
-  } finally {
-    loading = false;
+  } catch {
+    rest = RETRIED_AFTER;
   }
+  setTimeout(() => { loading = false; }, rest);
 }
 
 function drawFrame(frame, time) {
@@ -168,7 +174,7 @@ function play() {
       drawFrame(film.frames.findLast((frame) => frame.time <= time), time);
     }
     if (!loading && time >= film.until - SOON) {
-      loadMore(Math.max(time, film.until)).catch(() => {});
+      loadMore(Math.max(time, film.until));
     }
   }
   requestAnimationFrame(play);
