@@ -13,7 +13,7 @@
  * - What a call writes overlaps nothing else that is handed to it. What it reads stays the same until it returns.
  * - malloc, realloc and free come from one allocator, align as C asks, and return.
  * - The thread has stack left: 64 KiB for a sign file whose tables are nested no deeper than docs/formats.md nests them, and 2 MiB for any
- *   other. A file from anybody may have keys that aren't looked at, with tables nested thousands deep.
+ *   other; on AArch64 128 KiB and 3 MiB. A file from anybody may have keys that aren't looked at, with tables nested thousands deep.
  * - No call is made from a signal handler, or from the forked child of a process that had threads. None is left by longjmp, or by cancelling
  *   its thread.
  * - No other function of the program has a name that begins with latsefur_ or rattle_.

@@ -148,7 +148,7 @@ class Served(unittest.TestCase):
         places = [
             self.message(text, "caret", caret=caret)["page"] for caret in range(len(text) + 1)
         ]
-        self.assertEqual(places, [0] * 5 + [1] * 10)
+        self.assertEqual(places, [0] * 5 + [1] * 11)
 
     def test_the_sign(self) -> None:
         facts = json.loads(self.ask("GET", "/sign")[2])

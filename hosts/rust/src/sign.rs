@@ -57,7 +57,7 @@ impl fmt::Display for Verdict {
 /// the moment at which its page is. Pages count from 0.
 ///
 /// Any call may have [`Error::NoMemory`], and one with a text [`Error::TextTooLong`]. A thread that reads a sign file from anybody needs 2 MiB of
-/// stack left, which is all that a thread of Rust has if nothing else is said.
+/// stack left, on AArch64 3 MiB; a thread of Rust has 2 MiB in all if nothing else is said.
 ///
 /// ```
 /// let sign = latsefur::Sign::from_file("../../signs/portable.toml")?;

@@ -136,9 +136,7 @@ def is_there(verdict: Verdict) -> bool:
 def name_of(error: MultiError) -> str:
     """The name of an error as NTCIP 1203 writes it."""
     first, *others = error.name.lower().split("_")
-    return first + "".join(word.capitalize() for word in others).replace(
-        "VersionId", "VersionID"
-    ).replace("graphicId", "graphicID")
+    return first + "".join("ID" if word == "id" else word.capitalize() for word in others)
 
 
 def written(character: int) -> str:
