@@ -89,9 +89,9 @@ const told = async (path, asked) => (await ask(path, asked)).json();
 const text = byId("text"), view = byId("view"), canvas = byId("sign");
 let sign, dots;
 
-// What is asked and shown: `revision` rises with each key and each choice, and an answer to an older one is dropped. `film` has the frames from
-// `frames[0].time` up to `until`; `from` is the time at the moment `begun`.
-let revision = 0, film = null, from = 0, begun = 0, loading = false;
+// What is asked and shown: `revision` rises with each key and each choice, and `drawn` is the last one whose answer is seen. `film` has the frames
+// from `frames[0].time` up to `until`; `from` is the time at the moment `begun`.
+let revision = 0, drawn = 0, film = null, from = 0, begun = 0, loading = false;
 let playing = !window.matchMedia("(prefers-reduced-motion: reduce)").matches;
 let explaining = 0, speaking = 0;
 
@@ -110,12 +110,19 @@ async function renew(begin, keeps = false) {
   const mine = ++revision, asked = question(begin, 1);
   const answer = await told("message", asked);
   if (mine !== revision) {
+    // One types on. What was accepted meanwhile is seen all the same.
+    if (answer.accepted && mine > drawn && !keeps) {
+      drawn = mine;
+      film = null;
+      dots.draw(answer.pictures[0]);
+    }
     return;
   }
   if (keeps && film && answer.page === film.page) {
     film.revision = mine;
     return;
   }
+  drawn = mine;
   tellVerdict(answer);
   canvas.classList.toggle("stale", !answer.accepted);
   if (answer.accepted) {
