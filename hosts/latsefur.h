@@ -1,6 +1,6 @@
 /* Latsefur for hosts in C: what a roadside message sign says to a message, and the pages that it shows.
  *
- * A host keeps two things as octets: the sign file, which describes the sign (docs/formats.md), and the texts, which are messages in
+ * A host keeps two things as octets: the sign file, which describes the sign (docs/signs.md), and the texts, which are messages in
  * MULTI, the mark-up of NTCIP 1203 v03 (docs/multi.md). Each call of the first part reads the sign file, and all but the first a text or
  * several. The second part has a controller that the host holds: it keeps messages and shows them. A call answers with one of the outcomes,
  * and writes what it found where the host asked for it. docs/hosts.md has first programs, and the times of the calls.
@@ -12,8 +12,8 @@
  *   be written too. All of them have been given some value before the call, as by `= {0}`, or `= {}` in C++.
  * - What a call writes overlaps nothing else that is handed to it. What it reads stays the same until it returns.
  * - malloc, realloc and free come from one allocator, align as C asks, and return.
- * - The thread has stack left: 64 KiB for a sign file whose tables are nested no deeper than docs/formats.md nests them, and 2 MiB for any
- *   other. A file from anybody may have keys that aren't looked at, with tables nested thousands deep.
+ * - The thread has stack left: 64 KiB for a sign file whose tables are nested no deeper than docs/signs.md nests them, and 2 MiB for any
+ *   other; on AArch64 128 KiB and 3 MiB. A file from anybody may have keys that aren't looked at, with tables nested thousands deep.
  * - No call is made from a signal handler, or from the forked child of a process that had threads. None is left by longjmp, or by cancelling
  *   its thread.
  * - No other function of the program has a name that begins with latsefur_ or rattle_.
@@ -49,7 +49,7 @@ enum {
     LATSEFUR_REFUSED = 1,      /* the sign refuses the text */
     LATSEFUR_NO_MEMORY = 2,    /* memory was refused; the same call may succeed later */
     LATSEFUR_NO_SIGN_FILE = 3, /* the octets can't be read as a sign file; `signctl sign` says why, up to 16 MiB */
-    LATSEFUR_SIGN_FAULT = 4,   /* the sign file is read, but its sign is outside the limits of docs/formats.md */
+    LATSEFUR_SIGN_FAULT = 4,   /* the sign file is read, but its sign is outside the limits of docs/signs.md */
     LATSEFUR_TOO_SMALL = 5,    /* the buffer is too small for the picture, or for the verdicts */
     LATSEFUR_NO_PAGE = 6,      /* the text has no page of this number */
     LATSEFUR_TOO_LONG = 7,     /* the text has 2^32 octets or more, and isn't judged */
@@ -350,7 +350,7 @@ uint8_t latsefur_held_colours_of_page(latsefur_controller *handle, const uint8_t
 /* The CRC of a message's text, beacon and pixel service (dmsMessageCRC). An activation code has it, the high octet first. */
 uint16_t latsefur_message_crc(const uint8_t *text, size_t text_len, uint8_t beacon, uint8_t pixel);
 
-/* The sizes that the library takes these structures to have; the platform is Linux on x86-64. */
+/* The sizes that the library takes these structures to have; the platform is Linux on x86-64 or AArch64. */
 #if defined(__cplusplus) && __cplusplus >= 201103L
 #define LATSEFUR_HAS_SIZE(type, size) static_assert(sizeof(type) == (size), #type " has another size than the library takes it to have")
 #elif defined(__STDC_VERSION__) && __STDC_VERSION__ >= 201112L

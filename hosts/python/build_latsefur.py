@@ -17,14 +17,19 @@ from pathlib import Path
 
 HERE = Path(__file__).resolve().parent
 LIBRARY = "latsefur/liblatsefur.so"
+# The machine of a library, by its number in the head of the file (ELF, e_machine).
+MACHINES = {62: "x86_64", 183: "aarch64"}
+KINDS = (".py", ".typed", ".html", ".css", ".js")
 # The earliest time that an archive can have.
 DATE = (1980, 1, 1, 0, 0, 0)
 
 
 def project():
-    """The keys of [project] that are texts. Before 3.11 Python has no reader of TOML of its own."""
+    """The keys of [project] that are texts, and the version, which is the repository's or lies in the source archive. Before 3.11 Python has no
+    reader of TOML of its own."""
     table = (HERE / "pyproject.toml").read_text().partition("[project]")[2].partition("\n[")[0]
-    return dict(re.findall(r'^([\w-]+) = "(.*)"$', table, re.M))
+    version = next(place for place in (HERE / "VERSION", HERE.parent.parent / "VERSION") if place.is_file())
+    return {**dict(re.findall(r'^([\w-]+) = "(.*)"$', table, re.M)), "version": version.read_text().strip()}
 
 
 def library():
@@ -43,7 +48,8 @@ def library():
 
 def sources():
     """The files of the package, by their names."""
-    return {f"latsefur/{path.name}": path.read_bytes() for path in sorted((HERE / "latsefur").glob("*")) if path.suffix in (".py", ".typed")}
+    there = sorted(path for path in (HERE / "latsefur").rglob("*") if path.suffix in KINDS)
+    return {path.relative_to(HERE).as_posix(): path.read_bytes() for path in there}
 
 
 def metadata():
@@ -80,7 +86,11 @@ def digest(octets):
 
 
 def build_wheel(wheel_directory, config_settings=None, metadata_directory=None):
-    return write_wheel(wheel_directory, {**sources(), LIBRARY: library()}, "py3-none-linux_x86_64")
+    octets = library()
+    machine = MACHINES.get(int.from_bytes(octets[18:20], "little"))
+    if octets[:4] != b"\x7fELF" or machine is None:
+        raise SystemExit("latsefur: the library is for no machine that this package is for")
+    return write_wheel(wheel_directory, {**sources(), LIBRARY: octets}, f"py3-none-linux_{machine}")
 
 
 def build_editable(wheel_directory, config_settings=None, metadata_directory=None):
@@ -92,6 +102,7 @@ def build_sdist(sdist_directory, config_settings=None):
     """An archive of the sources with the library, which can't be built without its proofs."""
     own = ("pyproject.toml", "build_latsefur.py", "README.md")
     files = {name: (HERE / name).read_bytes() for name in own} | sources() | {LIBRARY: library(), "PKG-INFO": metadata()}
+    files["VERSION"] = f"{project()['version']}\n".encode()
     packed = io.BytesIO()
     with tarfile.open(fileobj=packed, mode="w", format=tarfile.PAX_FORMAT) as made:
         for name, octets in files.items():

@@ -55,7 +55,7 @@ def told_verdict(at: int, cycle: int, outcome: int, code: int, pages: int) -> Ve
 
 
 class Sign:
-    """A sign by the octets of its sign file, which `docs/formats.md` describes.
+    """A sign by the octets of its sign file, which `docs/signs.md` describes.
 
         sign = Sign.from_file("signs/portable.toml")
         sign.check("ROAD[nl]WORK[nl]AHEAD").accepted
@@ -70,7 +70,7 @@ class Sign:
 
     Raises `NoSignFile` if the octets aren't a sign file, `SignFault` if its sign is outside a limit, and `LibraryNotFound` or `WrongLibrary`.
     Any call may raise `NoMemory`, and one with a text `NotAnOctet` and `TextTooLong`. A sign file from anybody needs a thread with 2 MiB of
-    stack left, which those of Python have on Linux if nobody has asked for less.
+    stack left, on AArch64 3 MiB, which those of Python have on Linux if nobody has asked for less.
     """
 
     __slots__ = ("_octets", "_named", "_library", "_facts")

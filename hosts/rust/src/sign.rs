@@ -50,14 +50,14 @@ impl fmt::Display for Verdict {
     }
 }
 
-/// A sign by the octets of its sign file, which `docs/formats.md` describes.
+/// A sign by the octets of its sign file, which `docs/signs.md` describes.
 ///
 /// It never changes, and threads may share it. Each call reads the sign file anew, so many texts go into one [`check_all`](Sign::check_all).
 /// Clocks, phases and other times are in tenths of a second. A clock counts from the moment at which the text is first shown, and a phase from
 /// the moment at which its page is. Pages count from 0.
 ///
 /// Any call may have [`Error::NoMemory`], and one with a text [`Error::TextTooLong`]. A thread that reads a sign file from anybody needs 2 MiB of
-/// stack left, which is all that a thread of Rust has if nothing else is said.
+/// stack left, on AArch64 3 MiB; a thread of Rust has 2 MiB in all if nothing else is said.
 ///
 /// ```
 /// let sign = latsefur::Sign::from_file("../../signs/portable.toml")?;

@@ -1,0 +1,66 @@
+"""`python -m latsefur.preview --sign FILE`"""
+from __future__ import annotations
+
+import argparse
+import sys
+import webbrowser
+from pathlib import Path
+
+from ..errors import LatsefurError
+from ..sign import Sign
+from . import program
+from .answers import Answers
+from .server import Page, Server
+from .templates import templates
+
+
+def main() -> None:
+    parser = argparse.ArgumentParser(
+        prog="python -m latsefur.preview",
+        description="A page to write messages on, for the browser of this machine.",
+    )
+    parser.add_argument("--sign", required=True, metavar="FILE", help="the sign file")
+    parser.add_argument("--templates", metavar="FILE", help="messages to begin with, one a line")
+    parser.add_argument(
+        "--port", type=int, default=0, metavar="N", help="the port, or any that is free"
+    )
+    parser.add_argument("--open", action="store_true", help="open the page in the browser")
+    parser.add_argument("--library", metavar="FILE", help="the shared library")
+    parser.add_argument(
+        "--signctl", metavar="FILE", help="the program that explains messages and writes GIF"
+    )
+    words = parser.parse_args()
+    if not 0 <= words.port <= 65535:
+        parser.error("a port is 0 to 65535")
+    try:
+        sign = Sign.from_file(words.sign, words.library)
+        path = program.find(words.signctl)
+        asked = program.Program(path, sign.octets) if path else None
+        server = Server(
+            Page(Path(words.sign).stem, Answers(sign), templates(words.templates), asked),
+            words.port,
+        )
+    except (LatsefurError, OSError) as fault:
+        sys.exit(f"latsefur.preview: {fault}")
+    print(server.url, flush=True)
+    if asked is None:
+        print(
+            "signctl isn't there: refusals have their names alone, and no GIF is written",
+            file=sys.stderr,
+        )
+    elif not asked.explains:
+        print(
+            f"{asked.path} is too old to explain: refusals have their names alone", file=sys.stderr
+        )
+    if words.open:
+        webbrowser.open(server.url)
+    try:
+        server.serve_forever()
+    except KeyboardInterrupt:
+        pass
+    finally:
+        server.server_close()
+
+
+if __name__ == "__main__":
+    main()

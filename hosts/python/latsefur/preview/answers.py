@@ -1,0 +1,163 @@
+"""What the page is told of its sign and of the message that is written. All of it comes from the library."""
+from __future__ import annotations
+
+import threading
+from functools import lru_cache
+from typing import Any, Iterable, Optional
+
+from ..picture import COLOURS, Picture
+from ..sign import Sign, Verdict
+from ..values import MultiError, Text, octets_of
+
+# A message of more octets isn't judged, as `signctl` judges none; and at most this many tenths of a second are drawn for one question.
+MOST_OCTETS = 4096
+MOST_TENTHS = 100
+
+# Characters of a font that are drawn on their buttons.
+MOST_DRAWN = 1024
+
+DIGITS = bytes(range(ord("0"), ord("0") + 10)) + bytes(246)
+
+
+class TooLong(ValueError):
+    """A message has more octets than are judged."""
+
+
+class Answers:
+    """The answers about one sign. Threads may share it."""
+
+    def __init__(self, sign: Sign) -> None:
+        self.sign = sign
+        self.font = lru_cache(maxsize=255)(self._font)
+        self.drawing = threading.Lock()
+
+    def facts(self, templates: Iterable[str]) -> dict[str, Any]:
+        """What the sign is like, its fonts, and those of the templates that it accepts."""
+        sign, offered = self.sign, list(templates)
+        verdicts = sign.check_all(template.encode("latin-1") for template in offered)
+        fonts = sign.check_all(f"[fo{number}]" for number in range(1, 256))
+        return {
+            "width": sign.width,
+            "height": sign.height,
+            "pages": sign.max_pages,
+            "classic": sign.classic,
+            "colours": list(COLOURS),
+            "templates": [template for template, verdict in zip(offered, verdicts) if verdict],
+            "fonts": [
+                number
+                for number, verdict in enumerate(fonts, 1)
+                if verdict.error != MultiError.FONT_NOT_DEFINED
+            ],
+        }
+
+    def message(self, text: Text, view: Any, caret: int, begin: int, tenths: int) -> dict[str, Any]:
+        """The verdict on a text and, if it is accepted, what is shown from `begin` on, for so many tenths of a second.
+
+        `view` is a page by its number, from 0, and the times are then phases of it; or `"caret"`, the page on which the octet `caret` stands;
+        or `None`, the message as it plays, and the times are then clocks. A page past the last one is the last one. A frame has its time, its
+        page or `None` in an off time, and the place of its picture among the pictures. It stands until the next frame.
+
+        Raises what `Sign.check` does, and `TooLong`.
+        """
+        octets = octets_of(text)
+        if len(octets) > MOST_OCTETS:
+            raise TooLong(f"{len(octets)} octets, and at most {MOST_OCTETS} are judged")
+        verdict = self.sign.check(octets)
+        if verdict.error is not None:
+            return {
+                "accepted": False,
+                "at": verdict.at,
+                "code": int(verdict.error),
+                "name": name_of(verdict.error),
+            }
+        if view == "caret":
+            view = self._page_at(octets, caret)
+        page = None if view is None else min(view, verdict.pages - 1)
+        return {
+            "accepted": True,
+            "pages": verdict.pages,
+            "cycle": verdict.cycle,
+            "page": page,
+            **self._film(octets, page, begin, min(tenths, MOST_TENTHS)),
+        }
+
+    def _film(self, octets: bytes, page: Optional[int], begin: int, tenths: int) -> dict[str, Any]:
+        places: dict[bytes, int] = {}
+        frames: list[tuple[int, Optional[int], int]] = []
+        for time in range(begin, begin + tenths):
+            if page is None:
+                shown = self.sign.shown(octets, time)
+                now, picture = None if shown is None else shown.page, self.sign.colours(
+                    octets, time
+                )
+            else:
+                now, picture = page, self.sign.colours_of_page(octets, page, time)
+            place = places.setdefault(picture.octets, len(places))
+            if not frames or frames[-1][1:] != (now, place):
+                frames.append((time, now, place))
+        return {
+            "frames": frames,
+            "until": begin + tenths,
+            "pictures": [digits(known) for known in places],
+        }
+
+    def _page_at(self, octets: bytes, caret: int) -> int:
+        """The page on which an octet of an accepted text stands. What stands before it is accepted up to a tag that it cuts in two."""
+        before = self.sign.check(octets[:caret])
+        if not before:
+            before = self.sign.check(octets[: before.at])
+        return max(before.pages, 1) - 1
+
+    def _font(self, number: int) -> list[dict[str, Any]]:
+        """The characters of a font: the number of each, what is written for it, and its picture by rows, cut to what is lit."""
+        with self.drawing:
+            asked = range(1, 65536)
+            verdicts = self.sign.check_all(f"[fo{number}][hc{character:x}]" for character in asked)
+            there = [character for character, verdict in zip(asked, verdicts) if is_there(verdict)]
+            return [
+                {
+                    "number": character,
+                    "text": written(character),
+                    "rows": self._drawn(number, character) if place < MOST_DRAWN else [],
+                }
+                for place, character in enumerate(there)
+            ]
+
+    def _drawn(self, number: int, character: int) -> list[str]:
+        text = f"[jp2][jl2][fo{number}][hc{character:x}]"
+        return cut(self.sign.colours(text)) if self.sign.check(text) else []
+
+
+def is_there(verdict: Verdict) -> bool:
+    """Whether a sign has the font and the character of such a text, by its verdict: the character may be too wide for the sign."""
+    return verdict.accepted or verdict.error == MultiError.TEXT_TOO_BIG
+
+
+def name_of(error: MultiError) -> str:
+    """The name of an error as NTCIP 1203 writes it."""
+    first, *others = error.name.lower().split("_")
+    return first + "".join("ID" if word == "id" else word.capitalize() for word in others)
+
+
+def written(character: int) -> str:
+    """What a message has for a character: itself, if a keyboard has it, or its number."""
+    plain = 32 <= character < 127 or 161 <= character < 256
+    return chr(character) if plain and chr(character) not in "[]" else f"[hc{character:x}]"
+
+
+def digits(octets: bytes) -> str:
+    """The colours of a picture, a digit for each pixel."""
+    return octets.translate(DIGITS).decode("ascii")
+
+
+def cut(picture: Picture) -> list[str]:
+    """The rows of a picture, without those around it that are all of one colour, that of the last pixel."""
+    rows = [digits(row) for row in picture.rows()]
+    ground = rows[-1][-1]
+    lit = [place for place, row in enumerate(rows) if row.strip(ground)]
+    if not lit:
+        return []
+    rows = rows[lit[0] : lit[-1] + 1]
+    left = min(len(row) - len(row.lstrip(ground)) for row in rows)
+    right = max(len(row.rstrip(ground)) for row in rows)
+    return [row[left:right] for row in rows]

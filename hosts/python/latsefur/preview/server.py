@@ -1,0 +1,251 @@
+"""The page's server: on the loopback interface alone, for one origin, with its own three files and no other."""
+from __future__ import annotations
+
+import json
+from dataclasses import dataclass
+from http import HTTPStatus
+from http.server import BaseHTTPRequestHandler, ThreadingHTTPServer
+from pathlib import Path
+from typing import Any, Callable, Optional
+
+from ..errors import LatsefurError, NotAnOctet
+from .answers import Answers, TooLong
+from .program import NotDrawn, Program
+
+ADDRESS = "127.0.0.1"
+
+FILES = {
+    "/": ("page.html", "text/html; charset=utf-8"),
+    "/page.css": ("page.css", "text/css; charset=utf-8"),
+    "/page.js": ("page.js", "text/javascript; charset=utf-8"),
+}
+
+# The octets of the longest question: a message of 4,096 octets with each written as `\u00ff` has 24,576.
+MOST_BODY = 32768
+
+# The largest time that a question has: as many tenths of a second as JavaScript counts exactly.
+MOST_TIME = 2**53 - 1
+
+HEADERS = {
+    "Content-Security-Policy": "default-src 'none'; script-src 'self'; style-src 'self'; connect-src 'self'; base-uri 'none';"
+    " form-action 'none'; frame-ancestors 'none'",
+    "X-Content-Type-Options": "nosniff",
+    "Referrer-Policy": "no-referrer",
+    "Cross-Origin-Opener-Policy": "same-origin",
+    "Cross-Origin-Resource-Policy": "same-origin",
+    "Cache-Control": "no-store",
+}
+
+
+class Refused(Exception):
+    """A request that isn't answered, with its status."""
+
+    def __init__(self, status: HTTPStatus, said: str) -> None:
+        super().__init__(said)
+        self.status = status
+
+
+@dataclass(frozen=True)
+class Page:
+    """What the page is about."""
+
+    name: str
+    answers: Answers
+    templates: list[str]
+    program: Optional[Program]
+
+    def facts(self) -> dict[str, Any]:
+        """The sign, and what is there beside the library."""
+        return {
+            "name": self.name,
+            "draws_gif": self.program is not None,
+            **self.answers.facts(self.templates),
+        }
+
+    def message(self, asked: dict[str, Any]) -> dict[str, Any]:
+        view = asked.get("view")
+        if view != "caret" and view is not None:
+            view = number(asked, "view", 255)
+        text = text_of(asked)
+        words = (
+            number(asked, "caret", MOST_BODY),
+            number(asked, "begin", MOST_TIME),
+            number(asked, "tenths", MOST_BODY),
+        )
+        try:
+            return self.answers.message(text, view, *words)
+        except NotAnOctet as fault:
+            # The browser counts a character above U+FFFF as two.
+            at = len(text[: fault.at].encode("utf-16-le", "surrogatepass")) // 2
+            return {
+                "accepted": False,
+                "at": at,
+                "said": str(fault).partition("; ")[2] or str(fault),
+                "name": "no octet of a message",
+            }
+        except TooLong as fault:
+            return {"accepted": False, "at": None, "said": str(fault), "name": "too long"}
+
+    def words(self, asked: dict[str, Any]) -> dict[str, Any]:
+        """What `signctl explain` says of a message, or nothing."""
+        try:
+            octets = text_of(asked).encode("latin-1")
+        except UnicodeEncodeError:
+            return {"explained": None}
+        return {"explained": self.program.explained(octets) if self.program else None}
+
+    def font(self, asked: dict[str, Any]) -> dict[str, Any]:
+        return {"characters": self.answers.font(number(asked, "font", 255))}
+
+    def gif(self, asked: dict[str, Any]) -> bytes:
+        """A file in GIF: of a page at a phase, or of the message as it plays."""
+        if self.program is None:
+            raise Refused(HTTPStatus.CONFLICT, "signctl, which writes GIF, isn't there")
+        words = ["--scale", str(max(2, min(16, 1200 // self.answers.sign.width)))]
+        if asked.get("view") is None:
+            words += ["--all"]
+        else:
+            words += [
+                "--page",
+                str(number(asked, "view", 254) + 1),
+                "--phase",
+                str(number(asked, "begin", 2**32 - 1)),
+            ]
+        try:
+            return self.program.gif(text_of(asked).encode("latin-1", "replace"), words)
+        except NotDrawn as fault:
+            raise Refused(HTTPStatus.CONFLICT, str(fault)) from fault
+
+
+def text_of(asked: dict[str, Any]) -> str:
+    text = asked.get("text")
+    if not isinstance(text, str):
+        raise Refused(HTTPStatus.BAD_REQUEST, "the text is no string")
+    return text
+
+
+def number(asked: dict[str, Any], name: str, most: int) -> int:
+    value = asked.get(name)
+    if type(value) is not int or not 0 <= value <= most:
+        raise Refused(HTTPStatus.BAD_REQUEST, f"{name} is no number of 0 to {most}")
+    return value
+
+
+class Handler(BaseHTTPRequestHandler):
+    """Answers one connection."""
+
+    protocol_version = "HTTP/1.1"
+    server_version, sys_version = "latsefur", ""
+    timeout = 60
+    # A reply leaves in one piece.
+    wbufsize = 1 << 16
+    disable_nagle_algorithm = True
+    server: Server
+
+    def do_GET(self) -> None:
+        self.answer(self.get)
+
+    def do_POST(self) -> None:
+        self.answer(self.post)
+
+    def answer(self, give: Callable[[], tuple[bytes, str]]) -> None:
+        try:
+            self.hold_to_own_host()
+            octets, kind = give()
+            self.reply(HTTPStatus.OK, octets, kind)
+        except Refused as fault:
+            self.refuse(fault.status, str(fault))
+        except (LatsefurError, MemoryError) as fault:
+            self.refuse(HTTPStatus.INTERNAL_SERVER_ERROR, str(fault))
+
+    def hold_to_own_host(self) -> None:
+        """Refuses a request by another name than the page's own, as one that another site has pointed here, and one from another site."""
+        origins = {f"http://{host}" for host in self.server.hosts}
+        if self.headers.get_all("Host", []) not in [[host] for host in self.server.hosts]:
+            raise Refused(HTTPStatus.FORBIDDEN, "another host is asked")
+        if self.headers.get("Origin", next(iter(origins))) not in origins:
+            raise Refused(HTTPStatus.FORBIDDEN, "another origin asks")
+
+    def get(self) -> tuple[bytes, str]:
+        if self.path == "/sign":
+            return self.json(self.server.page.facts())
+        if self.path not in FILES:
+            raise Refused(HTTPStatus.NOT_FOUND, "no such file")
+        name, kind = FILES[self.path]
+        return self.server.files[name], kind
+
+    def post(self) -> tuple[bytes, str]:
+        asked = self.asked()
+        page = self.server.page
+        if self.path == "/gif":
+            return page.gif(asked), "image/gif"
+        calls = {"/message": page.message, "/words": page.words, "/font": page.font}
+        if self.path not in calls:
+            raise Refused(HTTPStatus.NOT_FOUND, "no such call")
+        return self.json(calls[self.path](asked))
+
+    def asked(self) -> dict[str, Any]:
+        """The object that a request has. Another site can't send this kind without asking first, and it is answered nothing."""
+        if (
+            self.headers.get("Content-Type") != "application/json"
+            or "Transfer-Encoding" in self.headers
+        ):
+            raise Refused(HTTPStatus.UNSUPPORTED_MEDIA_TYPE, "a request has JSON")
+        length = self.headers.get("Content-Length", "")
+        if not (length.isascii() and length.isdigit()):
+            raise Refused(HTTPStatus.LENGTH_REQUIRED, "a request has a length")
+        if len(length) > 9 or int(length) > MOST_BODY:
+            raise Refused(
+                HTTPStatus.REQUEST_ENTITY_TOO_LARGE, f"a request has at most {MOST_BODY} octets"
+            )
+        try:
+            asked = json.loads(self.rfile.read(int(length)))
+        except (ValueError, RecursionError) as fault:
+            raise Refused(HTTPStatus.BAD_REQUEST, "that is no JSON") from fault
+        if not isinstance(asked, dict):
+            raise Refused(HTTPStatus.BAD_REQUEST, "that is no object")
+        return asked
+
+    @staticmethod
+    def json(told: dict[str, Any]) -> tuple[bytes, str]:
+        return json.dumps(told, separators=(",", ":")).encode(), "application/json"
+
+    def refuse(self, status: HTTPStatus, said: str) -> None:
+        # What a refused request has left unread isn't taken for the next one.
+        self.close_connection = True
+        self.reply(status, *self.json({"said": said}))
+
+    def reply(self, status: HTTPStatus, octets: bytes, kind: str) -> None:
+        self.send_response(status)
+        for name, value in {
+            **HEADERS,
+            "Content-Type": kind,
+            "Content-Length": str(len(octets)),
+        }.items():
+            self.send_header(name, value)
+        if self.close_connection:
+            self.send_header("Connection", "close")
+        self.end_headers()
+        self.wfile.write(octets)
+
+    def log_message(self, *_: Any) -> None:
+        pass
+
+
+class Server(ThreadingHTTPServer):
+    """The server of a page. With port 0 the system chooses one."""
+
+    daemon_threads = True
+
+    def __init__(self, page: Page, port: int = 0) -> None:
+        self.page = page
+        self.files = {
+            name: Path(__file__).with_name(name).read_bytes() for name, _ in FILES.values()
+        }
+        super().__init__((ADDRESS, port), Handler)
+        self.hosts = [f"{name}:{self.server_port}" for name in (ADDRESS, "localhost")]
+
+    @property
+    def url(self) -> str:
+        """The address of the page."""
+        return f"http://{ADDRESS}:{self.server_port}/"
