@@ -59,7 +59,9 @@
 //! refused command line.
 #![tactic(auto)]
 
+mod commands;
 mod main_with;
+mod options;
 mod words;
 
 use std::io::BufReader;

@@ -1,17 +1,17 @@
 //! The tool over streams that are handed in.
-ghost use Rattle.message_picture.specs.Drawn.{AllowsSeconds};
 
-use crate::words::{PictureRequest, Request, request_of};
+use crate::commands::explain::answer_explain;
+use crate::commands::font::answer_font;
+use crate::commands::lines::answer_lines;
+use crate::commands::picture::answer_picture;
+use crate::commands::sign::answer_sign;
+use crate::words::{Request, request_of};
 use clap::Error;
-use message_picture::View;
-use sign_aids::{PictureFault, draw_picture, run_explain, run_font, run_picture, run_sign};
-use sign_tool::run_tool;
 use std::alloc::Global;
 use std::fmt::Display;
-use std::fs;
 use std::io::{Read, Write};
 use std::rt::Files;
-use tool_streams::{ToolFault, write_whole};
+use tool_streams::ToolFault;
 
 /// The exit status of a run with no fault, and of help (own).
 const DONE: u8 = 0;
@@ -54,47 +54,6 @@ fn end_of_answer<E: Write>(end: Result<bool, ToolFault>, errors: &mut E) -> u8 {
     }
 }
 
-/// What is drawn, with 1 to 600 seconds of a film. The command line has no others.
-fn allowed(view: View) -> View
-    ensures { AllowsSeconds result }
-{
-    match view {
-        View::Film {
-            seconds: Some(count),
-        } => View::Film {
-            seconds: Some(count.clamp(1, 600)),
-        },
-        view => view,
-    }
-}
-
-/// Draws a message as it is asked for, to the output or into a file. The file is made once the message is drawn, in place of one that was
-/// there.
-fn answer_picture<P: Files, R: Read, W: Write>(
-    alloc: Global,
-    files: &P,
-    asked: PictureRequest<'_>,
-    reader: &mut R,
-    writer: &mut W,
-) -> Result<(), PictureFault> {
-    let view = allowed(asked.view);
-    let side = asked.side.min(16);
-    let Some(name) = asked.file else {
-        return run_picture(alloc, asked.sample, view, side, reader, writer);
-    };
-    let octets = match draw_picture(alloc, asked.sample, view, side, reader) {
-        Ok(octets) => octets,
-        Err(fault) => return Err(fault),
-    };
-    let Ok(mut file) = fs::create(files, name) else {
-        return Err(PictureFault::Tool(ToolFault::Write));
-    };
-    match write_whole(&mut file, &octets) {
-        Ok(()) => Ok(()),
-        Err(fault) => Err(PictureFault::Tool(fault)),
-    }
-}
-
 /// Runs the tool as the words ask, and gives its exit status (own). The first word is the program's name.
 ///
 /// The status is 0 after a run with no fault, and after help, which is written to `writer`. It is 1 after a fault, which is
@@ -113,19 +72,15 @@ pub(crate) fn main_with<P: Files, R: Read, W: Write, E: Write>(
         Err(answer) => return answer_words(answer, writer, errors),
     };
     match request {
-        Request::Lines { mode, sample } => end_of(
-            run_tool(alloc, mode, sample, reader, writer),
-            errors,
-        ),
-        Request::Explain { sample, phase } => {
-            let explained = run_explain(alloc, sample, u64::from(phase), reader, writer);
-            end_of_answer(explained, errors)
+        Request::Lines(asked) => end_of(answer_lines(alloc, asked, reader, writer), errors),
+        Request::Explain(asked) => {
+            end_of_answer(answer_explain(alloc, asked, reader, writer), errors)
         }
         Request::Picture(asked) => end_of(
             answer_picture(alloc, files, asked, reader, writer),
             errors,
         ),
-        Request::Sign(font) => end_of_answer(run_sign(alloc, font, reader, writer), errors),
-        Request::Font(setting) => end_of(run_font(alloc, &setting, reader, writer), errors),
+        Request::Sign(asked) => end_of_answer(answer_sign(alloc, asked, reader, writer), errors),
+        Request::Font(asked) => end_of(answer_font(alloc, asked, reader, writer), errors),
     }
 }
