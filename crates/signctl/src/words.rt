@@ -7,6 +7,7 @@ use crate::commands::lines::{
 };
 use crate::commands::picture::{PictureRequest, picture_asked, picture_command};
 use crate::commands::sign::{SignRequest, sign_asked, sign_command};
+use crate::options::SignSource;
 use clap::error::ErrorKind;
 use clap::{ArgMatches, Command, Error};
 use font_bdf::FontSetting;
@@ -16,15 +17,28 @@ use std::alloc::{AllocError, Global};
 #[derive(Clone, Copy)]
 pub(crate) enum Request<'a> {
     /// A run over lines.
-    Lines(LinesRequest),
+    Lines(LinesRequest<'a>),
     /// Each message in words and pictures.
-    Explain(ExplainRequest),
+    Explain(ExplainRequest<'a>),
     /// A message as a picture.
     Picture(PictureRequest<'a>),
     /// What a sign file describes, or the characters of one of its fonts.
     Sign(SignRequest),
     /// The table of a font.
     Font(FontSetting),
+}
+
+impl<'a> Request<'a> {
+    /// Where the sign comes from.
+    pub(crate) fn sign(&self) -> SignSource<'a> {
+        match self {
+            Request::Lines(asked) => asked.sign,
+            Request::Explain(asked) => asked.sign,
+            Request::Picture(asked) => asked.sign,
+            Request::Sign(_) => SignSource::Input,
+            Request::Font(_) => SignSource::Input,
+        }
+    }
 }
 
 /// With the commands that answer each line.

@@ -1,5 +1,5 @@
 -- What one step over a reader or a writer does.
-use Rattle.std.specs.Prelude.{◌≡◌, ℕ, ◌+◌, ◌<◌, ◌≤◌, List, [], ◌∷◌, ◌++◌, length, Option, None, Some, Result, Ok, Err}
+use Rattle.std.specs.Prelude.{◌≡◌, ℕ, ◌+◌, ◌<◌, ◌≤◌, List, [], ◌∷◌, ◌++◌, length, Option, None, Some, Result, Ok, Err, codes}
 use Rattle.std.specs.Io.KnownBytes.{Consumes, Keeps, Appends, IsAtEnd}
 use Rattle.tool_streams.specs.declared.fault.ToolFault.{ToolFault}
 use Rattle.tool_streams.specs.declared.fault.ToolFault.TheVariants as faults
@@ -51,6 +51,10 @@ IsReadFault old new faults.InputTooLong = (octets : List ℕ) × Consumes old ne
 IsReadFault old new faults.Read = Unit {0}
 IsReadFault old new faults.Memory = Unit {0}
 IsReadFault old new e = ⊥
+
+-- A sign file is read to its end, and octets are those of the file, a line feed that ends its last line, and a line with the mark (own).
+abbrev pub IsSignPart : Option (List ℕ) → Option (List ℕ) → List ℕ → Type 0
+IsSignPart old new front = (octets : List ℕ) × Consumes old new octets × IsAtEnd new × (length octets ≤ input_limit) × (front ≡ octets ++ codes "\n%%\n")
 
 -- A writer takes all of the octets, or where it fails some of them, from the front (own).
 abbrev pub WritesWhole : Option (List ℕ) → Option (List ℕ) → List ℕ → Result (Unit {0}) ToolFault → Type 0

@@ -1,6 +1,6 @@
 //! `signctl explain`, which says of each message why it is refused, or draws its pages.
 
-use crate::options::{phase_option, sample_flag};
+use crate::options::{SignSource, phase_option, sign_source, with_sign};
 use clap::{ArgMatches, Command};
 use sign_aids::run_explain;
 use std::alloc::{AllocError, Global};
@@ -9,27 +9,24 @@ use tool_streams::ToolFault;
 
 /// Each message in words and pictures (own).
 #[derive(Clone, Copy)]
-pub(crate) struct ExplainRequest {
-    /// Whether the sample sign was named. If not, the input begins with a sign file.
-    sample: bool,
+pub(crate) struct ExplainRequest<'a> {
+    pub(crate) sign: SignSource<'a>,
     /// When pages are drawn, in tenths of a second since each began.
     phase: u32,
 }
 
 /// `signctl explain`.
 pub(crate) fn explain_command<'a>(alloc: Global) -> Result<Command<'a>, AllocError> {
-    Command::new(alloc, "explain")
-        .about(
-            "Reads a sign file, a line %% and messages, and says of each why it is refused, or draws its pages",
-        )
-        .arg(sample_flag(alloc))?
-        .arg(phase_option(alloc))
+    let explain = Command::new(alloc, "explain").about(
+        "Reads a sign file, a line %% and messages, and says of each why it is refused, or draws its pages",
+    );
+    with_sign(alloc, explain)?.arg(phase_option(alloc))
 }
 
 /// What `signctl explain` is asked for.
-pub(crate) fn explain_asked(explain: &ArgMatches<'_>) -> ExplainRequest {
+pub(crate) fn explain_asked<'a>(explain: &ArgMatches<'a>) -> ExplainRequest<'a> {
     ExplainRequest {
-        sample: explain.get_flag("sample"),
+        sign: sign_source(explain),
         phase: explain.get_one("phase").unwrap_or(0),
     }
 }
@@ -37,9 +34,15 @@ pub(crate) fn explain_asked(explain: &ArgMatches<'_>) -> ExplainRequest {
 /// Explains the messages. The answer is whether the sign takes all of them.
 pub(crate) fn answer_explain<R: Read, W: Write>(
     alloc: Global,
-    asked: ExplainRequest,
+    asked: ExplainRequest<'_>,
     reader: &mut R,
     writer: &mut W,
 ) -> Result<bool, ToolFault> {
-    run_explain(alloc, asked.sample, u64::from(asked.phase), reader, writer)
+    run_explain(
+        alloc,
+        asked.sign.is_sample(),
+        u64::from(asked.phase),
+        reader,
+        writer,
+    )
 }

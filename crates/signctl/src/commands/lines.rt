@@ -1,6 +1,6 @@
 //! `signctl check`, `signctl show` and `signctl run`, which answer each line.
 
-use crate::options::sample_flag;
+use crate::options::{SignSource, sign_source, with_sign};
 use clap::{Arg, ArgMatches, Command, value_parser};
 use sign_tool::{Mode, run_tool};
 use std::alloc::{AllocError, Global};
@@ -9,19 +9,17 @@ use tool_streams::ToolFault;
 
 /// A run over lines (own).
 #[derive(Clone, Copy)]
-pub(crate) struct LinesRequest {
+pub(crate) struct LinesRequest<'a> {
     mode: Mode,
-    /// Whether the sample sign was named. If not, the input begins with a sign file.
-    sample: bool,
+    pub(crate) sign: SignSource<'a>,
 }
 
 /// `signctl check`, which takes a sign file unless the sample sign is named.
 pub(crate) fn check_command<'a>(alloc: Global) -> Result<Command<'a>, AllocError> {
-    Command::new(alloc, "check")
-        .about(
-            "Reads a sign file, a line %% and messages, and says of each message whether the sign accepts it",
-        )
-        .arg(sample_flag(alloc))
+    let check = Command::new(alloc, "check").about(
+        "Reads a sign file, a line %% and messages, and says of each message whether the sign accepts it",
+    );
+    with_sign(alloc, check)
 }
 
 /// `--colour`, whose pixels are shown.
@@ -46,58 +44,56 @@ fn clock_option<'a>(alloc: Global) -> Arg<'a> {
 
 /// `signctl show`, which takes what `check` takes, and a colour and a clock.
 pub(crate) fn show_command<'a>(alloc: Global) -> Result<Command<'a>, AllocError> {
-    Command::new(alloc, "show")
-        .about(
-            "Reads a sign file, a line %% and messages, and shows a page of each message that the sign accepts",
-        )
-        .arg(sample_flag(alloc))?
+    let show = Command::new(alloc, "show").about(
+        "Reads a sign file, a line %% and messages, and shows a page of each message that the sign accepts",
+    );
+    with_sign(alloc, show)?
         .arg(colour_option(alloc))?
         .arg(clock_option(alloc))
 }
 
 /// `signctl run`, which takes a script in place of messages.
 pub(crate) fn run_command<'a>(alloc: Global) -> Result<Command<'a>, AllocError> {
-    Command::new(alloc, "run")
-        .about(
-            "Reads a sign file, a line %% and a script, and writes the reply to each of its lines",
-        )
-        .arg(sample_flag(alloc))
+    let run = Command::new(alloc, "run").about(
+        "Reads a sign file, a line %% and a script, and writes the reply to each of its lines",
+    );
+    with_sign(alloc, run)
 }
 
 /// What `signctl check` is asked for.
-pub(crate) fn check_asked(check: &ArgMatches<'_>) -> LinesRequest {
+pub(crate) fn check_asked<'a>(check: &ArgMatches<'a>) -> LinesRequest<'a> {
     LinesRequest {
         mode: Mode::Check,
-        sample: check.get_flag("sample"),
+        sign: sign_source(check),
     }
 }
 
 /// What `signctl show` is asked for.
-pub(crate) fn show_asked(show: &ArgMatches<'_>) -> LinesRequest {
+pub(crate) fn show_asked<'a>(show: &ArgMatches<'a>) -> LinesRequest<'a> {
     LinesRequest {
         // Both have a default.
         mode: Mode::Show {
             colour: show.get_one("colour").unwrap_or(1),
             clock: show.get_one("clock").unwrap_or(0),
         },
-        sample: show.get_flag("sample"),
+        sign: sign_source(show),
     }
 }
 
 /// What `signctl run` is asked for.
-pub(crate) fn run_asked(run: &ArgMatches<'_>) -> LinesRequest {
+pub(crate) fn run_asked<'a>(run: &ArgMatches<'a>) -> LinesRequest<'a> {
     LinesRequest {
         mode: Mode::Run,
-        sample: run.get_flag("sample"),
+        sign: sign_source(run),
     }
 }
 
 /// Answers the lines.
 pub(crate) fn answer_lines<R: Read, W: Write>(
     alloc: Global,
-    asked: LinesRequest,
+    asked: LinesRequest<'_>,
     reader: &mut R,
     writer: &mut W,
 ) -> Result<(), ToolFault> {
-    run_tool(alloc, asked.mode, asked.sample, reader, writer)
+    run_tool(alloc, asked.mode, asked.sign.is_sample(), reader, writer)
 }

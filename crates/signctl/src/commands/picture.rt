@@ -1,7 +1,7 @@
 //! `signctl picture`, which writes a message as a picture.
 ghost use Rattle.message_picture.specs.Drawn.{AllowsSeconds};
 
-use crate::options::{phase_option, sample_flag};
+use crate::options::{SignSource, phase_option, sign_source, with_sign};
 use clap::{Arg, ArgAction, ArgMatches, Command, value_parser};
 use message_picture::{Moment, View};
 use sign_aids::{PictureFault, draw_picture, run_picture};
@@ -14,8 +14,7 @@ use tool_streams::{ToolFault, write_whole};
 /// A message as a picture (own).
 #[derive(Clone, Copy)]
 pub(crate) struct PictureRequest<'a> {
-    /// Whether the sample sign was named. If not, the input begins with a sign file.
-    sample: bool,
+    pub(crate) sign: SignSource<'a>,
     /// What is drawn of the message.
     view: View,
     /// How many points side by side a pixel has.
@@ -112,12 +111,10 @@ fn with_file<'a>(alloc: Global, picture: Command<'a>) -> Result<Command<'a>, All
 
 /// `signctl picture`, which takes one message.
 pub(crate) fn picture_command<'a>(alloc: Global) -> Result<Command<'a>, AllocError> {
-    let picture = Command::new(alloc, "picture")
-        .about(
-            "Reads a sign file, a line %% and one message, and writes it as a picture in PPM or GIF",
-        )
-        .arg(sample_flag(alloc))?;
-    with_file(alloc, with_view(alloc, picture)?)
+    let picture = Command::new(alloc, "picture").about(
+        "Reads a sign file, a line %% and one message, and writes it as a picture in PPM or GIF",
+    );
+    with_file(alloc, with_view(alloc, with_sign(alloc, picture)?)?)
 }
 
 /// What a file with this name, or the output, is written in: whether it is GIF, or why it is nothing.
@@ -181,7 +178,7 @@ pub(crate) fn picture_asked<'a>(
     let gif = is_gif(file, picture.get_flag("gif"))?;
     let view = view_of(picture, gif)?;
     Ok(PictureRequest {
-        sample: picture.get_flag("sample"),
+        sign: sign_source(picture),
         view,
         side: picture.get_one("scale").unwrap_or(8),
         file,
@@ -214,9 +211,9 @@ pub(crate) fn answer_picture<P: Files, R: Read, W: Write>(
     let view = allowed(asked.view);
     let side = asked.side.min(16);
     let Some(name) = asked.file else {
-        return run_picture(alloc, asked.sample, view, side, reader, writer);
+        return run_picture(alloc, asked.sign.is_sample(), view, side, reader, writer);
     };
-    let octets = match draw_picture(alloc, asked.sample, view, side, reader) {
+    let octets = match draw_picture(alloc, asked.sign.is_sample(), view, side, reader) {
         Ok(octets) => octets,
         Err(fault) => return Err(fault),
     };
