@@ -41,6 +41,9 @@ impl<'a> Request<'a> {
     }
 }
 
+/// The version of the program, and the toolchain that it is proved with, as `rt version` prints it.
+const VERSION: &str = "0.1.0 (rattle-kit-13f logic dac8208d650f15bf)";
+
 /// With the commands that answer each line.
 fn with_lines<'a>(alloc: Global, tool: Command<'a>) -> Result<Command<'a>, AllocError> {
     tool.subcommand(check_command(alloc)?)?
@@ -64,6 +67,7 @@ fn with_files<'a>(alloc: Global, tool: Command<'a>) -> Result<Command<'a>, Alloc
 fn command<'a>(alloc: Global) -> Result<Command<'a>, AllocError> {
     let tool = Command::new(alloc, "signctl")
         .about("Checks and shows the messages of a roadside message sign, and runs its controller")
+        .version(VERSION)
         .subcommand_required(true);
     with_files(alloc, with_pages(alloc, with_lines(alloc, tool)?)?)
 }
