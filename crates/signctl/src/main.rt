@@ -1,7 +1,7 @@
 //! Checks the messages of a roadside message sign, shows their pages, and runs the sign's controller.
 //!
-//! `signctl check` reads a sign file, a line `%%`, and message lines from standard input. `signctl check --sample` reads
-//! message lines alone, for the sample sign. A sign file is a TOML document that describes one sign. Each message line is
+//! `signctl check` reads a sign file, a line `%%`, and message lines from standard input. `signctl check --sign FILE` reads message lines
+//! alone, for the sign of that file, and `signctl check --sample` for the sample sign: so it is with each command that reads messages. A sign file is a TOML document that describes one sign. Each message line is
 //! a MULTI string for that sign. It gets one line of answer on standard output, which is written before more is read than
 //! the block of octets in which the message line has ended:
 //!
@@ -59,7 +59,11 @@
 //! refused command line.
 #![tactic(auto)]
 
+mod commands;
+mod ends;
+mod front;
 mod main_with;
+mod options;
 mod words;
 
 use std::io::BufReader;
@@ -99,7 +103,7 @@ fn main(rt: HostRuntime) -> ExitCode {
         Ok(status) => ExitCode::from(status),
         Err(refusal) => {
             let _ = eprintln!(rt; "signctl: {refusal}");
-            ExitCode::from(main_with::REFUSED)
+            ExitCode::from(ends::REFUSED)
         }
     }
 }

@@ -9,7 +9,7 @@ use Rattle.tool_streams.specs.declared.fault.ToolFault.{ToolFault}
 use Rattle.tool_streams.specs.declared.fault.ToolFault.TheVariants as faults
 use Rattle.tool_streams.specs.Lines.{IsOneLine, text_of}
 use Rattle.tool_streams.specs.declared.lines.NextLine.TheVariants.{Line, TooLong, Unfinished, InputTooLong}
-use Rattle.tool_streams.specs.Streams.{FailsAfter, TakesLine, TakesOctet}
+use Rattle.tool_streams.specs.Streams.{FailsAfter, KeepsUnfinished, TakesLine, TakesOctet}
 
 -- The octets of a line that were taken so far, of which the first `most` are kept.
 pub record Seen (most : ℕ) (old now : Option (List ℕ)) (kept : List ℕ) (is_cut : Bool) (count : ℕ) (seen : List ℕ) : Type 0 where
@@ -92,6 +92,10 @@ module _ (old now new : Option (List ℕ)) (kept : List ℕ) (is_cut : Bool) (co
   pub ends_unfinished : (line : List ℕ) (left' : ℕ) → count ≤ left → 0 < count → Consumes now new [] × IsAtEnd new → TakesLine old new left left' line (Ok Unfinished)
   ends_unfinished line left' within some end =
       (seen, subst (Consumes old new) (append-nil seen) (Consumes-trans old now new seen [] s.taken end.0), end.1, s.one_line, omega (arith, s.count_is), omega (arith, s.count_is))
+
+  pub keeps_unfinished : count ≤ left → 0 < count → Consumes now new [] × IsAtEnd new → KeepsUnfinished old new left kept (Ok Unfinished)
+  keeps_unfinished within some end =
+      (seen, subst (Consumes old new) (append-nil seen) (Consumes-trans old now new seen [] s.taken end.0), end.1, s.one_line, omega (arith, s.count_is), omega (arith, s.count_is), s.kept_is)
 
   pub ends_line : (left' octet : ℕ) → octet ≡ 10 → is_cut ≡ false → count < left → left' ≡ left - count - 1 → length (text_of kept) ≤ 8300 → Consumes now new (octet ∷ []) → TakesLine old new left left' kept (Ok Line)
   ends_line left' octet feed whole within rest short more =

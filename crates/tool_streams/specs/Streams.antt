@@ -1,5 +1,5 @@
 -- What one step over a reader or a writer does.
-use Rattle.std.specs.Prelude.{◌≡◌, ℕ, ◌+◌, ◌<◌, ◌≤◌, List, [], ◌∷◌, ◌++◌, length, Option, None, Some, Result, Ok, Err}
+use Rattle.std.specs.Prelude.{◌≡◌, ℕ, ◌+◌, ◌<◌, ◌≤◌, List, [], ◌∷◌, ◌++◌, length, Option, None, Some, Result, Ok, Err, take, codes}
 use Rattle.std.specs.Io.KnownBytes.{Consumes, Keeps, Appends, IsAtEnd}
 use Rattle.tool_streams.specs.declared.fault.ToolFault.{ToolFault}
 use Rattle.tool_streams.specs.declared.fault.ToolFault.TheVariants as faults
@@ -33,6 +33,12 @@ TakesLine old new left left' line (Ok InputTooLong) = (taken : List ℕ) × (oct
 TakesLine old new left left' line (Err e) = (taken : List ℕ)
     × Consumes old new taken × (length taken ≤ left) × FailsAfter taken e
 
+-- Where the input ends within a line, the first 8,301 octets of that line are kept (own).
+abbrev pub KeepsUnfinished : Option (List ℕ) → Option (List ℕ) → ℕ → List ℕ → Result NextLine ToolFault → Type 0
+KeepsUnfinished old new left line (Ok Unfinished) = (taken : List ℕ)
+    × Consumes old new taken × IsAtEnd new × IsOneLine taken × (length taken ≤ left) × (0 < length taken) × (line ≡ take 8301 taken)
+KeepsUnfinished old new left line result = Unit {0}
+
 -- A fault at a line: the line with this number, where `left` more octets may be taken as lines, is too long, or is cut off by the end
 -- of the input, or the input goes on past its limit; or the reader or the writer failed, or memory was refused (own).
 abbrev pub IsLineFault : ℕ → ℕ → List ℕ → Option (List ℕ) → ToolFault → Type 0
@@ -51,6 +57,10 @@ IsReadFault old new faults.InputTooLong = (octets : List ℕ) × Consumes old ne
 IsReadFault old new faults.Read = Unit {0}
 IsReadFault old new faults.Memory = Unit {0}
 IsReadFault old new e = ⊥
+
+-- A sign file is read to its end, and octets are those of the file, a line feed that ends its last line, and a line with the mark (own).
+abbrev pub IsSignPart : Option (List ℕ) → Option (List ℕ) → List ℕ → Type 0
+IsSignPart old new front = (octets : List ℕ) × Consumes old new octets × IsAtEnd new × (length octets ≤ input_limit) × (front ≡ octets ++ codes "\n%%\n")
 
 -- A writer takes all of the octets, or where it fails some of them, from the front (own).
 abbrev pub WritesWhole : Option (List ℕ) → Option (List ℕ) → List ℕ → Result (Unit {0}) ToolFault → Type 0

@@ -1,6 +1,6 @@
 //! How the tool reads its input and writes its output, over streams that are handed in.
 //!
-//! [`next_line`] reads a line, [`read_whole`] all of an input, and [`write_whole`] writes octets in as many writes as it takes. Each fault
+//! [`next_line`] reads a line, [`read_whole`] all of an input, [`read_sign`] a sign file that stands before one, and [`write_whole`] writes octets in as many writes as it takes. Each fault
 //! that they answer is a [`ToolFault`].
 #![tactic(auto)]
 
@@ -14,4 +14,4 @@ pub use lines::{
     FIRST_LINE, LineStart, MAX_KEPT, MAX_LINE, MAX_STRING, NextLine, is_mark, next_line, text_of,
 };
 pub use output::write_whole;
-pub use whole::read_whole;
+pub use whole::{read_sign, read_whole};

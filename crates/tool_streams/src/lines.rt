@@ -1,7 +1,7 @@
 //! The lines of an input, and how one is read an octet at a time.
 ghost use Rattle.std.specs.Prelude.{◌≡◌};
 ghost use Rattle.tool_streams.specs.Lines.{is_mark, text_of};
-ghost use Rattle.tool_streams.specs.Streams.{TakesOctet, TakesLine};
+ghost use Rattle.tool_streams.specs.Streams.{KeepsUnfinished, TakesOctet, TakesLine};
 
 use crate::fault::ToolFault;
 use octet_text::push_octet;
@@ -78,7 +78,8 @@ pub fn is_mark(line: &[u8]) -> bool
     text_of(line) == b"%%".as_slice()
 }
 
-/// Reads up to the end of a line. Its octets are then in `line`, with the carriage return if it has one.
+/// Reads up to the end of a line. Its octets are then in `line`, with the carriage return if it has one. At `NextLine::Unfinished` its first
+/// `MAX_KEPT` octets are.
 ///
 /// At most `left` octets are taken as lines. If all of them are present, one more is read to see whether the input goes on. At `NextLine::Line`
 /// `left` falls by the octets of the line and its line feed. The errors are `Read` and `Memory`.
@@ -88,6 +89,7 @@ pub fn next_line<R: Read>(
     left: &mut u32,
 ) -> Result<NextLine, ToolFault>
     ensures taken { TakesLine (R.remaining reader.old) (R.remaining reader.new) left.old left.new line.new.items result }
+    ensures unfinished { KeepsUnfinished (R.remaining reader.old) (R.remaining reader.new) left.old line.new.items result }
 {
     line.clear();
     let mut is_cut = false;

@@ -2,7 +2,7 @@
 ghost use Rattle.std.specs.Prelude.{◌≤◌, length, IfErr, IfOk, OnOk};
 ghost use Rattle.std.specs.Io.KnownBytes.{Consumes, IsAtEnd};
 ghost use Rattle.tool_streams.specs.Lines.{input_limit};
-ghost use Rattle.tool_streams.specs.Streams.{IsReadFault};
+ghost use Rattle.tool_streams.specs.Streams.{IsReadFault, IsSignPart};
 
 use crate::fault::ToolFault;
 use crate::lines::MAX_INPUT;
@@ -33,4 +33,20 @@ pub fn read_whole<R: Read>(alloc: Global, reader: &mut R) -> Result<Vec<u8>, Too
         }
     }
     Err(ToolFault::InputTooLong)
+}
+
+/// Reads a sign file to its end, and appends a line feed and the mark that stands behind a sign file in an input. So what is read of the
+/// answer and then of another reader is an input that begins with the sign file. The errors are `Read`, `InputTooLong` and `Memory`.
+pub fn read_sign<R: Read>(alloc: Global, reader: &mut R) -> Result<Vec<u8>, ToolFault>
+    ensures read { IfOk result (λ front. IsSignPart (R.remaining reader.old) (R.remaining reader.new) front.items) }
+    ensures fault { IfErr result (IsReadFault (R.remaining reader.old) (R.remaining reader.new)) }
+{
+    let mut front = match read_whole(alloc, reader) {
+        Ok(octets) => octets,
+        Err(fault) => return Err(fault),
+    };
+    match front.extend_from_slice(b"\n%%\n") {
+        Ok(()) => Ok(front),
+        Err(_) => Err(ToolFault::Memory),
+    }
 }
