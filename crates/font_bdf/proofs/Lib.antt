@@ -4,3 +4,4 @@ pub mod CellLemmas
 pub mod BlockLemmas
 pub mod TableLemmas
 pub mod FontRows
+pub mod RowLemmas

@@ -2,18 +2,21 @@
 
 ghost use Rattle.std.specs.Prelude.{◌≡◌, ◌<◌, if◌then◌else◌, true, false, IfOk, MatchOption, MatchResult, ◌+ℤ◌, ◌-ℤ◌, ◌≤ℤ◌, ◌^◌, negsuc, pos};
 ghost use Rattle.std.specs.List.{list_all, range_with_len};
-ghost use Rattle.font_bdf.specs.Bitmap.{bits_value, column_of, digits_at, digits_of, drawing_of, hex_value, is_below, is_bit, is_fine, is_good, is_good_row, is_hex, is_inside, is_lit, is_lit_at, is_row, is_set_at, octets_of, row_of, top_of};
+ghost use Rattle.font_bdf.specs.Bitmap.{bits_value, column_of, digits_at, digits_of, drawing_of, hex_value, is_below, is_bit, is_fine, is_fine_row, is_hex, is_inside, is_lit, is_lit_at, is_row, is_set_at, is_whole, is_within, octets_of, row_of, top_of};
 
 use crate::fault::{BdfFault, BdfProblem, fault_at};
 use crate::numbers::PixelBox;
+use crate::rows::FontBox;
 use crate::words::word_at;
 use std::alloc::{AllocError, Global};
 
 /// The bitmap of a character (BDF, BITMAP).
 #[derive(Clone, Copy)]
 pub(crate) struct Bitmap<'a> {
-    /// The box of the font.
-    pub(crate) whole: PixelBox,
+    /// The box of the cells of the font.
+    pub(crate) font: FontBox,
+    /// Where the cell begins, counted in columns from the origin.
+    pub(crate) left: i32,
     /// The box of the character.
     pub(crate) pixels: PixelBox,
     /// Its columns.
@@ -91,7 +94,7 @@ impl<'a> Bitmap<'a> {
     fn column_of(&self, column: u8) -> i64
         ensures { result ≡ column_of (drawing_of self.now) column }
     {
-        i64::from(self.pixels.x) + i64::from(column)
+        i64::from(self.pixels.x) - i64::from(self.left) + i64::from(column)
     }
 
     /// The row of the cell in which the upper row of the box stands.
@@ -100,7 +103,8 @@ impl<'a> Bitmap<'a> {
         ensures low { negsuc 17179869184 ≤ℤ result }
         ensures high { result ≤ℤ pos 17179869184 }
     {
-        upper_edge(self.whole) - upper_edge(self.pixels)
+        let top = upper_edge(self.font.whole) - i64::from(self.font.above);
+        top + i64::from(self.font.added) - upper_edge(self.pixels)
     }
 
     /// The row of the cell in which a row of the box stands.
@@ -127,10 +131,10 @@ impl<'a> Bitmap<'a> {
     }
 
     /// The first pixel of a row that is lit outside the cell.
-    fn outside(&self, width: u8, height: u8, row: u32) -> Option<u8>
+    fn outside_in(&self, width: u8, height: u8, row: u32) -> Option<u8>
         ensures { MatchOption result
-            (list_all (is_fine (drawing_of self.now) width height row) (range_with_len 0 self.now.columns) ≡ true)
-            (λ column. list_all (is_fine (drawing_of self.now) width height row) (range_with_len 0 self.now.columns) ≡ false) }
+            (is_fine_row (drawing_of self.now) width height row ≡ true)
+            (λ column. is_fine_row (drawing_of self.now) width height row ≡ false) }
     {
         for column in 0..self.columns {
             if !self.is_fine(width, height, row, column) {
@@ -140,27 +144,20 @@ impl<'a> Bitmap<'a> {
         None
     }
 
-    /// Whether a line is a row of the box that lights no pixel outside the cell.
-    #[tactic(auto, unfolding(crate::specs::Bitmap::is_good_row))]
-    fn check_row(&self, width: u8, height: u8, row: u32, first: usize) -> Result<(), BdfFault>
-        ensures { MatchResult result (λ _. is_good_row (drawing_of self.now) width height row ≡ true) (λ _. is_good_row (drawing_of self.now) width height row ≡ false) }
+    /// The first pixel that is lit outside the cell: its column and its row in the cell.
+    #[tactic(auto, unfolding(crate::specs::Bitmap::is_within))]
+    pub(crate) fn outside(&self, width: u8, height: u8) -> Option<(i64, i64)>
+        ensures { MatchOption result
+            (is_within (drawing_of self.now) width height ≡ true)
+            (λ place. is_within (drawing_of self.now) width height ≡ false) }
     {
-        if !is_row(self.columns, self.digits_at(row as usize)) {
-            let digits = digits_of(self.columns);
-            return Err(fault_at(first, row as usize, BdfProblem::BadRow(digits)));
-        }
-        match self.outside(width, height, row) {
-            None => Ok(()),
-            Some(column) => {
-                let problem = BdfProblem::Outside {
-                    column: self.column_of(column),
-                    row: self.row_of(row),
-                    width,
-                    height,
-                };
-                Err(fault_at(first, row as usize, problem))
+        for row in 0..self.rows.len() {
+            let row = row as u32;
+            if let Some(column) = self.outside_in(width, height, row) {
+                return Some((self.column_of(column), self.row_of(row)));
             }
         }
+        None
     }
 
     /// Whether the bit of a place in the box is set.
@@ -179,9 +176,9 @@ impl<'a> Bitmap<'a> {
 
     /// The column of the box in which a column of the cell stands.
     fn across(&self, column: u8) -> i64
-        ensures { result ≡ pos column -ℤ self.now.pixels.x }
+        ensures { result ≡ (pos column +ℤ self.now.left) -ℤ self.now.pixels.x }
     {
-        i64::from(column) - i64::from(self.pixels.x)
+        i64::from(column) + i64::from(self.left) - i64::from(self.pixels.x)
     }
 
     /// The row of the box in which a row of the cell stands.
@@ -209,29 +206,22 @@ impl<'a> Bitmap<'a> {
             && self.is_lit((place % width) as u8, (place / width) as u8)
     }
 
-    /// Whether each line is a row of the box that lights no pixel outside the cell, and there is one for each row of the box. The
-    /// first of them is the line `first` of the font.
-    #[tactic(auto, unfolding(crate::specs::Bitmap::is_good, crate::specs::Bitmap::is_good_row), using(crate::proofs::BitmapLemmas::all_stops))]
-    pub(crate) fn check_rows(
-        &self,
-        count: u8,
-        width: u8,
-        height: u8,
-        first: usize,
-    ) -> Result<(), BdfFault>
-        ensures { MatchResult result (λ _. is_good (drawing_of self.now) count width height ≡ true) (λ _. is_good (drawing_of self.now) count width height ≡ false) }
+    /// Whether each line is a row of the box, and there is one for each row of the box. The first of them is the line `first` of the
+    /// font.
+    #[tactic(auto, unfolding(crate::specs::Bitmap::is_whole), using(crate::proofs::BitmapLemmas::all_stops))]
+    pub(crate) fn check_rows(&self, count: u8, first: usize) -> Result<(), BdfFault>
+        ensures { MatchResult result (λ _. is_whole (drawing_of self.now) count ≡ true) (λ _. is_whole (drawing_of self.now) count ≡ false) }
     {
+        let digits = digits_of(self.columns);
         for row in 0..self.rows.len() {
             if row >= usize::from(count) {
                 return Err(fault_at(first, row, BdfProblem::BadRows));
             }
-            match self.check_row(width, height, row as u32, first) {
-                Ok(()) => {}
-                Err(fault) => return Err(fault),
+            if !is_row(self.columns, self.digits_at(row)) {
+                return Err(fault_at(first, row, BdfProblem::BadRow(digits)));
             }
         }
         if self.rows.len() < usize::from(count) {
-            let digits = digits_of(self.columns);
             return Err(fault_at(first, self.rows.len(), BdfProblem::BadRow(digits)));
         }
         Ok(())

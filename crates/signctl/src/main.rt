@@ -59,6 +59,8 @@
 //! refused command line.
 #![tactic(auto)]
 
+mod characters;
+mod font_words;
 mod main_with;
 mod words;
 

@@ -126,6 +126,9 @@ pub(crate) fn main_with<P: Files, R: Read, W: Write, E: Write>(
             errors,
         ),
         Request::Sign(font) => end_of_answer(run_sign(alloc, font, reader, writer), errors),
-        Request::Font(setting) => end_of(run_font(alloc, &setting, reader, writer), errors),
+        Request::Font(asked) => end_of(
+            run_font(alloc, &asked.setting(), reader, writer),
+            errors,
+        ),
     }
 }

@@ -1,14 +1,15 @@
 //! What the words of a command line ask for.
 
+use crate::characters::NO_CHARACTERS;
+use crate::font_words::{FontRequest, font_command, font_request};
 use clap::error::ErrorKind;
 use clap::{Arg, ArgAction, ArgMatches, Command, Error, value_parser};
-use font_bdf::FontSetting;
 use message_picture::{Moment, View};
 use sign_tool::Mode;
 use std::alloc::{AllocError, Global};
 
 /// What was asked for (own).
-#[derive(Clone, Copy)]
+#[derive(Drop)]
 pub(crate) enum Request<'a> {
     /// A run over lines.
     Lines {
@@ -28,7 +29,7 @@ pub(crate) enum Request<'a> {
     /// What a sign file describes, or the characters of one of its fonts.
     Sign(Option<u8>),
     /// The table of a font.
-    Font(FontSetting),
+    Font(FontRequest),
 }
 
 /// A message as a picture (own).
@@ -233,84 +234,6 @@ fn sign_command<'a>(alloc: Global) -> Result<Command<'a>, AllocError> {
         .arg(font_option(alloc))
 }
 
-/// A number of `signctl font`, with its range and what it is if it isn't given.
-fn number_of<'a>(
-    alloc: Global,
-    name: &'a str,
-    help: &'a str,
-    (least, most): (i64, i64),
-    absent: &'a str,
-) -> Arg<'a> {
-    Arg::new(alloc, name)
-        .long(name)
-        .value_name("N")
-        .help(help)
-        .value_parser(value_parser!(u16).range(least..=most))
-        .default_value(absent)
-}
-
-/// `--number` and `--version`, which a sign file has and BDF hasn't.
-fn with_name<'a>(alloc: Global, font: Command<'a>) -> Result<Command<'a>, AllocError> {
-    font.arg(number_of(
-        alloc,
-        "number",
-        "The font's number, 1 to 255",
-        (1, 255),
-        "1",
-    ))?
-    .arg(number_of(
-        alloc,
-        "version",
-        "The font's version, 0 to 65535",
-        (0, 65535),
-        "0",
-    ))
-}
-
-/// `--char-spacing` and `--line-spacing`, which a sign file has and BDF hasn't.
-fn with_spacings<'a>(alloc: Global, font: Command<'a>) -> Result<Command<'a>, AllocError> {
-    font.arg(number_of(
-        alloc,
-        "char-spacing",
-        "Columns between characters, 0 to 255, by which each cell is narrower than its advance",
-        (0, 255),
-        "1",
-    ))?
-    .arg(number_of(
-        alloc,
-        "line-spacing",
-        "Rows between lines, 0 to 255",
-        (0, 255),
-        "1",
-    ))
-}
-
-/// `--first` and `--last`, between which characters are taken.
-fn with_range<'a>(alloc: Global, font: Command<'a>) -> Result<Command<'a>, AllocError> {
-    font.arg(number_of(
-        alloc,
-        "first",
-        "The lowest character that is taken",
-        (1, 65535),
-        "1",
-    ))?
-    .arg(number_of(
-        alloc,
-        "last",
-        "The highest character that is taken",
-        (1, 65535),
-        "65535",
-    ))
-}
-
-/// `signctl font`, which takes a font in BDF.
-fn font_command<'a>(alloc: Global) -> Result<Command<'a>, AllocError> {
-    let font = Command::new(alloc, "font").about(
-        "Reads a font in BDF, and writes it as the [[font]] table of a sign file",
-    );
-    with_range(alloc, with_spacings(alloc, with_name(alloc, font)?)?)
-}
-
 /// With the commands that answer each line.
 fn with_lines<'a>(alloc: Global, tool: Command<'a>) -> Result<Command<'a>, AllocError> {
     tool.subcommand(check_command(alloc)?)?
@@ -348,23 +271,6 @@ fn mode_of(matches: &ArgMatches<'_>) -> Mode {
         },
         None if matches.subcommand_matches("run").is_some() => Mode::Run,
         None => Mode::Check,
-    }
-}
-
-/// The number that is given, or `absent` if there is none.
-fn number_given(font: &ArgMatches<'_>, name: &str, absent: u16) -> u16 {
-    font.get_one(name).unwrap_or(absent)
-}
-
-/// How the table of a font is written.
-fn setting_of(font: &ArgMatches<'_>) -> FontSetting {
-    FontSetting {
-        number: number_given(font, "number", 1).min(255) as u8,
-        version: number_given(font, "version", 0),
-        char_spacing: number_given(font, "char-spacing", 1).min(255) as u8,
-        line_spacing: number_given(font, "line-spacing", 1).min(255) as u8,
-        first: number_given(font, "first", 1),
-        last: number_given(font, "last", 65535),
     }
 }
 
@@ -442,7 +348,10 @@ pub(crate) fn request_of<'a>(alloc: Global, words: &'a [&'a str]) -> Result<Requ
     let mut tool = command(alloc)?;
     let matches = tool.try_get_matches_from_mut(words)?;
     if let Some(font) = matches.subcommand_matches("font") {
-        return Ok(Request::Font(setting_of(font)));
+        return match font_request(alloc, font)? {
+            Some(asked) => Ok(Request::Font(asked)),
+            None => Err(tool.error(ErrorKind::InvalidValue, NO_CHARACTERS)?),
+        };
     }
     if let Some(sign) = matches.subcommand_matches("sign") {
         return Ok(Request::Sign(sign.get_one("font")));

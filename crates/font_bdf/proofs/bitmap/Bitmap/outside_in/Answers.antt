@@ -1,7 +1,7 @@
 use Rattle.std.proofs.Common.{sym, ◌∙◌}
 use Rattle.font_bdf.specs.Bitmap.{drawing_of, is_fine}
 use Rattle.font_bdf.proofs.BitmapLemmas.{all_more, all_stops}
-use Rattle.font_bdf.proofs.bitmap.Bitmap.outside.Goals as goal
+use Rattle.font_bdf.proofs.bitmap.Bitmap.outside_in.Goals as goal
 
 pub returns-then-not-is_fine : goal.returns-then-not-is_fine
 returns-then-not-is_fine c =

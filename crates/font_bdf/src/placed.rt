@@ -1,0 +1,130 @@
+//! A bitmap in its cell.
+
+ghost use Rattle.std.specs.Prelude.{◌≡◌, ◌<◌, ◌≤ℤ◌, ◌∷◌, [], IfOk, Some, negsuc, pos};
+ghost use Rattle.std.specs.Option.{option_map, option_to_list};
+ghost use Rattle.sign_font.specs.Sign.{cell_of};
+ghost use Rattle.font_bdf.specs.Bitmap.{drawing_of};
+ghost use Rattle.font_bdf.specs.Font.{cell_with, fitting, placed, wide_of, widened};
+ghost use Rattle.font_bdf.specs.Numbers.{within};
+ghost use Rattle.font_bdf.specs.Reading.{Gives};
+
+use crate::bitmap::Bitmap;
+use crate::fault::{BdfFault, BdfProblem, fault_at};
+use crate::numbers::within;
+use crate::setting::Outside;
+use sign_font::CellPart;
+use std::alloc::Global;
+
+/// The columns of a cell, 1 to 64. What is wrong with others is told of the line `at` of the font.
+fn columns_of(number: u16, wide: i64, at: usize) -> Result<u8, BdfFault>
+    ensures width { Gives (λ width. width) result (within 1 64 wide) }
+    ensures some { IfOk result (λ width. 0 < width) }
+{
+    match within(1, 64, wide) {
+        Some(width) => Ok(width as u8),
+        None => {
+            let problem = BdfProblem::BadWidth {
+                character: number,
+                width: wide,
+            };
+            Err(fault_at(at, 0, problem))
+        }
+    }
+}
+
+/// The columns of a cell outside which the bitmap lights no pixel.
+#[tactic(auto, unfolding(crate::specs::Font::fitting))]
+fn fitting(bitmap: &Bitmap<'_>, number: u16, wide: i64, at: usize) -> Result<u8, BdfFault>
+    ensures width { Gives (λ width. width) result (fitting (drawing_of bitmap.now) wide bitmap.now.font.height) }
+    ensures some { IfOk result (λ width. 0 < width) }
+{
+    let width = columns_of(number, wide, at)?;
+    let height = bitmap.font.height;
+    match bitmap.outside(width, height) {
+        None => Ok(width),
+        Some((column, row)) => {
+            let problem = BdfProblem::Outside {
+                character: number,
+                column,
+                row,
+                width,
+                height,
+            };
+            Err(fault_at(at, 0, problem))
+        }
+    }
+}
+
+/// The cell in which a bitmap is drawn.
+fn cell_with(
+    alloc: Global,
+    bitmap: &Bitmap<'_>,
+    number: u16,
+    width: u8,
+) -> Result<Option<CellPart>, BdfFault>
+    requires some { 0 < width }
+    ensures { Gives (λ cell. option_to_list (option_map cell_of cell)) result (Some (cell_with (drawing_of bitmap.now) number bitmap.now.font.height width ∷ [])) }
+{
+    match bitmap.octets_of(alloc, width, bitmap.font.height) {
+        Ok(bits) => Ok(Some(CellPart {
+            number,
+            width,
+            bits,
+        })),
+        Err(_) => Err(fault_at(0, 0, BdfProblem::Memory)),
+    }
+}
+
+/// The bitmap in a cell that begins no further to the right than its box.
+fn widened<'a>(bitmap: &Bitmap<'a>) -> Bitmap<'a>
+    ensures { drawing_of result ≡ widened (drawing_of bitmap.now) }
+{
+    Bitmap {
+        left: bitmap.left.min(bitmap.pixels.x),
+        ..*bitmap
+    }
+}
+
+/// The columns of that cell, which ends no further to the left than the box.
+fn wide_of(bitmap: &Bitmap<'_>, wide: i64) -> i64
+    requires low { negsuc 8589934592 ≤ℤ wide }
+    requires high { wide ≤ℤ pos 8589934592 }
+    ensures wide { result ≡ wide_of (drawing_of bitmap.now) wide }
+{
+    let left = i64::from(bitmap.left);
+    let edge = i64::from(bitmap.pixels.x) + i64::from(bitmap.columns);
+    (left + wide).max(edge) - left.min(i64::from(bitmap.pixels.x))
+}
+
+/// The cell of a bitmap in a cell so many columns wide, or `None` if the character is left out. What is wrong is told of the line `at`
+/// of the font.
+#[tactic(auto, unfolding(crate::specs::Font::placed))]
+pub(crate) fn placed(
+    alloc: Global,
+    outside: Outside,
+    bitmap: &Bitmap<'_>,
+    number: u16,
+    wide: i64,
+    at: usize,
+) -> Result<Option<CellPart>, BdfFault>
+    requires low { negsuc 8589934592 ≤ℤ wide }
+    requires high { wide ≤ℤ pos 8589934592 }
+    ensures cells { Gives (λ cell. option_to_list (option_map cell_of cell)) result (placed outside (drawing_of bitmap.now) number wide bitmap.now.font.height) }
+{
+    match fitting(bitmap, number, wide, at) {
+        Ok(width) => cell_with(alloc, bitmap, number, width),
+        Err(fault) => match outside {
+            Outside::Refuse => Err(fault),
+            Outside::Widen => {
+                let wider = widened(bitmap);
+                let width = fitting(&wider, number, wide_of(bitmap, wide), at)?;
+                cell_with(alloc, &wider, number, width)
+            }
+            Outside::Crop => {
+                let width = columns_of(number, wide, at)?;
+                cell_with(alloc, bitmap, number, width)
+            }
+            Outside::Skip => Ok(None),
+        },
+    }
+}
