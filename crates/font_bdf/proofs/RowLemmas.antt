@@ -1,7 +1,11 @@
--- How many numbers from one on pass a test, before one that doesn't.
-use Rattle.std.proofs.Common.{◌≡◌, ℕ, zero, suc, ◌+◌, ◌<◌, Bool, true, false, refl, ap, ◌∙◌, arith}
+-- How many numbers from one on pass a test, before one that doesn't, and rows in which no cell has a pixel.
+use Rattle.std.proofs.Common.{◌≡◌, ℕ, zero, suc, ◌+◌, ◌<◌, Bool, true, false, List, map, refl, ap, ◌∙◌, arith}
 use Rattle.std.specs.List.{list_all, prefix_len, range_with_len}
 use Rattle.std.proofs.lemmas.Bool.{and_parts}
+use Rattle.std.proofs.lemmas.List.Folds.{list_all-map}
+use Rattle.sign_font.specs.Sign.{CellData, cell_of}
+use Rattle.sign_font.specs.declared.parts.CellPart.{CellPart}
+use Rattle.font_bdf.specs.Rows.{is_dark_in, is_dark_row}
 
 next : (n : ℕ) → 1 + n ≡ suc n
 next n = omega arith
@@ -21,3 +25,6 @@ prefix_all p a zero all = refl
 prefix_all p a (suc n) all =
     let parts = and_parts (p a) (list_all p (range_with_len (a + 1) n)) all in
     rw (parts.0, prefix_all p (a + 1) n parts.1) (next n)
+
+pub dark_cells : (cells : List CellPart) (row : ℕ) → is_dark_row (map cell_of cells) row ≡ list_all (λ cell. is_dark_in (cell_of cell) row) cells
+dark_cells cells row = list_all-map (λ (cell : CellData). is_dark_in cell row) cell_of cells

@@ -9,7 +9,7 @@ use Rattle.octet_text.specs.Digits.{is_digit}
 use Rattle.font_bdf.specs.Parts.{texts}
 
 -- a bitmap in a cell: the box of the font, how many rows the cells have fewer and more than it at the top, where the cell begins, counted
--- in columns from the origin, the box of the character, its columns as a count, and the lines of its rows from the top (BDF, BITMAP)
+-- in columns from the origin, the box of the character, its columns and rows as counts, and the lines of its rows from the top (BDF, BITMAP)
 pub record Drawing : Type 0 where
   pub whole : PixelBox
   pub above : ℕ
@@ -17,6 +17,7 @@ pub record Drawing : Type 0 where
   pub left : ℤ
   pub pixels : PixelBox
   pub columns : ℕ
+  pub count : ℕ
   pub rows : List (List ℕ)
 
 -- the bitmap, wherever its lines stand in memory (own)
@@ -28,6 +29,7 @@ drawing_of bitmap = record {
   left = bitmap.left;
   pixels = bitmap.pixels;
   columns = bitmap.columns;
+  count = bitmap.count;
   rows = texts bitmap.rows.now;
 }
 
@@ -63,7 +65,7 @@ column_of drawing column = (drawing.pixels.x -ℤ drawing.left) +ℤ pos column
 -- rows that are taken off or added there (BDF, BBX and FONTBOUNDINGBOX)
 abbrev pub top_of : Drawing → ℤ
 top_of drawing =
-    (((drawing.whole.y +ℤ drawing.whole.height) -ℤ pos drawing.above) +ℤ pos drawing.added) -ℤ (drawing.pixels.y +ℤ drawing.pixels.height)
+    ((drawing.whole.y +ℤ drawing.whole.height) +ℤ (pos drawing.added -ℤ pos drawing.above)) -ℤ (drawing.pixels.y +ℤ drawing.pixels.height)
 
 -- the row of the cell in which a row of the box stands (BDF, BBX and FONTBOUNDINGBOX)
 abbrev pub row_of : Drawing → ℕ → ℤ
@@ -83,9 +85,9 @@ abbrev pub is_fine : Drawing → ℕ → ℕ → ℕ → ℕ → Bool
 is_fine drawing width height row column = not (is_bit (digits_at drawing row) column) || is_inside drawing width height column row
 
 -- whether each line is a row of the box, and there is one for each (BDF, BITMAP)
-unfoldable pub is_whole : Drawing → ℕ → Bool
-is_whole drawing count =
-    length drawing.rows == count && list_all (λ row. is_row drawing.columns (digits_at drawing row)) (range_with_len 0 (length drawing.rows))
+unfoldable pub is_whole : Drawing → Bool
+is_whole drawing =
+    length drawing.rows == drawing.count && list_all (λ row. is_row drawing.columns (digits_at drawing row)) (range_with_len 0 (length drawing.rows))
 
 -- whether a row of the box lights no pixel outside the cell (own)
 abbrev pub is_fine_row : Drawing → ℕ → ℕ → ℕ → Bool
@@ -93,7 +95,7 @@ is_fine_row drawing width height row = list_all (is_fine drawing width height ro
 
 -- whether the bitmap lights no pixel outside the cell (own)
 unfoldable pub is_within : Drawing → ℕ → ℕ → Bool
-is_within drawing width height = list_all (is_fine_row drawing width height) (range_with_len 0 (length drawing.rows))
+is_within drawing width height = list_all (is_fine_row drawing width height) (range_with_len 0 drawing.count)
 
 -- whether the bit of a place in the box is set; outside it no bit is (BDF, BITMAP)
 unfoldable pub is_set_at : Drawing → ℤ → ℤ → Bool

@@ -1,5 +1,5 @@
 -- The font that a text in BDF is.
-use Rattle.std.specs.Prelude.{ℕ, ◌+◌, ◌-◌, ◌/◌, ◌&&◌, ◌==◌, nat_lt, nat_le, not, Bool, true, List, [], ◌∷◌, ◌++◌, length, take, drop, slice_index_or, if◌then◌else◌, Option, None, Some, ℤ, pos, ◌+ℤ◌, ◌-ℤ◌, codes}
+use Rattle.std.specs.Prelude.{ℕ, ◌+◌, ◌-◌, ◌/◌, ◌&&◌, ◌==◌, nat_lt, nat_le, not, Bool, true, List, [], ◌∷◌, ◌++◌, length, take, drop, slice_index_or, if◌then◌else◌, Option, None, Some, is_some, ℤ, pos, ◌+ℤ◌, ◌-ℤ◌, codes}
 use Rattle.std.specs.Int.{int_max, int_min}
 use Rattle.std.specs.List.{insert, list_any, position, position_or_len, slice_split}
 use Rattle.std.specs.Option.{option_map}
@@ -49,7 +49,7 @@ width_of setting advance = advance -ℤ pos (spacing_of setting)
 
 -- the advance of a character whose header these lines are: its own, or that of the head of the font (BDF, DWIDTH)
 unfoldable pub advance_in : FontBox → List (List ℕ) → Option ℤ
-advance_in font header = if list_any (begins (codes "DWIDTH")) header then number_in (codes "DWIDTH") header else font.advance
+advance_in font header = if is_some (position (begins (codes "DWIDTH")) header) then number_in (codes "DWIDTH") header else font.advance
 
 -- the columns and the rows of the box of a character, each 0 to 255 (BDF, BBX)
 abbrev pub size_of : PixelBox → Option (ℕ × ℕ)
@@ -74,13 +74,21 @@ widened drawing = record drawing { left = int_min drawing.left drawing.pixels.x 
 abbrev pub wide_of : Drawing → ℤ → ℤ
 wide_of drawing wide = int_max (drawing.left +ℤ wide) (drawing.pixels.x +ℤ pos drawing.columns) -ℤ int_min drawing.left drawing.pixels.x
 
+-- the cell of the bitmap in a wider cell, where it fits that (own)
+abbrev pub widened_cells : Drawing → ℕ → ℤ → ℕ → Option (List CellData)
+widened_cells drawing number wide height =
+    option_map (λ width. cell_with (widened drawing) number height width ∷ []) (fitting (widened drawing) (wide_of drawing wide) height)
+
+-- the cell of the bitmap, whatever is lit outside (own)
+abbrev pub cropped_cells : Drawing → ℕ → ℤ → ℕ → Option (List CellData)
+cropped_cells drawing number wide height = option_map (λ width. cell_with drawing number height width ∷ []) (within 1 64 wide)
+
 -- the cells of a character that doesn't fit its cell: none at all, a wider cell, the same cell without what stands outside, or the font
 -- without this character (own)
 abbrev pub not_fitting : Outside → Drawing → ℕ → ℤ → ℕ → Option (List CellData)
 not_fitting Refuse drawing number wide height = None
-not_fitting Widen drawing number wide height =
-    option_map (λ width. cell_with (widened drawing) number height width ∷ []) (fitting (widened drawing) (wide_of drawing wide) height)
-not_fitting Crop drawing number wide height = option_map (λ width. cell_with drawing number height width ∷ []) (within 1 64 wide)
+not_fitting Widen drawing number wide height = widened_cells drawing number wide height
+not_fitting Crop drawing number wide height = cropped_cells drawing number wide height
 not_fitting Skip drawing number wide height = Some []
 
 -- the cells of a character: it is taken as it is where it fits its cell (own)
@@ -93,20 +101,28 @@ unfoldable pub placed : Outside → Drawing → ℕ → ℤ → ℕ → Option (
 placed outside drawing number wide height = cells_with_width outside drawing number wide height (fitting drawing wide height)
 
 -- a bitmap in a cell that begins at the origin (BDF, BBX)
-abbrev pub drawing_with : FontBox → PixelBox → ℕ → List (List ℕ) → Drawing
-drawing_with font pixels columns rows =
-    record { whole = font.whole; above = font.above; added = font.added; left = pos 0; pixels = pixels; columns = columns; rows = rows }
+abbrev pub drawing_with : FontBox → PixelBox → ℕ × ℕ → List (List ℕ) → Drawing
+drawing_with font pixels size rows = record {
+  whole = font.whole;
+  above = font.above;
+  added = font.added;
+  left = pos 0;
+  pixels = pixels;
+  columns = size.0;
+  count = size.1;
+  rows = rows;
+}
 
 -- a bitmap whose lines are the rows of its box (BDF, BITMAP)
-abbrev pub if_whole : ℕ → Drawing → Option Drawing
-if_whole count drawing = if is_whole drawing count then Some drawing else None
+abbrev pub if_whole : Drawing → Option Drawing
+if_whole drawing = if is_whole drawing then Some drawing else None
 
 -- the bitmap of a character (BDF, BBX and BITMAP)
 unfoldable pub drawing_in : FontBox → List (List ℕ) → List (List ℕ) → Option Drawing
 drawing_in font header rows = do
   pixels ← box_in (codes "BBX") header
   size ← size_of pixels
-  if_whole size.1 (drawing_with font pixels size.0 rows)
+  if_whole (drawing_with font pixels size rows)
 
 -- the cells of a character of this number (BDF, DWIDTH and BBX)
 unfoldable pub cells_in : FontSetting → FontBox → ℕ → List (List ℕ) → List (List ℕ) → Option (List CellData)

@@ -21,6 +21,8 @@ pub(crate) struct Bitmap<'a> {
     pub(crate) pixels: PixelBox,
     /// Its columns.
     pub(crate) columns: u8,
+    /// Its rows.
+    pub(crate) count: u8,
     /// The lines of its rows, from the top.
     pub(crate) rows: &'a [&'a [u8]],
 }
@@ -103,12 +105,11 @@ impl<'a> Bitmap<'a> {
         ensures low { negsuc 17179869184 ≤ℤ result }
         ensures high { result ≤ℤ pos 17179869184 }
     {
-        let top = upper_edge(self.font.whole) - i64::from(self.font.above);
-        top + i64::from(self.font.added) - upper_edge(self.pixels)
+        cells_edge(self.font) - upper_edge(self.pixels)
     }
 
     /// The row of the cell in which a row of the box stands.
-    fn row_of(&self, row: u32) -> i64
+    fn row_of(&self, row: u8) -> i64
         ensures { result ≡ row_of (drawing_of self.now) row }
     {
         self.top_of() + i64::from(row)
@@ -116,22 +117,22 @@ impl<'a> Bitmap<'a> {
 
     /// Whether a pixel of the box stands in the cell.
     #[tactic(auto, unfolding(crate::specs::Bitmap::is_inside))]
-    fn is_inside(&self, width: u8, height: u8, column: u8, row: u32) -> bool
+    fn is_inside(&self, width: u8, height: u8, column: u8, row: u8) -> bool
         ensures { result ≡ is_inside (drawing_of self.now) width height column row }
     {
         is_below(width, self.column_of(column)) && is_below(height, self.row_of(row))
     }
 
     /// Whether a pixel of the box is dark or stands in the cell.
-    fn is_fine(&self, width: u8, height: u8, row: u32, column: u8) -> bool
+    fn is_fine(&self, width: u8, height: u8, row: u8, column: u8) -> bool
         ensures { result ≡ is_fine (drawing_of self.now) width height row column }
     {
-        !is_bit(self.digits_at(row as usize), usize::from(column))
+        !is_bit(self.digits_at(usize::from(row)), usize::from(column))
             || self.is_inside(width, height, column, row)
     }
 
     /// The first pixel of a row that is lit outside the cell.
-    fn outside_in(&self, width: u8, height: u8, row: u32) -> Option<u8>
+    fn outside_in(&self, width: u8, height: u8, row: u8) -> Option<u8>
         ensures { MatchOption result
             (is_fine_row (drawing_of self.now) width height row ≡ true)
             (λ column. is_fine_row (drawing_of self.now) width height row ≡ false) }
@@ -151,10 +152,10 @@ impl<'a> Bitmap<'a> {
             (is_within (drawing_of self.now) width height ≡ true)
             (λ place. is_within (drawing_of self.now) width height ≡ false) }
     {
-        for row in 0..self.rows.len() {
-            let row = row as u32;
-            if let Some(column) = self.outside_in(width, height, row) {
-                return Some((self.column_of(column), self.row_of(row)));
+        for row in 0..self.count {
+            match self.outside_in(width, height, row) {
+                Some(column) => return Some((self.column_of(column), self.row_of(row))),
+                None => {}
             }
         }
         None
@@ -206,22 +207,29 @@ impl<'a> Bitmap<'a> {
             && self.is_lit((place % width) as u8, (place / width) as u8)
     }
 
+    /// Whether a line is a row of the box.
+    fn is_row_at(&self, row: usize) -> bool
+        ensures { result ≡ is_row self.now.columns (digits_at (drawing_of self.now) row) }
+    {
+        is_row(self.columns, self.digits_at(row))
+    }
+
     /// Whether each line is a row of the box, and there is one for each row of the box. The first of them is the line `first` of the
     /// font.
     #[tactic(auto, unfolding(crate::specs::Bitmap::is_whole), using(crate::proofs::BitmapLemmas::all_stops))]
-    pub(crate) fn check_rows(&self, count: u8, first: usize) -> Result<(), BdfFault>
-        ensures { MatchResult result (λ _. is_whole (drawing_of self.now) count ≡ true) (λ _. is_whole (drawing_of self.now) count ≡ false) }
+    pub(crate) fn check_rows(&self, first: usize) -> Result<(), BdfFault>
+        ensures { MatchResult result (λ _. is_whole (drawing_of self.now) ≡ true) (λ _. is_whole (drawing_of self.now) ≡ false) }
     {
         let digits = digits_of(self.columns);
         for row in 0..self.rows.len() {
-            if row >= usize::from(count) {
+            if row >= usize::from(self.count) {
                 return Err(fault_at(first, row, BdfProblem::BadRows));
             }
-            if !is_row(self.columns, self.digits_at(row)) {
+            if !self.is_row_at(row) {
                 return Err(fault_at(first, row, BdfProblem::BadRow(digits)));
             }
         }
-        if self.rows.len() < usize::from(count) {
+        if self.rows.len() < usize::from(self.count) {
             return Err(fault_at(first, self.rows.len(), BdfProblem::BadRow(digits)));
         }
         Ok(())
@@ -280,6 +288,24 @@ fn upper_edge(pixels: PixelBox) -> i64
     ensures high { result ≤ℤ pos 4294967296 }
 {
     i64::from(pixels.y) + i64::from(pixels.height)
+}
+
+/// How many rows are added to a font at its top, less than 0 if some are taken off.
+fn rows_added(font: FontBox) -> i64
+    ensures rows { result ≡ pos font.added -ℤ pos font.above }
+    ensures low { negsuc 256 ≤ℤ result }
+    ensures high { result ≤ℤ pos 256 }
+{
+    i64::from(font.added) - i64::from(font.above)
+}
+
+/// The row above the upper edge of the cells of a font, counted from the base line.
+fn cells_edge(font: FontBox) -> i64
+    ensures edge { result ≡ (font.whole.y +ℤ font.whole.height) +ℤ (pos font.added -ℤ pos font.above) }
+    ensures low { negsuc 8589934592 ≤ℤ result }
+    ensures high { result ≤ℤ pos 8589934592 }
+{
+    upper_edge(font.whole) + rows_added(font)
 }
 
 /// Whether a number is at least 0 and below a limit.

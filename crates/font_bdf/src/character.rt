@@ -1,12 +1,10 @@
 //! The lines of a character, and its cell.
 
-ghost use Rattle.std.specs.Prelude.{◌≡◌, ◌≤ℤ◌, negsuc, pos};
-ghost use Rattle.std.specs.List.{list_any};
+ghost use Rattle.std.specs.Prelude.{◌≡◌, ◌≤ℤ◌, IfOk, negsuc, pos};
 ghost use Rattle.std.specs.Option.{option_map, option_to_list};
 ghost use Rattle.sign_font.specs.Sign.{cell_of};
 ghost use Rattle.font_bdf.specs.Bitmap.{drawing_of};
 ghost use Rattle.font_bdf.specs.Font.{advance_in, after, before, cells_in, cells_of_block, drawing_in, size_of, width_of};
-ghost use Rattle.font_bdf.specs.Lines.{begins};
 ghost use Rattle.font_bdf.specs.Parts.{texts};
 ghost use Rattle.font_bdf.specs.Reading.{Gives};
 
@@ -16,7 +14,7 @@ use crate::numbers::{PixelBox, box_in, number_in, within};
 use crate::placed::placed;
 use crate::rows::FontBox;
 use crate::setting::{FontSetting, chosen, spacing_of};
-use crate::words::{begins, line_with, place_with};
+use crate::words::{line_with, place_with};
 use sign_font::CellPart;
 use std::alloc::Global;
 
@@ -53,13 +51,6 @@ fn size_of(pixels: PixelBox) -> Option<(u8, u8)>
     Some((columns as u8, rows as u8))
 }
 
-/// Whether one of these lines begins with a word.
-fn has_line(lines: &[&[u8]], word: &[u8]) -> bool
-    ensures { result ≡ list_any (begins word.now) (texts lines.now) }
-{
-    lines.iter().any(|line| begins(line, word))
-}
-
 /// The advance of a character: its own, or that of the head of the font. The first line of its header is the line `first` of the font.
 #[tactic(auto, unfolding(crate::specs::Font::advance_in))]
 fn advance_in(
@@ -70,7 +61,7 @@ fn advance_in(
 ) -> Result<i32, BdfFault>
     ensures { Gives (λ advance. advance) result (advance_in font (texts header.now)) }
 {
-    if has_line(header, b"DWIDTH") {
+    if line_with(header, b"DWIDTH").is_some() {
         return number_in(header, first, b"DWIDTH", missing);
     }
     match font.advance {
@@ -89,7 +80,8 @@ fn drawing_in<'a>(
     missing: BdfFault,
     at: usize,
 ) -> Result<Bitmap<'a>, BdfFault>
-    ensures { Gives drawing_of result (drawing_in font (texts header.now) (texts rows.now)) }
+    ensures drawing { Gives drawing_of result (drawing_in font (texts header.now) (texts rows.now)) }
+    ensures font { IfOk result (λ bitmap. bitmap.font ≡ font) }
 {
     let pixels = box_in(header, first, b"BBX", missing)?;
     let Some((columns, count)) = size_of(pixels) else {
@@ -101,9 +93,10 @@ fn drawing_in<'a>(
         left: 0,
         pixels,
         columns,
+        count,
         rows,
     };
-    match bitmap.check_rows(count, at) {
+    match bitmap.check_rows(at) {
         Ok(()) => Ok(bitmap),
         Err(fault) => Err(fault),
     }

@@ -1,10 +1,11 @@
 //! A bitmap in its cell.
 
-ghost use Rattle.std.specs.Prelude.{◌≡◌, ◌<◌, ◌≤ℤ◌, ◌∷◌, [], IfOk, Some, negsuc, pos};
+ghost use Rattle.std.specs.Prelude.{◌≡◌, ◌≢◌, ◌<◌, ◌≤ℤ◌, ◌+ℤ◌, ◌∷◌, [], IfErr, IfOk, Some, negsuc, pos};
+ghost use Rattle.std.specs.Int.{int_max, int_min};
 ghost use Rattle.std.specs.Option.{option_map, option_to_list};
 ghost use Rattle.sign_font.specs.Sign.{cell_of};
 ghost use Rattle.font_bdf.specs.Bitmap.{drawing_of};
-ghost use Rattle.font_bdf.specs.Font.{cell_with, fitting, placed, wide_of, widened};
+ghost use Rattle.font_bdf.specs.Font.{cell_with, cropped_cells, fitting, placed, wide_of, widened, widened_cells};
 ghost use Rattle.font_bdf.specs.Numbers.{within};
 ghost use Rattle.font_bdf.specs.Reading.{Gives};
 
@@ -19,6 +20,7 @@ use std::alloc::Global;
 fn columns_of(number: u16, wide: i64, at: usize) -> Result<u8, BdfFault>
     ensures width { Gives (λ width. width) result (within 1 64 wide) }
     ensures some { IfOk result (λ width. 0 < width) }
+    ensures fault { IfErr result (λ fault. fault.problem ≢ BdfProblem.Memory) }
 {
     match within(1, 64, wide) {
         Some(width) => Ok(width as u8),
@@ -37,6 +39,7 @@ fn columns_of(number: u16, wide: i64, at: usize) -> Result<u8, BdfFault>
 fn fitting(bitmap: &Bitmap<'_>, number: u16, wide: i64, at: usize) -> Result<u8, BdfFault>
     ensures width { Gives (λ width. width) result (fitting (drawing_of bitmap.now) wide bitmap.now.font.height) }
     ensures some { IfOk result (λ width. 0 < width) }
+    ensures fault { IfErr result (λ fault. fault.problem ≢ BdfProblem.Memory) }
 {
     let width = columns_of(number, wide, at)?;
     let height = bitmap.font.height;
@@ -77,12 +80,55 @@ fn cell_with(
 
 /// The bitmap in a cell that begins no further to the right than its box.
 fn widened<'a>(bitmap: &Bitmap<'a>) -> Bitmap<'a>
-    ensures { drawing_of result ≡ widened (drawing_of bitmap.now) }
+    ensures drawing { drawing_of result ≡ widened (drawing_of bitmap.now) }
+    ensures font { result.font ≡ bitmap.now.font }
 {
     Bitmap {
         left: bitmap.left.min(bitmap.pixels.x),
         ..*bitmap
     }
+}
+
+/// The column where a wider cell begins.
+fn begin_of(bitmap: &Bitmap<'_>) -> i64
+    ensures begin { result ≡ int_min bitmap.now.left bitmap.now.pixels.x }
+    ensures low { negsuc 4294967296 ≤ℤ result }
+    ensures high { result ≤ℤ pos 4294967296 }
+{
+    i64::from(bitmap.left.min(bitmap.pixels.x))
+}
+
+/// The column behind the cell.
+fn end_of(bitmap: &Bitmap<'_>, wide: i64) -> i64
+    requires low { negsuc 8589934592 ≤ℤ wide }
+    requires high { wide ≤ℤ pos 8589934592 }
+    ensures end { result ≡ bitmap.now.left +ℤ wide }
+    ensures low { negsuc 17179869184 ≤ℤ result }
+    ensures high { result ≤ℤ pos 17179869184 }
+{
+    i64::from(bitmap.left) + wide
+}
+
+/// The column behind the box of the character.
+fn edge_of(bitmap: &Bitmap<'_>) -> i64
+    ensures edge { result ≡ bitmap.now.pixels.x +ℤ pos bitmap.now.columns }
+    ensures low { negsuc 17179869184 ≤ℤ result }
+    ensures high { result ≤ℤ pos 17179869184 }
+{
+    i64::from(bitmap.pixels.x) + i64::from(bitmap.columns)
+}
+
+/// The last of two columns.
+fn last_of(one: i64, other: i64) -> i64
+    requires one_low { negsuc 17179869184 ≤ℤ one }
+    requires one_high { one ≤ℤ pos 17179869184 }
+    requires other_low { negsuc 17179869184 ≤ℤ other }
+    requires other_high { other ≤ℤ pos 17179869184 }
+    ensures last { result ≡ int_max one other }
+    ensures low { negsuc 17179869184 ≤ℤ result }
+    ensures high { result ≤ℤ pos 17179869184 }
+{
+    one.max(other)
 }
 
 /// The columns of that cell, which ends no further to the left than the box.
@@ -91,9 +137,43 @@ fn wide_of(bitmap: &Bitmap<'_>, wide: i64) -> i64
     requires high { wide ≤ℤ pos 8589934592 }
     ensures wide { result ≡ wide_of (drawing_of bitmap.now) wide }
 {
-    let left = i64::from(bitmap.left);
-    let edge = i64::from(bitmap.pixels.x) + i64::from(bitmap.columns);
-    (left + wide).max(edge) - left.min(i64::from(bitmap.pixels.x))
+    let last = last_of(end_of(bitmap, wide), edge_of(bitmap));
+    last - begin_of(bitmap)
+}
+
+/// The cell of a bitmap in a wider cell, where it fits that.
+fn widened_cell(
+    alloc: Global,
+    bitmap: &Bitmap<'_>,
+    number: u16,
+    wide: i64,
+    at: usize,
+) -> Result<Option<CellPart>, BdfFault>
+    requires low { negsuc 8589934592 ≤ℤ wide }
+    requires high { wide ≤ℤ pos 8589934592 }
+    ensures cells { Gives (λ cell. option_to_list (option_map cell_of cell)) result (widened_cells (drawing_of bitmap.now) number wide bitmap.now.font.height) }
+{
+    let wider = widened(bitmap);
+    match fitting(&wider, number, wide_of(bitmap, wide), at) {
+        Ok(width) => cell_with(alloc, &wider, number, width),
+        Err(fault) => Err(fault),
+    }
+}
+
+/// The cell of a bitmap, whatever is lit outside.
+fn cropped_cell(
+    alloc: Global,
+    bitmap: &Bitmap<'_>,
+    number: u16,
+    wide: i64,
+    at: usize,
+) -> Result<Option<CellPart>, BdfFault>
+    ensures { Gives (λ cell. option_to_list (option_map cell_of cell)) result (cropped_cells (drawing_of bitmap.now) number wide bitmap.now.font.height) }
+{
+    match columns_of(number, wide, at) {
+        Ok(width) => cell_with(alloc, bitmap, number, width),
+        Err(fault) => Err(fault),
+    }
 }
 
 /// The cell of a bitmap in a cell so many columns wide, or `None` if the character is left out. What is wrong is told of the line `at`
@@ -115,15 +195,8 @@ pub(crate) fn placed(
         Ok(width) => cell_with(alloc, bitmap, number, width),
         Err(fault) => match outside {
             Outside::Refuse => Err(fault),
-            Outside::Widen => {
-                let wider = widened(bitmap);
-                let width = fitting(&wider, number, wide_of(bitmap, wide), at)?;
-                cell_with(alloc, &wider, number, width)
-            }
-            Outside::Crop => {
-                let width = columns_of(number, wide, at)?;
-                cell_with(alloc, bitmap, number, width)
-            }
+            Outside::Widen => widened_cell(alloc, bitmap, number, wide, at),
+            Outside::Crop => cropped_cell(alloc, bitmap, number, wide, at),
             Outside::Skip => Ok(None),
         },
     }

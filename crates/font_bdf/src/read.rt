@@ -1,18 +1,17 @@
 //! A font in BDF.
 
-ghost use Rattle.std.specs.Prelude.{◌≡◌, ◌≢◌, [], IfOk, OnOk, map, slice_index_or, codes};
+ghost use Rattle.std.specs.Prelude.{◌≡◌, ◌≢◌, [], IfErr, IfOk, OnOk, map, slice_index_or, codes};
 ghost use Rattle.std.specs.List.{slice_split};
 ghost use Rattle.sign_font.specs.Sign.{cell_of, font_of};
 ghost use Rattle.font_bdf.specs.Font.{cropped, font_of_bdf, font_of_lines, font_of_parts, font_spaced, font_with, head_of, rows_in};
 ghost use Rattle.font_bdf.specs.Lines.{begins};
-ghost use Rattle.font_bdf.specs.Numbers.{number_in};
 ghost use Rattle.font_bdf.specs.Parts.{blocks_of, texts};
 ghost use Rattle.font_bdf.specs.Reading.{Gives};
 
 use crate::cells::{in_order, read_cells};
 use crate::character::parted_at;
 use crate::fault::{BdfFault, BdfProblem, fault_at};
-use crate::numbers::{box_in, number_in, within};
+use crate::numbers::{box_in, number_found, within};
 use crate::rows::{FontBox, padded, without_dark_rows};
 use crate::setting::{FontSetting, Outside, spacing_of};
 use crate::words::{begins, line_with, lines_of, place_with};
@@ -38,7 +37,7 @@ fn head_of(head: &[&[u8]], missing: BdfFault) -> Result<FontBox, BdfFault>
         let at = place_with(head, b"FONTBOUNDINGBOX");
         return Err(fault_at(1, at, BdfProblem::BadHeight(whole.height)));
     };
-    let advance = head_advance(head);
+    let advance = number_found(head, b"DWIDTH");
     Ok(FontBox {
         whole,
         advance,
@@ -46,14 +45,6 @@ fn head_of(head: &[&[u8]], missing: BdfFault) -> Result<FontBox, BdfFault>
         added: 0,
         height: height as u8,
     })
-}
-
-/// The advance in the head of a font, if one stands there.
-fn head_advance(head: &[&[u8]]) -> Option<i32>
-    ensures { result ≡ number_in (codes "DWIDTH") (texts head.now) }
-{
-    let missing = fault_at(0, 0, BdfProblem::NoNumbers);
-    number_in(head, 1, b"DWIDTH", missing).ok()
 }
 
 /// The box of a font without the rows at its top and at its bottom in which no cell has a pixel, where those are to be taken off.
@@ -142,7 +133,13 @@ fn font_of_parts(
     let at = place_with(head, b"FONTBOUNDINGBOX").saturating_add(1);
     let rows = rows_in(alloc, setting, font, blocks, first, at)?;
     let cells = read_cells(alloc, setting, rows, blocks, first)?;
-    font_with(alloc, setting, rows.height, cells, head.len().saturating_add(1))
+    font_with(
+        alloc,
+        setting,
+        rows.height,
+        cells,
+        head.len().saturating_add(1),
+    )
 }
 
 /// What is said of a font without a box: it is missing before the first bitmap, or before the end.
@@ -191,7 +188,8 @@ fn last_line(lines: &[&[u8]]) -> usize {
 
 /// Passes over each fault but that memory was refused.
 fn unless_memory(fault: BdfFault) -> Result<(), BdfFault>
-    ensures { OnOk result (fault.problem ≢ BdfProblem.Memory) }
+    ensures other { OnOk result (fault.problem ≢ BdfProblem.Memory) }
+    ensures memory { IfErr result (λ refused. refused.problem ≡ BdfProblem.Memory) }
 {
     match fault.problem {
         BdfProblem::Memory => Err(fault),

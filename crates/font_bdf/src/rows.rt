@@ -1,6 +1,7 @@
 //! The rows of the cells of a font.
 
-ghost use Rattle.std.specs.Prelude.{◌≡◌, ◌<◌, ◌-◌, if◌then◌else◌, map};
+ghost use Rattle.std.specs.Prelude.{◌≡◌, ◌<◌, ◌+◌, ◌-◌, ◌*◌, if◌then◌else◌, map, not};
+ghost use Rattle.std.specs.List.{list_all};
 ghost use Rattle.sign_font.specs.Cell.{is_set};
 ghost use Rattle.sign_font.specs.Sign.{cell_of};
 ghost use Rattle.font_bdf.specs.Font.{padded};
@@ -35,24 +36,40 @@ fn is_set(octets: &[u8], place: usize) -> bool
     (octet >> (7 - place % 8)) & 1 == 1
 }
 
+/// Whether a pixel of a cell is dark.
+fn is_dark_at(cell: &CellPart, row: u8, column: u8) -> bool
+    ensures { result ≡ not (is_set cell.now.bits.items (row * cell.now.width + column)) }
+{
+    !is_set(
+        &cell.bits,
+        usize::from(row) * usize::from(cell.width) + usize::from(column),
+    )
+}
+
 /// Whether a cell has no pixel in a row.
 fn is_dark_in(cell: &CellPart, row: u8) -> bool
     ensures { result ≡ is_dark_in (cell_of cell.now) row }
 {
-    let first = usize::from(row) * usize::from(cell.width);
     for column in 0..cell.width {
-        if is_set(&cell.bits, first + usize::from(column)) {
+        if !is_dark_at(cell, row, column) {
             return false;
         }
     }
     true
 }
 
+/// Whether each cell has no pixel in a row.
+fn are_dark_in(cells: &[CellPart], row: u8) -> bool
+    ensures { result ≡ list_all (λ cell. is_dark_in (cell_of cell) row) cells.now }
+{
+    cells.iter().all(|cell| is_dark_in(cell, row))
+}
+
 /// Whether no cell has a pixel in a row.
 fn is_dark_row(cells: &[CellPart], row: u8) -> bool
     ensures { result ≡ is_dark_row (map cell_of cells.now) row }
 {
-    cells.iter().all(|cell| is_dark_in(cell, row))
+    are_dark_in(cells, row)
 }
 
 /// A row of so many, counted from the top or from the bottom.

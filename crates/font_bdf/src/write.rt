@@ -71,7 +71,7 @@ fn push_spacing(
     push_number(text, u64::from(font.char_spacing))?;
     let source: &[u8] = match setting.char_spacing {
         Some(_) => b"\n",
-        None if font.char_spacing == 0 => b" # the cells have their gaps\n",
+        None if font.char_spacing == 0 => b" # not every cell had a dark last column\n",
         None => b" # each cell had a dark last column\n",
     };
     text.extend_from_slice(source)
