@@ -5,3 +5,4 @@ pub mod BlockLemmas
 pub mod TableLemmas
 pub mod FontRows
 pub mod RowLemmas
+pub mod PlacedLemmas

@@ -1,6 +1,6 @@
 //! A bitmap in its cell.
 
-ghost use Rattle.std.specs.Prelude.{◌≡◌, ◌≢◌, ◌<◌, ◌≤ℤ◌, ◌+ℤ◌, ◌∷◌, [], IfErr, IfOk, Some, negsuc, pos};
+ghost use Rattle.std.specs.Prelude.{◌≡◌, ◌≢◌, ◌<◌, ◌≤ℤ◌, ◌+ℤ◌, ◌-ℤ◌, ◌∷◌, [], IfErr, IfOk, Some, negsuc, pos};
 ghost use Rattle.std.specs.Int.{int_max, int_min};
 ghost use Rattle.std.specs.Option.{option_map, option_to_list};
 ghost use Rattle.sign_font.specs.Sign.{cell_of};
@@ -131,6 +131,17 @@ fn last_of(one: i64, other: i64) -> i64
     one.max(other)
 }
 
+/// How many columns there are from one to another.
+fn apart(last: i64, begin: i64) -> i64
+    requires last_low { negsuc 17179869184 ≤ℤ last }
+    requires last_high { last ≤ℤ pos 17179869184 }
+    requires begin_low { negsuc 4294967296 ≤ℤ begin }
+    requires begin_high { begin ≤ℤ pos 4294967296 }
+    ensures columns { result ≡ last -ℤ begin }
+{
+    last - begin
+}
+
 /// The columns of that cell, which ends no further to the left than the box.
 fn wide_of(bitmap: &Bitmap<'_>, wide: i64) -> i64
     requires low { negsuc 8589934592 ≤ℤ wide }
@@ -138,7 +149,7 @@ fn wide_of(bitmap: &Bitmap<'_>, wide: i64) -> i64
     ensures wide { result ≡ wide_of (drawing_of bitmap.now) wide }
 {
     let last = last_of(end_of(bitmap, wide), edge_of(bitmap));
-    last - begin_of(bitmap)
+    apart(last, begin_of(bitmap))
 }
 
 /// The cell of a bitmap in a wider cell, where it fits that.
