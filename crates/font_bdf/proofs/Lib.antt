@@ -4,3 +4,5 @@ pub mod CellLemmas
 pub mod BlockLemmas
 pub mod TableLemmas
 pub mod FontRows
+pub mod RowLemmas
+pub mod PlacedLemmas

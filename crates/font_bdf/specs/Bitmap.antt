@@ -8,16 +8,30 @@ use Rattle.font_bdf.specs.Lines.{word_at}
 use Rattle.octet_text.specs.Digits.{is_digit}
 use Rattle.font_bdf.specs.Parts.{texts}
 
--- a bitmap: the box of the font, the box of the character, its columns as a count, and the lines of its rows from the top (BDF, BITMAP)
+-- a bitmap in a cell: the box of the font, how many rows the cells have fewer and more than it at the top, where the cell begins, counted
+-- in columns from the origin, the box of the character, its columns and rows as counts, and the lines of its rows from the top (BDF, BITMAP)
 pub record Drawing : Type 0 where
   pub whole : PixelBox
+  pub above : ℕ
+  pub added : ℕ
+  pub left : ℤ
   pub pixels : PixelBox
   pub columns : ℕ
+  pub count : ℕ
   pub rows : List (List ℕ)
 
 -- the bitmap, wherever its lines stand in memory (own)
 abbrev pub drawing_of : Bitmap → Drawing
-drawing_of bitmap = record { whole = bitmap.whole; pixels = bitmap.pixels; columns = bitmap.columns; rows = texts bitmap.rows.now }
+drawing_of bitmap = record {
+  whole = bitmap.font.whole;
+  above = bitmap.font.above;
+  added = bitmap.font.added;
+  left = bitmap.left;
+  pixels = bitmap.pixels;
+  columns = bitmap.columns;
+  count = bitmap.count;
+  rows = texts bitmap.rows.now;
+}
 
 -- the digits of a row, which are the first word of its line (BDF, BITMAP)
 abbrev pub digits_at : Drawing → ℕ → List ℕ
@@ -43,14 +57,15 @@ digits_of columns = 2 * ((columns + 7) / 8)
 unfoldable pub is_row : ℕ → List ℕ → Bool
 is_row columns digits = length digits == digits_of columns && list_all is_hex digits
 
--- the column of the cell in which a column of the box stands: the cell begins at the origin (BDF, BBX)
+-- the column of the cell in which a column of the box stands (BDF, BBX)
 abbrev pub column_of : Drawing → ℕ → ℤ
-column_of drawing column = drawing.pixels.x +ℤ pos column
+column_of drawing column = (drawing.pixels.x -ℤ drawing.left) +ℤ pos column
 
--- the row of the cell in which the upper row of the box stands: the cell is as high as the box of the font (BDF, BBX and
--- FONTBOUNDINGBOX)
+-- the row of the cell in which the upper row of the box stands: the cell begins at the upper edge of the box of the font, but for the
+-- rows that are taken off or added there (BDF, BBX and FONTBOUNDINGBOX)
 abbrev pub top_of : Drawing → ℤ
-top_of drawing = (drawing.whole.y +ℤ drawing.whole.height) -ℤ (drawing.pixels.y +ℤ drawing.pixels.height)
+top_of drawing =
+    ((drawing.whole.y +ℤ drawing.whole.height) +ℤ (pos drawing.added -ℤ pos drawing.above)) -ℤ (drawing.pixels.y +ℤ drawing.pixels.height)
 
 -- the row of the cell in which a row of the box stands (BDF, BBX and FONTBOUNDINGBOX)
 abbrev pub row_of : Drawing → ℕ → ℤ
@@ -69,15 +84,18 @@ is_inside drawing width height column row = is_below width (column_of drawing co
 abbrev pub is_fine : Drawing → ℕ → ℕ → ℕ → ℕ → Bool
 is_fine drawing width height row column = not (is_bit (digits_at drawing row) column) || is_inside drawing width height column row
 
--- whether a line is a row of the box that lights no pixel outside the cell (own)
-unfoldable pub is_good_row : Drawing → ℕ → ℕ → ℕ → Bool
-is_good_row drawing width height row =
-    is_row drawing.columns (digits_at drawing row) && list_all (is_fine drawing width height row) (range_with_len 0 drawing.columns)
+-- whether each line is a row of the box, and there is one for each (BDF, BITMAP)
+unfoldable pub is_whole : Drawing → Bool
+is_whole drawing =
+    length drawing.rows == drawing.count && list_all (λ row. is_row drawing.columns (digits_at drawing row)) (range_with_len 0 (length drawing.rows))
 
--- whether each line is such a row, and there is one for each row of the box (own)
-unfoldable pub is_good : Drawing → ℕ → ℕ → ℕ → Bool
-is_good drawing count width height =
-    length drawing.rows == count && list_all (is_good_row drawing width height) (range_with_len 0 (length drawing.rows))
+-- whether a row of the box lights no pixel outside the cell (own)
+abbrev pub is_fine_row : Drawing → ℕ → ℕ → ℕ → Bool
+is_fine_row drawing width height row = list_all (is_fine drawing width height row) (range_with_len 0 drawing.columns)
+
+-- whether the bitmap lights no pixel outside the cell (own)
+unfoldable pub is_within : Drawing → ℕ → ℕ → Bool
+is_within drawing width height = list_all (is_fine_row drawing width height) (range_with_len 0 drawing.count)
 
 -- whether the bit of a place in the box is set; outside it no bit is (BDF, BITMAP)
 unfoldable pub is_set_at : Drawing → ℤ → ℤ → Bool
@@ -89,7 +107,7 @@ is_set_at drawing (negsuc column) (negsuc row) = false
 
 -- whether the pixel of a column and a row of the cell is lit: it lies in the box, and the bit of its row is set (BDF, BITMAP)
 unfoldable pub is_lit : Drawing → ℕ → ℕ → Bool
-is_lit drawing column row = is_set_at drawing (pos column -ℤ drawing.pixels.x) (pos row -ℤ top_of drawing)
+is_lit drawing column row = is_set_at drawing ((pos column +ℤ drawing.left) -ℤ drawing.pixels.x) (pos row -ℤ top_of drawing)
 
 -- whether the pixel at a place among those of the cell is lit: they stand in rows from the top, each from the left (own)
 abbrev pub is_lit_at : Drawing → ℕ → ℕ → ℕ → Bool

@@ -4,4 +4,5 @@ pub mod Lines
 pub mod Numbers
 pub mod Parts
 pub mod Reading
+pub mod Rows
 pub mod Tables

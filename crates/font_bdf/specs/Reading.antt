@@ -5,7 +5,7 @@ use Rattle.sign_font.specs.Sign.{CellData}
 use Rattle.font_bdf.specs.declared.fault.BdfFault.{BdfFault}
 use Rattle.font_bdf.specs.declared.fault.BdfProblem.{BdfProblem}
 use Rattle.font_bdf.specs.declared.fault.BdfProblem.TheVariants.{Memory, NotTaken}
-use Rattle.font_bdf.specs.declared.numbers.PixelBox.{PixelBox}
+use Rattle.font_bdf.specs.declared.rows.FontBox.{FontBox}
 use Rattle.font_bdf.specs.declared.setting.FontSetting.{FontSetting}
 use Rattle.font_bdf.specs.Font.{cells_of, if_apart}
 use Rattle.font_bdf.specs.Lines.{◌>>=◌}
@@ -28,5 +28,5 @@ abbrev pub IsApart : List CellData → Type 0
 IsApart cells = if_apart cells ≡ Some cells
 
 -- the cells of a font, where these were read and these characters are left (own)
-unfoldable pub cells_with : List CellData → FontSetting → PixelBox → ℕ → List (List (List ℕ)) → Option (List CellData)
-cells_with read setting whole height blocks = option_map (λ others. read ++ others) (cells_of setting whole height blocks) >>= if_apart
+unfoldable pub cells_with : List CellData → FontSetting → FontBox → List (List (List ℕ)) → Option (List CellData)
+cells_with read setting font blocks = option_map (λ others. read ++ others) (cells_of setting font blocks) >>= if_apart

@@ -1,5 +1,5 @@
 -- What is written of a font: a table that makes a sign file whole.
-use Rattle.std.specs.Prelude.{ℕ, Bool, true, false, ◌&&◌, ◌==◌, List, [], ◌∷◌, ◌++◌, ◌≡◌, Option, None, Some, is_none, codes, length}
+use Rattle.std.specs.Prelude.{ℕ, Bool, true, false, ◌&&◌, ◌==◌, nat_le, List, [], ◌∷◌, ◌++◌, ◌≡◌, Option, None, Some, is_none, codes, length}
 use Rattle.std.specs.Option.{option_map}
 use Rattle.sign_font.specs.Limits.{first_fault}
 use Rattle.sign_font.specs.Sign.{FontData, SignData}
@@ -11,12 +11,17 @@ use Rattle.font_bdf.specs.Font.{font_of_bdf}
 unfoldable pub front : List ℕ
 front = codes "width = 1024\nheight = 128\nscheme = 'classic'\nmax_pages = 1\nslots = 1\nbytes = 0\nmax_string = 1\n[defaults]\nfont = 1\nline = 3\npage = 3\npage_on = 0\npage_off = 0\nflash_on = 0\nflash_off = 0\nfore = 1\nback = 0\n"
 
+-- whether a spacing is the one that was told, or where none was, at most 1 (own)
+abbrev pub is_spaced : Option ℕ → ℕ → Bool
+is_spaced None spacing = nat_le spacing 1
+is_spaced (Some told) spacing = spacing == told
+
 -- whether there is one font, and it has the numbers of a setting (own)
 abbrev pub is_one_font : FontSetting → List FontData → Bool
 is_one_font setting [] = false
 is_one_font setting (font ∷ []) =
     (font.number == setting.number) && ((font.version == setting.version)
-    && ((font.char_spacing == setting.char_spacing) && (font.line_spacing == setting.line_spacing)))
+    && (is_spaced setting.char_spacing font.char_spacing && (font.line_spacing == setting.line_spacing)))
 is_one_font setting (font ∷ other ∷ fonts) = false
 
 -- the sign whose default font has this number (own)

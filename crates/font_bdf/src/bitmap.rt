@@ -2,22 +2,27 @@
 
 ghost use Rattle.std.specs.Prelude.{◌≡◌, ◌<◌, if◌then◌else◌, true, false, IfOk, MatchOption, MatchResult, ◌+ℤ◌, ◌-ℤ◌, ◌≤ℤ◌, ◌^◌, negsuc, pos};
 ghost use Rattle.std.specs.List.{list_all, range_with_len};
-ghost use Rattle.font_bdf.specs.Bitmap.{bits_value, column_of, digits_at, digits_of, drawing_of, hex_value, is_below, is_bit, is_fine, is_good, is_good_row, is_hex, is_inside, is_lit, is_lit_at, is_row, is_set_at, octets_of, row_of, top_of};
+ghost use Rattle.font_bdf.specs.Bitmap.{bits_value, column_of, digits_at, digits_of, drawing_of, hex_value, is_below, is_bit, is_fine, is_fine_row, is_hex, is_inside, is_lit, is_lit_at, is_row, is_set_at, is_whole, is_within, octets_of, row_of, top_of};
 
 use crate::fault::{BdfFault, BdfProblem, fault_at};
 use crate::numbers::PixelBox;
+use crate::rows::FontBox;
 use crate::words::word_at;
 use std::alloc::{AllocError, Global};
 
 /// The bitmap of a character (BDF, BITMAP).
 #[derive(Clone, Copy)]
 pub(crate) struct Bitmap<'a> {
-    /// The box of the font.
-    pub(crate) whole: PixelBox,
+    /// The box of the cells of the font.
+    pub(crate) font: FontBox,
+    /// Where the cell begins, counted in columns from the origin.
+    pub(crate) left: i32,
     /// The box of the character.
     pub(crate) pixels: PixelBox,
     /// Its columns.
     pub(crate) columns: u8,
+    /// Its rows.
+    pub(crate) count: u8,
     /// The lines of its rows, from the top.
     pub(crate) rows: &'a [&'a [u8]],
 }
@@ -91,7 +96,7 @@ impl<'a> Bitmap<'a> {
     fn column_of(&self, column: u8) -> i64
         ensures { result ≡ column_of (drawing_of self.now) column }
     {
-        i64::from(self.pixels.x) + i64::from(column)
+        i64::from(self.pixels.x) - i64::from(self.left) + i64::from(column)
     }
 
     /// The row of the cell in which the upper row of the box stands.
@@ -100,11 +105,11 @@ impl<'a> Bitmap<'a> {
         ensures low { negsuc 17179869184 ≤ℤ result }
         ensures high { result ≤ℤ pos 17179869184 }
     {
-        upper_edge(self.whole) - upper_edge(self.pixels)
+        cells_edge(self.font) - upper_edge(self.pixels)
     }
 
     /// The row of the cell in which a row of the box stands.
-    fn row_of(&self, row: u32) -> i64
+    fn row_of(&self, row: u8) -> i64
         ensures { result ≡ row_of (drawing_of self.now) row }
     {
         self.top_of() + i64::from(row)
@@ -112,25 +117,25 @@ impl<'a> Bitmap<'a> {
 
     /// Whether a pixel of the box stands in the cell.
     #[tactic(auto, unfolding(crate::specs::Bitmap::is_inside))]
-    fn is_inside(&self, width: u8, height: u8, column: u8, row: u32) -> bool
+    fn is_inside(&self, width: u8, height: u8, column: u8, row: u8) -> bool
         ensures { result ≡ is_inside (drawing_of self.now) width height column row }
     {
         is_below(width, self.column_of(column)) && is_below(height, self.row_of(row))
     }
 
     /// Whether a pixel of the box is dark or stands in the cell.
-    fn is_fine(&self, width: u8, height: u8, row: u32, column: u8) -> bool
+    fn is_fine(&self, width: u8, height: u8, row: u8, column: u8) -> bool
         ensures { result ≡ is_fine (drawing_of self.now) width height row column }
     {
-        !is_bit(self.digits_at(row as usize), usize::from(column))
+        !is_bit(self.digits_at(usize::from(row)), usize::from(column))
             || self.is_inside(width, height, column, row)
     }
 
     /// The first pixel of a row that is lit outside the cell.
-    fn outside(&self, width: u8, height: u8, row: u32) -> Option<u8>
+    fn outside_in(&self, width: u8, height: u8, row: u8) -> Option<u8>
         ensures { MatchOption result
-            (list_all (is_fine (drawing_of self.now) width height row) (range_with_len 0 self.now.columns) ≡ true)
-            (λ column. list_all (is_fine (drawing_of self.now) width height row) (range_with_len 0 self.now.columns) ≡ false) }
+            (is_fine_row (drawing_of self.now) width height row ≡ true)
+            (λ column. is_fine_row (drawing_of self.now) width height row ≡ false) }
     {
         for column in 0..self.columns {
             if !self.is_fine(width, height, row, column) {
@@ -140,27 +145,20 @@ impl<'a> Bitmap<'a> {
         None
     }
 
-    /// Whether a line is a row of the box that lights no pixel outside the cell.
-    #[tactic(auto, unfolding(crate::specs::Bitmap::is_good_row))]
-    fn check_row(&self, width: u8, height: u8, row: u32, first: usize) -> Result<(), BdfFault>
-        ensures { MatchResult result (λ _. is_good_row (drawing_of self.now) width height row ≡ true) (λ _. is_good_row (drawing_of self.now) width height row ≡ false) }
+    /// The first pixel that is lit outside the cell: its column and its row in the cell.
+    #[tactic(auto, unfolding(crate::specs::Bitmap::is_within))]
+    pub(crate) fn outside(&self, width: u8, height: u8) -> Option<(i64, i64)>
+        ensures { MatchOption result
+            (is_within (drawing_of self.now) width height ≡ true)
+            (λ place. is_within (drawing_of self.now) width height ≡ false) }
     {
-        if !is_row(self.columns, self.digits_at(row as usize)) {
-            let digits = digits_of(self.columns);
-            return Err(fault_at(first, row as usize, BdfProblem::BadRow(digits)));
-        }
-        match self.outside(width, height, row) {
-            None => Ok(()),
-            Some(column) => {
-                let problem = BdfProblem::Outside {
-                    column: self.column_of(column),
-                    row: self.row_of(row),
-                    width,
-                    height,
-                };
-                Err(fault_at(first, row as usize, problem))
+        for row in 0..self.count {
+            match self.outside_in(width, height, row) {
+                Some(column) => return Some((self.column_of(column), self.row_of(row))),
+                None => {}
             }
         }
+        None
     }
 
     /// Whether the bit of a place in the box is set.
@@ -179,9 +177,9 @@ impl<'a> Bitmap<'a> {
 
     /// The column of the box in which a column of the cell stands.
     fn across(&self, column: u8) -> i64
-        ensures { result ≡ pos column -ℤ self.now.pixels.x }
+        ensures { result ≡ (pos column +ℤ self.now.left) -ℤ self.now.pixels.x }
     {
-        i64::from(column) - i64::from(self.pixels.x)
+        i64::from(column) + i64::from(self.left) - i64::from(self.pixels.x)
     }
 
     /// The row of the box in which a row of the cell stands.
@@ -209,29 +207,29 @@ impl<'a> Bitmap<'a> {
             && self.is_lit((place % width) as u8, (place / width) as u8)
     }
 
-    /// Whether each line is a row of the box that lights no pixel outside the cell, and there is one for each row of the box. The
-    /// first of them is the line `first` of the font.
-    #[tactic(auto, unfolding(crate::specs::Bitmap::is_good, crate::specs::Bitmap::is_good_row), using(crate::proofs::BitmapLemmas::all_stops))]
-    pub(crate) fn check_rows(
-        &self,
-        count: u8,
-        width: u8,
-        height: u8,
-        first: usize,
-    ) -> Result<(), BdfFault>
-        ensures { MatchResult result (λ _. is_good (drawing_of self.now) count width height ≡ true) (λ _. is_good (drawing_of self.now) count width height ≡ false) }
+    /// Whether a line is a row of the box.
+    fn is_row_at(&self, row: usize) -> bool
+        ensures { result ≡ is_row self.now.columns (digits_at (drawing_of self.now) row) }
     {
+        is_row(self.columns, self.digits_at(row))
+    }
+
+    /// Whether each line is a row of the box, and there is one for each row of the box. The first of them is the line `first` of the
+    /// font.
+    #[tactic(auto, unfolding(crate::specs::Bitmap::is_whole), using(crate::proofs::BitmapLemmas::all_stops))]
+    pub(crate) fn check_rows(&self, first: usize) -> Result<(), BdfFault>
+        ensures { MatchResult result (λ _. is_whole (drawing_of self.now) ≡ true) (λ _. is_whole (drawing_of self.now) ≡ false) }
+    {
+        let digits = digits_of(self.columns);
         for row in 0..self.rows.len() {
-            if row >= usize::from(count) {
+            if row >= usize::from(self.count) {
                 return Err(fault_at(first, row, BdfProblem::BadRows));
             }
-            match self.check_row(width, height, row as u32, first) {
-                Ok(()) => {}
-                Err(fault) => return Err(fault),
+            if !self.is_row_at(row) {
+                return Err(fault_at(first, row, BdfProblem::BadRow(digits)));
             }
         }
-        if self.rows.len() < usize::from(count) {
-            let digits = digits_of(self.columns);
+        if self.rows.len() < usize::from(self.count) {
             return Err(fault_at(first, self.rows.len(), BdfProblem::BadRow(digits)));
         }
         Ok(())
@@ -290,6 +288,24 @@ fn upper_edge(pixels: PixelBox) -> i64
     ensures high { result ≤ℤ pos 4294967296 }
 {
     i64::from(pixels.y) + i64::from(pixels.height)
+}
+
+/// How many rows are added to a font at its top, less than 0 if some are taken off.
+fn rows_added(font: FontBox) -> i64
+    ensures rows { result ≡ pos font.added -ℤ pos font.above }
+    ensures low { negsuc 256 ≤ℤ result }
+    ensures high { result ≤ℤ pos 256 }
+{
+    i64::from(font.added) - i64::from(font.above)
+}
+
+/// The row above the upper edge of the cells of a font, counted from the base line.
+fn cells_edge(font: FontBox) -> i64
+    ensures edge { result ≡ (font.whole.y +ℤ font.whole.height) +ℤ (pos font.added -ℤ pos font.above) }
+    ensures low { negsuc 8589934592 ≤ℤ result }
+    ensures high { result ≤ℤ pos 8589934592 }
+{
+    upper_edge(font.whole) + rows_added(font)
 }
 
 /// Whether a number is at least 0 and below a limit.

@@ -24,9 +24,12 @@ pub enum BdfProblem {
     /// A character begins, or the font ends, before `FONTBOUNDINGBOX`.
     #[error("FONTBOUNDINGBOX is missing")]
     NoBox,
-    /// The box of the font is not 1 to 64 rows high.
-    #[error("the font is {0} rows high, and may have 1 to 64")]
+    /// The cells are not 1 to 64 rows high.
+    #[error("the cells are {0} rows high, and may have 1 to 64; --crop takes off rows without pixels")]
     BadHeight(i32),
+    /// The cells have more rows than were asked for.
+    #[error("the cells are {0} rows high, more than --height; --crop takes off rows without pixels")]
+    TooHigh(u8),
     /// Numbers are missing, or what stands there are no numbers of 1 to 9 digits.
     #[error("numbers are missing, or aren't whole numbers")]
     BadNumbers,
@@ -37,10 +40,15 @@ pub enum BdfProblem {
     #[error("ENCODING, DWIDTH or BBX is missing before BITMAP")]
     NoNumbers,
     /// The cell of a character is not 1 to 64 columns wide.
-    #[error("the cell is {0} columns wide, and may have 1 to 64")]
-    BadWidth(i64),
-    /// The box of a character has more than 64 columns or rows.
-    #[error("the box of a character may have 0 to 64 columns and rows")]
+    #[error("character {character}: the cell is {width} columns wide, and may have 1 to 64; --outside skip leaves it out")]
+    BadWidth {
+        /// The character's number.
+        character: u16,
+        /// The columns of its cell.
+        width: i64,
+    },
+    /// The box of a character has more than 255 columns or rows.
+    #[error("the box of a character may have 0 to 255 columns and rows")]
     BadBox,
     /// A row of a bitmap isn't the hexadecimal digits of its box; there may be too few rows.
     #[error("a row of this box has {0} hexadecimal digits")]
@@ -49,8 +57,10 @@ pub enum BdfProblem {
     #[error("the bitmap has more rows than its box, or ENDCHAR is missing")]
     BadRows,
     /// A pixel is lit outside the cell.
-    #[error("a pixel is lit outside the cell: column {column}, row {row}, counted from 0; the cell has {width} by {height}")]
+    #[error("character {character}: a pixel is lit outside the cell: column {column}, row {row}, counted from 0; the cell has {width} by {height}; --outside widen makes columns for it, crop leaves the pixel out, skip the character")]
     Outside {
+        /// The character's number.
+        character: u16,
         /// The pixel's column in the cell, counted from 0 at the left.
         column: i64,
         /// The pixel's row in the cell, counted from 0 at the top.
@@ -64,8 +74,11 @@ pub enum BdfProblem {
     #[error("character {0} is there already")]
     Twice(u16),
     /// There are more than 255 characters.
-    #[error("more than 255 characters")]
-    TooMany,
+    #[error("{0} characters, and a font of a sign has at most 255; --characters chooses, as in --characters A-Z,0-9,32")]
+    TooMany(usize),
+    /// No character is taken.
+    #[error("none of these characters is taken; --characters chooses")]
+    NoCharacter,
     /// The font has no end.
     #[error("ENDFONT is missing")]
     NoEndOfFont,

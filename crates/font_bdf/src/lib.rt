@@ -3,8 +3,8 @@
 //! [`font_tables`] reads a font in BDF, the Glyph Bitmap Distribution Format in which most fonts of pixels are kept, and writes it
 //! as the `[[font]]` table of a sign file. [`read_font`] reads it alone.
 //!
-//! A cell is as high as the box of the font, and as wide as its character's advance less the spacing between characters. What is
-//! written was read back as a part of a sign file: it has the font that was read, and a sign with this font has no fault.
+//! A cell is as high as the box of the font, and as wide as its character's advance less the spacing between characters, unless a
+//! [`FontSetting`] asks for another. What is written was read back as a part of a sign file: it has the font that was read, and a sign with this font has no fault.
 #![tactic(auto)]
 
 mod bitmap;
@@ -12,13 +12,16 @@ mod cells;
 mod character;
 mod fault;
 mod numbers;
+mod placed;
 mod read;
+mod rows;
 mod same;
 mod setting;
+mod told;
 mod words;
 mod write;
 
 pub use fault::{BdfFault, BdfProblem};
 pub use read::read_font;
-pub use setting::FontSetting;
+pub use setting::{CharacterRange, FontSetting, Outside};
 pub use write::font_tables;

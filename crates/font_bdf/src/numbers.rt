@@ -102,6 +102,17 @@ fn found<'a>(lines: &[&'a [u8]], word: &[u8]) -> Option<(usize, &'a [u8])>
     }
 }
 
+/// The number on the first of these lines that begins with a word, if one stands there.
+#[tactic(auto, unfolding(crate::specs::Numbers::number_in))]
+pub(crate) fn number_found(lines: &[&[u8]], word: &[u8]) -> Option<i32>
+    ensures { result ≡ number_in word.now (texts lines.now) }
+{
+    match found(lines, word) {
+        Some((_, line)) => number_at(line, 1),
+        None => None,
+    }
+}
+
 /// The number on the first of these lines that begins with a word. The first of them is the line `first` of the font.
 #[tactic(auto, unfolding(crate::specs::Numbers::number_in))]
 pub(crate) fn number_in(

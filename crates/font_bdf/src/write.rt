@@ -5,12 +5,13 @@ ghost use Rattle.sign_font.specs.Limits.{first_fault};
 ghost use Rattle.sign_font.specs.Sign.{font_of, sign_of};
 ghost use Rattle.font_bdf.specs.Font.{font_of_bdf};
 ghost use Rattle.font_bdf.specs.Reading.{IsLater};
-ghost use Rattle.font_bdf.specs.Tables.{IsFontTable, IsTableOf, front, is_one_font, with_font};
+ghost use Rattle.font_bdf.specs.Tables.{IsFontTable, IsTableOf, front, is_one_font, is_spaced, with_font};
 
 use crate::fault::{BdfFault, BdfProblem};
 use crate::read::read_font;
 use crate::same::is_same_font;
 use crate::setting::FontSetting;
+use crate::told::{not_fitting, word_of};
 use itoa::Buffer;
 use sign_file::{FileFault, read_sign_file};
 use sign_font::{CellPart, Defaults, FontPart, Sign, SignFault, SignParts};
@@ -60,13 +61,52 @@ fn push_cell(text: &mut Vec<u8>, cell: &CellPart) -> Result<(), AllocError> {
     text.extend_from_slice(b"\n")
 }
 
+/// Appends the line of the spacing between characters, and says where it comes from if none was told.
+fn push_spacing(
+    text: &mut Vec<u8>,
+    font: &FontPart,
+    setting: &FontSetting<'_>,
+) -> Result<(), AllocError> {
+    text.extend_from_slice(b"char_spacing = ")?;
+    push_number(text, u64::from(font.char_spacing))?;
+    let source: &[u8] = match setting.char_spacing {
+        Some(_) => b"\n",
+        None if font.char_spacing == 0 => b" # not every cell had a dark last column\n",
+        None => b" # each cell had a dark last column\n",
+    };
+    text.extend_from_slice(source)
+}
+
+/// Appends a line that tells which characters didn't fit, and what was done with them.
+fn push_told(
+    text: &mut Vec<u8>,
+    setting: &FontSetting<'_>,
+    numbers: &[u16],
+) -> Result<(), AllocError> {
+    if numbers.is_empty() {
+        return Ok(());
+    }
+    text.extend_from_slice(b"# ")?;
+    text.extend_from_slice(word_of(setting.outside).as_bytes())?;
+    text.extend_from_slice(b":")?;
+    for number in numbers {
+        text.extend_from_slice(b" ")?;
+        push_number(text, u64::from(*number))?;
+    }
+    text.extend_from_slice(b"\n")
+}
+
 /// Appends the table of a font.
-fn push_font(text: &mut Vec<u8>, font: &FontPart) -> Result<(), AllocError> {
+fn push_font(
+    text: &mut Vec<u8>,
+    font: &FontPart,
+    setting: &FontSetting<'_>,
+) -> Result<(), AllocError> {
     text.extend_from_slice(b"[[font]]\n")?;
     push_key(text, "number", u64::from(font.number))?;
     push_key(text, "version", u64::from(font.version))?;
     push_key(text, "height", u64::from(font.height))?;
-    push_key(text, "char_spacing", u64::from(font.char_spacing))?;
+    push_spacing(text, font, setting)?;
     push_key(text, "line_spacing", u64::from(font.line_spacing))?;
     text.extend_from_slice(b"cell = [\n")?;
     for cell in &font.cells {
@@ -75,15 +115,39 @@ fn push_font(text: &mut Vec<u8>, font: &FontPart) -> Result<(), AllocError> {
     text.extend_from_slice(b"]\n")
 }
 
+/// The table of a font, and before it what is told of the characters that didn't fit.
+fn text_of(
+    alloc: Global,
+    octets: &[u8],
+    font: &FontPart,
+    setting: &FontSetting<'_>,
+) -> Result<Vec<u8>, AllocError> {
+    let mut text = Vec::new(alloc);
+    let numbers = not_fitting(alloc, octets, setting, font)?;
+    push_told(&mut text, setting, &numbers)?;
+    push_font(&mut text, font, setting)?;
+    Ok(text)
+}
+
+/// Whether this spacing is the one that was told, or where none was, at most 1.
+fn is_spaced(told: Option<u8>, spacing: u8) -> bool
+    ensures { result ≡ is_spaced told spacing }
+{
+    match told {
+        None => spacing <= 1,
+        Some(told) => spacing == told,
+    }
+}
+
 /// Whether these fonts are one, by a setting.
-fn is_one_font(fonts: &[FontPart], setting: &FontSetting) -> bool
+fn is_one_font(fonts: &[FontPart], setting: &FontSetting<'_>) -> bool
     ensures { result ≡ is_one_font setting.now (map font_of fonts.now) }
 {
     match fonts {
         [font] => {
             font.number == setting.number
                 && font.version == setting.version
-                && font.char_spacing == setting.char_spacing
+                && is_spaced(setting.char_spacing, font.char_spacing)
                 && font.line_spacing == setting.line_spacing
         }
         _ => false,
@@ -133,7 +197,7 @@ fn take_table(
     alloc: Global,
     table: &[u8],
     font: &FontPart,
-    setting: &FontSetting,
+    setting: &FontSetting<'_>,
 ) -> Result<(), BdfProblem>
     ensures taken { OnOk result (IsTableOf setting.now (font_of font.now) table.now) }
     ensures problem { IfErr result IsLater }
@@ -160,12 +224,16 @@ fn take_table(
 }
 
 /// The table of a font, which signs take.
-fn table_of(alloc: Global, font: &FontPart, setting: &FontSetting) -> Result<Vec<u8>, BdfProblem>
+fn table_of(
+    alloc: Global,
+    octets: &[u8],
+    font: &FontPart,
+    setting: &FontSetting<'_>,
+) -> Result<Vec<u8>, BdfProblem>
     ensures table { IfOk result (λ table. IsTableOf setting.now (font_of font.now) table.items) }
     ensures problem { IfErr result IsLater }
 {
-    let mut table = Vec::new(alloc);
-    let Ok(()) = push_font(&mut table, font) else {
+    let Ok(table) = text_of(alloc, octets, font, setting) else {
         return Err(BdfProblem::Memory);
     };
     match take_table(alloc, &table, font, setting) {
@@ -181,7 +249,11 @@ fn table_of(alloc: Global, font: &FontPart, setting: &FontSetting) -> Result<Vec
 ///
 /// The error has a line that is wrong, and what is wrong there. It is `NotTaken` only for the number 0. If it is neither
 /// `NotTaken` nor `Memory`, the octets are no font in BDF that is taken with this setting.
-pub fn font_tables(alloc: Global, octets: &[u8], setting: &FontSetting) -> Result<Vec<u8>, BdfFault>
+pub fn font_tables(
+    alloc: Global,
+    octets: &[u8],
+    setting: &FontSetting<'_>,
+) -> Result<Vec<u8>, BdfFault>
     ensures table { IfOk result (λ text. IsFontTable setting.now octets.now text.items) }
     ensures refused { IfErr result (λ fault. fault.problem ≢ BdfProblem.Memory → fault.problem ≢ BdfProblem.NotTaken → font_of_bdf setting.now octets.now ≡ None) }
 {
@@ -189,7 +261,7 @@ pub fn font_tables(alloc: Global, octets: &[u8], setting: &FontSetting) -> Resul
         Ok(font) => font,
         Err(fault) => return Err(fault),
     };
-    match table_of(alloc, &font, setting) {
+    match table_of(alloc, octets, &font, setting) {
         Ok(table) => Ok(table),
         Err(problem) => Err(BdfFault { line: 0, problem }),
     }

@@ -34,7 +34,7 @@ fn end_of(fault: BdfFault) -> FontFault
 /// Nothing is written of a font that isn't taken. After the fault `Write` the writer has taken a beginning of the table.
 pub fn run_font<R: Read, W: Write>(
     alloc: Global,
-    setting: &FontSetting,
+    setting: &FontSetting<'_>,
     reader: &mut R,
     writer: &mut W,
 ) -> Result<(), FontFault>

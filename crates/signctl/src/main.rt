@@ -59,6 +59,7 @@
 //! refused command line.
 #![tactic(auto)]
 
+mod characters;
 mod commands;
 mod ends;
 mod front;

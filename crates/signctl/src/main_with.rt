@@ -56,6 +56,6 @@ pub(crate) fn main_with<P: Files, R: Read, W: Write, E: Write>(
             let end = answer_sign(alloc, asked, &mut input, writer);
             end_of_answer(end, &front, errors)
         }
-        Request::Font(asked) => end_of(answer_font(alloc, asked, &mut input, writer), errors),
+        Request::Font(asked) => end_of(answer_font(alloc, &asked, &mut input, writer), errors),
     }
 }

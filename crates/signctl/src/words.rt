@@ -1,7 +1,8 @@
 //! What the words of a command line ask for.
 
+use crate::characters::NO_CHARACTERS;
 use crate::commands::explain::{ExplainRequest, explain_asked, explain_command};
-use crate::commands::font::{font_asked, font_command};
+use crate::commands::font::{FontRequest, font_asked, font_command};
 use crate::commands::lines::{
     LinesRequest, check_asked, check_command, run_asked, run_command, show_asked, show_command,
 };
@@ -10,11 +11,10 @@ use crate::commands::sign::{SignRequest, sign_asked, sign_command};
 use crate::options::SignSource;
 use clap::error::ErrorKind;
 use clap::{ArgMatches, Command, Error};
-use font_bdf::FontSetting;
 use std::alloc::{AllocError, Global};
 
 /// What was asked for, a variant for each kind of run (own).
-#[derive(Clone, Copy)]
+#[derive(Drop)]
 pub(crate) enum Request<'a> {
     /// A run over lines.
     Lines(LinesRequest<'a>),
@@ -25,7 +25,7 @@ pub(crate) enum Request<'a> {
     /// What a sign file describes, or the characters of one of its fonts.
     Sign(SignRequest),
     /// The table of a font.
-    Font(FontSetting),
+    Font(FontRequest),
 }
 
 impl<'a> Request<'a> {
@@ -72,7 +72,7 @@ fn command<'a>(alloc: Global) -> Result<Command<'a>, AllocError> {
     with_files(alloc, with_pages(alloc, with_lines(alloc, tool)?)?)
 }
 
-/// What a command with this name is asked for, or why it can't be done.
+/// What a command with this name is asked for, or why it can't be done. `font` is asked for apart, since it takes memory.
 fn asked_of<'a>(name: &str, asked: &ArgMatches<'a>) -> Result<Request<'a>, &'static str> {
     Ok(match name {
         "show" => Request::Lines(show_asked(asked)),
@@ -80,7 +80,6 @@ fn asked_of<'a>(name: &str, asked: &ArgMatches<'a>) -> Result<Request<'a>, &'sta
         "explain" => Request::Explain(explain_asked(asked)),
         "picture" => Request::Picture(picture_asked(asked)?),
         "sign" => Request::Sign(sign_asked(asked)),
-        "font" => Request::Font(font_asked(asked)),
         _ => Request::Lines(check_asked(asked)),
     })
 }
@@ -89,6 +88,12 @@ fn asked_of<'a>(name: &str, asked: &ArgMatches<'a>) -> Result<Request<'a>, &'sta
 pub(crate) fn request_of<'a>(alloc: Global, words: &'a [&'a str]) -> Result<Request<'a>, Error> {
     let mut tool = command(alloc)?;
     let matches = tool.try_get_matches_from_mut(words)?;
+    if let Some(font) = matches.subcommand_matches("font") {
+        return match font_asked(alloc, font)? {
+            Some(asked) => Ok(Request::Font(asked)),
+            None => Err(tool.error(ErrorKind::InvalidValue, NO_CHARACTERS)?),
+        };
+    }
     let request = match matches.subcommand() {
         Some((name, asked)) => asked_of(name, asked),
         None => Err("no command"),

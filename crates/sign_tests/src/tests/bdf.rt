@@ -1,16 +1,23 @@
 use crate::tests::so;
-use font_bdf::{BdfFault, BdfProblem, FontSetting, font_tables, read_font};
+use font_bdf::{
+    BdfFault, BdfProblem, CharacterRange, FontSetting, Outside, font_tables, read_font,
+};
 use std::alloc::{AllocError, Global};
 use std::fmt::Write;
 use std::test::Fail;
 
-const SETTING: FontSetting = FontSetting {
+const SETTING: FontSetting<'static> = FontSetting {
     number: 7,
     version: 0,
-    char_spacing: 1,
+    char_spacing: Some(1),
     line_spacing: 2,
-    first: 1,
-    last: 65535,
+    characters: &[CharacterRange {
+        first: 1,
+        last: 65535,
+    }],
+    outside: Outside::Refuse,
+    crop: false,
+    height: None,
 };
 
 /// Three rows; an `A` of three columns, and an `I` of one that stands below its base line.
@@ -65,7 +72,7 @@ cell = [
 }
 
 /// What is told of the small font by a setting.
-fn told(alloc: Global, setting: &FontSetting) -> Option<(u32, BdfProblem)> {
+fn told(alloc: Global, setting: &FontSetting<'_>) -> Option<(u32, BdfProblem)> {
     match font_tables(alloc, SMALL.as_bytes(), setting) {
         Ok(_) => None,
         Err(fault) => Some((fault.line, fault.problem)),
@@ -77,14 +84,13 @@ fn a_setting_chooses_characters(rt: HostRuntime) -> Result<(), Fail> {
     let rows = [
         (1, 1, 65535, None),
         (255, 65, 65, None),
-        (1, 66, 64, None),
+        (1, 66, 64, Some((6, BdfProblem::NoCharacter))),
         (0, 1, 65535, Some((0, BdfProblem::NotTaken))),
     ];
     for (number, first, last, fault) in rows {
         let setting = FontSetting {
             number,
-            first,
-            last,
+            characters: &[CharacterRange { first, last }],
             ..SETTING
         };
         let found = told(rt.alloc(), &setting);
@@ -112,11 +118,14 @@ fn font_of(alloc: Global, characters: u16) -> Result<String, AllocError> {
 fn a_font_has_at_most_255_characters(rt: HostRuntime) -> Result<(), Fail> {
     let rows = [
         (255, 65535, None),
-        (256, 65535, Some((1534, BdfProblem::TooMany))),
+        (256, 65535, Some((1534, BdfProblem::TooMany(256)))),
         (256, 255, None),
     ];
     for (characters, last, fault) in rows {
-        let setting = FontSetting { last, ..SETTING };
+        let setting = FontSetting {
+            characters: &[CharacterRange { first: 1, last }],
+            ..SETTING
+        };
         let font = font_of(rt.alloc(), characters)?;
         let found = match read_font(rt.alloc(), font.as_bytes(), &setting) {
             Ok(_) => None,
@@ -130,6 +139,7 @@ fn a_font_has_at_most_255_characters(rt: HostRuntime) -> Result<(), Fail> {
 #[test]
 fn a_fault_has_its_text(rt: HostRuntime) -> Result<(), Fail> {
     let outside = BdfProblem::Outside {
+        character: 65,
         column: 3,
         row: -1,
         width: 3,
@@ -142,7 +152,7 @@ fn a_fault_has_its_text(rt: HostRuntime) -> Result<(), Fail> {
         ),
         (
             outside,
-            "line 12: a pixel is lit outside the cell: column 3, row -1, counted from 0; the cell has 3 by 7",
+            "line 12: character 65: a pixel is lit outside the cell: column 3, row -1, counted from 0; the cell has 3 by 7; --outside widen makes columns for it, crop leaves the pixel out, skip the character",
         ),
     ];
     for (problem, expected) in rows {

@@ -1,7 +1,7 @@
 //! Fonts that are written as tables.
 
 use super::{FailingReader, NarrowWriter};
-use font_bdf::FontSetting;
+use font_bdf::{CharacterRange, FontSetting, Outside};
 use sign_aids::{FontFault, run_font};
 use tool_streams::ToolFault;
 
@@ -31,13 +31,18 @@ cell = [
 ]
 ";
 
-const SETTING: FontSetting = FontSetting {
+const SETTING: FontSetting<'static> = FontSetting {
     number: 1,
     version: 0,
-    char_spacing: 1,
+    char_spacing: Some(1),
     line_spacing: 1,
-    first: 1,
-    last: 65535,
+    characters: &[CharacterRange {
+        first: 1,
+        last: 65535,
+    }],
+    outside: Outside::Refuse,
+    crop: false,
+    height: None,
 };
 
 #[test]
