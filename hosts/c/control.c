@@ -36,10 +36,11 @@ static int is_word(words *line, const char *word) {
 static uint32_t number(words *line, uint64_t most) {
     uint64_t value = 0;
     int digits = 0;
-    if (*line->at++ != ' ') {
+    if (*line->at != ' ') {
         line->is_bad = 1;
         return 0;
     }
+    line->at++;
     for (; *line->at >= '0' && *line->at <= '9' && digits < 11; line->at++, digits++)
         value = value * 10 + (uint64_t)(*line->at - '0');
     if (digits < 1 || digits > 10 || value > most)
