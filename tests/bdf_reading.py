@@ -133,9 +133,7 @@ def with_spacing(
     if crop:
         cells = drawn(taken, spacing, low, high, outside).values()
         rows = {high - 1 - row for _, lit in cells for _, row in lit}
-        if not rows:
-            raise Refused("no row")
-        low, high = min(rows), max(rows) + 1
+        low, high = (min(rows), max(rows) + 1) if rows else (low, low)
     if height is not None:
         more = height - (high - low)
         if more < 0:

@@ -47,7 +47,8 @@ pub(crate) fn not_fitting(
     font: &FontPart,
 ) -> Result<Vec<u16>, AllocError> {
     let mut numbers = Vec::new(alloc);
-    if setting.outside == Outside::Refuse {
+    let all_fit = setting.char_spacing.is_none() && font.char_spacing == 1;
+    if all_fit || setting.outside == Outside::Refuse {
         return Ok(numbers);
     }
     let cells = fitting_cells(alloc, octets, setting, font)?;
