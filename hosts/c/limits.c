@@ -1,4 +1,4 @@
-/* Holds the library to what latsefur.h says of outcomes and of buffers. `.ci/hosts` runs it, also with sanitizers.
+/* Holds the library to what latsefur.h says of outcomes and of buffers. `tests/hosts` runs it, also with sanitizers.
  *
  *   limits SIGN_FILE..
  *

@@ -7,9 +7,9 @@ from typing import Iterator, Optional
 
 TOP = Path(__file__).resolve().parents[3]
 SIGNS = TOP / "signs"
-sys.path.insert(0, str(TOP / ".ci"))
+sys.path.insert(0, str(TOP / "tests"))
 
-from sign_examples import examples_of, sign_with  # noqa: E402
+from harness import examples_of, sign_with  # noqa: E402
 
 
 def scripts(path: Path) -> Iterator[tuple[str, Optional[str], list[tuple[str, list[str]]]]]:
