@@ -92,6 +92,7 @@ shown_steady page phase tenths number at laid (Some cell) alike before = λ here
 same_steady : (sign : SignData) (page phase tenths : ℕ) (at laid : Standing) (item : Meaning) → StandsAlike at laid → IfSome (flash_on page at item) (λ flash. IsBefore tenths (flash_left phase flash))
     → IfSome (spot_at sign.defaults laid item) (IsSteady page phase tenths)
 same_steady sign page phase tenths at laid (Shows number) alike before = shown_steady page phase tenths number at laid (cell_numbered laid.font number) alike before
+same_steady sign page phase tenths at laid (Does NewPage) alike before = tt
 same_steady sign page phase tenths at laid x alike before = tt
 
 laid_steady : (sign : SignData) (page phase tenths : ℕ) (at laid : Standing) (item next : Meaning) → StandsAlike at laid → Alike sign item next
