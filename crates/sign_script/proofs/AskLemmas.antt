@@ -150,7 +150,7 @@ only line ask.Report h = line_read verb.Report [] line _ h (λ rest are. rw (tai
 only line ask.Defaults h = line_read verb.Defaults [] line _ h (λ rest are. rw (tail_none rest are) refl)
 
 -- where octets lie says nothing of how they are spelled
-unbare : (line : List ℕ) (a : Ask) → IsSpelled (bare a) line → IsSpelled a line
+pub unbare : (line : List ℕ) (a : Ask) → IsSpelled (bare a) line → IsSpelled a line
 unbare line ask.Nothing h = h
 unbare line (ask.Command (command.SetMulti message text)) h = h
 unbare line (ask.Command (command.SetOwner message owner)) h = h

@@ -5,5 +5,6 @@ pub mod LengthLemmas
 pub mod NumberLemmas
 pub mod PartedLemmas
 pub mod PartsLemmas
+pub mod QuestionLemmas
 pub mod ScriptRows
 pub mod WordLemmas

@@ -13,7 +13,7 @@ use Rattle.sign_script.specs.Verbs.{field_of, name, verb_of, word}
 use Rattle.sign_script.proofs.PartsLemmas.{has_no_space}
 
 -- a test for one word in a chain of tests
-tested : {V : Type 0} (written : V → List ℕ) (w : List ℕ) (u v : V) (others : Option V) → (others ≡ Some u → w ≡ written u) → cond (bytes_eq w (written v)) (Some v) others ≡ Some u → w ≡ written u
+pub tested : {V : Type 0} (written : V → List ℕ) (w : List ℕ) (u v : V) (others : Option V) → (others ≡ Some u → w ≡ written u) → cond (bytes_eq w (written v)) (Some v) others ≡ Some u → w ≡ written u
 tested written w u v others rest h =
     elim (cases_Bool (bytes_eq w (written v))) [
       | inl is ↦

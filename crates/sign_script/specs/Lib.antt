@@ -1,4 +1,5 @@
 pub mod Asks
 pub mod Fields
+pub mod Questions
 pub mod Spelling
 pub mod Verbs

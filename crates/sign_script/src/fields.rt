@@ -44,7 +44,7 @@ fn number_of(most: u32, digits: &[u8]) -> Option<u32>
 }
 
 /// The number that the next field is, at most `most`, and what is left after it.
-fn next_number(most: u32, rest: Option<&[u8]>) -> Option<(u32, Option<&[u8]>)>
+pub(crate) fn next_number(most: u32, rest: Option<&[u8]>) -> Option<(u32, Option<&[u8]>)>
     ensures number { seen result ≡ next_number most (option_copied rest.entry) }
     ensures within { IfSome result (λ found. found.0 ≤ most) }
 {

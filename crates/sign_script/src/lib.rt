@@ -19,16 +19,29 @@
 //! | `row M N` | [`Ask::Row`] |
 //! | `report`, `defaults` | [`Ask::Report`], [`Ask::Defaults`] |
 //!
-//! M, V and C are 0 to 255, N is 0 to 65535 and T is 0 to 4294967295, each of 1 to 10 decimal digits. HEX is an even number
+//! A line for a served sign is one of these, or one of those that [`read_question`] reads besides:
+//!
+//! | Line | Asks for |
+//! |---|---|
+//! | `colours` | [`Question::Colours`] |
+//! | `verdict TEXT` | [`Question::Verdict`] with the octets after the first space, and without a space with none |
+//! | `crc TEXT` | [`Question::Crc`], as `verdict` |
+//! | `next` | [`Question::Next`] |
+//! | `code M N D P` | [`Question::Code`] |
+//! | `help` | [`Question::Help`] |
+//!
+//! M, V, C and P are 0 to 255, N and D are 0 to 65535 and T is 0 to 4294967295, each of 1 to 10 decimal digits. HEX is an even number
 //! of hexadecimal digits in either case. Words are in lower case.
 #![tactic(auto)]
 
 mod ask;
 mod fields;
 mod laws;
+mod question;
 mod read;
 mod verb;
 
 pub use ask::{Ask, LineFault};
-pub use laws::lines_are_spelled;
+pub use laws::{lines_are_spelled, questions_are_spelled};
+pub use question::{Question, read_question};
 pub use read::read_ask;

@@ -9,5 +9,8 @@ pub mod RefusedLemmas
 pub mod ReplyLemmas
 pub mod RunLemmas
 pub mod ScriptLemmas
+pub mod ServeClauses
+pub mod ServedLemmas
+pub mod ServingLemmas
 pub mod StartLemmas
 pub mod ToolLemmas

@@ -1,6 +1,7 @@
 //! The tool over streams that are handed in.
 ghost use Rattle.message_picture.specs.Drawn.{AllowsSeconds};
 
+use crate::serve::answer_serve;
 use crate::words::{PictureRequest, Request, request_of};
 use clap::Error;
 use message_picture::View;
@@ -115,6 +116,10 @@ pub(crate) fn main_with<P: Files, R: Read, W: Write, E: Write>(
     match request {
         Request::Lines { mode, sample } => end_of(
             run_tool(alloc, mode, sample, reader, writer),
+            errors,
+        ),
+        Request::Serve(asked) => end_of(
+            answer_serve(alloc, files, asked, reader, writer),
             errors,
         ),
         Request::Explain { sample, phase } => {

@@ -1,5 +1,6 @@
 //! What the words of a command line ask for.
 
+use crate::serve::{ServeRequest, serve_asked, serve_command};
 use clap::error::ErrorKind;
 use clap::{Arg, ArgAction, ArgMatches, Command, Error, value_parser};
 use font_bdf::FontSetting;
@@ -16,6 +17,8 @@ pub(crate) enum Request<'a> {
         /// Whether the sample sign was named. If not, the input begins with a sign file.
         sample: bool,
     },
+    /// A sign that is served.
+    Serve(ServeRequest<'a>),
     /// Each message in words and pictures.
     Explain {
         /// Whether the sample sign was named. If not, the input begins with a sign file.
@@ -315,7 +318,8 @@ fn font_command<'a>(alloc: Global) -> Result<Command<'a>, AllocError> {
 fn with_lines<'a>(alloc: Global, tool: Command<'a>) -> Result<Command<'a>, AllocError> {
     tool.subcommand(check_command(alloc)?)?
         .subcommand(show_command(alloc)?)?
-        .subcommand(run_command(alloc)?)
+        .subcommand(run_command(alloc)?)?
+        .subcommand(serve_command(alloc)?)
 }
 
 /// With the commands that write for people.
@@ -446,6 +450,9 @@ pub(crate) fn request_of<'a>(alloc: Global, words: &'a [&'a str]) -> Result<Requ
     }
     if let Some(sign) = matches.subcommand_matches("sign") {
         return Ok(Request::Sign(sign.get_one("font")));
+    }
+    if let Some(serve) = matches.subcommand_matches("serve") {
+        return Ok(Request::Serve(serve_asked(serve)));
     }
     let sample = matches
         .subcommand()
