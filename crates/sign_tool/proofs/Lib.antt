@@ -1,6 +1,7 @@
 pub mod AnsweringLemmas
 pub mod BlockLemmas
 pub mod CutLemmas
+pub mod DigitLemmas
 pub mod FileLemmas
 mod FileSetupRows
 pub mod FileSetupLemmas

@@ -18,18 +18,20 @@ def simulated(name: Optional[str] = None) -> SimulatedSign:
 
 class SimulatedSigns(unittest.TestCase):
     def test_a_message_is_stored_shown_and_ended(self) -> None:
-        with simulated() as sign:
-            self.assertEqual((sign.width, sign.height), (12, 7))
-            sign.store(1, "A[np]I", priority=3)
+        with simulated("portable.toml") as sign:
+            self.assertEqual((sign.width, sign.height), (50, 24))
+            sign.store(1, "ROAD[np]WORK", priority=3)
             self.assertEqual(sign.message(1).status, Status.MODIFYING)
             self.assertEqual(sign.validate(1).validate_error, ValidateError.NONE)
             self.assertIsNone(sign.next_change())
             sign.activate(1, duration=1)
-            self.assertEqual(sign.message(1, Memory.CURRENT_BUFFER).text, b"A[np]I")
-            self.assertEqual((sign.report().clock, sign.report().remaining, sign.next_change()), (0, 1, 30))
-            self.assertEqual(sign.tick(30), Ticked())
+            self.assertEqual(sign.message(1, Memory.CURRENT_BUFFER).text, b"ROAD[np]WORK")
+            self.assertEqual((sign.report().clock, sign.report().remaining, sign.next_change()), (0, 1, 20))
+            self.assertEqual(sign.tick(20), Ticked())
+            self.assertEqual((sign.frame().shown, sign.next_change()), (None, 2))
+            self.assertEqual(sign.tick(2), Ticked())
             self.assertEqual(sign.frame().shown, Shown(page=1, phase=0))
-            self.assertEqual(sign.tick(570), Ended())
+            self.assertEqual(sign.tick(578), Ended())
             self.assertEqual(sign.report().shown_memory, Memory.BLANK)
             sign.clear()
             self.assertEqual(sign.message(1).status, Status.NOT_USED)
