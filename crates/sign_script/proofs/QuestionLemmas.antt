@@ -104,7 +104,7 @@ line_read q fields line asked h reads =
     let begins = query_begins q in
     let is : line ≡ query_word q ++ tail rest.0 = h.1 ∙ ap (λ (parts : List ℕ). query_word q ++ parts) rest.1 in
     let none : ask_of (query_word q ++ tail rest.0) ≡ None = begins.asks (tail rest.0) ∙ rw (parted_word (query_word q) rest.0 begins.plain, begins.other) refl in
-    ap question_of is ∙ rw (none, parted_word (query_word q) rest.0 begins.plain, begins.is) (reads rest.0 (rw (← rest.1) h.2))
+    ap question_of is ∙ rw none (rw (parted_word (query_word q) rest.0 begins.plain, begins.is) (reads rest.0 (rw (← rest.1) h.2)))
 
 -- what is spelled is asked for
 pub question_only : (line : List ℕ) (a : Question) → IsAsked a line → question_of line ≡ Some (bare_question a)
@@ -141,3 +141,11 @@ pub gives_unasked : (r : Result Question LineFault) (line : List ℕ) → Gives 
 gives_unasked (Ok x) line h is a spelled = cc
 gives_unasked (Err fault.Bad) line h is a spelled = none-some (bare_question a) (sym h ∙ question_only line a spelled)
 gives_unasked (Err fault.Memory) line h is a spelled = cc
+
+-- what is read of a line of a script is read of a line of a served sign
+pub question_script : (line : List ℕ) (a : Ask) → ask_of line ≡ Some (bare a) → question_of line ≡ Some (bare_question (question.Script a))
+question_script line a h = rw h refl
+
+-- and what is none of a script may be one of the others
+pub question_more : (line : List ℕ) → ask_of line ≡ None → question_of line ≡ more_asked line
+question_more line h = rw h refl

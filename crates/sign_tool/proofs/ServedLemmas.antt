@@ -15,6 +15,7 @@ use Rattle.sign_script.specs.declared.question.Question.TheVariants as question
 use Rattle.sign_script.specs.Questions.{question_of}
 use Rattle.tool_streams.specs.Lines.{Cut, IsOneLine, cut, octets_of, text_of}
 use Rattle.tool_streams.proofs.SeenLemmas.{length-text_of}
+use Rattle.sign_tool.specs.Script.{Told}
 use Rattle.sign_tool.specs.Served.{OneReplyEach, ServesOn, command_of, joined, line_command, served, served_commands, told_line, told_or_bad}
 use Rattle.sign_tool.specs.Serving.{ServerData, last_line, last_reply, replies_so_far, replies_to, replies_to_all, told_cut}
 use Rattle.sign_tool.proofs.CutLemmas.{AreLines, cut-lines, cut-unfinished}
@@ -92,7 +93,7 @@ pub last_told : (server : ServerData) (is_cut : Bool) (lost line : List ℕ) →
 last_told server true [] line long = absurd (omega arith)
 last_told server true (c ∷ lost) line long =
     replies_more server ((c ∷ lost) ++ line) [] ∙ ap (λ l. (told_line server.sign server.state (text_of ((c ∷ lost) ++ line))).text ++ l) (replies_none _)
-    ∙ append-nil _ ∙ ap (λ t. t.text) (sym (cut_line_told server true (c ∷ lost) line long))
+    ∙ append-nil _ ∙ ap (λ (t : Told). t.text) (sym (cut_line_told server true (c ∷ lost) line long))
 last_told server false lost [] none = rw none (replies_none server)
 last_told server false lost (c ∷ line) none =
     rw none (replies_more server (c ∷ line) [] ∙ ap (λ l. (told_line server.sign server.state (text_of (c ∷ line))).text ++ l) (replies_none _) ∙ append-nil _)
