@@ -149,3 +149,7 @@ question_script line a h = rw h refl
 -- and what is none of a script may be one of the others
 pub question_more : (line : List ℕ) → ask_of line ≡ None → question_of line ≡ more_asked line
 question_more line h = rw h refl
+
+pub question_bad : (line : List ℕ) (e : LineFault) → e ≡ fault.Bad → Gives bare (Err e) (ask_of line) → question_of line ≡ more_asked line
+question_bad line fault.Bad is gives = question_more line gives
+question_bad line fault.Memory is gives = cc
