@@ -1,9 +1,9 @@
 -- What a line asks of a served sign, and the lines by which it is asked.
 use Rattle.std.proofs.Common.{◌≡◌, ℕ, List, [], ◌∷◌, ◌++◌, true, Option, None, Some, Result, Ok, Err, refl, sym, ap, ◌∙◌, subst}
-use Rattle.std.specs.Prelude.{IfOk, codes}
+use Rattle.std.specs.Prelude.{IfOk}
 use Rattle.std.proofs.lemmas.Option.{none-some, same_Some}
 use Rattle.sign_script.specs.Asks.{ask_of, ask_of_line, bare}
-use Rattle.sign_script.specs.Fields.{Gives, last_number, next_message, next_number, parted, text_of}
+use Rattle.sign_script.specs.Fields.{Gives, last_number, next_message, next_number, parted}
 use Rattle.sign_script.specs.Questions.{IsAsked, bare_question, more_asked, more_with, query_of, query_word, question_of}
 use Rattle.sign_script.specs.Spelling.{AreFields, Field, IsLine, Number, Text, of_message}
 use Rattle.sign_script.specs.Verbs.{verb_of}
