@@ -30,18 +30,18 @@ pub record Answering (first room : ℕ) (answers behind : AllAnswers) (input now
   pub progress : Progress first answers behind number taken (gone ++ ready) lines
 
 -- what stands in front of what is left
-taken_held : (a b : Option (List ℕ)) (taken rest : List ℕ) → Consumes a (prepend_known rest b) taken → Consumes a b (taken ++ rest)
+pub taken_held : (a b : Option (List ℕ)) (taken rest : List ℕ) → Consumes a (prepend_known rest b) taken → Consumes a b (taken ++ rest)
 taken_held None b taken rest c = tt
 taken_held (Some x) None taken rest c = absurd c
 taken_held (Some x) (Some y) taken rest c = c ∙ sym (append_assoc taken rest y)
 
-passes_front : (a b : Option (List ℕ)) (rest front others taken : List ℕ) → rest ≡ front ++ others → Consumes a (prepend_known rest b) taken → Consumes a (prepend_known others b) (taken ++ front)
+pub passes_front : (a b : Option (List ℕ)) (rest front others taken : List ℕ) → rest ≡ front ++ others → Consumes a (prepend_known rest b) taken → Consumes a (prepend_known others b) (taken ++ front)
 passes_front None b rest front others taken is c = tt
 passes_front (Some x) None rest front others taken is c = absurd c
 passes_front (Some x) (Some y) rest front others taken is c =
     c ∙ ap (λ l. taken ++ (l ++ y)) is ∙ ap (λ l. taken ++ l) (append_assoc front others y) ∙ sym (append_assoc taken front (others ++ y))
 
-reads_behind : (a b c : Option (List ℕ)) (rest more taken : List ℕ) → Consumes b c more → Consumes a (prepend_known rest b) taken → Consumes a (prepend_known (rest ++ more) c) taken
+pub reads_behind : (a b c : Option (List ℕ)) (rest more taken : List ℕ) → Consumes b c more → Consumes a (prepend_known rest b) taken → Consumes a (prepend_known (rest ++ more) c) taken
 reads_behind None b c rest more taken took t = tt
 reads_behind (Some x) None c rest more taken took t = absurd t
 reads_behind (Some x) (Some y) None rest more taken took t = absurd took
@@ -56,7 +56,7 @@ first_is before behind octets octets' old new line line' e h a =
 pub written_is : (old new : Option (List ℕ)) (line line' : FirstLine) (ready ready' : List ℕ) → line ≡ line' → WritesReady old new line ready ready' (Ok tt) → WritesReady old new line' ready ready' (Ok tt)
 written_is old new line line' ready ready' h w = subst (λ l. WritesReady old new l ready ready' (Ok tt)) h w
 
-takes_nothing : (a : Option (List ℕ)) → Consumes a (prepend_known [] a) []
+pub takes_nothing : (a : Option (List ℕ)) → Consumes a (prepend_known [] a) []
 takes_nothing None = tt
 takes_nothing (Some x) = refl
 

@@ -1,6 +1,7 @@
 pub mod AnsweringLemmas
 pub mod BlockLemmas
 pub mod CutLemmas
+pub mod DigitLemmas
 pub mod FileLemmas
 mod FileSetupRows
 pub mod FileSetupLemmas
@@ -9,5 +10,8 @@ pub mod RefusedLemmas
 pub mod ReplyLemmas
 pub mod RunLemmas
 pub mod ScriptLemmas
+pub mod ServeClauses
+pub mod ServedLemmas
+pub mod ServingLemmas
 pub mod StartLemmas
 pub mod ToolLemmas

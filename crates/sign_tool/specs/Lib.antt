@@ -8,4 +8,6 @@ pub mod Reply
 pub mod Runs
 pub mod SampleSetup
 pub mod Script
+pub mod Served
+pub mod Serving
 pub mod Tool

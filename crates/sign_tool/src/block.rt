@@ -49,6 +49,13 @@ impl Block {
         self.end - self.start
     }
 
+    /// All octets that wait.
+    pub(crate) fn all(&self) -> &[u8]
+        ensures { result.now ≡ self.now }
+    {
+        &self.octets[self.start..self.end]
+    }
+
     /// The first octets that wait, at most so many.
     pub(crate) fn first(&self, most: usize) -> &[u8]
         ensures { result.now ≡ take most self.now }

@@ -23,7 +23,7 @@ pub(crate) enum FirstLine {
 }
 
 /// Where the first line feed is, if there is one. The first `seen` octets have none.
-fn line_end(octets: &[u8], seen: usize) -> Option<usize>
+pub(crate) fn line_end(octets: &[u8], seen: usize) -> Option<usize>
     requires seen { seen ≤ length octets.now }
     requires none { IsOneLine (take seen octets.now) }
     ensures { IsLineEnd octets.now result }

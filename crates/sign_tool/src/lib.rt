@@ -2,10 +2,11 @@
 //!
 //! [`run_tool`] answers the lines of an input: messages, which are judged or shown, or a script, which drives the controller. The program
 //! `signctl` gives it the standard streams, and its page says what an input is. [`begin`] reads what stands before the lines, for other
-//! tools whose input begins so.
+//! tools whose input begins so. [`serve`] answers the lines of a sign that is set up, one reply each, for as long as they come.
 #![tactic(auto)]
 
 mod answer;
+mod answers;
 mod block;
 mod check;
 mod first;
@@ -17,12 +18,15 @@ mod refill;
 mod replies;
 mod reply;
 mod script;
+mod server;
+mod serving;
 mod setup;
 mod show;
 mod start;
 mod tool;
 
-pub use laws::scripts_run_the_controller;
+pub use laws::{scripts_run_the_controller, served_signs_run_the_controller};
+pub use serving::serve;
 pub use setup::Setup;
-pub use start::{Start, begin};
+pub use start::{Start, begin, setup_of_octets};
 pub use tool::{Mode, run_script, run_tool};

@@ -9,7 +9,7 @@ use std::io::Write;
 use tool_streams::{ToolFault, write_whole};
 
 /// How many octets of answers are kept before they are written (own). The shortest answers to a block are fewer.
-const MAX_READY: usize = 6 * BLOCK;
+pub(crate) const MAX_READY: usize = 6 * BLOCK;
 
 /// Writes the answers that are ready, and clears them, if there are many or if no line is left to answer before the next
 /// read. After an `Err`, which is `Write`, the writer has taken a beginning of them.

@@ -1,5 +1,5 @@
 //! Answers that wait to be written.
-ghost use Rattle.std.specs.Prelude.{◌≡◌, ◌++◌, ◌∷◌, [], OnOk, decimal};
+ghost use Rattle.std.specs.Prelude.{◌≡◌, ◌++◌, ◌∷◌, [], IfOk, OnOk, decimal};
 
 use itoa::Buffer;
 use std::alloc::{AllocError, Global};
@@ -35,6 +35,14 @@ impl Ready {
             octets: Vec::new(alloc),
             end: 0,
         }
+    }
+
+    /// With no answers, and room for this many octets. The error says that memory was refused.
+    pub(crate) fn with_room(alloc: Global, room: usize) -> Result<Ready, AllocError>
+        ensures { IfOk result (λ ready. ready ≡ record { whole = []; begun = [] }) }
+    {
+        let octets = Vec::with_capacity(alloc, room)?;
+        Ok(Ready { octets, end: 0 })
     }
 
     /// The answers to whole lines.

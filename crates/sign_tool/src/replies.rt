@@ -13,7 +13,7 @@ use std::alloc::AllocError;
 
 /// Appends octets in hexadecimal.
 #[tactic(auto, unfolding(hex::specs::Hex::encode_with))]
-fn push_hex(text: &mut Ready, octets: &[u8]) -> Result<(), AllocError>
+pub(crate) fn push_hex(text: &mut Ready, octets: &[u8]) -> Result<(), AllocError>
     ensures text { OnOk result (text.new.begun ≡ text.old.begun ++ encode_lower octets.now) }
     ensures whole { text.new.whole ≡ text.old.whole }
 {
@@ -39,7 +39,7 @@ fn push_hex_or_dash(text: &mut Ready, octets: &[u8]) -> Result<(), AllocError>
 }
 
 /// Appends a CRC.
-fn push_crc(text: &mut Ready, crc: u16) -> Result<(), AllocError>
+pub(crate) fn push_crc(text: &mut Ready, crc: u16) -> Result<(), AllocError>
     ensures text { OnOk result (text.new.begun ≡ text.old.begun ++ crc_text crc) }
     ensures whole { text.new.whole ≡ text.old.whole }
 {
@@ -68,7 +68,7 @@ fn push_labelled(text: &mut Ready, label: &[u8], number: u64) -> Result<(), Allo
 }
 
 /// Appends the refusal of a fault.
-fn push_fault(text: &mut Ready, code: u8) -> Result<(), AllocError>
+pub(crate) fn push_fault(text: &mut Ready, code: u8) -> Result<(), AllocError>
     ensures text { OnOk result (text.new.begun ≡ text.old.begun ++ fault_text code) }
     ensures whole { text.new.whole ≡ text.old.whole }
 {

@@ -4,4 +4,5 @@ pub(crate) mod explain;
 pub(crate) mod font;
 pub(crate) mod lines;
 pub(crate) mod picture;
+pub(crate) mod serve;
 pub(crate) mod sign;

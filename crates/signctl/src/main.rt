@@ -1,8 +1,8 @@
 //! Checks the messages of a roadside message sign, shows their pages, and runs the sign's controller.
 //!
 //! `signctl check` reads a sign file, a line `%%`, and message lines from standard input. `signctl check --sign FILE` reads message lines
-//! alone, for the sign of that file, and `signctl check --sample` for the sample sign: so it is with each command that reads messages. A sign file is a TOML document that describes one sign. Each message line is
-//! a MULTI string for that sign. It gets one line of answer on standard output, which is written before more is read than
+//! alone, for the sign of that file, and `signctl check --sample` for the sample sign: so it is with each command that reads lines. A sign
+//! file is a TOML document that describes one sign. Each message line is a MULTI string for that sign. It gets one line of answer on standard output, which is written before more is read than
 //! the block of octets in which the message line has ended:
 //!
 //! | Answer | Meaning |
@@ -21,6 +21,10 @@
 //! `sign_script` says, and gets its reply. The controller is made once, and each line finds the state that the lines before
 //! it leave. An empty line and one that begins with `#` get no reply.
 //!
+//! `signctl serve` reads lines for one sign for as long as they come, and each gets one reply: those of a script, in which an empty line and
+//! one that begins with `#` get `ok`, and the others of `sign_script`'s table. A line that is none of them gets `bad line`, and one with too
+//! many octets `too long`; the sign goes on after it. What stands behind the last line feed is a line.
+//!
 //! `signctl explain` reads what `check` reads, and says of each message why it is refused, or draws its pages. `--phase` says when each page
 //! is drawn, in tenths of a second since it began. The exit status is 1 if a message was refused.
 //!
@@ -35,8 +39,8 @@
 //! sign file.
 //!
 //! A line ends with a line feed, and one carriage return before that is dropped. What is left has at most 8,300 octets.
-//! An input has at most 16,777,216 octets, with those of the sign file. The first fault ends the run, after the answers
-//! to the lines before it, and is said on standard error after `signctl: `:
+//! An input has at most 16,777,216 octets, with those of the sign file, but for the lines of `serve`. The first fault ends the run, after
+//! the answers to the lines before it, and is said on standard error after `signctl: `:
 //!
 //! | Fault | When |
 //! |---|---|

@@ -4,6 +4,7 @@ use crate::commands::explain::answer_explain;
 use crate::commands::font::answer_font;
 use crate::commands::lines::answer_lines;
 use crate::commands::picture::answer_picture;
+use crate::commands::serve::answer_serve;
 use crate::commands::sign::answer_sign;
 use crate::ends::{
     FAULTED, answer_words, end_of, end_of_answer, end_of_lines, end_of_picture, say_of_file,
@@ -42,6 +43,10 @@ pub(crate) fn main_with<P: Files, R: Read, W: Write, E: Write>(
     match request {
         Request::Lines(asked) => {
             let end = answer_lines(alloc, asked, &mut input, writer);
+            end_of_lines(end, &front, errors)
+        }
+        Request::Serve(asked) => {
+            let end = answer_serve(alloc, asked, &mut input, writer);
             end_of_lines(end, &front, errors)
         }
         Request::Explain(asked) => {

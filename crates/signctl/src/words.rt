@@ -7,6 +7,7 @@ use crate::commands::lines::{
     LinesRequest, check_asked, check_command, run_asked, run_command, show_asked, show_command,
 };
 use crate::commands::picture::{PictureRequest, picture_asked, picture_command};
+use crate::commands::serve::{ServeRequest, serve_asked, serve_command};
 use crate::commands::sign::{SignRequest, sign_asked, sign_command};
 use crate::options::SignSource;
 use clap::error::ErrorKind;
@@ -18,6 +19,8 @@ use std::alloc::{AllocError, Global};
 pub(crate) enum Request<'a> {
     /// A run over lines.
     Lines(LinesRequest<'a>),
+    /// A sign that is served.
+    Serve(ServeRequest<'a>),
     /// Each message in words and pictures.
     Explain(ExplainRequest<'a>),
     /// A message as a picture.
@@ -33,6 +36,7 @@ impl<'a> Request<'a> {
     pub(crate) fn sign(&self) -> SignSource<'a> {
         match self {
             Request::Lines(asked) => asked.sign,
+            Request::Serve(asked) => asked.sign,
             Request::Explain(asked) => asked.sign,
             Request::Picture(asked) => asked.sign,
             Request::Sign(_) => SignSource::Input,
@@ -48,7 +52,8 @@ const VERSION: &str = "0.1.0 (rattle-kit-13f logic dac8208d650f15bf)";
 fn with_lines<'a>(alloc: Global, tool: Command<'a>) -> Result<Command<'a>, AllocError> {
     tool.subcommand(check_command(alloc)?)?
         .subcommand(show_command(alloc)?)?
-        .subcommand(run_command(alloc)?)
+        .subcommand(run_command(alloc)?)?
+        .subcommand(serve_command(alloc)?)
 }
 
 /// With the commands that write for people.
@@ -77,6 +82,7 @@ fn asked_of<'a>(name: &str, asked: &ArgMatches<'a>) -> Result<Request<'a>, &'sta
     Ok(match name {
         "show" => Request::Lines(show_asked(asked)),
         "run" => Request::Lines(run_asked(asked)),
+        "serve" => Request::Serve(serve_asked(asked)),
         "explain" => Request::Explain(explain_asked(asked)),
         "picture" => Request::Picture(picture_asked(asked)?),
         "sign" => Request::Sign(sign_asked(asked)),

@@ -1,6 +1,7 @@
 mod explain;
 mod font;
 mod picture;
+mod serve;
 mod sign;
 mod streams;
 

@@ -21,6 +21,7 @@ from .replies import (
     Activated, Defaults, Display, Done, Ended, Font, Frame, Idle, Message, NotSet, NotShown, Refused, Reply, Report, Table, Ticked, Worked
 )
 from .sign import Sign, Verdict
+from .simulated import SignStopped, SimulatedSign, UnexpectedReply
 from .values import (
     ActivateError, Default, DefaultError, Memory, MultiError, Request, SourceMode, Status, TableError, Text, ValidateError
 )
@@ -29,7 +30,7 @@ __all__ = [
     "COLOURS", "NO_END", "ActivateError", "Activated", "ActivationCode", "BadLength", "Controller", "Default", "DefaultError", "Defaults",
     "Display", "Done", "EndCode", "Ended", "Font", "Frame", "Idle", "LatsefurError", "Library", "LibraryNotFound", "Memory", "Message",
     "MultiError", "NoController", "NoDefault", "NoFont", "NoMemory", "NoPage", "NoSignFile", "NotAnOctet", "NotSet", "NotShown", "Outcome",
-    "Picture", "Plane", "Refused", "Reply", "Report", "Request", "Shown", "Sign", "SignFault", "SourceMode", "Status", "Table",
-    "TableError", "TableFault", "Text", "TextRefused", "TextTooLong", "Ticked", "TooSmall", "ValidateError", "Verdict", "Worked",
-    "WrongLibrary", "load", "message_crc", "script",
+    "Picture", "Plane", "Refused", "Reply", "Report", "Request", "Shown", "Sign", "SignFault", "SignStopped", "SimulatedSign", "SourceMode",
+    "Status", "Table", "TableError", "TableFault", "Text", "TextRefused", "TextTooLong", "Ticked", "TooSmall", "UnexpectedReply",
+    "ValidateError", "Verdict", "Worked", "WrongLibrary", "load", "message_crc", "script",
 ]

@@ -1,0 +1,128 @@
+-- The replies of a served sign, line by line.
+use Rattle.std.proofs.Common.{◌≡◌, ◌≢◌, inl, inr, ℕ, suc, ◌+◌, ◌<◌, ◌≤◌, Bool, true, false, List, [], ◌∷◌, ◌++◌, length, map, Option, Some, None, refl, sym, ap, ◌∙◌, subst, arith, append_assoc, append-nil}
+use Rattle.std.specs.Prelude.{nat_lt}
+use Rattle.std.proofs.lemmas.Bool.{cases_Bool, lt-ltb}
+use Rattle.std.proofs.lemmas.Grind.{flat_map-append}
+use Rattle.std.proofs.lemmas.List.{length-append}
+use Rattle.sign_font.specs.Sign.{SignData}
+use Rattle.sign_control.specs.declared.command.Command.{Command}
+use Rattle.sign_control.specs.Run.{run}
+use Rattle.sign_control.specs.State.{StateData}
+use Rattle.sign_script.specs.declared.ask.Ask.{Ask}
+use Rattle.sign_script.specs.declared.ask.Ask.TheVariants as ask
+use Rattle.sign_script.specs.declared.question.Question.{Question}
+use Rattle.sign_script.specs.declared.question.Question.TheVariants as question
+use Rattle.sign_script.specs.Questions.{question_of}
+use Rattle.tool_streams.specs.Lines.{Cut, IsOneLine, cut, octets_of, text_of}
+use Rattle.tool_streams.proofs.SeenLemmas.{length-text_of}
+use Rattle.sign_tool.specs.Script.{Told}
+use Rattle.sign_tool.specs.Served.{OneReplyEach, ServesOn, command_of, joined, line_command, served, served_commands, told_line, told_or_bad}
+use Rattle.sign_tool.specs.Serving.{ServerData, last_line, last_reply, replies_so_far, replies_to, replies_to_all, told_cut}
+use Rattle.sign_tool.proofs.CutLemmas.{AreLines, cut-lines, cut-unfinished}
+
+-- ---- laws
+
+pub one_reply_each : OneReplyEach
+unfolding served
+one_reply_each sign state [] = refl
+one_reply_each sign state (line ∷ lines) = ap suc (one_reply_each sign ((told_line sign state line).state) lines)
+
+-- the state that a question leaves is that of the controller's run of its command, if it is one
+run_question : (sign : SignData) (state : StateData) (asked : Option Question) (commands : List Command)
+    → (run sign state (command_of asked ++ commands)).state ≡ (run sign ((told_or_bad sign state asked).state) commands).state
+run_question sign state None commands = refl
+run_question sign state (Some (question.Script (ask.Command command))) commands = refl
+run_question sign state (Some (question.Script ask.Nothing)) commands = refl
+run_question sign state (Some (question.Script (ask.Frame colour))) commands = refl
+run_question sign state (Some (question.Script (ask.Row message))) commands = refl
+run_question sign state (Some (question.Script ask.Report)) commands = refl
+run_question sign state (Some (question.Script ask.Defaults)) commands = refl
+run_question sign state (Some question.Colours) commands = refl
+run_question sign state (Some (question.Verdict text)) commands = refl
+run_question sign state (Some (question.Crc text)) commands = refl
+run_question sign state (Some question.Next) commands = refl
+run_question sign state (Some (question.Code message duration priority)) commands = refl
+run_question sign state (Some question.Help) commands = refl
+
+run_line : (sign : SignData) (state : StateData) (line : List ℕ) (commands : List Command)
+    → (run sign state (line_command line ++ commands)).state ≡ (run sign ((told_line sign state line).state) commands).state
+run_line sign state line commands =
+    elim (cases_Bool (nat_lt 8300 (length line))) [
+      | inl long ↦ rw long refl
+      | inr short ↦ rw short (run_question sign state (question_of line) commands)
+    ]
+
+pub serves_on : ServesOn
+unfolding served
+serves_on sign state [] after = refl
+serves_on sign state (line ∷ lines) after =
+    let t = told_line sign state line in
+    ap (λ (l : List (List ℕ)). t.text ∷ l) (serves_on sign t.state lines after)
+    ∙ ap (λ (s : StateData). t.text ∷ (served sign t.state lines ++ served sign s after)) (sym (run_line sign state line (served_commands lines)))
+
+-- ---- the replies to lines
+
+pub replies_none : (server : ServerData) → replies_to server [] ≡ []
+unfolding served
+replies_none server = refl
+
+-- the server after a line
+abbrev pub served_by : ServerData → List ℕ → ServerData
+served_by server line = record { sign = server.sign; state = (told_line server.sign server.state (text_of line)).state }
+
+pub replies_more : (server : ServerData) (line : List ℕ) (more : List (List ℕ))
+    → replies_to server (line ∷ more) ≡ (told_line server.sign server.state (text_of line)).text ++ replies_to (served_by server line) more
+unfolding served
+replies_more server line more = refl
+
+-- what was passed over of a line
+abbrev pub IsLost : Bool → List ℕ → Type 0
+IsLost true lost = 8301 < length lost
+IsLost false lost = lost ≡ []
+
+pub cut_line_told : (server : ServerData) (is_cut : Bool) (lost line : List ℕ) → IsLost is_cut lost
+    → told_cut server is_cut line ≡ told_line server.sign server.state (text_of (lost ++ line))
+cut_line_told server true lost line long =
+    let over : nat_lt 8300 (length (text_of (lost ++ line))) ≡ true = lt-ltb _ _ (omega (arith, long, length-append lost line, length-text_of (lost ++ line))) in
+    rw over refl
+cut_line_told server false lost line none = rw none refl
+
+-- what stands behind the last line feed
+pub last_told : (server : ServerData) (is_cut : Bool) (lost line : List ℕ) → IsLost is_cut lost
+    → replies_to server (last_line (lost ++ line)) ≡ last_reply server is_cut line
+last_told server true [] line long = absurd (omega arith)
+last_told server true (c ∷ lost) line long =
+    replies_more server ((c ∷ lost) ++ line) [] ∙ ap (λ l. (told_line server.sign server.state (text_of ((c ∷ lost) ++ line))).text ++ l) (replies_none _)
+    ∙ append-nil _ ∙ ap (λ (t : Told). t.text) (sym (cut_line_told server true (c ∷ lost) line long))
+last_told server false lost [] none = rw none (replies_none server)
+last_told server false lost (c ∷ line) none =
+    rw none (replies_more server (c ∷ line) [] ∙ ap (λ l. (told_line server.sign server.state (text_of (c ∷ line))).text ++ l) (replies_none _) ∙ append-nil _)
+
+-- ---- what was taken so far
+
+-- these lines were taken, and these replies were given to them, whatever comes
+pub record Given (server here : ServerData) (taken given : List ℕ) (lines : List (List ℕ)) : Type 0 where
+  pub taken_is : taken ≡ octets_of lines
+  pub each : AreLines lines
+  pub says : (more : List (List ℕ)) → replies_to server (lines ++ more) ≡ given ++ replies_to here more
+
+module _ (server here : ServerData) (taken given : List ℕ) (lines : List (List ℕ)) (g : Given server here taken given lines) where
+  -- the replies to all lines go on with those to the lines of what stands behind
+  pub replies_go_on : (rest : List ℕ) → replies_to_all server (taken ++ rest) ≡ given ++ replies_to here ((cut rest).whole ++ last_line (cut rest).rest)
+  unfolding replies_to_all
+  replies_go_on rest =
+      let parts = ap (λ l. cut (l ++ rest)) g.taken_is ∙ cut-lines lines rest g.each in
+      ap (λ (c : Cut). replies_to server (c.whole ++ last_line c.rest)) parts
+      ∙ ap (replies_to server) (append_assoc lines (cut rest).whole (last_line (cut rest).rest)) ∙ g.says _
+
+  -- an unfinished line is no whole line
+  pub so_far : (line : List ℕ) → IsOneLine line → replies_so_far server (taken ++ line) ≡ given
+  unfolding replies_so_far
+  so_far line one =
+      let parts = ap (λ l. cut (l ++ line)) g.taken_is ∙ cut-lines lines line g.each ∙ ap (λ (c : Cut). let d : Cut = record { whole = lines ++ c.whole; rest = c.rest } in d) (cut-unfinished line one) in
+      ap (λ (c : Cut). replies_to server c.whole) parts ∙ g.says [] ∙ ap (λ l. given ++ l) (replies_none here) ∙ append-nil given
+
+  -- the last line
+  pub whole : (line : List ℕ) → IsOneLine line → replies_to_all server (taken ++ line) ≡ given ++ replies_to here (last_line line)
+  whole line one =
+      replies_go_on line ∙ ap (λ (c : Cut). given ++ replies_to here (c.whole ++ last_line c.rest)) (cut-unfinished line one)

@@ -1,0 +1,8 @@
+use Rattle.sign_tool.proofs.ServedLemmas
+use Rattle.sign_tool.proofs.laws.served_signs_run_the_controller.Goals as goal
+
+pub returns-clause-one : goal.returns-clause-one
+returns-clause-one c = ServedLemmas.one_reply_each
+
+pub returns-clause-state : goal.returns-clause-state
+returns-clause-state c = ServedLemmas.serves_on

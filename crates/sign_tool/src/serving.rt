@@ -1,0 +1,180 @@
+//! The loop that answers the lines of a served sign, over a reader and a writer.
+ghost use Rattle.std.specs.Prelude.{◌≡◌, ◌^◌, ◌≤◌, ◌++◌, ◌⊎◌, [], List, ℕ, IfErr, IfOk, IfSome, OnOk, Some, length, take};
+ghost use Rattle.std.specs.Io.KnownBytes.{Appends, Consumes};
+ghost use Rattle.tool_streams.specs.Lines.{IsOneLine};
+ghost use Rattle.sign_tool.specs.Runs.{IsFront, WritesLines, fault_of};
+ghost use Rattle.sign_tool.specs.Serving.{AnswersLast, AnswersNext, EndsServed, PassesCut, Serves, at_start, replies_so_far, replies_to_all};
+
+use crate::block::{BLOCK, Block};
+use crate::first::{FirstLine, line_end};
+use crate::output::{MAX_READY, end_refused, write_ready};
+use crate::ready::Ready;
+use crate::server::Server;
+use crate::setup::Setup;
+use std::alloc::{AllocError, Global};
+use std::io::{Read, Write};
+use tool_streams::{MAX_KEPT, ToolFault, write_whole};
+
+/// Answers the next line if it ends here, and adds its reply to those that are ready. The first `seen` octets have no line feed. Of a line
+/// that is cut, too many octets were passed over.
+fn answer_next(
+    server: &mut Server,
+    octets: &[u8],
+    seen: usize,
+    is_cut: bool,
+    ready: &mut Ready,
+) -> Result<FirstLine, AllocError>
+    requires seen { seen ≤ length octets.now }
+    requires none { IsOneLine (take seen octets.now) }
+    requires begun { ready.old.begun ≡ [] }
+    ensures next { AnswersNext server.old server.new is_cut octets.now ready.old.whole ready.new.whole result }
+    ensures begun { OnOk result (ready.new.begun ≡ []) }
+{
+    let Some(end) = line_end(octets, seen) else {
+        return Ok(FirstLine::Open);
+    };
+    server.answer(&octets[..end], is_cut, ready)?;
+    ready.end_answer();
+    Ok(FirstLine::Answered(end + 1))
+}
+
+/// Answers what stands behind the last line feed, if anything does, and adds the reply to those that are ready.
+fn answer_last(
+    server: &mut Server,
+    line: &[u8],
+    is_cut: bool,
+    ready: &mut Ready,
+) -> Result<(), AllocError>
+    requires begun { ready.old.begun ≡ [] }
+    ensures last { AnswersLast server.old is_cut line.now ready.old.whole ready.new.whole result }
+{
+    if is_cut || !line.is_empty() {
+        server.answer(line, is_cut, ready)?;
+        ready.end_answer();
+    }
+    Ok(())
+}
+
+/// Ends the run at the end of its input: what stands behind the last line feed is answered, and what is ready is written.
+fn end_served<W: Write>(
+    server: &mut Server,
+    line: &[u8],
+    is_cut: bool,
+    ready: &mut Ready,
+    writer: &mut W,
+) -> Result<(), ToolFault>
+    requires begun { ready.old.begun ≡ [] }
+    ensures ends { EndsServed server.old is_cut line.now ready.old.whole (W.contents writer.old) (W.contents writer.new) result }
+{
+    match answer_last(server, line, is_cut, ready) {
+        Ok(()) => write_whole(writer, ready.whole()),
+        Err(_) => Err(end_refused(writer, ready)),
+    }
+}
+
+/// Passes over what waits of a line that has too many octets, and says whether it did.
+fn pass_cut(block: &mut Block, is_cut: bool) -> bool
+    ensures { PassesCut block.old block.new is_cut result }
+{
+    let held = block.len();
+    if is_cut || held > MAX_KEPT {
+        block.pass(held);
+        return true;
+    }
+    false
+}
+
+/// Answers lines up to a fault or the end.
+///
+/// What is read is kept in a block, and each line is answered where it stands there. The replies to the lines of a block are written
+/// together before more is read, or as soon as they have 98,304 octets, or if memory is refused for the reply after them. What a line has
+/// more than 8,301 octets is passed over.
+fn serve_lines<R: Read, W: Write>(
+    server: &mut Server,
+    ready: &mut Ready,
+    reader: &mut R,
+    writer: &mut W,
+) -> Result<(), ToolFault>
+    requires empty { ready.old ≡ record { whole = []; begun = [] } }
+    ensures serves { Serves server.old (R.remaining reader.old) (R.remaining reader.new) (W.contents writer.old) (W.contents writer.new) (fault_of result) }
+{
+    let mut block = Block::new();
+    let mut seen = 0;
+    let mut is_cut = false;
+    // Each round answers a line, or reads an octet or more.
+    for round in 0..u64::MAX {
+        let next = match answer_next(server, block.all(), seen, is_cut, ready) {
+            Ok(next) => next,
+            Err(_) => return Err(end_refused(writer, ready)),
+        };
+        write_ready(writer, ready, next)?;
+        if let FirstLine::Answered(count) = next {
+            block.pass(count);
+            is_cut = false;
+            seen = 0;
+        } else {
+            is_cut = pass_cut(&mut block, is_cut);
+            seen = block.len();
+            if block.read_more(reader, BLOCK)? == 0 {
+                return end_served(server, block.all(), is_cut, ready, writer);
+            }
+        }
+    }
+    Err(ToolFault::InputTooLong)
+}
+
+/// The most octets of a reply: those of the row of the longest text and owner, or else of a frame of the largest sign.
+const LONGEST_REPLY: usize = 131_300;
+
+/// Serves a sign with its room for lines and replies, which is made here.
+fn serve_all<R: Read, W: Write>(
+    alloc: Global,
+    setup: Setup,
+    reader: &mut R,
+    writer: &mut W,
+) -> Result<(), ToolFault>
+    ensures { Serves (at_start setup) (R.remaining reader.old) (R.remaining reader.new) (W.contents writer.old) (W.contents writer.new) (fault_of result) }
+{
+    let mut ready = Ready::with_room(alloc, MAX_READY + LONGEST_REPLY)?;
+    let mut server = Server::new(alloc, setup)?;
+    serve_lines(&mut server, &mut ready, reader, writer)
+}
+
+/// Serves a sign: answers each line of an input by one reply, up to the end of the input or the first fault from outside (own). The reply to
+/// each line is written before more is read than the block of octets in which the line has ended.
+///
+/// A line is one of the table of `sign_script`, for a served sign. An empty line and a comment are answered `ok`, a line of another kind
+/// `bad line`, and one with more than 8,300 octets `too long`; none of these changes anything. What stands behind the last line feed is a line
+/// too. The faults are `Read`, `Write`, `Memory`, and, after 9,223,372,036,854,775,808 octets or more, `InputTooLong`.
+pub fn serve<R: Read, W: Write>(
+    alloc: Global,
+    setup: Setup,
+    reader: &mut R,
+    writer: &mut W,
+) -> Result<(), ToolFault>
+    // If nothing outside fails, what is written is the replies to all lines of the input.
+    ensures whole { OnOk result (IfSome (R.remaining reader.old) (λ input.
+        Appends (W.contents writer.old) (W.contents writer.new) (replies_to_all (at_start setup) input))) }
+
+    // After a failed read it is the replies to the whole lines that were read.
+    ensures read { fault_of result ≡ Some ToolFault.Read → (taken : List ℕ)
+        × Consumes (R.remaining reader.old) (R.remaining reader.new) taken
+        × Appends (W.contents writer.old) (W.contents writer.new) (replies_so_far (at_start setup) taken) }
+
+    // After a failed write, or if memory was refused, what was written is a beginning of the replies.
+    ensures front { (fault_of result ≡ Some ToolFault.Write) ⊎ (fault_of result ≡ Some ToolFault.Memory) →
+        IfSome (R.remaining reader.old) (λ input. (sent : List ℕ)
+        × Appends (W.contents writer.old) (W.contents writer.new) sent
+        × IsFront sent (replies_to_all (at_start setup) input)) }
+
+    // If memory was refused, it is the replies to some number of whole lines, the first of those that were read.
+    ensures lines { fault_of result ≡ Some ToolFault.Memory →
+        WritesLines (replies_so_far (at_start setup)) (R.remaining reader.old) (R.remaining reader.new) (W.contents writer.old) (W.contents writer.new) }
+
+    // There is no other fault, but at the end of a run that no machine lives to see.
+    ensures only { IfErr result (λ e. (e ≡ ToolFault.Read) ⊎ (e ≡ ToolFault.Write) ⊎ (e ≡ ToolFault.Memory) ⊎ (e ≡ ToolFault.InputTooLong)) }
+    ensures long { fault_of result ≡ Some ToolFault.InputTooLong → (taken : List ℕ)
+        × Consumes (R.remaining reader.old) (R.remaining reader.new) taken × (2 ^ 63 ≤ length taken) }
+{
+    serve_all(alloc, setup, reader, writer)
+}
