@@ -51,10 +51,7 @@ fn push_item(ranges: &mut Vec<CharacterRange>, item: &str) -> Result<bool, Alloc
 }
 
 /// Adds ranges.
-fn push_ranges(
-    ranges: &mut Vec<CharacterRange>,
-    named: &[(u16, u16)],
-) -> Result<bool, AllocError> {
+fn push_ranges(ranges: &mut Vec<CharacterRange>, named: &[(u16, u16)]) -> Result<bool, AllocError> {
     for (first, last) in named {
         let range = CharacterRange {
             first: *first,

@@ -37,7 +37,12 @@ impl FontRequest {
 }
 
 /// A number of `signctl font`, with its range.
-fn number_of<'a>(alloc: Global, name: &'a str, help: &'a str, (least, most): (i64, i64)) -> Arg<'a> {
+fn number_of<'a>(
+    alloc: Global,
+    name: &'a str,
+    help: &'a str,
+    (least, most): (i64, i64),
+) -> Arg<'a> {
     Arg::new(alloc, name)
         .long(name)
         .value_name("N")
@@ -48,7 +53,12 @@ fn number_of<'a>(alloc: Global, name: &'a str, help: &'a str, (least, most): (i6
 /// `--number` and `--version`, which a sign file has and BDF hasn't.
 fn with_name<'a>(alloc: Global, font: Command<'a>) -> Result<Command<'a>, AllocError> {
     let number = number_of(alloc, "number", "The font's number, 1 to 255", (1, 255));
-    let version = number_of(alloc, "version", "The font's version, 0 to 65535", (0, 65535));
+    let version = number_of(
+        alloc,
+        "version",
+        "The font's version, 0 to 65535",
+        (0, 65535),
+    );
     font.arg(number.default_value("1"))?
         .arg(version.default_value("0"))
 }
@@ -103,7 +113,9 @@ fn outside_option<'a>(alloc: Global) -> Arg<'a> {
     Arg::new(alloc, "outside")
         .long("outside")
         .value_name("WHAT")
-        .help("What is done with a character that doesn't fit its cell: the font is refused, the cell is widened, the pixels outside are cropped, or the character is skipped")
+        .help(
+            "What is done with a character that doesn't fit its cell: the font is refused, the cell is widened, the pixels outside are cropped, or the character is skipped",
+        )
         .value_parser(names)
         .default_value("widen")
 }
@@ -114,7 +126,9 @@ fn with_cells<'a>(alloc: Global, font: Command<'a>) -> Result<Command<'a>, Alloc
         .arg(
             Arg::new(alloc, "crop")
                 .long("crop")
-                .help("Takes off the rows at the top and at the bottom in which no character has a pixel")
+                .help(
+                    "Takes off the rows at the top and at the bottom in which no character has a pixel",
+                )
                 .action(ArgAction::SetTrue),
         )?
         .arg(number_of(
