@@ -16,11 +16,11 @@ unfolding digit_rows
 rows_none width values = refl
 
 -- one more row comes behind those above it
-pub rows_more : (width : ℕ) (values : List ℕ) (row : ℕ) → digit_rows width values (row + 1) ≡ digit_rows width values row ++ digit_row width values row
+pub rows_more : (width : ℕ) (values : List ℕ) (row same : ℕ) → same ≡ row → digit_rows width values (row + 1) ≡ digit_rows width values row ++ digit_row width values same
 unfolding digit_rows
-rows_more width values row =
+rows_more width values row same is =
     let next : row + 1 ≡ suc row = omega arith in
-    ap (λ n. flat_map (digit_row width values) (range_with_len 0 n)) next ∙ flat_map_more (digit_row width values) 0 row row (omega arith)
+    ap (λ n. flat_map (digit_row width values) (range_with_len 0 n)) next ∙ flat_map_more (digit_row width values) 0 row same (omega (arith, is))
 
 -- the colours of a row are those of some pixels
 pub row_small : (values : List ℕ) (start end : ℕ) → All (λ c. c ≤ 9) values → All (λ c. c ≤ 9) (slice_range values start end)

@@ -1,5 +1,6 @@
 pub mod AnsweringLemmas
 pub mod BlockLemmas
+pub mod CodeLemmas
 pub mod CutLemmas
 pub mod DigitLemmas
 pub mod FileLemmas
