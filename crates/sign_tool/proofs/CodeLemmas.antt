@@ -1,6 +1,6 @@
 -- The texts of the answers about codes and times.
 use Rattle.std.proofs.Common.{◌≡◌, ◌≢◌, ℕ, List, [], ◌∷◌, ◌++◌, refl, ap, ◌∙◌, append_assoc}
-use Rattle.std.specs.Prelude.{◌==◌, codes, decimal}
+use Rattle.std.specs.Prelude.{codes, decimal}
 use Rattle.std.specs.Int.{w16, to_be_bytes}
 use Rattle.std.proofs.lemmas.Bool.{ne_eqb}
 use Rattle.hex.specs.Hex.{encode_lower, encode_with}
@@ -24,7 +24,7 @@ pub code_told : (message : MsgRef) (duration priority crc : ℕ) (start a b c d 
 code_told message duration priority crc start a b c d e first third fourth is_a is_first is_b is_c is_third is_d is_fourth is_e =
     let second = priority ∷ message.memory ∷ [] in
     let parts : encode_lower (first ++ (second ++ (third ++ (fourth ++ (0 ∷ 0 ∷ 0 ∷ 0 ∷ [])))))
-        ≡ encode_lower first ++ (encode_lower second ++ (encode_lower third ++ (encode_lower fourth ++ encode_lower (0 ∷ 0 ∷ 0 ∷ 0 ∷ [])))) =
+    ≡ encode_lower first ++ (encode_lower second ++ (encode_lower third ++ (encode_lower fourth ++ encode_lower (0 ∷ 0 ∷ 0 ∷ 0 ∷ [])))) =
     hex_more first (second ++ (third ++ (fourth ++ (0 ∷ 0 ∷ 0 ∷ 0 ∷ []))))
     ∙ ap (λ l. encode_lower first ++ l) (hex_more second (third ++ (fourth ++ (0 ∷ 0 ∷ 0 ∷ 0 ∷ [])))
     ∙ ap (λ l. encode_lower second ++ l) (hex_more third (fourth ++ (0 ∷ 0 ∷ 0 ∷ 0 ∷ []))

@@ -1,5 +1,5 @@
 -- The colours of pixels as rows of digits.
-use Rattle.std.proofs.Common.{◌≡◌, ℕ, suc, ◌+◌, ◌-◌, ◌*◌, ◌<◌, ◌≤◌, List, [], ◌∷◌, ◌++◌, Option, Some, length, take, drop, slice_range, refl, sym, ap, ◌∙◌, subst, arith, append-nil}
+use Rattle.std.proofs.Common.{◌≡◌, ℕ, suc, ◌+◌, ◌-◌, ◌*◌, ◌≤◌, List, [], ◌++◌, Some, length, drop, slice_range, refl, ap, ◌∙◌, arith, append-nil}
 use Rattle.std.specs.List.{All, flat_map, range_with_len}
 use Rattle.std.proofs.lemmas.List.Elements.{All-drop, All-take}
 use Rattle.std.proofs.lemmas.List.{drop_all}
@@ -7,7 +7,6 @@ use Rattle.octet_text.proofs.TextLemmas.{flat_map_more}
 use Rattle.sign_font.specs.Sign.{SignData}
 use Rattle.multi_layout.specs.declared.times.Shown.{Shown}
 use Rattle.page_picture.specs.Shown.{colours}
-use Rattle.page_picture.proofs.ShownLemmas.{colours_small}
 use Rattle.sign_control.specs.Colours.{TellsColours}
 use Rattle.sign_tool.specs.Served.{digit_row, digit_rows}
 

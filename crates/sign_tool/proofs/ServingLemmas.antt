@@ -1,18 +1,16 @@
 -- A sign that is served, from its first line on.
-use Rattle.std.proofs.Common.{◌≡◌, ◌≢◌, ◌⊎◌, inl, inr, ℕ, ◌+◌, ◌*◌, ◌^◌, ◌<◌, ◌≤◌, Bool, true, false, List, [], ◌∷◌, ◌++◌, Option, None, Some, IfSome, Result, Ok, Err, length, map, take, drop, refl, sym, ap, ◌∙◌, subst, arith, append_assoc, append-nil, take-append-drop}
-use Rattle.std.specs.declared.alloc.AllocError.{AllocError}
+use Rattle.std.proofs.Common.{◌≡◌, ◌≢◌, inl, inr, ℕ, ◌+◌, ◌*◌, ◌^◌, ◌<◌, ◌≤◌, Bool, true, false, List, [], ◌∷◌, ◌++◌, Option, None, Some, IfSome, Result, Ok, Err, length, take, drop, refl, sym, ap, ◌∙◌, subst, arith, append_assoc, append-nil, take-append-drop}
 use Rattle.std.proofs.lemmas.List.{length-append, length-drop, take_all, take_at}
 use Rattle.std.proofs.lemmas.List.Elements.{All-append, All-nil}
-use Rattle.std.specs.Io.KnownBytes.{Appends, Consumes, IsAtEnd, Keeps, prepend_known}
+use Rattle.std.specs.Io.KnownBytes.{Appends, Consumes, IsAtEnd, prepend_known}
 use Rattle.std.proofs.KnownBytes.{Appends-nil, Appends-trans, Consumes-kept, Consumes-nil, Consumes-trans, Consumes-whole}
 use Rattle.tool_streams.specs.declared.fault.ToolFault.{ToolFault}
 use Rattle.tool_streams.specs.declared.fault.ToolFault.TheVariants as faults
-use Rattle.tool_streams.specs.Lines.{IsOneLine, cut, octets_of, text_of}
+use Rattle.tool_streams.specs.Lines.{IsOneLine, cut}
 use Rattle.sign_tool.specs.declared.first.FirstLine.{FirstLine}
 use Rattle.sign_tool.specs.declared.first.FirstLine.TheVariants as line_is
 use Rattle.sign_tool.specs.Blocks.{EndsRefused, ReadsMore, WritesReady}
-use Rattle.sign_tool.specs.Runs.{IsFront, IsOfLines, fault_of}
-use Rattle.sign_tool.specs.Served.{told_line}
+use Rattle.sign_tool.specs.Runs.{IsFront, fault_of}
 use Rattle.sign_tool.specs.Serving.{AnswersNext, EndsServed, PassesCut, ServerData, Serves, last_line, last_reply, replies_so_far, replies_to, replies_to_all, told_cut}
 use Rattle.sign_tool.proofs.AnsweringLemmas.{passes_front, reads_behind, taken_held, takes_nothing}
 use Rattle.sign_tool.proofs.CutLemmas.{AreLines-more, octets_of-more}
@@ -196,7 +194,7 @@ module _ (server here : ServerData) (input now output written : Option (List ℕ
           one = go.one;
           is_lost = subst (λ b. IsLost b lost) p.1 go.is_lost;
           looked = omega arith;
-          none = subst IsOneLine (sym (take_all (length rest') rest' (omega arith)) ) (subst IsOneLine (sym same) one);
+          none = subst IsOneLine (sym (take_all (length rest') rest' (omega arith))) (subst IsOneLine (sym same) one);
           given = go.given;
           counted = omega (arith, go.counted, ap length same);
         },
@@ -340,10 +338,13 @@ module _ (server here : ServerData) (input now output written : Option (List ℕ
       let a = subst (λ n. AnswersNext here here' is_cut octets ready ready' (Ok n)) which answers in
       let w = subst (λ n. WritesReady written written' n ready' ready'' (Ok tt)) which writes in
       let (line, others, begins, counts, says, is) = a in (
-        taken ++ ((lost ++ line) ++ 10 ∷ []), [], gone ++ w.0, lines ++ (lost ++ line) ∷ [],
+        taken ++ ((lost ++ line) ++ 10 ∷ []),
+        [],
+        gone ++ w.0,
+        lines ++ (lost ++ line) ∷ [],
         wrote server here' input now output written (drop count rest) ready' 0 false (taken ++ ((lost ++ line) ++ 10 ∷ [])) [] gone (lines ++ (lost ++ line) ∷ []) (rounds + 1)
-        (answered server here input now output written rest ready seen is_cut taken lost gone lines rounds go here' line others ready' count (sym same ∙ begins.stands) begins.one counts says is)
-        written' w.0 ready'' w.1 w.2,
+            (answered server here input now output written rest ready seen is_cut taken lost gone lines rounds go here' line others ready' count (sym same ∙ begins.stands) begins.one counts says is)
+            written' w.0 ready'' w.1 w.2,
       )
 
   -- no line ends here: what is ready is written, and too much of one line is passed over

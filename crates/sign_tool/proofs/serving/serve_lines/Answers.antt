@@ -1,4 +1,4 @@
-use Rattle.std.proofs.Common.{◌≡◌, ◌∙◌, [], refl, ap, arith, subst}
+use Rattle.std.proofs.Common.{◌∙◌, [], refl, ap, arith, subst}
 use Rattle.std.proofs.lemmas.Result.{err_from_is_err_and}
 use Rattle.sign_tool.specs.Ready.{ReadyData}
 use Rattle.sign_tool.specs.Serving.{EndsServed}
@@ -39,14 +39,14 @@ returns-then-branch-eq0 g c =
 pub loop-round-preserved : goal.loop-round-preserved
 loop-round-preserved g c = elim c.match-next.branch [
   | in-Answered w ↦
-    let (taken, lost, gone, lines, go, none) = c.loop-round.invariant in
-    let s = ServingLemmas.goes_on _ _ _ _ _ _ _ _ _ _ _ _ _ _ _ go c.answer_next.new.server c.all.result.now c.answer_next.new.ready.whole c.write_ready.new.ready.whole c.in-Ok.next w.in-Answered.count _ c.all.ensures w.in-Answered.is c.in-Ok.ensures.next c.in_ok-write_ready.ensures.written in
-    rw (w.reader-is, w.block-is, w.seen-is, w.is_cut-is, w.pass.ensures) (s.0, s.1, s.2, s.3, s.4, c.in_ok-write_ready.ensures.begun)
+      let (taken, lost, gone, lines, go, none) = c.loop-round.invariant in
+      let s = ServingLemmas.goes_on _ _ _ _ _ _ _ _ _ _ _ _ _ _ _ go c.answer_next.new.server c.all.result.now c.answer_next.new.ready.whole c.write_ready.new.ready.whole c.in-Ok.next w.in-Answered.count _ c.all.ensures w.in-Answered.is c.in-Ok.ensures.next c.in_ok-write_ready.ensures.written in
+      rw (w.reader-is, w.block-is, w.seen-is, w.is_cut-is, w.pass.ensures) (s.0, s.1, s.2, s.3, s.4, c.in_ok-write_ready.ensures.begun)
   | in_default+in_ok-read_more+else-branch-eq0 w ↦
-    let (taken, lost, gone, lines, go, none) = c.loop-round.invariant in
-    let s = ServingLemmas.paused _ _ _ _ _ _ _ _ _ _ _ _ _ _ _ go c.answer_next.new.server c.all.result.now c.answer_next.new.ready.whole c.write_ready.new.ready.whole w.pass_cut-is_cut.new.block c.in-Ok.next _ w.pass_cut-is_cut.result c.all.ensures w.in_default.not-Answered c.in-Ok.ensures.next c.in_ok-write_ready.ensures.written w.pass_cut-is_cut.ensures in
-    let on = ServingLemmas.read_more _ _ _ _ _ _ _ _ _ _ _ _ _ _ _ s.2 _ _ _ _ refl s.3 w.in_ok-read_more.ensures.reads (omega (arith, w.if-branch-eq0.false)) in
-    rw (w.reader-is, w.block-is, w.seen-is, w.len-seen.ensures.value, w.is_cut-is) (taken, s.0, s.1, lines, on, c.in_ok-write_ready.ensures.begun)
+      let (taken, lost, gone, lines, go, none) = c.loop-round.invariant in
+      let s = ServingLemmas.paused _ _ _ _ _ _ _ _ _ _ _ _ _ _ _ go c.answer_next.new.server c.all.result.now c.answer_next.new.ready.whole c.write_ready.new.ready.whole w.pass_cut-is_cut.new.block c.in-Ok.next _ w.pass_cut-is_cut.result c.all.ensures w.in_default.not-Answered c.in-Ok.ensures.next c.in_ok-write_ready.ensures.written w.pass_cut-is_cut.ensures in
+      let on = ServingLemmas.read_more _ _ _ _ _ _ _ _ _ _ _ _ _ _ _ s.2 _ _ _ _ refl s.3 w.in_ok-read_more.ensures.reads (omega (arith, w.if-branch-eq0.false)) in
+      rw (w.reader-is, w.block-is, w.seen-is, w.len-seen.ensures.value, w.is_cut-is) (taken, s.0, s.1, lines, on, c.in_ok-write_ready.ensures.begun)
 ]
 
 pub returns : goal.returns
