@@ -14,5 +14,6 @@ pub mod ScriptLemmas
 pub mod ServeClauses
 pub mod ServedLemmas
 pub mod ServingLemmas
+pub mod ServingSteps
 pub mod StartLemmas
 pub mod ToolLemmas
