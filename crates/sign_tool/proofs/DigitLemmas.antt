@@ -1,5 +1,5 @@
 -- The colours of pixels as rows of digits.
-use Rattle.std.proofs.Common.{◌≡◌, ℕ, suc, ◌+◌, ◌-◌, ◌*◌, ◌<◌, ◌≤◌, List, [], ◌∷◌, ◌++◌, Option, Some, length, take, drop, slice_range, refl, sym, ap, ◌∙◌, subst, arith, append-nil}
+use Rattle.std.proofs.Common.{◌≡◌, ℕ, suc, ◌+◌, ◌-◌, ◌*◌, ◌≤◌, List, [], ◌++◌, Some, length, drop, slice_range, refl, ap, ◌∙◌, arith, append-nil}
 use Rattle.std.specs.List.{All, flat_map, range_with_len}
 use Rattle.std.proofs.lemmas.List.Elements.{All-drop, All-take}
 use Rattle.std.proofs.lemmas.List.{drop_all}
@@ -7,7 +7,6 @@ use Rattle.octet_text.proofs.TextLemmas.{flat_map_more}
 use Rattle.sign_font.specs.Sign.{SignData}
 use Rattle.multi_layout.specs.declared.times.Shown.{Shown}
 use Rattle.page_picture.specs.Shown.{colours}
-use Rattle.page_picture.proofs.ShownLemmas.{colours_small}
 use Rattle.sign_control.specs.Colours.{TellsColours}
 use Rattle.sign_tool.specs.Served.{digit_row, digit_rows}
 
@@ -16,11 +15,11 @@ unfolding digit_rows
 rows_none width values = refl
 
 -- one more row comes behind those above it
-pub rows_more : (width : ℕ) (values : List ℕ) (row : ℕ) → digit_rows width values (row + 1) ≡ digit_rows width values row ++ digit_row width values row
+pub rows_more : (width : ℕ) (values : List ℕ) (row same : ℕ) → same ≡ row → digit_rows width values (row + 1) ≡ digit_rows width values row ++ digit_row width values same
 unfolding digit_rows
-rows_more width values row =
+rows_more width values row same is =
     let next : row + 1 ≡ suc row = omega arith in
-    ap (λ n. flat_map (digit_row width values) (range_with_len 0 n)) next ∙ flat_map_more (digit_row width values) 0 row row (omega arith)
+    ap (λ n. flat_map (digit_row width values) (range_with_len 0 n)) next ∙ flat_map_more (digit_row width values) 0 row same (omega (arith, is))
 
 -- the colours of a row are those of some pixels
 pub row_small : (values : List ℕ) (start end : ℕ) → All (λ c. c ≤ 9) values → All (λ c. c ≤ 9) (slice_range values start end)

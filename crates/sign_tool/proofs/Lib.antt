@@ -1,5 +1,6 @@
 pub mod AnsweringLemmas
 pub mod BlockLemmas
+pub mod CodeLemmas
 pub mod CutLemmas
 pub mod DigitLemmas
 pub mod FileLemmas
@@ -13,5 +14,6 @@ pub mod ScriptLemmas
 pub mod ServeClauses
 pub mod ServedLemmas
 pub mod ServingLemmas
+pub mod ServingSteps
 pub mod StartLemmas
 pub mod ToolLemmas

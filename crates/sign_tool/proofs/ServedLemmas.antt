@@ -1,14 +1,12 @@
 -- The replies of a served sign, line by line.
-use Rattle.std.proofs.Common.{◌≡◌, ◌≢◌, inl, inr, ℕ, suc, ◌+◌, ◌<◌, ◌≤◌, Bool, true, false, List, [], ◌∷◌, ◌++◌, length, map, Option, Some, None, refl, sym, ap, ◌∙◌, subst, arith, append_assoc, append-nil}
+use Rattle.std.proofs.Common.{◌≡◌, inl, inr, ℕ, suc, ◌<◌, Bool, true, false, List, [], ◌∷◌, ◌++◌, length, Option, Some, None, refl, sym, ap, ◌∙◌, arith, append_assoc, append-nil}
 use Rattle.std.specs.Prelude.{nat_lt}
 use Rattle.std.proofs.lemmas.Bool.{cases_Bool, lt-ltb}
-use Rattle.std.proofs.lemmas.Grind.{flat_map-append}
 use Rattle.std.proofs.lemmas.List.{length-append}
 use Rattle.sign_font.specs.Sign.{SignData}
 use Rattle.sign_control.specs.declared.command.Command.{Command}
 use Rattle.sign_control.specs.Run.{run}
 use Rattle.sign_control.specs.State.{StateData}
-use Rattle.sign_script.specs.declared.ask.Ask.{Ask}
 use Rattle.sign_script.specs.declared.ask.Ask.TheVariants as ask
 use Rattle.sign_script.specs.declared.question.Question.{Question}
 use Rattle.sign_script.specs.declared.question.Question.TheVariants as question
@@ -16,7 +14,7 @@ use Rattle.sign_script.specs.Questions.{question_of}
 use Rattle.tool_streams.specs.Lines.{Cut, IsOneLine, cut, octets_of, text_of}
 use Rattle.tool_streams.proofs.SeenLemmas.{length-text_of}
 use Rattle.sign_tool.specs.Script.{Told}
-use Rattle.sign_tool.specs.Served.{OneReplyEach, ServesOn, command_of, joined, line_command, served, served_commands, told_line, told_or_bad}
+use Rattle.sign_tool.specs.Served.{OneReplyEach, ServesOn, command_of, line_command, served, served_commands, told_line, told_or_bad}
 use Rattle.sign_tool.specs.Serving.{ServerData, last_line, last_reply, replies_so_far, replies_to, replies_to_all, told_cut}
 use Rattle.sign_tool.proofs.CutLemmas.{AreLines, cut-lines, cut-unfinished}
 

@@ -1,19 +1,15 @@
 -- A sign that is served, from its first line on.
-use Rattle.std.proofs.Common.{◌≡◌, ◌≢◌, ◌⊎◌, inl, inr, ℕ, ◌+◌, ◌*◌, ◌^◌, ◌<◌, ◌≤◌, Bool, true, false, List, [], ◌∷◌, ◌++◌, Option, None, Some, IfSome, Result, Ok, Err, length, map, take, drop, refl, sym, ap, ◌∙◌, subst, arith, append_assoc, append-nil, take-append-drop}
-use Rattle.std.specs.declared.alloc.AllocError.{AllocError}
+use Rattle.std.proofs.Common.{◌≡◌, ◌≢◌, inl, inr, ℕ, ◌+◌, ◌*◌, ◌^◌, ◌<◌, ◌≤◌, Bool, true, false, List, [], ◌∷◌, ◌++◌, Option, None, Some, IfSome, Result, Ok, Err, length, take, drop, refl, sym, ap, ◌∙◌, subst, arith, append_assoc, append-nil, take-append-drop}
 use Rattle.std.proofs.lemmas.List.{length-append, length-drop, take_all, take_at}
 use Rattle.std.proofs.lemmas.List.Elements.{All-append, All-nil}
-use Rattle.std.specs.Io.KnownBytes.{Appends, Consumes, IsAtEnd, Keeps, prepend_known}
+use Rattle.std.specs.Io.KnownBytes.{Appends, Consumes, IsAtEnd, prepend_known}
 use Rattle.std.proofs.KnownBytes.{Appends-nil, Appends-trans, Consumes-kept, Consumes-trans, Consumes-whole}
 use Rattle.tool_streams.specs.declared.fault.ToolFault.{ToolFault}
 use Rattle.tool_streams.specs.declared.fault.ToolFault.TheVariants as faults
-use Rattle.tool_streams.specs.Lines.{IsOneLine, cut, octets_of, text_of}
-use Rattle.sign_tool.specs.declared.first.FirstLine.{FirstLine}
-use Rattle.sign_tool.specs.declared.first.FirstLine.TheVariants as line_is
-use Rattle.sign_tool.specs.Blocks.{EndsRefused, ReadsMore, WritesReady}
-use Rattle.sign_tool.specs.Runs.{IsFront, IsOfLines, fault_of}
-use Rattle.sign_tool.specs.Served.{told_line}
-use Rattle.sign_tool.specs.Serving.{AnswersNext, EndsServed, PassesCut, ServerData, Serves, last_line, last_reply, replies_so_far, replies_to, replies_to_all, told_cut}
+use Rattle.tool_streams.specs.Lines.{IsOneLine, cut}
+use Rattle.sign_tool.specs.Blocks.{EndsRefused, ReadsMore}
+use Rattle.sign_tool.specs.Runs.{IsFront, fault_of}
+use Rattle.sign_tool.specs.Serving.{EndsServed, PassesCut, ServerData, Serves, last_line, last_reply, replies_so_far, replies_to, replies_to_all, told_cut}
 use Rattle.sign_tool.proofs.AnsweringLemmas.{passes_front, reads_behind, taken_held, takes_nothing}
 use Rattle.sign_tool.proofs.CutLemmas.{AreLines-more, octets_of-more}
 use Rattle.sign_tool.proofs.RunLemmas.{told}
@@ -80,7 +76,7 @@ module _ (server here : ServerData) (input now output written : Option (List ℕ
             ∙ (let regrouped : (gone ++ ready) ++ others ≡ (gone ++ part) ++ (unsent ++ others) = rw (← all) (simp append_assoc refl) in regrouped),
       )
 
-  pub front : (part unsent : List ℕ) → part ++ unsent ≡ ready → IfSome input (λ octets. IsFront (gone ++ part) (replies_to_all server octets))
+  front : (part unsent : List ℕ) → part ++ unsent ≡ ready → IfSome input (λ octets. IsFront (gone ++ part) (replies_to_all server octets))
   front part unsent all = told input now (taken ++ (lost ++ rest)) (λ octets. IsFront (gone ++ part) (replies_to_all server octets)) all_taken (front_of part unsent all)
 
   -- not all of what is ready is written
@@ -125,7 +121,7 @@ module _ (server here : ServerData) (input now output written : Option (List ℕ
   }
 
   -- the reader fails
-  pub ends_failed : IsOneLine rest → ready ≡ [] → Serves server input now output written (Some faults.Read)
+  ends_failed : IsOneLine rest → ready ≡ [] → Serves server input now output written (Some faults.Read)
   ends_failed one empty = record {
     taken = taken ++ (lost ++ rest);
     sent = gone;
@@ -196,7 +192,7 @@ module _ (server here : ServerData) (input now output written : Option (List ℕ
           one = go.one;
           is_lost = subst (λ b. IsLost b lost) p.1 go.is_lost;
           looked = omega arith;
-          none = subst IsOneLine (sym (take_all (length rest') rest' (omega arith)) ) (subst IsOneLine (sym same) one);
+          none = subst IsOneLine (sym (take_all (length rest') rest' (omega arith))) (subst IsOneLine (sym same) one);
           given = go.given;
           counted = omega (arith, go.counted, ap length same);
         },

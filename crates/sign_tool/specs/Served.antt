@@ -1,5 +1,5 @@
 -- What a served sign answers.
-use Rattle.std.specs.Prelude.{◌≡◌, ℕ, ◌+◌, ◌*◌, ◌==◌, Bool, true, false, List, [], ◌∷◌, ◌++◌, length, map, nat_lt, slice_range, if◌then◌else◌, codes, decimal, Option, None, Some, Result, Ok, Err}
+use Rattle.std.specs.Prelude.{◌≡◌, ℕ, ◌+◌, ◌*◌, ◌==◌, List, [], ◌∷◌, ◌++◌, length, map, nat_lt, slice_range, if◌then◌else◌, codes, decimal, Option, None, Some, Result, Ok, Err}
 use Rattle.std.specs.Int.{w16, to_be_bytes}
 use Rattle.std.specs.List.{flat_map, range_with_len}
 use Rattle.hex.specs.Hex.{encode_lower}
@@ -22,7 +22,6 @@ use Rattle.sign_script.specs.declared.ask.Ask.TheVariants as ask
 use Rattle.sign_script.specs.declared.question.Question.{Question}
 use Rattle.sign_script.specs.declared.question.Question.TheVariants as question
 use Rattle.sign_script.specs.Questions.{question_of}
-use Rattle.tool_streams.specs.Lines.{text_of}
 use Rattle.sign_tool.specs.Frame.{head_text}
 use Rattle.sign_tool.specs.Replies.{crc_text, fault_text}
 use Rattle.sign_tool.specs.Reply.{check_answer, too_long_text}

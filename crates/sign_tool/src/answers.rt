@@ -172,7 +172,8 @@ pub(crate) fn push_help(text: &mut Ready) -> Result<(), AllocError>
     push_octets(text, HELP_SERVED)
 }
 
-const HELP_COMMANDS: &[u8] = b"help: request M N C, multi M N TEXT, multix M N HEX, owner M N HEX, priority M N V, beacon M N V, pixel M N V, clear, work, ";
+const HELP_COMMANDS: &[u8] =
+    b"help: request M N C, multi M N TEXT, multix M N HEX, owner M N HEX, priority M N V, beacon M N V, pixel M N V, clear, work, ";
 
 const HELP_SCRIPT: &[u8] =
     b"activate HEX, end HEX, tick T, default FIELD V, frame C, row M N, report, defaults, ";

@@ -60,7 +60,11 @@ fn push_display(text: &mut Ready, controller: &mut Controller, colour: u8) -> Re
 }
 
 /// Does what is asked for, and appends the reply.
-pub(crate) fn push_told(text: &mut Ready, controller: &mut Controller, ask: Ask<'_>) -> Result<(), AllocError>
+pub(crate) fn push_told(
+    text: &mut Ready,
+    controller: &mut Controller,
+    ask: Ask<'_>,
+) -> Result<(), AllocError>
     ensures text { OnOk result (text.new.begun ≡ text.old.begun ++ (told controller.old.sign controller.old.state ask.entry).text) }
     ensures state { controller.new.state ≡ (told controller.old.sign controller.old.state ask.entry).state }
     ensures sign { controller.new.sign ≡ controller.old.sign }

@@ -38,11 +38,7 @@ impl Model for Server {
 }
 
 /// Does what a line of a script asks for, and appends the reply.
-fn push_asked(
-    text: &mut Ready,
-    controller: &mut Controller,
-    ask: Ask<'_>,
-) -> Result<(), AllocError>
+fn push_asked(text: &mut Ready, controller: &mut Controller, ask: Ask<'_>) -> Result<(), AllocError>
     ensures text { OnOk result (text.new.begun ≡ text.old.begun ++ (told_ask controller.old.sign controller.old.state ask.entry).text) }
     ensures state { controller.new.state ≡ (told_ask controller.old.sign controller.old.state ask.entry).state }
     ensures sign { controller.new.sign ≡ controller.old.sign }

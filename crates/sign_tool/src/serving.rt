@@ -1,5 +1,5 @@
 //! The loop that answers the lines of a served sign, over a reader and a writer.
-ghost use Rattle.std.specs.Prelude.{◌≡◌, ◌^◌, ◌≤◌, ◌++◌, ◌⊎◌, [], List, ℕ, IfErr, IfOk, IfSome, OnOk, Some, length, take};
+ghost use Rattle.std.specs.Prelude.{◌≡◌, ◌^◌, ◌≤◌, ◌++◌, ◌⊎◌, [], List, ℕ, IfErr, IfSome, OnOk, Some, length, take};
 ghost use Rattle.std.specs.Io.KnownBytes.{Appends, Consumes};
 ghost use Rattle.tool_streams.specs.Lines.{IsOneLine};
 ghost use Rattle.sign_tool.specs.Runs.{IsFront, WritesLines, fault_of};
