@@ -28,5 +28,5 @@ mod tool;
 pub use laws::{scripts_run_the_controller, served_signs_run_the_controller};
 pub use serving::serve;
 pub use setup::Setup;
-pub use start::{Start, begin, setup_of_octets};
+pub use start::{Start, begin};
 pub use tool::{Mode, run_script, run_tool};

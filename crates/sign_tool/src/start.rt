@@ -65,7 +65,7 @@ fn read_file<R: Read>(alloc: Global, reader: &mut R) -> Result<FilePart, ToolFau
 
 /// What a sign file's octets set up: the sign first, and then its store. The errors are `BadSign`, `SignRefused` and
 /// `Memory`.
-pub fn setup_of_octets(alloc: Global, octets: &[u8]) -> Result<Setup, ToolFault>
+fn setup_of_octets(alloc: Global, octets: &[u8]) -> Result<Setup, ToolFault>
     ensures ok { IfOk result (λ setup. setup_of_octets octets.now ≡ Ok setup) }
     ensures err { IfErr result (λ e. (e ≡ ToolFault.Memory) ⊎ (setup_of_octets octets.now ≡ Err e)) }
 {

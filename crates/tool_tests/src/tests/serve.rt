@@ -13,18 +13,18 @@ const REPLIES: &[u8] =
     b"ok\nok\nbad line\ndone\ncrc 9a66\nerror 5 3\nnext never\ncode 0001020300010f4700000000\nidle\n";
 
 /// How the sample sign ends on these streams.
-fn end<R: Read, W: Write>(
-    alloc: Global,
-    reader: &mut R,
-    writer: &mut W,
-) -> Result<(), ToolFault> {
+fn end<R: Read, W: Write>(alloc: Global, reader: &mut R, writer: &mut W) -> Result<(), ToolFault> {
     let start = begin(alloc, true, reader)?;
     serve(alloc, start.setup, reader, writer)
 }
 
 /// How many octets are written for the first lines of the input, if this many octets of it are read.
 fn written_for(octets: usize) -> usize {
-    let mut lines = LINES.iter().take(octets).filter(|octet| **octet == b'\n').count();
+    let mut lines = LINES
+        .iter()
+        .take(octets)
+        .filter(|octet| **octet == b'\n')
+        .count();
     let mut written = 0usize;
     for octet in REPLIES {
         if lines == 0 {
@@ -60,7 +60,15 @@ fn a_failed_write_ends_a_served_sign_after_a_front_of_its_replies(rt: HostRuntim
             fails: true,
         };
         let end = end(rt.alloc(), &mut reader, &mut writer);
-        so(&rt, end.is_ok() == (room == REPLIES.len()), "it ends with the write");
-        so(&rt, writer.taken.as_slice() == &REPLIES[..room], "a front is written");
+        so(
+            &rt,
+            end.is_ok() == (room == REPLIES.len()),
+            "it ends with the write",
+        );
+        so(
+            &rt,
+            writer.taken.as_slice() == &REPLIES[..room],
+            "a front is written",
+        );
     }
 }
