@@ -77,17 +77,16 @@ fn command<'a>(alloc: Global) -> Result<Command<'a>, AllocError> {
     with_files(alloc, with_pages(alloc, with_lines(alloc, tool)?)?)
 }
 
-/// What a command with this name is asked for, or why it can't be done. `font` is asked for apart, since it takes memory.
-fn asked_of<'a>(name: &str, asked: &ArgMatches<'a>) -> Result<Request<'a>, &'static str> {
-    Ok(match name {
+/// What a command with this name is asked for. `font` and `picture` are asked for apart, since they can be refused.
+fn asked_of<'a>(name: &str, asked: &ArgMatches<'a>) -> Request<'a> {
+    match name {
         "show" => Request::Lines(show_asked(asked)),
         "run" => Request::Lines(run_asked(asked)),
         "serve" => Request::Serve(serve_asked(asked)),
         "explain" => Request::Explain(explain_asked(asked)),
-        "picture" => Request::Picture(picture_asked(asked)?),
         "sign" => Request::Sign(sign_asked(asked)),
         _ => Request::Lines(check_asked(asked)),
-    })
+    }
 }
 
 /// Reads the words, the program's name first. Help is an `Err` too, and so is refused memory.
@@ -100,12 +99,14 @@ pub(crate) fn request_of<'a>(alloc: Global, words: &'a [&'a str]) -> Result<Requ
             None => Err(tool.error(ErrorKind::InvalidValue, NO_CHARACTERS)?),
         };
     }
-    let request = match matches.subcommand() {
-        Some((name, asked)) => asked_of(name, asked),
-        None => Err("no command"),
-    };
-    match request {
-        Ok(request) => Ok(request),
-        Err(why) => Err(tool.error(ErrorKind::ArgumentConflict, why)?),
+    if let Some(picture) = matches.subcommand_matches("picture") {
+        return match picture_asked(picture) {
+            Ok(asked) => Ok(Request::Picture(asked)),
+            Err(why) => Err(tool.error(ErrorKind::ArgumentConflict, why)?),
+        };
+    }
+    match matches.subcommand() {
+        Some((name, asked)) => Ok(asked_of(name, asked)),
+        None => Err(tool.error(ErrorKind::MissingSubcommand, "no command")?),
     }
 }
