@@ -282,10 +282,13 @@ class Libraries(unittest.TestCase):
             code = "".join(line[4:] if line.strip() else line for line in program.splitlines(keepends=True))
             if code.startswith("from latsefur"):
                 told = io.StringIO()
-                with contextlib.redirect_stdout(told), moved(TOP):
+                program_named = mock.patch.dict(os.environ, {"LATSEFUR_SIGNCTL": str(TOP / "bin/signctl")})
+                with contextlib.redirect_stdout(told), moved(TOP), program_named:
                     exec(code, {})
                 written.append(told.getvalue().splitlines())
-        self.assertEqual(written, [["ok 1", "error 5 8"], ["worked 1 4 2 2 0", "shown", "ticked 1 ended"]])
+        self.assertEqual(written, [
+            ["ok 1", "error 5 8"], ["worked 1 4 2 2 0", "shown", "ticked 1 ended"], ["1 20 ticked page 1 phase 0"],
+        ])
         for line in (line for lines in written for line in lines):
             self.assertIn(f"`{line}`", readme)
 
