@@ -50,7 +50,7 @@ def main() -> None:
         )
     elif not asked.explains:
         print(
-            f"{asked.path} is too old to explain: refusals have their names alone", file=sys.stderr
+            f"{asked.path} tells no reasons in JSON: refusals have their names alone", file=sys.stderr
         )
     if words.open:
         webbrowser.open(server.url)
