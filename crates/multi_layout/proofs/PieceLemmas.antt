@@ -55,7 +55,7 @@ unfilled_item sign all before more (Shows number) is = unfilled_character sign a
 unfilled_item sign all before more (Does (NewLine gap)) is = refl
 unfilled_item sign all before more _ is = refl
 
-unfilled_items : (sign : SignData) (all some more : List Meaning) → all ≡ some ++ more → laid_items Off sign all some ≡ some
+pub unfilled_items : (sign : SignData) (all some more : List Meaning) → all ≡ some ++ more → laid_items Off sign all some ≡ some
 unfilled_items sign all = push_ind (λ some. (more : List Meaning) → all ≡ some ++ more → laid_items Off sign all some ≡ some) (λ more is. refl) step
   where
     step : (some : List Meaning) (x : Meaning) → ((more : List Meaning) → all ≡ some ++ more → laid_items Off sign all some ≡ some) → (more : List Meaning) → all ≡ (some ++ x ∷ []) ++ more → laid_items Off sign all (some ++ x ∷ []) ≡ some ++ x ∷ []

@@ -7,15 +7,14 @@ use Rattle.sign_font.specs.declared.parts.LineFill.TheVariants.{Words}
 use Rattle.sign_font.specs.Sign.{SignData}
 use Rattle.multi_layout.specs.declared.fault.SyntaxError.{SyntaxError}
 use Rattle.multi_layout.specs.declared.pass.Pass.{Pass}
-use Rattle.multi_layout.specs.declared.line.Line.{Line}
 use Rattle.multi_layout.specs.Address.{in_group, is_break, standing}
 use Rattle.multi_layout.specs.Codes.{code_of}
 use Rattle.multi_layout.specs.Filling.{filled}
 use Rattle.multi_layout.specs.FillOpen.{AllOpenFit}
-use Rattle.multi_layout.specs.FillSums.{EndsLine, IsSplitBelow, order_sum, split_sum}
+use Rattle.multi_layout.specs.FillSums.{IsSplitBelow, order_sum, split_sum}
 use Rattle.multi_layout.specs.Offence.{offence}
 use Rattle.multi_layout.specs.LaidItems.{laid_items}
-use Rattle.multi_layout.specs.Meaning.{Meaning, Shows}
+use Rattle.multi_layout.specs.Meaning.{Meaning}
 use Rattle.multi_layout.specs.State.{IsReady, IsStateOf, present_area}
 
 -- it is what is kept of these items: the state of the items as they are laid out, the parts of the present line around its last
@@ -52,14 +51,3 @@ begins_line NewPage = true
 begins_line (NewLine gap) = true
 begins_line (Rect x y w h) = true
 begins_line tag = false
-
--- one more character is passed that doesn't offend: this is then what is kept of the items with it, its group is the present one,
--- the other groups stay as they are laid out, and its own has the lines that it had, or one more (own)
-pub record IsFilledBehind (sign : SignData) (items : List Meaning) (number : ℕ) (old new : Pass) (ended : Option Line) : Type 0 where
-  pub of : IsFilledOf sign (items ++ Shows number ∷ []) new
-  pub present : new.state.area.present ≡ old.state.attributes.page_just
-  pub order : old.state.area.present ≤ old.state.attributes.page_just
-  pub others : (just : ℕ) → (just ≡ old.state.attributes.page_just → ⊥)
-      → in_group just (present_area sign (laid_items Words sign (items ++ Shows number ∷ []) (items ++ Shows number ∷ []))) ≡ in_group just (present_area sign (laid_items Words sign items items))
-  pub own : EndsLine (in_group old.state.attributes.page_just (present_area sign (laid_items Words sign items items)))
-      (in_group old.state.attributes.page_just (present_area sign (laid_items Words sign (items ++ Shows number ∷ []) (items ++ Shows number ∷ [])))) ended

@@ -1,4 +1,5 @@
 pub mod Address
+pub mod AreaRead
 pub mod Attributes
 pub mod CheckedData
 pub mod Codes
@@ -6,7 +7,6 @@ pub mod Drawn
 pub mod FillLaw
 pub mod FillOpen
 pub mod FillSums
-pub mod FilledRead
 pub mod FilledRun
 pub mod FilledState
 pub mod Filling
