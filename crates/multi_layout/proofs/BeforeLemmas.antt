@@ -43,9 +43,6 @@ and_true false = refl
 le_test : (a b w : ℕ) → a ≤ b → nat_le b w ≡ true → nat_le a w ≡ true
 le_test a b w h k = grind (arith, nat_tests)
 
-none_le : (w : ℕ) → nat_le 0 w ≡ true
-none_le w = grind (arith, nat_tests)
-
 -- ---- the line of a character
 
 module _ (width : ℕ) (line : List Spot) (s : Spot) (l : Line) (e : l ≡ line_sum (line ++ s ∷ [])) (own : l.present ≡ s.at.line_just) (known : l.present ≤ 5) (fits : line_fits width line ≡ true) where

@@ -31,7 +31,3 @@ below_more k m area h b = record { top = omega (arith, h, b.top); middle = omega
 pub split_more : (k m : ℕ) (o : Option Split) → k ≤ m → IsSplitBelow k o → IsSplitBelow m o
 split_more k m None h b = b
 split_more k m (Some split) h b = (line_more k m split.before h b.0, line_more k m split.behind h b.1)
-
--- the sums of no character are below any bound
-pub none_below : (k : ℕ) → IsLineBelow k (line_sum [])
-none_below k = record { left = omega arith; centre = omega arith; right = omega arith; part = record { width = omega arith; count = omega arith }; known = omega arith }

@@ -50,13 +50,3 @@ pub none_offends : {X Y : Type 0} (f : List X → X → Option Y) (xs : List X) 
 none_offends f xs x ys e =
     let all = sym (some_after-append f xs (x ∷ ys)) ∙ e in
     sym (ap (λ l. f l x) (append-nil xs)) ∙ none_of (f (xs ++ []) x) (some_after (λ before. f (xs ++ x ∷ before)) ys) (right_nil (some_after f xs) (some_after (λ before. f (xs ++ before)) (x ∷ ys)) all)
-
--- parts that fit stand inside the length
-pub inside_middle : (a b c len : ℕ) → fit a b c len ≡ true → start 3 len b + b ≤ len
-inside_middle a b c len h = grind (arith, nat_tests)
-
-pub inside_end : (a b c len : ℕ) → fit a b c len ≡ true → start 4 len c + c ≤ len
-inside_end a b c len h = grind (arith, nat_tests)
-
-pub inside_start : (a b c len : ℕ) → fit a b c len ≡ true → start 2 len a + a ≤ len
-inside_start a b c len h = grind (arith, nat_tests)

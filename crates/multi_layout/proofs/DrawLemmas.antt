@@ -175,10 +175,6 @@ rows_few sign old new octets rows some tall least most width height = record {
   height = height;
 }
 
--- none
-pub none_few : (sign : SignData) (old : BitPlane) (octets : ℕ) → IsFilledBy sign old old octets
-none_few sign old octets = record { fills = 0; few = omega arith; least = omega arith; most = no_more old.steps (tallest sign * octets) (plane_octets sign); width = refl; height = refl }
-
 -- one fill for four octets
 pub fill_few : (sign : SignData) (old new : BitPlane) (octets k : ℕ) → 4 ≤ octets → old.steps ≤ new.steps → new.steps ≤ old.steps + k → k ≡ plane_octets sign → new.width ≡ old.width → new.height ≡ old.height → IsFilledBy sign old new octets
 fill_few sign old new octets k four least most is width height = record {

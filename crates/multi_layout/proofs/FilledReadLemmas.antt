@@ -71,11 +71,6 @@ module _ (sign : SignData) (octets : List ℕ) (at : ℕ) (kept : Pass) (r : Rea
         read_more sign octets at (IsFilledFor sign kept) r t here stands (IsFilledFor sign new)
         (subst (λ setting. offence setting sign (map meaning r.items) (meaning (item_of octets t)) ≡ None) (sym r.is.words) fine) (record { words = r.is.words; of = of })
 
-    pub filled_refused : (code : ℕ) → offence Words sign (map meaning r.items) (meaning (item_of octets t)) ≡ Some code → IsVerdict sign octets (Refused code at)
-    filled_refused code offends =
-        refused_here sign octets at (IsFilledFor sign kept) r t here stands code
-        (subst (λ setting. offence setting sign (map meaning r.items) (meaning (item_of octets t)) ≡ Some code) (sym r.is.words) offends)
-
 -- one more octet that stands for itself
 module _ (sign : SignData) (octets : List ℕ) (at : ℕ) (kept : Pass) (r : ReadSoFar sign octets at (IsFilledFor sign kept)) (octet : ℕ) (short : length octets < 2 ^ 63) (here : slice_get octets at ≡ Some octet) (plain : IsPlain octet) where
   abbrev token : Token

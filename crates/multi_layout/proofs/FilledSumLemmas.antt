@@ -59,28 +59,6 @@ module _ (width : ℕ) where
         ∙ sym (append_assoc (ended width g) (open_line width g) (s ∷ []))
         ∙ ap (λ l. l ++ s ∷ []) (sym (filled_is width g placing))
 
--- THE SUMS
-
--- of a list that ends a line and characters behind it the sums are those of the list, with the characters' line
-module _ (width : ℕ) (xs : List Spot) (ends : Ends width xs) where
-  cut_open : (line : List Spot) → AllPass is_glyph line → cut is_break (xs ++ line) ≡ record { closed = (cut is_break xs).closed; open' = line }
-  cut_open line h = cut_with line xs h ∙ ap (λ l. let d : Cut Spot = record { closed = (cut is_break xs).closed; open' = l ++ line } in d) (ends_open width xs ends)
-
-  pub sums_open : (line : List Spot) → AllPass is_glyph line → group_sum (xs ++ line) ≡ cut_sums (record { closed = (cut is_break xs).closed; open' = line })
-  sums_open line h = sums_are (xs ++ line) ∙ ap cut_sums (cut_open line h)
-
--- the sums of a filled group: what is ended, and the open line
-pub filled_sums : (width : ℕ) (g : List Spot) → All IsPlacing g → group_sum (filled (Some width) g) ≡ cut_sums (record { closed = (cut is_break (ended width g)).closed; open' = open_line width g })
-filled_sums width g placing = ap group_sum (filled_is width g placing) ∙ sums_open width (ended width g) (ended_ends width g placing) (open_line width g) (open_line_glyphs width g placing)
-
--- with the front of the open line they differ in the line alone, which is the sum that is kept of the front
-pub front_sums : (width : ℕ) (g before : List Spot) → All IsPlacing g → AllPass is_glyph before → group_sum (ended width g ++ before) ≡ cut_sums (record { closed = (cut is_break (ended width g)).closed; open' = before })
-front_sums width g before placing h = sums_open width (ended width g) (ended_ends width g placing) before h
-
--- and so do those behind a dropped space with and without the characters behind it
-pub behind_sums : (xs line : List Spot) (space : Spot) → AllPass is_glyph line → group_sum ((xs ++ dropped space ∷ []) ++ line) ≡ cut_sums (record { closed = (cut is_break (xs ++ dropped space ∷ [])).closed; open' = line })
-behind_sums xs line space h = sums_open 0 (xs ++ dropped space ∷ []) (inr (xs, dropped space, refl, refl)) line h
-
 -- THE PARTS OF THE OPEN LINE
 
 -- the parts around a line's last space, at one more character: a space begins a new word, another character lengthens the last

@@ -21,9 +21,3 @@ module _ (width_of : ℕ → Option ℕ) (word : Bool) (sound : (octet : ℕ) �
 
   pub front_width : HasWidth width_of gap (take len octets) (taken table gap (take len octets))
   front_width = run_width width_of word sound table tables gap (take len octets) front_octets small
-
-  pub front_plain : All IsPlain (take len octets)
-  front_plain = run_plain width_of word sound table tables gap (take len octets) front_octets small
-
-  pub front_word : word ≡ true → All IsNoSpace (take len octets)
-  front_word all = run_word width_of word sound table tables all gap (take len octets) front_octets small

@@ -83,15 +83,6 @@ pub record Run : Type 0 where
 abbrev pub number_of : List Spot → Option ℕ
 number_of line = last_or None (filter_map given_gap line)
 
-abbrev pub run_of : Cut Spot → Run
-run_of c = record {
-  closed = height_of c.closed;
-  last = option_map (λ line. (number_of line, line_spacing line)) (last_or None c.closed);
-  height = line_height c.open';
-  spacing = line_spacing c.open';
-  any = list_any is_glyph c.open';
-}
-
 -- the gap before the open line
 abbrev pub gap_from : Option (Option ℕ × ℕ) → ℕ → ℕ
 gap_from None spacing = 0
@@ -100,15 +91,6 @@ gap_from (Some last) spacing = unwrap_or last.0 (average last.1 spacing)
 gap_if : (o : Option (List Spot)) (line : List Spot) → option_map_or (λ l. line_gap l line) o 0 ≡ gap_from (option_map (λ line. (number_of line, line_spacing line)) o) (line_spacing line)
 gap_if None line = refl
 gap_if (Some l) line = refl
-
--- the height of a group from the running state, at one more placing item
-pub height_from_run : (group : List Spot) (s : Spot) →
-    let c = cut is_break group in
-    height_of (lines_of (group ++ s ∷ [])) ≡ (run_of c).closed + gap_from (run_of c).last (line_spacing (c.open' ++ s ∷ [])) + line_height (c.open' ++ s ∷ [])
-height_from_run group s =
-    let c = cut is_break group in
-    ap height_of (cut_behind_push is_break group s) ∙ extent_push line_height line_gap c.closed (c.open' ++ s ∷ [])
-    ∙ ap (λ n. height_of c.closed + n + line_height (c.open' ++ s ∷ [])) (gap_if (last_or None c.closed) (c.open' ++ s ∷ []))
 
 -- the open line with one more item
 abbrev pub with_item : Bool → ℕ → ℕ → Spot → ℕ

@@ -25,10 +25,6 @@ glyph_none : (line : List Spot) → AllPass is_glyph line → filter is_break li
 glyph_none [] h = refl
 glyph_none (s ∷ line) h = ap (λ b. cond b (s ∷ filter is_break line) (filter is_break line)) (glyph_put s.at s.put (All-head (λ x. is_glyph x ≡ true) s line h)).0 ∙ glyph_none line (All-tail (λ x. is_glyph x ≡ true) s line h)
 
--- the characters of a line with one more item
-glyphs_with : (line : List Spot) (s : Spot) → AllPass is_glyph line → is_glyph s ≡ true → filter is_glyph (line ++ s ∷ []) ≡ line ++ s ∷ []
-glyphs_with line s h g = glyph_all (line ++ s ∷ []) (All-push (λ x. is_glyph x ≡ true) line s h g)
-
 pub glyphs_before : (line : List Spot) (s : Spot) → AllPass is_glyph line → is_break s ≡ true → filter is_glyph (line ++ s ∷ []) ≡ line
 glyphs_before line s h b =
     filter-append is_glyph line (s ∷ [])

@@ -23,18 +23,6 @@ module _ (setting : LineFill) (all : List Spot) (s : Spot) where
   abbrev pub LeavesAll : Type 0
   LeavesAll = (some more : List Spot) (x : Spot) → all ≡ some ++ x ∷ more → Leaves some x
 
-  pub laid_left : LeavesAll → (some more : List Spot) → all ≡ some ++ more → laid setting (all ++ s ∷ []) some ≡ laid setting all some
-  laid_left leaves = push_ind (λ some. (more : List Spot) → all ≡ some ++ more → laid setting (all ++ s ∷ []) some ≡ laid setting all some) (λ more is. refl) step
-    where
-      step : (some : List Spot) (x : Spot) → ((more : List Spot) → all ≡ some ++ more → laid setting (all ++ s ∷ []) some ≡ laid setting all some)
-          → (more : List Spot) → all ≡ (some ++ x ∷ []) ++ more → laid setting (all ++ s ∷ []) (some ++ x ∷ []) ≡ laid setting all (some ++ x ∷ [])
-      step some x ih more is =
-          let is' : all ≡ some ++ x ∷ more = is ∙ append_assoc some (x ∷ []) more in
-          each_after_push (laid_spot setting (all ++ s ∷ [])) some x
-          ∙ ap (λ l. l ++ laid_spot setting (all ++ s ∷ []) some x ∷ []) (ih (x ∷ more) is')
-          ∙ ap (λ y. laid setting all some ++ y ∷ []) (leaves some more x is')
-          ∙ sym (each_after_push (laid_spot setting all) some x)
-
   -- a group to which it doesn't belong stays
   pub other_group : (x : Spot) → is_member x.at.area x.at.page_just s ≡ false → group_of x (all ++ s ∷ []) ≡ group_of x all
   other_group x e = members_push x.at.area x.at.page_just all s false e ∙ append-nil (group_of x all)

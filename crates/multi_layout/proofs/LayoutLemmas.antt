@@ -41,11 +41,3 @@ segment_if characters s false = ap width_of (append-nil characters)
 
 pub segment_push : (just : ℕ) (line : List Spot) (s : Spot) → width_of (segment just (line ++ s ∷ [])) ≡ cond (is_glyph s && (s.at.line_just == just)) (width_of (segment just line) + gap_before char_gap (segment just line) s + glyph_width s) (width_of (segment just line))
 segment_push just line s = ap width_of (filter_push (λ t. is_glyph t && (t.at.line_just == just)) line s) ∙ segment_if (segment just line) s (is_glyph s && (s.at.line_just == just))
-
--- a group after one more placing item: the lines that are closed stay, and the item stands on the open one
-pub height_push : (group : List Spot) (s : Spot) →
-    let c = cut is_break group in
-    height_of (lines_of (group ++ s ∷ [])) ≡ height_of c.closed + gap_before line_gap c.closed (c.open' ++ s ∷ []) + line_height (c.open' ++ s ∷ [])
-height_push group s =
-    let c = cut is_break group in
-    ap height_of (cut_behind_push is_break group s) ∙ extent_push line_height line_gap c.closed (c.open' ++ s ∷ [])

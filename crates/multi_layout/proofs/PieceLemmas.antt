@@ -110,24 +110,6 @@ laid_front sign before behind laid =
     same_front (map meant before) (each_after f ms) (map meant behind) _ (few_pieces before ∙ sym (length-meanings (items_of before)) ∙ sym (each_after_length f ms))
     (sym (map-append meant before behind) ∙ laid ∙ ap (λ l. laid_items sign.line_fill sign l l) split ∙ each_after-append f ms rest)
 
--- where lines aren't filled, the pieces mean what their items do
-unfilled_pieces : (sign : SignData) (pieces : List Piece) → sign.line_fill ≡ Off → map meant pieces ≡ laid_meanings sign (items_of pieces) → map meant pieces ≡ map meaning (items_of pieces)
-unfilled_pieces sign pieces off laid =
-    let ms = map meaning (items_of pieces) in
-    laid ∙ ap (λ setting. laid_items setting sign ms ms) off ∙ unfilled_items sign ms ms [] (sym (append-nil ms))
-
-pub unfilled_front : (sign : SignData) (before behind : List Piece) → sign.line_fill ≡ Off → map meant (before ++ behind) ≡ laid_meanings sign (items_of (before ++ behind)) → map meant before ≡ map meaning (items_of before)
-unfilled_front sign before behind off laid =
-    same_front (map meant before) (map meaning (items_of before)) (map meant behind) (map meaning (items_of behind)) (few_pieces before ∙ sym (length-meanings (items_of before)))
-    (sym (map-append meant before behind) ∙ unfilled_pieces sign (before ++ behind) off laid ∙ ap (map meaning) (map-append (λ (p : Piece). p.item) before behind) ∙ map-append meaning (items_of before) (items_of behind))
-
-module _ {sign : SignData} {octets : List ℕ} {before behind : List Piece} {cursor : Cursor} (b : IsBetween sign octets before behind cursor) (off : sign.line_fill ≡ Off) where
-  -- none of the items before the cursor offends
-  pub fine_before : IsFine sign (map meant before)
-  fine_before =
-      subst (IsFine sign) (sym (unfilled_front sign before behind off b.laid))
-      (fine_items sign off (items_of before) (left_nil (offences sign (items_of before)) _ (sym (some_after-append (fault_at sign) (items_of before) (items_of behind)) ∙ b.placed.accepted.none)))
-
 module _ {sign : SignData} {octets : List ℕ} {before rest : List Piece} {piece : Piece} {cursor : Cursor} (b : IsBetween sign octets before (piece ∷ rest) cursor) where
   all_split : map meaning (items_of (before ++ piece ∷ rest)) ≡ map meaning (items_of before) ++ meaning piece.item ∷ map meaning (items_of rest)
   all_split = ap (map meaning) (map-append (λ (p : Piece). p.item) before (piece ∷ rest)) ∙ map-append meaning (items_of before) (piece.item ∷ items_of rest)
@@ -163,16 +145,6 @@ read_tag {sign} {octets} {before} {rest} {piece} {cursor} b {next} other read = 
         let does : meaning piece.item ≡ Does tag = read.meant ∙ ap meant_by is in
         record { meant = laid_here sign before rest piece b.laid ∙ ap (laid_item sign.line_fill sign _ _) does ∙ tag_item sign.line_fill sign _ _ tag ∙ sym (ap meant_by is); known = read.known; len = read.len }
 
--- where lines aren't filled, none of the items up to the next offends
-pub fine_with : {sign : SignData} {octets : List ℕ} {before rest : List Piece} {piece : Piece} {cursor : Cursor} → IsBetween sign octets before (piece ∷ rest) cursor → sign.line_fill ≡ Off → IsFine sign (map meant (before ++ piece ∷ []))
-fine_with {sign} {octets} {before} {rest} {piece} {cursor} b off =
-    let again : before ++ piece ∷ rest ≡ (before ++ piece ∷ []) ++ rest = sym (append_assoc before (piece ∷ []) rest) in
-    let items : items_of before ++ piece.item ∷ items_of rest ≡ items_of (before ++ piece ∷ []) ++ items_of rest =
-    sym (append_assoc (items_of before) (piece.item ∷ []) (items_of rest)) ∙ ap (λ l. l ++ items_of rest) (sym (map-append (λ (p : Piece). p.item) before (piece ∷ []))) in
-    subst (IsFine sign) (sym (unfilled_front sign (before ++ piece ∷ []) rest off (subst (λ l. map meant l ≡ laid_meanings sign (items_of l)) again b.laid)))
-    (fine_items sign off (items_of (before ++ piece ∷ []))
-    (left_nil (offences sign (items_of (before ++ piece ∷ []))) _ (sym (some_after-append (fault_at sign) (items_of (before ++ piece ∷ [])) (items_of rest)) ∙ ap (offences sign) (sym items) ∙ b.placed.accepted.none)))
-
 -- what begins an area places nothing
 begins_unplaced : (m : Meaning) → begins_area m ≡ true → has_place m ≡ false
 begins_unplaced (Shows number) e = cc
@@ -188,9 +160,6 @@ ends_laid sign before (p ∷ behind) laid (inr (x, rest, begins, is)) =
     let begins' : begins_area (meaning p.item) ≡ true = ap begins_area (sym same) ∙ begins in
     inr (meant p, map meant behind, ap begins_area (unplaced_laid sign before behind p laid (begins_unplaced (meaning p.item) begins')) ∙ begins', refl)
 
-pub ends_pieces : {sign : SignData} {octets : List ℕ} {before behind : List Piece} {cursor : Cursor} → IsBetween sign octets before behind cursor → EndsArea (map meaning (items_of behind)) → EndsArea (map meant behind)
-ends_pieces {sign} {octets} {before} {behind} {cursor} b = ends_laid sign before behind b.laid
-
 -- the first of the items is that of the first piece
 pub first_piece : (behind : List Piece) (next : NextItem) → IsFirst (items_of behind) (Some next) → (piece : Piece) × (rest : List Piece) × (behind ≡ piece ∷ rest) × IsItemRead piece.item next
 first_piece [] next (item, rest, is, read) = cc
@@ -201,18 +170,6 @@ first_piece (p ∷ behind) next (item, rest, is, read) =
 pub no_piece : (behind : List Piece) → items_of behind ≡ [] → behind ≡ []
 no_piece [] e = refl
 no_piece (p ∷ behind) e = cc
-
-pub first_unfilled : {sign : SignData} {octets : List ℕ} {before behind : List Piece} {cursor : Cursor} → IsBetween sign octets before behind cursor → sign.line_fill ≡ Off
-    → (next : NextItem) → IsFirst (items_of behind) (Some next) → IsPieceFirst behind (Some next)
-first_unfilled {sign} {octets} {before} {behind} {cursor} b off next first =
-    let (piece, rest, is, read) = first_piece behind next first in
-    (piece, rest, is, read_unfilled (subst (λ l. IsBetween sign octets before l cursor) is b) off read)
-
-pub first_unplaced : {sign : SignData} {octets : List ℕ} {before behind : List Piece} {cursor : Cursor} → IsBetween sign octets before behind cursor
-    → (next : NextItem) → has_place (meant_by next.item) ≡ false → IsFirst (items_of behind) (Some next) → IsPieceFirst behind (Some next)
-first_unplaced {sign} {octets} {before} {behind} {cursor} b next none first =
-    let (piece, rest, is, read) = first_piece behind next first in
-    (piece, rest, is, read_unplaced (subst (λ l. IsBetween sign octets before l cursor) is b) none read)
 
 -- where an area ends before the pieces, this is read of the first one
 laid_placed : (setting : LineFill) (sign : SignData) (all before : List Meaning) (x : Meaning) → has_place x ≡ true → has_place (laid_item setting sign all before x) ≡ true

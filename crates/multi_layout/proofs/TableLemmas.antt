@@ -169,7 +169,3 @@ table_open g h =
     ap table_of all
     ∙ table_push (ended_lines g) (after_last is_break g)
     ∙ ap (λ n. table_of (ended_lines g) ++ open_entry g n ∷ []) (ap height_of (sym all))
-
--- else there is none
-pub table_closed : (g : List Spot) → All IsPlacing g → list_any is_glyph (after_last is_break g) ≡ false → table_of (lines_of g) ≡ table_of (ended_lines g)
-table_closed g placing h = ap table_of (lines_closed g placing h)

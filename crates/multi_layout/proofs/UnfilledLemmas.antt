@@ -13,14 +13,3 @@ spot_if all some more x false e is = refl
 spot_if all some more x true e is =
     ap (λ l. slice_index_or l (length (group_of x some)) x) (ap (group_of x) is ∙ members_with x.at.area x.at.page_just some more x (own_member Off all x e))
     ∙ get_or_at (group_of x some) x (group_of x more) x (length (group_of x some)) refl
-
--- the spots are laid as they are
-pub laid_off : (all some more : List Spot) → all ≡ some ++ more → laid Off all some ≡ some
-laid_off all = push_ind (λ some. (more : List Spot) → all ≡ some ++ more → laid Off all some ≡ some) (λ more is. refl) step
-  where
-    step : (some : List Spot) (x : Spot) → ((more : List Spot) → all ≡ some ++ more → laid Off all some ≡ some) → (more : List Spot) → all ≡ (some ++ x ∷ []) ++ more → laid Off all (some ++ x ∷ []) ≡ some ++ x ∷ []
-    step some x ih more is =
-        let is' : all ≡ some ++ x ∷ more = is ∙ append_assoc some (x ∷ []) more in
-        each_after_push (laid_spot Off all) some x
-        ∙ ap (λ l. l ++ laid_spot Off all some x ∷ []) (ih (x ∷ more) is')
-        ∙ ap (λ y. some ++ y ∷ []) (spot_if all some more x (is_glyph x) refl is')
