@@ -77,6 +77,7 @@ pub(crate) fn judge_cell(state: &mut State, number: u16, width: u8) -> Result<()
 }
 
 /// Judges the end of a line.
+#[inline(always)]
 fn judge_break(state: &mut State, gap: Option<u8>) -> Result<(), SyntaxError>
     requires { IsReady state.old }
     ensures judged { (sign : SignData) → Judges sign state.old (Does (Tag.NewLine gap)) result state.new }
