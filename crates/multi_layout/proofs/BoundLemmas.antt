@@ -1,12 +1,12 @@
 -- Bounds on the sums that are kept: what is below one is below a larger one.
-use Rattle.std.proofs.Common.{ℕ, ◌≤◌, [], Option, Some, None, arith}
+use Rattle.std.proofs.Common.{ℕ, ◌≤◌, Option, Some, None, arith}
 use Rattle.multi_layout.specs.declared.area.Area.{Area}
 use Rattle.multi_layout.specs.declared.area.Group.{Group}
 use Rattle.multi_layout.specs.declared.fill.Split.{Split}
 use Rattle.multi_layout.specs.declared.line.Line.{Line}
 use Rattle.multi_layout.specs.declared.line.Segment.{Segment}
 use Rattle.multi_layout.specs.FillSums.{IsSplitBelow}
-use Rattle.multi_layout.specs.Sums.{IsBelow, IsGroupBelow, IsLineBelow, IsSegmentBelow, line_sum}
+use Rattle.multi_layout.specs.Sums.{IsBelow, IsGroupBelow, IsLineBelow, IsSegmentBelow}
 
 segment_more : (k m : ℕ) (segment : Segment) → k ≤ m → IsSegmentBelow k segment → IsSegmentBelow m segment
 segment_more k m segment h b = record { width = omega (arith, b.width); count = omega (arith, b.count) }

@@ -1,5 +1,5 @@
 -- What code that checks and draws needs besides: tests by a running maximum, prefixes, and parts inside a length.
-use Rattle.std.proofs.Common.{◌≡◌, ℕ, ◌+◌, ◌≤◌, max, Bool, true, false, ◌||◌, List, [], ◌∷◌, ◌++◌, Option, None, refl, sym, ap, subst, ◌∙◌, arith}
+use Rattle.std.proofs.Common.{◌≡◌, ℕ, ◌≤◌, max, Bool, true, false, ◌||◌, List, [], ◌∷◌, ◌++◌, Option, None, refl, sym, ap, subst, ◌∙◌, arith}
 use Rattle.std.specs.Prelude.{nat_lt}
 use Rattle.std.specs.List.{list_any}
 use Rattle.std.proofs.lemmas.List.{append_assoc, append-nil}
@@ -7,8 +7,6 @@ use Rattle.std.proofs.lemmas.List.Folds.{list_any-append}
 use Rattle.std.proofs.lemmas.Bool.Decides.{nat_tests}
 use Rattle.multi_layout.specs.Words.{some_after, extent, largest}
 use Rattle.multi_layout.specs.Address.{Spot}
-use Rattle.multi_layout.specs.Fit.{fit}
-use Rattle.multi_layout.specs.Place.{start}
 use Rattle.multi_layout.specs.Offence.{goes_back}
 use Rattle.multi_layout.proofs.WordLemmas.{none_of, right_nil, some_after-append, largest_push, extent_push, push_ind}
 

@@ -1,5 +1,5 @@
 -- The ended lines of a filled group at one more character: the same, or one more.
-use Rattle.std.proofs.Common.{◌≡◌, ◌⊎◌, inl, inr, ℕ, Bool, true, false, List, [], ◌∷◌, ◌++◌, Option, Some, None, refl, sym, ap, subst, ◌∙◌}
+use Rattle.std.proofs.Common.{◌≡◌, ℕ, true, false, List, [], ◌∷◌, ◌++◌, Some, refl, sym, ap, subst, ◌∙◌}
 use Rattle.std.specs.List.{after_last, All, AllPass}
 use Rattle.std.proofs.lemmas.List.Elements.{All-nil, All-cons, All-head, All-tail, All-push}
 use Rattle.multi_layout.specs.Address.{Spot, is_glyph, is_break}
@@ -7,11 +7,11 @@ use Rattle.multi_layout.specs.Fit.{line_fits}
 use Rattle.multi_layout.specs.Sums.{IsPlacing, ended_lines}
 use Rattle.multi_layout.proofs.BehindLemmas.{ended_is}
 use Rattle.multi_layout.proofs.CutLemmas.{Cut, cut}
-use Rattle.multi_layout.proofs.TableLemmas.{ended_break, ended_glyph}
+use Rattle.multi_layout.proofs.TableLemmas.{ended_break}
 use Rattle.multi_layout.specs.Filling.{CutAt, cut_at_last, is_space, dropped, filled}
 use Rattle.multi_layout.proofs.FillListLemmas.{is_cut}
 use Rattle.multi_layout.proofs.LaidLemmas.{ended, open_line, open_line_glyphs, filled_is, ended_ends, ends_open, cut_with}
-use Rattle.multi_layout.proofs.FilledSumLemmas.{stands, drops, breaks, stays}
+use Rattle.multi_layout.proofs.FilledSumLemmas.{breaks}
 
 -- what stands around an item of a line of characters is characters
 glyphs_around : (xs : List Spot) (x : Spot) (ys : List Spot) → AllPass is_glyph (xs ++ x ∷ ys) → AllPass is_glyph xs × AllPass is_glyph ys

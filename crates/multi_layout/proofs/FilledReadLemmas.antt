@@ -22,7 +22,7 @@ use Rattle.multi_layout.specs.Offence.{offence}
 use Rattle.multi_layout.specs.Progress.{IsAt, IsTold, ReadSoFar}
 use Rattle.multi_layout.specs.State.{IsStateOf, present_area, whole_times}
 use Rattle.multi_layout.specs.Times.{cycle, ended_times}
-use Rattle.multi_layout.specs.Verdict.{IsVerdict, Refused, pages_of}
+use Rattle.multi_layout.specs.Verdict.{pages_of}
 use Rattle.multi_layout.proofs.BoundLemmas.{split_more}
 use Rattle.multi_layout.proofs.FillLemmas.{nothing_fits}
 use Rattle.multi_layout.proofs.FilledJudgedLemmas.{attributes_here}
@@ -30,7 +30,7 @@ use Rattle.multi_layout.proofs.FilledKeptLemmas.{laid_count}
 use Rattle.multi_layout.proofs.FilledStateLemmas.{pages_at, same_times}
 use Rattle.multi_layout.proofs.JudgedLemmas.{ready}
 use Rattle.multi_layout.proofs.LaidItemLemmas.{are_laid}
-use Rattle.multi_layout.proofs.ReadLemmas.{accepted_at_end, at_end, cycle_at_end, few_here, read_more, refused_here}
+use Rattle.multi_layout.proofs.ReadLemmas.{accepted_at_end, at_end, cycle_at_end, few_here, read_more}
 
 -- what is kept where an area begins
 pub filled_start : (sign : SignData) (items : List Meaning) (state : State) → IsStateOf sign (laid_items Words sign items items) state → present_area sign items ≡ []

@@ -1,17 +1,15 @@
 -- The sums of a filled group at one more character: in each case they follow from the sums before it, and from those of the open
 -- line's parts around its last space.
-use Rattle.std.proofs.Common.{◌≡◌, inr, ℕ, Bool, true, false, cond, List, [], ◌∷◌, ◌++◌, Option, Some, None, refl, sym, ap, ◌∙◌, append_assoc}
-use Rattle.std.specs.List.{All, AllPass}
+use Rattle.std.proofs.Common.{◌≡◌, ℕ, Bool, true, false, cond, List, [], ◌∷◌, ◌++◌, Option, Some, None, refl, sym, ap, ◌∙◌, append_assoc}
+use Rattle.std.specs.List.{All}
 use Rattle.std.specs.Option.{option_map}
-use Rattle.multi_layout.specs.Address.{Spot, is_glyph, is_break}
+use Rattle.multi_layout.specs.Address.{Spot, is_glyph}
 use Rattle.multi_layout.specs.Fit.{line_fits}
-use Rattle.multi_layout.specs.Sums.{IsPlacing, group_sum}
-use Rattle.multi_layout.proofs.CutLemmas.{Cut, cut}
-use Rattle.multi_layout.proofs.GroupSumLemmas.{sums_are, cut_sums}
+use Rattle.multi_layout.specs.Sums.{IsPlacing}
 use Rattle.multi_layout.specs.Filling.{CutAt, cut_at_last, is_space, dropped, broken_off, longer, filled}
 use Rattle.multi_layout.proofs.FillListLemmas.{cut_push, cut_more}
 use Rattle.multi_layout.proofs.FillLemmas.{relaid}
-use Rattle.multi_layout.proofs.LaidLemmas.{Ends, ended, open_line, filled_is, filled_character, open_line_glyphs, ended_ends, ends_open, cut_with}
+use Rattle.multi_layout.proofs.LaidLemmas.{ended, open_line, filled_is, filled_character}
 
 module _ (width : ℕ) where
   -- THE OPEN LINE WITH ONE MORE CHARACTER

@@ -1,15 +1,15 @@
 -- The height of a group by a running state: what code keeps of the placing items so far.
-use Rattle.std.proofs.Common.{◌≡◌, ℕ, ◌+◌, max, Bool, true, false, cond, ◌||◌, ◌⊎◌, inl, inr, List, [], ◌∷◌, ◌++◌, Option, Some, None, refl, sym, ap, subst, ◌∙◌, arith}
+use Rattle.std.proofs.Common.{◌≡◌, ℕ, max, Bool, true, false, cond, ◌||◌, ◌⊎◌, inl, inr, List, [], ◌∷◌, ◌++◌, Option, Some, None, refl, sym, ap, subst, ◌∙◌, arith}
 use Rattle.std.specs.List.{filter, filter_map, last_or, list_any, All, AllPass}
 use Rattle.std.specs.Option.{unwrap_or, option_map, option_map_or}
 use Rattle.std.proofs.lemmas.List.{append-nil}
 use Rattle.std.proofs.lemmas.List.Elements.{filter-append, All-nil, All-head, All-tail, All-push}
 use Rattle.std.proofs.lemmas.List.Folds.{list_any-append}
 use Rattle.multi_layout.specs.Words.{largest}
-use Rattle.multi_layout.specs.Address.{Standing, Spot, Put, Glyph, Break, Cover, is_glyph, is_break, lines_of}
-use Rattle.multi_layout.specs.Line.{bearers, line_height, line_spacing, line_gap, given_gap, average, height_of}
-use Rattle.multi_layout.proofs.WordLemmas.{largest_push, extent_push, push_ind, All-split}
-use Rattle.multi_layout.proofs.CutLemmas.{Cut, cut, cut_push, cut_behind_push}
+use Rattle.multi_layout.specs.Address.{Standing, Spot, Put, Glyph, Break, Cover, is_glyph, is_break}
+use Rattle.multi_layout.specs.Line.{bearers, line_height, line_spacing, line_gap, given_gap, average}
+use Rattle.multi_layout.proofs.WordLemmas.{largest_push, push_ind, All-split}
+use Rattle.multi_layout.proofs.CutLemmas.{Cut, cut, cut_push}
 
 abbrev pub glyphs : List Spot → Type 0
 glyphs line = AllPass is_glyph line

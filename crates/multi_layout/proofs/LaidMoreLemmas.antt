@@ -1,5 +1,5 @@
 -- One more spot behind a string: the others are laid as they were, where it only goes behind its filled group.
-use Rattle.std.proofs.Common.{◌≡◌, ◌<◌, Bool, true, false, cond, ◌||◌, ◌==◌, List, [], ◌∷◌, ◌++◌, length, refl, sym, ap, subst, ◌∙◌, arith, length-append, append_assoc, append-nil}
+use Rattle.std.proofs.Common.{◌≡◌, ◌<◌, Bool, true, false, cond, ◌||◌, ◌==◌, List, [], ◌∷◌, ◌++◌, length, refl, sym, ap, subst, ◌∙◌, arith, length-append, append-nil}
 use Rattle.std.specs.Prelude.{slice_index_or}
 use Rattle.std.specs.List.{All}
 use Rattle.std.proofs.lemmas.Bool.{eqb-true, false≢true}
@@ -7,12 +7,11 @@ use Rattle.std.proofs.lemmas.List.{get_or_at, get_or_append_left}
 use Rattle.sign_font.specs.declared.parts.LineFill.{LineFill}
 use Rattle.multi_layout.specs.Address.{Spot, is_glyph, is_break, area_of, group_of}
 use Rattle.multi_layout.specs.Filling.{filled}
-use Rattle.multi_layout.specs.Laid.{fill_at, laid_spot, laid}
+use Rattle.multi_layout.specs.Laid.{fill_at, laid_spot}
 use Rattle.multi_layout.proofs.AreaSumLemmas.{area_placing}
 use Rattle.multi_layout.proofs.GroupLaidLemmas.{is_member, item_of, member_parts, members, members_push, members_with, own_member}
 use Rattle.multi_layout.proofs.GroupSumLemmas.{placing_group}
 use Rattle.multi_layout.proofs.LaidSpotLemmas.{filled_laid, laid_length}
-use Rattle.multi_layout.proofs.WordLemmas.{each_after_push, push_ind}
 
 module _ (setting : LineFill) (all : List Spot) (s : Spot) where
   -- one more spot leaves this one of the string where it is laid

@@ -7,10 +7,9 @@ use Rattle.std.proofs.lemmas.List.Elements.{filter_map-append, filter-append}
 use Rattle.sign_font.specs.Sign.{SignData}
 use Rattle.multi_layout.specs.Meaning.{Meaning}
 use Rattle.multi_layout.specs.Attributes.{in_force}
-use Rattle.multi_layout.specs.Address.{Spot, spot_at, spots, standing, is_glyph, is_break, segment, lines_of}
-use Rattle.multi_layout.specs.Line.{glyph_width, char_gap, width_of, line_height, line_gap, height_of}
+use Rattle.multi_layout.specs.Address.{Spot, spot_at, spots, standing, is_glyph, segment}
+use Rattle.multi_layout.specs.Line.{glyph_width, char_gap, width_of}
 use Rattle.multi_layout.proofs.WordLemmas.{some_after_push, last_or-append, extent_push, gap_before}
-use Rattle.multi_layout.proofs.CutLemmas.{cut, cut_behind_push}
 
 -- one more item gives the attribute its value, or leaves it
 in_force_if : {A : Type 0} (o : Option A) (more : Option A) (default : A) → unwrap_or (last_or o (cons_option more [])) default ≡ unwrap_or more (unwrap_or o default)

@@ -22,16 +22,16 @@ use Rattle.multi_layout.specs.LaidItems.{laid_item, laid_items, laid_of, laid_ou
 use Rattle.multi_layout.specs.Line.{given_gap}
 use Rattle.multi_layout.specs.Meaning.{BeginsPage, Does, EndsArea, Meaning, Shows, begins_area, has_place, meaning}
 use Rattle.multi_layout.specs.Passes.{HasCounted, whole_area}
-use Rattle.multi_layout.specs.Verdict.{fault_at, offences, pages_of}
-use Rattle.multi_layout.specs.Walk.{IsBetween, IsFine, IsFirst, IsItemRead, IsOrderly, IsPassing, IsPieceFirst, IsPlaced, IsRead, items_of, laid_meanings, meant, Piece, pieces_of}
+use Rattle.multi_layout.specs.Verdict.{pages_of}
+use Rattle.multi_layout.specs.Walk.{IsBetween, IsFirst, IsItemRead, IsOrderly, IsPassing, IsPieceFirst, IsPlaced, IsRead, items_of, laid_meanings, meant, Piece, pieces_of}
 use Rattle.multi_layout.specs.Words.{each_after}
 use Rattle.multi_layout.proofs.FilledStateLemmas.{pages_at, same_times}
 use Rattle.multi_layout.proofs.LaidItemLemmas.{are_laid}
 use Rattle.multi_layout.proofs.SkipLemmas.{settled_at}
 use Rattle.multi_layout.proofs.SpotsLemmas.{spots_with}
 use Rattle.multi_layout.proofs.UnfilledLemmas.{spot_if}
-use Rattle.multi_layout.proofs.WalkLemmas.{few_pieces, fine_items, laid_here, length-meanings}
-use Rattle.multi_layout.proofs.WordLemmas.{each_after-append, each_after_length, each_after_push, left_nil, push_ind, some_after-append}
+use Rattle.multi_layout.proofs.WalkLemmas.{few_pieces, laid_here, length-meanings}
+use Rattle.multi_layout.proofs.WordLemmas.{each_after-append, each_after_length, each_after_push, push_ind}
 
 -- AN ITEM AS IT IS LAID OUT
 

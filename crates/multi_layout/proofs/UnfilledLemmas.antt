@@ -1,11 +1,9 @@
 -- Where lines aren't filled, all is as it was.
-use Rattle.std.proofs.Common.{◌≡◌, Bool, true, false, cond, List, [], ◌∷◌, ◌++◌, length, refl, ap, ◌∙◌, append_assoc}
+use Rattle.std.proofs.Common.{◌≡◌, Bool, true, false, cond, List, ◌∷◌, ◌++◌, length, refl, ap, ◌∙◌}
 use Rattle.std.specs.Prelude.{slice_index_or}
 use Rattle.std.proofs.lemmas.List.{get_or_at}
 use Rattle.sign_font.specs.declared.parts.LineFill.TheVariants.{Off}
 use Rattle.multi_layout.specs.Address.{Spot, is_glyph, group_of}
-use Rattle.multi_layout.proofs.WordLemmas.{push_ind, each_after_push}
-use Rattle.multi_layout.specs.Laid.{laid_spot, laid}
 use Rattle.multi_layout.proofs.GroupLaidLemmas.{members_with, own_member}
 
 pub spot_if : (all some more : List Spot) (x : Spot) (b : Bool) → is_glyph x ≡ b → all ≡ some ++ x ∷ more → cond b (slice_index_or (group_of x all) (length (group_of x some)) x) x ≡ x

@@ -1,5 +1,5 @@
 -- What is kept of the items that were read, where lines are filled (own).
-use Rattle.std.specs.Prelude.{◌≡◌, ℕ, ◌≤◌, Option, Bool, true, false, ◌*◌, ◌^◌, List, [], ◌∷◌, ◌++◌, length, Some, None, Result, Ok, Err}
+use Rattle.std.specs.Prelude.{◌≡◌, Bool, true, false, ◌*◌, ◌^◌, List, [], ◌∷◌, ◌++◌, length, Some, None, Result, Ok, Err}
 use Rattle.std.specs.List.{after_last}
 use Rattle.multi_tag.specs.declared.tag.Tag.{Tag}
 use Rattle.multi_tag.specs.declared.tag.Tag.TheVariants.{NewPage, NewLine, Rect}

@@ -79,6 +79,7 @@ impl Group {
     }
 
     /// Adds an `nl` of this group.
+    #[inline(always)]
     pub(crate) fn add_break(&mut self, gap: Option<u8>, font: &FontInfo)
         requires below { IsGroupBelow (2 ^ 62) self.old }
         ensures sum { (group : List Spot) (s : Spot) → All IsPlacing group → self.old ≡ group_sum group → IsBreak s gap font.now
@@ -105,6 +106,7 @@ impl Group {
     }
 
     /// The height of the group's lines in pixels, with the gaps between them.
+    #[inline(always)]
     pub(crate) fn height(self) -> u64
         requires below { self.closed ≤ 2 ^ 62 + 1024 }
         ensures sum { (group : List Spot) → All IsPlacing group → self ≡ group_sum group
@@ -151,6 +153,7 @@ impl Area {
     }
 
     /// Adds an `nl`, with this font in force and this page justification, which isn't before that of the present group.
+    #[inline(always)]
     pub(crate) fn add_break(&mut self, page_just: u8, gap: Option<u8>, font: &FontInfo)
         requires page_just { (2 ≤ page_just) × (page_just ≤ 4) }
         requires below { IsBelow (2 ^ 62) self.old }
@@ -163,6 +166,7 @@ impl Area {
     }
 
     /// Goes on to the group with a page justification, which isn't before that of the present one.
+    #[inline(always)]
     pub(crate) fn go_on(&mut self, page_just: u8)
         requires page_just { (2 ≤ page_just) × (page_just ≤ 4) }
         requires below { IsBelow (2 ^ 62) self.old }
@@ -198,6 +202,7 @@ impl Area {
     }
 
     /// The height of the group with a page justification, in pixels: top 2, middle 3, bottom 4.
+    #[inline(always)]
     pub(crate) fn height(&self, page_just: u8) -> u64
         requires known { (2 ≤ page_just) × (page_just ≤ 4) }
         requires below { IsBelow (2 ^ 62 + 1024) self.now }
@@ -246,6 +251,7 @@ impl Area {
     }
 
     /// Whether the area fits a height in pixels, into which its groups before the present one fit.
+    #[inline(always)]
     fn still_fits(&self, height: u16) -> bool
         requires below { IsBelow (2 ^ 62 + 1024) self.now }
         requires page_just { (2 ≤ self.now.present) × (self.now.present ≤ 4) }
@@ -255,6 +261,7 @@ impl Area {
     }
 
     /// Whether the area fits a rectangle of this height in pixels, as far as its last item goes: an `nl`.
+    #[inline(always)]
     pub(crate) fn fits_with_break(&self, height: u16) -> bool
         requires below { IsBelow (2 ^ 62 + 1024) self.now }
         ensures { (before : List Spot) (s : Spot) → is_break s ≡ true → self.now ≡ area_sum (area_of s before ++ s ∷ [])

@@ -1,13 +1,13 @@
 //! The way through an accepted string, from item to item.
 
-ghost use Rattle.std.specs.Prelude.{◌≡◌, false, None, ℕ, ◌+◌, ◌-◌, ◌*◌, ◌<◌, ◌^◌, [], ◌∷◌, ◌++◌, List, Some, IfSome, IfNone, length, map};
+ghost use Rattle.std.specs.Prelude.{◌≡◌, false, None, ℕ, ◌+◌, ◌-◌, ◌*◌, ◌<◌, ◌^◌, [], ◌∷◌, ◌++◌, List, Some, IfSome, IfNone};
 ghost use Rattle.multi_token.specs.Counted.{RisesBetween};
 ghost use Rattle.multi_token.specs.Spelling as spelled;
 ghost use Rattle.sign_font.specs.Cell.{SizedCell};
 ghost use Rattle.sign_font.specs.Sign.{SignData, cell_in};
 ghost use Rattle.sign_font.specs.Sound.{IsSound};
 ghost use Rattle.multi_layout.specs.KnownItem.{IsKnownItem, meant_by};
-ghost use Rattle.multi_layout.specs.Meaning.{Meaning, has_place, meaning};
+ghost use Rattle.multi_layout.specs.Meaning.{Meaning, has_place};
 ghost use Rattle.multi_layout.specs.Offence.{unsized_offence};
 ghost use Rattle.multi_layout.specs.State.{IsReady, IsStateOf};
 ghost use Rattle.multi_layout.specs.Walk.{GoesBehind, IsAccepted, IsBefore, IsBetween, IsFirst, IsOrderly, IsPassing, IsPassingBefore, IsPlaced, IsRead, IsWithin, laid_meanings, PassesOn, Piece, pieces_of};

@@ -9,7 +9,7 @@ ghost use Rattle.multi_layout.specs.FillSums.{FillsArea, FillsGroup, IsSplitBelo
 ghost use Rattle.multi_layout.specs.Filling.{dropped, is_space};
 ghost use Rattle.multi_layout.specs.Offence.{clashes};
 ghost use Rattle.multi_layout.specs.Run.{kept_fits};
-ghost use Rattle.multi_layout.specs.Sums.{IsBelow, IsCharacter, IsGroupBelow, IsLineBelow, IsPlacing, area_sum, group_sum, line_sum};
+ghost use Rattle.multi_layout.specs.Sums.{IsBelow, IsCharacter, IsGroupBelow, IsLineBelow, IsPlacing, group_sum, line_sum};
 
 use crate::area::{Area, Group};
 use crate::line::{Character, Line};

@@ -1,13 +1,12 @@
 //! Text behind a character with the same attributes, where lines are filled: as long as it stays on its line, each word and
 //! each space only lengthens what is kept.
 
-ghost use Rattle.std.specs.Prelude.{◌≡◌, ℕ, ◌+◌, ◌*◌, ◌^◌, ◌<◌, ◌≤◌, true, false, IfSome, length, Option};
+ghost use Rattle.std.specs.Prelude.{◌≡◌, ℕ, ◌+◌, ◌*◌, ◌^◌, ◌<◌, ◌≤◌, true, false, length, Option};
 ghost use Rattle.multi_token.specs.Counted.{charged};
-ghost use Rattle.multi_layout.specs.FilledRun.{GoesOnBehind, IsFilledRun, IsOrderOf, longer_line, with_run, with_space, with_word};
+ghost use Rattle.multi_layout.specs.FilledRun.{GoesOnBehind, IsFilledRun, longer_line, with_run, with_space, with_word};
 ghost use Rattle.multi_layout.specs.FilledState.{IsFilledFor, IsFilledReady};
 ghost use Rattle.multi_layout.specs.Progress.{IsAt, IsBehind};
-ghost use Rattle.multi_layout.specs.Run.{Fits, IsBehindOne, line_in_force};
-ghost use Rattle.multi_layout.specs.Sums.{IsLineBelow};
+ghost use Rattle.multi_layout.specs.Run.{Fits, IsBehindOne};
 ghost use Rattle.multi_layout.specs.Text.{IsInText, TakesSpace};
 
 use crate::attributes::Attributes;

@@ -1,8 +1,7 @@
 //! The items of a string, as they are read.
 
-ghost use Rattle.std.specs.Prelude.{◌≡◌, ◌+◌, ◌-◌, Err, IfOk, IfErr, slice_range};
+ghost use Rattle.std.specs.Prelude.{◌≡◌, ◌+◌, ◌-◌, Err, IfOk, IfErr};
 ghost use Rattle.multi_token.specs.Counted.{RisesBetween};
-ghost use Rattle.multi_token.specs.Spelling as spelled;
 ghost use Rattle.multi_token.specs.Tokens.{IsTokenOf, item_of};
 ghost use Rattle.multi_layout.specs.Codes.{code_of};
 ghost use Rattle.multi_layout.specs.KnownItem.{IsKnownItem, meant_by};

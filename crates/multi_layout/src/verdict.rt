@@ -1,13 +1,10 @@
 //! The verdict on a string, in one reading from the left with running sums.
 
-ghost use Rattle.std.specs.Prelude.{◌≡◌, Bool, ℕ, ◌+◌, ◌^◌, ◌<◌, ◌≤◌, ◌*◌, ◌-◌, ◌⊎◌, [], length, slice_get, IfOk, IfErr, OnOk, None, Some};
-ghost use Rattle.multi_token.specs.Counted.{charged, RisesBetween};
+ghost use Rattle.std.specs.Prelude.{◌≡◌, ℕ, ◌+◌, ◌^◌, ◌<◌, ◌≤◌, ◌*◌, ◌-◌, ◌⊎◌, [], length, IfOk, IfErr, None, Some};
 ghost use Rattle.sign_font.specs.Defaults.{default_fault, under};
-ghost use Rattle.multi_layout.specs.Codes.{code_of};
 ghost use Rattle.multi_layout.specs.Limits.{check_limit};
-ghost use Rattle.multi_layout.specs.Progress.{IsAt, IsBehind, IsRefused, IsTold};
-ghost use Rattle.multi_layout.specs.PassOf.{IsPassBehind, IsPassOf, fill_of};
-ghost use Rattle.multi_layout.specs.State.{whole_times};
+ghost use Rattle.multi_layout.specs.Progress.{IsAt, IsRefused, IsTold};
+ghost use Rattle.multi_layout.specs.PassOf.{IsPassOf, fill_of};
 ghost use Rattle.multi_layout.specs.Verdict.{Accepted, IsVerdict, Refused};
 
 use crate::bracket::read_spelled;
@@ -117,10 +114,7 @@ fn judge(sign: &Terms<'_>, source: &mut Source<'_>) -> Result<Told, Offence>
 }
 
 /// The same for lines of one kind: filled or not. What is kept is made here, so that no more of it is than that kind reads.
-fn judge_all<const WORDS: bool>(
-    sign: &Terms<'_>,
-    source: &mut Source<'_>,
-) -> Result<Told, Offence>
+fn judge_all<const WORDS: bool>(sign: &Terms<'_>, source: &mut Source<'_>) -> Result<Told, Offence>
     requires kind { sign.now.line_fill ≡ fill_of WORDS }
     requires fresh { source.old.steps ≡ 0 }
     requires short { length source.old.octets < 2 ^ 32 }

@@ -7,7 +7,7 @@ use Rattle.multi_layout.specs.Meaning.{meaning}
 use Rattle.multi_layout.specs.PassOf.{fill_of}
 use Rattle.multi_layout.specs.State.{present_area}
 use Rattle.multi_layout.specs.Walk.{IsPlaced, items_of}
-use Rattle.multi_layout.proofs.AreaLinesLemmas.{SoFar, area_read, nothing_read, read_on, so_advances, so_first, so_next, steps_on}
+use Rattle.multi_layout.proofs.AreaLinesLemmas.{area_read, nothing_read, read_on, so_advances, so_first, so_next, steps_on}
 use Rattle.multi_layout.proofs.AreaReadLemmas.{present_placing, read_below, read_lines, read_state}
 use Rattle.multi_layout.proofs.KnownLinesLemmas.{counted_at_end}
 use Rattle.multi_layout.proofs.read.read_lines.Goals as goal

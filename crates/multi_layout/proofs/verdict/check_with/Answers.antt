@@ -1,4 +1,4 @@
-use Rattle.std.proofs.Common.{ℕ, ◌≡◌, ◌^◌, ◌<◌, List, length, sym, subst}
+use Rattle.std.proofs.Common.{ℕ, ◌^◌, ◌<◌, List, length, sym, subst}
 use Rattle.multi_token.specs.Counted.{Counted}
 use Rattle.sign_font.specs.Sign.{SignData}
 use Rattle.multi_layout.specs.Progress.{IsTold}

@@ -12,7 +12,7 @@ loop-next-init g c =
     let words = not (g.row.WORDS == 0) in
     let pass = c.new-pass.result in
     let start = pass_start sign pass words c.requires.kind (subst (IsStateOf sign []) (sym c.new-pass.ensures.state) c.new.ensures.start)
-        (λ st none. c.new-pass.ensures.filled sign [] (subst (IsStateOf sign _) c.new-pass.ensures.state st) none) in
+    (λ st none. c.new-pass.ensures.filled sign [] (subst (IsStateOf sign _) c.new-pass.ensures.state st) none) in
     first_read sign c.args.source.now (IsPassOf words sign pass) start c.requires.fresh c.read-next.result c.read-next.new.self c.read-next.ensures.octet c.read-next.ensures.step
 
 pub whole_cycle-requires : goal.whole_cycle-requires
