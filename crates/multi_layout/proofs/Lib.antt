@@ -5,6 +5,7 @@ pub mod AreaFillLemmas
 pub mod AreaLemmas
 pub mod AreaLinesLemmas
 pub mod AreaReadLemmas
+pub mod AreaStepLemmas
 pub mod AreaSumLemmas
 pub mod AttributeExamples
 pub mod BeforeLemmas

@@ -43,7 +43,8 @@ pub record IsNextRead (sign : SignData) (items : List Item) (item : Item) (read 
 
 -- one more character is passed that doesn't offend: this is then what is kept of the items with it, its group is the present one,
 -- the other groups stay as they are laid out, and its own has the lines that it had, or one more (own)
-pub record IsCharacterPassed (words : Bool) (sign : SignData) (items : List Meaning) (number : ℕ) (old new : Pass) (ended : Option Line) : Type 0 where
+pub record IsCharacterPassed (words : Bool) (sign : SignData) (items : List Meaning) (number : ℕ) (old new : Pass) (ended : Option Line) :
+    Type 0 where
   pub of : IsPassOf words sign new (items ++ Shows number ∷ [])
   pub present : new.state.area.present ≡ old.state.attributes.page_just
   pub order : old.state.area.present ≤ old.state.attributes.page_just

@@ -39,7 +39,8 @@ IsSplitBelow k split = IfSome split (λ s. IsLineBelow k s.before × IsLineBelow
 abbrev pub EndsLine : List Spot → List Spot → Option Line → Type 0
 EndsLine old new None = ended_lines new ≡ ended_lines old
 EndsLine old new (Some line) =
-    (characters : List Spot) × (end : Spot) × (line ≡ line_sum characters) × ((behind : List Spot) × (after_last is_break old ≡ characters ++ behind))
+    (characters : List Spot) × (end : Spot) × (line ≡ line_sum characters)
+    × ((behind : List Spot) × (after_last is_break old ≡ characters ++ behind))
     × (is_break end ≡ true) × (ended_lines new ≡ ended_lines old ++ (characters ++ end ∷ []) ∷ [])
 
 -- a character joins a group whose lines are filled to this width, where these are the sums of the group and of its open line's
@@ -51,7 +52,8 @@ FillsGroup width old split character space new split' ended =
     → line_fits width (after_last is_break (filled (Some width) group)) ≡ true
     → list_any (clashes s) (after_last is_break (filled (Some width) group)) ≡ false
     → old ≡ group_sum (filled (Some width) group) → split ≡ split_sum (after_last is_break (filled (Some width) group))
-    → (new ≡ group_sum (filled (Some width) (group ++ s ∷ []))) × (split' ≡ split_sum (after_last is_break (filled (Some width) (group ++ s ∷ []))))
+    → (new ≡ group_sum (filled (Some width) (group ++ s ∷ [])))
+    × (split' ≡ split_sum (after_last is_break (filled (Some width) (group ++ s ∷ []))))
     × EndsLine (filled (Some width) group) (filled (Some width) (group ++ s ∷ [])) ended
 
 -- the laid items of an area, whose group with this page justification is these items, filled, and those with one more character:

@@ -46,7 +46,8 @@ even_line here pixels count = record {
 -- a line with so many more characters with these attributes, of so many pixels with this gap before each: on a line of no character
 -- the first one has none (own)
 abbrev pub with_run : Attributes → ℕ → ℕ → ℕ → Line → Line
-with_run here gap pixels count line = if line.any then longer_line pixels count line else (if count == 0 then line else even_line here (pixels - gap) count)
+with_run here gap pixels count line =
+    if line.any then longer_line pixels count line else (if count == 0 then line else even_line here (pixels - gap) count)
 
 -- the parts of a line around its last space, with so many more characters behind it (own)
 abbrev pub with_run_behind : Attributes → ℕ → ℕ → ℕ → Split → Split

@@ -21,7 +21,11 @@ use Rattle.multi_layout.specs.State.{IsReady, IsStateOf, present_area}
 -- space, and the order of all characters of the present group since the last `nl`; no sum overflows, and the open lines fit (own)
 pub record IsFilledOf (sign : SignData) (items : List Meaning) (kept : Pass) : Type 0 where
   pub state_is : IsStateOf sign (laid_items Words sign items items) kept.state
-  pub split_is : kept.split ≡ split_sum (after_last is_break (filled (Some (standing sign items).rectangle.width) (in_group kept.state.area.present (present_area sign items))))
+  pub split_is :
+      kept.split
+      ≡ split_sum
+      (after_last is_break
+      (filled (Some (standing sign items).rectangle.width) (in_group kept.state.area.present (present_area sign items))))
   pub order_is : kept.order ≡ order_sum (after_last is_break (in_group kept.state.area.present (present_area sign items)))
   pub split_below : IsSplitBelow (1024 * length items) kept.split
   pub fits : AllOpenFit (Some (standing sign items).rectangle.width) (present_area sign items)

@@ -19,12 +19,15 @@ pub record IsPagePassed (sign : SignData) (octets : List ℕ) (before behind : L
   pub split : behind ≡ page ++ rest
   pub between : IsBetween sign octets (before ++ page) rest new
   pub on : old.at ≤ new.at
-  pub ends : ((rest ≡ []) × (new.state.pages ≡ old.state.pages)) ⊎ (BeginsPage (map meant (before ++ page)) × (new.state.pages ≡ old.state.pages + 1))
+  pub ends :
+      ((rest ≡ []) × (new.state.pages ≡ old.state.pages))
+      ⊎ (BeginsPage (map meant (before ++ page)) × (new.state.pages ≡ old.state.pages + 1))
 
 -- the steps over the string from cursor to cursor: each octet is read at most twice for the table of its area's lines, and at most
 -- twice to draw; at the end of the string each of both takes one more (own)
 abbrev pub IsReadTwice : Counted → Counted → Cursor → Cursor → Type 0
-IsReadTwice source source' old new = RisesBetween source source' 0 (18 * (new.at - old.at) + (if new.state.pages == old.state.pages then 2 else 0))
+IsReadTwice source source' old new =
+    RisesBetween source source' 0 (18 * (new.at - old.at) + (if new.state.pages == old.state.pages then 2 else 0))
 
 -- the steps over the plane: a row for each row of each character, and a fill where the page begins and for each background; each
 -- background and each `np` behind the page has four octets, so that only the fill with which the last page begins has none (own)

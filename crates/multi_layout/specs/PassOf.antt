@@ -34,9 +34,11 @@ IsPassBehind false pass = IsBehindCharacter pass.state
 
 -- one more item is judged: it doesn't offend and the pass is then that of the items with it, or it offends by this error (own)
 abbrev pub IsItemJudged : Bool → SignData → List Meaning → Meaning → Result (Unit {0}) SyntaxError → Pass → Type 0
-IsItemJudged words sign items item (Ok done) pass = (offence sign.line_fill sign items item ≡ None) × IsPassOf words sign pass (items ++ item ∷ [])
+IsItemJudged words sign items item (Ok done) pass =
+    (offence sign.line_fill sign items item ≡ None) × IsPassOf words sign pass (items ++ item ∷ [])
 IsItemJudged words sign items item (Err error) pass = offence sign.line_fill sign items item ≡ Some (code_of error)
 
 -- whatever the items before are, if the old pass is theirs, the item is judged behind them, and the new pass is the one then (own)
 abbrev pub JudgesItem : Bool → SignData → Pass → Meaning → Result (Unit {0}) SyntaxError → Pass → Type 0
-JudgesItem words sign old item result new = (items : List Meaning) → IsPassOf words sign old items → IsItemJudged words sign items item result new
+JudgesItem words sign old item result new =
+    (items : List Meaning) → IsPassOf words sign old items → IsItemJudged words sign items item result new

@@ -78,7 +78,8 @@ first_steps [] = 1
 first_steps (item ∷ rest) = 2 * length (spelling item) - 1
 
 -- the area that begins at the cursor was read: these are its items, and those behind it (own)
-pub record IsAreaRead (sign : SignData) (before behind : List Piece) (cursor : Cursor) (read : AreaLines) (source source' : Counted) : Type 0 where
+pub record IsAreaRead (sign : SignData) (before behind : List Piece) (cursor : Cursor) (read : AreaLines) (source source' : Counted) : Type
+    0 where
   pub area : List Piece
   pub rest : List Piece
   pub split : behind ≡ area ++ rest
@@ -98,17 +99,20 @@ IsDrawnTo sign layer items before plane =
 -- if the old plane shows what the items before these put on their page, the new one shows what these put on it too (own)
 abbrev pub DrawsOn : SignData → Layer → List Piece → List Piece → List Piece → BitPlane → BitPlane → Type 0
 DrawsOn sign layer before these rest old new =
-    IsDrawnTo sign layer (map meant (before ++ (these ++ rest))) (map meant before) old → IsDrawnTo sign layer (map meant (before ++ (these ++ rest))) (map meant (before ++ these)) new
+    IsDrawnTo sign layer (map meant (before ++ (these ++ rest))) (map meant before) old
+    → IsDrawnTo sign layer (map meant (before ++ (these ++ rest))) (map meant (before ++ these)) new
 
 -- the same of a character by its number, whatever of the string is behind it (own)
 abbrev pub DrawsGlyph : SignData → Layer → List Meaning → ℕ → List Meaning → BitPlane → BitPlane → Type 0
 DrawsGlyph sign layer before number rest old new =
-    IsDrawnTo sign layer (before ++ Shows number ∷ rest) before old → IsDrawnTo sign layer (before ++ Shows number ∷ rest) (before ++ Shows number ∷ []) new
+    IsDrawnTo sign layer (before ++ Shows number ∷ rest) before old
+    → IsDrawnTo sign layer (before ++ Shows number ∷ rest) (before ++ Shows number ∷ []) new
 
 -- so it is wherever the cursor stands before the items of an area that was read, and other items (own)
 abbrev pub OverArea : SignData → List ℕ → Cursor → AreaLines → (List Piece → List Piece → List Piece → Type 0) → Type 0
 OverArea sign octets cursor read So =
-    (before area rest : List Piece) → IsBetween sign octets before (area ++ rest) cursor → BeginsNoArea area → read.end ≡ cursor.at + length (spell_of area)
+    (before area rest : List Piece) → IsBetween sign octets before (area ++ rest) cursor → BeginsNoArea area
+    → read.end ≡ cursor.at + length (spell_of area)
     → HasCounted (whole_area sign before (area ++ rest)) read.lines → So before area rest
 
 -- these octets of a page took at most these steps over the plane: a row for each row of each character, and a fill for each

@@ -29,12 +29,13 @@ pub record IsBehind (sign : SignData) (octets : List ℕ) (at : ℕ) (IsKept : L
   pub most : source.steps + 3 ≤ 9 * at
 
 -- the items before an offset are judged, and the octet there is read, for one step more (own)
-pub record IsAt (sign : SignData) (octets : List ℕ) (at : ℕ) (first : Option ℕ) (IsKept : List Meaning → Type 0) (source : Counted) : Type 0 where
-  pub so_far : ReadSoFar sign octets at IsKept
-  pub octet : first ≡ slice_get octets at
-  pub same : source.octets ≡ octets
-  pub least : at + 1 ≤ source.steps
-  pub most : source.steps ≤ 9 * at + 1
+pub record IsAt (sign : SignData) (octets : List ℕ) (at : ℕ) (first : Option ℕ) (IsKept : List Meaning → Type 0) (source : Counted) : Type 0
+  where
+    pub so_far : ReadSoFar sign octets at IsKept
+    pub octet : first ≡ slice_get octets at
+    pub same : source.octets ≡ octets
+    pub least : at + 1 ≤ source.steps
+    pub most : source.steps ≤ 9 * at + 1
 
 -- the item at an offset is the first one that offends, by this error, and its first octet was read (own)
 pub record IsRefused (sign : SignData) (octets : List ℕ) (offence : Offence) (source : Counted) : Type 0 where

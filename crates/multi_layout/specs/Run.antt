@@ -11,7 +11,10 @@ use Rattle.multi_layout.specs.Line.{average}
 
 -- the width of the characters with a line justification, by what is kept of the line: left 2, centre 3, right 4, full 5 (own)
 abbrev pub kept_width : ℕ → Line → ℕ
-kept_width just line = if just == line.present then line.part.width else (if just == 2 then line.left else (if just == 3 then line.centre else (if just == 4 then line.right else 0)))
+kept_width just line =
+    if just
+    == line.present then line.part.width else
+    (if just == 2 then line.left else (if just == 3 then line.centre else (if just == 4 then line.right else 0)))
 
 -- a line fits a width, by what is kept of it (own)
 abbrev pub kept_fits : ℕ → Line → Bool
@@ -20,12 +23,14 @@ kept_fits width line = fit (kept_width 2 line) (kept_width 3 line) (kept_width 4
 -- the height of a group, by what is kept of it (own)
 abbrev pub kept_height : Group → ℕ
 kept_height group =
-    if group.line.any then group.closed + option_map_or (λ ended. unwrap_or ended.gap (average ended.spacing group.line.spacing)) group.last 0 + group.line.height
+    if group.line.any then group.closed + option_map_or (λ ended. unwrap_or ended.gap (average ended.spacing group.line.spacing)) group.last
+    0 + group.line.height
     else group.closed
 
 -- the height of the group with a page justification, by what is kept of the area: top 2, middle 3, bottom 4 (own)
 abbrev pub kept_group_height : ℕ → Area → ℕ
-kept_group_height just area = if just == area.present then kept_height area.group else (if just == 2 then area.top else (if just == 3 then area.middle else 0))
+kept_group_height just area =
+    if just == area.present then kept_height area.group else (if just == 2 then area.top else (if just == 3 then area.middle else 0))
 
 -- the groups of an area stand apart within a height, by what is kept of the area (own)
 abbrev pub kept_fits_height : ℕ → Area → Bool
@@ -98,4 +103,6 @@ pub record IsRun (state : State) (gap room : ℕ) : Type 0 where
   pub gap_is : gap ≡ unwrap_or state.attributes.spacing state.attributes.font.char_spacing
   pub narrow : gap ≤ 255
   pub heights : kept_fits_height state.attributes.rectangle.height state.area ≡ true
-  pub room_is : (width count : ℕ) → 1 ≤ width → kept_fits state.attributes.rectangle.width (lengthened_line width count (line_in_force state)) ≡ nat_le width room
+  pub room_is :
+      (width count : ℕ) → 1 ≤ width
+      → kept_fits state.attributes.rectangle.width (lengthened_line width count (line_in_force state)) ≡ nat_le width room

@@ -84,7 +84,8 @@ pub record IsReady (state : State) : Type 0 where
   pub below : IsBelow (2 ^ 62) state.area
   pub short : state.cycle ≤ 510 * state.pages
 
--- one more item is judged where lines aren't filled: it doesn't offend and the state is then that of the items with it, or it offends by this error (own)
+-- one more item is judged where lines aren't filled: it doesn't offend and the state is then that
+-- of the items with it, or it offends by this error (own)
 abbrev pub IsJudged : SignData → List Meaning → Meaning → Result (Unit {0}) SyntaxError → State → Type 0
 IsJudged sign items item (Ok done) state = (offence Off sign items item ≡ None) × IsStateOf sign (items ++ item ∷ []) state
 IsJudged sign items item (Err error) state = offence Off sign items item ≡ Some (code_of error)

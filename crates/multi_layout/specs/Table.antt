@@ -36,7 +36,10 @@ width_in just line = if just == 2 then line.left else (if just == 3 then line.ce
 abbrev pub group_lines : ℕ → LineTable → List CountedLine
 group_lines just table =
     if just == 2 then slice_range table.lines.items 0 table.middle
-    else (if just == 3 then slice_range table.lines.items table.middle table.bottom else slice_range table.lines.items table.bottom (length table.lines.items))
+    else
+    (if just
+    == 3 then slice_range table.lines.items table.middle table.bottom else slice_range table.lines.items table.bottom
+    (length table.lines.items))
 
 -- the groups of the table are in order (own)
 pub record IsOrdered (table : LineTable) : Type 0 where
@@ -60,4 +63,6 @@ pub record IsNarrow (line : List Spot) : Type 0 where
 
 -- the present line of each group of an area is narrow, and no group is higher (own)
 abbrev pub IsNarrowArea : List Spot → Type 0
-IsNarrowArea area = (just : ℕ) → 2 ≤ just → just ≤ 4 → IsNarrow (after_last is_break (in_group just area)) × (height_of (lines_of (in_group just area)) ≤ 1024)
+IsNarrowArea area =
+    (just : ℕ) → 2 ≤ just → just ≤ 4
+    → IsNarrow (after_last is_break (in_group just area)) × (height_of (lines_of (in_group just area)) ≤ 1024)

@@ -57,7 +57,9 @@ laid_meanings sign items = laid_out sign (map meaning items)
 
 -- the pieces of a string with these items (own)
 abbrev pub pieces_of : SignData → List Item → List Piece
-pieces_of sign items = each_after (λ before item. record { item = item; as_laid = laid_item sign.line_fill sign (map meaning items) (map meaning before) (meaning item) }) items
+pieces_of sign items =
+    let all = map meaning items in
+    each_after (λ before item. record { item = item; as_laid = laid_item sign.line_fill sign all (map meaning before) (meaning item) }) items
 
 -- the cursor stands between these pieces of an accepted string (own)
 pub record IsBetween (sign : SignData) (octets : List ℕ) (before behind : List Piece) (cursor : Cursor) : Type 0 where
@@ -103,18 +105,22 @@ IsPieceFirst behind (Some next) = (piece : Piece) × (rest : List Piece) × (beh
 
 -- the cursor stands before an item of an accepted string, of which this is read (own)
 abbrev pub IsBefore : SignData → List ℕ → NextItem → Cursor → Type 0
-IsBefore sign octets next cursor = (before rest : List Piece) × (item : Piece) × IsBetween sign octets before (item ∷ rest) cursor × IsRead item next
+IsBefore sign octets next cursor =
+    (before rest : List Piece) × (item : Piece) × IsBetween sign octets before (item ∷ rest) cursor × IsRead item next
 
 -- the new cursor stands behind the next item, of which this is read, wherever the old one stands before it (own)
 abbrev pub GoesBehind : SignData → List ℕ → NextItem → Cursor → Cursor → Type 0
 GoesBehind sign octets next old new =
-    (before rest : List Piece) (item : Piece) → IsBetween sign octets before (item ∷ rest) old → IsRead item next → IsBetween sign octets (before ++ item ∷ []) rest new
+    (before rest : List Piece) (item : Piece) → IsBetween sign octets before (item ∷ rest) old → IsRead item next
+    → IsBetween sign octets (before ++ item ∷ []) rest new
 
 -- the cursor passes before an item of an accepted string, of which this is read (own)
 abbrev pub IsPassingBefore : SignData → List ℕ → NextItem → Cursor → Type 0
-IsPassingBefore sign octets next cursor = (before rest : List Item) × (item : Item) × IsPassing sign octets before (item ∷ rest) cursor × IsItemRead item next
+IsPassingBefore sign octets next cursor =
+    (before rest : List Item) × (item : Item) × IsPassing sign octets before (item ∷ rest) cursor × IsItemRead item next
 
 -- the new cursor has passed the next item, of which this is read, wherever the old one stands before it (own)
 abbrev pub PassesOn : SignData → List ℕ → NextItem → Cursor → Cursor → Type 0
 PassesOn sign octets next old new =
-    (before rest : List Item) (item : Item) → IsPassing sign octets before (item ∷ rest) old → IsItemRead item next → IsPassing sign octets (before ++ item ∷ []) rest new
+    (before rest : List Item) (item : Item) → IsPassing sign octets before (item ∷ rest) old → IsItemRead item next
+    → IsPassing sign octets (before ++ item ∷ []) rest new

@@ -173,7 +173,8 @@ impl Area {
         ensures sum { (area : List Spot) → All IsPlacing area → self.old ≡ area_sum area → self.old.present ≤ page_just
             → self.new ≡ area_sum_in page_just area }
         ensures grows { (k : ℕ) → IsBelow k self.old
-            → (self.new.top ≤ k + 1024) × (self.new.middle ≤ k + 1024) × IsGroupBelow k self.new.group × (2 ≤ self.new.present) × (self.new.present ≤ 4) }
+            → (self.new.top ≤ k + 1024) × (self.new.middle ≤ k + 1024) × IsGroupBelow k self.new.group × (2 ≤ self.new.present)
+            × (self.new.present ≤ 4) }
         ensures may { (just : ℕ) → IsOpenArea page_just just self.old → (self.new.present ≡ page_just) × IsOpen just self.new.group.line }
     {
         if page_just <= self.present {
@@ -191,7 +192,8 @@ impl Area {
 
     /// The group with this page justification, top 2, middle 3 or bottom 4, which isn't before the present one.
     pub(crate) fn group_for(&self, page_just: u8) -> Group
-        ensures sum { (area : List Spot) → self.now ≡ area_sum area → self.now.present ≤ page_just → result ≡ group_sum (in_group page_just area) }
+        ensures sum { (area : List Spot) → self.now ≡ area_sum area → self.now.present ≤ page_just
+            → result ≡ group_sum (in_group page_just area) }
         ensures below { (k : ℕ) → IsBelow k self.now → IsGroupBelow k result }
     {
         if page_just == self.present {
@@ -206,7 +208,8 @@ impl Area {
     pub(crate) fn height(&self, page_just: u8) -> u64
         requires known { (2 ≤ page_just) × (page_just ≤ 4) }
         requires below { IsBelow (2 ^ 62 + 1024) self.now }
-        ensures sum { (area : List Spot) → All IsPlacing area → self.now ≡ area_sum area → result ≡ height_of (lines_of (in_group page_just area)) }
+        ensures sum { (area : List Spot) → All IsPlacing area → self.now ≡ area_sum area
+            → result ≡ height_of (lines_of (in_group page_just area)) }
         ensures kept { result ≡ kept_group_height page_just self.now }
         ensures below { result ≤ 2 ^ 62 + 2048 }
     {
@@ -255,7 +258,8 @@ impl Area {
     fn still_fits(&self, height: u16) -> bool
         requires below { IsBelow (2 ^ 62 + 1024) self.now }
         requires page_just { (2 ≤ self.now.present) × (self.now.present ≤ 4) }
-        ensures { (area : List Spot) → self.now ≡ area_sum area → GroupsFitBefore height self.now → result ≡ kept_fits_height height self.now }
+        ensures { (area : List Spot) → self.now ≡ area_sum area → GroupsFitBefore height self.now
+            → result ≡ kept_fits_height height self.now }
     {
         self.group.height() <= room_for(self.present, self.top, self.middle, height)
     }

@@ -36,9 +36,11 @@ pub(crate) struct NextItem {
 impl Cursor {
     /// The cursor before the first item.
     pub(crate) fn new(sign: &Terms<'_>) -> Cursor
-        ensures between { (octets : List ℕ) (items : List spelled.Item) → IsAccepted sign.now octets items → IsOrderly sign.now (laid_meanings sign.now items)
+        ensures between { (octets : List ℕ) (items : List spelled.Item) → IsAccepted sign.now octets items
+            → IsOrderly sign.now (laid_meanings sign.now items)
             → IsBetween sign.now octets [] (pieces_of sign.now items) result }
-        ensures passing { (octets : List ℕ) (items : List spelled.Item) → IsAccepted sign.now octets items → IsPassing sign.now octets [] items result }
+        ensures passing { (octets : List ℕ) (items : List spelled.Item) → IsAccepted sign.now octets items
+            → IsPassing sign.now octets [] items result }
         ensures sound { IsSound sign.now }
     {
         Cursor {
@@ -92,8 +94,10 @@ impl Cursor {
         requires known { IsKnownItem item }
         requires ready { IsReady self.old.state }
         requires unplaced { has_place (meant_by item) ≡ false }
-        requires fine { (items : List Meaning) × IsStateOf sign.now items self.old.state × (unsized_offence sign.now items (meant_by item) ≡ None) }
-        ensures passed { (items : List Meaning) → IsStateOf sign.now items self.old.state → IsStateOf sign.now (items ++ meant_by item ∷ []) self.new.state }
+        requires fine { (items : List Meaning) × IsStateOf sign.now items self.old.state
+            × (unsized_offence sign.now items (meant_by item) ≡ None) }
+        ensures passed { (items : List Meaning) → IsStateOf sign.now items self.old.state
+            → IsStateOf sign.now (items ++ meant_by item ∷ []) self.new.state }
         ensures at { self.new.at ≡ self.old.at }
         ensures steps { RisesBetween source.old source.new 0 1 }
     {

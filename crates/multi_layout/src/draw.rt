@@ -38,7 +38,8 @@ pub(crate) fn draw_page(
     requires begins { IsPageStart sign.now source.old.octets cursor }
     requires size { IsSized plane.old sign.now }
     ensures drawn { (before behind : List Piece) → IsBetween sign.now source.old.octets before behind cursor
-        → Lights plane.new (λ column row. in_plane sign.now (map meant (before ++ behind)) (cursor.state.pages - 1) layer.phase layer.colour column row) }
+        → Lights plane.new
+        (λ column row. in_plane sign.now (map meant (before ++ behind)) (cursor.state.pages - 1) layer.phase layer.colour column row) }
     ensures passed { (before behind : List Piece) → IsBetween sign.now source.old.octets before behind cursor
         → IsPagePassed sign.now source.old.octets before behind cursor result }
     ensures size { (plane.new.width ≡ plane.old.width) × (plane.new.height ≡ plane.old.height) }
@@ -73,12 +74,15 @@ fn draw_area(
 )
     requires sound { IsSound sign.now }
     requires known { (before area rest : List Piece) × IsBetween sign.now source.old.octets before (area ++ rest) cursor.old
-        × BeginsNoArea area × (read.now.end ≡ cursor.old.at + length (spell_of area)) × HasCounted (whole_area sign.now before (area ++ rest)) read.now.lines }
+        × BeginsNoArea area × (read.now.end ≡ cursor.old.at + length (spell_of area))
+        × HasCounted (whole_area sign.now before (area ++ rest)) read.now.lines }
     requires low { IsLow read.now.lines }
     requires ordered { IsOrdered read.now.lines }
     requires size { IsSized plane.old sign.now }
-    ensures passed { OverArea sign.now source.old.octets cursor.old read.now (λ before area rest. IsBetween sign.now source.old.octets (before ++ area) rest cursor.new) }
-    ensures drawn { OverArea sign.now source.old.octets cursor.old read.now (λ before area rest. DrawsOn sign.now layer before area rest plane.old plane.new) }
+    ensures passed { OverArea sign.now source.old.octets cursor.old read.now
+        (λ before area rest. IsBetween sign.now source.old.octets (before ++ area) rest cursor.new) }
+    ensures drawn { OverArea sign.now source.old.octets cursor.old read.now
+        (λ before area rest. DrawsOn sign.now layer before area rest plane.old plane.new) }
     ensures steps { RisesBetween source.old source.new 0 (9 * (read.now.end - cursor.old.at)) }
     ensures fills { IsFilledBy sign.now plane.old plane.new (read.now.end - cursor.old.at) }
 {
@@ -95,7 +99,8 @@ fn draw_area(
 /// The next item as it is laid out: a space that is dropped is the end of its line.
 fn lay(sign: &Terms<'_>, cursor: &Cursor, lines: &LineTable, next: NextItem) -> NextItem
     requires ordered { IsOrdered lines.now }
-    requires stands { (octets : List ℕ) × (before rest : List Piece) × (item : Piece) × IsBetween sign.now octets before (item ∷ rest) cursor.now }
+    requires stands { (octets : List ℕ) × (before rest : List Piece) × (item : Piece)
+        × IsBetween sign.now octets before (item ∷ rest) cursor.now }
     ensures read { (octets : List ℕ) (before rest : List Piece) (item : Piece) → IsBetween sign.now octets before (item ∷ rest) cursor.now
         → HasCounted (whole_area sign.now before (item ∷ rest)) lines.now → IsItemRead item.item next → IsRead item result }
     ensures len { result.len ≡ next.len }
@@ -179,7 +184,8 @@ fn draw_item(
 /// Fills the plane where a tag sets the page's background.
 fn draw_tag(sign: &Terms<'_>, tag: Tag, layer: Layer, plane: &mut Plane)
     requires size { IsSized plane.old sign.now }
-    ensures back { (given : Option ℕ) → tag ≡ Tag.Back given → Lights plane.new (λ column row. shown_colour sign.now (unwrap_or given sign.now.defaults.back) == layer.colour) }
+    ensures back { (given : Option ℕ) → tag ≡ Tag.Back given
+        → Lights plane.new (λ column row. shown_colour sign.now (unwrap_or given sign.now.defaults.back) == layer.colour) }
     ensures quiet { IsQuiet tag → plane.new ≡ plane.old }
     ensures counted { plane.old.steps ≤ plane.new.steps }
     ensures steps { plane.new.steps ≤ plane.old.steps + plane_octets sign.now }

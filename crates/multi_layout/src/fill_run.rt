@@ -137,7 +137,8 @@ fn take_word(
 ) -> Word
     requires short { length source.old.octets < 2 ^ 32 }
     requires text { IsInText sign.now source.old.octets at run.old pass.old source.old }
-    ensures spaced { (behind : ℕ) → result ≡ Word.Spaced behind → (at < behind) × IsInText sign.now source.old.octets behind run.new pass.new source.new }
+    ensures spaced { (behind : ℕ) → result ≡ Word.Spaced behind
+        → (at < behind) × IsInText sign.now source.old.octets behind run.new pass.new source.new }
     ensures ended { (behind : ℕ) (next : Option ℕ) → result ≡ Word.Ended behind next
         → (at ≤ behind) × IsAt sign.now source.old.octets behind next (IsFilledFor sign.now pass.new) source.new }
 {

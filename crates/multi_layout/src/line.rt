@@ -143,7 +143,8 @@ impl Line {
     fn go_on(&mut self, just: u8)
         requires known { just ≤ 5 }
         ensures sum { (line : List Spot) → self.old ≡ line_sum line → self.old.present ≤ just → self.new ≡ line_sum_in just line }
-        ensures others { (self.new.has_parts ≡ self.old.has_parts) × (self.new.height ≡ self.old.height) × (self.new.spacing ≡ self.old.spacing) }
+        ensures others { (self.new.has_parts ≡ self.old.has_parts) × (self.new.height ≡ self.old.height)
+            × (self.new.spacing ≡ self.old.spacing) }
         ensures present { self.old.present ≤ just → self.new.present ≡ just }
         ensures grows { (k : ℕ) → IsLineBelow k self.old → IsLineBelow k self.new }
     {

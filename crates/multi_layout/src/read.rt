@@ -124,11 +124,14 @@ fn pass_item<const WORDS: bool>(
     lines: &mut LineTable,
 )
     requires sound { IsSound sign.now }
-    requires known { (before : List spelled.Item) × (next : spelled.Item) × IsReadOf WORDS sign.now before kept.old.state.area.present kept.old lines.old
+    requires known { (before : List spelled.Item) × (next : spelled.Item)
+        × IsReadOf WORDS sign.now before kept.old.state.area.present kept.old lines.old
         × IsNextRead sign.now before next item }
     requires plain { begins_area (meant_by item) ≡ false }
-    ensures known { (before : List spelled.Item) (next : spelled.Item) → IsReadOf WORDS sign.now before kept.old.state.area.present kept.old lines.old
-        → IsNextRead sign.now before next item → IsReadOf WORDS sign.now (before ++ next ∷ []) kept.new.state.area.present kept.new lines.new }
+    ensures known { (before : List spelled.Item) (next : spelled.Item)
+        → IsReadOf WORDS sign.now before kept.old.state.area.present kept.old lines.old
+        → IsNextRead sign.now before next item
+        → IsReadOf WORDS sign.now (before ++ next ∷ []) kept.new.state.area.present kept.new lines.new }
     ensures steps { RisesBetween source.old source.new 0 8 }
 {
     leave_group(lines, item, &kept.state);
@@ -148,9 +151,11 @@ fn pass_shown<const WORDS: bool>(
 )
     requires sound { IsSound sign.now }
     requires known { (before : List spelled.Item) × (next : spelled.Item)
-        × IsReadOf WORDS sign.now before kept.old.state.attributes.page_just kept.old lines.old × IsNextRead sign.now before next (Char number) }
+        × IsReadOf WORDS sign.now before kept.old.state.attributes.page_just kept.old lines.old
+        × IsNextRead sign.now before next (Char number) }
     ensures known { (before : List spelled.Item) (next : spelled.Item)
-        → IsReadOf WORDS sign.now before kept.old.state.attributes.page_just kept.old lines.old → IsNextRead sign.now before next (Char number)
+        → IsReadOf WORDS sign.now before kept.old.state.attributes.page_just kept.old lines.old
+        → IsNextRead sign.now before next (Char number)
         → IsReadOf WORDS sign.now (before ++ next ∷ []) kept.new.state.area.present kept.new lines.new }
     ensures steps { RisesBetween source.old source.new 0 8 }
 {
@@ -174,10 +179,12 @@ fn pass_tag<const WORDS: bool>(
 )
     requires sound { IsSound sign.now }
     requires known { (before : List spelled.Item) × (next : spelled.Item)
-        × IsReadOf WORDS sign.now before (next_group kept.old.state (Does tag)) kept.old lines.old × IsNextRead sign.now before next (items.Tag tag) }
+        × IsReadOf WORDS sign.now before (next_group kept.old.state (Does tag)) kept.old lines.old
+        × IsNextRead sign.now before next (items.Tag tag) }
     requires plain { begins_area (Does tag) ≡ false }
     ensures known { (before : List spelled.Item) (next : spelled.Item)
-        → IsReadOf WORDS sign.now before (next_group kept.old.state (Does tag)) kept.old lines.old → IsNextRead sign.now before next (items.Tag tag)
+        → IsReadOf WORDS sign.now before (next_group kept.old.state (Does tag)) kept.old lines.old
+        → IsNextRead sign.now before next (items.Tag tag)
         → IsReadOf WORDS sign.now (before ++ next ∷ []) kept.new.state.area.present kept.new lines.new }
     ensures steps { RisesBetween source.old source.new 0 8 }
 {
@@ -198,10 +205,12 @@ fn pass_tag<const WORDS: bool>(
 fn leave_group(lines: &mut LineTable, item: KnownItem, state: &State)
     requires below { IsBelow (2 ^ 42) state.now.area }
     requires ordered { IsOrdered lines.old }
-    requires known { (spots : List Spot) × All IsPlacing spots × (state.now.area ≡ area_sum spots) × HasKnown state.now.area.present spots lines.old
+    requires known { (spots : List Spot) × All IsPlacing spots × (state.now.area ≡ area_sum spots)
+        × HasKnown state.now.area.present spots lines.old
         × HasRoom spots × IsNarrowArea spots }
     requires order { has_place (meant_by item) ≡ true → state.now.area.present ≤ state.now.attributes.page_just }
-    ensures known { (spots : List Spot) → All IsPlacing spots → state.now.area ≡ area_sum spots → HasKnown state.now.area.present spots lines.old
+    ensures known { (spots : List Spot) → All IsPlacing spots → state.now.area ≡ area_sum spots
+        → HasKnown state.now.area.present spots lines.old
         → HasKnown (next_group state.now (meant_by item)) spots lines.new }
     ensures ordered { IsOrdered lines.new }
     ensures low { IsLow lines.old → IsLow lines.new }

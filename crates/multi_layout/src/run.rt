@@ -46,7 +46,8 @@ impl State {
     pub(crate) fn lengthen(&mut self, width: u64, count: u64)
         requires width { (line_in_force self.old).part.width + width < 2 ^ 64 }
         requires count { (line_in_force self.old).part.count + count < 2 ^ 64 }
-        ensures { self.new ≡ lengthened ((line_in_force self.old).part.width + width) ((line_in_force self.old).part.count + count) self.old }
+        ensures { self.new
+            ≡ lengthened ((line_in_force self.old).part.width + width) ((line_in_force self.old).part.count + count) self.old }
     {
         let part = &self.area.group.line.part;
         let (width, count) = (part.width + width, part.count + count);

@@ -66,7 +66,8 @@ impl State {
     pub(crate) fn pass_character(&mut self, width: u8)
         requires ready { IsReady self.old }
         ensures passed { (sign : SignData) (items : List Meaning) (number : ℕ) (cell : SizedCell) → IsStateOf sign items self.old
-            → cell_in sign self.old.attributes.font.number number ≡ Some cell → width ≡ cell.width → unsized_offence sign items (Shows number) ≡ None
+            → cell_in sign self.old.attributes.font.number number ≡ Some cell → width ≡ cell.width
+            → unsized_offence sign items (Shows number) ≡ None
             → IsStateOf sign (items ++ Shows number ∷ []) self.new }
     {
         let character = self.attributes.character(width);

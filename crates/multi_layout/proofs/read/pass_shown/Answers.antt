@@ -2,7 +2,8 @@ use Rattle.std.proofs.Common.{◌≡◌, ℕ, Option, None, Some, map, sym, ◌�
 use Rattle.sign_font.specs.Sign.{cell_in}
 use Rattle.multi_layout.specs.Meaning.{meaning}
 use Rattle.multi_layout.proofs.PassLemmas.{pass_undefined}
-use Rattle.multi_layout.proofs.AreaReadLemmas.{next_fine, read_ready, shown_closed, shown_ended, shown_just, shown_last, shown_narrow, shown_room, shown_stays}
+use Rattle.multi_layout.proofs.AreaReadLemmas.{next_fine, read_ready}
+use Rattle.multi_layout.proofs.AreaStepLemmas.{shown_closed, shown_ended, shown_just, shown_last, shown_narrow, shown_room, shown_stays}
 use Rattle.multi_layout.proofs.RunReadLemmas.{cell_of_width, no_cell}
 use Rattle.multi_layout.proofs.read.pass_shown.Goals as goal
 
