@@ -32,7 +32,8 @@ pub(crate) fn draw_plane(
 ) -> Result<Vec<u8>, AllocError>
     requires sign { checked.old.sign ≡ sign.now }
     requires there { IsThere checked.old.source.octets shown }
-    ensures { IfOk result (λ octets. HoldsPlane sign.now.width sign.now.height (pixel_at sign.now (meanings checked.old.source.octets) shown colour) octets.items) }
+    ensures { IfOk result (λ octets. HoldsPlane sign.now.width sign.now.height
+        (pixel_at sign.now (meanings checked.old.source.octets) shown colour) octets.items) }
 {
     let Ok(mut plane) = Plane::new(alloc, sign.width(), sign.height()) else {
         return Err(AllocError);

@@ -35,7 +35,8 @@ pub(crate) fn accepted<'a>(sign: &'a Sign, text: &'a [u8]) -> Result<Checked<'a>
 /// What is seen of a text, or `None` if it has no such page.
 pub(crate) fn seen(checked: &mut Checked<'_>, when: When) -> Option<Shown>
     requires short { length checked.old.source.octets < 2 ^ 32 }
-    ensures some { IfSome result (λ shown. (shown ≡ seen checked.old.sign checked.old.source.octets when) × IsThere checked.old.source.octets shown
+    ensures some { IfSome result (λ shown. (shown ≡ seen checked.old.sign checked.old.source.octets when)
+        × IsThere checked.old.source.octets shown
         × HasPage checked.old.source.octets when) }
     ensures none { result ≡ None → LacksPage checked.old.source.octets when }
     ensures kept { (checked.new.sign ≡ checked.old.sign) × (checked.new.source.octets ≡ checked.old.source.octets) }

@@ -130,7 +130,8 @@ impl Store {
         requires taken { default_fault sign.now defaults.now ≡ None }
         ensures judged { option_map judged_of result ≡ (worked (under sign.now defaults.now) self.old).judged }
         ensures store { self.new ≡ (worked (under sign.now defaults.now) self.old).store }
-        ensures steps { IfSome result (λ judged. IsCounted (length (slot_at self.old (judged.number - 1)).multi) judged.validate_error judged.syntax judged.steps) }
+        ensures steps { IfSome result (λ judged.
+            IsCounted (length (slot_at self.old (judged.number - 1)).multi) judged.validate_error judged.syntax judged.steps) }
         ensures kept { IsKept self.new }
         ensures limits { self.new.limits ≡ self.old.limits }
     {

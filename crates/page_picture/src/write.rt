@@ -57,9 +57,11 @@ fn write_page(checked: &mut Checked<'_>, page: u8, phase: u64, plane: &mut Plane
     requires page { page < page_count checked.old }
     requires whole { checked.old.sign.width * checked.old.sign.height ≤ length octets.old }
     requires black { HaveValues checked.old.sign.width checked.old.sign.height (λ column row. 0) octets.old }
-    ensures colours { HaveValues checked.old.sign.width checked.old.sign.height (page_colour checked.old.sign checked.old.source.octets page phase) octets.new }
+    ensures colours { HaveValues checked.old.sign.width checked.old.sign.height
+        (page_colour checked.old.sign checked.old.source.octets page phase) octets.new }
     ensures count { length octets.new ≡ length octets.old }
-    ensures behind { drop (checked.old.sign.width * checked.old.sign.height) octets.new ≡ drop (checked.old.sign.width * checked.old.sign.height) octets.old }
+    ensures behind { drop (checked.old.sign.width * checked.old.sign.height) octets.new
+        ≡ drop (checked.old.sign.width * checked.old.sign.height) octets.old }
     ensures kept { checked.new.sign ≡ checked.old.sign }
     ensures size { (plane.new.width ≡ plane.old.width) × (plane.new.height ≡ plane.old.height) }
     ensures steps { RisesBetween checked.old.source checked.new.source 0 (9 * reading_limit (length checked.old.source.octets)) }

@@ -42,16 +42,46 @@ missing fault.NoSpace = error.MessageNumber
 -- a message of the store, judged by the present defaults (own)
 abbrev pub of_row : Defaults → MsgRef → Result RowData StoreFault → Result CandidateData ActivateError
 of_row defaults message (Err fault) = Err (missing fault)
-of_row defaults message (Ok row) = Ok (record { source = message; text = Some row.multi; priority = row.priority; beacon = row.beacon; pixel = row.pixel; crc = row.crc; status = row.status; defaults = defaults })
+of_row defaults message (Ok row) =
+    Ok (record {
+      source = message;
+      text = Some row.multi;
+      priority = row.priority;
+      beacon = row.beacon;
+      pixel = row.pixel;
+      crc = row.crc;
+      status = row.status;
+      defaults = defaults;
+    })
 
 -- the currentBuffer is what is shown now, judged by the defaults with which it is shown; it is valid
 -- (NTCIP 1203 v03, dmsMessageMemoryType)
 abbrev pub current : Display → CandidateData
-current display = record { source = display.source; text = None; priority = display.priority; beacon = display.beacon; pixel = display.pixel; crc = display.crc; status = 4; defaults = display.defaults }
+current display =
+    record {
+      source = display.source;
+      text = None;
+      priority = display.priority;
+      beacon = display.beacon;
+      pixel = display.pixel;
+      crc = display.crc;
+      status = 4;
+      defaults = display.defaults;
+    }
 
 -- blank 1, by these defaults (NTCIP 1203 v03, dmsMessageMemoryType)
 abbrev pub blank_one : Defaults → CandidateData
-blank_one defaults = record { source = record { memory = 7; number = 1 }; text = Some []; priority = 1; beacon = 0; pixel = 0; crc = 0; status = 4; defaults = defaults }
+blank_one defaults =
+    record {
+      source = record { memory = 7; number = 1 };
+      text = Some [];
+      priority = 1;
+      beacon = 0;
+      pixel = 0;
+      crc = 0;
+      status = 4;
+      defaults = defaults;
+    }
 
 -- the message of a memory type and a number, or messageMemoryType or messageNumber (NTCIP 1203 v03, dmsActivateMsgError)
 abbrev pub found : StoreData → Display → Defaults → MsgRef → Result CandidateData ActivateError
@@ -129,7 +159,17 @@ or_blank sign shown defaults (Ok message) = if is_accepted (verdict_of sign show
 
 -- the candidate of the code as data (own)
 abbrev pub candidate_of : Candidate → CandidateData
-candidate_of message = record { source = message.source; text = option_copied message.text; priority = message.priority; beacon = message.beacon; pixel = message.pixel; crc = message.crc; status = message.status; defaults = message.defaults }
+candidate_of message =
+    record {
+      source = message.source;
+      text = option_copied message.text;
+      priority = message.priority;
+      beacon = message.beacon;
+      pixel = message.pixel;
+      crc = message.crc;
+      status = message.status;
+      defaults = message.defaults;
+    }
 
 -- the answer of the code as data (own)
 abbrev pub candidate_result : Result Candidate ActivateError → Result CandidateData ActivateError

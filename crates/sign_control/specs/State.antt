@@ -74,7 +74,8 @@ IsThere Off count = Unit {0}
 
 -- what holds of every controller: the sign takes the defaults in force and those of the display, it accepts the display's
 -- text by these, and text, plane and remaining time are within their memory and limits (own)
-pub record IsReady (sign : SignData) (store : StoreData) (defaults : Defaults) (display : Display) (text : List ℕ) (capacity : ℕ) (plane : BitPlane) : Type 0 where
+pub record IsReady (sign : SignData) (store : StoreData) (defaults : Defaults) (display : Display) (text : List ℕ) (capacity : ℕ)
+    (plane : BitPlane) : Type 0 where
   pub sound : IsSound sign
   pub taken : default_fault sign defaults ≡ None
   pub shown_taken : default_fault sign display.defaults ≡ None

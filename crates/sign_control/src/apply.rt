@@ -175,7 +175,8 @@ impl Controller {
         ensures state { self.new.state ≡ (tick_step self.old.sign self.old.state tenths).state }
         ensures reply { result ≡ (tick_step self.old.sign self.old.state tenths).reply }
         ensures kept { (self.new.sign ≡ self.old.sign) × (self.new.plane ≡ self.old.plane) }
-        ensures steps { IsCountOf (ticked_text self.old.sign self.old.state tenths self.old.state.display.remaining) self.old.steps self.new.steps }
+        ensures steps { IsCountOf (ticked_text self.old.sign self.old.state tenths self.old.state.display.remaining)
+            self.old.steps self.new.steps }
     {
         match self.display.remaining {
             Some(remaining) if remaining <= tenths => self.end(tenths - remaining),

@@ -5,6 +5,6 @@ pub mod LengthLemmas
 pub mod NumberLemmas
 pub mod PartedLemmas
 pub mod PartsLemmas
-pub mod QuestionLemmas
+pub mod Asked
 pub mod ScriptRows
 pub mod WordLemmas

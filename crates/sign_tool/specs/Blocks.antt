@@ -31,11 +31,14 @@ pub record Begins (octets line others : List ℕ) : Type 0 where
   pub one : IsOneLine line
 
 -- The first line is answered, or no answer is added: the line doesn't end here, is too long or is bad, or memory was refused (own).
-abbrev pub AnswersFirst : (List (List ℕ) → List (Option (List ℕ))) → (List (List ℕ) → List (Option (List ℕ))) → List ℕ → List ℕ → List ℕ → Result FirstLine AllocError → Type 0
+abbrev pub AnswersFirst :
+    (List (List ℕ) → List (Option (List ℕ))) → (List (List ℕ) → List (Option (List ℕ))) → List ℕ → List ℕ → List ℕ
+    → Result FirstLine AllocError → Type 0
 AnswersFirst before behind octets old new (Ok (Answered count)) = (line others : List ℕ) × Begins octets line others
     × (count ≡ length line + 1) × (length (text_of line) ≤ 8300) × AnswersLine before behind (text_of line) old new (Ok line_answer.Text)
 AnswersFirst before behind octets old new (Ok Open) = IsOneLine octets × (new ≡ old) × (behind ≡ before)
-AnswersFirst before behind octets old new (Ok TooLong) = (line others : List ℕ) × Begins octets line others × (new ≡ old) × (8300 < length (text_of line))
+AnswersFirst before behind octets old new (Ok TooLong) =
+    (line others : List ℕ) × Begins octets line others × (new ≡ old) × (8300 < length (text_of line))
 AnswersFirst before behind octets old new (Ok Bad) = (line others : List ℕ) × Begins octets line others
     × (length (text_of line) ≤ 8300) × AnswersLine before behind (text_of line) old new (Ok line_answer.BadLine)
 AnswersFirst before behind octets old new (Err refused) = new ≡ old
@@ -47,8 +50,10 @@ IsKeptAfter first ready = ready ≡ []
 
 -- A front of the answers that are ready is written, and the others are kept; a writer that fails has taken some (own).
 abbrev pub WritesReady : Option (List ℕ) → Option (List ℕ) → FirstLine → List ℕ → List ℕ → Result (Unit {0}) ToolFault → Type 0
-WritesReady old new first ready ready' (Ok done) = (sent : List ℕ) × Appends old new sent × (sent ++ ready' ≡ ready) × IsKeptAfter first ready'
-WritesReady old new first ready ready' (Err e) = (e ≡ faults.Write) × (sent : List ℕ) × (unsent : List ℕ) × Appends old new sent × (sent ++ unsent ≡ ready)
+WritesReady old new first ready ready' (Ok done) =
+    (sent : List ℕ) × Appends old new sent × (sent ++ ready' ≡ ready) × IsKeptAfter first ready'
+WritesReady old new first ready ready' (Err e) =
+    (e ≡ faults.Write) × (sent : List ℕ) × (unsent : List ℕ) × Appends old new sent × (sent ++ unsent ≡ ready)
 
 -- All answers that are ready are written, and the end is that memory was refused; or the writer fails, and has taken some (own).
 abbrev pub EndsRefused : Option (List ℕ) → Option (List ℕ) → List ℕ → ToolFault → Type 0

@@ -2,7 +2,6 @@ ghost use Rattle.std.specs.Prelude.{◌≡◌, ◌+◌, ◌≤◌, length};
 
 use crate::tests::so;
 use page_plane::{Memory, Plane};
-use std::alloc::Global;
 use std::process::Abort;
 
 /// The plane of a test, whose memory `.ci/refused-calls` refuses.

@@ -26,7 +26,8 @@ fn pass_over(pages: &mut Pages<'_>) -> u8
 fn end_with_next<'a>(pages: Pages<'a>) -> (Checked<'a>, Plane)
     requires { pages.next < page_count pages.string }
     ensures octets { result.0.source.octets ≡ pages.entry.string.source.octets }
-    ensures shown { Lights result.1 (picture pages.entry.string.sign pages.entry.string.source.octets pages.entry.next pages.entry.phase pages.entry.colour) }
+    ensures shown { Lights result.1
+        (picture pages.entry.string.sign pages.entry.string.source.octets pages.entry.next pages.entry.phase pages.entry.colour) }
 {
     let mut pages = pages;
     let Some(_) = pages.next_page() else {

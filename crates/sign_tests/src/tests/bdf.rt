@@ -152,7 +152,8 @@ fn a_fault_has_its_text(rt: HostRuntime) -> Result<(), Fail> {
         ),
         (
             outside,
-            "line 12: character 65: a pixel is lit outside the cell: column 3, row -1, counted from 0; the cell has 3 by 7; --outside widen makes columns for it, crop leaves the pixel out, skip the character",
+            "line 12: character 65: a pixel is lit outside the cell: column 3, row -1, counted from 0; the cell has 3 by 7; \
+             --outside widen makes columns for it, crop leaves the pixel out, skip the character",
         ),
     ];
     for (problem, expected) in rows {

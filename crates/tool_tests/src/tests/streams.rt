@@ -65,7 +65,8 @@ done
 worked 1 4 2 2 0
 shown
 row 3 1 4 1 0 0 9a66 - 41
-report used=1 free=3 mode=8 shown=3/1 crc=9a66 priority=1 remaining=65535 requester=00000000 activate=2 validate=2 multi=2 position=0 clock=0
+report used=1 free=3 mode=8 shown=3/1 crc=9a66 priority=1 remaining=65535 requester=00000000 \
+activate=2 validate=2 multi=2 position=0 clock=0
 defaults 1 3 3 30 0 5 5 1 0
 page 0 phase 0
 ............
@@ -104,7 +105,8 @@ idle
 shown
 ticked
 ended
-report used=1 free=3 mode=14 shown=7/1 crc=0000 priority=1 remaining=65535 requester=7f000001 activate=2 validate=2 multi=2 position=0 clock=5
+report used=1 free=3 mode=14 shown=7/1 crc=0000 priority=1 remaining=65535 requester=7f000001 \
+activate=2 validate=2 multi=2 position=0 clock=5
 shown
 ended
 ";
