@@ -1,13 +1,14 @@
 -- The message that is to be shown, and what keeps it from being shown (NTCIP 1203 v03, dmsActivateMessage).
-use Rattle.std.specs.Prelude.{ℕ, ◌+◌, ◌*◌, ◌/◌, ◌%◌, Bool, true, false, ◌||◌, ◌==◌, if◌then◌else◌, List, [], Option, Some, None, Result, Ok, Err}
+use Rattle.std.specs.Prelude.{ℕ, ◌+◌, ◌*◌, ◌/◌, ◌%◌, Bool, ◌||◌, ◌==◌, if◌then◌else◌, List, [], Option, Some, None, Result, Ok, Err}
 use Rattle.std.specs.Option.{unwrap_or, option_copied}
 use Rattle.sign_font.specs.declared.parts.Defaults.{Defaults}
 use Rattle.sign_font.specs.Defaults.{under}
 use Rattle.sign_font.specs.Sign.{SignData}
-use Rattle.multi_layout.specs.Verdict.{Verdict, Accepted, Refused, verdict}
+use Rattle.multi_layout.specs.Verdict.{Verdict, verdict}
 use Rattle.message_store.specs.declared.fault.StoreFault.{StoreFault}
 use Rattle.message_store.specs.declared.fault.StoreFault.TheVariants as fault
 use Rattle.message_store.specs.declared.message.MsgRef.{MsgRef}
+use Rattle.message_store.specs.Judged.{is_accepted}
 use Rattle.message_store.specs.Row.{RowData, row_at}
 use Rattle.message_store.specs.Slot.{StoreData}
 use Rattle.sign_control.specs.declared.activation.Candidate.{Candidate}
@@ -117,21 +118,6 @@ text_of shown message = unwrap_or message.text shown
 -- what the sign says of the message's text, by the message's defaults (own)
 abbrev pub verdict_of : SignData → List ℕ → CandidateData → Verdict
 verdict_of sign shown message = verdict (under sign message.defaults) (text_of shown message)
-
--- the string is accepted (own)
-abbrev pub is_accepted : Verdict → Bool
-is_accepted (Accepted pages) = true
-is_accepted (Refused code at) = false
-
--- the MULTI error, 2 where there is none (NTCIP 1203 v03, dmsMultiSyntaxError)
-abbrev pub error_of : Verdict → ℕ
-error_of (Accepted pages) = 2
-error_of (Refused code at) = code
-
--- the position of the MULTI error, 0 where there is none (NTCIP 1203 v03, dmsMultiSyntaxErrorPosition)
-abbrev pub position_of : Verdict → ℕ
-position_of (Accepted pages) = 0
-position_of (Refused code at) = at
 
 -- the duration in tenths of a second; 65535 is without end (NTCIP 1203 v03, MessageActivationCode)
 abbrev pub remaining_of : ℕ → Option ℕ

@@ -9,12 +9,13 @@ use Rattle.multi_layout.specs.Meaning.{meanings}
 use Rattle.multi_layout.specs.Picture.{pixel_at}
 use Rattle.multi_layout.specs.Times.{shown}
 use Rattle.multi_layout.specs.Verdict.{Accepted, pages_of, verdict}
+use Rattle.page_picture.specs.Shown.{IsThere}
 use Rattle.message_store.specs.Limits.{IsKept}
 use Rattle.message_store.specs.Slot.{StoreData}
 use Rattle.sign_control.specs.declared.command.Command.{Command}
 use Rattle.sign_control.specs.Counts.{IsCountOf, text_judged}
 use Rattle.sign_control.specs.Run.{AreCountsOf, IsWithin, run}
-use Rattle.sign_control.specs.State.{IsThere, StateData, started}
+use Rattle.sign_control.specs.State.{StateData, started}
 
 -- the sign with the defaults of what it shows (own)
 abbrev pub shown_by : SignData → StateData → SignData
@@ -55,7 +56,7 @@ pub record Holds (sign : SignData) (store : StoreData) (commands : List Command)
       let state = after sign store commands in
       verdict (shown_by sign state) state.text ≡ Accepted (pages_of (meanings state.text))
   -- a frame shows a page of that text, or an off time
-  pub there : let state = after sign store commands in IsThere (shown_now sign state) (pages_of (meanings state.text))
+  pub there : let state = after sign store commands in IsThere state.text (shown_now sign state)
   -- each pixel of a frame has one colour, of 0 to 9
   pub coloured :
       (column row : ℕ) → (colour : ℕ) × (colour ≤ 9) × IsOnly colour (λ other. pixel_now sign (after sign store commands) other column row)

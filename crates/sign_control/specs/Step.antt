@@ -20,7 +20,8 @@ use Rattle.sign_control.specs.declared.command.DefaultField.TheVariants as field
 use Rattle.sign_control.specs.declared.command.Reply.{Reply}
 use Rattle.sign_control.specs.declared.command.Reply.TheVariants as reply
 use Rattle.sign_control.specs.declared.display.Registers.{Registers}
-use Rattle.sign_control.specs.Activation.{CandidateData, displayed, error_of, is_accepted, named, position_of, remaining_of, text_of, verdict_of}
+use Rattle.message_store.specs.Judged.{error_of, is_accepted, position_of}
+use Rattle.sign_control.specs.Activation.{CandidateData, displayed, named, remaining_of, text_of, verdict_of}
 use Rattle.sign_control.specs.Code.{activation_code, error_code, id_code}
 use Rattle.sign_control.specs.State.{StateData, Stepped}
 use Rattle.sign_control.specs.Time.{tick_step}
