@@ -8,7 +8,7 @@ use Rattle.multi_layout.specs.Meaning.{meanings}
 use Rattle.multi_layout.specs.Picture.{pixel_at}
 use Rattle.multi_layout.specs.Times.{shown}
 use Rattle.multi_layout.specs.Verdict.{Accepted, IsVerdict, Refused, pages_of}
-use Rattle.page_picture.specs.Colours.{colour_by, values}
+use Rattle.page_picture.specs.Shown.{colours}
 use Rattle.latsefur_c.specs.declared.seen.When.{When}
 use Rattle.latsefur_c.specs.declared.seen.When.TheVariants as when
 use Rattle.latsefur_c.specs.declared.shown.LatsefurShown.{LatsefurShown}
@@ -40,11 +40,6 @@ abbrev pub LacksPage : List ℕ → When → Type 0
 LacksPage text (when.Clock clock) = ⊥
 LacksPage text (when.Page page phase) = pages_of (meanings text) ≤ page
 
--- what is seen is a page of the text, or nothing is (own)
-abbrev pub IsThere : List ℕ → Shown → Type 0
-IsThere text (Page page phase) = page < pages_of (meanings text)
-IsThere text Off = Unit {0}
-
 -- why nothing can be shown of a text: there is no sign, or the text isn't accepted, or it is and has no such page (6) (own)
 abbrev pub IsUnseen : List ℕ → List ℕ → When → ℕ → Type 0
 IsUnseen file text time outcome =
@@ -55,12 +50,6 @@ IsUnseen file text time outcome =
 -- a sign accepts a text, which has the page that is asked for (own)
 abbrev pub IsSeen : SignData → List ℕ → When → Type 0
 IsSeen sign text time = IsAccepted sign text × HasPage text time
-
--- the colours of all pixels of what is seen, 0 to 9, row by row from the top (NTCIP 1203 v03,
--- dmsColorScheme; the order of the pixels is own)
-abbrev pub colours : SignData → List ℕ → Shown → List ℕ
-colours sign text shown =
-    values (λ column row. colour_by (λ colour. pixel_at sign (meanings text) shown colour column row)) sign.width sign.height
 
 -- octets hold a plane of this size: (width + 7) / 8 for a row, from the top, its leftmost pixel in
 -- the highest bit of the first, and spare bits 0 (own)

@@ -7,12 +7,13 @@ ghost use Rattle.latsefur_c.specs.declared.seen.When.TheVariants as when;
 
 use crate::buffer::write_front;
 use crate::check::{LatsefurVerdict, judged};
-use crate::draw::{draw_colours, draw_plane};
+use crate::draw::draw_plane;
 use crate::facts::{LatsefurSign, facts_of};
 use crate::outcome::{DONE, NO_MEMORY, NO_PAGE, TOO_SMALL};
 use crate::seen::{When, accepted, seen};
 use crate::shown::{LatsefurShown, told};
 use crate::sign::sign_of;
+use page_picture::draw_colours;
 use std::alloc::Global;
 
 /// Tells what the sign of a sign file is.

@@ -1,6 +1,7 @@
 //! What is seen of a text.
 ghost use Rattle.std.specs.Prelude.{◌≡◌, ◌<◌, ◌^◌, length, None, IfOk, IfErr, IfSome, OnOk};
-ghost use Rattle.latsefur_c.specs.Drawn.{HasPage, IsAccepted, IsNotAccepted, IsThere, LacksPage, seen};
+ghost use Rattle.page_picture.specs.Shown.{IsThere};
+ghost use Rattle.latsefur_c.specs.Drawn.{HasPage, IsAccepted, IsNotAccepted, LacksPage, seen};
 
 use crate::check::MAX_TEXT;
 use crate::outcome::{REFUSED, TOO_LONG};
