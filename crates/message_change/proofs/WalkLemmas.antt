@@ -18,7 +18,7 @@ use Rattle.multi_layout.proofs.AcceptedLemmas.{accepted_is, cycle_is}
 use Rattle.multi_layout.proofs.WordLemmas.{some_after_push}
 use Rattle.message_change.specs.Change.{change_at, change_of, change_within, flash_left, flash_on, flashes_left, is_shown, page_flashes, part_left, sooner, times_left}
 use Rattle.message_change.specs.declared.walk.Walk.{Walk}
-use Rattle.message_change.specs.Walk.{IsIn, page_left, times_of}
+use Rattle.message_change.specs.kept.Walk.{IsIn, page_left, times_of}
 use Rattle.message_change.proofs.TurnLemmas.{IsTurnOf, left_of, off_left, off_shown, on_left, on_shown}
 use Rattle.message_change.proofs.NextItemLemmas.{new_page_is}
 use Rattle.message_change.proofs.PageFlashLemmas.{apart, flashes_ended, flashes_push, no_flashes, none_later, page_is, page_push, soonest_push}

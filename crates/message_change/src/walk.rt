@@ -6,7 +6,7 @@ ghost use Rattle.multi_layout.specs.Address.{Standing};
 ghost use Rattle.multi_layout.specs.Meaning.{Meaning, said_by};
 ghost use Rattle.multi_layout.specs.State.{standing_behind};
 ghost use Rattle.message_change.specs.Change.{flash_left, is_shown, sooner};
-ghost use Rattle.message_change.specs.Walk.{IsIn, IsSaid, page_left, times_of};
+ghost use Rattle.message_change.specs.kept.Walk.{IsIn, IsSaid, page_left, times_of};
 
 use crate::flash::{Flash, flash_left, sooner};
 use multi_tag::Tag;

@@ -15,7 +15,9 @@ use Rattle.tool_streams.specs.Streams.{IsLineFault}
 -- a text explains some lines, one after the other (own)
 abbrev pub ExplainsLines : SignData → ℕ → List (List ℕ) → List ℕ → Type 0
 ExplainsLines sign phase [] text = text ≡ []
-ExplainsLines sign phase (line ∷ lines) text = IsOneLine line × (length (text_of line) ≤ 8300) × ((first rest : List ℕ) × Explains sign (text_of line) phase first × ExplainsLines sign phase lines rest
+ExplainsLines sign phase (line ∷ lines) text =
+    IsOneLine line × (length (text_of line) ≤ 8300)
+    × ((first rest : List ℕ) × Explains sign (text_of line) phase first × ExplainsLines sign phase lines rest
     × (text ≡ first ++ rest))
 
 -- a sign takes the texts of all lines (own)
@@ -23,7 +25,8 @@ abbrev pub takes_all : SignData → List (List ℕ) → Bool
 takes_all sign lines = list_all (λ line. takes sign (text_of line)) lines
 
 -- some lines are read, from this place on to another, and their explanations are written (own)
-pub record Explained (sign : SignData) (phase : ℕ) (place place' : LineStart) (input input' output output' : Option (List ℕ)) (all : Bool) : Type 0 where
+pub record Explained (sign : SignData) (phase : ℕ) (place place' : LineStart) (input input' output output' : Option (List ℕ)) (all : Bool) :
+    Type 0 where
   pub lines : List (List ℕ)
   pub text : List ℕ
   pub reads : Consumes input input' (octets_of lines)
@@ -33,9 +36,10 @@ pub record Explained (sign : SignData) (phase : ℕ) (place place' : LineStart) 
   pub writes : Appends output output' text
   pub taken : all ≡ takes_all sign lines
 
--- some lines are read, from this place on, and perhaps more, which has this fault, and their explanations are written, or their beginning, if
--- the writer fails (own)
-pub record BeginsToExplain (sign : SignData) (phase : ℕ) (place : LineStart) (input input' output output' : Option (List ℕ)) (e : ToolFault) : Type 0 where
+-- some lines are read, from this place on, and perhaps more, which has this fault, and their
+-- explanations are written, or their beginning, if the writer fails (own)
+pub record BeginsToExplain (sign : SignData) (phase : ℕ) (place : LineStart) (input input' output output' : Option (List ℕ)) (e : ToolFault)
+    : Type 0 where
   pub lines : List (List ℕ)
   pub more : List ℕ
   pub sent : List ℕ
@@ -49,14 +53,20 @@ pub record BeginsToExplain (sign : SignData) (phase : ℕ) (place : LineStart) (
   pub whole : e ≢ Write → unsent ≡ []
 
 -- the next line is read and explained, or the input is at its end, or there is a fault (own)
-abbrev pub ExplainsNext : SignData → ℕ → LineStart → LineStart → Option (List ℕ) → Option (List ℕ) → Option (List ℕ) → Option (List ℕ) → Result (Option Bool) ToolFault → Type 0
-ExplainsNext sign phase place place' input input' output output' (Ok (Some is_taken)) = Explained sign phase place place' input input' output output' is_taken
-ExplainsNext sign phase place place' input input' output output' (Ok None) = Consumes input input' [] × IsAtEnd input' × Appends output output' []
+abbrev pub ExplainsNext :
+    SignData → ℕ → LineStart → LineStart → Option (List ℕ) → Option (List ℕ) → Option (List ℕ) → Option (List ℕ)
+    → Result (Option Bool) ToolFault → Type 0
+ExplainsNext sign phase place place' input input' output output' (Ok (Some is_taken)) =
+    Explained sign phase place place' input input' output output' is_taken
+ExplainsNext sign phase place place' input input' output output' (Ok None) =
+    Consumes input input' [] × IsAtEnd input' × Appends output output' []
 ExplainsNext sign phase place place' input input' output output' (Err e) = BeginsToExplain sign phase place input input' output output' e
 
 -- the lines that are left are read to their end and explained, and the answer is whether all are taken; or there is a fault (own)
-abbrev pub ExplainsRest : SignData → ℕ → LineStart → Option (List ℕ) → Option (List ℕ) → Option (List ℕ) → Option (List ℕ) → Result Bool ToolFault → Type 0
-ExplainsRest sign phase place input input' output output' (Ok all) = (place' : LineStart) × Explained sign phase place place' input input' output output' all × IsAtEnd input'
+abbrev pub ExplainsRest :
+    SignData → ℕ → LineStart → Option (List ℕ) → Option (List ℕ) → Option (List ℕ) → Option (List ℕ) → Result Bool ToolFault → Type 0
+ExplainsRest sign phase place input input' output output' (Ok all) =
+    (place' : LineStart) × Explained sign phase place place' input input' output output' all × IsAtEnd input'
 ExplainsRest sign phase place input input' output output' (Err e) = BeginsToExplain sign phase place input input' output output' e
 
 -- what is taken leads to a sign, and the lines behind that are explained on it; or it leads to none, for the same reason as in the

@@ -1,8 +1,8 @@
 //! What helps people who write messages, sign files and fonts, over streams that are handed in.
 //!
-//! [`run_explain`] explains messages, [`draw_picture`] and [`run_picture`] draw a message, [`run_sign`] tells of a sign file, and
-//! [`run_font`] makes a font of a sign file from a font in BDF. The program `signctl` gives them the standard streams. Messages stand in the
-//! input as they do for `sign_tool::run_tool`.
+//! [`run_explain`] explains messages, [`draw_picture`] and [`run_picture`] draw a message, [`run_sign`] tells
+//! of a sign file, and [`run_font`] makes a font of a sign file from a font in BDF. The program `signctl`
+//! gives them the standard streams. Messages stand in the input as they do for `sign_tool::run_tool`.
 #![tactic(auto)]
 
 mod explain;

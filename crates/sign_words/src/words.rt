@@ -62,8 +62,8 @@ fn tell(
     }
 }
 
-/// What is said of the octets of a sign file (own): what it sets up, or, where it isn't taken, each fault that is found in it. Keys that aren't
-/// known are told as notes, which are no faults. Written by `Display`, which takes memory.
+/// What is said of the octets of a sign file (own): what it sets up, or, where it isn't taken, each fault that is found
+/// in it. Keys that aren't known are told as notes, which are no faults. Written by `Display`, which takes memory.
 #[derive(Clone, Copy)]
 pub struct SignWords<'a> {
     /// Where memory comes from.
