@@ -9,7 +9,7 @@ use Rattle.sign_font.specs.declared.parts.Defaults.{Defaults}
 use Rattle.sign_font.specs.Sign.{SignData}
 use Rattle.multi_layout.specs.Address.{Standing, standing}
 use Rattle.multi_layout.specs.Meaning.{Does, Meaning, is_new_page, meanings}
-use Rattle.multi_layout.specs.State.{standing_behind}
+use Rattle.multi_layout.specs.kept.State.{standing_behind}
 use Rattle.multi_layout.specs.Times.{Times, cycle, ended_times, page_times, times_at}
 use Rattle.multi_layout.specs.Verdict.{Accepted, IsCycle, IsVerdict}
 use Rattle.multi_layout.proofs.StandingLemmas.{standing_push}

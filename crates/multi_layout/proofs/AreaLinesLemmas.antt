@@ -16,17 +16,17 @@ use Rattle.multi_layout.specs.declared.pass.Pass.{Pass}
 use Rattle.multi_layout.specs.declared.read.AreaLines.{AreaLines}
 use Rattle.multi_layout.specs.declared.table.LineTable.{LineTable}
 use Rattle.multi_layout.specs.Address.{Standing, in_area, spots, standing}
-use Rattle.multi_layout.specs.AreaRead.{IsNextRead, IsReadOf, laid_area}
-use Rattle.multi_layout.specs.FilledState.{IsFilledOf}
-use Rattle.multi_layout.specs.KnownItem.{meant_by}
+use Rattle.multi_layout.specs.kept.AreaReading.{IsNextRead, IsReadOf, laid_area}
+use Rattle.multi_layout.specs.kept.FilledState.{IsFilledOf}
+use Rattle.multi_layout.specs.kept.KnownItem.{meant_by}
 use Rattle.multi_layout.specs.LaidItems.{laid_items}
 use Rattle.multi_layout.specs.Meaning.{EndsArea, Meaning, begins_area, meaning}
-use Rattle.multi_layout.specs.Passes.{BeginsNoArea, HasCounted, HasKnown, IsAreaRead, IsLow, first_steps, whole_area}
-use Rattle.multi_layout.specs.PassOf.{IsPassOf, fill_of}
-use Rattle.multi_layout.specs.State.{IsStateOf, present_area}
-use Rattle.multi_layout.specs.Table.{IsOrdered, group_lines, table_of}
+use Rattle.multi_layout.specs.kept.AreaDrawing.{BeginsNoArea, HasCounted, HasKnown, IsAreaRead, IsLow, first_steps, whole_area}
+use Rattle.multi_layout.specs.kept.PassState.{IsPassOf, fill_of}
+use Rattle.multi_layout.specs.kept.State.{IsStateOf, present_area}
+use Rattle.multi_layout.specs.kept.Table.{IsOrdered, group_lines, table_of}
 use Rattle.multi_layout.specs.Verdict.{fault_at, offences}
-use Rattle.multi_layout.specs.Walk.{IsBetween, IsFirst, IsItemRead, IsPlaced, items_of, laid_meanings, meant, Piece, spell_of}
+use Rattle.multi_layout.specs.kept.Cursors.{IsBetween, IsFirst, IsItemRead, IsPlaced, items_of, laid_meanings, meant, LaidItem, spell_of}
 use Rattle.multi_layout.proofs.AreaReadLemmas.{laid_plain}
 use Rattle.multi_layout.proofs.FilledStartLemmas.{area_empty, laid_empty, state_begins}
 use Rattle.multi_layout.proofs.KnownLinesLemmas.{known_none}
@@ -46,13 +46,13 @@ steps_on at source a b d from to len low on more earlier item passing =
     rises_more source d 0 _ _ all
     (rises_then source b d 0 (9 * (at - from) + (2 * len - 1)) 0 8 (rises_then source a b 0 (9 * (at - from)) 0 (2 * len - 1) earlier item) passing)
 
-abbrev item_at : Piece → Item
+abbrev item_at : LaidItem → Item
 item_at piece = piece.item
 
 -- the reading so far: the pieces read and left, none of which begins an area, and what is kept of the items up to there
-pub record SoFar (words : Bool) (sign : SignData) (octets : List ℕ) (before behind : List Piece) (at : ℕ) (kept : Pass) (lines : LineTable) : Type 0 where
-  pub pieces : List Piece
-  pub left : List Piece
+pub record SoFar (words : Bool) (sign : SignData) (octets : List ℕ) (before behind : List LaidItem) (at : ℕ) (kept : Pass) (lines : LineTable) : Type 0 where
+  pub pieces : List LaidItem
+  pub left : List LaidItem
   pub split : behind ≡ pieces ++ left
   pub plain : BeginsNoArea pieces
   pub same_area : (standing sign (map meaning (items_of (before ++ pieces)))).area ≡ (standing sign (map meant before)).area
@@ -61,7 +61,7 @@ pub record SoFar (words : Bool) (sign : SignData) (octets : List ℕ) (before be
   pub read : IsReadOf words sign (items_of (before ++ pieces)) kept.state.area.present kept lines
 
 -- before the first item
-module _ (words : Bool) {sign : SignData} (kind : sign.line_fill ≡ fill_of words) {octets : List ℕ} {before behind : List Piece} {cursor : Cursor} (b : IsBetween sign octets before behind cursor)
+module _ (words : Bool) {sign : SignData} (kind : sign.line_fill ≡ fill_of words) {octets : List ℕ} {before behind : List LaidItem} {cursor : Cursor} (b : IsBetween sign octets before behind cursor)
     (begins : present_area sign (map meant before) ≡ []) where
   abbrev ms : List Meaning
   ms = map meaning (items_of before)
@@ -125,14 +125,14 @@ counted_among false sign items rest ends table counted =
     subst (λ a. HasCounted a table) (sym whole) counted
 
 -- one more item
-module _ {words : Bool} {sign : SignData} {octets : List ℕ} {before behind : List Piece} {at : ℕ} {kept : Pass} {lines : LineTable} (so : SoFar words sign octets before behind at kept lines) where
+module _ {words : Bool} {sign : SignData} {octets : List ℕ} {before behind : List LaidItem} {at : ℕ} {kept : Pass} {lines : LineTable} (so : SoFar words sign octets before behind at kept lines) where
   pub record NextSo (next : NextItem) : Type 0 where
-    pub piece : Piece
-    pub rest : List Piece
+    pub piece : LaidItem
+    pub rest : List LaidItem
     pub first : so.left ≡ piece ∷ rest
     pub read : IsItemRead piece.item next
 
-  abbrev done : List Piece
+  abbrev done : List LaidItem
   done = before ++ so.pieces
 
   pub so_first : (next : NextItem) → IsFirst (items_of so.left) (Some next) → NextSo next

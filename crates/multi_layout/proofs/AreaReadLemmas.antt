@@ -15,18 +15,18 @@ use Rattle.multi_layout.specs.declared.item.KnownItem.TheVariants as known
 use Rattle.multi_layout.specs.declared.item.KnownItem.TheVariants.{Char}
 use Rattle.multi_layout.specs.declared.table.LineTable.{LineTable}
 use Rattle.multi_layout.specs.Address.{Break, Spot, in_group, spots, standing}
-use Rattle.multi_layout.specs.AreaRead.{IsCharacterPassed, IsNextRead, IsReadOf, laid_area}
-use Rattle.multi_layout.specs.KnownItem.{meant_by}
+use Rattle.multi_layout.specs.kept.AreaReading.{IsCharacterPassed, IsNextRead, IsReadOf, laid_area}
+use Rattle.multi_layout.specs.kept.KnownItem.{meant_by}
 use Rattle.multi_layout.specs.LaidItems.{laid_item, laid_items}
 use Rattle.multi_layout.specs.Meaning.{Does, Meaning, Shows, has_place, meaning}
 use Rattle.multi_layout.specs.Offence.{offence, unsized_offence}
-use Rattle.multi_layout.specs.Passes.{HasKnown, HasRoom, IsLow, next_group}
-use Rattle.multi_layout.specs.PassOf.{IsPassOf, IsPassReady, fill_of}
-use Rattle.multi_layout.specs.Run.{kept_height}
-use Rattle.multi_layout.specs.State.{IsStateOf, IsUnfilledOf, present_area}
+use Rattle.multi_layout.specs.kept.AreaDrawing.{HasKnown, HasRoom, IsLow, next_group}
+use Rattle.multi_layout.specs.kept.PassState.{IsPassOf, IsPassReady, fill_of}
+use Rattle.multi_layout.specs.kept.Run.{kept_height}
+use Rattle.multi_layout.specs.kept.State.{IsStateOf, IsUnfilledOf, present_area}
 use Rattle.multi_layout.specs.Verdict.{offences}
-use Rattle.multi_layout.specs.Sums.{IsBelow, IsPlacing, area_sum, ended_lines}
-use Rattle.multi_layout.specs.Table.{IsNarrowArea, IsOrdered}
+use Rattle.multi_layout.specs.kept.Sums.{IsBelow, IsPlacing, area_sum, ended_lines}
+use Rattle.multi_layout.specs.kept.Table.{IsNarrowArea, IsOrdered}
 use Rattle.multi_layout.proofs.AreaSumLemmas.{area_placing, group_of_own}
 use Rattle.multi_layout.proofs.BoundLemmas.{below_more}
 use Rattle.multi_layout.proofs.FilledKeptLemmas.{goes_on}

@@ -14,17 +14,17 @@ use Rattle.multi_layout.specs.declared.line.Line.{Line}
 use Rattle.multi_layout.specs.declared.table.CountedLine.{CountedLine}
 use Rattle.multi_layout.specs.declared.table.LineTable.{LineTable}
 use Rattle.multi_layout.specs.Address.{Spot, in_group, is_break}
-use Rattle.multi_layout.specs.FillSums.{EndsLine}
-use Rattle.multi_layout.specs.AreaRead.{IsCharacterPassed, IsNextRead, IsReadOf}
+use Rattle.multi_layout.specs.kept.FillSums.{EndsLine}
+use Rattle.multi_layout.specs.kept.AreaReading.{IsCharacterPassed, IsNextRead, IsReadOf}
 use Rattle.multi_layout.specs.LaidItems.{laid_items}
 use Rattle.multi_layout.specs.Line.{height_of}
 use Rattle.multi_layout.specs.Meaning.{begins_area, Does, Meaning, Shows, meaning}
 use Rattle.multi_layout.specs.Offence.{unsized_offence}
-use Rattle.multi_layout.specs.Passes.{HasKnown, HasRoom, IsLow, ends_line, next_group}
-use Rattle.multi_layout.specs.PassOf.{IsPassOf, fill_of}
-use Rattle.multi_layout.specs.State.{IsStateOf, present_area}
-use Rattle.multi_layout.specs.Sums.{area_sum, ended_lines, group_sum, line_sum}
-use Rattle.multi_layout.specs.Table.{IsNarrow, IsNarrowArea, IsOrdered, group_lines, line_entry}
+use Rattle.multi_layout.specs.kept.AreaDrawing.{HasKnown, HasRoom, IsLow, ends_line, next_group}
+use Rattle.multi_layout.specs.kept.PassState.{IsPassOf, fill_of}
+use Rattle.multi_layout.specs.kept.State.{IsStateOf, present_area}
+use Rattle.multi_layout.specs.kept.Sums.{area_sum, ended_lines, group_sum, line_sum}
+use Rattle.multi_layout.specs.kept.Table.{IsNarrow, IsNarrowArea, IsOrdered, group_lines, line_entry}
 use Rattle.multi_layout.proofs.AreaSumLemmas.{group_of_own}
 use Rattle.multi_layout.proofs.FilledTableLemmas.{entry_ended, known_pushed, known_unchanged, pushed_room}
 use Rattle.multi_layout.proofs.KnownLinesLemmas.{Pushed, behind_empty, pushed_low}

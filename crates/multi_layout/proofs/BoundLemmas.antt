@@ -5,8 +5,8 @@ use Rattle.multi_layout.specs.declared.area.Group.{Group}
 use Rattle.multi_layout.specs.declared.fill.Split.{Split}
 use Rattle.multi_layout.specs.declared.line.Line.{Line}
 use Rattle.multi_layout.specs.declared.line.Segment.{Segment}
-use Rattle.multi_layout.specs.FillSums.{IsSplitBelow}
-use Rattle.multi_layout.specs.Sums.{IsBelow, IsGroupBelow, IsLineBelow, IsSegmentBelow}
+use Rattle.multi_layout.specs.kept.FillSums.{IsSplitBelow}
+use Rattle.multi_layout.specs.kept.Sums.{IsBelow, IsGroupBelow, IsLineBelow, IsSegmentBelow}
 
 segment_more : (k m : ℕ) (segment : Segment) → k ≤ m → IsSegmentBelow k segment → IsSegmentBelow m segment
 segment_more k m segment h b = record { width = omega (arith, b.width); count = omega (arith, b.count) }

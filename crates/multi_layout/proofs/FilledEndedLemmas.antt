@@ -4,7 +4,7 @@ use Rattle.std.specs.List.{after_last, All, AllPass}
 use Rattle.std.proofs.lemmas.List.Elements.{All-nil, All-cons, All-head, All-tail, All-push}
 use Rattle.multi_layout.specs.Address.{Spot, is_glyph, is_break}
 use Rattle.multi_layout.specs.Fit.{line_fits}
-use Rattle.multi_layout.specs.Sums.{IsPlacing, ended_lines}
+use Rattle.multi_layout.specs.kept.Sums.{IsPlacing, ended_lines}
 use Rattle.multi_layout.proofs.BehindLemmas.{ended_is}
 use Rattle.multi_layout.proofs.CutLemmas.{Cut, cut}
 use Rattle.multi_layout.proofs.TableLemmas.{ended_break}

@@ -17,15 +17,15 @@ use Rattle.multi_layout.specs.declared.pass.Order.{Order}
 use Rattle.multi_layout.specs.declared.line.Line.{Line}
 use Rattle.multi_layout.specs.Address.{Glyph, Spot, Standing, group_of, in_group, is_break, put_at, spots, standing}
 use Rattle.multi_layout.specs.Filling.{filled, is_space}
-use Rattle.multi_layout.specs.AreaRead.{IsCharacterPassed}
-use Rattle.multi_layout.specs.FilledState.{IsFilledOf}
-use Rattle.multi_layout.specs.FillSums.{EndsLine, IsSplitBelow, order_sum, split_sum}
+use Rattle.multi_layout.specs.kept.AreaReading.{IsCharacterPassed}
+use Rattle.multi_layout.specs.kept.FilledState.{IsFilledOf}
+use Rattle.multi_layout.specs.kept.FillSums.{EndsLine, IsSplitBelow, order_sum, split_sum}
 use Rattle.multi_layout.specs.Fit.{area_fits, line_fits}
 use Rattle.multi_layout.specs.LaidItems.{laid_item, laid_items}
 use Rattle.multi_layout.specs.Meaning.{Meaning, Shows}
 use Rattle.multi_layout.specs.Offence.{clashes, conflicts, first_code, offence}
-use Rattle.multi_layout.specs.State.{present_area}
-use Rattle.multi_layout.specs.Sums.{IsBelow, IsCharacter, IsPlacing, area_sum, line_sum}
+use Rattle.multi_layout.specs.kept.State.{present_area}
+use Rattle.multi_layout.specs.kept.Sums.{IsBelow, IsCharacter, IsPlacing, area_sum, line_sum}
 use Rattle.multi_layout.proofs.AreaSumLemmas.{group_behind, in_group_other, no_back, no_clash}
 use Rattle.multi_layout.proofs.FilledCharacterLemmas.{area_with, doesn't_fit, goes_behind, offends_by, offends_without, present_is, shown}
 use Rattle.multi_layout.proofs.FilledJudgedLemmas.{Fills, attributes_here, conflict_is, filled_fits, filled_grown, filled_too_big, found_here, shown_character}

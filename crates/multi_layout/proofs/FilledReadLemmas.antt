@@ -13,14 +13,14 @@ use Rattle.multi_layout.specs.declared.pass.Pass.{Pass}
 use Rattle.multi_layout.specs.declared.state.State.{State}
 use Rattle.multi_layout.specs.Address.{Spot, Standing, in_group, is_break, standing}
 use Rattle.multi_layout.specs.Filling.{filled}
-use Rattle.multi_layout.specs.FillOpen.{AllOpenFit}
-use Rattle.multi_layout.specs.FillSums.{order_sum, split_sum}
-use Rattle.multi_layout.specs.FilledState.{IsFilledFor, IsFilledOf, IsFilledReady}
+use Rattle.multi_layout.specs.kept.FillOpen.{AllOpenFit}
+use Rattle.multi_layout.specs.kept.FillSums.{order_sum, split_sum}
+use Rattle.multi_layout.specs.kept.FilledState.{IsFilledFor, IsFilledOf, IsFilledReady}
 use Rattle.multi_layout.specs.LaidItems.{laid_items}
 use Rattle.multi_layout.specs.Meaning.{Meaning, Shows, meaning}
 use Rattle.multi_layout.specs.Offence.{offence}
-use Rattle.multi_layout.specs.Progress.{IsAt, IsTold, ReadSoFar}
-use Rattle.multi_layout.specs.State.{IsStateOf, present_area, whole_times}
+use Rattle.multi_layout.specs.kept.Judging.{IsAt, IsTold, ReadSoFar}
+use Rattle.multi_layout.specs.kept.State.{IsStateOf, present_area, whole_times}
 use Rattle.multi_layout.specs.Times.{cycle, ended_times}
 use Rattle.multi_layout.specs.Verdict.{pages_of}
 use Rattle.multi_layout.proofs.BoundLemmas.{split_more}

@@ -5,7 +5,7 @@ use Rattle.std.specs.List.{All}
 use Rattle.std.specs.Option.{option_map}
 use Rattle.multi_layout.specs.Address.{Spot, is_glyph}
 use Rattle.multi_layout.specs.Fit.{line_fits}
-use Rattle.multi_layout.specs.Sums.{IsPlacing}
+use Rattle.multi_layout.specs.kept.Sums.{IsPlacing}
 use Rattle.multi_layout.specs.Filling.{CutAt, cut_at_last, is_space, dropped, broken_off, longer, filled}
 use Rattle.multi_layout.proofs.FillListLemmas.{cut_push, cut_more}
 use Rattle.multi_layout.proofs.FillLemmas.{relaid}

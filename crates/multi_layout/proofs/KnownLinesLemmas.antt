@@ -11,9 +11,9 @@ use Rattle.multi_layout.specs.declared.table.CountedLine.{CountedLine}
 use Rattle.multi_layout.specs.declared.table.LineTable.{LineTable}
 use Rattle.multi_layout.specs.Address.{Spot, in_group, is_break, is_glyph, lines_of}
 use Rattle.multi_layout.specs.Line.{height_of}
-use Rattle.multi_layout.specs.Passes.{HasCounted, HasKnown, HasRoom, IsLow, known_lines}
-use Rattle.multi_layout.specs.Sums.{IsPlacing, area_sum, ended_lines, group_sum}
-use Rattle.multi_layout.specs.Table.{IsOrdered, group_lines, table_of}
+use Rattle.multi_layout.specs.kept.AreaDrawing.{HasCounted, HasKnown, HasRoom, IsLow, known_lines}
+use Rattle.multi_layout.specs.kept.Sums.{IsPlacing, area_sum, ended_lines, group_sum}
+use Rattle.multi_layout.specs.kept.Table.{IsOrdered, group_lines, table_of}
 use Rattle.multi_layout.specs.Words.{largest}
 use Rattle.multi_layout.proofs.AreaSumLemmas.{group_behind, group_of_own, in_group_other}
 use Rattle.multi_layout.proofs.GroupSumLemmas.{own_group, placing_group}

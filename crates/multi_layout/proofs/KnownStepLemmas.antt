@@ -12,11 +12,11 @@ use Rattle.multi_layout.specs.declared.table.CountedLine.{CountedLine}
 use Rattle.multi_layout.specs.declared.table.LineTable.{LineTable}
 use Rattle.multi_layout.specs.Address.{Spot, Glyph, Break, Cover, in_group, spots, standing}
 use Rattle.multi_layout.specs.Meaning.{begins_area, Does, has_place, Meaning, Shows}
-use Rattle.multi_layout.specs.Passes.{HasKnown, HasRoom, ends_line, next_group}
+use Rattle.multi_layout.specs.kept.AreaDrawing.{HasKnown, HasRoom, ends_line, next_group}
 use Rattle.multi_layout.specs.Offence.{conflicts, never_big, unsized_offence}
-use Rattle.multi_layout.specs.State.{IsStateOf, present_area}
-use Rattle.multi_layout.specs.Sums.{area_sum, ended_lines}
-use Rattle.multi_layout.specs.Table.{IsOrdered, group_lines}
+use Rattle.multi_layout.specs.kept.State.{IsStateOf, present_area}
+use Rattle.multi_layout.specs.kept.Sums.{area_sum, ended_lines}
+use Rattle.multi_layout.specs.kept.Table.{IsOrdered, group_lines}
 use Rattle.multi_layout.specs.Words.{largest}
 use Rattle.multi_layout.proofs.AreaSumLemmas.{group_of_own, in_group_other, no_back, present_behind}
 use Rattle.multi_layout.proofs.GroupSumLemmas.{own_group}

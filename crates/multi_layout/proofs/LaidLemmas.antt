@@ -6,7 +6,7 @@ use Rattle.std.proofs.lemmas.List.Concat.{flat_map-append}
 use Rattle.std.proofs.lemmas.List.Elements.{All-head, All-tail, All-push, filter-append}
 use Rattle.multi_layout.specs.Address.{Spot, is_glyph, is_break}
 use Rattle.multi_layout.specs.Fit.{line_fits}
-use Rattle.multi_layout.specs.Sums.{IsPlacing}
+use Rattle.multi_layout.specs.kept.Sums.{IsPlacing}
 use Rattle.multi_layout.proofs.WordLemmas.{push_ind, All-split}
 use Rattle.multi_layout.proofs.CutLemmas.{Cut, cut, part, cut_push, cut_behind_is, cut_behind_push}
 use Rattle.multi_layout.proofs.BehindLemmas.{after_last_is}

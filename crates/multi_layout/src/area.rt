@@ -9,8 +9,8 @@ ghost use Rattle.multi_layout.specs.Fit.{FitsWithout, area_fits, fit};
 ghost use Rattle.multi_layout.specs.Laid.{too_big};
 ghost use Rattle.multi_layout.specs.Line.{average, height_of};
 ghost use Rattle.multi_layout.specs.Offence.{clashes, conflicts};
-ghost use Rattle.multi_layout.specs.Run.{GroupsFitBefore, IsBehindOne, IsOpen, IsOpenArea, kept_fits_height, kept_group_height, kept_height, lengthened_area};
-ghost use Rattle.multi_layout.specs.Sums.{group_sum, area_sum, area_sum_in, IsPlacing, IsCharacter, IsBreak, IsGroupBelow, IsBelow};
+ghost use Rattle.multi_layout.specs.kept.Run.{GroupsFitBefore, IsBehindOne, IsOpen, IsOpenArea, kept_fits_height, kept_group_height, kept_height, lengthened_area};
+ghost use Rattle.multi_layout.specs.kept.Sums.{group_sum, area_sum, area_sum_in, IsPlacing, IsCharacter, IsBreak, IsGroupBelow, IsBelow};
 
 use crate::line::{Character, Line, gap_or_average, parts_fit, room_for};
 use sign_font::FontInfo;

@@ -6,11 +6,11 @@ ghost use Rattle.multi_token.specs.Spelling as spelled;
 ghost use Rattle.sign_font.specs.Cell.{SizedCell};
 ghost use Rattle.sign_font.specs.Sign.{SignData, cell_in};
 ghost use Rattle.sign_font.specs.Sound.{IsSound};
-ghost use Rattle.multi_layout.specs.KnownItem.{IsKnownItem, meant_by};
+ghost use Rattle.multi_layout.specs.kept.KnownItem.{IsKnownItem, meant_by};
 ghost use Rattle.multi_layout.specs.Meaning.{Meaning, has_place};
 ghost use Rattle.multi_layout.specs.Offence.{unsized_offence};
-ghost use Rattle.multi_layout.specs.State.{IsReady, IsStateOf};
-ghost use Rattle.multi_layout.specs.Walk.{GoesBehind, IsAccepted, IsBefore, IsBetween, IsFirst, IsOrderly, IsPassing, IsPassingBefore, IsPlaced, IsRead, IsWithin, laid_meanings, PassesOn, Piece, pieces_of};
+ghost use Rattle.multi_layout.specs.kept.State.{IsReady, IsStateOf};
+ghost use Rattle.multi_layout.specs.kept.Cursors.{GoesBehind, IsAccepted, IsBefore, IsBetween, IsFirst, IsOrderly, IsPassing, IsPassingBefore, IsPlaced, IsRead, IsWithin, laid_meanings, PassesOn, LaidItem, pieces_of};
 
 use crate::item::{KnownItem, read_item};
 use crate::judge::judge_tag;
@@ -145,7 +145,7 @@ impl Cursor {
     pub(crate) fn pass_character(&mut self, number: u16, width: u8, len: usize)
         requires { (sign : SignData) × (octets : List ℕ)
             × IsBefore sign octets (record { item = KnownItem.Char number; len = len }) self.old }
-        ensures passed { (sign : SignData) (octets : List ℕ) (before rest : List Piece) (item : Piece) (cell : SizedCell)
+        ensures passed { (sign : SignData) (octets : List ℕ) (before rest : List LaidItem) (item : LaidItem) (cell : SizedCell)
             → IsBetween sign octets before (item ∷ rest) self.old → IsRead item (record { item = KnownItem.Char number; len = len })
             → cell_in sign self.old.state.attributes.font.number number ≡ Some cell → width ≡ cell.width
             → IsBetween sign octets (before ++ item ∷ []) rest self.new }

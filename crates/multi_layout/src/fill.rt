@@ -5,11 +5,11 @@ ghost use Rattle.std.specs.List.{All, AllPass, after_last, list_any};
 ghost use Rattle.sign_font.specs.Sign.{info_of};
 ghost use Rattle.multi_layout.specs.Address.{Spot, is_break, is_glyph};
 ghost use Rattle.multi_layout.specs.Fit.{line_fits};
-ghost use Rattle.multi_layout.specs.FillSums.{FillsArea, FillsGroup, IsSplitBelow, split_sum};
+ghost use Rattle.multi_layout.specs.kept.FillSums.{FillsArea, FillsGroup, IsSplitBelow, split_sum};
 ghost use Rattle.multi_layout.specs.Filling.{dropped, is_space};
 ghost use Rattle.multi_layout.specs.Offence.{clashes};
-ghost use Rattle.multi_layout.specs.Run.{kept_fits};
-ghost use Rattle.multi_layout.specs.Sums.{IsBelow, IsCharacter, IsGroupBelow, IsLineBelow, IsPlacing, group_sum, line_sum};
+ghost use Rattle.multi_layout.specs.kept.Run.{kept_fits};
+ghost use Rattle.multi_layout.specs.kept.Sums.{IsBelow, IsCharacter, IsGroupBelow, IsLineBelow, IsPlacing, group_sum, line_sum};
 
 use crate::area::{Area, Group};
 use crate::line::{Character, Line};

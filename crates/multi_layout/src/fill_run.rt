@@ -3,11 +3,11 @@
 
 ghost use Rattle.std.specs.Prelude.{◌≡◌, ℕ, ◌+◌, ◌*◌, ◌^◌, ◌<◌, ◌≤◌, true, false, length, Option};
 ghost use Rattle.multi_token.specs.Counted.{charged};
-ghost use Rattle.multi_layout.specs.FilledRun.{GoesOnBehind, IsFilledRun, longer_line, with_run, with_space, with_word};
-ghost use Rattle.multi_layout.specs.FilledState.{IsFilledFor, IsFilledReady};
-ghost use Rattle.multi_layout.specs.Progress.{IsAt, IsBehind};
-ghost use Rattle.multi_layout.specs.Run.{Fits, IsBehindOne};
-ghost use Rattle.multi_layout.specs.Text.{IsInText, TakesSpace};
+ghost use Rattle.multi_layout.specs.kept.FilledRun.{GoesOnBehind, IsFilledRun, longer_line, with_run, with_space, with_word};
+ghost use Rattle.multi_layout.specs.kept.FilledState.{IsFilledFor, IsFilledReady};
+ghost use Rattle.multi_layout.specs.kept.Judging.{IsAt, IsBehind};
+ghost use Rattle.multi_layout.specs.kept.Run.{Fits, IsBehindOne};
+ghost use Rattle.multi_layout.specs.kept.Text.{IsInText, TakesSpace};
 
 use crate::attributes::Attributes;
 use crate::fill::Split;

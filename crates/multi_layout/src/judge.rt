@@ -6,8 +6,8 @@ ghost use Rattle.multi_token.specs.Counted.{RisesBetween};
 ghost use Rattle.sign_font.specs.Cell.{SizedCell};
 ghost use Rattle.sign_font.specs.Sign.{SignData, cell_in};
 ghost use Rattle.multi_layout.specs.Meaning.{Does, Meaning, Shows};
-ghost use Rattle.multi_layout.specs.Run.{IsBehindCharacter};
-ghost use Rattle.multi_layout.specs.State.{IsJudged, IsKnown, IsReady, IsUnfilledOf, Judges};
+ghost use Rattle.multi_layout.specs.kept.Run.{IsBehindCharacter};
+ghost use Rattle.multi_layout.specs.kept.State.{IsJudged, IsKnown, IsReady, IsUnfilledOf, Judges};
 
 use crate::area::Area;
 use crate::attributes::{Rectangle, whole_sign};

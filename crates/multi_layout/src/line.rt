@@ -7,8 +7,8 @@ ghost use Rattle.multi_layout.specs.Address.{Spot, is_glyph, segment};
 ghost use Rattle.multi_layout.specs.Fit.{fit, line_fits, room_for};
 ghost use Rattle.multi_layout.specs.Line.{average, width_of};
 ghost use Rattle.multi_layout.specs.Offence.{clashes};
-ghost use Rattle.multi_layout.specs.Run.{FitsBefore, IsBehindOne, IsOpen, kept_fits, kept_width, lengthened_line};
-ghost use Rattle.multi_layout.specs.Sums.{segment_sum, line_sum, line_sum_in, IsCharacter, IsSegmentBelow, IsLineBelow};
+ghost use Rattle.multi_layout.specs.kept.Run.{FitsBefore, IsBehindOne, IsOpen, kept_fits, kept_width, lengthened_line};
+ghost use Rattle.multi_layout.specs.kept.Sums.{segment_sum, line_sum, line_sum_in, IsCharacter, IsSegmentBelow, IsLineBelow};
 
 use sign_font::FontInfo;
 

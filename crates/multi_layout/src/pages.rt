@@ -9,10 +9,10 @@ ghost use Rattle.multi_layout.specs.Drawn.{Lights};
 ghost use Rattle.multi_layout.specs.Limits.{drawing_limit, plane_limit, reading_limit};
 ghost use Rattle.multi_layout.specs.Meaning.{meanings};
 ghost use Rattle.multi_layout.specs.Pages.{IsSized, IsTurned, page_count};
-ghost use Rattle.multi_layout.specs.Paging.{IsFilledFew, IsPageStart, IsReadTwice};
+ghost use Rattle.multi_layout.specs.kept.PageDrawing.{IsFilledFew, IsPageStart, IsReadTwice};
 ghost use Rattle.multi_layout.specs.Picture.{picture};
 ghost use Rattle.multi_layout.specs.Verdict.{pages_of};
-ghost use Rattle.multi_layout.specs.Walk.{IsAccepted, IsOrderly};
+ghost use Rattle.multi_layout.specs.kept.Cursors.{IsAccepted, IsOrderly};
 
 use crate::checked::Checked;
 use crate::cursor::Cursor;

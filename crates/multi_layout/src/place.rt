@@ -7,9 +7,9 @@ ghost use Rattle.multi_layout.specs.Address.{Spot, is_glyph, is_break, area_of, 
 ghost use Rattle.multi_layout.specs.Line.{glyph_width, width_of, height_of};
 ghost use Rattle.multi_layout.specs.Offence.{clashes};
 ghost use Rattle.multi_layout.specs.Place.{start, spread, place_of};
-ghost use Rattle.multi_layout.specs.State.{attributes_of};
-ghost use Rattle.multi_layout.specs.Sums.{segment_sum, line_sum, area_sum, IsSegmentBelow, IsLineBelow, IsBelow, IsPlacing};
-ghost use Rattle.multi_layout.specs.Table.{table_of, column_in};
+ghost use Rattle.multi_layout.specs.kept.State.{attributes_of};
+ghost use Rattle.multi_layout.specs.kept.Sums.{segment_sum, line_sum, area_sum, IsSegmentBelow, IsLineBelow, IsBelow, IsPlacing};
+ghost use Rattle.multi_layout.specs.kept.Table.{table_of, column_in};
 
 use crate::area::Area;
 use crate::attributes::Attributes;

@@ -10,15 +10,15 @@ ghost use Rattle.sign_font.specs.Sound.{IsSound};
 ghost use Rattle.multi_layout.specs.Address.{Spot};
 ghost use Rattle.multi_layout.specs.declared.item.KnownItem.TheVariants as items;
 ghost use Rattle.multi_layout.specs.declared.item.KnownItem.TheVariants.{Char};
-ghost use Rattle.multi_layout.specs.AreaRead.{IsNextRead, IsReadOf};
-ghost use Rattle.multi_layout.specs.KnownItem.{meant_by};
+ghost use Rattle.multi_layout.specs.kept.AreaReading.{IsNextRead, IsReadOf};
+ghost use Rattle.multi_layout.specs.kept.KnownItem.{meant_by};
 ghost use Rattle.multi_layout.specs.Meaning.{begins_area, Does, EndsArea, has_place, meaning};
-ghost use Rattle.multi_layout.specs.PassOf.{fill_of};
-ghost use Rattle.multi_layout.specs.Passes.{HasKnown, HasRoom, IsAreaRead, IsLow, first_steps, next_group};
-ghost use Rattle.multi_layout.specs.State.{present_area};
-ghost use Rattle.multi_layout.specs.Sums.{IsBelow, IsPlacing, area_sum};
-ghost use Rattle.multi_layout.specs.Table.{IsNarrowArea, IsOrdered, group_lines};
-ghost use Rattle.multi_layout.specs.Walk.{IsBetween, IsFirst, IsPlaced, IsWithin, meant, Piece};
+ghost use Rattle.multi_layout.specs.kept.PassState.{fill_of};
+ghost use Rattle.multi_layout.specs.kept.AreaDrawing.{HasKnown, HasRoom, IsAreaRead, IsLow, first_steps, next_group};
+ghost use Rattle.multi_layout.specs.kept.State.{present_area};
+ghost use Rattle.multi_layout.specs.kept.Sums.{IsBelow, IsPlacing, area_sum};
+ghost use Rattle.multi_layout.specs.kept.Table.{IsNarrowArea, IsOrdered, group_lines};
+ghost use Rattle.multi_layout.specs.kept.Cursors.{IsBetween, IsFirst, IsPlaced, IsWithin, meant, LaidItem};
 
 use crate::area::Area;
 use crate::cursor::{Cursor, NextItem};
@@ -56,9 +56,9 @@ pub(crate) fn read_area(
     read: &mut AreaLines,
 )
     requires sound { IsSound sign.now }
-    requires begins { (before behind : List Piece) × IsBetween sign.now source.old.octets before behind cursor
+    requires begins { (before behind : List LaidItem) × IsBetween sign.now source.old.octets before behind cursor
         × (present_area sign.now (map meant before) ≡ []) }
-    ensures read { (before behind : List Piece) → IsBetween sign.now source.old.octets before behind cursor
+    ensures read { (before behind : List LaidItem) → IsBetween sign.now source.old.octets before behind cursor
         → present_area sign.now (map meant before) ≡ []
         → IsAreaRead sign.now before behind cursor read.new source.old source.new }
 {
@@ -80,9 +80,9 @@ fn read_lines<const WORDS: bool>(
     requires kind { sign.now.line_fill ≡ fill_of WORDS }
     requires none { (just : ℕ) → group_lines just read.old.lines ≡ [] }
     requires ordered { IsOrdered read.old.lines }
-    requires begins { (before behind : List Piece) × IsBetween sign.now source.old.octets before behind cursor
+    requires begins { (before behind : List LaidItem) × IsBetween sign.now source.old.octets before behind cursor
         × (present_area sign.now (map meant before) ≡ []) }
-    ensures read { (before behind : List Piece) → IsBetween sign.now source.old.octets before behind cursor
+    ensures read { (before behind : List LaidItem) → IsBetween sign.now source.old.octets before behind cursor
         → present_area sign.now (map meant before) ≡ []
         → IsAreaRead sign.now before behind cursor read.new source.old source.new }
 {

@@ -25,7 +25,7 @@ impl State {
     ghost use Rattle.sign_font.specs.Sign.{SignData, cell_in};
     ghost use Rattle.multi_layout.specs.Meaning.{Does, Meaning, Shows};
     ghost use Rattle.multi_layout.specs.Offence.{unsized_offence};
-    ghost use Rattle.multi_layout.specs.State.{IsReady, IsStateOf, whole_times};
+    ghost use Rattle.multi_layout.specs.kept.State.{IsReady, IsStateOf, whole_times};
 
     /// The state before the first item.
     pub(crate) fn new(sign: &Terms<'_>) -> State

@@ -6,7 +6,7 @@ ghost use Rattle.multi_token.specs.Reading.{reading};
 ghost use Rattle.multi_layout.specs.Limits.{check_limit};
 ghost use Rattle.multi_layout.specs.Meaning.{meanings};
 ghost use Rattle.multi_layout.specs.Times.{cycle, page_times, shown, shown_within};
-ghost use Rattle.multi_layout.specs.Walk.{IsAccepted};
+ghost use Rattle.multi_layout.specs.kept.Cursors.{IsAccepted};
 
 use crate::checked::Checked;
 use crate::cursor::Cursor;

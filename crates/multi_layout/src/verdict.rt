@@ -3,8 +3,8 @@
 ghost use Rattle.std.specs.Prelude.{◌≡◌, ℕ, ◌+◌, ◌^◌, ◌<◌, ◌≤◌, ◌*◌, ◌-◌, ◌⊎◌, [], length, IfOk, IfErr, None, Some};
 ghost use Rattle.sign_font.specs.Defaults.{default_fault, under};
 ghost use Rattle.multi_layout.specs.Limits.{check_limit};
-ghost use Rattle.multi_layout.specs.Progress.{IsAt, IsRefused, IsTold};
-ghost use Rattle.multi_layout.specs.PassOf.{IsPassOf, fill_of};
+ghost use Rattle.multi_layout.specs.kept.Judging.{IsAt, IsRefused, IsTold};
+ghost use Rattle.multi_layout.specs.kept.PassState.{IsPassOf, fill_of};
 ghost use Rattle.multi_layout.specs.Verdict.{Accepted, IsVerdict, Refused};
 
 use crate::bracket::read_spelled;

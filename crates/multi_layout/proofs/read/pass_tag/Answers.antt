@@ -2,9 +2,9 @@ use Rattle.std.proofs.Common.{◌≡◌, ◌==◌, not, ℕ, Option, None, Some,
 use Rattle.multi_token.proofs.StepLemmas.{rises_more}
 use Rattle.multi_tag.specs.declared.tag.Tag.{Tag}
 use Rattle.multi_layout.specs.Codes.{code_of}
-use Rattle.multi_layout.specs.PassOf.{IsItemJudged}
+use Rattle.multi_layout.specs.kept.PassState.{IsItemJudged}
 use Rattle.multi_layout.specs.Meaning.{Does, meaning}
-use Rattle.multi_layout.specs.Passes.{ends_line}
+use Rattle.multi_layout.specs.kept.AreaDrawing.{ends_line}
 use Rattle.multi_layout.proofs.AreaReadLemmas.{next_fine, read_below, read_ready}
 use Rattle.multi_layout.proofs.AreaStepLemmas.{tag_closed, tag_ended, tag_just, tag_last, tag_narrow, tag_room, tag_stays}
 use Rattle.multi_layout.proofs.KnownStepLemmas.{ends_not}

@@ -4,9 +4,9 @@ use Rattle.multi_token.proofs.StepLemmas.{charged-zero}
 use Rattle.multi_layout.specs.declared.area.Area.{Area}
 use Rattle.multi_layout.specs.LaidItems.{laid_items}
 use Rattle.multi_layout.specs.Meaning.{meaning}
-use Rattle.multi_layout.specs.PassOf.{fill_of}
-use Rattle.multi_layout.specs.State.{present_area}
-use Rattle.multi_layout.specs.Walk.{IsPlaced, items_of}
+use Rattle.multi_layout.specs.kept.PassState.{fill_of}
+use Rattle.multi_layout.specs.kept.State.{present_area}
+use Rattle.multi_layout.specs.kept.Cursors.{IsPlaced, items_of}
 use Rattle.multi_layout.proofs.AreaLinesLemmas.{area_read, nothing_read, read_on, so_advances, so_first, so_next, steps_on}
 use Rattle.multi_layout.proofs.AreaReadLemmas.{present_placing, read_below, read_lines, read_state}
 use Rattle.multi_layout.proofs.KnownLinesLemmas.{counted_at_end}

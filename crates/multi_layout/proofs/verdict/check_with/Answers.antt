@@ -1,7 +1,7 @@
 use Rattle.std.proofs.Common.{ℕ, ◌^◌, ◌<◌, List, length, sym, subst}
 use Rattle.multi_token.specs.Counted.{Counted}
 use Rattle.sign_font.specs.Sign.{SignData}
-use Rattle.multi_layout.specs.Progress.{IsTold}
+use Rattle.multi_layout.specs.kept.Judging.{IsTold}
 use Rattle.multi_layout.specs.Verdict.{Accepted, IsCycle, IsVerdict}
 use Rattle.multi_layout.proofs.verdict.check_with.Goals as goal
 

@@ -1,7 +1,7 @@
 use Rattle.std.proofs.Common.{ℕ, ◌==◌, [], not, subst, sym}
-use Rattle.multi_layout.specs.PassOf.{IsPassOf}
-use Rattle.multi_layout.specs.Progress.{IsAt, IsTold}
-use Rattle.multi_layout.specs.State.{IsStateOf}
+use Rattle.multi_layout.specs.kept.PassState.{IsPassOf}
+use Rattle.multi_layout.specs.kept.Judging.{IsAt, IsTold}
+use Rattle.multi_layout.specs.kept.State.{IsStateOf}
 use Rattle.multi_layout.proofs.AtLemmas.{first_read}
 use Rattle.multi_layout.proofs.PassLemmas.{pass_small, pass_start, pass_told}
 use Rattle.multi_layout.proofs.verdict.judge_all.Goals as goal

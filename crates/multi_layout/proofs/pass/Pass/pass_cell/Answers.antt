@@ -1,10 +1,10 @@
 use Rattle.std.proofs.Common.{◌≡◌, None, refl, true, subst, sym}
 use Rattle.sign_font.specs.declared.parts.LineFill.{LineFill}
 use Rattle.multi_layout.specs.declared.pass.Pass.{Pass}
-use Rattle.multi_layout.specs.AreaRead.{IsCharacterPassed}
+use Rattle.multi_layout.specs.kept.AreaReading.{IsCharacterPassed}
 use Rattle.multi_layout.specs.Meaning.{Shows}
 use Rattle.multi_layout.specs.Offence.{offence}
-use Rattle.multi_layout.specs.PassOf.{IsPassOf}
+use Rattle.multi_layout.specs.kept.PassState.{IsPassOf}
 use Rattle.multi_layout.proofs.AreaReadLemmas.{plain_passed}
 use Rattle.multi_layout.proofs.OrderlyLemmas.{unsized_if}
 use Rattle.multi_layout.proofs.PassLemmas.{is_false, is_true}

@@ -1,6 +1,6 @@
 use Rattle.std.proofs.Common.{◌*◌, length, ap, refl, subst, ◌∙◌}
 use Rattle.multi_layout.specs.declared.line.Character.{Character}
-use Rattle.multi_layout.specs.Sums.{IsBelow}
+use Rattle.multi_layout.specs.kept.Sums.{IsBelow}
 use Rattle.multi_layout.proofs.FilledKeptLemmas.{laid_count, passed_behind}
 use Rattle.multi_layout.proofs.pass.Pass.pass_filled.Goals as goal
 

@@ -7,10 +7,10 @@ use Rattle.sign_font.specs.Sign.{SignData}
 use Rattle.multi_layout.specs.LaidItems.{laid_item, laid_out}
 use Rattle.multi_layout.specs.declared.cursor.Cursor.{Cursor}
 use Rattle.multi_layout.specs.declared.cursor.NextItem.{NextItem}
-use Rattle.multi_layout.specs.KnownItem.{meant_by, IsKnownItem}
+use Rattle.multi_layout.specs.kept.KnownItem.{meant_by, IsKnownItem}
 use Rattle.multi_layout.specs.Meaning.{Meaning, has_place, meaning}
 use Rattle.multi_layout.specs.Offence.{offence, unsized_offence}
-use Rattle.multi_layout.specs.State.{IsStateOf}
+use Rattle.multi_layout.specs.kept.State.{IsStateOf}
 use Rattle.multi_layout.specs.Verdict.{offences}
 use Rattle.multi_layout.specs.Words.{each_after, some_after}
 
@@ -35,20 +35,20 @@ pub record IsPlaced (sign : SignData) (octets : List ℕ) (before behind : List 
   pub place : at ≡ length (spell before)
 
 -- an item of a string, with what it is laid out as (own)
-pub record Piece : Type 0 where
+pub record LaidItem : Type 0 where
   pub item : Item
   pub as_laid : Meaning
 
 -- what a piece means (own)
-abbrev pub meant : Piece → Meaning
+abbrev pub meant : LaidItem → Meaning
 meant piece = piece.as_laid
 
 -- the items of some pieces (own)
-abbrev pub items_of : List Piece → List Item
+abbrev pub items_of : List LaidItem → List Item
 items_of pieces = map (λ piece. piece.item) pieces
 
 -- the octets of some pieces (own)
-abbrev pub spell_of : List Piece → List ℕ
+abbrev pub spell_of : List LaidItem → List ℕ
 spell_of pieces = spell (items_of pieces)
 
 -- the items of a string, as they are laid out (own)
@@ -56,13 +56,13 @@ abbrev pub laid_meanings : SignData → List Item → List Meaning
 laid_meanings sign items = laid_out sign (map meaning items)
 
 -- the pieces of a string with these items (own)
-abbrev pub pieces_of : SignData → List Item → List Piece
+abbrev pub pieces_of : SignData → List Item → List LaidItem
 pieces_of sign items =
     let all = map meaning items in
     each_after (λ before item. record { item = item; as_laid = laid_item sign.line_fill sign all (map meaning before) (meaning item) }) items
 
 -- the cursor stands between these pieces of an accepted string (own)
-pub record IsBetween (sign : SignData) (octets : List ℕ) (before behind : List Piece) (cursor : Cursor) : Type 0 where
+pub record IsBetween (sign : SignData) (octets : List ℕ) (before behind : List LaidItem) (cursor : Cursor) : Type 0 where
   pub placed : IsPlaced sign octets (items_of before) (items_of behind) cursor.at
   pub laid : map meant (before ++ behind) ≡ laid_meanings sign (items_of (before ++ behind))
   pub orderly : IsOrderly sign (map meant (before ++ behind))
@@ -88,7 +88,7 @@ pub record IsItemRead (item : Item) (next : NextItem) : Type 0 where
   pub len : next.len ≡ length (spelling item)
 
 -- this is a piece, by what it is laid out as (own)
-pub record IsRead (piece : Piece) (next : NextItem) : Type 0 where
+pub record IsRead (piece : LaidItem) (next : NextItem) : Type 0 where
   pub meant : meant piece ≡ meant_by next.item
   pub known : IsKnownItem next.item
   pub len : next.len ≡ length (spelling piece.item)
@@ -99,19 +99,19 @@ IsFirst behind None = behind ≡ []
 IsFirst behind (Some next) = (item : Item) × (rest : List Item) × (behind ≡ item ∷ rest) × IsItemRead item next
 
 -- this is the first of these pieces, or there is none (own)
-abbrev pub IsPieceFirst : List Piece → Option NextItem → Type 0
+abbrev pub IsPieceFirst : List LaidItem → Option NextItem → Type 0
 IsPieceFirst behind None = behind ≡ []
-IsPieceFirst behind (Some next) = (piece : Piece) × (rest : List Piece) × (behind ≡ piece ∷ rest) × IsRead piece next
+IsPieceFirst behind (Some next) = (piece : LaidItem) × (rest : List LaidItem) × (behind ≡ piece ∷ rest) × IsRead piece next
 
 -- the cursor stands before an item of an accepted string, of which this is read (own)
 abbrev pub IsBefore : SignData → List ℕ → NextItem → Cursor → Type 0
 IsBefore sign octets next cursor =
-    (before rest : List Piece) × (item : Piece) × IsBetween sign octets before (item ∷ rest) cursor × IsRead item next
+    (before rest : List LaidItem) × (item : LaidItem) × IsBetween sign octets before (item ∷ rest) cursor × IsRead item next
 
 -- the new cursor stands behind the next item, of which this is read, wherever the old one stands before it (own)
 abbrev pub GoesBehind : SignData → List ℕ → NextItem → Cursor → Cursor → Type 0
 GoesBehind sign octets next old new =
-    (before rest : List Piece) (item : Piece) → IsBetween sign octets before (item ∷ rest) old → IsRead item next
+    (before rest : List LaidItem) (item : LaidItem) → IsBetween sign octets before (item ∷ rest) old → IsRead item next
     → IsBetween sign octets (before ++ item ∷ []) rest new
 
 -- the cursor passes before an item of an accepted string, of which this is read (own)

@@ -6,8 +6,8 @@ use Rattle.multi_layout.specs.declared.fill.Split.{Split}
 use Rattle.multi_layout.specs.declared.pass.Pass.{Pass}
 use Rattle.multi_layout.specs.declared.pass.Order.{Order}
 use Rattle.multi_layout.specs.declared.line.Line.{Line}
-use Rattle.multi_layout.specs.Sums.{line_sum}
-use Rattle.multi_layout.specs.Run.{Fits, IsBehindCharacter, IsBehindOne, lengthened, lengthened_line, line_in_force}
+use Rattle.multi_layout.specs.kept.Sums.{line_sum}
+use Rattle.multi_layout.specs.kept.Run.{Fits, IsBehindCharacter, IsBehindOne, lengthened, lengthened_line, line_in_force}
 
 -- the order is that of characters of which the last has this line justification (own)
 abbrev pub IsOrderOf : ℕ → Order → Type 0

@@ -6,10 +6,10 @@ use Rattle.sign_font.specs.Sound.{IsWithin}
 use Rattle.sign_font.specs.Text.{width_in}
 use Rattle.multi_layout.specs.declared.pass.Pass.{Pass}
 use Rattle.multi_layout.specs.declared.run.Run.{Run}
-use Rattle.multi_layout.specs.FilledRun.{IsFilledRun, with_space}
-use Rattle.multi_layout.specs.FilledState.{IsFilledFor}
-use Rattle.multi_layout.specs.Progress.{IsBehind}
-use Rattle.multi_layout.specs.Run.{IsRun, line_in_force}
+use Rattle.multi_layout.specs.kept.FilledRun.{IsFilledRun, with_space}
+use Rattle.multi_layout.specs.kept.FilledState.{IsFilledFor}
+use Rattle.multi_layout.specs.kept.Judging.{IsBehind}
+use Rattle.multi_layout.specs.kept.Run.{IsRun, line_in_force}
 
 -- the items before an offset are judged, the last of them is a character whose attributes are in force, and these are the gap and
 -- the room of those behind it (own)

@@ -6,16 +6,16 @@ use Rattle.sign_font.specs.Sign.{SignData, tallest}
 use Rattle.multi_layout.specs.declared.cursor.Cursor.{Cursor}
 use Rattle.multi_layout.specs.Limits.{plane_octets}
 use Rattle.multi_layout.specs.Meaning.{BeginsPage}
-use Rattle.multi_layout.specs.Walk.{IsBetween, meant, Piece}
+use Rattle.multi_layout.specs.kept.Cursors.{IsBetween, meant, LaidItem}
 
 -- the cursor stands where a page of an accepted string begins (own)
 abbrev pub IsPageStart : SignData → List ℕ → Cursor → Type 0
-IsPageStart sign octets cursor = (before behind : List Piece) × IsBetween sign octets before behind cursor × BeginsPage (map meant before)
+IsPageStart sign octets cursor = (before behind : List LaidItem) × IsBetween sign octets before behind cursor × BeginsPage (map meant before)
 
 -- the page that begins at the old cursor is passed: the new one stands behind the `np` that ends it, or at the end of the string (own)
-pub record IsPagePassed (sign : SignData) (octets : List ℕ) (before behind : List Piece) (old new : Cursor) : Type 0 where
-  pub page : List Piece
-  pub rest : List Piece
+pub record IsPagePassed (sign : SignData) (octets : List ℕ) (before behind : List LaidItem) (old new : Cursor) : Type 0 where
+  pub page : List LaidItem
+  pub rest : List LaidItem
   pub split : behind ≡ page ++ rest
   pub between : IsBetween sign octets (before ++ page) rest new
   pub on : old.at ≤ new.at

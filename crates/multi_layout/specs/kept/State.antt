@@ -13,7 +13,7 @@ use Rattle.multi_layout.specs.Attributes.{given_font, given_line_just, given_pag
 use Rattle.multi_layout.specs.Meaning.{Meaning, begins_area, is_new_page}
 use Rattle.multi_layout.specs.Address.{Spot, Standing, in_area, spots, standing}
 use Rattle.multi_layout.specs.Offence.{offence}
-use Rattle.multi_layout.specs.Sums.{IsBelow, area_sum}
+use Rattle.multi_layout.specs.kept.Sums.{IsBelow, area_sum}
 use Rattle.multi_layout.specs.Times.{cycle, ended_times}
 use Rattle.multi_layout.specs.Verdict.{pages_of}
 use Rattle.multi_layout.specs.Words.{some_after}

@@ -2,7 +2,7 @@
 use Rattle.multi_layout.specs.declared.item.KnownItem.{KnownItem}
 use Rattle.multi_layout.specs.declared.item.KnownItem.TheVariants.{Char, Tag}
 use Rattle.multi_layout.specs.Meaning.{Meaning, Shows, Does}
-use Rattle.multi_layout.specs.State.{IsKnown}
+use Rattle.multi_layout.specs.kept.State.{IsKnown}
 
 -- what an item that was read means (NTCIP 1203 v03, MULTI)
 abbrev pub meant_by : KnownItem → Meaning

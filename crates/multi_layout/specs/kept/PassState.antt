@@ -6,11 +6,11 @@ use Rattle.sign_font.specs.Sign.{SignData}
 use Rattle.multi_layout.specs.declared.fault.SyntaxError.{SyntaxError}
 use Rattle.multi_layout.specs.declared.pass.Pass.{Pass}
 use Rattle.multi_layout.specs.Codes.{code_of}
-use Rattle.multi_layout.specs.FilledState.{IsFilledFor, IsFilledReady}
+use Rattle.multi_layout.specs.kept.FilledState.{IsFilledFor, IsFilledReady}
 use Rattle.multi_layout.specs.Meaning.{Meaning}
 use Rattle.multi_layout.specs.Offence.{offence}
-use Rattle.multi_layout.specs.Run.{Fits, IsBehindCharacter}
-use Rattle.multi_layout.specs.State.{IsReady, IsUnfilledOf}
+use Rattle.multi_layout.specs.kept.Run.{Fits, IsBehindCharacter}
+use Rattle.multi_layout.specs.kept.State.{IsReady, IsUnfilledOf}
 
 -- whether lines are filled, as a sign says it (own)
 abbrev pub fill_of : Bool → LineFill

@@ -7,14 +7,14 @@ use Rattle.multi_layout.specs.declared.item.KnownItem.{KnownItem}
 use Rattle.multi_layout.specs.declared.line.Line.{Line}
 use Rattle.multi_layout.specs.declared.table.LineTable.{LineTable}
 use Rattle.multi_layout.specs.Address.{Spot, in_group}
-use Rattle.multi_layout.specs.FillSums.{EndsLine}
-use Rattle.multi_layout.specs.KnownItem.{IsKnownItem, meant_by}
+use Rattle.multi_layout.specs.kept.FillSums.{EndsLine}
+use Rattle.multi_layout.specs.kept.KnownItem.{IsKnownItem, meant_by}
 use Rattle.multi_layout.specs.LaidItems.{laid_items}
 use Rattle.multi_layout.specs.Meaning.{Meaning, Shows, meaning}
-use Rattle.multi_layout.specs.Passes.{HasKnown, IsLow}
-use Rattle.multi_layout.specs.PassOf.{IsPassOf, fill_of}
-use Rattle.multi_layout.specs.State.{present_area}
-use Rattle.multi_layout.specs.Table.{IsOrdered}
+use Rattle.multi_layout.specs.kept.AreaDrawing.{HasKnown, IsLow}
+use Rattle.multi_layout.specs.kept.PassState.{IsPassOf, fill_of}
+use Rattle.multi_layout.specs.kept.State.{present_area}
+use Rattle.multi_layout.specs.kept.Table.{IsOrdered}
 use Rattle.multi_layout.specs.Verdict.{offences}
 
 -- some items of which none offends, and which a string can have (own)

@@ -16,10 +16,10 @@ use Rattle.multi_layout.specs.Address.{Spot, spots, standing, in_group, lines_of
 use Rattle.multi_layout.specs.Drawn.{Lights, has_colour}
 use Rattle.multi_layout.specs.Limits.{plane_octets}
 use Rattle.multi_layout.specs.Meaning.{Meaning, Does, Shows, EndsArea, begins_area, has_place}
-use Rattle.multi_layout.specs.State.{present_area}
-use Rattle.multi_layout.specs.Sums.{ended_lines}
-use Rattle.multi_layout.specs.Walk.{IsBetween, items_of, meant, Piece, spell_of}
-use Rattle.multi_layout.specs.Table.{IsOrdered, group_lines, table_of}
+use Rattle.multi_layout.specs.kept.State.{present_area}
+use Rattle.multi_layout.specs.kept.Sums.{ended_lines}
+use Rattle.multi_layout.specs.kept.Cursors.{IsBetween, items_of, meant, LaidItem, spell_of}
+use Rattle.multi_layout.specs.kept.Table.{IsOrdered, group_lines, table_of}
 
 -- the item ends a line (NTCIP 1203 v03, MULTI tag 'nl')
 abbrev pub ends_line : Meaning → Bool
@@ -52,7 +52,7 @@ abbrev pub HasRoom : List Spot → Type 0
 HasRoom area = length (lines_of (in_group 2 area)) + length (lines_of (in_group 3 area)) + length (lines_of (in_group 4 area)) ≤ 128
 
 -- no area begins behind these items (own)
-abbrev pub BeginsNoArea : List Piece → Type 0
+abbrev pub BeginsNoArea : List LaidItem → Type 0
 BeginsNoArea area = All (λ item. begins_area (meant item) ≡ false) area
 
 -- a tag that sets no background (own)
@@ -61,7 +61,7 @@ IsQuiet (Back given) = ⊥
 IsQuiet tag = Unit {0}
 
 -- the placing items of the area in which the next item stands, those behind that item too (own)
-abbrev pub whole_area : SignData → List Piece → List Piece → List Spot
+abbrev pub whole_area : SignData → List LaidItem → List LaidItem → List Spot
 whole_area sign before behind = in_area (standing sign (map meant before)).area (spots sign (map meant (before ++ behind)))
 
 -- the table has the counted lines of the area in which the first of the items behind stands (own)
@@ -69,7 +69,7 @@ abbrev pub HasArea : SignData → List Meaning → List Meaning → LineTable �
 HasArea sign before behind lines = HasCounted (in_area (standing sign before).area (spots sign (before ++ behind))) lines
 
 -- the table has the lines that are known before these items, where the cursor stands (own)
-abbrev pub IsKnownBefore : SignData → List Piece → Cursor → LineTable → Type 0
+abbrev pub IsKnownBefore : SignData → List LaidItem → Cursor → LineTable → Type 0
 IsKnownBefore sign before cursor lines = HasKnown cursor.state.area.present (present_area sign (map meant before)) lines
 
 -- the steps that reading the first of these items takes at most, and one at the end (own)
@@ -78,10 +78,10 @@ first_steps [] = 1
 first_steps (item ∷ rest) = 2 * length (spelling item) - 1
 
 -- the area that begins at the cursor was read: these are its items, and those behind it (own)
-pub record IsAreaRead (sign : SignData) (before behind : List Piece) (cursor : Cursor) (read : AreaLines) (source source' : Counted) : Type
+pub record IsAreaRead (sign : SignData) (before behind : List LaidItem) (cursor : Cursor) (read : AreaLines) (source source' : Counted) : Type
     0 where
-  pub area : List Piece
-  pub rest : List Piece
+  pub area : List LaidItem
+  pub rest : List LaidItem
   pub split : behind ≡ area ++ rest
   pub plain : BeginsNoArea area
   pub ends : EndsArea (map meant rest)
@@ -97,7 +97,7 @@ IsDrawnTo sign layer items before plane =
     Lights plane (has_colour sign (standing sign before).page layer.phase layer.colour (spots sign items) (spots sign before))
 
 -- if the old plane shows what the items before these put on their page, the new one shows what these put on it too (own)
-abbrev pub DrawsOn : SignData → Layer → List Piece → List Piece → List Piece → BitPlane → BitPlane → Type 0
+abbrev pub DrawsOn : SignData → Layer → List LaidItem → List LaidItem → List LaidItem → BitPlane → BitPlane → Type 0
 DrawsOn sign layer before these rest old new =
     IsDrawnTo sign layer (map meant (before ++ (these ++ rest))) (map meant before) old
     → IsDrawnTo sign layer (map meant (before ++ (these ++ rest))) (map meant (before ++ these)) new
@@ -109,9 +109,9 @@ DrawsGlyph sign layer before number rest old new =
     → IsDrawnTo sign layer (before ++ Shows number ∷ rest) (before ++ Shows number ∷ []) new
 
 -- so it is wherever the cursor stands before the items of an area that was read, and other items (own)
-abbrev pub OverArea : SignData → List ℕ → Cursor → AreaLines → (List Piece → List Piece → List Piece → Type 0) → Type 0
+abbrev pub OverArea : SignData → List ℕ → Cursor → AreaLines → (List LaidItem → List LaidItem → List LaidItem → Type 0) → Type 0
 OverArea sign octets cursor read So =
-    (before area rest : List Piece) → IsBetween sign octets before (area ++ rest) cursor → BeginsNoArea area
+    (before area rest : List LaidItem) → IsBetween sign octets before (area ++ rest) cursor → BeginsNoArea area
     → read.end ≡ cursor.at + length (spell_of area)
     → HasCounted (whole_area sign before (area ++ rest)) read.lines → So before area rest
 

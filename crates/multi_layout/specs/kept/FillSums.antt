@@ -14,7 +14,7 @@ use Rattle.multi_layout.specs.Filling.{CutAt, cut_at_last, filled, is_space}
 use Rattle.multi_layout.specs.Fit.{line_fits}
 use Rattle.multi_layout.specs.Offence.{clashes}
 use Rattle.multi_layout.specs.Words.{largest}
-use Rattle.multi_layout.specs.Sums.{IsCharacter, IsLineBelow, IsPlacing, area_sum, ended_lines, group_sum, line_sum}
+use Rattle.multi_layout.specs.kept.Sums.{IsCharacter, IsLineBelow, IsPlacing, area_sum, ended_lines, group_sum, line_sum}
 
 -- the sums around a space of a line: of the characters before it, its font, and of those behind it (own)
 abbrev pub parts_sum : CutAt Spot → Split
