@@ -13,4 +13,4 @@ mod sign;
 pub use explain::run_explain;
 pub use font::{FontFault, run_font};
 pub use picture::{PictureFault, draw_picture, run_picture};
-pub use sign::run_sign;
+pub use sign::{SignFound, run_sign};

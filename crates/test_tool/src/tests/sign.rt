@@ -1,7 +1,8 @@
 //! Sign files, and what is told of them.
 
 use super::{FailingReader, NarrowWriter};
-use sign_aids::run_sign;
+use sign_aids::{SignFound, run_sign};
+use sign_words::SignView;
 use tool_streams::ToolFault;
 
 const FAULTY: &str = "width = 12\nheight = 129\n";
@@ -37,9 +38,17 @@ fn a_sign_file_ends_where_its_streams_fail(rt: HostRuntime) {
             room,
             fails: room % 2 == 1,
         };
-        let end = run_sign(alloc, None, &mut FAULTY.as_bytes(), &mut writer);
+        let end = run_sign(
+            alloc,
+            SignView::Description,
+            &mut FAULTY.as_bytes(),
+            &mut writer,
+        );
         let want = if room == FAULTS.len() {
-            Ok(false)
+            Ok(SignFound {
+                is_sound: false,
+                is_clean: true,
+            })
         } else {
             Err(ToolFault::Write)
         };
@@ -49,7 +58,7 @@ fn a_sign_file_ends_where_its_streams_fail(rt: HostRuntime) {
     for read in 0..FAULTY.len() + 1 {
         let mut reader = FailingReader(&FAULTY.as_bytes()[..read]);
         let mut output = Vec::new(alloc);
-        let end = run_sign(alloc, None, &mut reader, &mut output);
+        let end = run_sign(alloc, SignView::Description, &mut reader, &mut output);
         assert!(rt;
             end == Err(ToolFault::Read) && output.is_empty(),
             "a failure after {read}"
