@@ -1,12 +1,12 @@
 //! Why a message is refused, in words with numbers.
 
+use crate::characters::FontCharacters;
 use crate::forms::{form_of, left_out};
 use crate::room::{Lack, Trial};
 use crate::standing::{Piece, Standing, piece_at, standing_at};
 use multi_tag::{Tag, read_body};
 use multi_token::Source;
 use sign_font::Sign;
-use sign_words::Characters;
 use std::alloc::{AllocError, Global};
 use std::fmt::Write;
 
@@ -32,6 +32,8 @@ pub(crate) struct Place<'a> {
     pub(crate) sign: &'a Sign,
     /// The large sign with its fonts and defaults, if there is one.
     pub(crate) large: Option<&'a Sign>,
+    /// The characters of its fonts.
+    pub(crate) fonts: &'a [FontCharacters],
     pub(crate) message: &'a [u8],
     pub(crate) at: usize,
 }
@@ -63,9 +65,9 @@ impl Place<'_> {
     fn write_bracket(&self, text: &mut String) -> Result<(), AllocError> {
         let rest = self.message.get(self.at..).unwrap_or(b"");
         text.push_str(if rest.starts_with(b"[]") {
-            "a tag isn't empty; [[ and ]] write brackets\n"
+            "a tag isn't empty; [[ and ]] write brackets"
         } else {
-            "a bracket stands alone here; [[ and ]] write brackets, and a tag ends with ]\n"
+            "a bracket stands alone here; [[ and ]] write brackets, and a tag ends with ]"
         })
     }
 
@@ -77,18 +79,18 @@ impl Place<'_> {
         text.push_str("the sign takes no tag '")?;
         write_body(text, body)?;
         match left_out(body) {
-            Some(purpose) => writeln!(
+            Some(purpose) => write!(
                 text,
                 "'; the standard has such a tag for {purpose}, and this profile leaves it out"
             ),
-            None => text.push_str("'; no tag of the standard begins so\n"),
+            None => text.push_str("'; no tag of the standard begins so"),
         }
     }
 
     /// Says how a tag is written.
     fn write_value(&self, text: &mut String) -> Result<(), AllocError> {
         if let Some(Tag::Rect { .. }) = self.tag() {
-            return writeln!(
+            return write!(
                 text,
                 "the rectangle isn't inside the sign, which has {} by {} pixels",
                 self.sign.width(),
@@ -96,15 +98,15 @@ impl Place<'_> {
             );
         }
         match self.body().and_then(form_of) {
-            Some(form) => writeln!(text, "this tag is written {form}"),
-            None => text.push_str("the tag has another form\n"),
+            Some(form) => write!(text, "this tag is written {form}"),
+            None => text.push_str("the tag has another form"),
         }
     }
 
     /// Says how much room lacks.
     fn write_size(&self, text: &mut String, standing: &Standing) -> Result<(), AllocError> {
         let (Some(large), Some((_, end))) = (self.large, piece_at(self.message, self.at)) else {
-            return text.push_str("the line or the area no longer fits\n");
+            return text.push_str("the line or the area no longer fits");
         };
         let trial = Trial {
             alloc: self.alloc,
@@ -118,12 +120,12 @@ impl Place<'_> {
             Lack::Line(need) => {
                 text.push_str("the line needs ")?;
                 need.write(text)?;
-                writeln!(text, " pixels, the rectangle has {width}")
+                write!(text, " pixels, the rectangle has {width}")
             }
             Lack::Area(need) => {
                 text.push_str("the area needs ")?;
                 need.write(text)?;
-                writeln!(text, " rows of {height}")
+                write!(text, " rows of {height}")
             }
         }
     }
@@ -139,7 +141,7 @@ impl Place<'_> {
                 write!(text, " {number}")?;
             }
         }
-        text.push('\n')
+        Ok(())
     }
 
     /// Says which characters the font has.
@@ -153,11 +155,15 @@ impl Place<'_> {
         if number > 32 && number < 127 {
             write!(text, " '{}'", char::from(number as u8))?;
         }
-        let characters = Characters {
-            sign: self.sign,
-            font,
-        };
-        writeln!(text, "; it has{characters}")
+        match self.characters(font) {
+            Some(characters) => write!(text, "; it has{}", characters.words()),
+            None => Ok(()),
+        }
+    }
+
+    /// The characters of a font.
+    fn characters(&self, font: u8) -> Option<&FontCharacters> {
+        self.fonts.iter().find(|characters| characters.font == font)
     }
 
     /// Says which justification goes back.
@@ -170,7 +176,7 @@ impl Place<'_> {
             ..
         } = *standing;
         if page_just < group {
-            return writeln!(
+            return write!(
                 text,
                 "page justification goes back from {group} ({}) to {page_just} ({}); [np] and [tr..] begin anew",
                 word(&GROUPS, group),
@@ -179,10 +185,10 @@ impl Place<'_> {
         }
         if line_just == 5 || segment == 5 {
             return text.push_str(
-                "full justification (5) isn't alone on its line; [nl] begins a line\n",
+                "full justification (5) isn't alone on its line; [nl] begins a line",
             );
         }
-        writeln!(
+        write!(
             text,
             "line justification goes back from {segment} ({}) to {line_just} ({}); [nl] begins a line",
             word(&LINES, segment),
@@ -193,14 +199,14 @@ impl Place<'_> {
     /// Says which version the font has.
     fn write_version(&self, text: &mut String) -> Result<(), AllocError> {
         let Some(Tag::Font(Some(pick))) = self.tag() else {
-            return text.push_str("the font has another version\n");
+            return text.push_str("the font has another version");
         };
         let mut source = Source::new(b"");
         let (Some(font), Some(wanted)) = (self.sign.font(&mut source, pick.number), pick.version)
         else {
-            return text.push_str("the font has another version\n");
+            return text.push_str("the font has another version");
         };
-        writeln!(
+        write!(
             text,
             "font {} has version {:X}, and not {wanted:X}",
             pick.number, font.version
@@ -217,7 +223,7 @@ impl Place<'_> {
             6 => self.write_fonts(text),
             7 => self.write_characters(text, standing.font),
             11 => self.write_conflict(text, &standing),
-            12 => writeln!(
+            12 => write!(
                 text,
                 "page {} of at most {}",
                 standing.pages.saturating_add(1),

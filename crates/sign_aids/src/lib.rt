@@ -10,7 +10,7 @@ mod font;
 mod picture;
 mod sign;
 
-pub use explain::run_explain;
+pub use explain::{Counts, run_explain};
 pub use font::{FontFault, run_font};
 pub use picture::{PictureFault, draw_picture, run_picture};
 pub use sign::{SignFound, run_sign};

@@ -1,9 +1,10 @@
 use Rattle.std.proofs.Common.{◌≡◌, ◌∷◌, ◌++◌, ap, ◌∙◌, arith, subst}
 use Rattle.multi_layout.specs.Meaning.{meanings}
 use Rattle.multi_layout.specs.Verdict.{pages_of}
-use Rattle.message_report.specs.Explanation.{HasPages, head_text, page_text}
+use Rattle.message_report.specs.Explanation.{HasPages, head_text}
+use Rattle.message_report.specs.Pictures.{page_text}
 use Rattle.message_report.proofs.ExplanationLemmas
-use Rattle.message_report.proofs.explain.push_pages.Goals as goal
+use Rattle.message_report.proofs.pages.push_pages.Goals as goal
 
 pub push_page-requires-clause-page : goal.push_page-requires-clause-page
 push_page-requires-clause-page c =

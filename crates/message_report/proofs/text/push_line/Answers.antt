@@ -1,5 +1,5 @@
 use Rattle.message_report.proofs.ExplanationLemmas
-use Rattle.message_report.proofs.explain.push_line.Goals as goal
+use Rattle.message_report.proofs.text.push_line.Goals as goal
 
 pub loop-octet-preserved : goal.loop-octet-preserved
 loop-octet-preserved c =
