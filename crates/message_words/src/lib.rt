@@ -8,9 +8,11 @@
 mod characters;
 mod excerpt;
 mod forms;
+mod names;
 mod reason;
 mod room;
 mod standing;
+mod utf8;
 mod warnings;
 mod words;
 
