@@ -31,7 +31,8 @@ pub record Asking : Type 0 where
 abbrev pub ExplainsLines : Asking → ℕ → List (List ℕ) → List ℕ → Type 0
 ExplainsLines asking number [] text = text ≡ []
 ExplainsLines asking number (line ∷ lines) text = IsOneLine line × (length (text_of line) ≤ 8300) × ((first rest : List ℕ)
-    × Explains asking.telling asking.sign asking.name (number - asking.before) (text_of line) first × ExplainsLines asking (number + 1) lines rest
+    × Explains asking.telling asking.sign asking.name (number - asking.before) (text_of line) first
+    × ExplainsLines asking (number + 1) lines rest
     × (text ≡ first ++ rest))
 
 -- 1 for a line that a sign doesn't take (own)
@@ -43,7 +44,8 @@ abbrev pub refused_of : SignData → List (List ℕ) → ℕ
 refused_of sign lines = sum_by (refused_one sign) lines
 
 -- some lines are read, from this place on to another, and their explanations are written (own)
-pub record Explained (asking : Asking) (place place' : LineStart) (input input' output output' : Option (List ℕ)) (messages refused : ℕ) : Type 0 where
+pub record Explained (asking : Asking) (place place' : LineStart) (input input' output output' : Option (List ℕ)) (messages refused : ℕ) :
+    Type 0 where
   pub lines : List (List ℕ)
   pub text : List ℕ
   pub reads : Consumes input input' (octets_of lines)
@@ -61,9 +63,10 @@ IsMessageFault number left more input (faults.LineTooLong line) = IsLineFault nu
     ⊎ ((line ≡ number) × IsOneLine more × (length more ≤ left) × IsAtEnd input × (8300 < length more))
 IsMessageFault number left more input e = IsLineFault number left more input e
 
--- some lines are read, from this place on, and perhaps more, which has this fault, and their explanations are written, or their beginning, if
--- the writer fails, also at what stands behind the last line feed (own)
-pub record BeginsToExplain (asking : Asking) (place : LineStart) (input input' output output' : Option (List ℕ)) (e : ToolFault) : Type 0 where
+-- some lines are read, from this place on, and perhaps more, which has this fault, and their explanations
+-- are written, or their beginning, if the writer fails, also at what stands behind the last line feed (own)
+pub record BeginsToExplain (asking : Asking) (place : LineStart) (input input' output output' : Option (List ℕ)) (e : ToolFault) : Type 0
+    where
   pub lines : List (List ℕ)
   pub more : List ℕ
   pub told : List (List ℕ)
@@ -88,14 +91,16 @@ ReadsMessage place place' input input' line (Ok End) = Consumes input input' [] 
 ReadsMessage place place' input input' line (Err e) = (taken : List ℕ) × Consumes input input' taken
     × IsMessageFault place.number place.left taken input' e
 
--- the message of a line, which has this number in the input, is explained; or memory was refused, or the writer took a beginning of that (own)
+-- the message of a line, which has this number in the input, is explained; or memory was refused,
+-- or the writer took a beginning of that (own)
 abbrev pub TellsMessage : Asking → ℕ → List ℕ → Option (List ℕ) → Option (List ℕ) → Result Told ToolFault → Type 0
 TellsMessage asking number line output output' (Ok told) = (text : List ℕ)
     × Explains asking.telling asking.sign asking.name (number - asking.before) (text_of line) text
     × Appends output output' text × (told.is_taken ≡ takes asking.sign (text_of line))
 TellsMessage asking number line output output' (Err e) = ((e ≡ faults.Memory) × Appends output output' [])
     ⊎ ((e ≡ faults.Write) × ((sent unsent : List ℕ)
-    × Explains asking.telling asking.sign asking.name (number - asking.before) (text_of line) (sent ++ unsent) × Appends output output' sent))
+    × Explains asking.telling asking.sign asking.name (number - asking.before) (text_of line) (sent ++ unsent)
+    × Appends output output' sent))
 
 -- what stands behind the last line feed is explained (own)
 pub record ExplainsLast (asking : Asking) (place : LineStart) (input input' output output' : Option (List ℕ)) (refused : ℕ) : Type 0 where
@@ -109,16 +114,20 @@ pub record ExplainsLast (asking : Asking) (place : LineStart) (input input' outp
   pub refused_is : refused ≡ refused_one asking.sign line
 
 -- the next message is read and explained, or the input is at its end, or there is a fault (own)
-abbrev pub ExplainsNext : Asking → LineStart → LineStart → Option (List ℕ) → Option (List ℕ) → Option (List ℕ) → Option (List ℕ) → Result NextTold ToolFault → Type 0
+abbrev pub ExplainsNext :
+    Asking → LineStart → LineStart → Option (List ℕ) → Option (List ℕ) → Option (List ℕ) → Option (List ℕ) → Result NextTold ToolFault
+    → Type 0
 ExplainsNext asking place place' input input' output output' (Ok (tells.Whole told)) =
     Explained asking place place' input input' output output' 1 (if told.is_taken then 0 else 1)
 ExplainsNext asking place place' input input' output output' (Ok (tells.Last told)) =
     ExplainsLast asking place input input' output output' (if told.is_taken then 0 else 1)
-ExplainsNext asking place place' input input' output output' (Ok tells.End) = Consumes input input' [] × IsAtEnd input' × Appends output output' []
+ExplainsNext asking place place' input input' output output' (Ok tells.End) =
+    Consumes input input' [] × IsAtEnd input' × Appends output output' []
 ExplainsNext asking place place' input input' output output' (Err e) = BeginsToExplain asking place input input' output output' e
 
 -- all messages that are left are read and explained, with what stands behind the last line feed, and counted (own)
-pub record ExplainedAll (asking : Asking) (place : LineStart) (input input' output output' : Option (List ℕ)) (counts : Counts) : Type 0 where
+pub record ExplainedAll (asking : Asking) (place : LineStart) (input input' output output' : Option (List ℕ)) (counts : Counts) : Type 0
+    where
   pub lines : List (List ℕ)
   pub rest : List ℕ
   pub text : List ℕ
@@ -130,17 +139,20 @@ pub record ExplainedAll (asking : Asking) (place : LineStart) (input input' outp
   pub refused_is : counts.refused ≡ refused_of asking.sign (lines ++ last_line rest)
 
 -- the messages that are left are read to their end and explained, or there is a fault (own)
-abbrev pub ExplainsRest : Asking → LineStart → Option (List ℕ) → Option (List ℕ) → Option (List ℕ) → Option (List ℕ) → Result Counts ToolFault → Type 0
+abbrev pub ExplainsRest :
+    Asking → LineStart → Option (List ℕ) → Option (List ℕ) → Option (List ℕ) → Option (List ℕ) → Result Counts ToolFault → Type 0
 ExplainsRest asking place input input' output output' (Ok counts) = ExplainedAll asking place input input' output output' counts
 ExplainsRest asking place input input' output output' (Err e) = BeginsToExplain asking place input input' output output' e
 
 -- what is taken leads to a sign, and the messages behind that are explained on it; or it leads to none, for the same reason as in the
 -- other modes, and nothing is written (own)
-abbrev pub ExplainsInput : Bool → Telling → List ℕ → ℕ → Option (List ℕ) → Option (List ℕ) → Option (List ℕ) → Option (List ℕ) → Result Counts ToolFault → Type 0
+abbrev pub ExplainsInput :
+    Bool → Telling → List ℕ → ℕ → Option (List ℕ) → Option (List ℕ) → Option (List ℕ) → Option (List ℕ) → Result Counts ToolFault → Type 0
 ExplainsInput sample telling name before input input' output output' result =
     ((taken : List ℕ) × (setup : Setup) × (place : LineStart) × (between : Option (List ℕ)) × Leads sample taken (Ok setup) place
     × Consumes input between taken
-    × ExplainsRest (record { sign = setup.sign; telling = telling; name = name; before = before }) place between input' output output' result)
+    × ExplainsRest (record { sign = setup.sign; telling = telling; name = name; before = before }) place between input' output output'
+          result)
     ⊎ ((e : ToolFault) × (result ≡ Err e) × Fails sample input input' e × Appends output output' [])
 
 -- a place is further on in an input, whose lines are no more than its octets (own)

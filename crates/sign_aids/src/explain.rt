@@ -96,7 +96,8 @@ impl Asker {
         line: &Vec<u8>,
         text: &mut Vec<u8>,
     ) -> Result<Told, AllocError>
-        ensures told { OnOk result (Explains self.now.telling self.now.sign self.now.name (number - self.now.before) (text_of line.now.items) text.new.items) }
+        ensures told { OnOk result
+                (Explains self.now.telling self.now.sign self.now.name (number - self.now.before) (text_of line.now.items) text.new.items) }
         ensures taken { IfOk result (λ told. told.is_taken ≡ takes self.now.sign (text_of line.now.items)) }
     {
         text.clear();
@@ -142,7 +143,8 @@ fn explain_next<R: Read, W: Write>(
     writer: &mut W,
 ) -> Result<NextTold, ToolFault>
     requires { place.old.number + place.old.left ≤ input_limit + 1 }
-    ensures explains { ExplainsNext asker.now place.old place.new (R.remaining reader.old) (R.remaining reader.new) (W.contents writer.old) (W.contents writer.new) result }
+    ensures explains { ExplainsNext asker.now place.old place.new (R.remaining reader.old) (R.remaining reader.new) (W.contents writer.old)
+            (W.contents writer.new) result }
     ensures place { IfOk result (IsFurther place.old place.new) }
 {
     match read_next(place, line, reader) {
@@ -187,7 +189,8 @@ fn explain_rest<R: Read, W: Write>(
     writer: &mut W,
 ) -> Result<Counts, ToolFault>
     requires { place.number + place.left ≤ input_limit + 1 }
-    ensures { ExplainsRest asker.now place (R.remaining reader.old) (R.remaining reader.new) (W.contents writer.old) (W.contents writer.new) result }
+    ensures { ExplainsRest asker.now place (R.remaining reader.old) (R.remaining reader.new) (W.contents writer.old) (W.contents writer.new)
+            result }
 {
     let mut line = Vec::new(alloc);
     let mut text = Vec::new(alloc);
@@ -228,9 +231,9 @@ fn asker_of(
     })
 }
 
-/// Reads an input up to its end or its first fault, and explains its messages, one to a line, as they are asked for. What stands behind the last
-/// line feed is a message too. Messages are told by the name of their file, and by their lines, which are counted behind the first `before`
-/// lines of the input. The answer is how many messages there were.
+/// Reads an input up to its end or its first fault, and explains its messages, one to a line, as they are asked for.
+/// What stands behind the last line feed is a message too. Messages are told by the name of their file, and by their
+/// lines, which are counted behind the first `before` lines of the input. The answer is how many messages there were.
 ///
 /// The input is that of `check`, with its faults but for one. An explanation is written before the next line is read.
 pub fn run_explain<R: Read, W: Write>(
@@ -242,7 +245,8 @@ pub fn run_explain<R: Read, W: Write>(
     reader: &mut R,
     writer: &mut W,
 ) -> Result<Counts, ToolFault>
-    ensures explained { ExplainsInput sample telling name.now before (R.remaining reader.old) (R.remaining reader.new) (W.contents writer.old) (W.contents writer.new) result }
+    ensures explained { ExplainsInput sample telling name.now before (R.remaining reader.old) (R.remaining reader.new)
+            (W.contents writer.old) (W.contents writer.new) result }
 {
     let start = match begin(alloc, sample, reader) {
         Ok(start) => start,

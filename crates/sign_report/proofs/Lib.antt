@@ -1,1 +1,2 @@
+pub mod PermanentLemmas
 pub mod SetupLemmas

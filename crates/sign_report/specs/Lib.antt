@@ -1,1 +1,2 @@
+pub mod Permanents
 pub mod Setup

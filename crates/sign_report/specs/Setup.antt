@@ -1,14 +1,24 @@
--- Whether a sign file is taken.
-use Rattle.std.specs.Prelude.{ℕ, Bool, false, ◌&&◌, List, Option, None, Some, is_none}
+-- Whether a sign file is taken, and what it sets up.
+use Rattle.std.specs.Prelude.{◌≡◌, ℕ, Bool, false, ◌&&◌, List, Option, None, Some, is_none}
 use Rattle.sign_font.specs.Limits.{first_fault}
-use Rattle.message_store.specs.Limits.{can_be_made}
+use Rattle.sign_font.specs.Sign.{SignData}
+use Rattle.message_store.specs.Limits.{IsKept, can_be_made}
+use Rattle.message_store.specs.Slot.{StoreData}
 use Rattle.sign_file.specs.SignFile.{FileData, file_of_octets}
 
 -- whether a file is there whose sign has no fault, and whose message table can be made (own)
-unfoldable pub is_sound : Option FileData → Bool
-is_sound None = false
-is_sound (Some file) = is_none (first_fault file.sign) && can_be_made file.limits file.permanents
+unfoldable pub is_whole : Option FileData → Bool
+is_whole None = false
+is_whole (Some file) = is_none (first_fault file.sign) && can_be_made file.limits file.permanents
 
 -- whether octets are a sign file that the program takes (own)
 abbrev pub is_taken : List ℕ → Bool
-is_taken octets = is_sound (file_of_octets octets)
+is_taken octets = is_whole (file_of_octets octets)
+
+-- octets are a sign file with this sign, and with the permanent messages of this store (own)
+pub record SetsUp (octets : List ℕ) (sign : SignData) (store : StoreData) : Type 0 where
+  pub file : FileData
+  pub read : file_of_octets octets ≡ Some file
+  pub sign_is : sign ≡ file.sign
+  pub permanents : store.permanent ≡ file.permanents
+  pub kept : IsKept store

@@ -1,10 +1,12 @@
 //! The report on a sign file.
 
 ghost use Rattle.std.specs.Prelude.{◌≡◌, IfOk};
+ghost use Rattle.sign_report.specs.Permanents.{refusals_of};
 ghost use Rattle.sign_report.specs.Setup.{is_taken};
 
-use crate::setup::setup_of;
-use sign_words::SignWords;
+use crate::explanations::explanations_of;
+use crate::judged::{Judged, judged_of};
+use sign_words::{PermanentRefusal, SignView, SignWords, find_in};
 use std::alloc::{AllocError, Global};
 
 /// What is told of a sign file (own).
@@ -12,27 +14,39 @@ use std::alloc::{AllocError, Global};
 pub struct SignReport {
     /// Whether the program takes it.
     pub is_taken: bool,
-    /// What it describes, or each fault that was found, and the keys that aren't known; a line each.
+    /// The permanent messages that its sign refuses, in the order of their numbers; none if the file isn't taken.
+    pub refusals: Vec<PermanentRefusal>,
+    /// How many warnings there are: what is no fault, and its maker may not have meant.
+    pub warnings: usize,
+    /// What it describes, or each fault that was found; the refusals and the warnings.
     pub text: String,
 }
 
-/// Says of the octets of a sign file what they describe, or each fault that is found in them.
+/// Says of the octets of a sign file what they describe, or each fault that is found in them, and which of its permanent messages the
+/// sign refuses, and why.
 ///
-/// `font` asks for the pictures of that font's characters in place of the description. Keys that aren't known are told as notes,
-/// which are no faults. The error says that memory was refused.
-pub fn sign_report(alloc: Global, octets: &[u8], font: Option<u8>) -> Result<SignReport, AllocError>
-    ensures { IfOk result (λ report. report.is_taken ≡ is_taken octets.now) }
+/// `view` says whether the description, the pictures of a font's characters, or a document in JSON is asked for. A refused permanent message is no
+/// fault of the file: the program takes it, but the sign never shows that message. The error says that memory was refused.
+pub fn sign_report(alloc: Global, octets: &[u8], view: SignView) -> Result<SignReport, AllocError>
+    ensures taken { IfOk result (λ report. report.is_taken ≡ is_taken octets.now) }
+    ensures refusals { IfOk result (λ report. report.refusals.items ≡ refusals_of octets.now) }
 {
-    let setup = setup_of(alloc, octets)?;
+    let Judged { setup, refusals } = judged_of(alloc, octets)?;
+    let found = find_in(alloc, octets)?;
+    let explanations = explanations_of(alloc, octets, &refusals)?;
     let words = SignWords {
         alloc,
-        octets,
-        setup: &setup,
-        font,
+        view,
+        found: &found,
+        setup: setup.as_ref(),
+        refusals: &refusals,
+        explanations: &explanations,
     };
     let text = words.to_string(alloc)?;
     Ok(SignReport {
         is_taken: setup.is_some(),
+        refusals,
+        warnings: found.warnings.len(),
         text,
     })
 }

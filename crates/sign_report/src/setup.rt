@@ -1,9 +1,9 @@
 //! What a sign file sets up.
 
-ghost use Rattle.std.specs.Prelude.{◌≡◌, ◌≢◌, IfOk, OnOk, is_some};
-ghost use Rattle.sign_report.specs.Setup.{is_taken};
+ghost use Rattle.std.specs.Prelude.{◌≡◌, ◌≢◌, IfOk, IfSome, OnOk, is_some};
+ghost use Rattle.sign_report.specs.Setup.{SetsUp, is_taken};
 
-use message_store::{Store, StoreLimits, StoreMade};
+use message_store::{Store, StoreMade};
 use sign_file::{FileFault, SignFile, read_sign_file};
 use sign_font::{Sign, SignFault};
 use sign_words::Setup;
@@ -21,7 +21,8 @@ fn unless_memory(fault: SignFault) -> Result<(), AllocError>
 
 /// What these octets set up, or `None` if they are no sign file that the program takes.
 pub(crate) fn setup_of(alloc: Global, octets: &[u8]) -> Result<Option<Setup>, AllocError>
-    ensures { IfOk result (λ setup. is_some setup ≡ is_taken octets.now) }
+    ensures taken { IfOk result (λ setup. is_some setup ≡ is_taken octets.now) }
+    ensures set_up { IfOk result (λ setup. IfSome setup (λ s. SetsUp octets.now s.sign s.store)) }
 {
     let file = match read_sign_file(alloc, octets) {
         Ok(file) => file,
@@ -33,7 +34,6 @@ pub(crate) fn setup_of(alloc: Global, octets: &[u8]) -> Result<Option<Setup>, Al
         limits,
         permanents,
     } = file;
-    let count = permanents.len();
     let sign = match Sign::new(alloc, sign) {
         Ok(sign) => sign,
         Err(fault) => {
@@ -42,11 +42,7 @@ pub(crate) fn setup_of(alloc: Global, octets: &[u8]) -> Result<Option<Setup>, Al
         }
     };
     match Store::new(alloc, limits, permanents) {
-        Ok(_) => Ok(Some(Setup {
-            sign,
-            limits,
-            permanents: count,
-        })),
+        Ok(store) => Ok(Some(Setup { sign, store })),
         Err(StoreMade::BadLimit) => Ok(None),
         Err(StoreMade::Memory) => Err(AllocError),
     }

@@ -1,4 +1,5 @@
 pub mod Blocks
+pub mod Faults
 pub mod FileSetup
 pub mod Frame
 pub mod Output

@@ -1,9 +1,11 @@
 //! What a sign file describes.
 
-use message_store::StoreLimits;
+use crate::cells::cells_crc;
+use crate::keys::{COLOURS, GROUPS, LINES};
+use message_store::{Permanent, Store, StoreLimits, message_crc};
 use multi_token::Source;
 use sign_font::{Defaults, FontInfo, LineFill, Sign};
-use std::alloc::AllocError;
+use std::alloc::{AllocError, Global};
 use std::fmt;
 use std::fmt::{Display, Formatter, Write};
 
@@ -12,25 +14,14 @@ use std::fmt::{Display, Formatter, Write};
 pub struct Setup {
     /// The sign.
     pub sign: Sign,
-    /// The limits of its changeable messages.
-    pub limits: StoreLimits,
-    /// How many permanent messages there are.
-    pub permanents: usize,
+    /// Its messages, none of which is changed yet.
+    pub store: Store,
 }
 
-/// The classic colours by their numbers (NTCIP 1203 v03, object dmsColorScheme).
-const COLOURS: [&str; 10] = [
-    "black", "red", "yellow", "green", "cyan", "blue", "magenta", "white", "orange", "amber",
-];
-
-const LINES: [&str; 6] = ["", "", "left", "centre", "right", "full"];
-
-const PAGES: [&str; 5] = ["", "", "top", "middle", "bottom"];
-
-/// The word for a number, or nothing.
-fn word<'a>(words: &[&'a str], number: u8) -> &'a str {
-    match words.get(usize::from(number)) {
-        Some(word) => word,
+/// The name of a number, if it has one; the first name is that of this number.
+fn name_of<'a>(names: &[&'a str], first: u8, number: u8) -> &'a str {
+    match number.checked_sub(first) {
+        Some(place) => names.get(usize::from(place)).copied().unwrap_or(""),
         None => "",
     }
 }
@@ -73,8 +64,12 @@ fn describe_defaults(text: &mut String, defaults: &Defaults) -> Result<(), Alloc
         back,
     } = *defaults;
     writeln!(text, "default font: {font}")?;
-    writeln!(text, "default lines: {line}, {}", word(&LINES, line))?;
-    writeln!(text, "default groups: {page}, {}", word(&PAGES, page))?;
+    writeln!(text, "default lines: {line}, {}", name_of(&LINES, 2, line))?;
+    writeln!(
+        text,
+        "default groups: {page}, {}",
+        name_of(&GROUPS, 2, page)
+    )?;
     writeln!(
         text,
         "default page times: {page_on} tenths of a second on, {page_off} off"
@@ -83,8 +78,16 @@ fn describe_defaults(text: &mut String, defaults: &Defaults) -> Result<(), Alloc
         text,
         "default flash times: {flash_on} tenths of a second on, {flash_off} off"
     )?;
-    writeln!(text, "default foreground: {fore}, {}", word(&COLOURS, fore))?;
-    writeln!(text, "default background: {back}, {}", word(&COLOURS, back))
+    writeln!(
+        text,
+        "default foreground: {fore}, {}",
+        name_of(&COLOURS, 0, fore)
+    )?;
+    writeln!(
+        text,
+        "default background: {back}, {}",
+        name_of(&COLOURS, 0, back)
+    )
 }
 
 /// The characters that a font of a sign has, as runs of numbers with a space before each, or ` none` (own). Written by `Display`.
@@ -133,7 +136,12 @@ impl Display for Characters<'_> {
 }
 
 /// Writes a font and which characters it has.
-fn describe_font(text: &mut String, sign: &Sign, font: FontInfo) -> Result<(), AllocError> {
+fn describe_font(
+    alloc: Global,
+    text: &mut String,
+    sign: &Sign,
+    font: FontInfo,
+) -> Result<(), AllocError> {
     let FontInfo {
         number,
         version,
@@ -150,29 +158,51 @@ fn describe_font(text: &mut String, sign: &Sign, font: FontInfo) -> Result<(), A
         "font {number}: height {height}, character spacing {char_spacing}, line spacing {line_spacing}"
     )?;
     let characters = Characters { sign, font: number };
-    writeln!(text, "font {number}: characters{characters}")
+    writeln!(text, "font {number}: characters{characters}")?;
+    let crc = cells_crc(alloc, sign, font)?;
+    writeln!(text, "font {number}: CRC of its cells {crc:04x}")
+}
+
+/// Writes how many permanent messages there are, and by which CRC each is activated.
+fn describe_permanents(text: &mut String, permanents: &[Permanent]) -> Result<(), AllocError> {
+    writeln!(text, "permanent messages: {}", permanents.len())?;
+    for (place, message) in permanents.iter().enumerate() {
+        let Permanent {
+            multi,
+            priority,
+            beacon,
+            pixel,
+        } = message;
+        let number = place.saturating_add(1);
+        let crc = message_crc(multi, *beacon, *pixel);
+        writeln!(
+            text,
+            "permanent message {number}: CRC {crc:04x}, priority {priority}"
+        )?;
+    }
+    Ok(())
 }
 
 /// Writes what a sign file describes.
-pub(crate) fn describe(text: &mut String, setup: &Setup) -> Result<(), AllocError> {
-    let Setup {
-        sign,
-        limits,
-        permanents,
-    } = setup;
+pub(crate) fn describe(alloc: Global, text: &mut String, setup: &Setup) -> Result<(), AllocError> {
+    let Setup { sign, store } = setup;
     describe_sign(text, sign)?;
+    let StoreLimits {
+        slots,
+        bytes,
+        max_string,
+    } = store.limits();
     writeln!(
         text,
-        "changeable messages: {} with {} octets together",
-        limits.slots, limits.bytes
+        "changeable messages: {slots} with {bytes} octets together"
     )?;
-    writeln!(text, "texts: up to {} octets", limits.max_string)?;
-    writeln!(text, "permanent messages: {permanents}")?;
+    writeln!(text, "texts: up to {max_string} octets")?;
+    describe_permanents(text, store.permanents())?;
     describe_defaults(text, &sign.defaults())?;
     let mut source = Source::new(b"");
     for number in 1..=255u8 {
         if let Some(font) = sign.font(&mut source, number) {
-            describe_font(text, sign, font)?;
+            describe_font(alloc, text, sign, font)?;
         }
     }
     Ok(())

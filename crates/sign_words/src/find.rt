@@ -10,13 +10,14 @@ use std::fmt::{Display, Formatter, Write};
 use strsim::levenshtein;
 use toml::{Table, Value};
 
-/// Faults and notes, a line each.
+/// What is found in a sign file (own): lines without their ends.
 #[derive(Drop)]
-pub(crate) struct Findings {
+pub struct Findings {
     pub(crate) alloc: Global,
-    pub(crate) text: String,
-    /// How many of them are faults.
-    pub(crate) faults: usize,
+    /// Why the file isn't taken, as far as that was found.
+    pub faults: Vec<String>,
+    /// What its maker may not have meant.
+    pub warnings: Vec<String>,
 }
 
 /// What is wrong at a key.
@@ -30,8 +31,10 @@ pub(crate) enum What<'a> {
     Number(i64, Kind),
     /// Another text stands there.
     Text(&'a str, Kind),
-    /// The key isn't known, and this one is the nearest.
-    Unknown(&'a str),
+    /// The name of a number stands there in place of the number.
+    Name(&'a str, usize),
+    /// The key isn't known, and this one of the same table is the nearest, if one is near.
+    Unknown(Option<&'a str>),
     /// A number that doesn't rise behind the one before it.
     NotRising(i64),
     /// No font is there.
@@ -51,12 +54,34 @@ pub(crate) enum What<'a> {
     SpareBit,
     /// A text with more octets than there may be.
     TooLong(usize, i64),
+    /// The foreground looks as the background does.
+    SameColours,
+    /// Fewer octets than a message may have.
+    FewBytes(i64, i64),
+    /// A message asks for what the sign hasn't.
+    Lacks(&'a str),
+}
+
+/// Writes numbers with their names, of which the first is this one.
+fn write_names<W: Write>(f: &mut Formatter<W>, first: i64, names: &[&str]) -> fmt::Result {
+    let last = names.len().saturating_sub(1);
+    for (place, name) in names.iter().enumerate() {
+        let between = match place {
+            0 => "",
+            place if place == last => " or ",
+            _ => ", ",
+        };
+        let number = first.saturating_add(place as i64);
+        write!(f, "{between}{number} ({name})")?;
+    }
+    Ok(())
 }
 
 impl Display for Kind {
     fn fmt<W: Write>(&self, f: &mut Formatter<W>) -> fmt::Result {
         match self {
             Kind::Number(low, high) => write!(f, "a whole number from {low} to {high}"),
+            Kind::Named(first, names) => write_names(f, *first, names),
             Kind::Truth => write!(f, "true or false"),
             Kind::Word(one, other) => write!(f, "\"{one}\" or \"{other}\""),
             Kind::Text => write!(f, "a text"),
@@ -74,7 +99,9 @@ impl Display for What<'_> {
             What::Other(found, kind) => write!(f, "found: {found}; it should be {kind}"),
             What::Number(number, kind) => write!(f, "{number}; it should be {kind}"),
             What::Text(text, kind) => write!(f, "\"{}\"; it should be {kind}", Excerpt(text)),
-            What::Unknown(nearest) => write!(f, "not known; the nearest key is {nearest}"),
+            What::Name(name, number) => write!(f, "\"{name}\"; its number is {number}"),
+            What::Unknown(Some(nearest)) => { write!(f, "not known; the nearest key is {nearest}") }
+            What::Unknown(None) => write!(f, "not known"),
             What::NotRising(last) => write!(
                 f,
                 "the numbers must rise, and the one before is {last}"
@@ -93,6 +120,15 @@ impl Display for What<'_> {
             ),
             What::SpareBit => write!(f, "a bit behind the last pixel is 1"),
             What::TooLong(octets, most) => write!(f, "has {octets} of at most {most} octets"),
+            What::SameColours => write!(
+                f,
+                "looks as the background does: text in the default colours can't be seen"
+            ),
+            What::FewBytes(bytes, most) => write!(
+                f,
+                "{bytes}; a message may have {most} octets, and one with so many is never stored"
+            ),
+            What::Lacks(service) => write!(f, "asks for {service}, and the sign has none"),
         }
     }
 }
@@ -105,13 +141,45 @@ impl Findings {
         name: &str,
         what: &What<'_>,
     ) -> Result<(), AllocError> {
-        self.faults = self.faults.saturating_add(1);
-        writeln!(self.text, "{place}{name}: {what}")
+        let line = format!(in self.alloc; "{place}{name}: {what}")?;
+        self.faults.push(line)?;
+        Ok(())
     }
 
     /// Tells what is no fault. The name is text of the file.
-    fn note(&mut self, place: &Place, name: &str, what: &What<'_>) -> Result<(), AllocError> {
-        writeln!(self.text, "note: {place}{}: {what}", Excerpt(name))
+    pub(crate) fn warn(
+        &mut self,
+        place: &Place,
+        name: &str,
+        what: &What<'_>,
+    ) -> Result<(), AllocError> {
+        let line = format!(in self.alloc; "{place}{}: {what}", Excerpt(name))?;
+        self.warnings.push(line)?;
+        Ok(())
+    }
+}
+
+/// What is wrong with a value for a number that has a name.
+fn wrong_name<'a>(
+    value: &'a Value,
+    first: i64,
+    names: &'static [&'static str],
+) -> Option<What<'a>> {
+    let kind = Kind::Named(first, names);
+    if let Some(number) = value.as_integer() {
+        let last = first.saturating_add(names.len() as i64);
+        return if number < first || number >= last {
+            Some(What::Number(number, kind))
+        } else {
+            None
+        };
+    }
+    let Some(text) = value.as_str() else {
+        return Some(What::Other(value.type_str(), kind));
+    };
+    match names.iter().position(|name| *name == text) {
+        Some(place) => Some(What::Name(text, place.saturating_add(first.max(0) as usize))),
+        None => Some(What::Text(text, kind)),
     }
 }
 
@@ -124,6 +192,7 @@ fn wrong<'a>(value: &'a Value, kind: Kind) -> Option<What<'a>> {
             }
             number => number.is_some(),
         },
+        Kind::Named(first, names) => return wrong_name(value, first, names),
         Kind::Truth => value.is_bool(),
         Kind::Word(one, other) => match value.as_str() {
             Some(text) if text != one && text != other => return Some(What::Text(text, kind)),
@@ -173,16 +242,16 @@ fn look_at_key(
     }
 }
 
-/// The key whose name has the fewest changes from this one.
-fn nearest(alloc: Global, name: &str, keys: &[Key]) -> Result<&'static str, AllocError> {
-    let mut nearest = "";
-    let mut least = usize::MAX;
+/// The key whose name has the fewest changes from this one, if they are at most half its octets.
+fn nearest(alloc: Global, name: &str, keys: &[Key]) -> Result<Option<&'static str>, AllocError> {
+    let mut nearest = None;
+    let mut least = name.len() / 2 + 1;
     for key in keys {
         let Ok(changes) = levenshtein(alloc, name, key.name) else {
             return Err(AllocError);
         };
         if changes < least {
-            nearest = key.name;
+            nearest = Some(key.name);
             least = changes;
         }
     }
@@ -203,7 +272,7 @@ fn look_at_table(
         let name = name.as_str();
         if !keys.iter().any(|key| key.name == name) {
             let nearest = nearest(found.alloc, name, keys)?;
-            found.note(place, name, &What::Unknown(nearest))?;
+            found.warn(place, name, &What::Unknown(nearest))?;
         }
     }
     Ok(())

@@ -5,6 +5,8 @@
 pub(crate) enum Kind {
     /// A whole number from the first to the second.
     Number(i64, i64),
+    /// One of the numbers from this one on that have these names.
+    Named(i64, &'static [&'static str]),
     /// `true` or `false`.
     Truth,
     /// One of these texts.
@@ -18,6 +20,17 @@ pub(crate) enum Kind {
     /// An array of tables.
     Tables,
 }
+
+/// Where lines stand, by their numbers from 2 on (NTCIP 1203 v03, object defaultJustificationLine).
+pub(crate) const LINES: [&str; 4] = ["left", "centre", "right", "full"];
+
+/// Where groups stand, by their numbers from 2 on (NTCIP 1203 v03, object defaultJustificationPage).
+pub(crate) const GROUPS: [&str; 3] = ["top", "middle", "bottom"];
+
+/// The classic colours by their numbers (NTCIP 1203 v03, object dmsColorScheme).
+pub(crate) const COLOURS: [&str; 10] = [
+    "black", "red", "yellow", "green", "cyan", "blue", "magenta", "white", "orange", "amber",
+];
 
 /// A key, and whether it must be there.
 #[derive(Clone, Copy)]
@@ -105,12 +118,12 @@ pub(crate) const DEFAULTS: [Key; 9] = [
     },
     Key {
         name: "line",
-        kind: Kind::Number(2, 5),
+        kind: Kind::Named(2, &LINES),
         is_needed: true,
     },
     Key {
         name: "page",
-        kind: Kind::Number(2, 4),
+        kind: Kind::Named(2, &GROUPS),
         is_needed: true,
     },
     Key {
@@ -135,12 +148,12 @@ pub(crate) const DEFAULTS: [Key; 9] = [
     },
     Key {
         name: "fore",
-        kind: Kind::Number(0, 9),
+        kind: Kind::Named(0, &COLOURS),
         is_needed: true,
     },
     Key {
         name: "back",
-        kind: Kind::Number(0, 9),
+        kind: Kind::Named(0, &COLOURS),
         is_needed: true,
     },
 ];

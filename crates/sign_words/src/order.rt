@@ -169,9 +169,73 @@ fn look_at_permanents(found: &mut Findings, table: &Table) -> Result<(), AllocEr
     Ok(())
 }
 
+/// How a colour looks: on a sign of one colour a pixel is lit or dark.
+fn look_of(table: &Table, colour: i64) -> i64 {
+    match table.get("scheme").and_then(|value| value.as_str()) {
+        Some("monochrome") => colour.min(1),
+        _ => colour,
+    }
+}
+
+/// Looks whether text in the default colours can be seen.
+fn look_at_colours(found: &mut Findings, table: &Table) -> Result<(), AllocError> {
+    let Some(value) = table.get("defaults") else {
+        return Ok(());
+    };
+    let Some(defaults) = value.as_table() else {
+        return Ok(());
+    };
+    let (Some(fore), Some(back)) = (number_at(defaults, "fore"), number_at(defaults, "back")) else {
+        return Ok(());
+    };
+    if look_of(table, fore) == look_of(table, back) {
+        found.warn(&Place::Defaults, "fore", &What::SameColours)?;
+    }
+    Ok(())
+}
+
+/// Looks whether the longest message can be stored.
+fn look_at_bytes(found: &mut Findings, table: &Table) -> Result<(), AllocError> {
+    let (Some(bytes), Some(most)) = (number_at(table, "bytes"), number_at(table, "max_string"))
+    else {
+        return Ok(());
+    };
+    if bytes < most {
+        found.warn(&Place::Sign, "bytes", &What::FewBytes(bytes, most))?;
+    }
+    Ok(())
+}
+
+/// Looks whether a permanent message asks for what the sign hasn't.
+fn look_at_service(
+    found: &mut Findings,
+    table: &Table,
+    sign_key: &str,
+    message_key: &str,
+    service: &str,
+) -> Result<(), AllocError> {
+    if table.get(sign_key).and_then(|value| value.as_bool()) == Some(true) {
+        return Ok(());
+    }
+    for (place, value) in tables_at(table, "permanent").iter().enumerate() {
+        let Some(message) = value.as_table() else {
+            continue;
+        };
+        if number_at(message, message_key) == Some(1) {
+            let at = Place::Permanent(entry(place, message));
+            found.warn(&at, message_key, &What::Lacks(service))?;
+        }
+    }
+    Ok(())
+}
+
 /// Looks at what the keys of a sign file owe to each other.
 pub(crate) fn look_at_order(found: &mut Findings, table: &Table) -> Result<(), AllocError> {
     look_at_fonts(found, table)?;
     look_at_default(found, table)?;
-    look_at_permanents(found, table)
+    look_at_permanents(found, table)?;
+    look_at_colours(found, table)?;
+    look_at_bytes(found, table)?;
+    look_at_service(found, table, "beacons", "beacon", "beacons")?;
+    look_at_service(found, table, "pixel_service", "pixel", "pixel service")
 }

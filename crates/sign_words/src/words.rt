@@ -1,11 +1,16 @@
 //! The words on a sign file.
 
 use crate::describe::{Setup, describe};
+use crate::facts::json_of;
 use crate::find::{Findings, look_at_file};
 use crate::picture::draw_font;
+use crate::refusal::{PermanentRefusal, push_refusals};
 use std::alloc::{AllocError, Global};
 use std::fmt;
 use std::fmt::{Display, Formatter, Write};
+
+/// The most octets of a line of a sign file that stands before a mark (own).
+const MOST: usize = 8_300;
 
 /// The line in which an offset stands, counted from 1.
 fn line_of(text: &[u8], offset: usize) -> usize {
@@ -17,75 +22,129 @@ fn line_of(text: &[u8], offset: usize) -> usize {
         .saturating_add(1)
 }
 
-/// Tells each fault that is found in octets, and the keys that aren't known.
-fn find(found: &mut Findings, octets: &[u8]) -> Result<(), AllocError> {
-    let text = match str::from_utf8(octets) {
-        Ok(text) => text,
-        Err(error) => {
-            found.faults = 1;
-            return writeln!(
-                found.text,
-                "line {}: no text in UTF-8",
-                line_of(octets, error.valid_up_to())
-            );
-        }
+/// Tells what no line of a sign file may be if it stands before a mark.
+fn look_at_lines(found: &mut Findings, octets: &[u8]) -> Result<(), AllocError> {
+    for (place, line) in octets.split(|octet| *octet == b'\n').enumerate() {
+        let line = line.strip_suffix(b"\r").unwrap_or(line);
+        let what = if line == b"%%".as_slice() {
+            "the mark %% ends the sign file for the other commands"
+        } else if line.len() > MOST {
+            "the other commands take no line with more than 8300 octets"
+        } else {
+            continue;
+        };
+        let number = place.saturating_add(1);
+        let told = format!(in found.alloc; "line {number}: {what}")?;
+        found.warnings.push(told)?;
+    }
+    Ok(())
+}
+
+/// Tells each fault that is found in a text, and what its maker may not have meant.
+fn look_at_text(found: &mut Findings, octets: &[u8], text: &str) -> Result<(), AllocError> {
+    let error = match toml::table_from_str(found.alloc, text) {
+        Ok(table) => return look_at_file(found, &table),
+        Err(error) if error.is_memory() => return Err(AllocError),
+        Err(error) => error,
     };
-    match toml::table_from_str(found.alloc, text) {
-        Ok(table) => look_at_file(found, &table),
-        Err(error) if error.is_memory() => Err(AllocError),
+    let line = match error.span() {
+        Some(span) => {
+            let number = line_of(octets, span.start);
+            format!(in found.alloc; "line {number}: {}", error.message())?
+        }
+        None => format!(in found.alloc; "{}", error.message())?,
+    };
+    found.faults.push(line)?;
+    Ok(())
+}
+
+/// What is found in the octets of a sign file. The error says that memory was refused.
+pub fn find_in(alloc: Global, octets: &[u8]) -> Result<Findings, AllocError> {
+    let mut found = Findings {
+        alloc,
+        faults: Vec::new(alloc),
+        warnings: Vec::new(alloc),
+    };
+    match str::from_utf8(octets) {
+        Ok(text) => look_at_text(&mut found, octets, text)?,
         Err(error) => {
-            found.faults = 1;
-            match error.span() {
-                Some(span) => write!(found.text, "line {}: ", line_of(octets, span.start))?,
-                None => {}
-            }
-            writeln!(found.text, "{}", error.message())
+            let number = line_of(octets, error.valid_up_to());
+            let line = format!(in alloc; "line {number}: no text in UTF-8")?;
+            found.faults.push(line)?;
         }
     }
+    look_at_lines(&mut found, octets)?;
+    Ok(found)
 }
 
-/// Tells what a sign file describes, or the faults that it has.
-fn tell(
-    found: &mut Findings,
-    octets: &[u8],
-    setup: &Option<Setup>,
-    font: Option<u8>,
-) -> Result<(), AllocError> {
-    find(found, octets)?;
-    match setup {
-        Some(setup) => match font {
-            Some(font) => draw_font(&mut found.text, &setup.sign, font),
-            None => describe(&mut found.text, setup),
-        },
-        None if found.faults == 0 => writeln!(found.text, "the sign file isn't taken"),
-        None => Ok(()),
-    }
+/// How a sign file is told of (own).
+#[derive(Clone, Copy, Debug, PartialEq, Eq)]
+pub enum SignView {
+    /// What it describes.
+    Description,
+    /// The characters of one of its fonts.
+    Font(u8),
+    /// Its facts and all that was found, in JSON.
+    Json,
 }
 
-/// What is said of the octets of a sign file (own): what it sets up, or, where it isn't taken, each fault that is found in it. Keys that aren't
-/// known are told as notes, which are no faults. Written by `Display`, which takes memory.
+/// What is told of a sign file (own): each fault, each permanent message that the sign refuses, each warning, and what the file describes, or all of it in
+/// JSON. Written by `Display`, which takes memory.
 #[derive(Clone, Copy)]
 pub struct SignWords<'a> {
     /// Where memory comes from.
     pub alloc: Global,
-    /// The octets.
-    pub octets: &'a [u8],
-    /// What they set up, or `None` if they aren't taken.
-    pub setup: &'a Option<Setup>,
-    /// The font whose characters are shown in place of the description.
-    pub font: Option<u8>,
+    /// How the file is told of.
+    pub view: SignView,
+    /// What was found in it.
+    pub found: &'a Findings,
+    /// What it sets up, or `None` if it isn't taken.
+    pub setup: Option<&'a Setup>,
+    /// The permanent messages that the sign refuses.
+    pub refusals: &'a [PermanentRefusal],
+    /// Why each of them is refused: lines.
+    pub explanations: &'a [String],
 }
 
 impl SignWords<'_> {
+    /// Appends what was found.
+    fn push_found(&self, text: &mut String) -> Result<(), AllocError> {
+        let Findings {
+            faults,
+            warnings,
+            ..
+        } = self.found;
+        for fault in faults {
+            writeln!(text, "{fault}")?;
+        }
+        if self.setup.is_none() && faults.is_empty() {
+            writeln!(text, "the sign file isn't taken")?;
+        }
+        push_refusals(text, self.refusals, self.explanations)?;
+        for warning in warnings {
+            writeln!(text, "warning: {warning}")?;
+        }
+        Ok(())
+    }
+
     /// The words.
     fn words(&self) -> Result<String, AllocError> {
-        let mut found = Findings {
-            alloc: self.alloc,
-            text: String::new(self.alloc),
-            faults: 0,
-        };
-        tell(&mut found, self.octets, self.setup, self.font)?;
-        let Findings { text, .. } = found;
+        if let SignView::Json = self.view {
+            return json_of(
+                self.alloc,
+                self.found,
+                self.setup,
+                self.refusals,
+                self.explanations,
+            );
+        }
+        let mut text = String::new(self.alloc);
+        self.push_found(&mut text)?;
+        match (self.setup, self.view) {
+            (Some(setup), SignView::Font(font)) => draw_font(&mut text, &setup.sign, font)?,
+            (Some(setup), _) => describe(self.alloc, &mut text, setup)?,
+            (None, _) => {}
+        }
         Ok(text)
     }
 }

@@ -34,9 +34,9 @@
 //! `--scale` by `--scale` points, 8 by 8 if it isn't given. `--output` names a file that is written in place of standard output, and whose
 //! ending says the format.
 //!
-//! `signctl sign` reads a sign file alone, and writes what it describes, or all faults that it finds in it. `--font` shows the
-//! characters of a font in place of the description. `signctl font` reads a font in BDF, and writes it as the `[[font]]` table of a
-//! sign file.
+//! `signctl sign` reads a sign file alone, and writes what it describes, or all faults that it finds in it, the permanent messages that its sign
+//! refuses, and warnings. `--font` shows the characters of a font in place of the description, `--format json` all of it in JSON, and with `--strict` a
+//! warning counts as a fault. `signctl font` reads a font in BDF, and writes it as the `[[font]]` table of a sign file.
 //!
 //! A line ends with a line feed, and one carriage return before that is dropped. What is left has at most 8,300 octets.
 //! An input has at most 16,777,216 octets, with those of the sign file, but for the lines of `serve`. The first fault ends the run, after
@@ -59,8 +59,8 @@
 //!
 //! Lines are counted from 1, from the start of the sign file where there is one.
 //!
-//! The exit status is 0 with no fault and for help, 1 with a fault, also with one of a sign file that `sign` tells, and 2 for a
-//! refused command line.
+//! The exit status is 0 with no fault and for help, 1 with a fault, also with one of a sign file that `sign` tells or with a permanent message that
+//! its sign refuses, and 2 for a refused command line.
 #![tactic(auto)]
 
 mod characters;
