@@ -11,6 +11,7 @@ mod forms;
 mod names;
 mod reason;
 mod room;
+mod sight;
 mod standing;
 mod utf8;
 mod warnings;
