@@ -8,9 +8,12 @@
 mod characters;
 mod excerpt;
 mod forms;
+mod names;
 mod reason;
 mod room;
+mod sight;
 mod standing;
+mod utf8;
 mod warnings;
 mod words;
 

@@ -1,9 +1,11 @@
 //! Why a message is refused, in words with numbers.
 
 use crate::characters::FontCharacters;
-use crate::forms::{form_of, left_out};
+use crate::forms::{form_of, left_out, nearest};
+use crate::names::{known_of, meant};
 use crate::room::{Lack, Trial};
 use crate::standing::{Piece, Standing, piece_at, standing_at};
+use crate::utf8::{Encoded, encoded_around, is_shown};
 use multi_tag::{Tag, read_body};
 use multi_token::Source;
 use sign_font::Sign;
@@ -47,6 +49,88 @@ fn write_body(text: &mut String, body: &[u8]) -> Result<(), AllocError> {
     text.push_str(if body.len() > BODY { " .." } else { "" })
 }
 
+/// The number of the tab.
+const TAB: u16 = 9;
+
+/// The capital of a small letter, or the small letter of a capital.
+fn other_case(number: u16) -> Option<u8> {
+    let letter = u8::try_from(number).ok()?;
+    if letter.is_ascii_lowercase() {
+        Some(letter.to_ascii_uppercase())
+    } else if letter.is_ascii_uppercase() {
+        Some(letter.to_ascii_lowercase())
+    } else {
+        None
+    }
+}
+
+/// The word for how many octets there are.
+fn count_word(count: usize) -> &'static str {
+    match count {
+        2 => "two",
+        3 => "three",
+        _ => "four",
+    }
+}
+
+/// Says what to write in place of a character, if the font has it.
+fn write_plain(
+    text: &mut String,
+    plain: &str,
+    characters: &FontCharacters,
+) -> Result<(), AllocError> {
+    match plain {
+        "" => return text.push_str("; leave it out"),
+        " " => return text.push_str("; write a space"),
+        _ => {}
+    }
+    let has = |octet: &u8| characters.has(u16::from(*octet));
+    if plain.as_bytes().iter().all(has) {
+        return write!(text, "; write {plain}");
+    }
+    let mut capitals = plain.as_bytes().iter();
+    if !capitals.all(|octet| characters.has(u16::from(octet.to_ascii_uppercase()))) {
+        return write!(text, "; it has{}", characters.words());
+    }
+    text.push_str("; write ")?;
+    for octet in plain.as_bytes() {
+        text.push(char::from(octet.to_ascii_uppercase()))?;
+    }
+    Ok(())
+}
+
+/// Says that a character is written in more than one octet, and what to write in its place.
+fn write_encoded(
+    text: &mut String,
+    font: u8,
+    number: u16,
+    encoded: Encoded,
+    characters: Option<&FontCharacters>,
+) -> Result<(), AllocError> {
+    let Encoded { character, count } = encoded;
+    let code = u32::from(character);
+    let known = known_of(character);
+    let name = known.map_or("", |known| known.name);
+    if is_shown(character) {
+        write!(text, "{character} ")?;
+    }
+    write!(text, "(U+{code:04X}")?;
+    text.push_str(if name.is_empty() { "" } else { ", " })?;
+    write!(
+        text,
+        "{name}) is written in {} octets, and the sign reads octets; font {font} has no character {number}",
+        count_word(count)
+    )?;
+    let Some(characters) = characters else {
+        return Ok(());
+    };
+    match (u16::try_from(code), known.and_then(|known| known.plain)) {
+        (Ok(code), _) if characters.has(code) => write!(text, "; write [hc{code:X}]"),
+        (_, Some(plain)) => write_plain(text, plain, characters),
+        _ => write!(text, "; it has{}", characters.words()),
+    }
+}
+
 impl Place<'_> {
     /// The body of the tag that stands at the place.
     fn body(&self) -> Option<&[u8]> {
@@ -78,24 +162,39 @@ impl Place<'_> {
         };
         text.push_str("the sign takes no tag '")?;
         write_body(text, body)?;
-        match left_out(body) {
-            Some(purpose) => write!(
+        if let Some(purpose) = left_out(body) {
+            return write!(
                 text,
                 "'; the standard has such a tag for {purpose}, and this profile leaves it out"
-            ),
-            None => text.push_str("'; no tag of the standard begins so"),
+            );
         }
+        text.push_str("'; no tag of the standard begins so")?;
+        match (meant(body), nearest(self.alloc, body)?) {
+            (Some(tag), _) => write!(text, "; perhaps {tag} is meant"),
+            (None, Some(name)) => write!(text, "; perhaps '{name}' is meant"),
+            (None, None) => Ok(()),
+        }
+    }
+
+    /// Says what is wrong with a rectangle.
+    fn write_rectangle(&self, text: &mut String, x: u32, y: u32) -> Result<(), AllocError> {
+        if x == 0 || y == 0 {
+            return text.push_str(
+                "the column and the row of a rectangle are counted from 1, and one of them is 0",
+            );
+        }
+        write!(
+            text,
+            "the rectangle isn't inside the sign, which has {} by {} pixels",
+            self.sign.width(),
+            self.sign.height()
+        )
     }
 
     /// Says how a tag is written.
     fn write_value(&self, text: &mut String) -> Result<(), AllocError> {
-        if let Some(Tag::Rect { .. }) = self.tag() {
-            return write!(
-                text,
-                "the rectangle isn't inside the sign, which has {} by {} pixels",
-                self.sign.width(),
-                self.sign.height()
-            );
+        if let Some(Tag::Rect { x, y, .. }) = self.tag() {
+            return self.write_rectangle(text, x, y);
         }
         match self.body().and_then(form_of) {
             Some(form) => write!(text, "this tag is written {form}"),
@@ -144,20 +243,42 @@ impl Place<'_> {
         Ok(())
     }
 
-    /// Says which characters the font has.
-    fn write_characters(&self, text: &mut String, font: u8) -> Result<(), AllocError> {
-        let number = match (piece_at(self.message, self.at), self.tag()) {
+    /// The number of the character at the place.
+    fn number(&self) -> u16 {
+        match (piece_at(self.message, self.at), self.tag()) {
             (_, Some(Tag::HexChar(number))) => number,
             (Some((Piece::Char(octet), _)), _) => u16::from(octet),
             _ => 0,
-        };
+        }
+    }
+
+    /// Says which characters the font has, and what to write.
+    fn write_characters(&self, text: &mut String, font: u8) -> Result<(), AllocError> {
+        let number = self.number();
+        let characters = self.characters(font);
+        if let (128..=255, None, Some(encoded)) = (
+            number,
+            self.tag(),
+            encoded_around(self.message, self.at),
+        ) {
+            return write_encoded(text, font, number, encoded, characters);
+        }
         write!(text, "font {font} has no character {number}")?;
         if number > 32 && number < 127 {
             write!(text, " '{}'", char::from(number as u8))?;
         }
-        match self.characters(font) {
-            Some(characters) => write!(text, "; it has{}", characters.words()),
-            None => Ok(()),
+        if number == TAB {
+            return text.push_str(", which is a tab; write spaces");
+        }
+        let Some(characters) = characters else {
+            return Ok(());
+        };
+        write!(text, "; it has{}", characters.words())?;
+        match other_case(number) {
+            Some(other) if characters.has(u16::from(other)) => {
+                write!(text, "; write {}", char::from(other))
+            }
+            _ => Ok(()),
         }
     }
 

@@ -101,7 +101,8 @@ fn lay(sign: &Terms<'_>, cursor: &Cursor, lines: &LineTable, next: NextItem) -> 
     requires ordered { IsOrdered lines.now }
     requires stands { (octets : List ℕ) × (before rest : List LaidItem) × (item : LaidItem)
         × IsBetween sign.now octets before (item ∷ rest) cursor.now }
-    ensures read { (octets : List ℕ) (before rest : List LaidItem) (item : LaidItem) → IsBetween sign.now octets before (item ∷ rest) cursor.now
+    ensures read { (octets : List ℕ) (before rest : List LaidItem) (item : LaidItem)
+        → IsBetween sign.now octets before (item ∷ rest) cursor.now
         → HasCounted (whole_area sign.now before (item ∷ rest)) lines.now → IsItemRead item.item next → IsRead item result }
     ensures len { result.len ≡ next.len }
 {
@@ -118,7 +119,8 @@ fn lay_filled(sign: &Terms<'_>, cursor: &Cursor, lines: &LineTable, next: NextIt
     requires line_just { (2 ≤ cursor.now.state.attributes.line_just) × (cursor.now.state.attributes.line_just ≤ 5) }
     requires page_just { (2 ≤ cursor.now.state.attributes.page_just) × (cursor.now.state.attributes.page_just ≤ 4) }
     requires below { IsBelow (2 ^ 43) cursor.now.state.area }
-    ensures read { (octets : List ℕ) (before rest : List LaidItem) (item : LaidItem) → IsBetween sign.now octets before (item ∷ rest) cursor.now
+    ensures read { (octets : List ℕ) (before rest : List LaidItem) (item : LaidItem)
+        → IsBetween sign.now octets before (item ∷ rest) cursor.now
         → HasCounted (whole_area sign.now before (item ∷ rest)) lines.now → IsItemRead item.item next → IsRead item result }
     ensures len { result.len ≡ next.len }
 {
@@ -151,7 +153,8 @@ fn draw_item(
     plane: &mut Plane,
 )
     requires sound { IsSound sign.now }
-    requires known { (before rest : List LaidItem) × (item : LaidItem) × IsBetween sign.now source.old.octets before (item ∷ rest) cursor.old
+    requires known { (before rest : List LaidItem) × (item : LaidItem)
+        × IsBetween sign.now source.old.octets before (item ∷ rest) cursor.old
         × IsRead item next × HasCounted (whole_area sign.now before (item ∷ rest)) lines.now }
     requires low { IsLow lines.now }
     requires ordered { IsOrdered lines.now }

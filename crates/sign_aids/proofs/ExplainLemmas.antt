@@ -1,16 +1,19 @@
 -- Messages that are explained one after the other.
-use Rattle.std.proofs.Common.{◌≡◌, ◌≢◌, ◌⊎◌, ℕ, ◌+◌, ◌-◌, ◌<◌, ◌≤◌, Bool, List, [], ◌∷◌, ◌++◌, length, Option, refl, arith, sym, ap, ◌∙◌, subst, append_assoc, append-nil, inl, inr}
+use Rattle.std.proofs.Common.{◌≡◌, ◌≢◌, ◌⊎◌, ℕ, ◌+◌, ◌-◌, ◌<◌, ◌≤◌, Bool, true, false, if◌then◌else◌, List, [], ◌∷◌, ◌++◌, length, Option, refl, arith, sym, ap, ◌∙◌, subst, append_assoc, append-nil, inl, inr, take, Ok, Err}
 use Rattle.std.specs.Io.KnownBytes.{Appends, Consumes, IsAtEnd}
 use Rattle.std.proofs.KnownBytes.{Appends-nil, Appends-trans, Consumes-nil, Consumes-trans}
 use Rattle.std.proofs.lemmas.Grind.{flat_map-append}
-use Rattle.std.proofs.lemmas.List.{length-append}
+use Rattle.std.specs.Io.BufRead.{ends_with_byte}
+use Rattle.std.proofs.lemmas.Bool.{cases_Bool}
+use Rattle.std.proofs.lemmas.List.{length-append, length-take, take_all}
 use Rattle.std.proofs.lemmas.List.Sums.{sum_by-append}
 use Rattle.message_report.specs.Explanation.{Explains, takes}
 use Rattle.tool_streams.specs.declared.fault.ToolFault.{ToolFault}
 use Rattle.tool_streams.specs.declared.fault.ToolFault.TheVariants as faults
 use Rattle.tool_streams.specs.declared.lines.LineStart.{LineStart}
 use Rattle.sign_aids.specs.declared.explain.Counts.{Counts}
-use Rattle.sign_aids.specs.Explain.{Asking, BeginsToExplain, Explained, ExplainedAll, ExplainsLast, ExplainsLines, IsMessageFault, refused_of, refused_one}
+use Rattle.sign_aids.specs.declared.explain.NextMessage.TheVariants.{Last}
+use Rattle.sign_aids.specs.Explain.{Asking, BeginsToExplain, Explained, ExplainedAll, ExplainsLast, ExplainsLines, IsMessageFault, ReadsMessage, TellsMessage, refused_of, refused_one}
 use Rattle.tool_streams.specs.Lines.{IsOneLine, octets_of, text_of}
 use Rattle.tool_streams.specs.Streams.{FailsAfter}
 use Rattle.sign_tool.specs.Serving.{last_line}
@@ -86,7 +89,7 @@ module _ (asking : Asking) where
     explains = one_line place.number line text one short is;
     writes = writes;
     messages_is = refl;
-    refused_is = count;
+    refused_is = let one : refused_of asking.sign (line ∷ []) ≡ refused_one asking.sign line = omega arith in count ∙ sym one;
   }
 
   -- lines, and more lines
@@ -104,6 +107,15 @@ module _ (asking : Asking) where
     messages_is = let both = length-append e.lines f.lines in omega (arith, both, e.messages_is, f.messages_is);
     refused_is = let both = sum_by-append (refused_one asking.sign) e.lines f.lines in omega (arith, both, e.refused_is, f.refused_is);
   }
+
+  -- lines, and one more, which is counted
+  pub explained_with : (place middle_place place' : LineStart) (input between input' output middle output' : Option (List ℕ)) → (counts counts' : Counts) (more : ℕ)
+      → Explained asking place middle_place input between output middle counts.messages counts.refused → Explained asking middle_place place' between input' middle output' 1 more
+      → counts'.messages ≡ counts.messages + 1 → counts'.refused ≡ counts.refused + more → Explained asking place place' input input' output output' counts'.messages counts'.refused
+  explained_with place middle_place place' input between input' output middle output' counts counts' more e f messages refused =
+      let both = explained_more place middle_place place' input between input' output middle output' counts.messages counts.refused 1 more e f in
+      subst (λ n. Explained asking place place' input input' output output' n counts'.refused) (sym messages)
+      (subst (λ n. Explained asking place place' input input' output output' (counts.messages + 1) n) (sym refused) both)
 
   -- lines, and then the end
   pub explained_end : (place place' : LineStart) (input between input' output middle output' : Option (List ℕ)) → (counts : Counts) → Explained asking place place' input between output middle counts.messages counts.refused
@@ -130,7 +142,7 @@ module _ (asking : Asking) where
     let messages_are : counts.messages ≡ length (e.lines ++ f.line ∷ []) = let both = length-append e.lines (f.line ∷ []) in omega (arith, both, e.messages_is, counted) in
     let refused_are : counts.refused ≡ refused_of asking.sign (e.lines ++ f.line ∷ []) =
         let both = sum_by-append (refused_one asking.sign) e.lines (f.line ∷ []) in
-        let one : refused_of asking.sign (f.line ∷ []) ≡ refused_one asking.sign f.line = refl in
+        let one : refused_of asking.sign (f.line ∷ []) ≡ refused_one asking.sign f.line = omega arith in
         omega (arith, both, one, e.refused_is, f.refused_is, refusals) in
     record {
       lines = e.lines;
@@ -164,7 +176,7 @@ module _ (asking : Asking) where
     explains =
         let all = lines_more place.number e.lines (f.lines ++ f.told) e.text (f.sent ++ f.unsent) e.explains (subst (λ n. ExplainsLines asking n (f.lines ++ f.told) (f.sent ++ f.unsent)) e.number f.explains) in
         subst (λ l. ExplainsLines asking place.number l ((e.text ++ f.sent) ++ f.unsent)) (sym (append_assoc e.lines f.lines f.told))
-        (subst (ExplainsLines asking place.number (e.lines ++ f.lines ++ f.told)) (sym (append_assoc e.text f.sent f.unsent)) all);
+        (subst (ExplainsLines asking place.number (e.lines ++ (f.lines ++ f.told))) (sym (append_assoc e.text f.sent f.unsent)) all);
     writes = Appends-trans output middle output' e.text f.sent e.writes f.writes;
     whole = f.whole;
   }
@@ -248,3 +260,50 @@ module _ (asking : Asking) where
     writes = writes;
     whole = λ other. absurd (other refl);
   }
+
+  -- a line is read, and memory is refused, or the beginning of its explanation is written
+  pub begins_whole : (place : LineStart) (number left : ℕ) (input input' output output' : Option (List ℕ)) → (line : List ℕ) (e : ToolFault) → Consumes input input' (line ++ 10 ∷ []) → IsOneLine line
+      → length line + 1 + left ≡ place.left → length (text_of line) ≤ 8300 → number ≡ place.number → TellsMessage asking number line output output' (Err e)
+      → BeginsToExplain asking place input input' output output' e
+  begins_whole place number left input input' output output' line e reads one room short same (inl (is, writes)) =
+      subst (λ fault. BeginsToExplain asking place input input' output output' fault) (sym is) (begins_quiet place input input' output output' (line ++ 10 ∷ []) faults.Memory reads tt writes)
+  begins_whole place number left input input' output output' line e reads one room short same (inr (is, (sent, unsent, explains, writes))) =
+      let here = subst (λ n. Explains asking.telling asking.sign asking.name (n - asking.before) (text_of line) (sent ++ unsent)) same explains in
+      subst (λ fault. BeginsToExplain asking place input input' output output' fault) (sym is) (begins_one place left input input' output output' line sent unsent reads one room short here writes)
+
+  -- what stands behind the last line feed is read, and memory is refused, or the beginning of its explanation is written
+  pub begins_rest : (place : LineStart) (number : ℕ) (input input' output output' : Option (List ℕ)) → (line : List ℕ) (e : ToolFault) → Consumes input input' line → IsAtEnd input' → IsOneLine line
+      → length (text_of line) ≤ 8300 → number ≡ place.number → TellsMessage asking number line output output' (Err e)
+      → BeginsToExplain asking place input input' output output' e
+  begins_rest place number input input' output output' line e reads end one short same (inl (is, writes)) =
+      subst (λ fault. BeginsToExplain asking place input input' output output' fault) (sym is) (begins_quiet place input input' output output' line faults.Memory reads tt writes)
+  begins_rest place number input input' output output' line e reads end one short same (inr (is, (sent, unsent, explains, writes))) =
+      let here = subst (λ n. Explains asking.telling asking.sign asking.name (n - asking.before) (text_of line) (sent ++ unsent)) same explains in
+      subst (λ fault. BeginsToExplain asking place input input' output output' fault) (sym is) (begins_last place input input' output output' line sent unsent reads end one short here writes)
+
+-- a text is no longer than its line
+text_short : (line : List ℕ) → length (text_of line) ≤ length line
+text_short line = elim (cases_Bool (ends_with_byte 13 line)) [
+  | inl is ↦ rw is (omega (arith, length-take (length line - 1) line))
+  | inr isn't ↦ rw isn't (omega arith)
+]
+
+-- what stands behind the last line feed is read
+pub last_read : (place place' : LineStart) (input input' : Option (List ℕ)) → (taken line : List ℕ) → line ≡ take 8301 taken → length line ≤ 8300 → Consumes input input' taken → IsAtEnd input' → IsOneLine taken
+    → 0 < length taken → length taken ≤ place.left → ReadsMessage place place' input input' line (Ok Last)
+last_read place place' input input' taken line is short reads end one some room =
+    let count : length line ≡ length (take 8301 taken) = ap length is in
+    let few : length taken ≤ 8300 = omega (arith, count, short, length-take 8301 taken) in
+    let all : line ≡ taken = is ∙ take_all 8301 taken (omega (arith, few)) in
+    subst (λ l. ReadsMessage place place' input input' l (Ok Last)) (sym all) (reads, end, one, some, room, omega (arith, few, text_short taken))
+
+-- or it has too many octets
+pub too_long : (taken line : List ℕ) → line ≡ take 8301 taken → 8300 < length line → 8300 < length taken
+too_long taken line is long =
+    let count : length line ≡ length (take 8301 taken) = ap length is in
+    omega (arith, count, long, length-take 8301 taken)
+
+-- one message is refused once, or not
+pub one_at_most : (is_taken : Bool) → (if is_taken then 0 else 1) ≤ 1
+one_at_most true = omega arith
+one_at_most false = omega arith

@@ -78,7 +78,8 @@ first_steps [] = 1
 first_steps (item ∷ rest) = 2 * length (spelling item) - 1
 
 -- the area that begins at the cursor was read: these are its items, and those behind it (own)
-pub record IsAreaRead (sign : SignData) (before behind : List LaidItem) (cursor : Cursor) (read : AreaLines) (source source' : Counted) : Type
+pub record IsAreaRead (sign : SignData) (before behind : List LaidItem) (cursor : Cursor) (read : AreaLines) (source source' : Counted) :
+    Type
     0 where
   pub area : List LaidItem
   pub rest : List LaidItem

@@ -10,7 +10,8 @@ use Rattle.multi_layout.specs.kept.Cursors.{IsBetween, meant, LaidItem}
 
 -- the cursor stands where a page of an accepted string begins (own)
 abbrev pub IsPageStart : SignData → List ℕ → Cursor → Type 0
-IsPageStart sign octets cursor = (before behind : List LaidItem) × IsBetween sign octets before behind cursor × BeginsPage (map meant before)
+IsPageStart sign octets cursor =
+    (before behind : List LaidItem) × IsBetween sign octets before behind cursor × BeginsPage (map meant before)
 
 -- the page that begins at the old cursor is passed: the new one stands behind the `np` that ends it, or at the end of the string (own)
 pub record IsPagePassed (sign : SignData) (octets : List ℕ) (before behind : List LaidItem) (old new : Cursor) : Type 0 where
