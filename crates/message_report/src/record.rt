@@ -166,13 +166,7 @@ fn picture_value(
 
 /// The record of a page.
 #[tactic(auto, unfolding(crate::specs::Records::page_record))]
-fn page_value(
-    alloc: Global,
-    page: u8,
-    on: u8,
-    off: u8,
-    picture: Value,
-) -> Result<Value, AllocError>
+fn page_value(alloc: Global, page: u8, on: u8, off: u8, picture: Value) -> Result<Value, AllocError>
     ensures { IfOk result (λ v. view v ≡ page_record page on off (view picture)) }
 {
     json!(in alloc; {"number": u32::from(page) + 1, "off": off, "on": on, "picture": picture})

@@ -200,12 +200,7 @@ impl<'a> Sight<'a> {
     }
 
     /// The colours of a page of a message with added tags at a moment, or `None` if there are none.
-    fn colours(
-        &self,
-        octets: &[u8],
-        page: u8,
-        moment: u64,
-    ) -> Result<Option<Vec<u8>>, AllocError> {
+    fn colours(&self, octets: &[u8], page: u8, moment: u64) -> Result<Option<Vec<u8>>, AllocError> {
         if octets.len() > LONGEST {
             return Ok(None);
         }

@@ -68,7 +68,10 @@ impl<'a> Reading<'a> {
     fn end_line(&mut self) -> Result<(), AllocError> {
         if let Some(at) = self.space {
             if self.line_just > LEFT {
-                self.say(at, "a space at the end of the line takes room and moves the line")?;
+                self.say(
+                    at,
+                    "a space at the end of the line takes room and moves the line",
+                )?;
             }
         }
         self.space = None;

@@ -137,24 +137,24 @@ module _ (asking : Asking) where
       → Explained asking place place' input between output middle messages refused → ExplainsLast asking place' between input' middle output' more
       → counts.messages ≡ messages + 1 → counts.refused ≡ refused + more → ExplainedAll asking place input input' output output' counts
   explained_last place place' input between input' output middle output' messages refused more counts e f counted refusals =
-    let last = last_is f.line f.some in
-    let behind = lines_more place.number e.lines (f.line ∷ []) e.text f.text e.explains (subst (λ n. ExplainsLines asking n (f.line ∷ []) f.text) e.number f.explains) in
-    let messages_are : counts.messages ≡ length (e.lines ++ f.line ∷ []) = let both = length-append e.lines (f.line ∷ []) in omega (arith, both, e.messages_is, counted) in
-    let refused_are : counts.refused ≡ refused_of asking.sign (e.lines ++ f.line ∷ []) =
-        let both = sum_by-append (refused_one asking.sign) e.lines (f.line ∷ []) in
-        let one : refused_of asking.sign (f.line ∷ []) ≡ refused_one asking.sign f.line = omega arith in
-        omega (arith, both, one, e.refused_is, f.refused_is, refusals) in
-    record {
-      lines = e.lines;
-      rest = f.line;
-      text = e.text ++ f.text;
-      reads = Consumes-trans input between input' (octets_of e.lines) f.line e.reads f.reads;
-      end = f.end;
-      explains = subst (λ l. ExplainsLines asking place.number (e.lines ++ l) (e.text ++ f.text)) (sym last) behind;
-      writes = Appends-trans output middle output' e.text f.text e.writes f.writes;
-      messages_is = subst (λ l. counts.messages ≡ length (e.lines ++ l)) (sym last) messages_are;
-      refused_is = subst (λ l. counts.refused ≡ refused_of asking.sign (e.lines ++ l)) (sym last) refused_are;
-    }
+      let last = last_is f.line f.some in
+      let behind = lines_more place.number e.lines (f.line ∷ []) e.text f.text e.explains (subst (λ n. ExplainsLines asking n (f.line ∷ []) f.text) e.number f.explains) in
+      let messages_are : counts.messages ≡ length (e.lines ++ f.line ∷ []) = let both = length-append e.lines (f.line ∷ []) in omega (arith, both, e.messages_is, counted) in
+      let refused_are : counts.refused ≡ refused_of asking.sign (e.lines ++ f.line ∷ []) =
+      let both = sum_by-append (refused_one asking.sign) e.lines (f.line ∷ []) in
+      let one : refused_of asking.sign (f.line ∷ []) ≡ refused_one asking.sign f.line = omega arith in
+      omega (arith, both, one, e.refused_is, f.refused_is, refusals) in
+      record {
+        lines = e.lines;
+        rest = f.line;
+        text = e.text ++ f.text;
+        reads = Consumes-trans input between input' (octets_of e.lines) f.line e.reads f.reads;
+        end = f.end;
+        explains = subst (λ l. ExplainsLines asking place.number (e.lines ++ l) (e.text ++ f.text)) (sym last) behind;
+        writes = Appends-trans output middle output' e.text f.text e.writes f.writes;
+        messages_is = subst (λ l. counts.messages ≡ length (e.lines ++ l)) (sym last) messages_are;
+        refused_is = subst (λ l. counts.refused ≡ refused_of asking.sign (e.lines ++ l)) (sym last) refused_are;
+      }
 
   -- lines, and then a fault
   pub begins_more : (place place' : LineStart) (input between input' output middle output' : Option (List ℕ)) → (messages refused : ℕ) (fault : ToolFault) → Explained asking place place' input between output middle messages refused

@@ -66,20 +66,20 @@ IsMessageFault number left more input e = IsLineFault number left more input e
 -- some lines are read, from this place on, and perhaps more, which has this fault, and their explanations
 -- are written, or their beginning, if the writer fails, also at what stands behind the last line feed (own)
 pub record BeginsToExplain (asking : Asking) (place : LineStart) (input input' output output' : Option (List ℕ)) (e : ToolFault) : Type 0
-    where
-  pub lines : List (List ℕ)
-  pub more : List ℕ
-  pub told : List (List ℕ)
-  pub sent : List ℕ
-  pub unsent : List ℕ
-  pub left : ℕ
-  pub reads : Consumes input input' (octets_of lines ++ more)
-  pub room : length (octets_of lines) + left ≡ place.left
-  pub fault : IsMessageFault (place.number + length lines) left more input' e
-  pub last : (told ≡ []) ⊎ ((told ≡ more ∷ []) × (e ≡ faults.Write) × IsAtEnd input')
-  pub explains : ExplainsLines asking place.number (lines ++ told) (sent ++ unsent)
-  pub writes : Appends output output' sent
-  pub whole : e ≢ faults.Write → unsent ≡ []
+  where
+    pub lines : List (List ℕ)
+    pub more : List ℕ
+    pub told : List (List ℕ)
+    pub sent : List ℕ
+    pub unsent : List ℕ
+    pub left : ℕ
+    pub reads : Consumes input input' (octets_of lines ++ more)
+    pub room : length (octets_of lines) + left ≡ place.left
+    pub fault : IsMessageFault (place.number + length lines) left more input' e
+    pub last : (told ≡ []) ⊎ ((told ≡ more ∷ []) × (e ≡ faults.Write) × IsAtEnd input')
+    pub explains : ExplainsLines asking place.number (lines ++ told) (sent ++ unsent)
+    pub writes : Appends output output' sent
+    pub whole : e ≢ faults.Write → unsent ≡ []
 
 -- the next message is read: a line, or what stands behind the last line feed, or there is none; or there is a fault (own)
 abbrev pub ReadsMessage : LineStart → LineStart → Option (List ℕ) → Option (List ℕ) → List ℕ → Result NextMessage ToolFault → Type 0
@@ -127,16 +127,16 @@ ExplainsNext asking place place' input input' output output' (Err e) = BeginsToE
 
 -- all messages that are left are read and explained, with what stands behind the last line feed, and counted (own)
 pub record ExplainedAll (asking : Asking) (place : LineStart) (input input' output output' : Option (List ℕ)) (counts : Counts) : Type 0
-    where
-  pub lines : List (List ℕ)
-  pub rest : List ℕ
-  pub text : List ℕ
-  pub reads : Consumes input input' (octets_of lines ++ rest)
-  pub end : IsAtEnd input'
-  pub explains : ExplainsLines asking place.number (lines ++ last_line rest) text
-  pub writes : Appends output output' text
-  pub messages_is : counts.messages ≡ length (lines ++ last_line rest)
-  pub refused_is : counts.refused ≡ refused_of asking.sign (lines ++ last_line rest)
+  where
+    pub lines : List (List ℕ)
+    pub rest : List ℕ
+    pub text : List ℕ
+    pub reads : Consumes input input' (octets_of lines ++ rest)
+    pub end : IsAtEnd input'
+    pub explains : ExplainsLines asking place.number (lines ++ last_line rest) text
+    pub writes : Appends output output' text
+    pub messages_is : counts.messages ≡ length (lines ++ last_line rest)
+    pub refused_is : counts.refused ≡ refused_of asking.sign (lines ++ last_line rest)
 
 -- the messages that are left are read to their end and explained, or there is a fault (own)
 abbrev pub ExplainsRest :
@@ -152,7 +152,7 @@ ExplainsInput sample telling name before input input' output output' result =
     ((taken : List ℕ) × (setup : Setup) × (place : LineStart) × (between : Option (List ℕ)) × Leads sample taken (Ok setup) place
     × Consumes input between taken
     × ExplainsRest (record { sign = setup.sign; telling = telling; name = name; before = before }) place between input' output output'
-          result)
+    result)
     ⊎ ((e : ToolFault) × (result ≡ Err e) × Fails sample input input' e × Appends output output' [])
 
 -- a place is further on in an input, whose lines are no more than its octets (own)

@@ -97,7 +97,7 @@ impl Asker {
         text: &mut Vec<u8>,
     ) -> Result<Told, AllocError>
         ensures told { OnOk result
-                (Explains self.now.telling self.now.sign self.now.name (number - self.now.before) (text_of line.now.items) text.new.items) }
+            (Explains self.now.telling self.now.sign self.now.name (number - self.now.before) (text_of line.now.items) text.new.items) }
         ensures taken { IfOk result (λ told. told.is_taken ≡ takes self.now.sign (text_of line.now.items)) }
     {
         text.clear();
@@ -144,7 +144,7 @@ fn explain_next<R: Read, W: Write>(
 ) -> Result<NextTold, ToolFault>
     requires { place.old.number + place.old.left ≤ input_limit + 1 }
     ensures explains { ExplainsNext asker.now place.old place.new (R.remaining reader.old) (R.remaining reader.new) (W.contents writer.old)
-            (W.contents writer.new) result }
+        (W.contents writer.new) result }
     ensures place { IfOk result (IsFurther place.old place.new) }
 {
     match read_next(place, line, reader) {
@@ -190,7 +190,7 @@ fn explain_rest<R: Read, W: Write>(
 ) -> Result<Counts, ToolFault>
     requires { place.number + place.left ≤ input_limit + 1 }
     ensures { ExplainsRest asker.now place (R.remaining reader.old) (R.remaining reader.new) (W.contents writer.old) (W.contents writer.new)
-            result }
+        result }
 {
     let mut line = Vec::new(alloc);
     let mut text = Vec::new(alloc);
@@ -201,7 +201,9 @@ fn explain_rest<R: Read, W: Write>(
         warnings: 0,
     };
     loop {
-        match explain_next(alloc, asker, &mut place, &mut line, &mut text, reader, writer) {
+        match explain_next(
+            alloc, asker, &mut place, &mut line, &mut text, reader, writer,
+        ) {
             Ok(NextTold::Whole(told)) => counts = counts.with(told),
             Ok(NextTold::Last(told)) => return Ok(counts.with(told)),
             Ok(NextTold::End) => return Ok(counts),
@@ -246,7 +248,7 @@ pub fn run_explain<R: Read, W: Write>(
     writer: &mut W,
 ) -> Result<Counts, ToolFault>
     ensures explained { ExplainsInput sample telling name.now before (R.remaining reader.old) (R.remaining reader.new)
-            (W.contents writer.old) (W.contents writer.new) result }
+        (W.contents writer.old) (W.contents writer.new) result }
 {
     let start = match begin(alloc, sample, reader) {
         Ok(start) => start,

@@ -7,7 +7,8 @@ use crate::commands::picture::answer_picture;
 use crate::commands::serve::answer_serve;
 use crate::commands::sign::answer_sign;
 use crate::ends::{
-    DONE, FAULTED, UNREAD, answer_words, end_of, end_of_answer, end_of_lines, end_of_picture, say_of_file,
+    DONE, FAULTED, UNREAD, answer_words, end_of, end_of_answer, end_of_lines, end_of_picture,
+    say_of_file,
 };
 use crate::front::Front;
 use crate::words::{Request, request_of};

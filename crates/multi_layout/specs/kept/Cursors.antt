@@ -60,7 +60,7 @@ abbrev pub pieces_of : SignData → List Item → List LaidItem
 pieces_of sign items =
     let all = map meaning items in
     each_after (λ before item. record { item = item; as_laid = laid_item sign.line_fill sign all (map meaning before) (meaning item) })
-        items
+    items
 
 -- the cursor stands between these pieces of an accepted string (own)
 pub record IsBetween (sign : SignData) (octets : List ℕ) (before behind : List LaidItem) (cursor : Cursor) : Type 0 where

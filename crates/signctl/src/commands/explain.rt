@@ -79,7 +79,9 @@ fn message_option<'a>(alloc: Global) -> Result<Arg<'a>, AllocError> {
         .short('m')
         .long("message")
         .value_name("TEXT")
-        .help("Explains this message, with --sign or --sample, and reads no input; it can be given more than once")
+        .help(
+            "Explains this message, with --sign or --sample, and reads no input; it can be given more than once",
+        )
         .action(ArgAction::Append)
         .allow_hyphen_values(true)
         .conflicts_with("file")
@@ -137,10 +139,7 @@ fn lines_of(alloc: Global, messages: &[&str]) -> Result<Vec<u8>, AllocError> {
 }
 
 /// Where the messages come from.
-fn messages_of<'a>(
-    alloc: Global,
-    explain: &ArgMatches<'a>,
-) -> Result<Messages<'a>, AllocError> {
+fn messages_of<'a>(alloc: Global, explain: &ArgMatches<'a>) -> Result<Messages<'a>, AllocError> {
     if let Some(messages) = explain.get_strs("message") {
         return Ok(Messages::Given(lines_of(alloc, messages)?));
     }

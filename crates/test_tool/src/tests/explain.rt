@@ -51,12 +51,28 @@ fn explanations_end_where_their_streams_fail(rt: HostRuntime) {
             room,
             fails: room % 2 == 1,
         };
-        let end = run_explain(alloc, true, TELLING, b"-", 0, &mut MESSAGES.as_bytes(), &mut writer);
+        let end = run_explain(
+            alloc,
+            true,
+            TELLING,
+            b"-",
+            0,
+            &mut MESSAGES.as_bytes(),
+            &mut writer,
+        );
         let front = writer.taken.as_slice() == &EXPLAINED.as_bytes()[..room];
         assert!(rt; end == Err(ToolFault::Write) && front, "room for {room}");
     }
     let mut output = Vec::new(alloc);
-    let end = run_explain(alloc, true, TELLING, b"-", 0, &mut MESSAGES.as_bytes(), &mut output);
+    let end = run_explain(
+        alloc,
+        true,
+        TELLING,
+        b"-",
+        0,
+        &mut MESSAGES.as_bytes(),
+        &mut output,
+    );
     so(
         &rt,
         end == Ok(COUNTS) && output.as_slice() == EXPLAINED.as_bytes(),

@@ -24,9 +24,12 @@ returns-in_ok-push_accepted-in-Ok-clause-told c =
     let count = ExplanationLemmas.pages_are sign message pages on_message (omega (arith, short)) ∙ ap (λ l. pages_of (meanings l)) (sym same) in
     let (told, is, tells) = c.in_ok-push_accepted-in-Ok.ensures in
     let counted : IsVerdict sign message (Accepted (pages_of (meanings octets))) = subst (λ n. IsVerdict sign message (Accepted n)) count on_message in
-    let on_octets = subst (λ l. IsVerdict sign l (Accepted (pages_of (meanings octets)))) (sym same) counted in
-    (told, is, subst (λ s. Explains c.args.telling s c.args.name.now c.args.line message told) c.self.view_is
-    (ExplanationLemmas.explained c.args.telling sign c.args.name.now octets message c.args.line _ told short same on_octets tells))
+    let on_octets = subst (λ l. IsVerdict sign l (Accepted (pages_of (meanings octets)))) (sym same) counted in (
+      told,
+      is,
+      subst (λ s. Explains c.args.telling s c.args.name.now c.args.line message told) c.self.view_is
+          (ExplanationLemmas.explained c.args.telling sign c.args.name.now octets message c.args.line _ told short same on_octets tells),
+    )
 
 pub returns-in_ok-push_accepted-in-Ok-clause-taken :
     goal.returns-in_ok-push_accepted-in-Ok-clause-taken
@@ -43,9 +46,12 @@ returns-in_ok-push_refusal-in-Err-clause-told c =
     let fault = c.in-Err.fault in
     let given = ap (λ (s : Counted). s.octets) c.new.ensures in
     let on_message : IsVerdict sign message (Refused fault.code fault.at) = subst (λ l. IsVerdict sign l (Refused fault.code fault.at)) given c.in-Err.ensures.refused in
-    let (told, is, tells) = c.in_ok-push_refusal-in-Err.ensures in
-    (told, is, subst (λ s. Explains c.args.telling s c.args.name.now c.args.line message told) c.self.view_is
-    (ExplanationLemmas.explained c.args.telling sign c.args.name.now message message c.args.line _ told (omega (arith, c.if-message-gt-MAX_MESSAGE.false)) refl on_message tells))
+    let (told, is, tells) = c.in_ok-push_refusal-in-Err.ensures in (
+      told,
+      is,
+      subst (λ s. Explains c.args.telling s c.args.name.now c.args.line message told) c.self.view_is
+          (ExplanationLemmas.explained c.args.telling sign c.args.name.now message message c.args.line _ told (omega (arith, c.if-message-gt-MAX_MESSAGE.false)) refl on_message tells),
+    )
 
 pub returns-in_ok-push_refusal-in-Err-clause-taken :
     goal.returns-in_ok-push_refusal-in-Err-clause-taken
