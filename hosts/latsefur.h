@@ -3,7 +3,7 @@
  * A host keeps two things as octets: the sign file, which describes the sign (docs/signs.md), and the texts, which are messages in
  * MULTI, the mark-up of NTCIP 1203 v03 (docs/multi.md). Each call of the first part reads the sign file, and all but the first a text or
  * several. The second part has a controller that the host holds: it keeps messages and shows them. A call answers with one of the outcomes,
- * and writes what it found where the host asked for it. docs/hosts.md has a first program, hosts/README.md the times of calls.
+ * and writes what it found where the host asked for it. hosts/c/README.md has first programs, hosts/README.md the times of calls.
  *
  * What the host keeps, for every call:
  *
