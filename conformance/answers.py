@@ -32,7 +32,7 @@ Case = dict[str, Any]
 Answers = dict[str, Case]
 COLOURS = "abcdefghij"
 
-# A program is asked for the pictures of so many strings at once.
+# A program is asked for the pictures of this many strings at once.
 AT_ONCE = 64
 
 

@@ -64,7 +64,7 @@ def clocks_of_flashes(text: Text) -> list[int]:
 
 
 def telling_clocks(text: Text, most: int) -> list[int]:
-    """Clocks at which something changes, at most so many."""
+    """Clocks at which something changes, at most this many."""
     pages, flashes = clocks_of_pages(text), clocks_of_flashes(text)
     found = pages[: text.pages()] + flashes + pages[text.pages() :]
     return sorted([clock for clock in dict.fromkeys(found) if clock >= 0][:most])

@@ -745,12 +745,12 @@ def frame_text(text: Text, clock: int, colour: int) -> list[bytes]:
 
 
 def check_limit(n: int) -> int:
-    """At most so many steps has the check of n octets."""
+    """The most steps of a check of n octets."""
     return 9 * n + 1
 
 
 def drawing_limit(n: int, tallest: int, octets: int) -> int:
-    """At most so many steps has the drawing of all pages; a plane has so many octets."""
+    """The most steps of drawing all pages on a plane of this many octets."""
     return 18 * n + 2 + tallest * n + octets * (n // 4 + 1)
 
 

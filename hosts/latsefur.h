@@ -3,7 +3,7 @@
  * A host keeps two things as octets: the sign file, which describes the sign (docs/signs.md), and the texts, which are messages in
  * MULTI, the mark-up of NTCIP 1203 v03 (docs/multi.md). Each call of the first part reads the sign file, and all but the first a text or
  * several. The second part has a controller that the host holds: it keeps messages and shows them. A call answers with one of the outcomes,
- * and writes what it found where the host asked for it. docs/hosts.md has first programs, and the times of the calls.
+ * and writes what it found where the host asked for it. docs/hosts.md has a first program, hosts/README.md the times of calls.
  *
  * What the host keeps, for every call:
  *
@@ -129,7 +129,7 @@ uint8_t latsefur_check(const uint8_t *sign_file, size_t sign_file_len, const uin
                        latsefur_verdict *verdict);
 
 /* Judges all of these texts, and reads the sign file once for all. It writes a verdict for each text, in the order of the texts, and
- * leaves the verdicts behind those as they were.
+ * leaves the verdicts after those as they were.
  *
  * The outcome is DONE if all texts were judged, whatever each verdict says. It is TOO_SMALL if there are fewer verdicts than texts. */
 uint8_t latsefur_check_all(const uint8_t *sign_file, size_t sign_file_len, const latsefur_text *texts, size_t texts_len,
@@ -147,7 +147,7 @@ uint8_t latsefur_shown_at(const uint8_t *sign_file, size_t sign_file_len, const 
  *
  * The rows go from the top, each with (width + 7) / 8 octets. The leftmost pixel is the highest bit of the first octet of its row, and
  * a bit is 1 if its pixel has the colour. Spare bits at the end of a row are 0. `plane` needs LATSEFUR_PLANE_SIZE(width, height)
- * octets, and what it has behind them is left as it was.
+ * octets, and what it has after them is left as it was.
  *
  * Another outcome: TOO_SMALL. The calls below may have it too. */
 uint8_t latsefur_plane_at(const uint8_t *sign_file, size_t sign_file_len, const uint8_t *text, size_t text_len, uint64_t clock,
@@ -159,7 +159,7 @@ uint8_t latsefur_plane_of_page(const uint8_t *sign_file, size_t sign_file_len, c
                                uint64_t phase, uint8_t colour, uint8_t *plane, size_t plane_len);
 
 /* Tells the colour of every pixel at a clock: an octet for each pixel, 0 to 9, row by row from the top and each row from the left.
- * 0 is black or dark. `colours` needs LATSEFUR_COLOURS_SIZE(width, height) octets, and what it has behind them is left as it was. */
+ * 0 is black or dark. `colours` needs LATSEFUR_COLOURS_SIZE(width, height) octets, and what it has after them is left as it was. */
 uint8_t latsefur_colours_at(const uint8_t *sign_file, size_t sign_file_len, const uint8_t *text, size_t text_len, uint64_t clock,
                             uint8_t *colours, size_t colours_len);
 

@@ -1,4 +1,4 @@
-"""Three hosts on one machine, on which the ways of docs/spreading.md are tried.
+"""Three hosts on one machine, on which the ways of README.md are tried.
 
 A host is a network namespace with an address of its own, a name of its own, processes that see no others, and files under /srv and /run
 that no other host sees; the rest of the file system is the machine's. `sshd` runs on it. A host dies as one does whose power fails: the network

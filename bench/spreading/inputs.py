@@ -3,7 +3,7 @@
 
     inputs.py FOLDER MESSAGES SIGNS
 
-`messages` has so many lines, some 29 octets each, of which a sign refuses some; `signs/` has so many sign files: the two larger signs of the
+`messages` has this many lines, some 29 octets each, of which a sign refuses some; `signs/` this many sign files: the two larger signs of the
 repository in other widths and heights.
 """
 import random

@@ -87,7 +87,7 @@ static const uint8_t *octets_of(const char *text) {
     return (const uint8_t *)text;
 }
 
-/* The number behind this key of the sign file, and how often these words stand in it. */
+/* The number after this key of the sign file, and how often these words stand in it. */
 static unsigned long number_at(const char *key) {
     const char *at = strstr((const char *)file, key);
     EXPECT(at != NULL);
@@ -299,7 +299,7 @@ static void test_order(void) {
     EXPECT(is_untouched());
 }
 
-/* A picture must fit exactly, and what is behind it stays. */
+/* A picture must fit exactly, and what comes after it stays. */
 static void test_sizes(void) {
     const uint8_t *text = octets_of("A[np]A");
     size_t plane = LATSEFUR_PLANE_SIZE(facts.width, facts.height), colours = LATSEFUR_COLOURS_SIZE(facts.width, facts.height);
@@ -480,7 +480,7 @@ static uint8_t *with_numbers(const char *const *keys, const char *const *numbers
     return copy;
 }
 
-/* This text so many times, and another behind it. */
+/* This text this many times, and another after it. */
 static char *repeated(const char *text, size_t times, const char *last) {
     size_t len = strlen(text), i;
     char *made = malloc(len * times + strlen(last) + 1);
@@ -622,7 +622,7 @@ static char *put_key(char *at) {
 }
 
 /* The stack that latsefur.h asks for is enough, also for tables that are nested as deeply as TOML lets them be here: a table by a name of
- * 80 parts, a key of 80 parts in it, and 80 tables in one another behind that, each with a key of 80 parts. */
+ * 80 parts, a key of 80 parts in it, and 80 tables in one another after that, each with a key of 80 parts. */
 static void test_stack(void) {
     static char nested[82 * 80 * 2 + 80 * 8 + 64];
     char *at = nested;

@@ -286,7 +286,7 @@ mod latsefur {
             (shown, colours)
         }
 
-        /// For how many tenths, at most so many, the display shows what it shows.
+        /// For how many tenths, at most this many, the display shows what it shows.
         pub fn next_change(&mut self, most: u32) -> u32 {
             let mut tenths = 0;
             unsafe { latsefur_next_change(&mut self.handle, most, &mut tenths) };
@@ -390,7 +390,7 @@ fn hold(agrees: bool, what: &str) {
     }
 }
 
-/// The pixels of a plane, each row behind the other.
+/// The pixels of a plane, row after row.
 fn pixels(plane: &[u8], width: usize) -> Vec<bool> {
     plane
         .chunks(width.div_ceil(8))

@@ -5,8 +5,12 @@ use Rattle.sign_font.specs.Sign.{CellData, FontData}
 use Rattle.font_bdf.specs.declared.setting.FontSetting.{FontSetting}
 use Rattle.font_bdf.specs.declared.setting.Outside.TheVariants.{Refuse, Skip, Widen}
 use Rattle.font_bdf.specs.Bitmap.{bits_value, is_bit, is_inside, is_lit, is_row, is_set_at, is_whole, is_within, octets_of}
-use Rattle.font_bdf.specs.Font.{advance_in, after, all_cells, before, cells_in, cells_of, cells_of_block, chosen, cropped, drawing_in, fitting, font_of_bdf, font_of_lines, font_spaced, head_of, if_apart, in_order, placed, put, rows_in}
-use Rattle.font_bdf.specs.Lines.{begins, lines, words}
+use Rattle.font_bdf.specs.Character.{advance_in, cells_in, cells_of, cells_of_block, drawing_in}
+use Rattle.font_bdf.specs.Chosen.{chosen}
+use Rattle.font_bdf.specs.Font.{cropped, font_of_bdf, font_of_lines, font_spaced, head_of, rows_in}
+use Rattle.font_bdf.specs.Order.{all_cells, if_apart, in_order, put}
+use Rattle.font_bdf.specs.Placed.{fitting, placed}
+use Rattle.font_bdf.specs.Lines.{after, before, begins, lines, words}
 use Rattle.font_bdf.specs.Numbers.{box_in, box_of, number_at, number_in, number_of}
 use Rattle.font_bdf.specs.Rows.{dark_rows}
 

@@ -4,7 +4,7 @@ use Rattle.std.specs.Prelude.{ℤ, ◌-ℤ◌}
 use Rattle.std.specs.Int.{int_max}
 use Rattle.std.specs.Option.{option_map}
 use Rattle.font_bdf.specs.Bitmap.{Drawing}
-use Rattle.font_bdf.specs.Font.{cell_with, fitting, wide_of, widened, widened_cells}
+use Rattle.font_bdf.specs.Placed.{cell_with, fitting, wide_of, widened, widened_cells}
 
 -- what doesn't fit the wider cell isn't taken
 pub widened_none : (drawing wider : Drawing) (number : ℕ) (wide w : ℤ) (height h : ℕ) → wider ≡ widened drawing → w ≡ wide_of drawing wide → h ≡ height

@@ -7,8 +7,7 @@ use Rattle.std.proofs.lemmas.Bool.{cases_Bool, ltb-true, ltb-false}
 use Rattle.std.proofs.lemmas.List.Splits.{slice_split_first}
 use Rattle.std.proofs.lemmas.List.{drop-map, length-map, take-map}
 use Rattle.std.proofs.lemmas.Option.{cond_some}
-use Rattle.font_bdf.specs.Font.{after, before}
-use Rattle.font_bdf.specs.Lines.{begins, is_blank, words}
+use Rattle.font_bdf.specs.Lines.{after, before, begins, is_blank, words}
 use Rattle.font_bdf.specs.Parts.{blocks_of, parts_of, texts, words_of}
 
 -- a list in which nothing passes is one part

@@ -8,8 +8,9 @@ use Rattle.font_bdf.specs.Lines.{word_at}
 use Rattle.octet_text.specs.Digits.{is_digit}
 use Rattle.font_bdf.specs.Parts.{texts}
 
--- a bitmap in a cell: the box of the font, how many rows the cells have fewer and more than it at the top, where the cell begins, counted
--- in columns from the origin, the box of the character, its columns and rows as counts, and the lines of its rows from the top (BDF, BITMAP)
+-- a bitmap in a cell: the box of the font, how many rows the cells have fewer and more than it at
+-- the top, where the cell begins, counted in columns from the origin, the box of the character, its
+-- columns and rows as counts, and the lines of its rows from the top (BDF, BITMAP)
 pub record Drawing : Type 0 where
   pub whole : PixelBox
   pub above : ℕ
@@ -87,7 +88,8 @@ is_fine drawing width height row column = not (is_bit (digits_at drawing row) co
 -- whether each line is a row of the box, and there is one for each (BDF, BITMAP)
 unfoldable pub is_whole : Drawing → Bool
 is_whole drawing =
-    length drawing.rows == drawing.count && list_all (λ row. is_row drawing.columns (digits_at drawing row)) (range_with_len 0 (length drawing.rows))
+    length drawing.rows == drawing.count
+    && list_all (λ row. is_row drawing.columns (digits_at drawing row)) (range_with_len 0 (length drawing.rows))
 
 -- whether a row of the box lights no pixel outside the cell (own)
 abbrev pub is_fine_row : Drawing → ℕ → ℕ → ℕ → Bool

@@ -1,8 +1,12 @@
 pub mod Bitmap
+pub mod Character
+pub mod Chosen
 pub mod Font
 pub mod Lines
 pub mod Numbers
+pub mod Order
 pub mod Parts
+pub mod Placed
 pub mod Reading
 pub mod Rows
 pub mod Tables

@@ -1,6 +1,7 @@
 -- The lines of a font in BDF, and their words.
-use Rattle.std.specs.Prelude.{ℕ, ◌||◌, ◌==◌, not, Bool, List, [], length, slice_index_or, Option, None, Some}
-use Rattle.std.specs.List.{filter, slice_split}
+use Rattle.std.specs.Prelude.{ℕ, ◌+◌, ◌||◌, ◌==◌, not, Bool, List, [], drop, length, slice_index_or, take, Option, None, Some}
+use Rattle.std.specs.List.{filter, position, slice_split}
+use Rattle.std.specs.Option.{option_map}
 use Rattle.std.specs.Str.{bytes_eq}
 
 -- what comes next is read from what was read, where something was (own)
@@ -28,3 +29,11 @@ word_at place line = slice_index_or (words line) place []
 -- whether a line begins with a word (BDF)
 unfoldable pub begins : List ℕ → List ℕ → Bool
 begins word line = bytes_eq (word_at 0 line) word
+
+-- the lines before the first one that begins with a word, where there is one (own)
+unfoldable pub before : List ℕ → List (List ℕ) → Option (List (List ℕ))
+before word lines = option_map (λ place. take place lines) (position (begins word) lines)
+
+-- the lines after the first one that begins with a word, where there is one (own)
+unfoldable pub after : List ℕ → List (List ℕ) → Option (List (List ℕ))
+after word lines = option_map (λ place. drop (place + 1) lines) (position (begins word) lines)

@@ -7,7 +7,8 @@ use Rattle.font_bdf.specs.declared.fault.BdfProblem.{BdfProblem}
 use Rattle.font_bdf.specs.declared.fault.BdfProblem.TheVariants.{Memory, NotTaken}
 use Rattle.font_bdf.specs.declared.rows.FontBox.{FontBox}
 use Rattle.font_bdf.specs.declared.setting.FontSetting.{FontSetting}
-use Rattle.font_bdf.specs.Font.{cells_of, if_apart}
+use Rattle.font_bdf.specs.Character.{cells_of}
+use Rattle.font_bdf.specs.Order.{if_apart}
 use Rattle.font_bdf.specs.Lines.{◌>>=◌}
 
 -- nothing is written, unless memory was refused (own)

@@ -9,7 +9,9 @@ use Rattle.font_bdf.specs.Font.{font_of_bdf}
 
 -- the keys of a sign file before its fonts (own)
 unfoldable pub front : List ℕ
-front = codes "width = 1024\nheight = 128\nscheme = 'classic'\nmax_pages = 1\nslots = 1\nbytes = 0\nmax_string = 1\n[defaults]\nfont = 1\nline = 3\npage = 3\npage_on = 0\npage_off = 0\nflash_on = 0\nflash_off = 0\nfore = 1\nback = 0\n"
+front =
+    codes "width = 1024\nheight = 128\nscheme = 'classic'\nmax_pages = 1\nslots = 1\nbytes = 0\nmax_string = 1\n"
+    ++ codes "[defaults]\nfont = 1\nline = 3\npage = 3\npage_on = 0\npage_off = 0\nflash_on = 0\nflash_off = 0\nfore = 1\nback = 0\n"
 
 -- whether a spacing is the one that was told, or where none was, at most 1 (own)
 abbrev pub is_spaced : Option ℕ → ℕ → Bool

@@ -1,7 +1,7 @@
 //! The bitmap of a character, and the pixels that it lights.
 
 ghost use Rattle.std.specs.Prelude.{◌≡◌, ◌<◌, if◌then◌else◌, true, false, IfOk, MatchOption, MatchResult, ◌+ℤ◌, ◌-ℤ◌, ◌≤ℤ◌, ◌^◌, negsuc, pos};
-ghost use Rattle.std.specs.List.{list_all, range_with_len};
+ghost use Rattle.std.specs.List.{list_all};
 ghost use Rattle.font_bdf.specs.Bitmap.{bits_value, column_of, digits_at, digits_of, drawing_of, hex_value, is_below, is_bit, is_fine, is_fine_row, is_hex, is_inside, is_lit, is_lit_at, is_row, is_set_at, is_whole, is_within, octets_of, row_of, top_of};
 
 use crate::fault::{BdfFault, BdfProblem, fault_at};

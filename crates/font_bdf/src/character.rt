@@ -4,7 +4,9 @@ ghost use Rattle.std.specs.Prelude.{◌≡◌, ◌≤ℤ◌, IfOk, negsuc, pos};
 ghost use Rattle.std.specs.Option.{option_map, option_to_list};
 ghost use Rattle.sign_font.specs.Sign.{cell_of};
 ghost use Rattle.font_bdf.specs.Bitmap.{drawing_of};
-ghost use Rattle.font_bdf.specs.Font.{advance_in, after, before, cells_in, cells_of_block, drawing_in, size_of, width_of};
+ghost use Rattle.font_bdf.specs.Character.{advance_in, cells_in, cells_of_block, drawing_in, size_of};
+ghost use Rattle.font_bdf.specs.Chosen.{width_of};
+ghost use Rattle.font_bdf.specs.Lines.{after, before};
 ghost use Rattle.font_bdf.specs.Parts.{texts};
 ghost use Rattle.font_bdf.specs.Reading.{Gives};
 
@@ -19,7 +21,7 @@ use sign_font::CellPart;
 use std::alloc::Global;
 
 /// The lines before the first one that begins with a word, and those after it.
-#[tactic(auto, unfolding(crate::specs::Font::before, crate::specs::Font::after))]
+#[tactic(auto, unfolding(crate::specs::Lines::before, crate::specs::Lines::after))]
 pub(crate) fn parted_at<'a, 'b>(
     lines: &'a [&'b [u8]],
     word: &[u8],
@@ -52,7 +54,7 @@ fn size_of(pixels: PixelBox) -> Option<(u8, u8)>
 }
 
 /// The advance of a character: its own, or that of the head of the font. The first line of its header is the line `first` of the font.
-#[tactic(auto, unfolding(crate::specs::Font::advance_in))]
+#[tactic(auto, unfolding(crate::specs::Character::advance_in))]
 fn advance_in(
     font: FontBox,
     header: &[&[u8]],
@@ -71,7 +73,7 @@ fn advance_in(
 }
 
 /// The bitmap of a character. The first line of its header is the line `first` of the font, and its first row the line `at`.
-#[tactic(auto, unfolding(crate::specs::Font::drawing_in))]
+#[tactic(auto, unfolding(crate::specs::Character::drawing_in))]
 fn drawing_in<'a>(
     font: FontBox,
     header: &[&[u8]],
@@ -104,7 +106,7 @@ fn drawing_in<'a>(
 
 /// The cell of a character of this number, or `None` where it is left out. The first line of its header is the line `first` of the
 /// font.
-#[tactic(auto, unfolding(crate::specs::Font::cells_in))]
+#[tactic(auto, unfolding(crate::specs::Character::cells_in))]
 fn cell_in(
     alloc: Global,
     setting: &FontSetting<'_>,
@@ -114,7 +116,8 @@ fn cell_in(
     rows: &[&[u8]],
     first: usize,
 ) -> Result<Option<CellPart>, BdfFault>
-    ensures { Gives (λ cell. option_to_list (option_map cell_of cell)) result (cells_in setting.now font number (texts header.now) (texts rows.now)) }
+    ensures { Gives (λ cell. option_to_list (option_map cell_of cell)) result
+        (cells_in setting.now font number (texts header.now) (texts rows.now)) }
 {
     let at = first.saturating_add(header.len());
     let missing = fault_at(at, 0, BdfProblem::NoNumbers);
@@ -125,7 +128,7 @@ fn cell_in(
 }
 
 /// The cell of a character, or `None` where it isn't taken. Its first line is the line `first` of the font.
-#[tactic(auto, unfolding(crate::specs::Font::cells_of_block))]
+#[tactic(auto, unfolding(crate::specs::Character::cells_of_block))]
 pub(crate) fn cell_of_block(
     alloc: Global,
     setting: &FontSetting<'_>,

@@ -57,7 +57,8 @@ pub enum BdfProblem {
     #[error("the bitmap has more rows than its box, or ENDCHAR is missing")]
     BadRows,
     /// A pixel is lit outside the cell.
-    #[error("character {character}: a pixel is lit outside the cell: column {column}, row {row}, counted from 0; the cell has {width} by {height}; --outside widen makes columns for it, crop leaves the pixel out, skip the character")]
+    #[error("character {character}: a pixel is lit outside the cell: column {column}, row {row}, counted from 0; \
+        the cell has {width} by {height}; --outside widen makes columns for it, crop leaves the pixel out, skip the character")]
     Outside {
         /// The character's number.
         character: u16,

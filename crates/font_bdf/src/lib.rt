@@ -3,8 +3,9 @@
 //! [`font_tables`] reads a font in BDF, the Glyph Bitmap Distribution Format in which most fonts of pixels are kept, and writes it
 //! as the `[[font]]` table of a sign file. [`read_font`] reads it alone.
 //!
-//! A cell is as high as the box of the font, and as wide as its character's advance less the spacing between characters, unless a
-//! [`FontSetting`] asks for another. What is written was read back as a part of a sign file: it has the font that was read, and a sign with this font has no fault.
+//! A cell is as high as the box of the font, and as wide as its character's advance less the spacing
+//! between characters, unless a [`FontSetting`] asks for another. What is written was read back as a
+//! part of a sign file: it has the font that was read, and a sign with this font has no fault.
 #![tactic(auto)]
 
 mod bitmap;

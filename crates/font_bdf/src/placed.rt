@@ -5,7 +5,7 @@ ghost use Rattle.std.specs.Int.{int_max, int_min};
 ghost use Rattle.std.specs.Option.{option_map, option_to_list};
 ghost use Rattle.sign_font.specs.Sign.{cell_of};
 ghost use Rattle.font_bdf.specs.Bitmap.{drawing_of};
-ghost use Rattle.font_bdf.specs.Font.{cell_with, cropped_cells, fitting, placed, wide_of, widened, widened_cells};
+ghost use Rattle.font_bdf.specs.Placed.{cell_with, cropped_cells, fitting, placed, wide_of, widened, widened_cells};
 ghost use Rattle.font_bdf.specs.Numbers.{within};
 ghost use Rattle.font_bdf.specs.Reading.{Gives};
 
@@ -35,7 +35,7 @@ fn columns_of(number: u16, wide: i64, at: usize) -> Result<u8, BdfFault>
 }
 
 /// The columns of a cell outside which the bitmap lights no pixel.
-#[tactic(auto, unfolding(crate::specs::Font::fitting))]
+#[tactic(auto, unfolding(crate::specs::Placed::fitting))]
 fn fitting(bitmap: &Bitmap<'_>, number: u16, wide: i64, at: usize) -> Result<u8, BdfFault>
     ensures width { Gives (λ width. width) result (fitting (drawing_of bitmap.now) wide bitmap.now.font.height) }
     ensures some { IfOk result (λ width. 0 < width) }
@@ -66,7 +66,8 @@ fn cell_with(
     width: u8,
 ) -> Result<Option<CellPart>, BdfFault>
     requires some { 0 < width }
-    ensures { Gives (λ cell. option_to_list (option_map cell_of cell)) result (Some (cell_with (drawing_of bitmap.now) number bitmap.now.font.height width ∷ [])) }
+    ensures { Gives (λ cell. option_to_list (option_map cell_of cell)) result
+        (Some (cell_with (drawing_of bitmap.now) number bitmap.now.font.height width ∷ [])) }
 {
     match bitmap.octets_of(alloc, width, bitmap.font.height) {
         Ok(bits) => Ok(Some(CellPart {
@@ -162,7 +163,8 @@ fn widened_cell(
 ) -> Result<Option<CellPart>, BdfFault>
     requires low { negsuc 8589934592 ≤ℤ wide }
     requires high { wide ≤ℤ pos 8589934592 }
-    ensures cells { Gives (λ cell. option_to_list (option_map cell_of cell)) result (widened_cells (drawing_of bitmap.now) number wide bitmap.now.font.height) }
+    ensures cells { Gives (λ cell. option_to_list (option_map cell_of cell)) result
+        (widened_cells (drawing_of bitmap.now) number wide bitmap.now.font.height) }
 {
     let wider = widened(bitmap);
     match fitting(&wider, number, wide_of(bitmap, wide), at) {
@@ -179,7 +181,8 @@ fn cropped_cell(
     wide: i64,
     at: usize,
 ) -> Result<Option<CellPart>, BdfFault>
-    ensures { Gives (λ cell. option_to_list (option_map cell_of cell)) result (cropped_cells (drawing_of bitmap.now) number wide bitmap.now.font.height) }
+    ensures { Gives (λ cell. option_to_list (option_map cell_of cell)) result
+        (cropped_cells (drawing_of bitmap.now) number wide bitmap.now.font.height) }
 {
     match columns_of(number, wide, at) {
         Ok(width) => cell_with(alloc, bitmap, number, width),
@@ -189,7 +192,7 @@ fn cropped_cell(
 
 /// The cell of a bitmap in a cell so many columns wide, or `None` if the character is left out. What is wrong is told of the line `at`
 /// of the font.
-#[tactic(auto, unfolding(crate::specs::Font::placed))]
+#[tactic(auto, unfolding(crate::specs::Placed::placed))]
 pub(crate) fn placed(
     alloc: Global,
     outside: Outside,
@@ -200,7 +203,8 @@ pub(crate) fn placed(
 ) -> Result<Option<CellPart>, BdfFault>
     requires low { negsuc 8589934592 ≤ℤ wide }
     requires high { wide ≤ℤ pos 8589934592 }
-    ensures cells { Gives (λ cell. option_to_list (option_map cell_of cell)) result (placed outside (drawing_of bitmap.now) number wide bitmap.now.font.height) }
+    ensures cells { Gives (λ cell. option_to_list (option_map cell_of cell)) result
+        (placed outside (drawing_of bitmap.now) number wide bitmap.now.font.height) }
 {
     match fitting(bitmap, number, wide, at) {
         Ok(width) => cell_with(alloc, bitmap, number, width),

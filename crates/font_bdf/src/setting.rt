@@ -1,8 +1,7 @@
 //! What a font in BDF doesn't say, and what is taken of it.
 
 ghost use Rattle.std.specs.Prelude.{◌≡◌};
-ghost use Rattle.std.specs.List.{list_any};
-ghost use Rattle.font_bdf.specs.Font.{chosen, has, is_chosen, spacing_of};
+ghost use Rattle.font_bdf.specs.Chosen.{chosen, has, is_chosen, spacing_of};
 
 use crate::numbers::within;
 
@@ -67,7 +66,7 @@ fn is_chosen(ranges: &[CharacterRange], number: u16) -> bool
 }
 
 /// The number of a character, where it is taken.
-#[tactic(auto, unfolding(crate::specs::Font::chosen))]
+#[tactic(auto, unfolding(crate::specs::Chosen::chosen))]
 pub(crate) fn chosen(setting: &FontSetting<'_>, number: i64) -> Option<u16>
     ensures { result ≡ chosen setting.now number }
 {

@@ -19,7 +19,8 @@ use std::alloc::{AllocError, Global};
 
 /// The keys of a sign file before its fonts.
 const FRONT: &str =
-    "width = 1024\nheight = 128\nscheme = 'classic'\nmax_pages = 1\nslots = 1\nbytes = 0\nmax_string = 1\n[defaults]\nfont = 1\nline = 3\npage = 3\npage_on = 0\npage_off = 0\nflash_on = 0\nflash_off = 0\nfore = 1\nback = 0\n";
+    "width = 1024\nheight = 128\nscheme = 'classic'\nmax_pages = 1\nslots = 1\nbytes = 0\nmax_string = 1\n\
+    [defaults]\nfont = 1\nline = 3\npage = 3\npage_on = 0\npage_off = 0\nflash_on = 0\nflash_off = 0\nfore = 1\nback = 0\n";
 
 /// Appends a number in decimal.
 fn push_number(text: &mut Vec<u8>, number: u64) -> Result<(), AllocError> {
@@ -255,7 +256,8 @@ pub fn font_tables(
     setting: &FontSetting<'_>,
 ) -> Result<Vec<u8>, BdfFault>
     ensures table { IfOk result (λ text. IsFontTable setting.now octets.now text.items) }
-    ensures refused { IfErr result (λ fault. fault.problem ≢ BdfProblem.Memory → fault.problem ≢ BdfProblem.NotTaken → font_of_bdf setting.now octets.now ≡ None) }
+    ensures refused { IfErr result
+        (λ fault. fault.problem ≢ BdfProblem.Memory → fault.problem ≢ BdfProblem.NotTaken → font_of_bdf setting.now octets.now ≡ None) }
 {
     let font = match read_font(alloc, octets, setting) {
         Ok(font) => font,

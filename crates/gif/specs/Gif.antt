@@ -48,13 +48,15 @@ IsBlocks content octets = (parts : List (List ℕ)) × All IsPart parts × (flat
 -- octets are a picture: its data means its points (GIF89a, graphic-rendering block)
 abbrev pub IsPicture : ℕ → ℕ → ℕ → List ℕ → List ℕ → Type 0
 IsPicture width height delay pixels octets =
-    (content : List ℕ) × (packed : List ℕ) × (pixels_of content ≡ Some pixels) × (length pixels ≡ width * height) × IsBlocks content packed × (octets ≡ picture_head width height delay ++ packed)
+    (content : List ℕ) × (packed : List ℕ) × (pixels_of content ≡ Some pixels) × (length pixels ≡ width * height) × IsBlocks content packed
+    × (octets ≡ picture_head width height delay ++ packed)
 
 -- octets are pictures, one after the other (GIF89a, data stream)
 abbrev pub ArePictures : ℕ → ℕ → List Picture → List ℕ → Type 0
 ArePictures width height [] octets = octets ≡ []
 ArePictures width height (picture ∷ pictures) octets =
-    (first : List ℕ) × (rest : List ℕ) × IsPicture width height picture.delay picture.pixels first × ArePictures width height pictures rest × (octets ≡ first ++ rest)
+    (first : List ℕ) × (rest : List ℕ) × IsPicture width height picture.delay picture.pixels first × ArePictures width height pictures rest
+    × (octets ≡ first ++ rest)
 
 -- a list grew by octets of a kind (own)
 abbrev pub GrewBy : (List ℕ → Type 0) → List ℕ → List ℕ → Type 0
@@ -62,4 +64,5 @@ GrewBy Kind before after = (piece : List ℕ) × Kind piece × (after ≡ before
 
 -- octets are a file of these pictures, up to its end (GIF89a, data stream)
 abbrev pub IsBegun : ℕ → ℕ → List ℕ → List Picture → List ℕ → Type 0
-IsBegun width height palette pictures octets = (middle : List ℕ) × ArePictures width height pictures middle × (octets ≡ head width height palette ++ middle)
+IsBegun width height palette pictures octets =
+    (middle : List ℕ) × ArePictures width height pictures middle × (octets ≡ head width height palette ++ middle)

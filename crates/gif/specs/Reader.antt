@@ -34,7 +34,8 @@ found_in (suc most) [] = None
 found_in (suc most) (count ∷ octets) =
     if count == 0 then Some (record { content = []; more = octets })
     else (if nat_le count (length octets)
-    then and_then (found_in most (drop count octets)) (λ found. Some (record { content = take count octets ++ found.content; more = found.more }))
+    then and_then (found_in most (drop count octets))
+    (λ found. Some (record { content = take count octets ++ found.content; more = found.more }))
     else None)
 
 -- a number of two octets at a place, the lower one first (GIF89a)

@@ -1,6 +1,5 @@
 pub mod SignLemmas
 pub mod RowLemmas
-pub mod SeenLemmas
 pub mod JudgedLemmas
 pub mod BufferLemmas
 pub mod FrameLemmas

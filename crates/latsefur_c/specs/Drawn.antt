@@ -8,7 +8,7 @@ use Rattle.multi_layout.specs.Meaning.{meanings}
 use Rattle.multi_layout.specs.Picture.{pixel_at}
 use Rattle.multi_layout.specs.Times.{shown}
 use Rattle.multi_layout.specs.Verdict.{Accepted, IsVerdict, Refused, pages_of}
-use Rattle.page_picture.specs.Colours.{colour_by, values}
+use Rattle.page_picture.specs.Shown.{colours}
 use Rattle.latsefur_c.specs.declared.seen.When.{When}
 use Rattle.latsefur_c.specs.declared.seen.When.TheVariants as when
 use Rattle.latsefur_c.specs.declared.shown.LatsefurShown.{LatsefurShown}
@@ -40,26 +40,19 @@ abbrev pub LacksPage : List ℕ → When → Type 0
 LacksPage text (when.Clock clock) = ⊥
 LacksPage text (when.Page page phase) = pages_of (meanings text) ≤ page
 
--- what is seen is a page of the text, or nothing is (own)
-abbrev pub IsThere : List ℕ → Shown → Type 0
-IsThere text (Page page phase) = page < pages_of (meanings text)
-IsThere text Off = Unit {0}
-
 -- why nothing can be shown of a text: there is no sign, or the text isn't accepted, or it is and has no such page (6) (own)
 abbrev pub IsUnseen : List ℕ → List ℕ → When → ℕ → Type 0
 IsUnseen file text time outcome =
     HasNoSign file outcome
-    ⊎ ((sign : SignData) × (sign_of_file file ≡ Some sign) × (IsNotAccepted sign text outcome ⊎ ((outcome ≡ 6) × IsAccepted sign text × LacksPage text time)))
+    ⊎ ((sign : SignData) × (sign_of_file file ≡ Some sign)
+    × (IsNotAccepted sign text outcome ⊎ ((outcome ≡ 6) × IsAccepted sign text × LacksPage text time)))
 
 -- a sign accepts a text, which has the page that is asked for (own)
 abbrev pub IsSeen : SignData → List ℕ → When → Type 0
 IsSeen sign text time = IsAccepted sign text × HasPage text time
 
--- the colours of all pixels of what is seen, 0 to 9, row by row from the top (NTCIP 1203 v03, dmsColorScheme; the order of the pixels is own)
-abbrev pub colours : SignData → List ℕ → Shown → List ℕ
-colours sign text shown = values (λ column row. colour_by (λ colour. pixel_at sign (meanings text) shown colour column row)) sign.width sign.height
-
--- octets hold a plane of this size: (width + 7) / 8 for a row, from the top, its leftmost pixel in the highest bit of the first, and spare bits 0 (own)
+-- octets hold a plane of this size: (width + 7) / 8 for a row, from the top, its leftmost pixel in
+-- the highest bit of the first, and spare bits 0 (own)
 pub record HoldsPlane (width height : ℕ) (lit : ℕ → ℕ → Bool) (octets : List ℕ) : Type 0 where
   pub count : length octets ≡ row_octets width * height
   pub pixels : (x y : ℕ) → x < width → y < height → is_bit_set octets (bit_place width x y) ≡ lit x y
@@ -73,8 +66,8 @@ IsPlane text time colour sign octets = HoldsPlane sign.width sign.height (pixel_
 abbrev pub AreColours : List ℕ → When → SignData → List ℕ → Type 0
 AreColours text time sign octets = octets ≡ colours sign text (seen sign text time)
 
--- a picture stands at the front of a buffer, and what is behind it is as it was; or nothing is written, because there is nothing to see, or there was no
--- memory (2), or the buffer is smaller than the picture (5) (own)
+-- a picture stands at the front of a buffer, and what is behind it is as it was; or nothing is written, because
+-- there is nothing to see, or there was no memory (2), or the buffer is smaller than the picture (5) (own)
 abbrev pub Draws : List ℕ → List ℕ → When → (SignData → List ℕ → Type 0) → List ℕ → List ℕ → ℕ → Type 0
 Draws file text time Is old new outcome =
     (IsUnseen file text time outcome × (new ≡ old))

@@ -4,8 +4,8 @@ use Rattle.sign_font.specs.Sign.{SignData}
 use Rattle.latsefur_c.specs.declared.facts.LatsefurSign.{LatsefurSign}
 use Rattle.latsefur_c.specs.Outcome.{HasNoSign, sign_of_file}
 
--- the size, the most pages and the colours of a sign (NTCIP 1203 v03, objects vmsSignWidthPixels, vmsSignHeightPixels, dmsMaxNumberPages and dmsColorScheme; the
--- numbers 1 and 0 for many colours and one are own)
+-- the size, the most pages and the colours of a sign (NTCIP 1203 v03, objects vmsSignWidthPixels,
+-- vmsSignHeightPixels, dmsMaxNumberPages and dmsColorScheme; the numbers 1 and 0 for many colours and one are own)
 abbrev pub facts_of : SignData → LatsefurSign
 facts_of sign = record {
   width = sign.width;

@@ -22,6 +22,7 @@ field_numbered number =
     else (if number == 9 then Some field.Back else None))))))))
 
 -- a default is set; or the number names none (11), and nothing is done (own)
-abbrev pub SetsDefault : Option DefaultField → ℕ → Option ControllerData → Option ControllerData → LatsefurReply → LatsefurReply → ℕ → Type 0
+abbrev pub SetsDefault :
+    Option DefaultField → ℕ → Option ControllerData → Option ControllerData → LatsefurReply → LatsefurReply → ℕ → Type 0
 SetsDefault None value old new was told outcome = IsRefused 11 old new was told outcome
 SetsDefault (Some field) value old new was told outcome = Asks (SetDefault field value) old new was told outcome

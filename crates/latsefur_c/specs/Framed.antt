@@ -27,7 +27,8 @@ WritesPlane plane old new outcome =
 abbrev pub IsFrameOf : ControllerData → ℕ → List ℕ → Type 0
 IsFrameOf controller colour =
     let sign = under controller.sign controller.state.display.defaults in
-    HoldsPlane controller.sign.width controller.sign.height (pixel_at sign (meanings controller.state.text) (shown sign controller.state.text controller.state.display.clock) colour)
+    HoldsPlane controller.sign.width controller.sign.height
+    (pixel_at sign (meanings controller.state.text) (shown sign controller.state.text controller.state.display.clock) colour)
 
 -- the frame stands at the front of a buffer, and the page is told; or the buffer is too small (5), and nothing is told (own)
 abbrev pub DrawsFrame : ControllerData → ℕ → LatsefurShown → LatsefurShown → List ℕ → List ℕ → ℕ → Type 0

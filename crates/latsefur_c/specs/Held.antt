@@ -13,13 +13,16 @@ use Rattle.latsefur_c.specs.Replied.{IsReply}
 -- a controller at the start, of the sign and the message table of a file (own)
 abbrev pub SetsUp : List ℕ → ControllerData → Type 0
 SetsUp file controller =
-    (described : FileData) × (file_of_octets file ≡ Some described) × (sign_of_file file ≡ Some controller.sign) × (can_be_made described.limits described.permanents ≡ true)
+    (described : FileData) × (file_of_octets file ≡ Some described) × (sign_of_file file ≡ Some controller.sign)
+    × (can_be_made described.limits described.permanents ≡ true)
     × (controller.state ≡ started controller.sign.defaults (made described.limits described.permanents)) × (controller.steps ≡ 0)
 
 -- there is no controller: there is no sign, or the message table is outside its limits (8) (own)
 abbrev pub LacksController : List ℕ → ℕ → Type 0
 LacksController file outcome =
-    HasNoSign file outcome ⊎ ((outcome ≡ 8) × ((described : FileData) × (file_of_octets file ≡ Some described) × (can_be_made described.limits described.permanents ≡ false)))
+    HasNoSign file outcome
+    ⊎ ((outcome ≡ 8)
+    × ((described : FileData) × (file_of_octets file ≡ Some described) × (can_be_made described.limits described.permanents ≡ false)))
 
 -- the handle holds the controller of a file; or there is none, and it holds what it held (own)
 abbrev pub IsMade : List ℕ → Option ControllerData → Option ControllerData → ℕ → Type 0
@@ -41,13 +44,15 @@ Applies (Some old) command new answer = IsSomeAnd new (IsAfter command old) × (
 -- a command makes its step, and its reply is told; or there is no controller (9), and nothing is done (own)
 abbrev pub Asks : Command → Option ControllerData → Option ControllerData → LatsefurReply → LatsefurReply → ℕ → Type 0
 Asks command None new was told outcome = (outcome ≡ 9) × (new ≡ None) × (told ≡ was)
-Asks command (Some old) new was told outcome = (outcome ≡ 0) × IsSomeAnd new (IsAfter command old) × IsReply (step old.sign old.state command).reply told
+Asks command (Some old) new was told outcome =
+    (outcome ≡ 0) × IsSomeAnd new (IsAfter command old) × IsReply (step old.sign old.state command).reply told
 
 -- nothing is done, for a reason that has a number (own)
 abbrev pub IsRefused : ℕ → Option ControllerData → Option ControllerData → LatsefurReply → LatsefurReply → ℕ → Type 0
 IsRefused reason old new was told outcome = (outcome ≡ reason) × (new ≡ old) × (told ≡ was)
 
 -- a command with a code of so many octets; one of any other length is refused (10) (own)
-abbrev pub AsksByCode : ℕ → (List ℕ → Command) → List ℕ → Option ControllerData → Option ControllerData → LatsefurReply → LatsefurReply → ℕ → Type 0
+abbrev pub AsksByCode :
+    ℕ → (List ℕ → Command) → List ℕ → Option ControllerData → Option ControllerData → LatsefurReply → LatsefurReply → ℕ → Type 0
 AsksByCode count command code old new was told outcome =
     ((length code ≢ count) × IsRefused 10 old new was told outcome) ⊎ ((length code ≡ count) × Asks (command code) old new was told outcome)

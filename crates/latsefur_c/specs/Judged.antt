@@ -11,16 +11,20 @@ IsShort text = length text < 2 ^ 32
 
 -- the text is accepted: its pages and their cycle are told (NTCIP 1203 v03, MULTI tags 'np' and 'pt'; the cycle is own)
 abbrev pub TellsPages : SignData → List ℕ → LatsefurVerdict → Type 0
-TellsPages sign text verdict = (verdict.outcome ≡ 0) × IsShort text × IsVerdict sign text (Accepted verdict.pages) × IsCycle sign text verdict.cycle × (verdict.code ≡ 0) × (verdict.at ≡ 0)
+TellsPages sign text verdict =
+    (verdict.outcome ≡ 0) × IsShort text × IsVerdict sign text (Accepted verdict.pages) × IsCycle sign text verdict.cycle
+    × (verdict.code ≡ 0) × (verdict.at ≡ 0)
 
 -- the text is refused: its first error and the octet where that stands are told, and no pages (NTCIP 1203 v03, dmsMultiSyntaxError and
 -- dmsMultiSyntaxErrorPosition; that octets are counted from 0 is own)
 abbrev pub TellsError : SignData → List ℕ → LatsefurVerdict → Type 0
-TellsError sign text verdict = (verdict.outcome ≡ 1) × IsShort text × IsVerdict sign text (Refused verdict.code verdict.at) × (verdict.pages ≡ 0) × (verdict.cycle ≡ 0)
+TellsError sign text verdict =
+    (verdict.outcome ≡ 1) × IsShort text × IsVerdict sign text (Refused verdict.code verdict.at) × (verdict.pages ≡ 0) × (verdict.cycle ≡ 0)
 
 -- the text is too long to be judged (own)
 abbrev pub TellsLength : List ℕ → LatsefurVerdict → Type 0
-TellsLength text verdict = (verdict.outcome ≡ 7) × (2 ^ 32 ≤ length text) × (verdict.pages ≡ 0) × (verdict.cycle ≡ 0) × (verdict.code ≡ 0) × (verdict.at ≡ 0)
+TellsLength text verdict =
+    (verdict.outcome ≡ 7) × (2 ^ 32 ≤ length text) × (verdict.pages ≡ 0) × (verdict.cycle ≡ 0) × (verdict.code ≡ 0) × (verdict.at ≡ 0)
 
 -- a verdict tells what a sign says of a text (own)
 abbrev pub IsJudged : SignData → List ℕ → LatsefurVerdict → Type 0
@@ -36,11 +40,13 @@ Judges file text old new outcome =
 pub record AreJudged (sign : SignData) (texts : List (List ℕ)) (old new : List LatsefurVerdict) : Type 0 where
   pub count : length new ≡ length old
   pub room : length texts ≤ length new
-  pub each : (place : ℕ) (text : List ℕ) (verdict : LatsefurVerdict) → slice_get texts place ≡ Some text → slice_get new place ≡ Some verdict → IsJudged sign text verdict
+  pub each :
+      (place : ℕ) (text : List ℕ) (verdict : LatsefurVerdict) → slice_get texts place ≡ Some text → slice_get new place ≡ Some verdict
+      → IsJudged sign text verdict
   pub kept : (place : ℕ) → length texts ≤ place → slice_get new place ≡ slice_get old place
 
--- many texts are judged on the sign of one sign file; or there are fewer verdicts than texts, or else there is no such sign, and all verdicts stay as they
--- were (own)
+-- many texts are judged on the sign of one sign file; or there are fewer verdicts than texts, or
+-- else there is no such sign, and all verdicts stay as they were (own)
 abbrev pub JudgesAll : List ℕ → List (List ℕ) → List LatsefurVerdict → List LatsefurVerdict → ℕ → Type 0
 JudgesAll file texts old new outcome =
     ((outcome ≡ 5) × (length old < length texts) × (new ≡ old))

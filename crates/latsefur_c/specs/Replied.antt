@@ -16,7 +16,15 @@ IsReply reply.Done told = told ≡ numbers 0 0
 IsReply (reply.Refused fault) told = told ≡ numbers 1 (fault_code fault)
 IsReply reply.Idle told = told ≡ numbers 2 0
 IsReply (reply.Worked number status validate_error multi_error multi_position) told =
-    told ≡ record { kind = 3; code = 0; status = status; validate_error = validate_error; multi_error = multi_error; number = number; multi_position = multi_position }
+    told ≡ record {
+      kind = 3;
+      code = 0;
+      status = status;
+      validate_error = validate_error;
+      multi_error = multi_error;
+      number = number;
+      multi_position = multi_position;
+    }
 IsReply reply.Shown told = told ≡ numbers 4 0
 IsReply (reply.NotShown error) told = told ≡ numbers 5 error
 IsReply (reply.NotSet fault) told = told ≡ numbers 6 (default_code fault)

@@ -16,7 +16,23 @@ use Rattle.latsefur_c.specs.Held.{IsIn}
 
 -- the numbers of a report (own)
 abbrev pub report_numbers : Report → LatsefurReport
-report_numbers r = record { clock = r.clock; free = r.free; requester = r.requester; used = r.used; shown_number = r.shown_number; crc = r.crc; remaining = r.remaining; position = r.position; mode = r.mode; shown_memory = r.shown_memory; priority = r.priority; activate = r.activate; validate = r.validate; multi = r.multi }
+report_numbers r =
+    record {
+      clock = r.clock;
+      free = r.free;
+      requester = r.requester;
+      used = r.used;
+      shown_number = r.shown_number;
+      crc = r.crc;
+      remaining = r.remaining;
+      position = r.position;
+      mode = r.mode;
+      shown_memory = r.shown_memory;
+      priority = r.priority;
+      activate = r.activate;
+      validate = r.validate;
+      multi = r.multi;
+    }
 
 -- something is told of the controller, which stays as it is; or there is none (9), and nothing is told (own)
 abbrev pub Tells : {T : Type 0} → (ControllerData → T) → Option ControllerData → Option ControllerData → T → T → ℕ → Type 0
@@ -25,11 +41,32 @@ Tells of (Some held) new was told outcome = (outcome ≡ 0) × (new ≡ Some hel
 
 -- the numbers of defaults (own)
 abbrev pub default_numbers : Defaults → LatsefurDefaults
-default_numbers d = record { font = d.font; line = d.line; page = d.page; page_on = d.page_on; page_off = d.page_off; flash_on = d.flash_on; flash_off = d.flash_off; fore = d.fore; back = d.back }
+default_numbers d =
+    record {
+      font = d.font;
+      line = d.line;
+      page = d.page;
+      page_on = d.page_on;
+      page_off = d.page_off;
+      flash_on = d.flash_on;
+      flash_off = d.flash_off;
+      fore = d.fore;
+      back = d.back;
+    }
 
 -- the numbers of a message that there is (own)
 abbrev pub row_numbers : RowData → LatsefurRow
-row_numbers row = record { multi = length row.multi; owner = length row.owner; crc = row.crc; code = 0; status = row.status; priority = row.priority; beacon = row.beacon; pixel = row.pixel }
+row_numbers row =
+    record {
+      multi = length row.multi;
+      owner = length row.owner;
+      crc = row.crc;
+      code = 0;
+      status = row.status;
+      priority = row.priority;
+      beacon = row.beacon;
+      pixel = row.pixel;
+    }
 
 -- the numbers of a message that there isn't: why (own)
 abbrev pub no_row : StoreFault → LatsefurRow
@@ -39,17 +76,21 @@ no_row fault = record { multi = 0; owner = 0; crc = 0; code = fault_code fault; 
 abbrev pub in_front : List ℕ → List ℕ → List ℕ
 in_front octets old = octets ++ drop (length octets) old
 
--- a message is told, with its text and its owner at the front of two buffers; or one of them is too small (5), or there is no such message (1), which is
--- told, and the buffers stay as they were (own)
+-- a message is told, with its text and its owner at the front of two buffers; or one of them is too
+-- small (5), or there is no such message (1), which is told, and the buffers stay as they were (own)
 abbrev pub TellsRow : Result RowData StoreFault → LatsefurRow → LatsefurRow → List ℕ → List ℕ → List ℕ → List ℕ → ℕ → Type 0
-TellsRow (Err fault) was told old_text new_text old_owner new_owner outcome = (outcome ≡ 1) × (told ≡ no_row fault) × (new_text ≡ old_text) × (new_owner ≡ old_owner)
+TellsRow (Err fault) was told old_text new_text old_owner new_owner outcome =
+    (outcome ≡ 1) × (told ≡ no_row fault) × (new_text ≡ old_text) × (new_owner ≡ old_owner)
 TellsRow (Ok row) was told old_text new_text old_owner new_owner outcome =
-    ((outcome ≡ 5) × ((length old_text < length row.multi) ⊎ (length old_owner < length row.owner)) × (told ≡ was) × (new_text ≡ old_text) × (new_owner ≡ old_owner))
+    ((outcome ≡ 5) × ((length old_text < length row.multi) ⊎ (length old_owner < length row.owner)) × (told ≡ was) × (new_text ≡ old_text)
+    × (new_owner ≡ old_owner))
     ⊎ ((outcome ≡ 0) × (told ≡ row_numbers row) × (new_text ≡ in_front row.multi old_text) × (new_owner ≡ in_front row.owner old_owner))
 
 -- the same of a message of the controller of a handle, which stays as it is; or there is none (9), and nothing is told (own)
-abbrev pub Rows : Option ControllerData → MsgRef → Option ControllerData → LatsefurRow → LatsefurRow → List ℕ → List ℕ → List ℕ → List ℕ → ℕ → Type 0
-Rows None message new was told old_text new_text old_owner new_owner outcome = (outcome ≡ 9) × (new ≡ None) × (told ≡ was) × (new_text ≡ old_text) × (new_owner ≡ old_owner)
+abbrev pub Rows :
+    Option ControllerData → MsgRef → Option ControllerData → LatsefurRow → LatsefurRow → List ℕ → List ℕ → List ℕ → List ℕ → ℕ → Type 0
+Rows None message new was told old_text new_text old_owner new_owner outcome =
+    (outcome ≡ 9) × (new ≡ None) × (told ≡ was) × (new_text ≡ old_text) × (new_owner ≡ old_owner)
 Rows (Some held) message new was told old_text new_text old_owner new_owner outcome =
     (new ≡ Some held) × TellsRow (row_shown held.state message) was told old_text new_text old_owner new_owner outcome
 

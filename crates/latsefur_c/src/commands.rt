@@ -23,7 +23,8 @@ pub extern "C" fn latsefur_request(
     status: u8,
     reply: &mut LatsefurReply,
 ) -> u8
-    ensures asked { Asks (command.Request (record { memory = memory; number = number }) status) handle.old.slot.held handle.new.slot.held reply.old reply.new result }
+    ensures asked { Asks (command.Request (record { memory = memory; number = number }) status)
+        handle.old.slot.held handle.new.slot.held reply.old reply.new result }
 {
     let message = MsgRef { memory, number };
     ask(alloc, handle, &Command::Request(message, status), reply)
@@ -39,7 +40,8 @@ pub extern "C" fn latsefur_set_multi(
     text: &[u8],
     reply: &mut LatsefurReply,
 ) -> u8
-    ensures asked { Asks (command.SetMulti (record { memory = memory; number = number }) text.entry) handle.old.slot.held handle.new.slot.held reply.old reply.new result }
+    ensures asked { Asks (command.SetMulti (record { memory = memory; number = number }) text.entry)
+        handle.old.slot.held handle.new.slot.held reply.old reply.new result }
 {
     let message = MsgRef { memory, number };
     ask(alloc, handle, &Command::SetMulti(message, text), reply)
@@ -55,7 +57,8 @@ pub extern "C" fn latsefur_set_owner(
     owner: &[u8],
     reply: &mut LatsefurReply,
 ) -> u8
-    ensures asked { Asks (command.SetOwner (record { memory = memory; number = number }) owner.entry) handle.old.slot.held handle.new.slot.held reply.old reply.new result }
+    ensures asked { Asks (command.SetOwner (record { memory = memory; number = number }) owner.entry)
+        handle.old.slot.held handle.new.slot.held reply.old reply.new result }
 {
     let message = MsgRef { memory, number };
     ask(alloc, handle, &Command::SetOwner(message, owner), reply)
@@ -71,7 +74,8 @@ pub extern "C" fn latsefur_set_priority(
     value: u8,
     reply: &mut LatsefurReply,
 ) -> u8
-    ensures asked { Asks (command.SetPriority (record { memory = memory; number = number }) value) handle.old.slot.held handle.new.slot.held reply.old reply.new result }
+    ensures asked { Asks (command.SetPriority (record { memory = memory; number = number }) value)
+        handle.old.slot.held handle.new.slot.held reply.old reply.new result }
 {
     let message = MsgRef { memory, number };
     ask(alloc, handle, &Command::SetPriority(message, value), reply)
@@ -87,7 +91,8 @@ pub extern "C" fn latsefur_set_beacon(
     value: u8,
     reply: &mut LatsefurReply,
 ) -> u8
-    ensures asked { Asks (command.SetBeacon (record { memory = memory; number = number }) value) handle.old.slot.held handle.new.slot.held reply.old reply.new result }
+    ensures asked { Asks (command.SetBeacon (record { memory = memory; number = number }) value)
+        handle.old.slot.held handle.new.slot.held reply.old reply.new result }
 {
     let message = MsgRef { memory, number };
     ask(alloc, handle, &Command::SetBeacon(message, value), reply)
@@ -103,7 +108,8 @@ pub extern "C" fn latsefur_set_pixel_service(
     value: u8,
     reply: &mut LatsefurReply,
 ) -> u8
-    ensures asked { Asks (command.SetPixelService (record { memory = memory; number = number }) value) handle.old.slot.held handle.new.slot.held reply.old reply.new result }
+    ensures asked { Asks (command.SetPixelService (record { memory = memory; number = number }) value)
+        handle.old.slot.held handle.new.slot.held reply.old reply.new result }
 {
     let message = MsgRef { memory, number };
     ask(

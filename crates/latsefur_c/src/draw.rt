@@ -3,10 +3,11 @@ ghost use Rattle.std.specs.Prelude.{◌≡◌, IfOk};
 ghost use Rattle.page_plane.specs.Plane.{is_lit};
 ghost use Rattle.multi_layout.specs.Meaning.{meanings};
 ghost use Rattle.multi_layout.specs.Picture.{pixel_at};
-ghost use Rattle.latsefur_c.specs.Drawn.{HoldsPlane, IsThere, colours};
+ghost use Rattle.page_picture.specs.Shown.{IsThere};
+ghost use Rattle.latsefur_c.specs.Drawn.{HoldsPlane};
 
 use multi_layout::{Checked, Shown};
-use page_picture::PageColours;
+use page_picture::show;
 use page_plane::Plane;
 use sign_font::Sign;
 use std::alloc::{AllocError, Global};
@@ -32,42 +33,12 @@ pub(crate) fn draw_plane(
 ) -> Result<Vec<u8>, AllocError>
     requires sign { checked.old.sign ≡ sign.now }
     requires there { IsThere checked.old.source.octets shown }
-    ensures { IfOk result (λ octets. HoldsPlane sign.now.width sign.now.height (pixel_at sign.now (meanings checked.old.source.octets) shown colour) octets.items) }
+    ensures { IfOk result (λ octets. HoldsPlane sign.now.width sign.now.height
+        (pixel_at sign.now (meanings checked.old.source.octets) shown colour) octets.items) }
 {
     let Ok(mut plane) = Plane::new(alloc, sign.width(), sign.height()) else {
         return Err(AllocError);
     };
-    match shown {
-        Shown::Page { page, phase } => {
-            if !checked.draw(page, phase, colour, &mut plane) {
-                // What is seen is a page of the text.
-                unreachable!();
-            }
-        }
-        Shown::Off => plane.fill(colour == 0),
-    }
+    show(checked, shown, colour, &mut plane);
     octets_of(alloc, &plane)
-}
-
-/// The colours of all pixels of what is seen of a text.
-pub(crate) fn draw_colours(
-    alloc: Global,
-    sign: &Sign,
-    checked: &mut Checked<'_>,
-    shown: Shown,
-) -> Result<Vec<u8>, AllocError>
-    requires sign { checked.old.sign ≡ sign.now }
-    requires there { IsThere checked.old.source.octets shown }
-    ensures { IfOk result (λ octets. octets.items ≡ colours sign.now checked.old.source.octets shown) }
-{
-    match shown {
-        Shown::Page { page, phase } => {
-            PageColours::new(alloc, sign, checked, page, phase)?.octets(alloc)
-        }
-        Shown::Off => {
-            let count = usize::from(sign.width()) * usize::from(sign.height());
-            let octets = Vec::from_elem(alloc, 0u8, count)?;
-            Ok(octets)
-        }
-    }
 }

@@ -7,12 +7,13 @@ ghost use Rattle.latsefur_c.specs.declared.seen.When.TheVariants as when;
 
 use crate::buffer::write_front;
 use crate::check::{LatsefurVerdict, judged};
-use crate::draw::{draw_colours, draw_plane};
+use crate::draw::draw_plane;
 use crate::facts::{LatsefurSign, facts_of};
 use crate::outcome::{DONE, NO_MEMORY, NO_PAGE, TOO_SMALL};
 use crate::seen::{When, accepted, seen};
 use crate::shown::{LatsefurShown, told};
 use crate::sign::sign_of;
+use page_picture::draw_colours;
 use std::alloc::Global;
 
 /// Tells what the sign of a sign file is.
@@ -161,7 +162,8 @@ pub extern "C" fn latsefur_plane_at(
     colour: u8,
     plane: &mut [u8],
 ) -> u8
-    ensures drawn { Draws sign_file.now text.now (when.Clock clock) (IsPlane text.now (when.Clock clock) colour) plane.old plane.new result }
+    ensures drawn { Draws sign_file.now text.now (when.Clock clock) (IsPlane text.now (when.Clock clock) colour)
+        plane.old plane.new result }
 {
     draw_plane_into(alloc, sign_file, text, When::Clock(clock), colour, plane)
 }
@@ -177,7 +179,8 @@ pub extern "C" fn latsefur_plane_of_page(
     colour: u8,
     plane: &mut [u8],
 ) -> u8
-    ensures drawn { Draws sign_file.now text.now (when.Page page phase) (IsPlane text.now (when.Page page phase) colour) plane.old plane.new result }
+    ensures drawn { Draws sign_file.now text.now (when.Page page phase) (IsPlane text.now (when.Page page phase) colour)
+        plane.old plane.new result }
 {
     draw_plane_into(
         alloc,
@@ -198,7 +201,8 @@ pub extern "C" fn latsefur_colours_at(
     clock: u64,
     colours: &mut [u8],
 ) -> u8
-    ensures drawn { Draws sign_file.now text.now (when.Clock clock) (AreColours text.now (when.Clock clock)) colours.old colours.new result }
+    ensures drawn { Draws sign_file.now text.now (when.Clock clock) (AreColours text.now (when.Clock clock))
+        colours.old colours.new result }
 {
     draw_colours_into(alloc, sign_file, text, When::Clock(clock), colours)
 }
@@ -213,7 +217,8 @@ pub extern "C" fn latsefur_colours_of_page(
     phase: u64,
     colours: &mut [u8],
 ) -> u8
-    ensures drawn { Draws sign_file.now text.now (when.Page page phase) (AreColours text.now (when.Page page phase)) colours.old colours.new result }
+    ensures drawn { Draws sign_file.now text.now (when.Page page phase) (AreColours text.now (when.Page page phase))
+        colours.old colours.new result }
 {
     draw_colours_into(alloc, sign_file, text, When::Page { page, phase }, colours)
 }

@@ -23,7 +23,8 @@ pub extern "C" fn latsefur_report(
     handle: &mut LatsefurController,
     report: &mut LatsefurReport,
 ) -> u8
-    ensures told { Tells (λ held. report_numbers (report_of held.state)) handle.old.slot.held handle.new.slot.held report.old report.new result }
+    ensures told { Tells (λ held. report_numbers (report_of held.state))
+        handle.old.slot.held handle.new.slot.held report.old report.new result }
 {
     let Some(held) = handle.take(alloc) else {
         return NO_CONTROLLER;
@@ -40,7 +41,8 @@ pub extern "C" fn latsefur_defaults(
     handle: &mut LatsefurController,
     defaults: &mut LatsefurDefaults,
 ) -> u8
-    ensures told { Tells (λ held. default_numbers held.state.defaults) handle.old.slot.held handle.new.slot.held defaults.old defaults.new result }
+    ensures told { Tells (λ held. default_numbers held.state.defaults)
+        handle.old.slot.held handle.new.slot.held defaults.old defaults.new result }
 {
     let Some(held) = handle.take(alloc) else {
         return NO_CONTROLLER;
@@ -78,7 +80,8 @@ pub extern "C" fn latsefur_row(
     text: &mut [u8],
     owner: &mut [u8],
 ) -> u8
-    ensures told { Rows handle.old.slot.held (record { memory = memory; number = number }) handle.new.slot.held row.old row.new text.old text.new owner.old owner.new result }
+    ensures told { Rows handle.old.slot.held (record { memory = memory; number = number }) handle.new.slot.held
+        row.old row.new text.old text.new owner.old owner.new result }
 {
     let Some(held) = handle.take(alloc) else {
         return NO_CONTROLLER;

@@ -1,6 +1,7 @@
 //! What is seen of a text.
 ghost use Rattle.std.specs.Prelude.{◌≡◌, ◌<◌, ◌^◌, length, None, IfOk, IfErr, IfSome, OnOk};
-ghost use Rattle.latsefur_c.specs.Drawn.{HasPage, IsAccepted, IsNotAccepted, IsThere, LacksPage, seen};
+ghost use Rattle.page_picture.specs.Shown.{IsThere};
+ghost use Rattle.latsefur_c.specs.Drawn.{HasPage, IsAccepted, IsNotAccepted, LacksPage, seen};
 
 use crate::check::MAX_TEXT;
 use crate::outcome::{REFUSED, TOO_LONG};
@@ -35,7 +36,8 @@ pub(crate) fn accepted<'a>(sign: &'a Sign, text: &'a [u8]) -> Result<Checked<'a>
 /// What is seen of a text, or `None` if it has no such page.
 pub(crate) fn seen(checked: &mut Checked<'_>, when: When) -> Option<Shown>
     requires short { length checked.old.source.octets < 2 ^ 32 }
-    ensures some { IfSome result (λ shown. (shown ≡ seen checked.old.sign checked.old.source.octets when) × IsThere checked.old.source.octets shown
+    ensures some { IfSome result (λ shown. (shown ≡ seen checked.old.sign checked.old.source.octets when)
+        × IsThere checked.old.source.octets shown
         × HasPage checked.old.source.octets when) }
     ensures none { result ≡ None → LacksPage checked.old.source.octets when }
     ensures kept { (checked.new.sign ≡ checked.old.sign) × (checked.new.source.octets ≡ checked.old.source.octets) }

@@ -16,7 +16,8 @@ use std::alloc::Global;
 fn store_of(alloc: Global, limits: StoreLimits, permanents: Vec<Permanent>) -> Result<Store, u8>
     ensures made { IfOk result (λ store. store ≡ made limits (map permanent_of permanents.items)) }
     ensures sound { IfOk result (λ store. can_be_made limits (map permanent_of permanents.items) ≡ true) }
-    ensures err { IfErr result (λ outcome. (outcome ≡ 2) ⊎ ((outcome ≡ 8) × (can_be_made limits (map permanent_of permanents.items) ≡ false))) }
+    ensures err { IfErr result
+        (λ outcome. (outcome ≡ 2) ⊎ ((outcome ≡ 8) × (can_be_made limits (map permanent_of permanents.items) ≡ false))) }
 {
     match Store::new(alloc, limits, permanents) {
         Ok(store) => Ok(store),

@@ -14,7 +14,7 @@ use Rattle.multi_layout.specs.Laid.{laid_spot}
 use Rattle.multi_layout.specs.LaidItems.{laid_of, laid_out}
 use Rattle.multi_layout.specs.Line.{given_gap}
 use Rattle.multi_layout.specs.Meaning.{Does, Faulty, Meaning, Shows, is_new_page}
-use Rattle.multi_layout.specs.State.{standing_behind}
+use Rattle.multi_layout.specs.kept.State.{standing_behind}
 use Rattle.multi_layout.specs.Words.{each_after, some_after}
 use Rattle.multi_layout.proofs.StandingLemmas.{standing_push}
 use Rattle.message_change.specs.Change.{IsBefore, flash_left, flash_on, is_shown, page_flashes}

@@ -9,7 +9,7 @@ use Rattle.sign_font.specs.declared.parts.Defaults.{Defaults}
 use Rattle.sign_font.specs.Sign.{SignData}
 use Rattle.multi_layout.specs.Address.{Standing, standing}
 use Rattle.multi_layout.specs.Meaning.{Does, Meaning, is_new_page, meanings}
-use Rattle.multi_layout.specs.State.{standing_behind}
+use Rattle.multi_layout.specs.kept.State.{standing_behind}
 use Rattle.multi_layout.specs.Times.{Times, cycle, ended_times, page_times, times_at}
 use Rattle.multi_layout.specs.Verdict.{Accepted, IsCycle, IsVerdict}
 use Rattle.multi_layout.proofs.StandingLemmas.{standing_push}
@@ -18,7 +18,7 @@ use Rattle.multi_layout.proofs.AcceptedLemmas.{accepted_is, cycle_is}
 use Rattle.multi_layout.proofs.WordLemmas.{some_after_push}
 use Rattle.message_change.specs.Change.{change_at, change_of, change_within, flash_left, flash_on, flashes_left, is_shown, page_flashes, part_left, sooner, times_left}
 use Rattle.message_change.specs.declared.walk.Walk.{Walk}
-use Rattle.message_change.specs.Walk.{IsIn, page_left, times_of}
+use Rattle.message_change.specs.kept.Walk.{IsIn, page_left, times_of}
 use Rattle.message_change.proofs.TurnLemmas.{IsTurnOf, left_of, off_left, off_shown, on_left, on_shown}
 use Rattle.message_change.proofs.NextItemLemmas.{new_page_is}
 use Rattle.message_change.proofs.PageFlashLemmas.{apart, flashes_ended, flashes_push, no_flashes, none_later, page_is, page_push, soonest_push}

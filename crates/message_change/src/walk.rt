@@ -4,9 +4,9 @@ ghost use Rattle.std.specs.Option.{option_map};
 ghost use Rattle.sign_font.specs.Sign.{SignData};
 ghost use Rattle.multi_layout.specs.Address.{Standing};
 ghost use Rattle.multi_layout.specs.Meaning.{Meaning, said_by};
-ghost use Rattle.multi_layout.specs.State.{standing_behind};
+ghost use Rattle.multi_layout.specs.kept.State.{standing_behind};
 ghost use Rattle.message_change.specs.Change.{flash_left, is_shown, sooner};
-ghost use Rattle.message_change.specs.Walk.{IsIn, IsSaid, page_left, times_of};
+ghost use Rattle.message_change.specs.kept.Walk.{IsIn, IsSaid, page_left, times_of};
 
 use crate::flash::{Flash, flash_left, sooner};
 use multi_tag::Tag;

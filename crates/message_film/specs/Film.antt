@@ -25,5 +25,6 @@ IsTooLong sign text seconds fault = ⊥
 -- why there is no film of a text: memory was refused, or its file may have more than 64,000,000 octets, or it would last too long (own)
 abbrev pub IsNoFilm : ℕ → SignData → List ℕ → Option ℕ → FilmFault → Type 0
 IsNoFilm side sign text seconds Memory = Unit {0}
-IsNoFilm side sign text seconds (TooLarge tenths) = Lasts sign text seconds tenths × (64000000 ≤ most_of_film side sign.width sign.height tenths)
+IsNoFilm side sign text seconds (TooLarge tenths) =
+    Lasts sign text seconds tenths × (64000000 ≤ most_of_film side sign.width sign.height tenths)
 IsNoFilm side sign text seconds (TooLong tenths) = IsTooLong sign text seconds (TooLong tenths)

@@ -26,10 +26,12 @@ played pictures = flat_map (λ picture. replicate picture.delay picture.pixels) 
 unfoldable pub in_tenths : List (List ℕ) → List (List ℕ)
 in_tenths points = flat_map (λ one. replicate 10 one) points
 
--- octets are a file in GIF of this size in points, with this palette, that shows these points in each hundredth of a second, over and over (own)
+-- octets are a file in GIF of this size in points, with this palette, that shows these points in
+-- each hundredth of a second, over and over (own)
 abbrev pub Plays : ℕ → ℕ → List ℕ → List (List ℕ) → List ℕ → Type 0
 Plays width height palette points octets =
-    (pictures : List Picture) × (film_of octets ≡ Some (record { width = width; height = height; palette = palette; pictures = pictures })) × (played pictures ≡ points)
+    (pictures : List Picture) × (film_of octets ≡ Some (record { width = width; height = height; palette = palette; pictures = pictures }))
+    × (played pictures ≡ points)
 
 -- octets are a file in GIF that shows these points of a sign, for a tenth of a second each, over and over (own)
 abbrev pub IsFilmOf : ℕ → SignData → List (List ℕ) → List ℕ → Type 0

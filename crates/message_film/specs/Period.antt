@@ -10,8 +10,8 @@ use Rattle.multi_layout.specs.Meaning.{Meaning, meanings}
 use Rattle.multi_layout.specs.Times.{Times, cycle, page_times, shown}
 use Rattle.message_film.specs.Moving.{seen_points}
 
--- a flash is over a whole number of times in some tenths of a second, or both its times are 0, and it is no flash (NTCIP 1203 v03, MULTI tag
--- 'fl'; the times of 0 are own)
+-- a flash is over a whole number of times in some tenths of a second, or both its times are 0, and
+-- it is no flash (NTCIP 1203 v03, MULTI tag 'fl'; the times of 0 are own)
 abbrev pub Divides : ℕ → FlashTimes → Type 0
 Divides tenths flash = (flash.on + flash.off ≡ 0) ⊎ ((times : ℕ) × (tenths ≡ times * (flash.on + flash.off)))
 
@@ -25,24 +25,27 @@ times_of sign text = page_times sign (meanings text)
 
 -- what is shown of a text is the same at each clock and these tenths of a second after it (own)
 abbrev pub IsPeriod : SignData → List ℕ → ℕ → Type 0
-IsPeriod sign text tenths = (side clock : ℕ) → seen_points side sign text (shown sign text (clock + tenths)) ≡ seen_points side sign text (shown sign text clock)
+IsPeriod sign text tenths =
+    (side clock : ℕ) → seen_points side sign text (shown sign text (clock + tenths)) ≡ seen_points side sign text (shown sign text clock)
 
 -- a law: several pages are shown over and over, each time for one cycle (NTCIP 1203 v03, MULTI tag 'pt'; that phases begin anew is own)
 abbrev pub CycleIsPeriod : Type 0
 CycleIsPeriod = (sign : SignData) (text : List ℕ) → length (times_of sign text) ≢ 1 → IsPeriod sign text (cycle (times_of sign text))
 
--- a law: one page, or a cycle of 0, is shown over and over, each time for as long as all its flashes need together (NTCIP 1203 v03, MULTI tag
--- 'fl'; which time this is is own)
+-- a law: one page, or a cycle of 0, is shown over and over, each time for as long as all its
+-- flashes need together (NTCIP 1203 v03, MULTI tag 'fl'; which time this is is own)
 abbrev pub FlashesHavePeriod : Type 0
 FlashesHavePeriod = (sign : SignData) (text : List ℕ) (tenths : ℕ) → (length (times_of sign text) ≡ 1) ⊎ (cycle (times_of sign text) ≡ 0)
     → AllByRecursion (Allows sign.defaults tenths) (meanings text) → IsPeriod sign text tenths
 
--- the time of the flash that an item gives, on and off together, in tenths of a second; 0 where it gives none (NTCIP 1203 v03, MULTI tag 'fl')
+-- the time of the flash that an item gives, on and off together, in tenths of a second; 0 where it
+-- gives none (NTCIP 1203 v03, MULTI tag 'fl')
 abbrev pub flash_time : Defaults → Meaning → ℕ
-flash_time defaults item = option_map_or (λ given. option_map_or (λ (flash : FlashTimes). flash.on + flash.off) given 0) (given_flash defaults item) 0
+flash_time defaults item =
+    option_map_or (λ given. option_map_or (λ (flash : FlashTimes). flash.on + flash.off) given 0) (given_flash defaults item) 0
 
--- the least multiple of some tenths of a second in which a flash of this time is over a whole number of times; where there is no flash, these
--- tenths themselves (own)
+-- the least multiple of some tenths of a second in which a flash of this time is over a whole
+-- number of times; where there is no flash, these tenths themselves (own)
 abbrev pub IsCommonTime : ℕ → ℕ → ℕ → Type 0
 IsCommonTime tenths flash common =
     ((flash ≡ 0) × (common ≡ tenths))

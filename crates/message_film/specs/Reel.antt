@@ -6,8 +6,8 @@ use Rattle.gif.specs.Reader.{Film}
 use Rattle.gif.specs.Size.{most_of_picture}
 use Rattle.message_film.specs.Moving.{played}
 
--- how many points side by side a pixel has, the size of a sign in pixels, the palette, the points that are shown in each hundredth of a second
--- so far, and in how many tenths of a second of these the picture is shown that isn't written yet (own)
+-- how many points side by side a pixel has, the size of a sign in pixels, the palette, the points that are shown in each
+-- hundredth of a second so far, and in how many tenths of a second of these the picture is shown that isn't written yet (own)
 pub record ReelData : Type 0 where
   pub side : ℕ
   pub width : ℕ
@@ -39,8 +39,8 @@ reel_of side width height film colours tenths = record {
 abbrev pub AreColours : ℕ → ℕ → List ℕ → Type 0
 AreColours width height colours = All (λ colour. colour ≤ 9) colours × (length colours ≡ width * height)
 
--- a film that has begun is sound: its file has the size of the points, the picture that isn't written yet is shown for at most 6,553 tenths of a
--- second and is whole, and each picture that is written is shown for at least one (own)
+-- a film that has begun is sound: its file has the size of the points, the picture that isn't written yet is shown
+-- for at most 6,553 tenths of a second and is whole, and each picture that is written is shown for at least one (own)
 pub record IsSoundReel (side width height : ℕ) (film : Film) (colours : List ℕ) (tenths : ℕ) : Type 0 where
   pub size : (film.width ≡ side * width) × (film.height ≡ side * height)
   pub few : tenths ≤ 6553

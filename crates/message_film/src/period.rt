@@ -55,8 +55,8 @@ fn token_time(sign: &Sign, source: &mut Source<'_>, token: &Token) -> u16
     }
 }
 
-/// The least multiple of some tenths of a second in which a flash of this time is over a whole number of times. Where the time is 0 there is
-/// no flash, and these are the tenths themselves.
+/// The least multiple of some tenths of a second in which a flash of this time is over a whole
+/// number of times. Where the time is 0 there is no flash, and these are the tenths themselves.
 fn common_time(tenths: u32, flash: u16) -> u64
     requires { flash ≤ 510 }
     ensures { IsCommonTime tenths flash result }
@@ -74,8 +74,8 @@ fn common_time(tenths: u32, flash: u16) -> u64
     time * step
 }
 
-/// The least time, in tenths of a second, in which each flash of a string is over a whole number of times. `u32::MAX` stands for that long or
-/// longer.
+/// The least time, in tenths of a second, in which each flash of a string is over a whole number of
+/// times. `u32::MAX` stands for that long or longer.
 fn flash_period(sign: &Sign, octets: &[u8]) -> u32
     ensures { IsFlashPeriod sign.now octets.now result }
 {

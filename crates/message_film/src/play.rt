@@ -65,7 +65,8 @@ fn push_moment(
 ) -> Result<(), AllocError>
     requires sign { checked.old.sign ≡ sign.now }
     requires size { (reel.old.width ≡ sign.now.width) × (reel.old.height ≡ sign.now.height) }
-    ensures points { OnOk result (reel.new.points ≡ reel.old.points ++ replicate 10 (seen_points reel.old.side sign.now checked.old.source.octets (shown sign.now checked.old.source.octets clock))) }
+    ensures points { OnOk result (reel.new.points ≡ reel.old.points ++ replicate 10
+        (seen_points reel.old.side sign.now checked.old.source.octets (shown sign.now checked.old.source.octets clock))) }
     ensures size { OnOk result ((reel.new.side ≡ reel.old.side) × (reel.new.width ≡ reel.old.width) × (reel.new.height ≡ reel.old.height)) }
     ensures palette { OnOk result (reel.new.palette ≡ reel.old.palette) }
     ensures kept { OnOk result ((checked.new.sign ≡ checked.old.sign) × (checked.new.source.octets ≡ checked.old.source.octets)) }
@@ -76,8 +77,8 @@ fn push_moment(
     Ok(())
 }
 
-/// What a string that this sign accepts shows in its first tenths of a second, over and over, as a file in GIF, with `side` by `side` points
-/// for each pixel. It has at most 64,000,000 octets.
+/// What a string that this sign accepts shows in its first tenths of a second, over and over, as a
+/// file in GIF, with `side` by `side` points for each pixel. It has at most 64,000,000 octets.
 pub fn film(
     alloc: Global,
     sign: &Sign,

@@ -53,7 +53,8 @@ impl Reel {
     ) -> Result<Reel, AllocError>
         requires side { side ≤ 16 }
         requires size { (width ≤ 1024) × (height ≤ 128) }
-        ensures { IfOk result (λ reel. reel ≡ record { side = side; width = width; height = height; palette = palette classic; points = []; left = 0 }) }
+        ensures { IfOk result
+            (λ reel. reel ≡ record { side = side; width = width; height = height; palette = palette classic; points = []; left = 0 }) }
     {
         let palette = palette_of(alloc, classic)?;
         let scale = u16::from(side);
@@ -85,8 +86,10 @@ impl Reel {
     /// film is as it was.
     pub fn push(&mut self, alloc: Global, colours: Vec<u8>) -> Result<(), AllocError>
         requires { AreColours self.old.width self.old.height colours.items }
-        ensures points { OnOk result (self.new.points ≡ self.old.points ++ replicate 10 (points_of self.old.side self.old.width self.old.height colours.items)) }
-        ensures size { OnOk result ((self.new.side ≡ self.old.side) × (self.new.width ≡ self.old.width) × (self.new.height ≡ self.old.height)) }
+        ensures points { OnOk result
+            (self.new.points ≡ self.old.points ++ replicate 10 (points_of self.old.side self.old.width self.old.height colours.items)) }
+        ensures size { OnOk result
+            ((self.new.side ≡ self.old.side) × (self.new.width ≡ self.old.width) × (self.new.height ≡ self.old.height)) }
         ensures palette { OnOk result (self.new.palette ≡ self.old.palette) }
         ensures refused { OnErr result (self.new ≡ self.old) }
     {
@@ -109,8 +112,10 @@ impl Reel {
 
     /// The film as a file in GIF. The error says that memory was refused.
     pub fn finish(mut self, alloc: Global) -> Result<Vec<u8>, AllocError>
-        ensures plays { IfOk result (λ octets. Plays (self.side * self.width) (self.side * self.height) self.palette self.points octets.items) }
-        ensures size { IfOk result (λ octets. length octets.items ≤ most_of_film self.side self.width self.height (length self.points / 10) + 1) }
+        ensures plays { IfOk result
+            (λ octets. Plays (self.side * self.width) (self.side * self.height) self.palette self.points octets.items) }
+        ensures size { IfOk result
+            (λ octets. length octets.items ≤ most_of_film self.side self.width self.height (length self.points / 10) + 1) }
     {
         self.write(alloc)?;
         let octets = self.writer.finish()?;

@@ -28,19 +28,22 @@ seen sign text (Clock clock) = shown sign text clock
 
 -- what is shown of a text as a file in PPM: red, green and blue of each point (own)
 abbrev pub ppm_of : ℕ → SignData → List ℕ → Shown → List ℕ
-ppm_of side sign text at = head_of (side * sign.width) (side * sign.height) ++ flat_map (shares sign.classic) (seen_points side sign text at)
+ppm_of side sign text at =
+    head_of (side * sign.width) (side * sign.height) ++ flat_map (shares sign.classic) (seen_points side sign text at)
 
 -- a film is asked for that lasts until the text begins anew, or for 1 to 600 seconds, or no film is (own)
 abbrev pub AllowsSeconds : View → Type 0
 AllowsSeconds (Film seconds) = IfSome seconds (λ count. (1 ≤ count) × (count ≤ 600))
 AllowsSeconds view = Unit {0}
 
--- octets are the file that is asked for: what is shown at a moment, of a page that the text has, in PPM or as a film of one picture; or what the
--- text shows in each tenth of a second, for as long as the film lasts, in at most 64,000,000 octets (own)
+-- octets are the file that is asked for: what is shown at a moment, of a page that the text has, in PPM or as a film of one
+-- picture; or what the text shows in each tenth of a second, for as long as the film lasts, in at most 64,000,000 octets (own)
 abbrev pub IsDrawn : ℕ → SignData → List ℕ → View → List ℕ → Type 0
 IsDrawn side sign text (Ppm moment) file = IsThere text (seen sign text moment) × (file ≡ ppm_of side sign text (seen sign text moment))
-IsDrawn side sign text (Gif moment) file = IsThere text (seen sign text moment) × IsFilmOf side sign (seen_points side sign text (seen sign text moment) ∷ []) file
-IsDrawn side sign text (Film seconds) file = (tenths : ℕ) × Lasts sign text seconds tenths × (tenths ≤ 6000) × IsFilmOf side sign (moving side sign text tenths) file
+IsDrawn side sign text (Gif moment) file =
+    IsThere text (seen sign text moment) × IsFilmOf side sign (seen_points side sign text (seen sign text moment) ∷ []) file
+IsDrawn side sign text (Film seconds) file =
+    (tenths : ℕ) × Lasts sign text seconds tenths × (tenths ≤ 6000) × IsFilmOf side sign (moving side sign text tenths) file
     × (length file ≤ 64000000)
 
 -- why there is no moment of a text: memory was refused, or it hasn't the page that is asked for, but so many (own)

@@ -2,7 +2,6 @@
 ghost use Rattle.std.specs.Prelude.{◌≡◌, ◌<◌, ◌≤◌, ◌^◌, IfErr, IfOk, length};
 ghost use Rattle.page_picture.specs.Shown.{IsThere};
 ghost use Rattle.message_picture.specs.Drawn.{AllowsSeconds, IsDrawn, IsNoFilm, IsNoMoment, IsUndrawn, ppm_of, seen};
-ghost use Rattle.message_film.specs.Moving.{IsFilmOf, seen_points};
 
 use crate::view::{Moment, View};
 use message_film::{FilmFault, as_it_plays, still};
@@ -24,7 +23,8 @@ pub enum DrawFault {
     /// A film of so many tenths of a second may have more than 64,000,000 octets.
     #[error("too large: a film of {tenths} tenths of a second has more than 64 MB")]
     TooLarge { tenths: u16 },
-    /// The message begins anew after so many tenths of a second, and a film lasts for at most 6,000. `u32::MAX` stands for that long or longer.
+    /// The message begins anew after so many tenths of a second, and a film lasts for at most
+    /// 6,000. `u32::MAX` stands for that long or longer.
     #[error("too long: it begins anew after {tenths} tenths of a second")]
     TooLong { tenths: u32 },
 }
@@ -138,12 +138,12 @@ fn draw_film(
     }
 }
 
-/// Draws a string that this sign accepts, with `side` by `side` points for each pixel, 1 to 16, and gives the octets of the file. The octets
-/// are those of the string.
+/// Draws a string that this sign accepts, with `side` by `side` points for each pixel, 1 to 16, and
+/// gives the octets of the file. The octets are those of the string.
 ///
-/// The dot of a pixel is round from 4 points on. It has the pixel's colour: one of the ten classic colours, or on a monochrome sign amber or
-/// dark. A file in PPM has three octets for each point, and at most 100,663,317. A film lasts for at most 6,000 tenths of a second, and its
-/// file has at most 64,000,000 octets.
+/// The dot of a pixel is round from 4 points on. It has the pixel's colour: one of the ten classic colours, or
+/// on a monochrome sign amber or dark. A file in PPM has three octets for each point, and at most 100,663,317.
+/// A film lasts for at most 6,000 tenths of a second, and its file has at most 64,000,000 octets.
 pub fn draw_message(
     alloc: Global,
     sign: &Sign,

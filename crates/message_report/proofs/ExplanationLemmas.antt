@@ -1,7 +1,9 @@
 -- The parts of an explanation, one behind the other.
-use Rattle.std.proofs.Common.{◌≡◌, ℕ, suc, ◌+◌, ◌<◌, ◌^◌, ◌≤◌, ◌≢◌, false, List, [], ◌∷◌, ◌++◌, length, refl, sym, ap, ◌∙◌, arith, subst, append_assoc}
+use Rattle.std.proofs.Common.{◌≡◌, ℕ, suc, ◌+◌, ◌<◌, ◌^◌, ◌≤◌, ◌≢◌, false, List, [], ◌∷◌, ◌++◌, length, refl, sym, ap, ◌∙◌, arith, subst, append_assoc, append-nil}
 use Rattle.std.proofs.lemmas.List.Elements.{All-push}
 use Rattle.std.proofs.lemmas.Bool.{le-ltb, lt-ltb}
+use Rattle.std.proofs.lemmas.Grind.{flat_map-append}
+use Rattle.std.specs.List.{flat_map}
 use Rattle.sign_font.specs.Sign.{SignData}
 use Rattle.multi_layout.specs.Meaning.{meanings}
 use Rattle.multi_layout.specs.Verdict.{Accepted, IsVerdict, Verdict, pages_of, verdict}
@@ -9,7 +11,9 @@ use Rattle.multi_layout.proofs.AcceptedLemmas.{accepted_is}
 use Rattle.multi_layout.proofs.VerdictLemmas.{one_verdict}
 use Rattle.octet_text.proofs.TextLemmas.{grown}
 use Rattle.message_report.specs.Words.{IsOneLine}
-use Rattle.message_report.specs.Explanation.{Explains, HasPages, Tells, accepts, head_text, page_text, takes, too_long_text}
+use Rattle.message_report.specs.declared.format.Telling.{Telling}
+use Rattle.message_report.specs.Explanation.{Explains, HasPages, IsWarnings, Tells, TellsTooLong, accepts, head_text, takes, warning_text}
+use Rattle.message_report.specs.Pictures.{page_text}
 
 -- an accepted string has the pages that its items begin
 pub pages_are : (sign : SignData) (octets : List ℕ) (pages : ℕ) → IsVerdict sign octets (Accepted pages) → length octets < 2 ^ 32 → pages ≡ pages_of (meanings octets)
@@ -39,25 +43,34 @@ pages_more sign octets phase pages page shown words has line =
     subst (λ n. HasPages sign octets phase pages n (shown ++ head_text page pages ++ words ++ 10 ∷ page_text sign octets page phase)) next more
 
 -- a message of at most 4,096 octets is explained by the one verdict on it
-pub explained : (sign : SignData) (octets line : List ℕ) (phase : ℕ) (v : Verdict) (text : List ℕ) → length line ≤ 4096 → octets ≡ line → IsVerdict sign octets v
-    → Tells sign octets phase v text → Explains sign line phase text
-explained sign octets line phase v text short same is tells =
-    let on_line : IsVerdict sign line v = subst (λ l. IsVerdict sign l v) same is in
-    let one : v ≡ verdict sign line = (one_verdict sign line v).0 on_line in
-    let tells_line : Tells sign line phase v text = subst (λ l. Tells sign l phase v text) same tells in
-    rw (le-ltb _ _ short) (subst (λ w. Tells sign line phase w text) one tells_line)
+pub explained : (telling : Telling) (sign : SignData) (name octets message : List ℕ) (line : ℕ) (v : Verdict) (text : List ℕ) → length message ≤ 4096 → octets ≡ message → IsVerdict sign octets v
+    → Tells telling telling.format sign name octets line v text → Explains telling sign name line message text
+explained telling sign name octets message line v text short same is tells =
+    let on_line : IsVerdict sign message v = subst (λ l. IsVerdict sign l v) same is in
+    let one : v ≡ verdict sign message = (one_verdict sign message v).0 on_line in
+    let tells_line : Tells telling telling.format sign name message line v text = subst (λ l. Tells telling telling.format sign name l line v text) same tells in
+    rw (le-ltb _ _ short) (subst (λ w. Tells telling telling.format sign name message line w text) one tells_line)
 
 -- a message with more octets isn't judged
-pub explained_too_long : (sign : SignData) (line : List ℕ) (phase : ℕ) → 4096 < length line → Explains sign line phase too_long_text
-explained_too_long sign line phase long = rw (lt-ltb _ _ long) refl
+pub unjudged : (telling : Telling) (sign : SignData) (name message : List ℕ) (line : ℕ) (text : List ℕ) → 4096 < length message
+    → TellsTooLong telling.format name line text → Explains telling sign name line message text
+unjudged telling sign name message line text long tells = rw (lt-ltb _ _ long) tells
+
+-- one more warning
+pub warnings_more : (name : List ℕ) (line at : ℕ) (told words : List ℕ) → IsWarnings name line told → IsOneLine words → IsWarnings name line (told ++ warning_text name line at words)
+warnings_more name line at told words (warnings, all, is) one =
+    let text : ℕ × List ℕ → List ℕ = λ warning. warning_text name line warning.0 warning.1 in
+    let last : flat_map text ((at, words) ∷ []) ≡ warning_text name line at words = append-nil (warning_text name line at words) in
+    let both = flat_map-append text warnings ((at, words) ∷ []) ∙ ap (λ l. flat_map text warnings ++ l) last in
+    (warnings ++ (at, words) ∷ [], All-push (λ warning. IsOneLine warning.1) warnings (at, words) all one, ap (λ l. l ++ warning_text name line at words) is ∙ sym both)
 
 -- whether a message is taken
-pub taken_by : (sign : SignData) (octets line : List ℕ) (v : Verdict) → length line ≤ 4096 → octets ≡ line → IsVerdict sign octets v → accepts v ≡ takes sign line
+pub taken_by : (sign : SignData) (octets message : List ℕ) (v : Verdict) → length message ≤ 4096 → octets ≡ message → IsVerdict sign octets v → accepts v ≡ takes sign message
 unfolding takes
-taken_by sign octets line v short same is =
-    let on_line : IsVerdict sign line v = subst (λ l. IsVerdict sign l v) same is in
-    rw (le-ltb _ _ short) (ap accepts ((one_verdict sign line v).0 on_line))
+taken_by sign octets message v short same is =
+    let on_line : IsVerdict sign message v = subst (λ l. IsVerdict sign l v) same is in
+    rw (le-ltb _ _ short) (ap accepts ((one_verdict sign message v).0 on_line))
 
-pub not_taken : (sign : SignData) (line : List ℕ) → 4096 < length line → false ≡ takes sign line
+pub not_taken : (sign : SignData) (message : List ℕ) → 4096 < length message → false ≡ takes sign message
 unfolding takes
-not_taken sign line long = rw (lt-ltb _ _ long) refl
+not_taken sign message long = rw (lt-ltb _ _ long) refl

@@ -4,7 +4,7 @@ use Rattle.std.specs.List.{flat_map, range_with_len}
 use Rattle.sign_font.specs.Sign.{SignData}
 use Rattle.octet_text.proofs.TextLemmas.{flat_map_more, flat_map_same, map_more, map_same}
 use Rattle.page_picture.specs.Colours.{ColourData, IsPage, page_colour}
-use Rattle.message_report.specs.Explanation.{mark, mark_at, marks, page_text, row_text, rows_text}
+use Rattle.message_report.specs.Pictures.{mark, mark_at, marks, page_text, row_text, rows_text}
 
 -- no row is written at first
 pub rows_none : (at : ℕ → ℕ → ℕ) (width : ℕ) → rows_text at width 0 ≡ []

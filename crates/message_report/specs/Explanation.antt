@@ -1,68 +1,49 @@
 -- What is told of a message: the verdict on it and its place, and the pages as pictures, with words for people between them.
-use Rattle.std.specs.Prelude.{◌≡◌, ℕ, zero, suc, ◌+◌, Bool, true, false, ◌==◌, nat_lt, List, [], ◌∷◌, ◌++◌, map, length, codes, decimal, if◌then◌else◌}
+use Rattle.std.specs.Prelude.{◌≡◌, ◌⊎◌, ℕ, zero, suc, ◌+◌, Bool, true, false, ◌==◌, nat_lt, List, [], ◌∷◌, ◌++◌, All, map, length, codes, decimal, if◌then◌else◌}
 use Rattle.std.specs.List.{flat_map, range_with_len}
 use Rattle.sign_font.specs.Sign.{SignData}
 use Rattle.multi_layout.specs.Verdict.{Verdict, Accepted, Refused, verdict}
 use Rattle.message_report.specs.Words.{IsOneLine}
-use Rattle.page_picture.specs.Colours.{ColourData, colour_at, page_colour}
+use Rattle.message_report.specs.declared.format.Format.{Format}
+use Rattle.message_report.specs.declared.format.Format.TheVariants.{Json, Lines, Text}
+use Rattle.message_report.specs.declared.format.Telling.{Telling}
+use Rattle.message_report.specs.Records.{TellsRecord, TooLongRecord}
+use Rattle.message_report.specs.Names.{name_of}
+use Rattle.message_report.specs.Pictures.{page_text}
 
--- PICTURES
+-- PLACES
 
--- the mark of a colour: its digit, octets 49 to 57, or a point, octet 46, for black (own)
-abbrev pub mark : ℕ → ℕ
-mark colour = if colour == 0 then 46 else 48 + colour
+-- what is told of a message begins with the number of its line (own)
+unfoldable pub line_head : ℕ → List ℕ
+line_head line = codes "line " ++ decimal line ++ codes ": "
 
--- the mark of a pixel by the colours of a page (own)
-abbrev pub mark_at : ColourData → ℕ → ℕ → ℕ
-mark_at colours column row = mark (colour_at colours column row)
-
--- the marks of the first pixels of a row, from the left (own)
-abbrev pub marks : (ℕ → ℕ → ℕ) → ℕ → ℕ → List ℕ
-marks at row count = map (λ column. at column row) (range_with_len 0 count)
-
--- a row of pixels is a line, which ends with a line feed, octet 10 (own)
-abbrev pub row_text : (ℕ → ℕ → ℕ) → ℕ → ℕ → List ℕ
-row_text at width row = marks at row width ++ 10 ∷ []
-
--- the rows of pixels from the top (own)
-unfoldable pub rows_text : (ℕ → ℕ → ℕ) → ℕ → ℕ → List ℕ
-rows_text at width height = flat_map (row_text at width) (range_with_len 0 height)
-
--- the picture of a page at a phase, in all its colours at once (own)
-abbrev pub page_text : SignData → List ℕ → ℕ → ℕ → List ℕ
-page_text sign octets page phase = rows_text (λ column row. mark (page_colour sign octets page phase column row)) sign.width sign.height
+-- a place in a file as editors read it: the name, the line, and the column of an octet, which is counted from 1 (own)
+unfoldable pub place_text : List ℕ → ℕ → ℕ → List ℕ
+place_text name line at = name ++ codes ":" ++ decimal line ++ codes ":" ++ decimal (at + 1) ++ codes ": "
 
 -- VERDICTS
 
--- the name of an error (NTCIP 1203 v03, dmsMultiSyntaxError)
-unfoldable pub name_of : ℕ → List ℕ
-name_of code =
-    if code == 3 then codes "unsupportedTag"
-    else (if code == 4 then codes "unsupportedTagValue"
-    else (if code == 5 then codes "textTooBig"
-    else (if code == 6 then codes "fontNotDefined"
-    else (if code == 7 then codes "characterNotDefined"
-    else (if code == 11 then codes "tagConflict"
-    else (if code == 12 then codes "tooManyPages"
-    else codes "fontVersionID"))))))
+-- an error by its name and its number (own)
+unfoldable pub error_text : ℕ → List ℕ
+error_text code = name_of code ++ codes " (" ++ decimal code ++ codes ")"
 
--- a refused message begins with the name and the number of its error, and the octet where it stands, counted from 0 (own)
+-- a refused message is told with its error, and the octet where that stands, counted from 0 (own)
 unfoldable pub refused_text : ℕ → ℕ → List ℕ
-refused_text code at = codes "refused: " ++ name_of code ++ codes " (" ++ decimal code ++ codes ") at octet " ++ decimal at ++ codes "\n"
+refused_text code at = codes "refused: " ++ error_text code ++ codes " at octet " ++ decimal at ++ codes "\n"
 
--- an accepted message begins with the number of its pages (own)
+-- an accepted message is told with the number of its pages (own)
 unfoldable pub accepted_text : ℕ → List ℕ
 accepted_text pages = codes "accepted: " ++ decimal pages ++ (if pages == 1 then codes " page\n" else codes " pages\n")
 
 -- a message with too many octets isn't judged (own)
 unfoldable pub too_long_text : List ℕ
-too_long_text = codes "too long: a message has at most 4096 octets\n\n"
+too_long_text = codes "too long: a message has at most 4096 octets\n"
 
 -- a page begins with its number, counted from 1, and how many there are (own)
 unfoldable pub head_text : ℕ → ℕ → List ℕ
 head_text page pages = codes "page " ++ decimal (page + 1) ++ codes " of " ++ decimal pages ++ codes ", "
 
--- EXPLANATIONS
+-- WORDS AND PICTURES
 
 -- a text has the first pages of a string at a phase, each with its head, some words to the end of that line, and its picture (own)
 abbrev pub HasPages : SignData → List ℕ → ℕ → ℕ → ℕ → List ℕ → Type 0
@@ -70,19 +51,64 @@ HasPages sign octets phase pages zero text = text ≡ []
 HasPages sign octets phase pages (suc page) text = (front words : List ℕ) × HasPages sign octets phase pages page front
     × IsOneLine words × (text ≡ front ++ head_text page pages ++ words ++ 10 ∷ page_text sign octets page phase)
 
--- a text tells a verdict: a refusal with its error and its place, or the number of pages, a line and all pages, with some words behind either (own)
-abbrev pub Tells : SignData → List ℕ → ℕ → Verdict → List ℕ → Type 0
-Tells sign octets phase (Accepted pages) text = (front shown words : List ℕ) × HasPages sign octets phase pages pages shown
-    × IsOneLine front × (text ≡ accepted_text pages ++ front ++ 10 ∷ shown ++ words)
-Tells sign octets phase (Refused code at) text = (words : List ℕ) × (text ≡ refused_text code at ++ words)
+-- a text tells of an accepted message: the number of its pages, a line, all pages, and some words (own)
+abbrev pub ShowsPages : SignData → List ℕ → ℕ → ℕ → ℕ → List ℕ → Type 0
+ShowsPages sign octets phase line pages text = (front shown words : List ℕ) × HasPages sign octets phase pages pages shown
+    × IsOneLine front × (text ≡ line_head line ++ accepted_text pages ++ front ++ 10 ∷ shown ++ words)
 
--- a text explains a message of at most 4,096 octets by the sign's verdict on it (own)
-abbrev pub Explains : SignData → List ℕ → ℕ → List ℕ → Type 0
-Explains sign octets phase text = of (nat_lt 4096 (length octets))
+-- or it says nothing of it, or only the number of its pages and some words (own)
+abbrev pub PassesOver : ℕ → ℕ → List ℕ → Type 0
+PassesOver line pages text = (text ≡ []) ⊎ ((words : List ℕ) × (text ≡ line_head line ++ accepted_text pages ++ words))
+
+-- an accepted message is shown, or passed over if only refused ones are asked for (own)
+abbrev pub TellsAccepted : Bool → SignData → List ℕ → ℕ → ℕ → ℕ → List ℕ → Type 0
+TellsAccepted true sign octets phase line pages text = PassesOver line pages text
+TellsAccepted false sign octets phase line pages text = ShowsPages sign octets phase line pages text
+
+-- a text tells a verdict in words and pictures (own)
+abbrev pub TellsWords : Telling → SignData → List ℕ → ℕ → Verdict → List ℕ → Type 0
+TellsWords telling sign octets line (Accepted pages) text = TellsAccepted telling.refused_only sign octets telling.phase line pages text
+TellsWords telling sign octets line (Refused code at) text = (words : List ℕ) × (text ≡ line_head line ++ refused_text code at ++ words)
+
+-- LINES FOR EDITORS
+
+-- the line of a warning: its place, and words (own)
+unfoldable pub warning_text : List ℕ → ℕ → ℕ → List ℕ → List ℕ
+warning_text name line at words = place_text name line at ++ codes "warning: " ++ words ++ codes "\n"
+
+-- a text is lines of warnings, and nothing else (own)
+abbrev pub IsWarnings : List ℕ → ℕ → List ℕ → Type 0
+IsWarnings name line text = (warnings : List (ℕ × List ℕ)) × All (λ warning. IsOneLine warning.1) warnings
+    × (text ≡ flat_map (λ warning. warning_text name line warning.0 warning.1) warnings)
+
+-- a text tells a verdict to editors: of a refused message one line with its place, its error and some words, and of an accepted one warnings
+-- alone (own)
+abbrev pub TellsLines : List ℕ → ℕ → Verdict → List ℕ → Type 0
+TellsLines name line (Accepted pages) text = IsWarnings name line text
+TellsLines name line (Refused code at) text = (words : List ℕ) × IsOneLine words
+    × (text ≡ place_text name line at ++ codes "error: " ++ error_text code ++ codes ": " ++ words ++ 10 ∷ [])
+
+-- EXPLANATIONS
+
+-- a text tells a verdict in a format (own)
+abbrev pub Tells : Telling → Format → SignData → List ℕ → List ℕ → ℕ → Verdict → List ℕ → Type 0
+Tells telling Text sign name octets line v text = TellsWords telling sign octets line v text
+Tells telling Lines sign name octets line v text = TellsLines name line v text
+Tells telling Json sign name octets line v text = TellsRecord telling sign octets line v text
+
+-- a text tells in a format that a message has too many octets (own)
+abbrev pub TellsTooLong : Format → List ℕ → ℕ → List ℕ → Type 0
+TellsTooLong Text name line text = text ≡ line_head line ++ too_long_text ++ codes "\n"
+TellsTooLong Lines name line text = text ≡ place_text name line 4096 ++ codes "error: " ++ too_long_text
+TellsTooLong Json name line text = TooLongRecord line text
+
+-- a text explains the message of a line, which has at most 4,096 octets, by the sign's verdict on it (own)
+abbrev pub Explains : Telling → SignData → List ℕ → ℕ → List ℕ → List ℕ → Type 0
+Explains telling sign name line octets text = of (nat_lt 4096 (length octets))
   where
     of : Bool → Type 0
-    of true = text ≡ too_long_text
-    of false = Tells sign octets phase (verdict sign octets) text
+    of true = TellsTooLong telling.format name line text
+    of false = Tells telling telling.format sign name octets line (verdict sign octets) text
 
 -- a verdict accepts (own)
 abbrev pub accepts : Verdict → Bool

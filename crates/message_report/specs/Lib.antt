@@ -1,2 +1,5 @@
 pub mod Explanation
+pub mod Names
+pub mod Pictures
+pub mod Records
 pub mod Words

@@ -1,17 +1,20 @@
 //! The explanation of a message.
-ghost use Rattle.std.specs.Prelude.{◌≡◌, ◌≢◌, ◌++◌, ◌∷◌, [], ◌<◌, ◌^◌, List, ℕ, length, OnOk, IfOk};
+ghost use Rattle.std.specs.Prelude.{◌≡◌, ◌++◌, ◌<◌, ◌^◌, List, ℕ, length, OnOk, IfOk};
 ghost use Rattle.multi_layout.specs.Pages.{page_count};
-ghost use Rattle.message_report.specs.Explanation.{Explains, HasPages, Tells, takes};
-ghost use Rattle.message_report.specs.Words.{Grows, IsOneLine};
-ghost use Rattle.multi_layout.specs.Verdict.{Accepted};
+ghost use Rattle.multi_layout.specs.Verdict.{Accepted, Refused};
+ghost use Rattle.message_report.specs.Explanation.{Explains, Tells, line_head, refused_text, TellsTooLong, takes};
 
+use crate::format::{Format, Telling, Told};
 use crate::large::large_sign;
-use crate::page::push_page;
-use crate::verdict::{push_accepted, push_head, push_refused, push_too_long};
-use message_words::{Legend, MessageLine, PageTimes, Refusal};
+use crate::lines::{push_error_line, push_warning_lines};
+use crate::pages::push_told;
+use crate::record::{push_accepted_record, push_refused_record, push_too_long_record};
+use crate::text::push_words;
+use crate::verdict::{push_line_head, push_place, push_refused, push_too_long};
+use message_words::{FontCharacters, Refusal, Warning, warnings_on};
 use multi_layout::{Checked, check};
 use multi_token::Source;
-use octet_text::{push_octet, push_octets};
+use octet_text::push_octets;
 use sign_font::Sign;
 use std::alloc::{AllocError, Global};
 use std::marker::Model;
@@ -25,6 +28,10 @@ pub struct Explainer {
     sign: Sign,
     /// A sign with its fonts and defaults and the most pixels and pages, by which is told how much room a message lacks.
     large: Option<Sign>,
+    /// The characters of its fonts.
+    fonts: Vec<FontCharacters>,
+    /// The most octets of a text that its message table takes.
+    max_string: u16,
 }
 
 impl Model for Explainer {
@@ -36,173 +43,171 @@ impl Model for Explainer {
 }
 
 impl Explainer {
-    /// An explainer for a sign. The error says that memory was refused.
-    pub fn new(alloc: Global, sign: Sign) -> Result<Explainer, AllocError>
+    /// An explainer for a sign whose message table takes texts of at most this many octets. The error says that memory was refused.
+    pub fn new(alloc: Global, sign: Sign, max_string: u16) -> Result<Explainer, AllocError>
         ensures { IfOk result (λ explainer. explainer ≡ sign) }
     {
-        let large = large_sign(alloc, &sign)?;
-        Ok(Explainer { sign, large })
+        let fonts = FontCharacters::of_sign(alloc, &sign)?;
+        let large = large_sign(alloc, &sign, &fonts)?;
+        Ok(Explainer {
+            sign,
+            large,
+            fonts,
+            max_string,
+        })
     }
 }
 
-/// Appends words.
-fn push_words(text: &mut Vec<u8>, words: &String) -> Result<(), AllocError>
-    ensures { OnOk result (Grows text.old.items text.new.items) }
+/// Appends that a message has too many octets.
+fn push_unjudged(
+    text: &mut Vec<u8>,
+    alloc: Global,
+    format: Format,
+    name: &[u8],
+    line: u32,
+) -> Result<(), AllocError>
+    ensures { OnOk result ((told : List ℕ) × (text.new.items ≡ text.old.items ++ told) × TellsTooLong format name.now line told) }
 {
-    push_octets(text, words.as_bytes())
-}
-
-/// An octet of a line: a question mark stands in place of a line feed.
-fn in_line(octet: u8) -> u8
-    ensures { result ≢ 10 }
-{
-    if octet == b'\n' { b'?' } else { octet }
-}
-
-/// Appends words as one line, with a question mark in place of a line feed.
-fn push_line(text: &mut Vec<u8>, words: &String) -> Result<(), AllocError>
-    ensures { OnOk result ((line : List ℕ) × IsOneLine line × (text.new.items ≡ text.old.items ++ (line ++ 10 ∷ []))) }
-{
-    for octet in words.as_bytes() {
-        push_octet(text, in_line(*octet))?;
+    match format {
+        Format::Text => {
+            push_line_head(text, line)?;
+            push_too_long(text)?;
+            push_octets(text, b"\n")
+        }
+        Format::Lines => {
+            push_place(text, name, line, MAX_MESSAGE)?;
+            push_octets(text, b"error: ")?;
+            push_too_long(text)
+        }
+        Format::Json => push_too_long_record(text, alloc, line),
     }
-    push_octet(text, b'\n')
-}
-
-/// Appends a message as a line.
-fn push_message(text: &mut Vec<u8>, alloc: Global, message: &[u8]) -> Result<(), AllocError>
-    ensures { OnOk result ((line : List ℕ) × IsOneLine line × (text.new.items ≡ text.old.items ++ (line ++ 10 ∷ []))) }
-{
-    let words = MessageLine(message).to_string(alloc)?;
-    push_line(text, &words)
-}
-
-/// Appends how long a page is shown, and how long the sign is dark after it, to the end of a line.
-fn push_times(
-    text: &mut Vec<u8>,
-    alloc: Global,
-    sign: &Sign,
-    message: &[u8],
-    page: u8,
-    pages: u8,
-) -> Result<(), AllocError>
-    ensures { OnOk result ((line : List ℕ) × IsOneLine line × (text.new.items ≡ text.old.items ++ (line ++ 10 ∷ []))) }
-{
-    let times = PageTimes {
-        sign,
-        message,
-        page,
-        pages,
-    };
-    let words = times.to_string(alloc)?;
-    push_line(text, &words)
-}
-
-/// Appends what the marks of the pictures mean, and what they don't show.
-fn push_legend(
-    text: &mut Vec<u8>,
-    alloc: Global,
-    sign: &Sign,
-    message: &[u8],
-    checked: &Checked<'_>,
-    phase: u64,
-) -> Result<(), AllocError>
-    ensures { OnOk result (Grows text.old.items text.new.items) }
-{
-    let legend = Legend {
-        sign,
-        message,
-        cycle: checked.cycle(),
-        phase,
-    };
-    let words = legend.to_string(alloc)?;
-    push_words(text, &words)
-}
-
-/// Appends all pages, each with its times and its picture at a phase.
-fn push_pages(
-    text: &mut Vec<u8>,
-    alloc: Global,
-    sign: &Sign,
-    message: &[u8],
-    checked: &mut Checked<'_>,
-    phase: u64,
-) -> Result<(), AllocError>
-    requires sign { checked.old.sign ≡ sign.now }
-    requires short { length checked.old.source.octets < 2 ^ 32 }
-    ensures ok { OnOk result ((shown : List ℕ) × (text.new.items ≡ text.old.items ++ shown)
-        × HasPages sign.now checked.old.source.octets phase (page_count checked.old) (page_count checked.old) shown) }
-    ensures kept { (checked.new.sign ≡ checked.old.sign) × (checked.new.source.octets ≡ checked.old.source.octets) }
-{
-    let pages = checked.pages();
-    for page in 0..pages {
-        push_head(text, page, pages)?;
-        push_times(text, alloc, sign, message, page, pages)?;
-        push_page(text, alloc, sign, checked, page, phase)?;
-    }
-    Ok(())
 }
 
 /// Appends the explanation of an accepted message.
-fn push_shown(
+fn push_accepted(
     text: &mut Vec<u8>,
     alloc: Global,
+    telling: Telling,
     sign: &Sign,
+    name: &[u8],
+    line: u32,
     message: &[u8],
     checked: Checked<'_>,
-    phase: u64,
+    warnings: &[Warning],
 ) -> Result<(), AllocError>
     requires sign { checked.sign ≡ sign.now }
     requires short { length checked.source.octets < 2 ^ 32 }
     ensures { OnOk result ((told : List ℕ) × (text.new.items ≡ text.old.items ++ told)
-        × Tells sign.now checked.entry.source.octets phase (Accepted (page_count checked.entry)) told) }
+        × Tells telling telling.format sign.now name.now checked.entry.source.octets line (Accepted (page_count checked.entry)) told) }
 {
-    let mut checked = checked;
-    push_accepted(text, checked.pages())?;
-    push_message(text, alloc, message)?;
-    push_pages(text, alloc, sign, message, &mut checked, phase)?;
-    push_legend(text, alloc, sign, message, &checked, phase)?;
-    Ok(())
+    match telling.format {
+        Format::Text => push_told(text, alloc, telling, sign, line, message, checked, warnings),
+        Format::Lines => push_warning_lines(text, name, line, warnings),
+        Format::Json => {
+            push_accepted_record(text, alloc, telling, sign, line, message, checked, warnings)
+        }
+    }
+}
+
+/// Appends a refusal in words.
+fn push_refusal_words(
+    text: &mut Vec<u8>,
+    line: u32,
+    refusal: &Refusal<'_>,
+) -> Result<(), AllocError>
+    ensures { OnOk result ((words : List ℕ) × (text.new.items ≡ text.old.items ++ (line_head line ++ refused_text refusal.now.code refusal.now.at ++ words))) }
+{
+    push_line_head(text, line)?;
+    push_refused(text, refusal.code, refusal.at)?;
+    let words = refusal.to_string(refusal.alloc)?;
+    push_words(text, &words)
+}
+
+/// Appends the explanation of a refused message.
+fn push_refusal(
+    text: &mut Vec<u8>,
+    telling: Telling,
+    name: &[u8],
+    line: u32,
+    refusal: &Refusal<'_>,
+) -> Result<(), AllocError>
+    requires small { refusal.now.at < 2 ^ 63 }
+    ensures { OnOk result ((told : List ℕ) × (text.new.items ≡ text.old.items ++ told)
+        × Tells telling telling.format refusal.now.sign.now name.now refusal.now.message.now line (Refused refusal.now.code refusal.now.at) told) }
+{
+    match telling.format {
+        Format::Text => push_refusal_words(text, line, refusal),
+        Format::Lines => {
+            let reason = refusal.reason()?;
+            push_error_line(text, name, line, refusal.code, refusal.at, &reason)
+        }
+        Format::Json => {
+            let reason = refusal.reason()?;
+            push_refused_record(
+                text,
+                refusal.alloc,
+                line,
+                refusal.message,
+                refusal.code,
+                refusal.at,
+                &reason,
+            )
+        }
+    }
 }
 
 impl Explainer {
-    /// Appends the explanation of a message: the sign's verdict on it, and where it is refused and why, or else its pages, each with
-    /// its times and its picture in all colours at once. A picture shows the page as it is at the phase, in tenths of a second since
-    /// the page began. The answer is whether the sign takes the message.
+    /// Appends the explanation of the message of a line, as it is asked for: the sign's verdict on it, and where it is refused and why, or else its
+    /// pages, each with its times and its picture in all colours at once, and what its writer can't have meant. A picture shows the page as it
+    /// is at the phase, in tenths of a second since the page began. The name is that of the file of the messages. The answer is whether the
+    /// sign takes the message, and the number of warnings.
     ///
     /// A message with more than 4,096 octets isn't judged, and not taken. The error says that memory was refused.
     pub fn explain(
         &self,
         alloc: Global,
+        telling: Telling,
+        name: &[u8],
+        line: u32,
         message: &[u8],
-        phase: u64,
         text: &mut Vec<u8>,
-    ) -> Result<bool, AllocError>
-        ensures told { OnOk result ((told : List ℕ) × (text.new.items ≡ text.old.items ++ told) × Explains self.now message.now phase told) }
-        ensures taken { IfOk result (λ taken. taken ≡ takes self.now message.now) }
+    ) -> Result<Told, AllocError>
+        ensures told { OnOk result ((told : List ℕ) × (text.new.items ≡ text.old.items ++ told) × Explains telling self.now name.now line message.now told) }
+        ensures taken { IfOk result (λ told. told.is_taken ≡ takes self.now message.now) }
     {
         if message.len() > MAX_MESSAGE {
-            push_too_long(text)?;
-            return Ok(false);
+            push_unjudged(text, alloc, telling.format, name, line)?;
+            return Ok(Told {
+                is_taken: false,
+                warnings: 0,
+            });
         }
         match check(&self.sign, Source::new(message)) {
             Ok(checked) => {
-                push_shown(text, alloc, &self.sign, message, checked, phase)?;
-                Ok(true)
+                let found = warnings_on(alloc, &self.sign, message, self.max_string)?;
+                push_accepted(
+                    text, alloc, telling, &self.sign, name, line, message, checked, &found,
+                )?;
+                Ok(Told {
+                    is_taken: true,
+                    warnings: found.len().min(MAX_MESSAGE) as u32,
+                })
             }
             Err(fault) => {
-                push_refused(text, fault.code, fault.at)?;
                 let refusal = Refusal {
                     alloc,
                     sign: &self.sign,
                     large: self.large.as_ref(),
+                    fonts: &self.fonts,
                     message,
                     code: fault.code,
                     at: fault.at,
                 };
-                let words = refusal.to_string(alloc)?;
-                push_words(text, &words)?;
-                Ok(false)
+                push_refusal(text, telling, name, line, &refusal)?;
+                Ok(Told {
+                    is_taken: false,
+                    warnings: 0,
+                })
             }
         }
     }

@@ -1,13 +1,19 @@
-//! What a sign makes of a message, in words and pictures for people.
+//! What a sign makes of a message, in words and pictures for people, in lines for editors, and in records for programs.
 //!
 //! [`Explainer`] tells of a refused message where and why it is refused, with the numbers that a writer needs to mend it, and of an
-//! accepted one its pages with their times, each drawn in all its colours at once. The words are those of `message_words`. Programs call
-//! `multi_layout::check`.
+//! accepted one its pages with their times, each drawn in all its colours at once, and warnings. The words are those of `message_words`.
+//! Programs call `multi_layout::check`.
 #![tactic(auto)]
 
 mod explain;
+mod format;
 mod large;
+mod lines;
 mod page;
+mod pages;
+mod record;
+mod text;
 mod verdict;
 
 pub use explain::Explainer;
+pub use format::{Format, Telling, Told};

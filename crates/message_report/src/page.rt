@@ -1,7 +1,7 @@
 //! A page drawn in all its colours at once.
 ghost use Rattle.std.specs.Prelude.{◌≡◌, ◌++◌, ◌<◌, ◌≤◌, OnOk};
 ghost use Rattle.multi_layout.specs.Pages.{page_count};
-ghost use Rattle.message_report.specs.Explanation.{mark, mark_at, page_text, row_text, rows_text};
+ghost use Rattle.message_report.specs.Pictures.{mark, mark_at, page_text, row_text, rows_text};
 
 use multi_layout::Checked;
 use octet_text::push_octet;

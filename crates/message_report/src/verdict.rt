@@ -1,37 +1,76 @@
 //! The first lines of an explanation.
-ghost use Rattle.std.specs.Prelude.{◌≡◌, ◌++◌, OnOk};
-ghost use Rattle.message_report.specs.Explanation.{accepted_text, head_text, name_of, refused_text, too_long_text};
+ghost use Rattle.std.specs.Prelude.{◌≡◌, ◌++◌, ◌<◌, ◌^◌, OnOk};
+ghost use Rattle.message_report.specs.Explanation.{accepted_text, error_text, head_text, line_head, place_text, refused_text, too_long_text};
+ghost use Rattle.message_report.specs.Names.{name_of};
 
 use octet_text::{push_number, push_octets};
 use std::alloc::AllocError;
 
 /// The name of an error (NTCIP 1203 v03, dmsMultiSyntaxError).
-#[tactic(auto, unfolding(crate::specs::Explanation::name_of))]
-fn name_of(code: u8) -> &'static [u8]
+#[tactic(auto, unfolding(crate::specs::Names::name_of))]
+pub(crate) fn name_of(code: u8) -> &'static str
     ensures { result.now ≡ name_of code }
 {
     match code {
-        3 => b"unsupportedTag",
-        4 => b"unsupportedTagValue",
-        5 => b"textTooBig",
-        6 => b"fontNotDefined",
-        7 => b"characterNotDefined",
-        11 => b"tagConflict",
-        12 => b"tooManyPages",
-        _ => b"fontVersionID",
+        3 => "unsupportedTag",
+        4 => "unsupportedTagValue",
+        5 => "textTooBig",
+        6 => "fontNotDefined",
+        7 => "characterNotDefined",
+        11 => "tagConflict",
+        12 => "tooManyPages",
+        _ => "fontVersionID",
     }
 }
 
-/// Appends that a message is refused, with the number of its error and the octet where it stands.
+/// Appends the number of the line of a message.
+#[tactic(auto, unfolding(crate::specs::Explanation::line_head))]
+pub(crate) fn push_line_head(text: &mut Vec<u8>, line: u32) -> Result<(), AllocError>
+    ensures { OnOk result (text.new.items ≡ text.old.items ++ line_head line) }
+{
+    push_octets(text, b"line ")?;
+    push_number(text, u64::from(line))?;
+    push_octets(text, b": ")
+}
+
+/// Appends a place: the name of a file, a line, and the column of an octet, which is counted from 0 here.
+#[tactic(auto, unfolding(crate::specs::Explanation::place_text))]
+pub(crate) fn push_place(
+    text: &mut Vec<u8>,
+    name: &[u8],
+    line: u32,
+    at: usize,
+) -> Result<(), AllocError>
+    requires small { at < 2 ^ 63 }
+    ensures { OnOk result (text.new.items ≡ text.old.items ++ place_text name.now line at) }
+{
+    push_octets(text, name)?;
+    push_octets(text, b":")?;
+    push_number(text, u64::from(line))?;
+    push_octets(text, b":")?;
+    push_number(text, at as u64 + 1)?;
+    push_octets(text, b": ")
+}
+
+/// Appends the name and the number of an error.
+#[tactic(auto, unfolding(crate::specs::Explanation::error_text))]
+pub(crate) fn push_error(text: &mut Vec<u8>, code: u8) -> Result<(), AllocError>
+    ensures { OnOk result (text.new.items ≡ text.old.items ++ error_text code) }
+{
+    push_octets(text, name_of(code).as_bytes())?;
+    push_octets(text, b" (")?;
+    push_number(text, u64::from(code))?;
+    push_octets(text, b")")
+}
+
+/// Appends that a message is refused, with its error and the octet where that stands.
 #[tactic(auto, unfolding(crate::specs::Explanation::refused_text))]
 pub(crate) fn push_refused(text: &mut Vec<u8>, code: u8, at: usize) -> Result<(), AllocError>
     ensures { OnOk result (text.new.items ≡ text.old.items ++ refused_text code at) }
 {
     push_octets(text, b"refused: ")?;
-    push_octets(text, name_of(code))?;
-    push_octets(text, b" (")?;
-    push_number(text, u64::from(code))?;
-    push_octets(text, b") at octet ")?;
+    push_error(text, code)?;
+    push_octets(text, b" at octet ")?;
     push_number(text, at as u64)?;
     push_octets(text, b"\n")
 }
@@ -55,7 +94,7 @@ pub(crate) fn push_accepted(text: &mut Vec<u8>, pages: u8) -> Result<(), AllocEr
 pub(crate) fn push_too_long(text: &mut Vec<u8>) -> Result<(), AllocError>
     ensures { OnOk result (text.new.items ≡ text.old.items ++ too_long_text) }
 {
-    push_octets(text, b"too long: a message has at most 4096 octets\n\n")
+    push_octets(text, b"too long: a message has at most 4096 octets\n")
 }
 
 /// Appends the number of a page, which is counted from 0, among the pages.

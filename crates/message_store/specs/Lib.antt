@@ -4,6 +4,7 @@ pub mod Pool
 pub mod Slot
 pub mod Limits
 pub mod Step
+pub mod Judged
 pub mod Work
 pub mod Row
 pub mod Stored

@@ -10,7 +10,8 @@ use Rattle.message_store.specs.Slot.{SlotData, PermanentData, StoreData}
 
 -- a slot with its texts (own)
 abbrev pub slot_of : Slot → List ℕ → List ℕ → SlotData
-slot_of slot multi owner = record { status = slot.status; multi = multi; owner = owner; priority = slot.priority; beacon = slot.beacon; pixel = slot.pixel }
+slot_of slot multi owner =
+    record { status = slot.status; multi = multi; owner = owner; priority = slot.priority; beacon = slot.beacon; pixel = slot.pixel }
 
 -- the slots with their texts: the MULTI text and then the owner of each (own)
 abbrev pub whole : List Slot → List (List ℕ) → List SlotData

@@ -10,6 +10,7 @@
 
 mod crc;
 mod fault;
+mod judge;
 mod limits;
 mod message;
 mod parts;
@@ -22,6 +23,7 @@ mod write;
 
 pub use crc::message_crc;
 pub use fault::{StoreFault, StoreMade};
+pub use judge::{TextJudgement, judge_text};
 pub use limits::StoreLimits;
 pub use message::{MsgRef, Permanent};
 pub use row::Row;

@@ -34,7 +34,8 @@ impl Model for Texts {
 
     ghost view = { λ t. record { texts = map (text_in t.octets.items) t.spans.items; room = t.room } };
 
-    ghost invariant = { λ t. ArePlaced t.spans.items (length t.octets.items) × (length t.octets.items ≤ t.room) × (t.room ≤ vec_capacity t.octets) };
+    ghost invariant = { λ t. ArePlaced t.spans.items (length t.octets.items) × (length t.octets.items ≤ t.room)
+        × (t.room ≤ vec_capacity t.octets) };
 }
 
 /// Moves the place of a text up where a gap of `len` octets before `end` was closed and it stands behind that.
@@ -126,7 +127,8 @@ fn replace_whole(spans: &mut Vec<Span>, octets: &mut Vec<u8>, index: usize, text
     requires index { index < length spans.old.items }
     requires placed { ArePlaced spans.old.items (length octets.old.items) }
     requires room { length octets.old.items + length text.now ≤ vec_capacity octets.old + (span_at spans.old.items index).len }
-    ensures texts { map (text_in octets.new.items) spans.new.items ≡ slice_set (map (text_in octets.old.items) spans.old.items) index text.now }
+    ensures texts { map (text_in octets.new.items) spans.new.items
+        ≡ slice_set (map (text_in octets.old.items) spans.old.items) index text.now }
     ensures placed { ArePlaced spans.new.items (length octets.new.items) }
     ensures count { length octets.new.items + (span_at spans.old.items index).len ≡ length octets.old.items + length text.now }
     ensures capacity { vec_capacity octets.old ≤ vec_capacity octets.new }
@@ -141,7 +143,8 @@ fn replace_at(spans: &mut Vec<Span>, octets: &mut Vec<u8>, index: usize, text: &
     requires index { index < length spans.old.items }
     requires placed { ArePlaced spans.old.items (length octets.old.items) }
     requires room { length octets.old.items + length text.now ≤ vec_capacity octets.old + (span_at spans.old.items index).len }
-    ensures texts { map (text_in octets.new.items) spans.new.items ≡ slice_set (map (text_in octets.old.items) spans.old.items) index text.now }
+    ensures texts { map (text_in octets.new.items) spans.new.items
+        ≡ slice_set (map (text_in octets.old.items) spans.old.items) index text.now }
     ensures placed { ArePlaced spans.new.items (length octets.new.items) }
     ensures count { length octets.new.items + (span_at spans.old.items index).len ≡ length octets.old.items + length text.now }
     ensures capacity { vec_capacity octets.old ≤ vec_capacity octets.new }

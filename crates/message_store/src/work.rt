@@ -10,10 +10,9 @@ ghost use Rattle.message_store.specs.Slot.{slot_at};
 ghost use Rattle.message_store.specs.Stored.{slot_of};
 ghost use Rattle.message_store.specs.Work.{IsCounted, judged_status, judgement, of_verdict, worked};
 
+use crate::judge::judge_text;
 use crate::slot::{Slot, Status};
 use crate::store::Store;
-use multi_layout::check_with;
-use multi_token::Source;
 use sign_font::{Defaults, Sign};
 
 /// Why a message isn't valid (NTCIP 1203 v03, dmsValidateMessageError).
@@ -75,24 +74,28 @@ pub struct Judged {
     pub steps: u64,
 }
 
-/// What a sign says of a text by these defaults.
-fn judge_text(sign: &Sign, defaults: &Defaults, text: &[u8]) -> Judgement
+/// What a sign says of the text of a message by these defaults.
+fn judge_syntax(sign: &Sign, defaults: &Defaults, text: &[u8]) -> Judgement
     requires taken { default_fault sign.now defaults.now ≡ None }
     requires short { length text.now ≤ 4096 }
     ensures judgement { judgement_of result ≡ of_verdict (verdict (under sign.now defaults.now) text.now) }
     ensures steps { IsCounted (length text.now) (validate_code result.error) result.syntax result.steps }
 {
-    match check_with(sign, *defaults, Source::new(text)) {
-        Ok(checked) => Judgement {
+    let judged = judge_text(sign, *defaults, text);
+    let syntax = Some((judged.error, judged.position));
+    let steps = judged.steps;
+    if judged.accepted {
+        Judgement {
             error: ValidateError::None,
-            syntax: Some((2, 0)),
-            steps: checked.steps(),
-        },
-        Err(fault) => Judgement {
+            syntax,
+            steps,
+        }
+    } else {
+        Judgement {
             error: ValidateError::SyntaxMulti,
-            syntax: Some((fault.code, fault.at as u16)),
-            steps: fault.source.steps(),
-        },
+            syntax,
+            steps,
+        }
     }
 }
 
@@ -116,7 +119,7 @@ fn judge(sign: &Sign, defaults: &Defaults, slot: Slot, text: &[u8]) -> Judgement
             steps: 0,
         }
     } else {
-        judge_text(sign, defaults, text)
+        judge_syntax(sign, defaults, text)
     }
 }
 
@@ -130,7 +133,8 @@ impl Store {
         requires taken { default_fault sign.now defaults.now ≡ None }
         ensures judged { option_map judged_of result ≡ (worked (under sign.now defaults.now) self.old).judged }
         ensures store { self.new ≡ (worked (under sign.now defaults.now) self.old).store }
-        ensures steps { IfSome result (λ judged. IsCounted (length (slot_at self.old (judged.number - 1)).multi) judged.validate_error judged.syntax judged.steps) }
+        ensures steps { IfSome result (λ judged.
+            IsCounted (length (slot_at self.old (judged.number - 1)).multi) judged.validate_error judged.syntax judged.steps) }
         ensures kept { IsKept self.new }
         ensures limits { self.new.limits ≡ self.old.limits }
     {

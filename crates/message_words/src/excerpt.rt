@@ -1,32 +1,46 @@
 //! A message as a line, with a caret under a place.
 
+use crate::utf8::{encoded_at, is_shown};
 use std::alloc::AllocError;
 use std::fmt;
 use std::fmt::{Formatter, Write};
 
-/// The most octets before the place, and in all, that are shown (own).
+/// The most octets before the place, and the most characters in all, that are shown (own).
 const BEFORE: usize = 60;
 
 const MOST: usize = 76;
 
-/// How an octet is shown: as itself, or as `?` if it isn't a sign or a space of ASCII.
-fn shown(octet: u8) -> char {
-    if octet >= b' ' && octet <= b'~' {
-        char::from(octet)
-    } else {
-        '?'
+/// How what stands at an offset is shown, and where the next begins: a character in UTF-8 as itself, and as `?` if it isn't seen or if the
+/// octet is of none.
+fn shown_at(message: &[u8], at: usize) -> (char, usize) {
+    match encoded_at(message, at) {
+        Some(encoded) => {
+            let character = if is_shown(encoded.character) {
+                encoded.character
+            } else {
+                '?'
+            };
+            (character, at.saturating_add(encoded.count))
+        }
+        None => ('?', at.saturating_add(1)),
     }
 }
 
-/// Writes the first octets of a message.
+/// Writes the first characters of a message.
 pub(crate) fn write_message<W: Write>(f: &mut Formatter<W>, message: &[u8]) -> fmt::Result {
-    for octet in message.iter().take(MOST) {
-        f.write_char(shown(*octet))?;
+    let mut at = 0;
+    for _ in 0..MOST {
+        if at >= message.len() {
+            return Ok(());
+        }
+        let (character, next) = shown_at(message, at);
+        f.write_char(character)?;
+        at = next;
     }
-    f.write_str(if message.len() > MOST { " .." } else { "" })
+    f.write_str(if message.len() > at { " .." } else { "" })
 }
 
-/// Writes the octets of a message around a place, and under them a caret at the place.
+/// Writes the characters of a message around a place, and under them a caret at the place.
 pub(crate) fn write_excerpt(
     text: &mut String,
     message: &[u8],
@@ -38,11 +52,20 @@ pub(crate) fn write_excerpt(
         text.push_str(itoa::Buffer::new().format(first))?;
         text.push_str(":\n")?;
     }
-    for octet in message.iter().skip(first).take(MOST) {
-        text.push(shown(*octet))?;
+    let mut next = first;
+    let mut before: usize = 0;
+    for _ in 0..MOST {
+        if next < message.len() {
+            let (character, behind) = shown_at(message, next);
+            text.push(character)?;
+            if behind <= at {
+                before = before.saturating_add(1);
+            }
+            next = behind;
+        }
     }
     text.push('\n')?;
-    for _ in first..at {
+    for _ in 0..before {
         text.push(' ')?;
     }
     text.push_str("^\n")

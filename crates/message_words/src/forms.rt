@@ -1,5 +1,7 @@
 //! The tags of MULTI, for one who wrote another.
 
+use std::alloc::{AllocError, Global};
+
 /// A tag that signs of this profile take, and how it is written (NTCIP 1203 v03, MULTI).
 const TAKEN: [(&str, &str); 14] = [
     ("np", "[np], without a number"),
@@ -82,4 +84,21 @@ pub(crate) fn left_out(body: &[u8]) -> Option<&'static str> {
         [b'f' | b'F' | b'g' | b'G', b'0'..=b'9' | b',', ..] => found(&NUMBERED, body),
         _ => found(&LEFT_OUT, body),
     }
+}
+
+/// The name of a tag that signs take and that is nearest to the letters with which a body begins, if one is but one letter off.
+pub(crate) fn nearest(alloc: Global, body: &[u8]) -> Result<Option<&'static str>, AllocError> {
+    let mut name = String::new(alloc);
+    for octet in body {
+        if !octet.is_ascii_alphabetic() && *octet != b'/' {
+            break;
+        }
+        name.push(char::from(octet.to_ascii_lowercase()))?;
+    }
+    for (taken, _) in TAKEN {
+        if strsim::levenshtein(alloc, &name, taken)? <= 1 && name.len() > 1 {
+            return Ok(Some(taken));
+        }
+    }
+    Ok(None)
 }

@@ -1,15 +1,24 @@
 //! What is said of a message to the people who write it, in words.
 //!
 //! The words judge nothing: the verdict on a message is that of `multi_layout::check`, which is handed in, and
-//! `message_report::Explainer` puts them beside it. A refused message is told with the numbers that a writer needs to mend it.
+//! `message_report::Explainer` puts them beside it. A refused message is told with the numbers that a writer needs to mend it, and an
+//! accepted one with warnings of what its writer can't have meant.
 #![tactic(auto)]
 
+mod characters;
 mod excerpt;
 mod forms;
+mod names;
 mod reason;
 mod room;
+mod sight;
 mod standing;
+mod utf8;
+mod warnings;
 mod words;
 
+pub use characters::{CharacterRun, FontCharacters};
 pub use room::{LARGE_COLUMNS, LARGE_ROWS};
+pub use standing::{Times, times_of};
+pub use warnings::{Warning, WarningLines, warnings_on};
 pub use words::{Legend, MessageLine, PageTimes, Refusal};

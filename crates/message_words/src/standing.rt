@@ -208,6 +208,24 @@ pub(crate) fn standing_at(sign: &Sign, message: &[u8], to: usize, page: u32) -> 
     standing
 }
 
+/// The times of a page, in tenths of a second (own).
+#[derive(Clone, Copy)]
+pub struct Times {
+    /// How long it is shown.
+    pub on: u8,
+    /// How long the sign is dark after it.
+    pub off: u8,
+}
+
+/// The times of a page, counted from 0, of a message that a sign accepts (NTCIP 1203 v03, MULTI tag 'pt').
+pub fn times_of(sign: &Sign, message: &[u8], page: u8) -> Times {
+    let standing = standing_at(sign, message, message.len(), u32::from(page));
+    Times {
+        on: standing.on,
+        off: standing.off,
+    }
+}
+
 /// A part of a message.
 #[derive(Clone, Copy)]
 pub(crate) enum Part {

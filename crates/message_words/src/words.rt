@@ -1,5 +1,6 @@
 //! The words on a message, each written by `Display`.
 
+use crate::characters::FontCharacters;
 use crate::excerpt::{write_excerpt, write_message};
 use crate::reason::Place;
 use crate::standing::standing_at;
@@ -30,6 +31,8 @@ pub struct Refusal<'a> {
     /// A sign of [`LARGE_COLUMNS`](crate::LARGE_COLUMNS) and [`LARGE_ROWS`](crate::LARGE_ROWS) with its fonts and defaults, if there is
     /// one: by it is told how much room the message lacks.
     pub large: Option<&'a Sign>,
+    /// The characters of its fonts.
+    pub fonts: &'a [FontCharacters],
     /// The message.
     pub message: &'a [u8],
     /// The number of the error (NTCIP 1203 v03, dmsMultiSyntaxError).
@@ -39,18 +42,31 @@ pub struct Refusal<'a> {
 }
 
 impl Refusal<'_> {
-    /// The words.
-    fn words(&self) -> Result<String, AllocError> {
+    /// Adds the reason.
+    fn write_reason(&self, words: &mut String) -> Result<(), AllocError> {
         let place = Place {
             alloc: self.alloc,
             sign: self.sign,
             large: self.large,
+            fonts: self.fonts,
             message: self.message,
             at: self.at,
         };
+        place.write_reason(words, self.code)
+    }
+
+    /// The words.
+    fn words(&self) -> Result<String, AllocError> {
         let mut words = String::new(self.alloc);
         write_excerpt(&mut words, self.message, self.at)?;
-        place.write_reason(&mut words, self.code)?;
+        self.write_reason(&mut words)?;
+        Ok(words)
+    }
+
+    /// The sentence that says why, without the message. The error says that memory was refused.
+    pub fn reason(&self) -> Result<String, AllocError> {
+        let mut words = String::new(self.alloc);
+        self.write_reason(&mut words)?;
         Ok(words)
     }
 }
@@ -61,7 +77,7 @@ impl Display for Refusal<'_> {
             return Err(fmt::Error);
         };
         // an empty line stands behind each explanation
-        writeln!(f, "{words}")
+        write!(f, "{words}\n\n")
     }
 }
 
@@ -108,7 +124,7 @@ impl Display for PageTimes<'_> {
 }
 
 /// What the marks of the pictures of a message's pages mean, and what they don't show: that its pages don't change, and that text flashes
-/// (own). An empty line ends it. Written by `Display`.
+/// (own). Written by `Display`.
 #[derive(Clone, Copy)]
 pub struct Legend<'a> {
     /// The sign.
@@ -139,7 +155,6 @@ impl Display for Legend<'_> {
                 "text flashes, and is drawn as it is {phase} tenths of a second after its page began"
             )?;
         }
-        // an empty line stands behind each explanation
-        f.write_str("\n")
+        Ok(())
     }
 }

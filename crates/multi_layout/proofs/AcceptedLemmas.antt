@@ -9,7 +9,7 @@ use Rattle.multi_layout.specs.LaidItems.{laid_out}
 use Rattle.multi_layout.specs.Meaning.{meaning, meanings}
 use Rattle.multi_layout.specs.Times.{cycle, page_times}
 use Rattle.multi_layout.specs.Verdict.{Accepted, IsVerdict, IsCycle, broken, of_first, offences, pages_of, verdict_on}
-use Rattle.multi_layout.specs.Walk.{IsAccepted, IsOrderly}
+use Rattle.multi_layout.specs.kept.Cursors.{IsAccepted, IsOrderly}
 use Rattle.multi_layout.proofs.OrderlyLemmas.{orderly_out}
 
 -- accepted means that there is no fault

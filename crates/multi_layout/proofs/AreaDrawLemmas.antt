@@ -14,22 +14,22 @@ use Rattle.multi_layout.specs.declared.table.LineTable.{LineTable}
 use Rattle.multi_layout.specs.Address.{spots, standing, in_area}
 use Rattle.multi_layout.specs.Limits.{plane_octets}
 use Rattle.multi_layout.specs.Meaning.{begins_area}
-use Rattle.multi_layout.specs.Passes.{HasCounted, IsDrawnTo, IsFilledBy, BeginsNoArea, whole_area}
-use Rattle.multi_layout.specs.Walk.{IsBetween, IsPieceFirst, IsRead, meant, Piece, spell_of}
+use Rattle.multi_layout.specs.kept.AreaDrawing.{HasCounted, IsDrawnTo, IsFilledBy, BeginsNoArea, whole_area}
+use Rattle.multi_layout.specs.kept.Cursors.{IsBetween, IsPieceFirst, IsRead, meant, LaidItem, spell_of}
 use Rattle.multi_layout.proofs.StateLemmas.{same_area}
 use Rattle.multi_layout.proofs.WalkLemmas.{spell_of-append}
 
 -- these of the area's items are drawn, and those are left
-pub record AreaSoFar (sign : SignData) (octets : List ℕ) (before area rest : List Piece) (lines : LineTable) (layer : Layer) (cursor : Cursor) (old new : BitPlane) : Type 0 where
-  pub done : List Piece
-  pub left : List Piece
+pub record AreaSoFar (sign : SignData) (octets : List ℕ) (before area rest : List LaidItem) (lines : LineTable) (layer : Layer) (cursor : Cursor) (old new : BitPlane) : Type 0 where
+  pub done : List LaidItem
+  pub left : List LaidItem
   pub split : area ≡ done ++ left
   pub plain : BeginsNoArea left
   pub between : IsBetween sign octets (before ++ done) (left ++ rest) cursor
   pub counted : HasCounted (whole_area sign (before ++ done) (left ++ rest)) lines
   pub drawn : IsDrawnTo sign layer (map meant (before ++ (area ++ rest))) (map meant before) old → IsDrawnTo sign layer (map meant (before ++ (area ++ rest))) (map meant (before ++ done)) new
 
-module _ (sign : SignData) (octets : List ℕ) (before area rest : List Piece) (lines : LineTable) (layer : Layer) (old : BitPlane) where
+module _ (sign : SignData) (octets : List ℕ) (before area rest : List LaidItem) (lines : LineTable) (layer : Layer) (old : BitPlane) where
   -- none is drawn
   pub area_begins : (cursor : Cursor) → IsBetween sign octets before (area ++ rest) cursor → BeginsNoArea area → HasCounted (whole_area sign before (area ++ rest)) lines
       → AreaSoFar sign octets before area rest lines layer cursor old old
@@ -52,10 +52,10 @@ module _ (sign : SignData) (octets : List ℕ) (before area rest : List Piece) (
     here = s.between.placed.place ∙ ap length (spell_of-append before s.done) ∙ length-append (spell_of before) (spell_of s.done)
 
     -- before the end one is left
-    pub one_left : cursor.at < end → (item : Piece) × (more : List Piece) × (s.left ≡ item ∷ more)
+    pub one_left : cursor.at < end → (item : LaidItem) × (more : List LaidItem) × (s.left ≡ item ∷ more)
     one_left more = of s.left (omega (arith, more, ends, ahead, here))
       where
-        of : (left : List Piece) → 1 ≤ length (spell_of left) → (item : Piece) × (more : List Piece) × (left ≡ item ∷ more)
+        of : (left : List LaidItem) → 1 ≤ length (spell_of left) → (item : LaidItem) × (more : List LaidItem) × (left ≡ item ∷ more)
         of [] h = absurd (omega (arith, h))
         of (item ∷ more) h = (item, more, refl)
 
@@ -63,7 +63,7 @@ module _ (sign : SignData) (octets : List ℕ) (before area rest : List Piece) (
     pub none_left : end ≤ cursor.at → s.left ≡ []
     none_left reached = of s.left (omega (arith, reached, ends, ahead, here))
       where
-        of : (left : List Piece) → length (spell_of left) ≤ 0 → left ≡ []
+        of : (left : List LaidItem) → length (spell_of left) ≤ 0 → left ≡ []
         of [] h = refl
         of (item ∷ more) h = absurd (omega (arith, h, spelling_some item.item, length-append (spelling item.item) (spell_of more)))
 
@@ -86,15 +86,15 @@ module _ (sign : SignData) (octets : List ℕ) (before area rest : List Piece) (
     at_end reached = omega (arith, reached, (area_ended reached).1.placed.place, ends, ap length (spell_of-append before area), length-append (spell_of before) (spell_of area))
 
     -- an item is left
-    pub area_here : cursor.at < end → (item : Piece) × (more : List Piece) × IsBetween sign octets (before ++ s.done) (item ∷ (more ++ rest)) cursor
+    pub area_here : cursor.at < end → (item : LaidItem) × (more : List LaidItem) × IsBetween sign octets (before ++ s.done) (item ∷ (more ++ rest)) cursor
     area_here before_end =
         let (item, more, is) = one_left before_end in
         (item, more, subst (λ l. IsBetween sign octets (before ++ s.done) (l ++ rest) cursor) is s.between)
 
     -- the next item is the first that is left
     pub area_next : cursor.at < end → (next : NextItem)
-        → ((earlier behind : List Piece) → IsBetween sign octets earlier behind cursor → HasCounted (whole_area sign earlier behind) lines → IsPieceFirst behind (Some next))
-        → (item : Piece) × (more : List Piece) × (s.left ≡ item ∷ more) × IsBetween sign octets (before ++ s.done) (item ∷ (more ++ rest)) cursor × IsRead item next
+        → ((earlier behind : List LaidItem) → IsBetween sign octets earlier behind cursor → HasCounted (whole_area sign earlier behind) lines → IsPieceFirst behind (Some next))
+        → (item : LaidItem) × (more : List LaidItem) × (s.left ≡ item ∷ more) × IsBetween sign octets (before ++ s.done) (item ∷ (more ++ rest)) cursor × IsRead item next
         × HasCounted (whole_area sign (before ++ s.done) (item ∷ (more ++ rest))) lines × (begins_area (meant item) ≡ false)
     area_next before_end next first =
         let (item, more, is) = one_left before_end in
@@ -112,7 +112,7 @@ module _ (sign : SignData) (octets : List ℕ) (before area rest : List Piece) (
         )
 
     -- one more is drawn
-    pub area_more : (item : Piece) (more : List Piece) → s.left ≡ item ∷ more → (cursor' : Cursor) (new' : BitPlane)
+    pub area_more : (item : LaidItem) (more : List LaidItem) → s.left ≡ item ∷ more → (cursor' : Cursor) (new' : BitPlane)
         → IsBetween sign octets ((before ++ s.done) ++ item ∷ []) (more ++ rest) cursor'
         → (IsDrawnTo sign layer (map meant ((before ++ s.done) ++ item ∷ (more ++ rest))) (map meant (before ++ s.done)) new → IsDrawnTo sign layer (map meant ((before ++ s.done) ++ item ∷ (more ++ rest))) (map meant ((before ++ s.done) ++ item ∷ [])) new')
         → AreaSoFar sign octets before area rest lines layer cursor' old new'

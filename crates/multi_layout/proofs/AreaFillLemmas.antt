@@ -7,9 +7,9 @@ use Rattle.multi_layout.specs.declared.area.Area.{Area}
 use Rattle.multi_layout.specs.declared.fill.Split.{Split}
 use Rattle.multi_layout.specs.Address.{Spot, in_group, is_break, lines_of}
 use Rattle.multi_layout.specs.Filling.{filled}
-use Rattle.multi_layout.specs.FillSums.{IsFilledOn, split_sum}
+use Rattle.multi_layout.specs.kept.FillSums.{IsFilledOn, split_sum}
 use Rattle.multi_layout.specs.Line.{height_of}
-use Rattle.multi_layout.specs.Sums.{area_sum, area_sum_in, group_sum, height_before}
+use Rattle.multi_layout.specs.kept.Sums.{area_sum, area_sum_in, group_sum, height_before}
 use Rattle.multi_layout.proofs.AreaSumLemmas.{group_behind}
 
 -- an area whose present group is filled with one more character

@@ -1,104 +1,42 @@
--- The first reading of an area: the table of its counted lines, item by item.
-use Rattle.std.proofs.Common.{◌≡◌, ℕ, ◌+◌, ◌-◌, ◌*◌, ◌^◌, ◌<◌, ◌≤◌, Bool, true, false, cond, length, map, List, [], ◌∷◌, ◌++◌, Some, None, refl, sym, ap, subst, ◌∙◌, arith, append_assoc, append-nil}
+-- The first reading of an area: the table of its lines, item by item.
+use Rattle.std.proofs.Common.{◌≡◌, ℕ, Bool, true, ◌+◌, ◌-◌, ◌*◌, ◌^◌, ◌<◌, ◌≤◌, false, cond, length, map, List, [], ◌∷◌, ◌++◌, Some, refl, sym, ap, subst, ◌∙◌, arith, append_assoc, append-nil, length-append}
 use Rattle.std.specs.List.{All}
-use Rattle.std.proofs.lemmas.List.{length-append, map-append}
+use Rattle.std.proofs.lemmas.List.{map-append}
 use Rattle.std.proofs.lemmas.List.Elements.{All-nil, All-push}
 use Rattle.multi_token.specs.Counted.{Counted, RisesBetween}
+use Rattle.multi_token.specs.Spelling.{Item}
 use Rattle.multi_token.proofs.ReadingLemmas.{spelling_some}
 use Rattle.multi_token.proofs.StepLemmas.{rises_more, rises_then}
-use Rattle.sign_font.specs.declared.parts.LineFill.TheVariants.{Off}
+use Rattle.sign_font.specs.declared.parts.LineFill.{LineFill}
+use Rattle.sign_font.specs.declared.parts.LineFill.TheVariants.{Words}
 use Rattle.sign_font.specs.Sign.{SignData}
-use Rattle.sign_font.specs.Sound.{IsSound}
-use Rattle.multi_layout.specs.declared.area.Area.{Area}
-use Rattle.multi_layout.specs.declared.area.Group.{Group}
 use Rattle.multi_layout.specs.declared.cursor.Cursor.{Cursor}
 use Rattle.multi_layout.specs.declared.cursor.NextItem.{NextItem}
+use Rattle.multi_layout.specs.declared.pass.Pass.{Pass}
 use Rattle.multi_layout.specs.declared.read.AreaLines.{AreaLines}
 use Rattle.multi_layout.specs.declared.table.LineTable.{LineTable}
-use Rattle.multi_layout.specs.Address.{Spot, Standing, Break, in_group, spots, standing, in_area}
-use Rattle.multi_layout.specs.KnownItem.{meant_by}
-use Rattle.multi_layout.specs.Meaning.{Meaning, EndsArea, begins_area}
-use Rattle.multi_layout.specs.Passes.{HasCounted, HasKnown, HasRoom, IsAreaRead, IsLow, BeginsNoArea, first_steps, whole_area}
-use Rattle.multi_layout.specs.Offence.{unsized_offence}
-use Rattle.multi_layout.specs.Run.{kept_height}
-use Rattle.multi_layout.specs.State.{IsStateOf, present_area}
-use Rattle.multi_layout.specs.Sums.{IsBelow, IsPlacing, area_sum}
-use Rattle.multi_layout.specs.Table.{IsNarrowArea, IsOrdered, group_lines, table_of}
-use Rattle.multi_layout.specs.Walk.{IsBetween, IsPieceFirst, IsRead, items_of, meant, Piece, spell_of}
-use Rattle.multi_layout.proofs.AreaSumLemmas.{area_placing, group_of_own}
-use Rattle.multi_layout.proofs.GroupSumLemmas.{placing_group}
-use Rattle.multi_layout.proofs.BoundLemmas.{below_more}
+use Rattle.multi_layout.specs.Address.{Standing, in_area, spots, standing}
+use Rattle.multi_layout.specs.kept.AreaReading.{IsNextRead, IsReadOf, laid_area}
+use Rattle.multi_layout.specs.kept.FilledState.{IsFilledOf}
+use Rattle.multi_layout.specs.kept.KnownItem.{meant_by}
+use Rattle.multi_layout.specs.LaidItems.{laid_items}
+use Rattle.multi_layout.specs.Meaning.{EndsArea, Meaning, begins_area, meaning}
+use Rattle.multi_layout.specs.kept.AreaDrawing.{BeginsNoArea, HasCounted, HasKnown, IsAreaRead, IsLow, first_steps, whole_area}
+use Rattle.multi_layout.specs.kept.PassState.{IsPassOf, fill_of}
+use Rattle.multi_layout.specs.kept.State.{IsStateOf, present_area}
+use Rattle.multi_layout.specs.kept.Table.{IsOrdered, group_lines, table_of}
+use Rattle.multi_layout.specs.Verdict.{fault_at, offences}
+use Rattle.multi_layout.specs.kept.Cursors.{IsBetween, IsFirst, IsItemRead, IsPlaced, items_of, laid_meanings, meant, LaidItem, spell_of}
+use Rattle.multi_layout.proofs.AreaReadLemmas.{laid_plain}
+use Rattle.multi_layout.proofs.FilledStartLemmas.{area_empty, laid_empty, state_begins}
 use Rattle.multi_layout.proofs.KnownLinesLemmas.{known_none}
-use Rattle.multi_layout.proofs.NarrowLemmas.{narrow_area}
-use Rattle.multi_layout.proofs.RoomLemmas as room_lemmas
-use Rattle.multi_layout.proofs.RunLemmas.{kept_height_is}
+use Rattle.multi_layout.proofs.LaidItemLemmas.{are_laid}
+use Rattle.multi_layout.proofs.PieceLemmas.{ends_laid, first_piece, laid_front, plain_laid}
 use Rattle.multi_layout.proofs.SpotsLemmas.{area_ends}
 use Rattle.multi_layout.proofs.StandingLemmas.{standing_push}
-use Rattle.multi_layout.proofs.PieceLemmas.{fine_before, fine_with}
-use Rattle.multi_layout.proofs.WalkLemmas.{few_between, never_offends, spell_of-append, within_between}
-
--- AN ACCEPTED STRING
-
--- a group is at least as high as its ended lines
-closed_most : (group : Group) → group.closed ≤ kept_height group
-closed_most group = by_any group.line.any refl
-  where
-    by_any : (b : Bool) → group.line.any ≡ b → group.closed ≤ kept_height group
-    by_any true some = rw some (omega arith)
-    by_any false none = rw none (omega arith)
-
--- what the present area has is placing items
-pub present_placing : (sign : SignData) (items : List Meaning) → All IsPlacing (present_area sign items)
-present_placing sign items = area_placing (spots sign items) (record { at = standing sign items; put = Break None })
-
--- the present area has room for its lines
-pub present_room : {sign : SignData} {octets : List ℕ} {before behind : List Piece} {cursor : Cursor} → IsSound sign → sign.line_fill ≡ Off → IsBetween sign octets before behind cursor
-    → HasRoom (present_area sign (map meant before))
-present_room {sign} {octets} {before} {behind} {cursor} sound off b =
-    room_lemmas.room sign sound sound.font (map meant before) (fine_before b off)
-
--- its present lines are narrow, and its groups not high
-pub present_narrow : {sign : SignData} {octets : List ℕ} {before behind : List Piece} {cursor : Cursor} → IsSound sign → sign.line_fill ≡ Off → IsBetween sign octets before behind cursor
-    → IsNarrowArea (present_area sign (map meant before))
-present_narrow {sign} {octets} {before} {behind} {cursor} sound off b =
-    narrow_area sign sound (map meant before) (fine_before b off)
-
--- so the ended lines of the present group aren't high
-pub closed_below : (spots : List Spot) (area : Area) → area ≡ area_sum spots → All IsPlacing spots → IsNarrowArea spots → (just : ℕ) → 2 ≤ just → just ≤ 4 → area.present ≡ just → area.group.closed ≤ 1024
-closed_below spots area is placing narrow just low high own =
-    let sum = group_of_own spots area is just (sym own) in
-    let tall = (narrow just low high).1 in
-    let most : area.group.closed ≤ kept_height area.group = closed_most area.group in
-    omega (arith, most, kept_height_is (in_group just spots) area.group (placing_group just spots placing) sum, tall)
-
-pub closed_low : {sign : SignData} {octets : List ℕ} {before behind : List Piece} {cursor : Cursor} → IsSound sign → sign.line_fill ≡ Off → IsBetween sign octets before behind cursor
-    → (just : ℕ) → 2 ≤ just → just ≤ 4 → cursor.state.area.present ≡ just → cursor.state.area.group.closed ≤ 1024
-closed_low {sign} {octets} {before} {behind} {cursor} sound off b =
-    closed_below (present_area sign (map meant before)) cursor.state.area b.state_is.area (present_placing sign (map meant before)) (present_narrow sound off b)
-
--- so has the area behind one more item
-pub room_behind : {sign : SignData} {octets : List ℕ} {before rest : List Piece} {item : Piece} {cursor : Cursor} → IsSound sign → sign.line_fill ≡ Off → IsBetween sign octets before (item ∷ rest) cursor
-    → HasRoom (present_area sign (map meant (before ++ item ∷ [])))
-room_behind {sign} {octets} {before} {rest} {item} {cursor} sound off b =
-    room_lemmas.room sign sound sound.font (map meant (before ++ item ∷ [])) (fine_with b off)
-
--- the sums are small
-pub present_low : {sign : SignData} {octets : List ℕ} {before behind : List Piece} {cursor : Cursor} → IsBetween sign octets before behind cursor → IsBelow (2 ^ 42) cursor.state.area
-present_low {sign} {octets} {before} {behind} {cursor} b =
-    below_more (1024 * length (map meant before)) (2 ^ 42) cursor.state.area (omega (arith, few_between sign octets before behind cursor b)) b.state_is.below
-
--- one more item of an accepted string, as it was read
-module _ {sign : SignData} {octets : List ℕ} {before rest : List Piece} {item : Piece} {cursor : Cursor} (b : IsBetween sign octets before (item ∷ rest) cursor) {next : NextItem} (read : IsRead item next) where
-  -- it doesn't offend
-  pub next_fine : unsized_offence sign (map meant before) (meant_by next.item) ≡ None
-  next_fine = ap (unsized_offence sign (map meant before)) (sym read.meant) ∙ never_offends sign octets before rest item cursor b
-
-  pub items_with : map meant (before ++ item ∷ []) ≡ map meant before ++ meant_by next.item ∷ []
-  items_with = map-append meant before (item ∷ []) ∙ ap (λ m. map meant before ++ m ∷ []) read.meant
-
-  -- the state behind it
-  pub next_state : {new : Cursor} → IsBetween sign octets (before ++ item ∷ []) rest new → IsStateOf sign (map meant before ++ meant_by next.item ∷ []) new.state
-  next_state {new} behind = subst (λ ms. IsStateOf sign ms new.state) items_with behind.state_is
+use Rattle.multi_layout.proofs.WalkLemmas.{few_placed, fine_items, placed_more, spell_of-append, within}
+use Rattle.multi_layout.proofs.WholeAreaLemmas.{counted_whole}
+use Rattle.multi_layout.proofs.WordLemmas.{left_nil, some_after-append}
 
 -- the steps of one more item
 pub steps_on : (at : ℕ) (source a b d : Counted) (from to len : ℕ) → from ≤ at → to ≡ at + len → at < to
@@ -108,131 +46,174 @@ steps_on at source a b d from to len low on more earlier item passing =
     rises_more source d 0 _ _ all
     (rises_then source b d 0 (9 * (at - from) + (2 * len - 1)) 0 8 (rises_then source a b 0 (9 * (at - from)) 0 (2 * len - 1) earlier item) passing)
 
--- THE READING OF AN AREA
+abbrev item_at : LaidItem → Item
+item_at piece = piece.item
 
-module _ (sign : SignData) (octets : List ℕ) where
-  -- the reading of an area so far: the items read and left, none of which begins an area, and the table of the ended lines
-  pub record SoFar (before behind : List Piece) (cursor : Cursor) (lines : LineTable) : Type 0 where
-    pub items : List Piece
-    pub left : List Piece
-    pub split : behind ≡ items ++ left
-    pub plain : BeginsNoArea items
-    pub same_area : (standing sign (map meant (before ++ items))).area ≡ (standing sign (map meant before)).area
-    pub between : IsBetween sign octets (before ++ items) left cursor
-    pub known : HasKnown cursor.state.area.present (present_area sign (map meant (before ++ items))) lines
-    pub ordered : IsOrdered lines
-    pub low : IsLow lines
+-- the reading so far: the pieces read and left, none of which begins an area, and what is kept of the items up to there
+pub record SoFar (words : Bool) (sign : SignData) (octets : List ℕ) (before behind : List LaidItem) (at : ℕ) (kept : Pass) (lines : LineTable) : Type 0 where
+  pub pieces : List LaidItem
+  pub left : List LaidItem
+  pub split : behind ≡ pieces ++ left
+  pub plain : BeginsNoArea pieces
+  pub same_area : (standing sign (map meaning (items_of (before ++ pieces)))).area ≡ (standing sign (map meant before)).area
+  pub laid : map meant ((before ++ pieces) ++ left) ≡ laid_meanings sign (items_of ((before ++ pieces) ++ left))
+  pub placed : IsPlaced sign octets (items_of (before ++ pieces)) (items_of left) at
+  pub read : IsReadOf words sign (items_of (before ++ pieces)) kept.state.area.present kept lines
 
-  -- before the first item
-  pub nothing_read : (before behind : List Piece) (cursor : Cursor) (lines : LineTable) → IsBetween sign octets before behind cursor → present_area sign (map meant before) ≡ []
-      → ((just : ℕ) → group_lines just lines ≡ []) → IsOrdered lines → SoFar before behind cursor lines
-  nothing_read before behind cursor lines b begins none ordered =
+-- before the first item
+module _ (words : Bool) {sign : SignData} (kind : sign.line_fill ≡ fill_of words) {octets : List ℕ} {before behind : List LaidItem} {cursor : Cursor} (b : IsBetween sign octets before behind cursor)
+    (begins : present_area sign (map meant before) ≡ []) where
+  abbrev ms : List Meaning
+  ms = map meaning (items_of before)
+
+  abbrev rest : List Meaning
+  rest = map meaning (items_of behind)
+
+  front : map meant before ≡ laid_items (fill_of words) sign (ms ++ rest) ms
+  front = laid_front sign before behind b.laid ∙ ap (λ (setting : LineFill). laid_items setting sign (ms ++ rest) ms) kind
+
+  none : present_area sign (laid_items (fill_of words) sign (ms ++ rest) ms) ≡ []
+  none = ap (present_area sign) (sym front) ∙ begins
+
+  no_items : present_area sign ms ≡ []
+  no_items = area_empty (fill_of words) sign ms rest none
+
+  no_laid : present_area sign (laid_items (fill_of words) sign ms ms) ≡ []
+  no_laid = subst (λ l. present_area sign (laid_items (fill_of words) sign l ms) ≡ []) (append-nil ms) (laid_empty (fill_of words) sign ms [] no_items)
+
+  state : IsStateOf sign (laid_items (fill_of words) sign ms ms) cursor.state
+  state = state_begins (fill_of words) sign ms rest cursor.state none (subst (λ l. IsStateOf sign l cursor.state) front b.state_is)
+
+  made_of : (kept : Pass) → kept.state ≡ cursor.state → (IsStateOf sign (laid_items Words sign ms ms) cursor.state → present_area sign ms ≡ [] → IsFilledOf sign ms kept) → offences sign (items_of before) ≡ []
+      → (by : Bool) → sign.line_fill ≡ fill_of by → IsStateOf sign (laid_items (fill_of by) sign ms ms) cursor.state → IsPassOf by sign kept ms
+  made_of kept same made fine true is st = record { words = is; of = made st no_items }
+  made_of kept same made fine false is st =
+      record { off = is; fine = fine_items sign is (items_of before) fine; state_is = subst (IsStateOf sign ms) (sym same) (subst (λ l. IsStateOf sign l cursor.state) (laid_plain sign ms) st) }
+
+  pub nothing_read : (kept : Pass) → kept.state ≡ cursor.state
+      → ((sign : SignData) (items : List Meaning) → IsStateOf sign (laid_items Words sign items items) cursor.state → present_area sign items ≡ [] → IsFilledOf sign items kept)
+      → (lines : LineTable) → ((just : ℕ) → group_lines just lines ≡ []) → IsOrdered lines → SoFar words sign octets before behind cursor.at kept lines
+  nothing_read kept same made lines empty ordered =
+      let fine = left_nil (offences sign (items_of before)) _ (sym (some_after-append (fault_at sign) (items_of before) (items_of behind)) ∙ b.placed.accepted.none) in
       let all : before ++ [] ≡ before = append-nil before in
-      let area : present_area sign (map meant (before ++ [])) ≡ [] = ap (λ l. present_area sign (map meant l)) all ∙ begins in
       record {
-        items = [];
+        pieces = [];
         left = behind;
         split = refl;
         plain = All-nil (λ item. begins_area (meant item) ≡ false);
-        same_area = ap (λ l. (standing sign (map meant l)).area) all;
-        between = subst (λ l. IsBetween sign octets l behind cursor) (sym all) b;
-        known = subst (λ a. HasKnown cursor.state.area.present a lines) (sym area) (λ just least most. none just ∙ ap table_of (sym (known_none cursor.state.area.present just [] refl)));
-        ordered = ordered;
-        low = λ just least most. subst (All (λ l. l.bottom ≤ 2 ^ 43)) (sym (none just)) (All-nil (λ l. l.bottom ≤ 2 ^ 43));
-      }
-
-  module _ (before behind : List Piece) (cursor : Cursor) (lines : LineTable) (so : SoFar before behind cursor lines) where
-    -- the next item was read, and the cursor went behind it
-    pub record Passed (next : NextItem) (new : Cursor) : Type 0 where
-      pub item : Piece
-      pub rest : List Piece
-      pub first : so.left ≡ item ∷ rest
-      pub read : IsRead item next
-      pub between : IsBetween sign octets ((before ++ so.items) ++ item ∷ []) rest new
-
-module _ {sign : SignData} {octets : List ℕ} {before behind : List Piece} {cursor : Cursor} {lines : LineTable} (so : SoFar sign octets before behind cursor lines) where
-  -- the cursor is the same on the same octets
-  pub so_between : {octets' : List ℕ} → octets' ≡ octets → IsBetween sign octets' (before ++ so.items) so.left cursor
-  so_between same = subst (λ o. IsBetween sign o (before ++ so.items) so.left cursor) (sym same) so.between
-
-  pub so_first : {octets' : List ℕ} → octets' ≡ octets → (item : Piece) (rest : List Piece) → so.left ≡ item ∷ rest → IsBetween sign octets' (before ++ so.items) (item ∷ rest) cursor
-  so_first {octets'} same item rest first = subst (λ l. IsBetween sign octets' (before ++ so.items) l cursor) first (so_between same)
-
-  pub pass_on : (next : NextItem) (new : Cursor) {octets' octets'' : List ℕ} → octets' ≡ octets → octets'' ≡ octets
-      → ((before behind : List Piece) → IsBetween sign octets' before behind cursor → IsPieceFirst behind (Some next))
-      → ((before rest : List Piece) (item : Piece) → IsBetween sign octets'' before (item ∷ rest) cursor → IsRead item next → IsBetween sign octets'' (before ++ item ∷ []) rest new)
-      → Passed sign octets before behind cursor lines so next new
-  pass_on next new same same' found pass =
-      let (item, rest, first, read) = found (before ++ so.items) so.left (so_between same) in
-      record {
-        item = item;
-        rest = rest;
-        first = first;
-        read = read;
-        between = subst (λ o. IsBetween sign o ((before ++ so.items) ++ item ∷ []) rest new) same'
-            (pass (before ++ so.items) rest item (so_first same' item rest first) read);
-      }
-
-  module _ {next : NextItem} {new : Cursor} (p : Passed sign octets before behind cursor lines so next new) where
-    -- the cursor goes on, and not past the end
-    pub so_advances : new.at ≡ cursor.at + next.len → (cursor.at < new.at) × (new.at ≤ length octets)
-    so_advances at = (omega (arith, at, spelling_some p.item.item, p.read.len), within_between sign octets ((before ++ so.items) ++ p.item ∷ []) p.rest new p.between)
-
-    grown : map meant ((before ++ so.items) ++ p.item ∷ []) ≡ map meant (before ++ so.items) ++ meant_by next.item ∷ []
-    grown = map-append meant (before ++ so.items) (p.item ∷ []) ∙ ap (λ m. map meant (before ++ so.items) ++ m ∷ []) p.read.meant
-
-    -- the state behind the item
-    pub state_behind : IsStateOf sign (map meant (before ++ so.items) ++ meant_by next.item ∷ []) new.state
-    state_behind = subst (λ ms. IsStateOf sign ms new.state) grown p.between.state_is
-
-    -- one more item
-    pub read_on : (lines' : LineTable) → begins_area (meant_by next.item) ≡ false
-        → HasKnown new.state.area.present (present_area sign (map meant ((before ++ so.items) ++ p.item ∷ []))) lines' → IsOrdered lines' → IsLow lines' → SoFar sign octets before behind new lines'
-    read_on lines' stays known ordered low =
-        let ms = map meant (before ++ so.items) in
-        let again : (before ++ so.items) ++ p.item ∷ [] ≡ before ++ (so.items ++ p.item ∷ []) = append_assoc before so.items (p.item ∷ []) in
-        let all : map meant (before ++ (so.items ++ p.item ∷ [])) ≡ ms ++ meant_by next.item ∷ [] = ap (map meant) (sym again) ∙ grown in
-        let stands : (standing sign (ms ++ meant_by next.item ∷ [])).area ≡ (standing sign ms).area + cond (begins_area (meant_by next.item)) 1 0 =
-        ap (λ (s : Standing). s.area) (standing_push sign ms (meant_by next.item)) in
-        let none : cond {A = ℕ} (begins_area (meant_by next.item)) 1 0 ≡ 0 = ap (λ b. cond b 1 0) stays in
-        let same : (standing sign (ms ++ meant_by next.item ∷ [])).area ≡ (standing sign ms).area = omega (arith, stands, none) in
-        record {
-          items = so.items ++ p.item ∷ [];
-          left = p.rest;
-          split = so.split ∙ ap (λ l. so.items ++ l) p.first ∙ sym (append_assoc so.items (p.item ∷ []) p.rest);
-          plain = All-push (λ item. begins_area (meant item) ≡ false) so.items p.item so.plain (ap begins_area p.read.meant ∙ stays);
-          same_area = ap (λ ms. (standing sign ms).area) all ∙ same ∙ so.same_area;
-          between = subst (λ l. IsBetween sign octets l p.rest new) again p.between;
-          known = subst (λ l. HasKnown new.state.area.present (present_area sign (map meant l)) lines') again known;
+        same_area = ap (λ l. (standing sign (map meaning (items_of l))).area) all ∙ sym (ap (λ (s : Standing). s.area) (ap (standing sign) front ∙ (are_laid (fill_of words) sign (ms ++ rest) ms rest refl).0));
+        laid = subst (λ l. map meant (l ++ behind) ≡ laid_meanings sign (items_of (l ++ behind))) (sym all) b.laid;
+        placed = subst (λ l. IsPlaced sign octets (items_of l) (items_of behind) cursor.at) (sym all) b.placed;
+        read = subst (λ l. IsReadOf words sign (items_of l) kept.state.area.present kept lines) (sym all) (record {
+          fine = record {
+            none = fine;
+            few = few_placed sign octets (items_of before) (items_of behind) cursor.at b.placed;
+          };
+          of = made_of kept same (made sign ms) fine words kind state;
+          known = subst (λ a. HasKnown kept.state.area.present a lines) (sym no_laid) (λ just least most. empty just ∙ ap table_of (sym (known_none kept.state.area.present just [] refl)));
           ordered = ordered;
-          low = low;
+          low = λ just least most. subst (All (λ l. l.bottom ≤ 2 ^ 43)) (sym (empty just)) (All-nil (λ l. l.bottom ≤ 2 ^ 43));
+        });
+      }
+
+-- a table that has the lines of an area among the items so far has them among all
+counted_among : (words : Bool) (sign : SignData) (items rest : List Meaning) → EndsArea rest → (table : LineTable) → HasCounted (laid_area words sign items) table
+    → HasCounted (in_area (standing sign items).area (spots sign (laid_items (fill_of words) sign (items ++ rest) (items ++ rest)))) table
+counted_among true sign items rest ends table counted = counted_whole sign items rest ends table counted
+counted_among false sign items rest ends table counted =
+    let whole = ap (λ l. in_area (standing sign items).area (spots sign l)) (laid_plain sign (items ++ rest)) ∙ area_ends sign items rest ends ∙ ap (present_area sign) (sym (laid_plain sign items)) in
+    subst (λ a. HasCounted a table) (sym whole) counted
+
+-- one more item
+module _ {words : Bool} {sign : SignData} {octets : List ℕ} {before behind : List LaidItem} {at : ℕ} {kept : Pass} {lines : LineTable} (so : SoFar words sign octets before behind at kept lines) where
+  pub record NextSo (next : NextItem) : Type 0 where
+    pub piece : LaidItem
+    pub rest : List LaidItem
+    pub first : so.left ≡ piece ∷ rest
+    pub read : IsItemRead piece.item next
+
+  abbrev done : List LaidItem
+  done = before ++ so.pieces
+
+  pub so_first : (next : NextItem) → IsFirst (items_of so.left) (Some next) → NextSo next
+  so_first next first =
+      let (piece, rest, is, read) = first_piece so.left next first in
+      record { piece = piece; rest = rest; first = is; read = read }
+
+  module _ {next : NextItem} (n : NextSo next) where
+    placed_here : IsPlaced sign octets (items_of done) (n.piece.item ∷ items_of n.rest) at
+    placed_here = subst (λ l. IsPlaced sign octets (items_of done) (items_of l) at) n.first so.placed
+
+    placed_then : (new : ℕ) → new ≡ at + next.len → IsPlaced sign octets (items_of done ++ n.piece.item ∷ []) (items_of n.rest) new
+    placed_then new to = placed_more sign octets (items_of done) (items_of n.rest) n.piece.item at placed_here new (omega (arith, to, n.read.len))
+
+    -- it doesn't offend
+    pub so_next : IsNextRead sign (items_of done) n.piece.item next.item
+    so_next =
+        let p = placed_then (at + next.len) refl in
+        record {
+          meant = n.read.meant;
+          known = n.read.known;
+          fine = record {
+            none = left_nil (offences sign (items_of done ++ n.piece.item ∷ [])) _ (sym (some_after-append (fault_at sign) (items_of done ++ n.piece.item ∷ []) (items_of n.rest)) ∙ p.accepted.none);
+            few = few_placed sign octets (items_of done ++ n.piece.item ∷ []) (items_of n.rest) (at + next.len) p;
+          };
+        }
+
+    -- the reading goes on, and not past the end
+    pub so_advances : (new : ℕ) → new ≡ at + next.len → (at < new) × (new ≤ length octets)
+    so_advances new to = (omega (arith, to, spelling_some n.piece.item, n.read.len), within sign octets (items_of done ++ n.piece.item ∷ []) (items_of n.rest) new (placed_then new to))
+
+    pub read_on : (new : ℕ) → new ≡ at + next.len → begins_area (meant_by next.item) ≡ false → (kept' : Pass) (lines' : LineTable)
+        → IsReadOf words sign (items_of done ++ n.piece.item ∷ []) kept'.state.area.present kept' lines' → SoFar words sign octets before behind new kept' lines'
+    read_on new to plain kept' lines' read =
+        let again : done ++ n.piece ∷ [] ≡ before ++ (so.pieces ++ n.piece ∷ []) = append_assoc before so.pieces (n.piece ∷ []) in
+        let items : items_of done ++ n.piece.item ∷ [] ≡ items_of (before ++ (so.pieces ++ n.piece ∷ [])) = sym (map-append item_at done (n.piece ∷ [])) ∙ ap items_of again in
+        let ms = map meaning (items_of done) in
+        let m = meaning n.piece.item in
+        let plain' : begins_area m ≡ false = ap begins_area n.read.meant ∙ plain in
+        let here : map meaning (items_of (before ++ (so.pieces ++ n.piece ∷ []))) ≡ ms ++ m ∷ [] = ap (map meaning) (sym items) ∙ map-append meaning (items_of done) (n.piece.item ∷ []) in
+        let stands : (standing sign (ms ++ m ∷ [])).area ≡ (standing sign ms).area + cond (begins_area m) 1 0 = ap (λ (s : Standing). s.area) (standing_push sign ms m) in
+        let stays : cond {A = ℕ} (begins_area m) 1 0 ≡ 0 = ap (λ b. cond b 1 0) plain' in
+        let same : (standing sign (ms ++ m ∷ [])).area ≡ (standing sign ms).area = omega (arith, stands, stays) in
+        let laid : map meant (done ++ n.piece ∷ n.rest) ≡ laid_meanings sign (items_of (done ++ n.piece ∷ n.rest)) = subst (λ l. map meant (done ++ l) ≡ laid_meanings sign (items_of (done ++ l))) n.first so.laid in
+        let all : done ++ n.piece ∷ n.rest ≡ (before ++ (so.pieces ++ n.piece ∷ [])) ++ n.rest = sym (append_assoc done (n.piece ∷ []) n.rest) ∙ ap (λ l. l ++ n.rest) again in
+        record {
+          pieces = so.pieces ++ n.piece ∷ [];
+          left = n.rest;
+          split = so.split ∙ ap (λ l. so.pieces ++ l) n.first ∙ sym (append_assoc so.pieces (n.piece ∷ []) n.rest);
+          plain = All-push (λ item. begins_area (meant item) ≡ false) so.pieces n.piece so.plain (plain_laid sign done n.rest n.piece laid plain');
+          same_area = ap (λ l. (standing sign l).area) here ∙ same ∙ so.same_area;
+          laid = subst (λ l. map meant l ≡ laid_meanings sign (items_of l)) all laid;
+          placed = subst (λ l. IsPlaced sign octets l (items_of n.rest) new) items (placed_then new to);
+          read = subst (λ l. IsReadOf words sign l kept'.state.area.present kept' lines') items read;
         }
 
   -- the end of the area
-  pub area_read : (start : Cursor) (read : AreaLines) (source source' source'' : Counted) → start.at ≡ length (spell_of before) → EndsArea (map meant so.left)
-      → HasCounted (present_area sign (map meant (before ++ so.items))) read.lines → IsOrdered read.lines → IsLow read.lines → read.end ≡ cursor.at
-      → RisesBetween source source' 0 (9 * (cursor.at - start.at)) → RisesBetween source' source'' 0 (first_steps (items_of so.left))
-      → IsAreaRead sign before behind start read source source''
-  area_read start read source source' source'' place ends counted ordered low end earlier last =
-      let ms = map meant (before ++ so.items) in
-      let octets_of : length (spell_of (before ++ so.items)) ≡ length (spell_of before) + length (spell_of so.items) = ap length (spell_of-append before so.items) ∙ length-append (spell_of before) (spell_of so.items) in
-      let long : cursor.at ≡ start.at + length (spell_of so.items) = omega (arith, so.between.placed.place, octets_of, place) in
-      let all : map meant (before ++ behind) ≡ ms ++ map meant so.left =
-      ap (λ l. map meant (before ++ l)) so.split ∙ ap (map meant) (sym (append_assoc before so.items so.left)) ∙ map-append meant (before ++ so.items) so.left in
-      let whole : whole_area sign before behind ≡ present_area sign ms =
-      ap (λ k. in_area k (spots sign (map meant (before ++ behind)))) (sym so.same_area)
-      ∙ ap (λ l. in_area (standing sign ms).area (spots sign l)) all
-      ∙ area_ends sign ms (map meant so.left) ends in
-      let steps : 9 * (cursor.at - start.at) ≡ 9 * length (spell_of so.items) = omega (arith, long) in
+  pub area_read : sign.line_fill ≡ fill_of words → (start : Cursor) (read : AreaLines) (source source' source'' : Counted) → start.at ≡ length (spell_of before) → EndsArea (map meaning (items_of so.left))
+      → HasCounted (present_area sign (laid_items (fill_of words) sign (map meaning (items_of done)) (map meaning (items_of done)))) read.lines → IsOrdered read.lines → IsLow read.lines → read.end ≡ at
+      → RisesBetween source source' 0 (9 * (at - start.at)) → RisesBetween source' source'' 0 (first_steps (items_of so.left)) → IsAreaRead sign before behind start read source source''
+  area_read kind start read source source' source'' place ends counted ordered low end earlier last =
+      let ms = map meaning (items_of done) in
+      let rest = map meaning (items_of so.left) in
+      let octets_of : length (spell_of done) ≡ length (spell_of before) + length (spell_of so.pieces) = ap length (spell_of-append before so.pieces) ∙ length-append (spell_of before) (spell_of so.pieces) in
+      let long : at ≡ start.at + length (spell_of so.pieces) = omega (arith, so.placed.place, octets_of, place) in
+      let pieces : before ++ behind ≡ done ++ so.left = ap (λ l. before ++ l) so.split ∙ sym (append_assoc before so.pieces so.left) in
+      let items : map meaning (items_of (done ++ so.left)) ≡ ms ++ rest = ap (map meaning) (map-append item_at done so.left) ∙ map-append meaning (items_of done) (items_of so.left) in
+      let all : map meant (before ++ behind) ≡ laid_items (fill_of words) sign (ms ++ rest) (ms ++ rest) =
+      ap (map meant) pieces ∙ so.laid ∙ ap (λ l. laid_items sign.line_fill sign l l) items ∙ ap (λ (setting : LineFill). laid_items setting sign (ms ++ rest) (ms ++ rest)) kind in
+      let whole : whole_area sign before behind ≡ in_area (standing sign ms).area (spots sign (laid_items (fill_of words) sign (ms ++ rest) (ms ++ rest))) =
+      ap (λ k. in_area k (spots sign (map meant (before ++ behind)))) (sym so.same_area) ∙ ap (λ l. in_area (standing sign ms).area (spots sign l)) all in
+      let steps : 9 * (at - start.at) ≡ 9 * length (spell_of so.pieces) = omega (arith, long) in
       record {
-        area = so.items;
+        area = so.pieces;
         rest = so.left;
         split = so.split;
         plain = so.plain;
-        ends = ends;
+        ends = ends_laid sign done so.left so.laid ends;
         end = end ∙ long;
-        table = subst (λ a. HasCounted a read.lines) (sym whole) counted;
+        table = subst (λ a. HasCounted a read.lines) (sym whole) (counted_among words sign ms rest ends read.lines counted);
         ordered = ordered;
         low = low;
-        steps = rises_then source source' source'' 0 (9 * length (spell_of so.items)) 0 (first_steps (items_of so.left)) (subst (RisesBetween source source' 0) steps earlier) last;
+        steps = rises_then source source' source'' 0 (9 * length (spell_of so.pieces)) 0 (first_steps (items_of so.left)) (subst (RisesBetween source source' 0) steps earlier) last;
       }

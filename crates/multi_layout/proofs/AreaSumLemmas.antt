@@ -15,7 +15,7 @@ use Rattle.multi_layout.specs.Fit.{line_fits, area_fits}
 use Rattle.multi_layout.specs.Line.{height_of}
 use Rattle.multi_layout.specs.Laid.{too_big}
 use Rattle.multi_layout.specs.Offence.{goes_back, clashes, conflicts}
-use Rattle.multi_layout.specs.Sums.{group_sum, area_sum, area_sum_in, height_before, line_sum, IsPlacing}
+use Rattle.multi_layout.specs.kept.Sums.{group_sum, area_sum, area_sum_in, height_before, line_sum, IsPlacing}
 use Rattle.multi_layout.proofs.WordLemmas.{largest_most, largest_push}
 use Rattle.multi_layout.proofs.AreaLemmas.{filter_none}
 use Rattle.multi_layout.proofs.CheckLemmas.{group_goes_back}

@@ -16,10 +16,10 @@ use Rattle.multi_layout.specs.Fit.{FitsWithout, area_fits, fit, line_fits, room_
 use Rattle.multi_layout.specs.Line.{height_of, width_of}
 use Rattle.multi_layout.specs.Meaning.{Meaning}
 use Rattle.multi_layout.specs.Offence.{offence}
-use Rattle.multi_layout.specs.State.{IsUnfilledOf, present_area}
+use Rattle.multi_layout.specs.kept.State.{IsUnfilledOf, present_area}
 use Rattle.multi_layout.specs.Words.{some_after}
-use Rattle.multi_layout.specs.Run.{Fits, line_in_force, FitsBefore, GroupsFitBefore, kept_before, kept_fits, kept_fits_height, kept_group_height, kept_height, kept_width, lengthened_line}
-use Rattle.multi_layout.specs.Sums.{IsPlacing, area_sum, line_sum}
+use Rattle.multi_layout.specs.kept.Run.{Fits, line_in_force, FitsBefore, GroupsFitBefore, kept_before, kept_fits, kept_fits_height, kept_group_height, kept_height, kept_width, lengthened_line}
+use Rattle.multi_layout.specs.kept.Sums.{IsPlacing, area_sum, line_sum}
 use Rattle.multi_layout.proofs.AreaSumLemmas.{area_placing, in_group_other, own_line}
 use Rattle.multi_layout.proofs.FitLemmas.{room_end, room_middle, room_start, smaller_fits}
 use Rattle.multi_layout.proofs.LineSumLemmas.{segment_other}
@@ -42,9 +42,6 @@ and_true false = refl
 
 le_test : (a b w : ℕ) → a ≤ b → nat_le b w ≡ true → nat_le a w ≡ true
 le_test a b w h k = grind (arith, nat_tests)
-
-none_le : (w : ℕ) → nat_le 0 w ≡ true
-none_le w = grind (arith, nat_tests)
 
 -- ---- the line of a character
 

@@ -1,12 +1,12 @@
 -- Bounds on the sums that are kept: what is below one is below a larger one.
-use Rattle.std.proofs.Common.{ℕ, ◌≤◌, [], Option, Some, None, arith}
+use Rattle.std.proofs.Common.{ℕ, ◌≤◌, Option, Some, None, arith}
 use Rattle.multi_layout.specs.declared.area.Area.{Area}
 use Rattle.multi_layout.specs.declared.area.Group.{Group}
 use Rattle.multi_layout.specs.declared.fill.Split.{Split}
 use Rattle.multi_layout.specs.declared.line.Line.{Line}
 use Rattle.multi_layout.specs.declared.line.Segment.{Segment}
-use Rattle.multi_layout.specs.FillSums.{IsSplitBelow}
-use Rattle.multi_layout.specs.Sums.{IsBelow, IsGroupBelow, IsLineBelow, IsSegmentBelow, line_sum}
+use Rattle.multi_layout.specs.kept.FillSums.{IsSplitBelow}
+use Rattle.multi_layout.specs.kept.Sums.{IsBelow, IsGroupBelow, IsLineBelow, IsSegmentBelow}
 
 segment_more : (k m : ℕ) (segment : Segment) → k ≤ m → IsSegmentBelow k segment → IsSegmentBelow m segment
 segment_more k m segment h b = record { width = omega (arith, b.width); count = omega (arith, b.count) }
@@ -31,7 +31,3 @@ below_more k m area h b = record { top = omega (arith, h, b.top); middle = omega
 pub split_more : (k m : ℕ) (o : Option Split) → k ≤ m → IsSplitBelow k o → IsSplitBelow m o
 split_more k m None h b = b
 split_more k m (Some split) h b = (line_more k m split.before h b.0, line_more k m split.behind h b.1)
-
--- the sums of no character are below any bound
-pub none_below : (k : ℕ) → IsLineBelow k (line_sum [])
-none_below k = record { left = omega arith; centre = omega arith; right = omega arith; part = record { width = omega arith; count = omega arith }; known = omega arith }

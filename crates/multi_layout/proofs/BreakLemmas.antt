@@ -4,7 +4,7 @@ use Rattle.std.specs.List.{after_last, AllPass}
 use Rattle.std.proofs.lemmas.List.Elements.{All-cons, All-append}
 use Rattle.multi_layout.specs.declared.area.Group.{Group}
 use Rattle.multi_layout.specs.Address.{Spot, is_break, is_glyph}
-use Rattle.multi_layout.specs.Sums.{group_sum, line_sum}
+use Rattle.multi_layout.specs.kept.Sums.{group_sum, line_sum}
 use Rattle.multi_layout.proofs.BehindLemmas.{after_last_is, cut_if}
 use Rattle.multi_layout.proofs.CutLemmas.{Cut, cut, cut_push}
 use Rattle.multi_layout.proofs.GroupSumLemmas.{cut_sums, sums_are}

@@ -17,7 +17,7 @@ use Rattle.multi_layout.specs.Filling.{dropped, filled, is_space}
 use Rattle.multi_layout.specs.Laid.{fill_at, laid, laid_spot}
 use Rattle.multi_layout.specs.LaidItems.{laid_item, laid_items, laid_of}
 use Rattle.multi_layout.specs.Meaning.{Does, Meaning, Shows}
-use Rattle.multi_layout.specs.Sums.{IsPlacing}
+use Rattle.multi_layout.specs.kept.Sums.{IsPlacing}
 use Rattle.multi_layout.specs.Words.{each_after}
 use Rattle.multi_layout.proofs.AreaSumLemmas.{area_placing}
 use Rattle.multi_layout.proofs.FilledTagLemmas.{same_width}

@@ -1,5 +1,5 @@
 -- What code that checks and draws needs besides: tests by a running maximum, prefixes, and parts inside a length.
-use Rattle.std.proofs.Common.{◌≡◌, ℕ, ◌+◌, ◌≤◌, max, Bool, true, false, ◌||◌, List, [], ◌∷◌, ◌++◌, Option, None, refl, sym, ap, subst, ◌∙◌, arith}
+use Rattle.std.proofs.Common.{◌≡◌, ℕ, ◌≤◌, max, Bool, true, false, ◌||◌, List, [], ◌∷◌, ◌++◌, Option, None, refl, sym, ap, subst, ◌∙◌, arith}
 use Rattle.std.specs.Prelude.{nat_lt}
 use Rattle.std.specs.List.{list_any}
 use Rattle.std.proofs.lemmas.List.{append_assoc, append-nil}
@@ -7,8 +7,6 @@ use Rattle.std.proofs.lemmas.List.Folds.{list_any-append}
 use Rattle.std.proofs.lemmas.Bool.Decides.{nat_tests}
 use Rattle.multi_layout.specs.Words.{some_after, extent, largest}
 use Rattle.multi_layout.specs.Address.{Spot}
-use Rattle.multi_layout.specs.Fit.{fit}
-use Rattle.multi_layout.specs.Place.{start}
 use Rattle.multi_layout.specs.Offence.{goes_back}
 use Rattle.multi_layout.proofs.WordLemmas.{none_of, right_nil, some_after-append, largest_push, extent_push, push_ind}
 
@@ -50,13 +48,3 @@ pub none_offends : {X Y : Type 0} (f : List X → X → Option Y) (xs : List X) 
 none_offends f xs x ys e =
     let all = sym (some_after-append f xs (x ∷ ys)) ∙ e in
     sym (ap (λ l. f l x) (append-nil xs)) ∙ none_of (f (xs ++ []) x) (some_after (λ before. f (xs ++ x ∷ before)) ys) (right_nil (some_after f xs) (some_after (λ before. f (xs ++ before)) (x ∷ ys)) all)
-
--- parts that fit stand inside the length
-pub inside_middle : (a b c len : ℕ) → fit a b c len ≡ true → start 3 len b + b ≤ len
-inside_middle a b c len h = grind (arith, nat_tests)
-
-pub inside_end : (a b c len : ℕ) → fit a b c len ≡ true → start 4 len c + c ≤ len
-inside_end a b c len h = grind (arith, nat_tests)
-
-pub inside_start : (a b c len : ℕ) → fit a b c len ≡ true → start 2 len a + a ≤ len
-inside_start a b c len h = grind (arith, nat_tests)

@@ -30,11 +30,11 @@ use Rattle.multi_layout.specs.Limits.{plane_octets}
 use Rattle.multi_layout.specs.Meaning.{Meaning, Does, begins_area, is_new_page, meaning, meaning_of_tag}
 use Rattle.multi_layout.specs.Drawn.{has_colour}
 use Rattle.multi_layout.specs.Drawn as drawn
-use Rattle.multi_layout.specs.Passes.{IsDrawnTo, IsFilledBy, IsQuiet}
+use Rattle.multi_layout.specs.kept.AreaDrawing.{IsDrawnTo, IsFilledBy, IsQuiet}
 use Rattle.multi_layout.specs.Picture.{shown_colour}
-use Rattle.multi_layout.specs.State.{IsStateOf}
-use Rattle.multi_layout.specs.Sums.{IsBelow}
-use Rattle.multi_layout.specs.Walk.{IsBetween, meant, Piece}
+use Rattle.multi_layout.specs.kept.State.{IsStateOf}
+use Rattle.multi_layout.specs.kept.Sums.{IsBelow}
+use Rattle.multi_layout.specs.kept.Cursors.{IsBetween, meant, LaidItem}
 use Rattle.multi_layout.proofs.DrawnLemmas.{covered_cover, covered_same}
 use Rattle.multi_layout.proofs.BoundLemmas.{below_more}
 use Rattle.multi_layout.proofs.MeaningLemmas.{does_tag}
@@ -102,7 +102,7 @@ cell_height sign before state st number c found =
 -- ONE MORE ITEM
 
 -- the items of a string, as they mean
-pub map_split : (before rest : List Piece) (item : Piece) (m : Meaning) → meant item ≡ m → map meant (before ++ item ∷ rest) ≡ map meant before ++ m ∷ map meant rest
+pub map_split : (before rest : List LaidItem) (item : LaidItem) (m : Meaning) → meant item ≡ m → map meant (before ++ item ∷ rest) ≡ map meant before ++ m ∷ map meant rest
 map_split before rest item m e = map-append meant before (item ∷ rest) ∙ ap (λ x. map meant before ++ x ∷ map meant rest) e
 
 module _ (sign : SignData) (layer : Layer) (before rest : List Meaning) where
@@ -175,10 +175,6 @@ rows_few sign old new octets rows some tall least most width height = record {
   height = height;
 }
 
--- none
-pub none_few : (sign : SignData) (old : BitPlane) (octets : ℕ) → IsFilledBy sign old old octets
-none_few sign old octets = record { fills = 0; few = omega arith; least = omega arith; most = no_more old.steps (tallest sign * octets) (plane_octets sign); width = refl; height = refl }
-
 -- one fill for four octets
 pub fill_few : (sign : SignData) (old new : BitPlane) (octets k : ℕ) → 4 ≤ octets → old.steps ≤ new.steps → new.steps ≤ old.steps + k → k ≡ plane_octets sign → new.width ≡ old.width → new.height ≡ old.height → IsFilledBy sign old new octets
 fill_few sign old new octets k four least most is width height = record {
@@ -207,5 +203,5 @@ tag_filled sign old new octets tag four least most quiet width height = of (back
       height = height;
     }
 
-pub low_between : (sign : SignData) (octets : List ℕ) (before behind : List Piece) (cursor : Cursor) → IsBetween sign octets before behind cursor → IsBelow (2 ^ 42) cursor.state.area
+pub low_between : (sign : SignData) (octets : List ℕ) (before behind : List LaidItem) (cursor : Cursor) → IsBetween sign octets before behind cursor → IsBelow (2 ^ 42) cursor.state.area
 low_between sign octets before behind cursor b = below_more (1024 * length (map meant before)) (2 ^ 42) cursor.state.area (omega (arith, few_between sign octets before behind cursor b)) b.state_is.below

@@ -8,7 +8,7 @@ use Rattle.std.proofs.lemmas.List.Elements.{filter-append}
 use Rattle.std.proofs.lemmas.List.Sums.{sum_by_push, sum_by-append}
 use Rattle.multi_layout.specs.Address.{Spot, is_glyph, is_break, lines_of, segment}
 use Rattle.multi_layout.specs.Line.{char_gap, glyph_width, width_of}
-use Rattle.multi_layout.specs.Sums.{IsPlacing}
+use Rattle.multi_layout.specs.kept.Sums.{IsPlacing}
 use Rattle.multi_layout.proofs.WordLemmas.{extent_push, push_ind}
 use Rattle.multi_layout.proofs.CheckLemmas.{extent-append-le}
 use Rattle.multi_layout.proofs.CutLemmas.{Cut, cut, part, cut_push, cut_behind_is, cut_behind_push}

@@ -11,9 +11,9 @@ use Rattle.multi_layout.specs.declared.line.Line.{Line}
 use Rattle.multi_layout.specs.Address.{Spot, is_break, is_glyph}
 use Rattle.multi_layout.specs.Fit.{line_fits}
 use Rattle.multi_layout.specs.Filling.{CutAt, cut_at_last, dropped, filled, is_space}
-use Rattle.multi_layout.specs.FillSums.{EndsLine, parts_sum, split_sum}
+use Rattle.multi_layout.specs.kept.FillSums.{EndsLine, parts_sum, split_sum}
 use Rattle.multi_layout.specs.Offence.{clashes}
-use Rattle.multi_layout.specs.Sums.{IsBreak, IsCharacter, IsPlacing, ended_lines, group_sum, line_sum}
+use Rattle.multi_layout.specs.kept.Sums.{IsBreak, IsCharacter, IsPlacing, ended_lines, group_sum, line_sum}
 use Rattle.multi_layout.proofs.BreakLemmas.{all_glyphs, none_behind, relined}
 use Rattle.multi_layout.proofs.FilledEndedLemmas.{broken_line}
 use Rattle.multi_layout.proofs.TableLemmas.{ended_break, ended_glyph}

@@ -14,7 +14,7 @@ use Rattle.multi_layout.specs.Filling.{CutAt, cut_at_last, dropped, filled, is_s
 use Rattle.multi_layout.specs.Fit.{line_fits}
 use Rattle.multi_layout.specs.LaidItems.{laid_items, laid_of}
 use Rattle.multi_layout.specs.Meaning.{Does, Faulty, Meaning, Shows, meaning}
-use Rattle.multi_layout.specs.Sums.{IsPlacing}
+use Rattle.multi_layout.specs.kept.Sums.{IsPlacing}
 use Rattle.multi_layout.proofs.FillListLemmas.{is_cut}
 use Rattle.multi_layout.proofs.FillSplitLemmas.{glyphs_around}
 use Rattle.multi_layout.proofs.FilledKeptLemmas.{spaces_is}

@@ -9,9 +9,9 @@ use Rattle.multi_layout.specs.declared.line.Character.{Character}
 use Rattle.multi_layout.specs.declared.line.Line.{Line}
 use Rattle.multi_layout.specs.Address.{Spot, is_glyph}
 use Rattle.multi_layout.specs.Filling.{CutAt, cut_at_last, is_space, longer}
-use Rattle.multi_layout.specs.FillSums.{parts_sum, split_sum}
+use Rattle.multi_layout.specs.kept.FillSums.{parts_sum, split_sum}
 use Rattle.multi_layout.specs.Offence.{clashes}
-use Rattle.multi_layout.specs.Sums.{IsCharacter, IsLineBelow, line_sum}
+use Rattle.multi_layout.specs.kept.Sums.{IsCharacter, IsLineBelow, line_sum}
 use Rattle.multi_layout.proofs.FilledSumLemmas.{word_begins, word_grows}
 use Rattle.multi_layout.proofs.FillListLemmas.{is_cut}
 

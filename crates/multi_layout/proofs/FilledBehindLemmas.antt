@@ -14,14 +14,14 @@ use Rattle.multi_layout.specs.declared.pass.Pass.{Pass}
 use Rattle.multi_layout.specs.declared.state.State.{State}
 use Rattle.multi_layout.specs.Address.{Break, Cover, Spot, Standing, in_area, in_group, is_break, spots, standing}
 use Rattle.multi_layout.specs.Filling.{filled}
-use Rattle.multi_layout.specs.FilledState.{IsFilledJudged, IsFilledOf, begins_line}
-use Rattle.multi_layout.specs.FillSums.{order_sum, split_sum}
+use Rattle.multi_layout.specs.kept.FilledState.{IsFilledJudged, IsFilledOf, begins_line}
+use Rattle.multi_layout.specs.kept.FillSums.{order_sum, split_sum}
 use Rattle.multi_layout.specs.Fit.{line_fits}
 use Rattle.multi_layout.specs.Laid.{too_big}
 use Rattle.multi_layout.specs.LaidItems.{laid_items}
 use Rattle.multi_layout.specs.Meaning.{Meaning, Does}
 use Rattle.multi_layout.specs.Offence.{conflicts, offence}
-use Rattle.multi_layout.specs.State.{IsJudged, IsStateOf, present_area, standing_behind}
+use Rattle.multi_layout.specs.kept.State.{IsJudged, IsStateOf, present_area, standing_behind}
 use Rattle.multi_layout.specs.Words.{largest}
 use Rattle.multi_layout.proofs.AreaSumLemmas.{in_group_other, no_back}
 use Rattle.multi_layout.proofs.BoundLemmas.{split_more}

@@ -7,13 +7,13 @@ use Rattle.sign_font.specs.Sign.{SignData, CellData, cell_numbered}
 use Rattle.multi_layout.specs.declared.area.Area.{Area}
 use Rattle.multi_layout.specs.declared.state.State.{State}
 use Rattle.multi_layout.specs.Address.{Glyph, Spot, area_of, group_of, in_area, in_group, is_break, spots, standing}
-use Rattle.multi_layout.specs.FillSums.{IsFilledOn}
+use Rattle.multi_layout.specs.kept.FillSums.{IsFilledOn}
 use Rattle.multi_layout.specs.Fit.{area_fits, line_fits}
 use Rattle.multi_layout.specs.Laid.{laid, too_big}
 use Rattle.multi_layout.specs.LaidItems.{laid_items}
 use Rattle.multi_layout.specs.Meaning.{Meaning, Shows}
 use Rattle.multi_layout.specs.Offence.{character_cases, clashes, conflicts, first_code, offence, offence_by}
-use Rattle.multi_layout.specs.State.{IsStateOf, present_area}
+use Rattle.multi_layout.specs.kept.State.{IsStateOf, present_area}
 use Rattle.multi_layout.specs.Words.{largest}
 use Rattle.multi_layout.proofs.AreaSumLemmas.{conflicts_character, no_back}
 use Rattle.multi_layout.proofs.FilledOnLemmas.{filled_on, largest_laid}

@@ -1,17 +1,17 @@
 -- The ended lines of a filled group at one more character: the same, or one more.
-use Rattle.std.proofs.Common.{◌≡◌, ◌⊎◌, inl, inr, ℕ, Bool, true, false, List, [], ◌∷◌, ◌++◌, Option, Some, None, refl, sym, ap, subst, ◌∙◌}
+use Rattle.std.proofs.Common.{◌≡◌, ℕ, true, false, List, [], ◌∷◌, ◌++◌, Some, refl, sym, ap, subst, ◌∙◌}
 use Rattle.std.specs.List.{after_last, All, AllPass}
 use Rattle.std.proofs.lemmas.List.Elements.{All-nil, All-cons, All-head, All-tail, All-push}
 use Rattle.multi_layout.specs.Address.{Spot, is_glyph, is_break}
 use Rattle.multi_layout.specs.Fit.{line_fits}
-use Rattle.multi_layout.specs.Sums.{IsPlacing, ended_lines}
+use Rattle.multi_layout.specs.kept.Sums.{IsPlacing, ended_lines}
 use Rattle.multi_layout.proofs.BehindLemmas.{ended_is}
 use Rattle.multi_layout.proofs.CutLemmas.{Cut, cut}
-use Rattle.multi_layout.proofs.TableLemmas.{ended_break, ended_glyph}
+use Rattle.multi_layout.proofs.TableLemmas.{ended_break}
 use Rattle.multi_layout.specs.Filling.{CutAt, cut_at_last, is_space, dropped, filled}
 use Rattle.multi_layout.proofs.FillListLemmas.{is_cut}
 use Rattle.multi_layout.proofs.LaidLemmas.{ended, open_line, open_line_glyphs, filled_is, ended_ends, ends_open, cut_with}
-use Rattle.multi_layout.proofs.FilledSumLemmas.{stands, drops, breaks, stays}
+use Rattle.multi_layout.proofs.FilledSumLemmas.{breaks}
 
 -- what stands around an item of a line of characters is characters
 glyphs_around : (xs : List Spot) (x : Spot) (ys : List Spot) → AllPass is_glyph (xs ++ x ∷ ys) → AllPass is_glyph xs × AllPass is_glyph ys
@@ -19,10 +19,6 @@ glyphs_around [] x ys h = (All-nil (λ x. is_glyph x ≡ true), All-tail (λ x. 
 glyphs_around (z ∷ xs) x ys h =
     let rest = glyphs_around xs x ys (All-tail (λ x. is_glyph x ≡ true) z (xs ++ x ∷ ys) h) in
     (All-cons (λ x. is_glyph x ≡ true) z xs (All-head (λ x. is_glyph x ≡ true) z (xs ++ x ∷ ys) h) rest.0, rest.1)
-
--- the same lines are ended, or one more
-abbrev pub EndsOne : List (List Spot) → List (List Spot) → Type 0
-EndsOne old new = (new ≡ old) ⊎ ((line : List Spot) × (new ≡ old ++ line ∷ []))
 
 module _ (width : ℕ) (g : List Spot) (s : Spot) (placing : All IsPlacing g) (glyph : is_glyph s ≡ true) (fits : line_fits width (open_line width g) ≡ true) where
   old_is : ended_lines (filled (Some width) g) ≡ (cut is_break (ended width g)).closed
@@ -48,20 +44,3 @@ module _ (width : ℕ) (g : List Spot) (s : Spot) (placing : All IsPlacing g) (g
       ∙ ended_break (front ++ c.before) (dropped c.item) refl
       ∙ ap (λ l. l ++ (after_last is_break (front ++ c.before) ++ dropped c.item ∷ []) ∷ []) (ended_is is_break (front ++ c.before) ∙ ap (λ (d : Cut Spot). d.closed) front_before ∙ sym old_is)
       ∙ ap (λ l. ended_lines (filled (Some width) g) ++ (l ++ dropped c.item ∷ []) ∷ []) (Rattle.multi_layout.proofs.BehindLemmas.after_last_is is_break (front ++ c.before) ∙ ap (λ (d : Cut Spot). d.open') front_before)
-
-  by_word : (o : Option (CutAt Spot)) → cut_at_last is_space (open_line width g) ≡ o → line_fits width (open_line width g ++ s ∷ []) ≡ false → is_space s ≡ false
-      → EndsOne (ended_lines (filled (Some width) g)) (ended_lines (filled (Some width) (g ++ s ∷ [])))
-  by_word None e wide word = inl (ap ended_lines (stays width g s placing glyph fits wide word e) ∙ ended_glyph (filled (Some width) g) s glyph)
-  by_word (Some c) e wide word = inr (c.before ++ dropped c.item ∷ [], broken_line c wide word e)
-
-  by_kind : (b : Bool) → is_space s ≡ b → line_fits width (open_line width g ++ s ∷ []) ≡ false → EndsOne (ended_lines (filled (Some width) g)) (ended_lines (filled (Some width) (g ++ s ∷ [])))
-  by_kind true e wide = inr (after_last is_break (filled (Some width) g) ++ dropped s ∷ [], ap ended_lines (drops width g s placing glyph fits wide e) ∙ ended_break (filled (Some width) g) (dropped s) refl)
-  by_kind false e wide = by_word (cut_at_last is_space (open_line width g)) refl wide e
-
-  by_fit : (b : Bool) → line_fits width (open_line width g ++ s ∷ []) ≡ b → EndsOne (ended_lines (filled (Some width) g)) (ended_lines (filled (Some width) (g ++ s ∷ [])))
-  by_fit true e = inl (ap ended_lines (stands width g s placing glyph fits e) ∙ ended_glyph (filled (Some width) g) s glyph)
-  by_fit false e = by_kind (is_space s) refl e
-
-  -- one more character ends at most one line, and leaves those that are ended
-  pub ends_one : EndsOne (ended_lines (filled (Some width) g)) (ended_lines (filled (Some width) (g ++ s ∷ [])))
-  ends_one = by_fit (line_fits width (open_line width g ++ s ∷ [])) refl

@@ -12,14 +12,14 @@ use Rattle.multi_layout.specs.declared.attributes.Attributes.{Attributes}
 use Rattle.multi_layout.specs.declared.pass.Pass.{Pass}
 use Rattle.multi_layout.specs.Address.{Glyph, Spot, Standing, area_of, group_of, in_group, is_break, spots, standing}
 use Rattle.multi_layout.specs.Filling.{filled, is_space}
-use Rattle.multi_layout.specs.FillSums.{EndsLine, FillsArea, order_sum, split_sum}
+use Rattle.multi_layout.specs.kept.FillSums.{EndsLine, FillsArea, order_sum, split_sum}
 use Rattle.multi_layout.specs.Fit.{area_fits, line_fits}
-use Rattle.multi_layout.specs.FilledState.{IsFilledOf}
+use Rattle.multi_layout.specs.kept.FilledState.{IsFilledOf}
 use Rattle.multi_layout.specs.LaidItems.{laid_items}
 use Rattle.multi_layout.specs.Meaning.{Meaning, Shows}
 use Rattle.multi_layout.specs.Offence.{clashes, conflicts, first_code, offence}
-use Rattle.multi_layout.specs.State.{attributes_of, present_area}
-use Rattle.multi_layout.specs.Sums.{IsCharacter, IsPlacing, area_sum, line_sum}
+use Rattle.multi_layout.specs.kept.State.{attributes_of, present_area}
+use Rattle.multi_layout.specs.kept.Sums.{IsCharacter, IsPlacing, area_sum, line_sum}
 use Rattle.multi_layout.proofs.AreaSumLemmas.{area_placing, no_back, no_clash}
 use Rattle.multi_layout.proofs.FilledCharacterLemmas.{area_with, conflicts_by, doesn't_fit, goes_behind, offends_by, offends_without, present_is, shown}
 use Rattle.multi_layout.proofs.FilledOrderLemmas.{no_clash_filled}

@@ -17,14 +17,15 @@ use Rattle.multi_layout.specs.declared.pass.Order.{Order}
 use Rattle.multi_layout.specs.declared.line.Line.{Line}
 use Rattle.multi_layout.specs.Address.{Glyph, Spot, Standing, group_of, in_group, is_break, put_at, spots, standing}
 use Rattle.multi_layout.specs.Filling.{filled, is_space}
-use Rattle.multi_layout.specs.FilledState.{IsFilledBehind, IsFilledOf}
-use Rattle.multi_layout.specs.FillSums.{EndsLine, IsSplitBelow, order_sum, split_sum}
+use Rattle.multi_layout.specs.kept.AreaReading.{IsCharacterPassed}
+use Rattle.multi_layout.specs.kept.FilledState.{IsFilledOf}
+use Rattle.multi_layout.specs.kept.FillSums.{EndsLine, IsSplitBelow, order_sum, split_sum}
 use Rattle.multi_layout.specs.Fit.{area_fits, line_fits}
 use Rattle.multi_layout.specs.LaidItems.{laid_item, laid_items}
 use Rattle.multi_layout.specs.Meaning.{Meaning, Shows}
 use Rattle.multi_layout.specs.Offence.{clashes, conflicts, first_code, offence}
-use Rattle.multi_layout.specs.State.{present_area}
-use Rattle.multi_layout.specs.Sums.{IsBelow, IsCharacter, IsPlacing, area_sum, line_sum}
+use Rattle.multi_layout.specs.kept.State.{present_area}
+use Rattle.multi_layout.specs.kept.Sums.{IsBelow, IsCharacter, IsPlacing, area_sum, line_sum}
 use Rattle.multi_layout.proofs.AreaSumLemmas.{group_behind, in_group_other, no_back, no_clash}
 use Rattle.multi_layout.proofs.FilledCharacterLemmas.{area_with, doesn't_fit, goes_behind, offends_by, offends_without, present_is, shown}
 use Rattle.multi_layout.proofs.FilledJudgedLemmas.{Fills, attributes_here, conflict_is, filled_fits, filled_grown, filled_too_big, found_here, shown_character}
@@ -199,9 +200,9 @@ module _ (sign : SignData) (items : List Meaning) (kept : Pass) (of : IsFilledOf
   first_of true b e = refl
   first_of false b e = cc
 
-  pub passed_behind : IsBelow (1024 * length items + 1024) area' → IsSplitBelow (1024 * length items + 1024) split'
-      → IsFilledBehind sign items number kept (record { state = record kept.state { area = area' }; split = split'; order = order' }) ended
-  passed_behind below split_below =
+  pub passed_behind : sign.line_fill ≡ Words → IsBelow (1024 * length items + 1024) area' → IsSplitBelow (1024 * length items + 1024) split'
+      → IsCharacterPassed true sign items number kept (record { state = record kept.state { area = area' }; split = split'; order = order' }) ended
+  passed_behind words below split_below =
       let (cell, found, width) = found_here sign items kept of number c some in
       let s : Spot = shown sign items number cell found in
       let w = s.at.rectangle.width in
@@ -215,7 +216,7 @@ module _ (sign : SignData) (items : List Meaning) (kept : Pass) (of : IsFilledOf
       let line_fits' = ap (λ l. line_fits w (after_last is_break l)) (sym on.after) ∙ first_of (line_fits w (after_last is_break (in_group s.at.page_just new))) (area_fits s.at.rectangle.height new) fit in
       let order = order_with sign items number cell found kept of apart goes_on goes at character is' order' sum in
       record {
-        of = kept_with sign items number cell found kept of apart area' split' order' area split order below split_below line_fits';
+        of = record { words = words; of = kept_with sign items number cell found kept of apart area' split' order' area split order below split_below line_fits' };
         present = ap (λ (a : Area). a.present) area ∙ on.last ∙ sym at;
         order = omega (arith, at, back sign items number cell found kept of apart);
         others = λ j other. on.others j (λ e. other (e ∙ sym at));

@@ -7,9 +7,9 @@ use Rattle.std.proofs.lemmas.List.Elements.{filter-append}
 use Rattle.sign_font.specs.declared.parts.LineFill.{LineFill}
 use Rattle.multi_layout.specs.Address.{Spot, area_of, group_of, in_area, in_group, is_break, is_glyph}
 use Rattle.multi_layout.specs.Filling.{filled}
-use Rattle.multi_layout.specs.FillSums.{IsFilledOn}
+use Rattle.multi_layout.specs.kept.FillSums.{IsFilledOn}
 use Rattle.multi_layout.specs.Laid.{fill_at, laid, laid_spot}
-use Rattle.multi_layout.specs.Sums.{IsPlacing}
+use Rattle.multi_layout.specs.kept.Sums.{IsPlacing}
 use Rattle.multi_layout.specs.Words.{largest}
 use Rattle.multi_layout.proofs.AreaSumLemmas.{area_placing}
 use Rattle.multi_layout.proofs.GroupLaidLemmas.{group_laid, in_areas, is_member, laid_as, member_parts, members, members_push, own_member}

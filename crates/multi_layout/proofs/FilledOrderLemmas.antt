@@ -6,10 +6,10 @@ use Rattle.std.specs.List.{after_last, list_any, All}
 use Rattle.std.proofs.lemmas.Bool.{le-ltb}
 use Rattle.multi_layout.specs.declared.pass.Order.{Order}
 use Rattle.multi_layout.specs.Address.{Spot, is_break}
-use Rattle.multi_layout.specs.FillSums.{order_sum}
+use Rattle.multi_layout.specs.kept.FillSums.{order_sum}
 use Rattle.multi_layout.specs.Filling.{CutAt, soft_break, filled}
 use Rattle.multi_layout.specs.Offence.{clashes}
-use Rattle.multi_layout.specs.Sums.{IsPlacing, line_sum}
+use Rattle.multi_layout.specs.kept.Sums.{IsPlacing, line_sum}
 use Rattle.multi_layout.specs.Words.{largest}
 use Rattle.multi_layout.proofs.BehindLemmas.{after_last_is}
 use Rattle.multi_layout.proofs.CutLemmas.{cut}

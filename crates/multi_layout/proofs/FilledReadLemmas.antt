@@ -13,16 +13,16 @@ use Rattle.multi_layout.specs.declared.pass.Pass.{Pass}
 use Rattle.multi_layout.specs.declared.state.State.{State}
 use Rattle.multi_layout.specs.Address.{Spot, Standing, in_group, is_break, standing}
 use Rattle.multi_layout.specs.Filling.{filled}
-use Rattle.multi_layout.specs.FillOpen.{AllOpenFit}
-use Rattle.multi_layout.specs.FillSums.{order_sum, split_sum}
-use Rattle.multi_layout.specs.FilledState.{IsFilledFor, IsFilledOf, IsFilledReady}
+use Rattle.multi_layout.specs.kept.FillOpen.{AllOpenFit}
+use Rattle.multi_layout.specs.kept.FillSums.{order_sum, split_sum}
+use Rattle.multi_layout.specs.kept.FilledState.{IsFilledFor, IsFilledOf, IsFilledReady}
 use Rattle.multi_layout.specs.LaidItems.{laid_items}
 use Rattle.multi_layout.specs.Meaning.{Meaning, Shows, meaning}
 use Rattle.multi_layout.specs.Offence.{offence}
-use Rattle.multi_layout.specs.Progress.{IsAt, IsTold, ReadSoFar}
-use Rattle.multi_layout.specs.State.{IsStateOf, present_area, whole_times}
+use Rattle.multi_layout.specs.kept.Judging.{IsAt, IsTold, ReadSoFar}
+use Rattle.multi_layout.specs.kept.State.{IsStateOf, present_area, whole_times}
 use Rattle.multi_layout.specs.Times.{cycle, ended_times}
-use Rattle.multi_layout.specs.Verdict.{IsVerdict, Refused, pages_of}
+use Rattle.multi_layout.specs.Verdict.{pages_of}
 use Rattle.multi_layout.proofs.BoundLemmas.{split_more}
 use Rattle.multi_layout.proofs.FillLemmas.{nothing_fits}
 use Rattle.multi_layout.proofs.FilledJudgedLemmas.{attributes_here}
@@ -30,7 +30,7 @@ use Rattle.multi_layout.proofs.FilledKeptLemmas.{laid_count}
 use Rattle.multi_layout.proofs.FilledStateLemmas.{pages_at, same_times}
 use Rattle.multi_layout.proofs.JudgedLemmas.{ready}
 use Rattle.multi_layout.proofs.LaidItemLemmas.{are_laid}
-use Rattle.multi_layout.proofs.ReadLemmas.{accepted_at_end, at_end, cycle_at_end, few_here, read_more, refused_here}
+use Rattle.multi_layout.proofs.ReadLemmas.{accepted_at_end, at_end, cycle_at_end, few_here, read_more}
 
 -- what is kept where an area begins
 pub filled_start : (sign : SignData) (items : List Meaning) (state : State) → IsStateOf sign (laid_items Words sign items items) state → present_area sign items ≡ []
@@ -70,11 +70,6 @@ module _ (sign : SignData) (octets : List ℕ) (at : ℕ) (kept : Pass) (r : Rea
     filled_more new fine of =
         read_more sign octets at (IsFilledFor sign kept) r t here stands (IsFilledFor sign new)
         (subst (λ setting. offence setting sign (map meaning r.items) (meaning (item_of octets t)) ≡ None) (sym r.is.words) fine) (record { words = r.is.words; of = of })
-
-    pub filled_refused : (code : ℕ) → offence Words sign (map meaning r.items) (meaning (item_of octets t)) ≡ Some code → IsVerdict sign octets (Refused code at)
-    filled_refused code offends =
-        refused_here sign octets at (IsFilledFor sign kept) r t here stands code
-        (subst (λ setting. offence setting sign (map meaning r.items) (meaning (item_of octets t)) ≡ Some code) (sym r.is.words) offends)
 
 -- one more octet that stands for itself
 module _ (sign : SignData) (octets : List ℕ) (at : ℕ) (kept : Pass) (r : ReadSoFar sign octets at (IsFilledFor sign kept)) (octet : ℕ) (short : length octets < 2 ^ 63) (here : slice_get octets at ≡ Some octet) (plain : IsPlain octet) where

@@ -9,16 +9,16 @@ use Rattle.sign_font.specs.Sign.{SignData, CellData, cell_numbered}
 use Rattle.sign_font.specs.Sound.{IsSound}
 use Rattle.multi_layout.specs.declared.pass.Pass.{Pass}
 use Rattle.multi_layout.specs.Address.{Standing, in_group, is_break, spots, standing}
-use Rattle.multi_layout.specs.FilledState.{IsFilledOf}
+use Rattle.multi_layout.specs.kept.FilledState.{IsFilledOf}
 use Rattle.multi_layout.specs.Filling.{filled}
 use Rattle.multi_layout.specs.Fit.{area_fits, line_fits}
 use Rattle.multi_layout.specs.Laid.{too_big}
 use Rattle.multi_layout.specs.LaidItems.{laid_items}
 use Rattle.multi_layout.specs.Meaning.{Does, Faulty, Meaning, Shows, meaning}
 use Rattle.multi_layout.specs.Offence.{conflicts, first_code, never_big, offence}
-use Rattle.multi_layout.specs.Passes.{HasRoom}
-use Rattle.multi_layout.specs.State.{present_area}
-use Rattle.multi_layout.specs.Table.{IsNarrowArea}
+use Rattle.multi_layout.specs.kept.AreaDrawing.{HasRoom}
+use Rattle.multi_layout.specs.kept.State.{present_area}
+use Rattle.multi_layout.specs.kept.Table.{IsNarrowArea}
 use Rattle.multi_layout.specs.Verdict.{offences}
 use Rattle.multi_layout.proofs.FilledCharacterLemmas.{area_with, offends_by, offends_without, shown}
 use Rattle.multi_layout.proofs.FilledTagLemmas.{offends_as_laid}

@@ -16,16 +16,16 @@ use Rattle.multi_layout.specs.declared.line.Character.{Character}
 use Rattle.multi_layout.specs.declared.line.Line.{Line}
 use Rattle.multi_layout.specs.declared.line.Segment.{Segment}
 use Rattle.multi_layout.specs.Address.{Spot, is_break, is_glyph}
-use Rattle.multi_layout.specs.FilledRun.{GoesOnBehind, IsFilledRun, even_line, longer_line, with_run, with_run_behind}
-use Rattle.multi_layout.specs.FilledState.{IsFilledFor}
+use Rattle.multi_layout.specs.kept.FilledRun.{GoesOnBehind, IsFilledRun, even_line, longer_line, with_run, with_run_behind}
+use Rattle.multi_layout.specs.kept.FilledState.{IsFilledFor}
 use Rattle.multi_layout.specs.Filling.{filled, is_space}
-use Rattle.multi_layout.specs.FillSums.{FillsArea, IsSplitBelow, split_sum}
+use Rattle.multi_layout.specs.kept.FillSums.{FillsArea, IsSplitBelow, split_sum}
 use Rattle.multi_layout.specs.Fit.{line_fits}
 use Rattle.multi_layout.specs.Meaning.{meaning}
 use Rattle.multi_layout.specs.Offence.{clashes}
-use Rattle.multi_layout.specs.Progress.{ReadSoFar}
-use Rattle.multi_layout.specs.Run.{IsBehindOne, IsRun, kept_fits, kept_fits_height, lengthened, lengthened_area, lengthened_line, line_in_force}
-use Rattle.multi_layout.specs.Sums.{IsBelow, IsCharacter, IsLineBelow, area_sum_in, group_sum, line_sum, segment_sum}
+use Rattle.multi_layout.specs.kept.Judging.{ReadSoFar}
+use Rattle.multi_layout.specs.kept.Run.{IsBehindOne, IsRun, kept_fits, kept_fits_height, lengthened, lengthened_area, lengthened_line, line_in_force}
+use Rattle.multi_layout.specs.kept.Sums.{IsBelow, IsCharacter, IsLineBelow, area_sum_in, group_sum, line_sum, segment_sum}
 use Rattle.multi_layout.proofs.AreaFillLemmas.{area_filled}
 use Rattle.multi_layout.proofs.AreaSumLemmas.{group_of_own}
 use Rattle.multi_layout.proofs.FillGroupLemmas.{present_glyphs, present_line, stands_ended, stands_line, stands_sum}

@@ -8,7 +8,7 @@ use Rattle.multi_layout.specs.Address.{Spot, Standing, in_area, spots, standing}
 use Rattle.multi_layout.specs.Laid.{laid, laid_spot}
 use Rattle.multi_layout.specs.LaidItems.{laid_item, laid_items}
 use Rattle.multi_layout.specs.Meaning.{Meaning}
-use Rattle.multi_layout.specs.State.{IsStateOf, present_area}
+use Rattle.multi_layout.specs.kept.State.{IsStateOf, present_area}
 use Rattle.multi_layout.proofs.FilledOnLemmas.{one_more, same_at}
 use Rattle.multi_layout.proofs.FilledStateLemmas.{pages_at, same_times}
 use Rattle.multi_layout.proofs.GroupLaidLemmas.{in_areas, laid_as}

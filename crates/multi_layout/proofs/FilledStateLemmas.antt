@@ -10,8 +10,8 @@ use Rattle.multi_layout.specs.Address.{Glyph, Standing, in_area, put_at, spots, 
 use Rattle.multi_layout.specs.Laid.{laid}
 use Rattle.multi_layout.specs.LaidItems.{laid_item, laid_items}
 use Rattle.multi_layout.specs.Meaning.{Meaning, Shows, is_new_page}
-use Rattle.multi_layout.specs.State.{IsStateOf, attributes_of, present_area, standing_behind}
-use Rattle.multi_layout.specs.Sums.{IsBelow, area_sum}
+use Rattle.multi_layout.specs.kept.State.{IsStateOf, attributes_of, present_area, standing_behind}
+use Rattle.multi_layout.specs.kept.Sums.{IsBelow, area_sum}
 use Rattle.multi_layout.specs.Times.{Times, cycle, ended_times, times_at}
 use Rattle.multi_layout.specs.Verdict.{pages_of}
 use Rattle.multi_layout.proofs.JudgedLemmas.{cycle-stays}

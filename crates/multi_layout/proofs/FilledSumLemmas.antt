@@ -1,17 +1,15 @@
 -- The sums of a filled group at one more character: in each case they follow from the sums before it, and from those of the open
 -- line's parts around its last space.
-use Rattle.std.proofs.Common.{◌≡◌, inr, ℕ, Bool, true, false, cond, List, [], ◌∷◌, ◌++◌, Option, Some, None, refl, sym, ap, ◌∙◌, append_assoc}
-use Rattle.std.specs.List.{All, AllPass}
+use Rattle.std.proofs.Common.{◌≡◌, ℕ, Bool, true, false, cond, List, [], ◌∷◌, ◌++◌, Option, Some, None, refl, sym, ap, ◌∙◌, append_assoc}
+use Rattle.std.specs.List.{All}
 use Rattle.std.specs.Option.{option_map}
-use Rattle.multi_layout.specs.Address.{Spot, is_glyph, is_break}
+use Rattle.multi_layout.specs.Address.{Spot, is_glyph}
 use Rattle.multi_layout.specs.Fit.{line_fits}
-use Rattle.multi_layout.specs.Sums.{IsPlacing, group_sum}
-use Rattle.multi_layout.proofs.CutLemmas.{Cut, cut}
-use Rattle.multi_layout.proofs.GroupSumLemmas.{sums_are, cut_sums}
+use Rattle.multi_layout.specs.kept.Sums.{IsPlacing}
 use Rattle.multi_layout.specs.Filling.{CutAt, cut_at_last, is_space, dropped, broken_off, longer, filled}
 use Rattle.multi_layout.proofs.FillListLemmas.{cut_push, cut_more}
 use Rattle.multi_layout.proofs.FillLemmas.{relaid}
-use Rattle.multi_layout.proofs.LaidLemmas.{Ends, ended, open_line, filled_is, filled_character, open_line_glyphs, ended_ends, ends_open, cut_with}
+use Rattle.multi_layout.proofs.LaidLemmas.{ended, open_line, filled_is, filled_character}
 
 module _ (width : ℕ) where
   -- THE OPEN LINE WITH ONE MORE CHARACTER
@@ -58,28 +56,6 @@ module _ (width : ℕ) where
         ∙ ap (λ l. ended width g ++ l) (relaid_wide (open_line width g ++ s ∷ []) None h (cut_one (open_line width g) s false None word none))
         ∙ sym (append_assoc (ended width g) (open_line width g) (s ∷ []))
         ∙ ap (λ l. l ++ s ∷ []) (sym (filled_is width g placing))
-
--- THE SUMS
-
--- of a list that ends a line and characters behind it the sums are those of the list, with the characters' line
-module _ (width : ℕ) (xs : List Spot) (ends : Ends width xs) where
-  cut_open : (line : List Spot) → AllPass is_glyph line → cut is_break (xs ++ line) ≡ record { closed = (cut is_break xs).closed; open' = line }
-  cut_open line h = cut_with line xs h ∙ ap (λ l. let d : Cut Spot = record { closed = (cut is_break xs).closed; open' = l ++ line } in d) (ends_open width xs ends)
-
-  pub sums_open : (line : List Spot) → AllPass is_glyph line → group_sum (xs ++ line) ≡ cut_sums (record { closed = (cut is_break xs).closed; open' = line })
-  sums_open line h = sums_are (xs ++ line) ∙ ap cut_sums (cut_open line h)
-
--- the sums of a filled group: what is ended, and the open line
-pub filled_sums : (width : ℕ) (g : List Spot) → All IsPlacing g → group_sum (filled (Some width) g) ≡ cut_sums (record { closed = (cut is_break (ended width g)).closed; open' = open_line width g })
-filled_sums width g placing = ap group_sum (filled_is width g placing) ∙ sums_open width (ended width g) (ended_ends width g placing) (open_line width g) (open_line_glyphs width g placing)
-
--- with the front of the open line they differ in the line alone, which is the sum that is kept of the front
-pub front_sums : (width : ℕ) (g before : List Spot) → All IsPlacing g → AllPass is_glyph before → group_sum (ended width g ++ before) ≡ cut_sums (record { closed = (cut is_break (ended width g)).closed; open' = before })
-front_sums width g before placing h = sums_open width (ended width g) (ended_ends width g placing) before h
-
--- and so do those behind a dropped space with and without the characters behind it
-pub behind_sums : (xs line : List Spot) (space : Spot) → AllPass is_glyph line → group_sum ((xs ++ dropped space ∷ []) ++ line) ≡ cut_sums (record { closed = (cut is_break (xs ++ dropped space ∷ [])).closed; open' = line })
-behind_sums xs line space h = sums_open 0 (xs ++ dropped space ∷ []) (inr (xs, dropped space, refl, refl)) line h
 
 -- THE PARTS OF THE OPEN LINE
 

@@ -8,9 +8,9 @@ use Rattle.multi_layout.specs.declared.table.CountedLine.{CountedLine}
 use Rattle.multi_layout.specs.declared.table.LineTable.{LineTable}
 use Rattle.multi_layout.specs.Address.{Spot, in_group, is_break, is_glyph, lines_of, segment}
 use Rattle.multi_layout.specs.Line.{height_of, width_of}
-use Rattle.multi_layout.specs.Passes.{HasKnown, HasRoom, known_lines}
-use Rattle.multi_layout.specs.Sums.{ended_lines}
-use Rattle.multi_layout.specs.Table.{IsOrdered, group_lines, line_entry, table_of}
+use Rattle.multi_layout.specs.kept.AreaDrawing.{HasKnown, HasRoom, known_lines}
+use Rattle.multi_layout.specs.kept.Sums.{ended_lines}
+use Rattle.multi_layout.specs.kept.Table.{IsOrdered, group_lines, line_entry, table_of}
 use Rattle.multi_layout.proofs.GroupSumLemmas.{break_put}
 use Rattle.multi_layout.proofs.KnownLinesLemmas.{Pushed, known_most, less_total, table_count}
 use Rattle.multi_layout.proofs.PlaceLemmas.{ended_most}

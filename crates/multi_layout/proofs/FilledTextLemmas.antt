@@ -15,10 +15,10 @@ use Rattle.multi_layout.specs.declared.attributes.Attributes.{Attributes}
 use Rattle.multi_layout.specs.declared.fill.Split.{Split}
 use Rattle.multi_layout.specs.declared.pass.Pass.{Pass}
 use Rattle.multi_layout.specs.declared.line.Line.{Line}
-use Rattle.multi_layout.specs.FilledRun.{IsFilledRun, even_line, longer_line, with_run, with_run_behind, with_word}
-use Rattle.multi_layout.specs.FilledState.{IsFilledFor}
-use Rattle.multi_layout.specs.Progress.{ReadSoFar}
-use Rattle.multi_layout.specs.Run.{IsRun, line_in_force}
+use Rattle.multi_layout.specs.kept.FilledRun.{IsFilledRun, even_line, longer_line, with_run, with_run_behind, with_word}
+use Rattle.multi_layout.specs.kept.FilledState.{IsFilledFor}
+use Rattle.multi_layout.specs.kept.Judging.{ReadSoFar}
+use Rattle.multi_layout.specs.kept.Run.{IsRun, line_in_force}
 use Rattle.multi_layout.proofs.FilledRunLemmas.{one_goes_on, one_taken, run_some, with_one}
 use Rattle.multi_layout.proofs.RunLemmas.{run_stays}
 use Rattle.multi_layout.proofs.RunReadLemmas.{behind_first}

@@ -1,15 +1,14 @@
 -- The front of some octets that goes into a room: its width, and which octets it has.
-use Rattle.std.proofs.Common.{◌≡◌, ◌^◌, ℕ, ◌<◌, List, true, Bool, Option, take, subst, arith}
+use Rattle.std.proofs.Common.{◌^◌, ℕ, ◌<◌, List, Bool, Option, take, subst, arith}
 use Rattle.std.specs.Prelude.{slice_index, IfSome}
 use Rattle.std.specs.List.{All}
 use Rattle.std.proofs.lemmas.List.{get_or_default}
 use Rattle.std.proofs.lemmas.List.Elements.{All-take}
 use Rattle.multi_token.specs.Run.{IsRun, taken}
-use Rattle.multi_token.specs.Spelling.{IsPlain}
 use Rattle.sign_font.specs.Advance.{AreAdvances}
 use Rattle.sign_font.specs.Sound.{IsWithin}
-use Rattle.sign_font.specs.Text.{HasWidth, IsNoSpace}
-use Rattle.sign_font.proofs.AdvanceLemmas.{IsOctet, run_plain, run_width, run_word}
+use Rattle.sign_font.specs.Text.{HasWidth}
+use Rattle.sign_font.proofs.AdvanceLemmas.{IsOctet, run_width}
 
 module _ (width_of : ℕ → Option ℕ) (word : Bool) (sound : (octet : ℕ) → IfSome (width_of octet) (IsWithin 1 64)) (table : List ℕ) (tables : AreAdvances width_of word table)
     (gap room : ℕ) (octets : List ℕ) (len : ℕ) (run : IsRun table gap 0 room octets len) (short : room < 32768) (each : (k : ℕ) → slice_index octets k < 2 ^ 8) where
@@ -21,9 +20,3 @@ module _ (width_of : ℕ → Option ℕ) (word : Bool) (sound : (octet : ℕ) �
 
   pub front_width : HasWidth width_of gap (take len octets) (taken table gap (take len octets))
   front_width = run_width width_of word sound table tables gap (take len octets) front_octets small
-
-  pub front_plain : All IsPlain (take len octets)
-  front_plain = run_plain width_of word sound table tables gap (take len octets) front_octets small
-
-  pub front_word : word ≡ true → All IsNoSpace (take len octets)
-  front_word all = run_word width_of word sound table tables all gap (take len octets) front_octets small

@@ -18,11 +18,11 @@ use Rattle.multi_layout.specs.LaidItems.{laid_item, laid_of}
 use Rattle.multi_layout.specs.Line.{glyph_width}
 use Rattle.multi_layout.specs.Meaning.{Does, Meaning, begins_area, Shows, has_place, meaning}
 use Rattle.multi_layout.specs.Offence.{never_big, unsized_offence}
-use Rattle.multi_layout.specs.Passes.{HasCounted, whole_area}
-use Rattle.multi_layout.specs.State.{present_area}
-use Rattle.multi_layout.specs.Sums.{IsPlacing, area_sum}
-use Rattle.multi_layout.specs.Table.{group_lines, table_of}
-use Rattle.multi_layout.specs.Walk.{IsBetween, Piece, items_of, meant}
+use Rattle.multi_layout.specs.kept.AreaDrawing.{HasCounted, whole_area}
+use Rattle.multi_layout.specs.kept.State.{present_area}
+use Rattle.multi_layout.specs.kept.Sums.{IsPlacing, area_sum}
+use Rattle.multi_layout.specs.kept.Table.{group_lines, table_of}
+use Rattle.multi_layout.specs.kept.Cursors.{IsBetween, LaidItem, items_of, meant}
 use Rattle.multi_layout.proofs.GroupLaidLemmas.{laid_as}
 use Rattle.multi_layout.proofs.InForceLemmas.{area_wide}
 use Rattle.multi_layout.proofs.KnownStepLemmas.{order}
@@ -46,7 +46,7 @@ laid_character setting sign all some more number is (Some cell) e =
     of y (inl same) = inl (ap (λ z. laid_of (Shows number) (Some z)) same)
     of y (inr (glyph, drop)) = inr (ap (λ z. laid_of (Shows number) (Some z)) drop)
 
-module _ {sign : SignData} {octets : List ℕ} {before rest : List Piece} {piece : Piece} {cursor : Cursor} (b : IsBetween sign octets before (piece ∷ rest) cursor) where
+module _ {sign : SignData} {octets : List ℕ} {before rest : List LaidItem} {piece : LaidItem} {cursor : Cursor} (b : IsBetween sign octets before (piece ∷ rest) cursor) where
   abbrev ms : List Meaning
   ms = map meant before
 
@@ -55,7 +55,7 @@ module _ {sign : SignData} {octets : List ℕ} {before rest : List Piece} {piece
       let all = map meaning (items_of (before ++ piece ∷ rest)) in
       let some = map meaning (items_of before) in
       let split : all ≡ some ++ Shows number ∷ map meaning (items_of rest) =
-      ap (map meaning) (map-append (λ (p : Piece). p.item) before (piece ∷ rest)) ∙ map-append meaning (items_of before) (piece.item ∷ items_of rest) ∙ ap (λ m. some ++ m ∷ map meaning (items_of rest)) shows in
+      ap (map meaning) (map-append (λ (p : LaidItem). p.item) before (piece ∷ rest)) ∙ map-append meaning (items_of before) (piece.item ∷ items_of rest) ∙ ap (λ m. some ++ m ∷ map meaning (items_of rest)) shows in
       let is = laid_here sign before rest piece b.laid ∙ ap (laid_item sign.line_fill sign all some) shows in
       subst (λ m. (m ≡ Shows number) ⊎ (m ≡ Does (NewLine None))) (sym is) (laid_character sign.line_fill sign all some (map meaning (items_of rest)) number split (cell_numbered (standing sign some).font number) refl)
 

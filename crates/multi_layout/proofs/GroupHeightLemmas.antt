@@ -11,7 +11,7 @@ use Rattle.multi_layout.specs.declared.area.Ended.{Ended}
 use Rattle.multi_layout.specs.declared.area.Group.{Group}
 use Rattle.multi_layout.specs.Address.{Spot, is_glyph, is_break, lines_of}
 use Rattle.multi_layout.specs.Line.{average, line_height, line_spacing, height_of}
-use Rattle.multi_layout.specs.Sums.{line_sum, ended_sum, group_sum, IsPlacing, IsBreak}
+use Rattle.multi_layout.specs.kept.Sums.{line_sum, ended_sum, group_sum, IsPlacing, IsBreak}
 use Rattle.multi_layout.proofs.WordLemmas.{last_or_push}
 use Rattle.multi_layout.proofs.CutLemmas.{cut, part, cut_behind_is}
 use Rattle.multi_layout.proofs.HeightLemmas.{open_glyphs}

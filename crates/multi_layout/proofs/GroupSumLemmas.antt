@@ -10,7 +10,7 @@ use Rattle.multi_layout.specs.declared.area.Group.{Group}
 use Rattle.multi_layout.specs.Words.{largest}
 use Rattle.multi_layout.specs.Address.{Standing, Spot, Put, Glyph, Break, Cover, is_glyph, is_break, in_group}
 use Rattle.multi_layout.specs.Line.{average, bearers, line_height, line_spacing, line_gap, given_gap, height_of}
-use Rattle.multi_layout.specs.Sums.{line_sum, ended_sum, group_sum, IsPlacing}
+use Rattle.multi_layout.specs.kept.Sums.{line_sum, ended_sum, group_sum, IsPlacing}
 use Rattle.multi_layout.proofs.WordLemmas.{extent_push, gap_before}
 use Rattle.multi_layout.proofs.CutLemmas.{Cut, cut, cut_push}
 use Rattle.multi_layout.proofs.HeightLemmas.{bearers_glyphs, bearers_ended, bearers_empty, open_glyphs}

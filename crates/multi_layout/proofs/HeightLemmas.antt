@@ -1,15 +1,15 @@
 -- The height of a group by a running state: what code keeps of the placing items so far.
-use Rattle.std.proofs.Common.{◌≡◌, ℕ, ◌+◌, max, Bool, true, false, cond, ◌||◌, ◌⊎◌, inl, inr, List, [], ◌∷◌, ◌++◌, Option, Some, None, refl, sym, ap, subst, ◌∙◌, arith}
+use Rattle.std.proofs.Common.{◌≡◌, ℕ, max, Bool, true, false, cond, ◌||◌, ◌⊎◌, inl, inr, List, [], ◌∷◌, ◌++◌, Option, Some, None, refl, sym, ap, subst, ◌∙◌, arith}
 use Rattle.std.specs.List.{filter, filter_map, last_or, list_any, All, AllPass}
 use Rattle.std.specs.Option.{unwrap_or, option_map, option_map_or}
 use Rattle.std.proofs.lemmas.List.{append-nil}
 use Rattle.std.proofs.lemmas.List.Elements.{filter-append, All-nil, All-head, All-tail, All-push}
 use Rattle.std.proofs.lemmas.List.Folds.{list_any-append}
 use Rattle.multi_layout.specs.Words.{largest}
-use Rattle.multi_layout.specs.Address.{Standing, Spot, Put, Glyph, Break, Cover, is_glyph, is_break, lines_of}
-use Rattle.multi_layout.specs.Line.{bearers, line_height, line_spacing, line_gap, given_gap, average, height_of}
-use Rattle.multi_layout.proofs.WordLemmas.{largest_push, extent_push, push_ind, All-split}
-use Rattle.multi_layout.proofs.CutLemmas.{Cut, cut, cut_push, cut_behind_push}
+use Rattle.multi_layout.specs.Address.{Standing, Spot, Put, Glyph, Break, Cover, is_glyph, is_break}
+use Rattle.multi_layout.specs.Line.{bearers, line_height, line_spacing, line_gap, given_gap, average}
+use Rattle.multi_layout.proofs.WordLemmas.{largest_push, push_ind, All-split}
+use Rattle.multi_layout.proofs.CutLemmas.{Cut, cut, cut_push}
 
 abbrev pub glyphs : List Spot → Type 0
 glyphs line = AllPass is_glyph line
@@ -83,15 +83,6 @@ pub record Run : Type 0 where
 abbrev pub number_of : List Spot → Option ℕ
 number_of line = last_or None (filter_map given_gap line)
 
-abbrev pub run_of : Cut Spot → Run
-run_of c = record {
-  closed = height_of c.closed;
-  last = option_map (λ line. (number_of line, line_spacing line)) (last_or None c.closed);
-  height = line_height c.open';
-  spacing = line_spacing c.open';
-  any = list_any is_glyph c.open';
-}
-
 -- the gap before the open line
 abbrev pub gap_from : Option (Option ℕ × ℕ) → ℕ → ℕ
 gap_from None spacing = 0
@@ -100,15 +91,6 @@ gap_from (Some last) spacing = unwrap_or last.0 (average last.1 spacing)
 gap_if : (o : Option (List Spot)) (line : List Spot) → option_map_or (λ l. line_gap l line) o 0 ≡ gap_from (option_map (λ line. (number_of line, line_spacing line)) o) (line_spacing line)
 gap_if None line = refl
 gap_if (Some l) line = refl
-
--- the height of a group from the running state, at one more placing item
-pub height_from_run : (group : List Spot) (s : Spot) →
-    let c = cut is_break group in
-    height_of (lines_of (group ++ s ∷ [])) ≡ (run_of c).closed + gap_from (run_of c).last (line_spacing (c.open' ++ s ∷ [])) + line_height (c.open' ++ s ∷ [])
-height_from_run group s =
-    let c = cut is_break group in
-    ap height_of (cut_behind_push is_break group s) ∙ extent_push line_height line_gap c.closed (c.open' ++ s ∷ [])
-    ∙ ap (λ n. height_of c.closed + n + line_height (c.open' ++ s ∷ [])) (gap_if (last_or None c.closed) (c.open' ++ s ∷ []))
 
 -- the open line with one more item
 abbrev pub with_item : Bool → ℕ → ℕ → Spot → ℕ

@@ -17,7 +17,7 @@ use Rattle.multi_layout.specs.Attributes.{default_font, given_font, given_rectan
 use Rattle.multi_layout.specs.Address.{Standing, standing, Put, Glyph, Spot, put_at, spot_at, spots, is_glyph, is_break}
 use Rattle.multi_layout.specs.Line.{glyph_width}
 use Rattle.multi_layout.specs.Offence.{offence_by}
-use Rattle.multi_layout.specs.State.{present_area}
+use Rattle.multi_layout.specs.kept.State.{present_area}
 use Rattle.multi_layout.specs.Words.{some_after}
 use Rattle.multi_layout.proofs.LayoutLemmas.{spots_push}
 use Rattle.multi_layout.proofs.OffenceLemmas.{offence-rectangle}

@@ -14,9 +14,9 @@ use Rattle.multi_tag.specs.TagOf.{tag_of}
 use Rattle.multi_tag.proofs.AheadLemmas.{body_long}
 use Rattle.multi_tag.proofs.ShortLemmas.{short_body}
 use Rattle.multi_tag.proofs.TagOfLemmas.{tag_of-spelled}
-use Rattle.multi_layout.specs.ItemAt.{IsFaultAt, IsItemAt}
+use Rattle.multi_layout.specs.kept.ItemAt.{IsFaultAt, IsItemAt}
 use Rattle.multi_layout.specs.Meaning.{Faulty, Shows, meaning_of_tag, said_by}
-use Rattle.multi_layout.specs.State.{IsKnown}
+use Rattle.multi_layout.specs.kept.State.{IsKnown}
 use Rattle.multi_layout.proofs.MeaningLemmas.{known_of, meaning-tag}
 
 -- an octet that was read, by a comparison

@@ -21,8 +21,8 @@ use Rattle.multi_layout.specs.declared.state.State.{State}
 use Rattle.multi_layout.specs.Address.{Break, Cover, Glyph, Spot, Standing, put_at, spots, standing}
 use Rattle.multi_layout.specs.Meaning.{Meaning, Shows, Does, begins_area, is_new_page}
 use Rattle.multi_layout.specs.Offence.{conflicts, never_big, offence, unsized_offence}
-use Rattle.multi_layout.specs.State.{IsReady, IsStateOf, attributes_of, present_area, standing_behind}
-use Rattle.multi_layout.specs.Sums.{IsBelow, area_sum}
+use Rattle.multi_layout.specs.kept.State.{IsReady, IsStateOf, attributes_of, present_area, standing_behind}
+use Rattle.multi_layout.specs.kept.Sums.{IsBelow, area_sum}
 use Rattle.multi_layout.specs.Times.{Times, cycle, ended_times, times_at}
 use Rattle.multi_layout.specs.Verdict.{pages_of}
 use Rattle.multi_layout.proofs.BoundLemmas.{below_more}

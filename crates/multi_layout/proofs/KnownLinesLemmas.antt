@@ -11,15 +11,15 @@ use Rattle.multi_layout.specs.declared.table.CountedLine.{CountedLine}
 use Rattle.multi_layout.specs.declared.table.LineTable.{LineTable}
 use Rattle.multi_layout.specs.Address.{Spot, in_group, is_break, is_glyph, lines_of}
 use Rattle.multi_layout.specs.Line.{height_of}
-use Rattle.multi_layout.specs.Passes.{HasCounted, HasKnown, HasRoom, IsLow, known_lines}
-use Rattle.multi_layout.specs.Sums.{IsPlacing, area_sum, ended_lines, group_sum}
-use Rattle.multi_layout.specs.Table.{IsOrdered, group_lines, table_of}
+use Rattle.multi_layout.specs.kept.AreaDrawing.{HasCounted, HasKnown, HasRoom, IsLow, known_lines}
+use Rattle.multi_layout.specs.kept.Sums.{IsPlacing, area_sum, ended_lines, group_sum}
+use Rattle.multi_layout.specs.kept.Table.{IsOrdered, group_lines, table_of}
 use Rattle.multi_layout.specs.Words.{largest}
 use Rattle.multi_layout.proofs.AreaSumLemmas.{group_behind, group_of_own, in_group_other}
 use Rattle.multi_layout.proofs.GroupSumLemmas.{own_group, placing_group}
 use Rattle.multi_layout.proofs.PlaceLemmas.{ended_most}
 use Rattle.multi_layout.proofs.SplitLemmas.{all_groups, each_group}
-use Rattle.multi_layout.proofs.TableLemmas.{ended_break, ended_glyph, lines_closed, lines_open, open_entry, table_break, table_length, table_open}
+use Rattle.multi_layout.proofs.TableLemmas.{ended_break, lines_closed, lines_open, open_entry, table_break, table_length, table_open}
 
 -- ONE MORE LINE
 
@@ -157,18 +157,6 @@ module _ (area : List Spot) (a : Area) (e : a ≡ area_sum area) where
 -- ONE MORE ITEM OF THE PRESENT GROUP
 
 module _ (present : ℕ) (area : List Spot) (s : Spot) (at : s.at.page_just ≡ present) where
-  -- a character ends no line
-  pub glyph_known : (table : LineTable) → is_glyph s ≡ true → HasKnown present area table → HasKnown present (area ++ s ∷ []) table
-  glyph_known table glyph has just least most =
-      has just least most ∙ ap table_of (sym (elim (cases_eq just present) [
-        | inl own ↦
-            known_from present just (area ++ s ∷ []) (omega arith)
-            ∙ ap ended_lines (own_group just area s (at ∙ sym own))
-            ∙ ended_glyph (in_group just area) s glyph
-            ∙ sym (known_from present just area (omega arith))
-        | inr other ↦ known_other present just area s (λ h. other (sym h ∙ at))
-      ]))
-
   module _ (breaks : is_break s ≡ true) (low : 2 ≤ present) (high : present ≤ 4) (old : LineTable) (has : HasKnown present area old) where
     -- an `nl` ends the open line of its group
     pub break_known : (after : Group) (line : CountedLine) (new : LineTable) → after ≡ group_sum (in_group present (area ++ s ∷ []))

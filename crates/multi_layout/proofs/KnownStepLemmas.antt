@@ -12,18 +12,19 @@ use Rattle.multi_layout.specs.declared.table.CountedLine.{CountedLine}
 use Rattle.multi_layout.specs.declared.table.LineTable.{LineTable}
 use Rattle.multi_layout.specs.Address.{Spot, Glyph, Break, Cover, in_group, spots, standing}
 use Rattle.multi_layout.specs.Meaning.{begins_area, Does, has_place, Meaning, Shows}
-use Rattle.multi_layout.specs.Passes.{HasKnown, HasRoom, ends_line, next_group}
+use Rattle.multi_layout.specs.kept.AreaDrawing.{HasKnown, HasRoom, ends_line, next_group}
 use Rattle.multi_layout.specs.Offence.{conflicts, never_big, unsized_offence}
-use Rattle.multi_layout.specs.State.{IsStateOf, present_area}
-use Rattle.multi_layout.specs.Sums.{area_sum}
-use Rattle.multi_layout.specs.Table.{IsOrdered, group_lines}
+use Rattle.multi_layout.specs.kept.State.{IsStateOf, present_area}
+use Rattle.multi_layout.specs.kept.Sums.{area_sum, ended_lines}
+use Rattle.multi_layout.specs.kept.Table.{IsOrdered, group_lines}
 use Rattle.multi_layout.specs.Words.{largest}
-use Rattle.multi_layout.proofs.AreaSumLemmas.{group_of_own, no_back, present_behind}
-use Rattle.multi_layout.proofs.KnownLinesLemmas.{Pushed, behind_empty, break_known, break_room, glyph_known}
+use Rattle.multi_layout.proofs.AreaSumLemmas.{group_of_own, in_group_other, no_back, present_behind}
+use Rattle.multi_layout.proofs.GroupSumLemmas.{own_group}
+use Rattle.multi_layout.proofs.KnownLinesLemmas.{Pushed, behind_empty, break_known, break_room}
 use Rattle.multi_layout.proofs.OffenceLemmas.{offence-break, offence-character, offence-undefined}
 use Rattle.multi_layout.proofs.PlacingLemmas.{no_conflict}
 use Rattle.multi_layout.proofs.StateLemmas.{present_area-placing, present_area-nothing, present_area-cover}
-use Rattle.multi_layout.proofs.TableLemmas.{open_entry}
+use Rattle.multi_layout.proofs.TableLemmas.{ended_glyph, open_entry}
 
 line_end : (x : Meaning) → ends_line x ≡ true → (gap : Option ℕ) × (x ≡ Does (NewLine gap))
 line_end (Does (NewLine gap)) e = (gap, refl)
@@ -68,29 +69,42 @@ module _ (sign : SignData) (items : List Meaning) (state : State) (st : IsStateO
       ap (λ b. cond b state.attributes.page_just state.area.present) none ∙ ap (λ (a : Area). a.present) (st.area ∙ sym (st'.area ∙ ap area_sum same)) in
       subst (λ n. HasKnown n (present_area sign (items ++ x ∷ [])) table) stays (subst (λ a. HasKnown (next_group state x) a table) (sym same) has)
 
-  -- a character joins the group in force
-  known_glyph : (number : ℕ) (o : Option CellData) → cell_numbered (standing sign items).font number ≡ o → unsized_offence sign items (Shows number) ≡ None → (after : State) → IsStateOf sign (items ++ Shows number ∷ []) after
-      → (table : LineTable) → HasKnown state.attributes.page_just (present_area sign items) table → HasKnown after.area.present (present_area sign (items ++ Shows number ∷ [])) table
-  known_glyph number None found fine after st' table has = absurd (none≢some 7 (sym (offence-undefined never_big sign items number found) ∙ fine))
-  known_glyph number (Some cell) found fine after st' table has =
+  -- a character joins the group in force, and ends no line
+  abbrev GlyphJoins : ℕ → State → Type 0
+  GlyphJoins number after =
+      let page = state.attributes.page_just in
+      let old = present_area sign items in
+      let new = present_area sign (items ++ Shows number ∷ []) in
+      (after.area.present ≡ page) × (state.area.present ≤ page) × ((just : ℕ) → (just ≡ page → ⊥) → in_group just new ≡ in_group just old) × (ended_lines (in_group page new) ≡ ended_lines (in_group page old))
+
+  joins_by : (number : ℕ) (o : Option CellData) → cell_numbered (standing sign items).font number ≡ o → unsized_offence sign items (Shows number) ≡ None → (after : State) → IsStateOf sign (items ++ Shows number ∷ []) after
+      → GlyphJoins number after
+  joins_by number None found fine after st' = absurd (none≢some 7 (sym (offence-undefined never_big sign items number found) ∙ fine))
+  joins_by number (Some cell) found fine after st' =
       let spot : Spot = record { at = standing sign items; put = Glyph cell } in
       let area = present_area sign items in
-      let grown : present_area sign (items ++ Shows number ∷ []) ≡ area ++ spot ∷ [] = present_area-placing sign items (Shows number) (Glyph cell) refl (ap (option_map Glyph) found) refl in
-      let behind = present_behind area spot state.area after.area st.area (st'.area ∙ ap area_sum grown) (omega (arith, page_is, order_glyph number (Some cell) found fine)) in
-      subst (λ n. HasKnown n (present_area sign (items ++ Shows number ∷ [])) table) (sym (behind ∙ page_is))
-      (subst (λ a. HasKnown state.attributes.page_just a table) (sym grown) (glyph_known state.attributes.page_just area spot page_is table refl has))
+      let page = state.attributes.page_just in
+      let on = order_glyph number (Some cell) found fine in
+      let grown : present_area sign (items ++ Shows number ∷ []) ≡ area ++ spot ∷ [] = present_area-placing sign items (Shows number) (Glyph cell) refl (ap (option_map Glyph) found) refl in (
+        present_behind area spot state.area after.area st.area (st'.area ∙ ap area_sum grown) (omega (arith, page_is, on)) ∙ page_is,
+        on,
+        λ just other. ap (in_group just) grown ∙ in_group_other just area spot (λ h. other (sym h ∙ page_is)),
+        ap (λ a. ended_lines (in_group page a)) grown ∙ ap ended_lines (own_group page area spot page_is) ∙ ended_glyph (in_group page area) spot refl,
+      )
 
-  -- an item that begins no area and ends no line
-  pub known_same : (x : Meaning) → unsized_offence sign items x ≡ None → (after : State) → IsStateOf sign (items ++ x ∷ []) after → begins_area x ≡ false → ends_line x ≡ false
-      → (table : LineTable) → HasKnown (next_group state x) (present_area sign items) table → HasKnown after.area.present (present_area sign (items ++ x ∷ [])) table
-  known_same (Shows number) fine after st' stays open' table has = known_glyph number (cell_numbered (standing sign items).font number) refl fine after st' table has
-  known_same (Does NewPage) fine after st' stays open' table has = absurd (false≢true (sym stays))
-  known_same (Does (NewLine gap)) fine after st' stays open' table has = absurd (false≢true (sym open'))
-  known_same (Does (Rect x y w h)) fine after st' stays open' table has = absurd (false≢true (sym stays))
-  known_same (Does (Back colour)) fine after st' stays open' table has =
+  pub glyph_joins : (number : ℕ) → unsized_offence sign items (Shows number) ≡ None → (after : State) → IsStateOf sign (items ++ Shows number ∷ []) after → GlyphJoins number after
+  glyph_joins number = joins_by number (cell_numbered (standing sign items).font number) refl
+
+  -- a tag that begins no area and ends no line
+  pub known_same : (tag : Tag) (after : State) → IsStateOf sign (items ++ Does tag ∷ []) after → begins_area (Does tag) ≡ false → ends_line (Does tag) ≡ false
+      → (table : LineTable) → HasKnown (next_group state (Does tag)) (present_area sign items) table → HasKnown after.area.present (present_area sign (items ++ Does tag ∷ [])) table
+  known_same NewPage after st' stays open' table has = absurd (false≢true (sym stays))
+  known_same (NewLine gap) after st' stays open' table has = absurd (false≢true (sym open'))
+  known_same (Rect x y w h) after st' stays open' table has = absurd (false≢true (sym stays))
+  known_same (Back colour) after st' stays open' table has =
       known_stays (Does (Back colour)) after st' refl
       (present_area-cover sign items (Does (Back colour)) (Cover (standing sign items).page (unwrap_or colour sign.defaults.back)) refl refl refl) table has
-  known_same x fine after st' stays open' table has = known_stays x after st' refl (present_area-nothing sign items x refl refl) table has
+  known_same tag after st' stays open' table has = known_stays (Does tag) after st' refl (present_area-nothing sign items (Does tag) refl refl) table has
 
   -- an item that ends a line of the group in force
   module _ (x : Meaning) (ends : ends_line x ≡ true) (fine : unsized_offence sign items x ≡ None) where

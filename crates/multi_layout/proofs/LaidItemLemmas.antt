@@ -9,7 +9,7 @@ use Rattle.sign_font.specs.Sign.{SignData, CellData}
 use Rattle.sign_font.specs.declared.parts.LineFill.{LineFill}
 use Rattle.multi_layout.specs.Address.{Spot, Put, Glyph, Break, Cover, Standing, standing, spots, spot_at, put_at, is_glyph}
 use Rattle.multi_layout.specs.Meaning.{Does, has_place, Meaning, Shows}
-use Rattle.multi_layout.specs.State.{standing_behind}
+use Rattle.multi_layout.specs.kept.State.{standing_behind}
 use Rattle.multi_layout.specs.Laid.{laid_spot, laid}
 use Rattle.multi_layout.specs.LaidItems.{laid_item, laid_items, laid_of}
 use Rattle.multi_layout.proofs.GroupLaidLemmas.{laid_as}

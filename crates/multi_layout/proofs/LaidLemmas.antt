@@ -6,7 +6,7 @@ use Rattle.std.proofs.lemmas.List.Concat.{flat_map-append}
 use Rattle.std.proofs.lemmas.List.Elements.{All-head, All-tail, All-push, filter-append}
 use Rattle.multi_layout.specs.Address.{Spot, is_glyph, is_break}
 use Rattle.multi_layout.specs.Fit.{line_fits}
-use Rattle.multi_layout.specs.Sums.{IsPlacing}
+use Rattle.multi_layout.specs.kept.Sums.{IsPlacing}
 use Rattle.multi_layout.proofs.WordLemmas.{push_ind, All-split}
 use Rattle.multi_layout.proofs.CutLemmas.{Cut, cut, part, cut_push, cut_behind_is, cut_behind_push}
 use Rattle.multi_layout.proofs.BehindLemmas.{after_last_is}
@@ -24,10 +24,6 @@ glyph_all (s ∷ line) h = ap (λ b. cond b (s ∷ filter is_glyph line) (filter
 glyph_none : (line : List Spot) → AllPass is_glyph line → filter is_break line ≡ []
 glyph_none [] h = refl
 glyph_none (s ∷ line) h = ap (λ b. cond b (s ∷ filter is_break line) (filter is_break line)) (glyph_put s.at s.put (All-head (λ x. is_glyph x ≡ true) s line h)).0 ∙ glyph_none line (All-tail (λ x. is_glyph x ≡ true) s line h)
-
--- the characters of a line with one more item
-glyphs_with : (line : List Spot) (s : Spot) → AllPass is_glyph line → is_glyph s ≡ true → filter is_glyph (line ++ s ∷ []) ≡ line ++ s ∷ []
-glyphs_with line s h g = glyph_all (line ++ s ∷ []) (All-push (λ x. is_glyph x ≡ true) line s h g)
 
 pub glyphs_before : (line : List Spot) (s : Spot) → AllPass is_glyph line → is_break s ≡ true → filter is_glyph (line ++ s ∷ []) ≡ line
 glyphs_before line s h b =

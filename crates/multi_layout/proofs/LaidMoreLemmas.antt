@@ -1,5 +1,5 @@
 -- One more spot behind a string: the others are laid as they were, where it only goes behind its filled group.
-use Rattle.std.proofs.Common.{◌≡◌, ◌<◌, Bool, true, false, cond, ◌||◌, ◌==◌, List, [], ◌∷◌, ◌++◌, length, refl, sym, ap, subst, ◌∙◌, arith, length-append, append_assoc, append-nil}
+use Rattle.std.proofs.Common.{◌≡◌, ◌<◌, Bool, true, false, cond, ◌||◌, ◌==◌, List, [], ◌∷◌, ◌++◌, length, refl, sym, ap, subst, ◌∙◌, arith, length-append, append-nil}
 use Rattle.std.specs.Prelude.{slice_index_or}
 use Rattle.std.specs.List.{All}
 use Rattle.std.proofs.lemmas.Bool.{eqb-true, false≢true}
@@ -7,12 +7,11 @@ use Rattle.std.proofs.lemmas.List.{get_or_at, get_or_append_left}
 use Rattle.sign_font.specs.declared.parts.LineFill.{LineFill}
 use Rattle.multi_layout.specs.Address.{Spot, is_glyph, is_break, area_of, group_of}
 use Rattle.multi_layout.specs.Filling.{filled}
-use Rattle.multi_layout.specs.Laid.{fill_at, laid_spot, laid}
+use Rattle.multi_layout.specs.Laid.{fill_at, laid_spot}
 use Rattle.multi_layout.proofs.AreaSumLemmas.{area_placing}
 use Rattle.multi_layout.proofs.GroupLaidLemmas.{is_member, item_of, member_parts, members, members_push, members_with, own_member}
 use Rattle.multi_layout.proofs.GroupSumLemmas.{placing_group}
 use Rattle.multi_layout.proofs.LaidSpotLemmas.{filled_laid, laid_length}
-use Rattle.multi_layout.proofs.WordLemmas.{each_after_push, push_ind}
 
 module _ (setting : LineFill) (all : List Spot) (s : Spot) where
   -- one more spot leaves this one of the string where it is laid
@@ -22,18 +21,6 @@ module _ (setting : LineFill) (all : List Spot) (s : Spot) where
   -- and all of them
   abbrev pub LeavesAll : Type 0
   LeavesAll = (some more : List Spot) (x : Spot) → all ≡ some ++ x ∷ more → Leaves some x
-
-  pub laid_left : LeavesAll → (some more : List Spot) → all ≡ some ++ more → laid setting (all ++ s ∷ []) some ≡ laid setting all some
-  laid_left leaves = push_ind (λ some. (more : List Spot) → all ≡ some ++ more → laid setting (all ++ s ∷ []) some ≡ laid setting all some) (λ more is. refl) step
-    where
-      step : (some : List Spot) (x : Spot) → ((more : List Spot) → all ≡ some ++ more → laid setting (all ++ s ∷ []) some ≡ laid setting all some)
-          → (more : List Spot) → all ≡ (some ++ x ∷ []) ++ more → laid setting (all ++ s ∷ []) (some ++ x ∷ []) ≡ laid setting all (some ++ x ∷ [])
-      step some x ih more is =
-          let is' : all ≡ some ++ x ∷ more = is ∙ append_assoc some (x ∷ []) more in
-          each_after_push (laid_spot setting (all ++ s ∷ [])) some x
-          ∙ ap (λ l. l ++ laid_spot setting (all ++ s ∷ []) some x ∷ []) (ih (x ∷ more) is')
-          ∙ ap (λ y. laid setting all some ++ y ∷ []) (leaves some more x is')
-          ∙ sym (each_after_push (laid_spot setting all) some x)
 
   -- a group to which it doesn't belong stays
   pub other_group : (x : Spot) → is_member x.at.area x.at.page_just s ≡ false → group_of x (all ++ s ∷ []) ≡ group_of x all

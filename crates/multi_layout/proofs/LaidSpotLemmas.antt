@@ -5,7 +5,7 @@ use Rattle.std.specs.List.{filter, flat_map, All, AllPass}
 use Rattle.std.proofs.lemmas.List.Concat.{flat_map-append}
 use Rattle.std.proofs.lemmas.List.Elements.{All-head, All-tail}
 use Rattle.multi_layout.specs.Address.{Spot, is_glyph, is_break}
-use Rattle.multi_layout.specs.Sums.{IsPlacing}
+use Rattle.multi_layout.specs.kept.Sums.{IsPlacing}
 use Rattle.multi_layout.proofs.WordLemmas.{push_ind, All-split}
 use Rattle.multi_layout.proofs.CutLemmas.{Cut, cut, cut_push}
 use Rattle.multi_layout.proofs.HeightLemmas.{open_glyphs}

@@ -7,10 +7,9 @@ use Rattle.std.proofs.lemmas.List.Elements.{filter_map-append, filter-append}
 use Rattle.sign_font.specs.Sign.{SignData}
 use Rattle.multi_layout.specs.Meaning.{Meaning}
 use Rattle.multi_layout.specs.Attributes.{in_force}
-use Rattle.multi_layout.specs.Address.{Spot, spot_at, spots, standing, is_glyph, is_break, segment, lines_of}
-use Rattle.multi_layout.specs.Line.{glyph_width, char_gap, width_of, line_height, line_gap, height_of}
+use Rattle.multi_layout.specs.Address.{Spot, spot_at, spots, standing, is_glyph, segment}
+use Rattle.multi_layout.specs.Line.{glyph_width, char_gap, width_of}
 use Rattle.multi_layout.proofs.WordLemmas.{some_after_push, last_or-append, extent_push, gap_before}
-use Rattle.multi_layout.proofs.CutLemmas.{cut, cut_behind_push}
 
 -- one more item gives the attribute its value, or leaves it
 in_force_if : {A : Type 0} (o : Option A) (more : Option A) (default : A) → unwrap_or (last_or o (cons_option more [])) default ≡ unwrap_or more (unwrap_or o default)
@@ -41,11 +40,3 @@ segment_if characters s false = ap width_of (append-nil characters)
 
 pub segment_push : (just : ℕ) (line : List Spot) (s : Spot) → width_of (segment just (line ++ s ∷ [])) ≡ cond (is_glyph s && (s.at.line_just == just)) (width_of (segment just line) + gap_before char_gap (segment just line) s + glyph_width s) (width_of (segment just line))
 segment_push just line s = ap width_of (filter_push (λ t. is_glyph t && (t.at.line_just == just)) line s) ∙ segment_if (segment just line) s (is_glyph s && (s.at.line_just == just))
-
--- a group after one more placing item: the lines that are closed stay, and the item stands on the open one
-pub height_push : (group : List Spot) (s : Spot) →
-    let c = cut is_break group in
-    height_of (lines_of (group ++ s ∷ [])) ≡ height_of c.closed + gap_before line_gap c.closed (c.open' ++ s ∷ []) + line_height (c.open' ++ s ∷ [])
-height_push group s =
-    let c = cut is_break group in
-    ap height_of (cut_behind_push is_break group s) ∙ extent_push line_height line_gap c.closed (c.open' ++ s ∷ [])

@@ -4,6 +4,8 @@ pub mod AtLemmas
 pub mod AreaFillLemmas
 pub mod AreaLemmas
 pub mod AreaLinesLemmas
+pub mod AreaReadLemmas
+pub mod AreaStepLemmas
 pub mod AreaSumLemmas
 pub mod AttributeExamples
 pub mod BeforeLemmas
@@ -22,7 +24,6 @@ pub mod FillLawLemmas
 pub mod FillLemmas
 pub mod FillListLemmas
 pub mod FillSplitLemmas
-pub mod FilledAreaLemmas
 pub mod FilledBehindLemmas
 pub mod FilledCharacterLemmas
 pub mod FilledEndedLemmas
@@ -30,7 +31,6 @@ pub mod FilledJudgedLemmas
 pub mod FilledKeptLemmas
 pub mod FilledOnLemmas
 pub mod FilledOrderLemmas
-pub mod FilledPassLemmas
 pub mod FilledReadLemmas
 pub mod FilledRunLemmas
 pub mod FilledRoomLemmas

@@ -14,7 +14,7 @@ use Rattle.multi_layout.specs.Words.{largest}
 use Rattle.multi_layout.specs.Address.{Spot, is_glyph, segment}
 use Rattle.multi_layout.specs.Line.{average, bearers, line_height, line_spacing, char_gap, width_of}
 use Rattle.multi_layout.specs.Offence.{clashes}
-use Rattle.multi_layout.specs.Sums.{segment_sum, width_before, line_sum, line_sum_in, IsCharacter}
+use Rattle.multi_layout.specs.kept.Sums.{segment_sum, width_before, line_sum, line_sum_in, IsCharacter}
 use Rattle.multi_layout.proofs.WordLemmas.{largest_most, largest_push, last_or_push, gap_before}
 use Rattle.multi_layout.proofs.AreaLemmas.{filter_none}
 use Rattle.multi_layout.proofs.CheckLemmas.{any_largest}

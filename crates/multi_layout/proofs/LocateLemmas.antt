@@ -14,12 +14,12 @@ use Rattle.multi_layout.specs.declared.state.State.{State}
 use Rattle.multi_layout.specs.declared.times.Shown.{Shown}
 use Rattle.multi_layout.specs.declared.times.Shown.TheVariants.{Page, Off}
 use Rattle.multi_layout.specs.Address.{standing}
-use Rattle.multi_layout.specs.KnownItem.{meant_by}
+use Rattle.multi_layout.specs.kept.KnownItem.{meant_by}
 use Rattle.multi_layout.specs.Meaning.{Meaning, Does, is_new_page, meaning, meanings}
-use Rattle.multi_layout.specs.State.{attributes_of}
+use Rattle.multi_layout.specs.kept.State.{attributes_of}
 use Rattle.multi_layout.specs.Times.{Times, cycle, ended_times, page_times, shown, shown_within, times_at}
 use Rattle.multi_layout.specs.Verdict.{Accepted, IsCycle, IsVerdict, pages_of}
-use Rattle.multi_layout.specs.Walk.{IsPassing, IsFirst, IsItemRead}
+use Rattle.multi_layout.specs.kept.Cursors.{IsPassing, IsFirst, IsItemRead}
 use Rattle.multi_layout.proofs.AcceptedLemmas.{accepted_is, cycle_is}
 use Rattle.multi_layout.proofs.JudgedLemmas.{cycle-stays, cycle-grows}
 use Rattle.multi_layout.proofs.SkipLemmas.{same_unplaced}

@@ -12,7 +12,7 @@ use Rattle.multi_tag.specs.declared.tag.TagFault.{TagFault}
 use Rattle.multi_tag.specs.TagOf.{tag_of}
 use Rattle.multi_tag.proofs.TagOfLemmas.{line_just_known, page_just_known}
 use Rattle.multi_layout.specs.Meaning.{Does, meaning, meaning_of_tag, said_by}
-use Rattle.multi_layout.specs.State.{IsKnown}
+use Rattle.multi_layout.specs.kept.State.{IsKnown}
 
 -- a tag that is read gives a known justification
 pub known_of : (body : List ℕ) (tag : Tag) → Spells body tag → IsKnown tag

@@ -13,9 +13,9 @@ use Rattle.multi_layout.specs.Address.{Spot, in_group, is_break, is_glyph, lines
 use Rattle.multi_layout.specs.Fit.{area_fits, fit, line_fits}
 use Rattle.multi_layout.specs.Line.{glyph_width, height_of, width_of}
 use Rattle.multi_layout.specs.Meaning.{Meaning}
-use Rattle.multi_layout.specs.State.{present_area}
-use Rattle.multi_layout.specs.Table.{IsNarrow, IsNarrowArea}
-use Rattle.multi_layout.specs.Walk.{IsFine}
+use Rattle.multi_layout.specs.kept.State.{present_area}
+use Rattle.multi_layout.specs.kept.Table.{IsNarrow, IsNarrowArea}
+use Rattle.multi_layout.specs.kept.Cursors.{IsFine}
 use Rattle.multi_layout.proofs.BehindLemmas.{after_last_push}
 use Rattle.multi_layout.proofs.FillLemmas.{segment_grows}
 use Rattle.multi_layout.proofs.WordLemmas.{push_ind}

@@ -12,12 +12,12 @@ use Rattle.sign_font.specs.Sign.{SignData, CellData, cell_numbered}
 use Rattle.multi_layout.specs.Address.{Break, Cover, Glyph, Put, Spot, Standing, in_group, is_break, put_at, spots, standing}
 use Rattle.multi_layout.specs.Attributes.{given_rectangle}
 use Rattle.multi_layout.specs.Filling.{filled}
-use Rattle.multi_layout.specs.FillOpen.{AllOpenFit}
+use Rattle.multi_layout.specs.kept.FillOpen.{AllOpenFit}
 use Rattle.multi_layout.specs.Fit.{line_fits}
 use Rattle.multi_layout.specs.Laid.{too_big}
 use Rattle.multi_layout.specs.Meaning.{Meaning, Does, Faulty, Shows, begins_area, meaning}
 use Rattle.multi_layout.specs.Offence.{character_cases, conflicts, first_code, offence, offence_by}
-use Rattle.multi_layout.specs.State.{present_area}
+use Rattle.multi_layout.specs.kept.State.{present_area}
 use Rattle.multi_layout.specs.Verdict.{fault_at, offences}
 use Rattle.multi_layout.proofs.AreaSumLemmas.{area_placing, in_group_other}
 use Rattle.multi_layout.proofs.BehindLemmas.{after_last_push}

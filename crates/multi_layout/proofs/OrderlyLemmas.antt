@@ -14,7 +14,7 @@ use Rattle.multi_layout.specs.LaidItems.{laid_item, laid_items, laid_of, laid_ou
 use Rattle.multi_layout.specs.Meaning.{Does, Meaning, Shows, has_place, is_new_page, meaning}
 use Rattle.multi_layout.specs.Offence.{clashes, conflicts, first_code, goes_back, never_big, offence, offence_by, unsized_offence}
 use Rattle.multi_layout.specs.Verdict.{offences}
-use Rattle.multi_layout.specs.Walk.{IsOrderly}
+use Rattle.multi_layout.specs.kept.Cursors.{IsOrderly}
 use Rattle.multi_layout.specs.Words.{some_after}
 use Rattle.multi_layout.proofs.BehindLemmas.{after_last_push}
 use Rattle.multi_layout.proofs.CheckLemmas.{group_goes_back}

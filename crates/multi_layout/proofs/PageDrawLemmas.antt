@@ -22,12 +22,12 @@ use Rattle.multi_layout.specs.Drawn.{has_colour}
 use Rattle.multi_layout.specs.Drawn as drawn
 use Rattle.multi_layout.specs.Limits.{plane_octets}
 use Rattle.multi_layout.specs.Meaning.{Meaning, Shows, Does, Faulty, BeginsPage, EndsArea, EndsPage, begins_area, is_new_page}
-use Rattle.multi_layout.specs.Paging.{IsFilledFew, IsPagePassed}
-use Rattle.multi_layout.specs.Passes.{HasCounted, IsAreaRead, IsDrawnTo, IsFilledBy, BeginsNoArea, first_steps, whole_area}
+use Rattle.multi_layout.specs.kept.PageDrawing.{IsFilledFew, IsPagePassed}
+use Rattle.multi_layout.specs.kept.AreaDrawing.{HasCounted, IsAreaRead, IsDrawnTo, IsFilledBy, BeginsNoArea, first_steps, whole_area}
 use Rattle.multi_layout.specs.Picture.{in_plane, shown_colour}
-use Rattle.multi_layout.specs.State.{present_area}
+use Rattle.multi_layout.specs.kept.State.{present_area}
 use Rattle.multi_layout.specs.Verdict.{pages_of}
-use Rattle.multi_layout.specs.Walk.{IsAccepted, IsBetween, items_of, laid_meanings, meant, Piece, spell_of}
+use Rattle.multi_layout.specs.kept.Cursors.{IsAccepted, IsBetween, items_of, laid_meanings, meant, LaidItem, spell_of}
 use Rattle.multi_layout.proofs.DrawLemmas.{no_page}
 use Rattle.multi_layout.proofs.DrawnLemmas.{covered_begins, covered_ends, covered_same}
 use Rattle.multi_layout.proofs.SpotsLemmas.{same_page_behind, next_page_behind}
@@ -36,19 +36,19 @@ use Rattle.multi_layout.proofs.WalkLemmas.{spell_of-append}
 
 -- ONE PLACE
 
-same_front : (xs ys zs ws : List Piece) → xs ++ ys ≡ zs ++ ws → length (spell_of xs) ≡ length (spell_of zs) → xs ≡ zs
+same_front : (xs ys zs ws : List LaidItem) → xs ++ ys ≡ zs ++ ws → length (spell_of xs) ≡ length (spell_of zs) → xs ≡ zs
 same_front [] ys [] ws e n = refl
 same_front [] ys (z ∷ zs) ws e n = absurd (omega (arith, n, spelling_some z.item, length-append (spelling z.item) (spell_of zs)))
 same_front (x ∷ xs) ys [] ws e n = absurd (omega (arith, n, spelling_some x.item, length-append (spelling x.item) (spell_of xs)))
 same_front (x ∷ xs) ys (z ∷ zs) ws e n =
     let head : x ≡ z = cc in
     let tail : xs ++ ys ≡ zs ++ ws = cc in
-    let long : length (spelling x.item) ≡ length (spelling z.item) = ap (λ (y : Piece). length (spelling y.item)) head in
+    let long : length (spelling x.item) ≡ length (spelling z.item) = ap (λ (y : LaidItem). length (spelling y.item)) head in
     let more = same_front xs ys zs ws tail (omega (arith, n, long, length-append (spelling x.item) (spell_of xs), length-append (spelling z.item) (spell_of zs))) in
     ap (λ y. y ∷ xs) head ∙ ap (λ l. z ∷ l) more
 
 -- pieces are the same with the same items and meanings
-same_pieces : (xs ys : List Piece) → items_of xs ≡ items_of ys → map meant xs ≡ map meant ys → xs ≡ ys
+same_pieces : (xs ys : List LaidItem) → items_of xs ≡ items_of ys → map meant xs ≡ map meant ys → xs ≡ ys
 same_pieces [] [] e f = refl
 same_pieces [] (y ∷ ys) e f = cc
 same_pieces (x ∷ xs) [] e f = cc
@@ -61,34 +61,34 @@ same_pieces (x ∷ xs) (y ∷ ys) e f =
     λ i. record { item = item i; as_laid = as' i } ∷ more i
 
 -- a string has the same pieces whatever says that it is accepted
-one_list : (sign : SignData) (octets : List ℕ) (before behind before' behind' : List Piece) (cursor cursor' : Cursor) → IsBetween sign octets before behind cursor → IsBetween sign octets before' behind' cursor'
+one_list : (sign : SignData) (octets : List ℕ) (before behind before' behind' : List LaidItem) (cursor cursor' : Cursor) → IsBetween sign octets before behind cursor → IsBetween sign octets before' behind' cursor'
     → before ++ behind ≡ before' ++ behind'
 one_list sign octets before behind before' behind' cursor cursor' b b' =
     let read = λ (l : List Item) (x : IsAccepted sign octets l). let r : IsReading octets l [] = record { each = x.each; spelled = x.spelled ∙ sym (append-nil (spell l)); ends = none_found [] refl } in r in
     let items = items_of before ++ items_of behind in
     let items' = items_of before' ++ items_of behind' in
     let one = (one_reading octets items items' [] [] (read items b.placed.accepted) (read items' b'.placed.accepted)).0 in
-    let same = map-append (λ (p : Piece). p.item) before behind ∙ one ∙ sym (map-append (λ (p : Piece). p.item) before' behind') in
+    let same = map-append (λ (p : LaidItem). p.item) before behind ∙ one ∙ sym (map-append (λ (p : LaidItem). p.item) before' behind') in
     same_pieces (before ++ behind) (before' ++ behind') same (b.laid ∙ ap (laid_meanings sign) same ∙ sym b'.laid)
 
 -- a cursor stands behind the same items whatever says so
-pub one_place : (sign : SignData) (octets : List ℕ) (before behind before' behind' : List Piece) (cursor : Cursor) → IsBetween sign octets before behind cursor → IsBetween sign octets before' behind' cursor → before ≡ before'
+pub one_place : (sign : SignData) (octets : List ℕ) (before behind before' behind' : List LaidItem) (cursor : Cursor) → IsBetween sign octets before behind cursor → IsBetween sign octets before' behind' cursor → before ≡ before'
 one_place sign octets before behind before' behind' cursor b b' =
     same_front before behind before' behind' (one_list sign octets before behind before' behind' cursor cursor b b') (sym b.placed.place ∙ b'.placed.place)
 
 -- AREAS OF A PAGE
 
 -- these items of a page are drawn, and those behind them are left
-pub record PageDrawn (sign : SignData) (octets : List ℕ) (before behind : List Piece) (layer : Layer) (cursor : Cursor) (plane : BitPlane) : Type 0 where
-  pub done : List Piece
-  pub left : List Piece
+pub record PageDrawn (sign : SignData) (octets : List ℕ) (before behind : List LaidItem) (layer : Layer) (cursor : Cursor) (plane : BitPlane) : Type 0 where
+  pub done : List LaidItem
+  pub left : List LaidItem
   pub split : behind ≡ done ++ left
   pub between : IsBetween sign octets (before ++ done) left cursor
   pub page : (standing sign (map meant (before ++ done))).page ≡ (standing sign (map meant before)).page
   pub drawn : IsDrawnTo sign layer (map meant (before ++ behind)) (map meant (before ++ done)) plane
 
 -- and an area begins behind them
-pub record PageSoFar (sign : SignData) (octets : List ℕ) (before behind : List Piece) (layer : Layer) (cursor : Cursor) (plane : BitPlane) : Type 0 where
+pub record PageSoFar (sign : SignData) (octets : List ℕ) (before behind : List LaidItem) (layer : Layer) (cursor : Cursor) (plane : BitPlane) : Type 0 where
   pub so : PageDrawn sign octets before behind layer cursor plane
   pub begins : present_area sign (map meant (before ++ so.done)) ≡ []
 
@@ -110,7 +110,7 @@ plain_page (Faulty code) plain = refl
 
 module _ (sign : SignData) where
   -- items behind which no area begins leave the page
-  pages_on : (before items : List Piece) → BeginsNoArea items → (standing sign (map meant (before ++ items))).page ≡ (standing sign (map meant before)).page
+  pages_on : (before items : List LaidItem) → BeginsNoArea items → (standing sign (map meant (before ++ items))).page ≡ (standing sign (map meant before)).page
   pages_on before [] plain = ap (λ l. (standing sign (map meant l)).page) (append-nil before)
   pages_on before (x ∷ items) plain =
       let first : is_new_page (meant x) ≡ false = plain_page (meant x) (All-head (λ y. begins_area (meant y) ≡ false) x items plain) in
@@ -119,7 +119,7 @@ module _ (sign : SignData) where
       ∙ ap (λ ms. (standing sign ms).page) (map-append meant before (x ∷ []))
       ∙ same_page_behind sign (map meant before) (meant x) first
 
-module _ (sign : SignData) (octets : List ℕ) (before behind : List Piece) (layer : Layer) where
+module _ (sign : SignData) (octets : List ℕ) (before behind : List LaidItem) (layer : Layer) where
   pub page_begins : (cursor : Cursor) (plane : BitPlane) (on : Bool) → IsBetween sign octets before behind cursor → BeginsPage (map meant before) → on ≡ (shown_colour sign cursor.state.attributes.back == layer.colour)
       → ((x y : ℕ) → x < plane.width → y < plane.height → is_lit plane x y ≡ on) → PageSoFar sign octets before behind layer cursor plane
   page_begins cursor plane on b begins colour pixels =
@@ -141,7 +141,7 @@ module _ (sign : SignData) (octets : List ℕ) (before behind : List Piece) (lay
 
   module _ (cursor : Cursor) (plane : BitPlane) (s : PageDrawn sign octets before behind layer cursor plane) where
     -- an area more
-    pub page_area : (area rest : List Piece) → s.left ≡ area ++ rest → BeginsNoArea area → (cursor' : Cursor) (plane' : BitPlane) → IsBetween sign octets ((before ++ s.done) ++ area) rest cursor'
+    pub page_area : (area rest : List LaidItem) → s.left ≡ area ++ rest → BeginsNoArea area → (cursor' : Cursor) (plane' : BitPlane) → IsBetween sign octets ((before ++ s.done) ++ area) rest cursor'
         → (IsDrawnTo sign layer (map meant ((before ++ s.done) ++ (area ++ rest))) (map meant (before ++ s.done)) plane → IsDrawnTo sign layer (map meant ((before ++ s.done) ++ (area ++ rest))) (map meant ((before ++ s.done) ++ area)) plane')
         → (d : PageDrawn sign octets before behind layer cursor' plane') × (d.done ≡ s.done ++ area) × (d.left ≡ rest)
     page_area area rest is plain cursor' plane' between drawn =
@@ -180,7 +180,7 @@ module _ (sign : SignData) (octets : List ℕ) (before behind : List Piece) (lay
     pub last_passed : (start : Cursor) → start.state.pages ≡ pages_of (map meant before) → start.at ≤ cursor.at → s.left ≡ [] → IsPagePassed sign octets before behind start cursor
     last_passed start count on none = record { page = s.done; rest = s.left; split = s.split; between = s.between; on = on; ends = inl (none, same_pages start.state.pages count) }
 
-    module _ (item : Piece) (rest : List Piece) (is : s.left ≡ item ∷ rest) (new : Cursor) (between : IsBetween sign octets ((before ++ s.done) ++ item ∷ []) rest new) where
+    module _ (item : LaidItem) (rest : List LaidItem) (is : s.left ≡ item ∷ rest) (new : Cursor) (between : IsBetween sign octets ((before ++ s.done) ++ item ∷ []) rest new) where
       assoc : (before ++ s.done) ++ item ∷ [] ≡ before ++ (s.done ++ item ∷ [])
       assoc = append_assoc before s.done (item ∷ [])
 
@@ -239,28 +239,28 @@ new_page_is (Faulty code) is = cc
 new_page_is (Does NewPage) is = refl
 new_page_is (Does _) is = cc
 
-pub first_begins : (item : Piece) (rest : List Piece) → EndsArea (map meant (item ∷ rest)) → begins_area (meant item) ≡ true
+pub first_begins : (item : LaidItem) (rest : List LaidItem) → EndsArea (map meant (item ∷ rest)) → begins_area (meant item) ≡ true
 first_begins item rest (inl none) = cc
 first_begins item rest (inr (x, more, begins, is)) = let same : x ≡ meant item = cc in ap begins_area (sym same) ∙ begins
 
-pub first_ends : (item : Piece) (rest : List Piece) → is_new_page (meant item) ≡ true → EndsPage (map meant (item ∷ rest))
+pub first_ends : (item : LaidItem) (rest : List LaidItem) → is_new_page (meant item) ≡ true → EndsPage (map meant (item ∷ rest))
 first_ends item rest is = inr (map meant rest, ap (λ m. m ∷ map meant rest) (new_page_is (meant item) is))
 
 -- A ROUND
 
 -- an area was read and drawn
-pub record Round (sign : SignData) (octets : List ℕ) (before behind : List Piece) (layer : Layer) (old new : Cursor) (plane : BitPlane) (end : ℕ) (source source' : Counted) : Type 0 where
+pub record Round (sign : SignData) (octets : List ℕ) (before behind : List LaidItem) (layer : Layer) (old new : Cursor) (plane : BitPlane) (end : ℕ) (source source' : Counted) : Type 0 where
   pub so : PageDrawn sign octets before behind layer new plane
   pub ends : EndsArea (map meant so.left)
   pub at : new.at ≡ end
   pub on : old.at ≤ end
   pub steps : RisesBetween source source' 0 (9 * (end - old.at) + first_steps (items_of so.left))
 
-pub round : (sign : SignData) (octets : List ℕ) (before behind : List Piece) (layer : Layer) (cursor : Cursor) (plane : BitPlane) (s : PageSoFar sign octets before behind layer cursor plane)
+pub round : (sign : SignData) (octets : List ℕ) (before behind : List LaidItem) (layer : Layer) (cursor : Cursor) (plane : BitPlane) (s : PageSoFar sign octets before behind layer cursor plane)
     → (read : AreaLines) (source source' : Counted) → IsAreaRead sign (before ++ s.so.done) s.so.left cursor read source source' → (new : Cursor) (plane' : BitPlane)
-    → ((earlier area rest : List Piece) → IsBetween sign octets earlier (area ++ rest) cursor → BeginsNoArea area → read.end ≡ cursor.at + length (spell_of area) → HasCounted (whole_area sign earlier (area ++ rest)) read.lines
+    → ((earlier area rest : List LaidItem) → IsBetween sign octets earlier (area ++ rest) cursor → BeginsNoArea area → read.end ≡ cursor.at + length (spell_of area) → HasCounted (whole_area sign earlier (area ++ rest)) read.lines
     → IsBetween sign octets (earlier ++ area) rest new)
-    → ((earlier area rest : List Piece) → IsBetween sign octets earlier (area ++ rest) cursor → BeginsNoArea area → read.end ≡ cursor.at + length (spell_of area) → HasCounted (whole_area sign earlier (area ++ rest)) read.lines
+    → ((earlier area rest : List LaidItem) → IsBetween sign octets earlier (area ++ rest) cursor → BeginsNoArea area → read.end ≡ cursor.at + length (spell_of area) → HasCounted (whole_area sign earlier (area ++ rest)) read.lines
     → IsDrawnTo sign layer (map meant (earlier ++ (area ++ rest))) (map meant earlier) plane → IsDrawnTo sign layer (map meant (earlier ++ (area ++ rest))) (map meant (earlier ++ area)) plane')
     → Round sign octets before behind layer cursor new plane' read.end source source'
 round sign octets before behind layer cursor plane s read source source' a new plane' passed drawn =
@@ -290,7 +290,7 @@ pub no_less : (x y k : ℕ) → x ≤ y → x ≤ y + k
 no_less x y k within = omega (arith, within)
 
 -- the steps over the string to its end
-pub string_end : (a b c d e : Counted) (start at end : ℕ) (left : List Piece) → start ≤ at → at ≤ end → left ≡ [] → RisesBetween a b 0 (18 * (at - start)) → RisesBetween b c 0 (9 * (end - at) + first_steps (items_of left)) → RisesBetween c d 0 (9 * (end - at)) → RisesBetween d e 0 1
+pub string_end : (a b c d e : Counted) (start at end : ℕ) (left : List LaidItem) → start ≤ at → at ≤ end → left ≡ [] → RisesBetween a b 0 (18 * (at - start)) → RisesBetween b c 0 (9 * (end - at) + first_steps (items_of left)) → RisesBetween c d 0 (9 * (end - at)) → RisesBetween d e 0 1
     → RisesBetween a e 0 (18 * (end - start) + 2)
 string_end a b c d e start at end left on more none w x y z =
     let one : first_steps (items_of left) ≡ 1 = ap (λ l. first_steps (items_of l)) none in
@@ -298,7 +298,7 @@ string_end a b c d e start at end left on more none w x y z =
     rises_more a e 0 _ (18 * (end - start) + 2) (omega (arith, one, on, more)) all
 
 -- the steps over the string behind one more item
-pub string_more : (a b c d e f : Counted) (start at end len : ℕ) (item : Piece) (rest left : List Piece) → start ≤ at → at ≤ end → left ≡ item ∷ rest → len ≡ length (spelling item.item)
+pub string_more : (a b c d e f : Counted) (start at end len : ℕ) (item : LaidItem) (rest left : List LaidItem) → start ≤ at → at ≤ end → left ≡ item ∷ rest → len ≡ length (spelling item.item)
     → RisesBetween a b 0 (18 * (at - start)) → RisesBetween b c 0 (9 * (end - at) + first_steps (items_of left)) → RisesBetween c d 0 (9 * (end - at)) → RisesBetween d e 0 (2 * len - 1) → RisesBetween e f 0 8
     → RisesBetween a f 0 (18 * (end + len - start))
 string_more a b c d e f start at end len item rest left on more some is v w x y z =

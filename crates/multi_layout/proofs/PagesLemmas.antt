@@ -24,10 +24,10 @@ use Rattle.multi_layout.specs.Drawn as drawn
 use Rattle.multi_layout.specs.Limits.{drawing_limit, plane_limit, plane_octets, reading_limit}
 use Rattle.multi_layout.specs.Meaning.{BeginsPage, Does, Meaning, is_new_page, meaning, meanings}
 use Rattle.multi_layout.specs.Pages.{IsTurned}
-use Rattle.multi_layout.specs.Paging.{IsFilledFew, IsPagePassed, IsReadTwice}
+use Rattle.multi_layout.specs.kept.PageDrawing.{IsFilledFew, IsPagePassed, IsReadTwice}
 use Rattle.multi_layout.specs.Picture.{in_plane, picture}
 use Rattle.multi_layout.specs.Verdict.{pages_of}
-use Rattle.multi_layout.specs.Walk.{IsAccepted, IsBetween, IsFirst, IsItemRead, IsPassing, IsPlaced, items_of, laid_meanings, meant, Piece}
+use Rattle.multi_layout.specs.kept.Cursors.{IsAccepted, IsBetween, IsFirst, IsItemRead, IsPassing, IsPlaced, items_of, laid_meanings, meant, LaidItem}
 use Rattle.multi_layout.proofs.SkipLemmas.{same_unplaced}
 use Rattle.multi_layout.proofs.PieceLemmas.{laid_pages}
 use Rattle.multi_layout.proofs.WalkLemmas.{room, within_between}
@@ -66,21 +66,21 @@ new_page_is (Does NewPage) e = refl
 new_page_is _ e = absurd (cc)
 
 -- the pieces have the pages of the items
-pages_left : (sign : SignData) (octets : List ℕ) (before behind : List Piece) (cursor : Cursor) → IsBetween sign octets before behind cursor → cursor.state.pages + count_by is_new_page (map meant behind) ≡ pages_of (meanings octets)
+pages_left : (sign : SignData) (octets : List ℕ) (before behind : List LaidItem) (cursor : Cursor) → IsBetween sign octets before behind cursor → cursor.state.pages + count_by is_new_page (map meant behind) ≡ pages_of (meanings octets)
 pages_left sign octets before behind cursor b =
     omega (
       arith,
       b.state_is.pages,
       pages_of-append (map meant before) (map meant behind),
       ap pages_of (sym (map-append meant before behind)),
-      ap pages_of (b.laid ∙ ap (laid_meanings sign) (map-append (λ (p : Piece). p.item) before behind)),
+      ap pages_of (b.laid ∙ ap (laid_meanings sign) (map-append (λ (p : LaidItem). p.item) before behind)),
       laid_pages sign (map meaning (items_of before ++ items_of behind)),
       ap pages_of (same_meanings sign octets (items_of before ++ items_of behind) b.placed.accepted),
     )
 
 -- ---- a page that is passed
 
-pub turned : (sign : SignData) (octets : List ℕ) (before behind : List Piece) (old new : Cursor)
+pub turned : (sign : SignData) (octets : List ℕ) (before behind : List LaidItem) (old new : Cursor)
     → IsBetween sign octets before behind old → IsPagePassed sign octets before behind old new → IsTurned sign octets old new
 turned sign octets before behind old new b p = record {
   on = p.on;
@@ -95,10 +95,10 @@ turned sign octets before behind old new b p = record {
     at_end none = omega (arith, pages_left sign octets (before ++ p.page) p.rest new p.between, ap (λ l. count_by is_new_page (map meant l)) none)
 
 -- what is drawn of its pieces is the picture of the string
-pub shows_picture : (plane : BitPlane) (sign : SignData) (octets : List ℕ) (before behind : List Piece) (cursor : Cursor) (page phase colour : ℕ) → IsBetween sign octets before behind cursor
+pub shows_picture : (plane : BitPlane) (sign : SignData) (octets : List ℕ) (before behind : List LaidItem) (cursor : Cursor) (page phase colour : ℕ) → IsBetween sign octets before behind cursor
     → drawn.Lights plane (λ column row. in_plane sign (map meant (before ++ behind)) page phase colour column row) → drawn.Lights plane (picture sign octets page phase colour)
 shows_picture plane sign octets before behind cursor page phase colour b shows =
-    let all = b.laid ∙ ap (laid_meanings sign) (map-append (λ (p : Piece). p.item) before behind) ∙ ap (laid_out sign) (same_meanings sign octets (items_of before ++ items_of behind) b.placed.accepted) in
+    let all = b.laid ∙ ap (laid_meanings sign) (map-append (λ (p : LaidItem). p.item) before behind) ∙ ap (laid_out sign) (same_meanings sign octets (items_of before ++ items_of behind) b.placed.accepted) in
     λ column row w h. shows column row w h ∙ ap (λ ms. in_plane sign ms page phase colour column row) all
 
 -- ---- the way to a page

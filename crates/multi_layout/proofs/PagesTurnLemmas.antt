@@ -13,8 +13,8 @@ use Rattle.multi_layout.specs.declared.cursor.Cursor.{Cursor}
 use Rattle.multi_layout.specs.CheckedData.{CheckedData}
 use Rattle.multi_layout.specs.Limits.{drawing_limit, plane_limit, plane_octets, reading_limit}
 use Rattle.multi_layout.specs.Pages.{IsSized, IsTurned, IsUnderWay, PagesState, TurnsPage, page_count}
-use Rattle.multi_layout.specs.Paging.{IsFilledFew, IsPageStart, IsReadTwice}
-use Rattle.multi_layout.specs.Walk.{IsBetween, Piece}
+use Rattle.multi_layout.specs.kept.PageDrawing.{IsFilledFew, IsPageStart, IsReadTwice}
+use Rattle.multi_layout.specs.kept.Cursors.{IsBetween, LaidItem}
 use Rattle.multi_layout.proofs.WalkLemmas.{within_between}
 use Rattle.multi_layout.proofs.PagesLemmas.{at_most, drawing_few, drawing_fills, plane_few}
 
@@ -25,7 +25,7 @@ judged_is a b p q = λ i. record { sign = p i; source = q i }
 -- at the start
 pub under_way_first : (pages : PagesState) (cursor : Cursor) → IsSound pages.string.sign → length pages.string.source.octets < 2 ^ 32 → IsSized pages.plane pages.string.sign
     → pages.next ≡ 0 → pages.string_started ≡ pages.string.source.steps → pages.plane_started ≡ pages.plane.steps
-    → (items : List Piece) → IsBetween pages.string.sign pages.string.source.octets [] items cursor → IsUnderWay pages cursor
+    → (items : List LaidItem) → IsBetween pages.string.sign pages.string.source.octets [] items cursor → IsUnderWay pages cursor
 under_way_first pages cursor sound short size first read drawn items b = record {
   sound = sound;
   short = short;

@@ -19,12 +19,12 @@ use Rattle.multi_layout.specs.Address.{standing, Glyph, Spot, spots, area_of, gr
 use Rattle.multi_layout.specs.Drawn.{has_colour}
 use Rattle.multi_layout.specs.Line.{glyph_width}
 use Rattle.multi_layout.specs.Meaning.{Meaning, Shows}
-use Rattle.multi_layout.specs.Passes.{HasCounted, IsDrawnTo}
+use Rattle.multi_layout.specs.kept.AreaDrawing.{HasCounted, IsDrawnTo}
 use Rattle.multi_layout.specs.Picture.{is_lit_at, shown_colour}
 use Rattle.multi_layout.specs.Place.{place_of}
-use Rattle.multi_layout.specs.State.{IsStateOf, attributes_of}
-use Rattle.multi_layout.specs.Sums.{area_sum}
-use Rattle.multi_layout.specs.Table.{group_lines, table_of}
+use Rattle.multi_layout.specs.kept.State.{IsStateOf, attributes_of}
+use Rattle.multi_layout.specs.kept.Sums.{area_sum}
+use Rattle.multi_layout.specs.kept.Table.{group_lines, table_of}
 use Rattle.multi_layout.proofs.CellLemmas.{covers}
 use Rattle.multi_layout.proofs.DrawnLemmas.{covered_glyph}
 use Rattle.multi_layout.specs.Offence.{clashes, unsized_offence}

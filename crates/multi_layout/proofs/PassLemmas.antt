@@ -9,13 +9,13 @@ use Rattle.multi_layout.specs.declared.fault.SyntaxError.{SyntaxError}
 use Rattle.multi_layout.specs.declared.pass.Pass.{Pass}
 use Rattle.multi_layout.specs.Address.{spots}
 use Rattle.multi_layout.specs.Codes.{code_of}
-use Rattle.multi_layout.specs.FilledState.{IsFilledJudged, IsFilledOf}
+use Rattle.multi_layout.specs.kept.FilledState.{IsFilledJudged, IsFilledOf}
 use Rattle.multi_layout.specs.LaidItems.{laid_items}
 use Rattle.multi_layout.specs.Meaning.{Meaning, Shows}
 use Rattle.multi_layout.specs.Offence.{offence}
-use Rattle.multi_layout.specs.PassOf.{IsItemJudged, IsPassOf, IsPassReady, fill_of}
-use Rattle.multi_layout.specs.Progress.{IsAt, IsTold, ReadSoFar}
-use Rattle.multi_layout.specs.State.{IsJudged, IsStateOf, present_area, whole_times}
+use Rattle.multi_layout.specs.kept.PassState.{IsItemJudged, IsPassOf, IsPassReady, fill_of}
+use Rattle.multi_layout.specs.kept.Judging.{IsAt, IsTold, ReadSoFar}
+use Rattle.multi_layout.specs.kept.State.{IsJudged, IsStateOf, present_area, whole_times}
 use Rattle.multi_layout.specs.Words.{some_after}
 use Rattle.multi_layout.proofs.FilledJudgedLemmas.{filled_undefined}
 use Rattle.multi_layout.proofs.FilledReadLemmas.{filled_ready_here, filled_told}

@@ -8,7 +8,7 @@ use Rattle.multi_tag.specs.declared.tag.Tag.TheVariants.{NewPage, NewLine}
 use Rattle.sign_font.specs.declared.parts.LineFill.{LineFill}
 use Rattle.sign_font.specs.declared.parts.LineFill.TheVariants.{Off}
 use Rattle.sign_font.specs.Sign.{SignData, CellData, cell_numbered}
-use Rattle.multi_layout.specs.State.{IsStateOf}
+use Rattle.multi_layout.specs.kept.State.{IsStateOf}
 use Rattle.multi_layout.specs.declared.cursor.Cursor.{Cursor}
 use Rattle.multi_layout.specs.declared.cursor.NextItem.{NextItem}
 use Rattle.multi_layout.specs.declared.item.KnownItem.{KnownItem}
@@ -16,22 +16,22 @@ use Rattle.multi_layout.specs.declared.item.KnownItem.TheVariants as items
 use Rattle.multi_layout.specs.declared.item.KnownItem.TheVariants.{Char}
 use Rattle.multi_layout.specs.declared.table.LineTable.{LineTable}
 use Rattle.multi_layout.specs.Address.{Glyph, Spot, Standing, is_break, spot_at, spots, standing}
-use Rattle.multi_layout.specs.KnownItem.{meant_by}
+use Rattle.multi_layout.specs.kept.KnownItem.{meant_by}
 use Rattle.multi_layout.specs.Laid.{laid_spot}
 use Rattle.multi_layout.specs.LaidItems.{laid_item, laid_items, laid_of, laid_out}
 use Rattle.multi_layout.specs.Line.{given_gap}
 use Rattle.multi_layout.specs.Meaning.{BeginsPage, Does, EndsArea, Meaning, Shows, begins_area, has_place, meaning}
-use Rattle.multi_layout.specs.Passes.{HasCounted, whole_area}
-use Rattle.multi_layout.specs.Verdict.{fault_at, offences, pages_of}
-use Rattle.multi_layout.specs.Walk.{IsBetween, IsFine, IsFirst, IsItemRead, IsOrderly, IsPassing, IsPieceFirst, IsPlaced, IsRead, items_of, laid_meanings, meant, Piece, pieces_of}
+use Rattle.multi_layout.specs.kept.AreaDrawing.{HasCounted, whole_area}
+use Rattle.multi_layout.specs.Verdict.{pages_of}
+use Rattle.multi_layout.specs.kept.Cursors.{IsBetween, IsFirst, IsItemRead, IsOrderly, IsPassing, IsPieceFirst, IsPlaced, IsRead, items_of, laid_meanings, meant, LaidItem, pieces_of}
 use Rattle.multi_layout.specs.Words.{each_after}
 use Rattle.multi_layout.proofs.FilledStateLemmas.{pages_at, same_times}
 use Rattle.multi_layout.proofs.LaidItemLemmas.{are_laid}
 use Rattle.multi_layout.proofs.SkipLemmas.{settled_at}
 use Rattle.multi_layout.proofs.SpotsLemmas.{spots_with}
 use Rattle.multi_layout.proofs.UnfilledLemmas.{spot_if}
-use Rattle.multi_layout.proofs.WalkLemmas.{few_pieces, fine_items, laid_here, length-meanings}
-use Rattle.multi_layout.proofs.WordLemmas.{each_after-append, each_after_length, each_after_push, left_nil, push_ind, some_after-append}
+use Rattle.multi_layout.proofs.WalkLemmas.{few_pieces, laid_here, length-meanings}
+use Rattle.multi_layout.proofs.WordLemmas.{each_after-append, each_after_length, each_after_push, push_ind}
 
 -- AN ITEM AS IT IS LAID OUT
 
@@ -55,7 +55,7 @@ unfilled_item sign all before more (Shows number) is = unfilled_character sign a
 unfilled_item sign all before more (Does (NewLine gap)) is = refl
 unfilled_item sign all before more _ is = refl
 
-unfilled_items : (sign : SignData) (all some more : List Meaning) → all ≡ some ++ more → laid_items Off sign all some ≡ some
+pub unfilled_items : (sign : SignData) (all some more : List Meaning) → all ≡ some ++ more → laid_items Off sign all some ≡ some
 unfilled_items sign all = push_ind (λ some. (more : List Meaning) → all ≡ some ++ more → laid_items Off sign all some ≡ some) (λ more is. refl) step
   where
     step : (some : List Meaning) (x : Meaning) → ((more : List Meaning) → all ≡ some ++ more → laid_items Off sign all some ≡ some) → (more : List Meaning) → all ≡ (some ++ x ∷ []) ++ more → laid_items Off sign all (some ++ x ∷ []) ≡ some ++ x ∷ []
@@ -75,12 +75,12 @@ same_front (x ∷ xs) (y ∷ ys) as' bs n e =
     λ i. first i ∷ front i
 
 -- they are its items, laid out
-pub items_of_pieces : (f : List Item → Item → Meaning) (items : List Item) → items_of (each_after (λ before item. let p : Piece = record { item = item; as_laid = f before item } in p) items) ≡ items
+pub items_of_pieces : (f : List Item → Item → Meaning) (items : List Item) → items_of (each_after (λ before item. let p : LaidItem = record { item = item; as_laid = f before item } in p) items) ≡ items
 items_of_pieces f [] = refl
 items_of_pieces f (x ∷ items) = ap (λ l. x ∷ l) (items_of_pieces (λ before. f (x ∷ before)) items)
 
 meant_pieces : (f : List Meaning → Meaning → Meaning) (items : List Item)
-    → map meant (each_after (λ before item. let p : Piece = record { item = item; as_laid = f (map meaning before) (meaning item) } in p) items) ≡ each_after f (map meaning items)
+    → map meant (each_after (λ before item. let p : LaidItem = record { item = item; as_laid = f (map meaning before) (meaning item) } in p) items) ≡ each_after f (map meaning items)
 meant_pieces f [] = refl
 meant_pieces f (x ∷ items) = ap (λ l. f [] (meaning x) ∷ l) (meant_pieces (λ before. f (meaning x ∷ before)) items)
 
@@ -95,42 +95,24 @@ laid_pages sign items = pages_at sign (laid_out sign items) items (ap (λ (s : S
 -- BETWEEN TWO PIECES
 
 -- what places nothing means what its item does
-pub unplaced_laid : (sign : SignData) (before rest : List Piece) (piece : Piece) → map meant (before ++ piece ∷ rest) ≡ laid_meanings sign (items_of (before ++ piece ∷ rest))
+pub unplaced_laid : (sign : SignData) (before rest : List LaidItem) (piece : LaidItem) → map meant (before ++ piece ∷ rest) ≡ laid_meanings sign (items_of (before ++ piece ∷ rest))
     → has_place (meaning piece.item) ≡ false → meant piece ≡ meaning piece.item
 unplaced_laid sign before rest piece laid none = laid_here sign before rest piece laid ∙ unplaced_item sign.line_fill sign _ _ (meaning piece.item) none
 
 -- the first pieces are the first items, as they are laid out among all
-pub laid_front : (sign : SignData) (before behind : List Piece) → map meant (before ++ behind) ≡ laid_meanings sign (items_of (before ++ behind))
+pub laid_front : (sign : SignData) (before behind : List LaidItem) → map meant (before ++ behind) ≡ laid_meanings sign (items_of (before ++ behind))
     → map meant before ≡ laid_items sign.line_fill sign (map meaning (items_of before) ++ map meaning (items_of behind)) (map meaning (items_of before))
 laid_front sign before behind laid =
     let ms = map meaning (items_of before) in
     let rest = map meaning (items_of behind) in
     let f = laid_item sign.line_fill sign (ms ++ rest) in
-    let split : map meaning (items_of (before ++ behind)) ≡ ms ++ rest = ap (map meaning) (map-append (λ (p : Piece). p.item) before behind) ∙ map-append meaning (items_of before) (items_of behind) in
+    let split : map meaning (items_of (before ++ behind)) ≡ ms ++ rest = ap (map meaning) (map-append (λ (p : LaidItem). p.item) before behind) ∙ map-append meaning (items_of before) (items_of behind) in
     same_front (map meant before) (each_after f ms) (map meant behind) _ (few_pieces before ∙ sym (length-meanings (items_of before)) ∙ sym (each_after_length f ms))
     (sym (map-append meant before behind) ∙ laid ∙ ap (λ l. laid_items sign.line_fill sign l l) split ∙ each_after-append f ms rest)
 
--- where lines aren't filled, the pieces mean what their items do
-unfilled_pieces : (sign : SignData) (pieces : List Piece) → sign.line_fill ≡ Off → map meant pieces ≡ laid_meanings sign (items_of pieces) → map meant pieces ≡ map meaning (items_of pieces)
-unfilled_pieces sign pieces off laid =
-    let ms = map meaning (items_of pieces) in
-    laid ∙ ap (λ setting. laid_items setting sign ms ms) off ∙ unfilled_items sign ms ms [] (sym (append-nil ms))
-
-pub unfilled_front : (sign : SignData) (before behind : List Piece) → sign.line_fill ≡ Off → map meant (before ++ behind) ≡ laid_meanings sign (items_of (before ++ behind)) → map meant before ≡ map meaning (items_of before)
-unfilled_front sign before behind off laid =
-    same_front (map meant before) (map meaning (items_of before)) (map meant behind) (map meaning (items_of behind)) (few_pieces before ∙ sym (length-meanings (items_of before)))
-    (sym (map-append meant before behind) ∙ unfilled_pieces sign (before ++ behind) off laid ∙ ap (map meaning) (map-append (λ (p : Piece). p.item) before behind) ∙ map-append meaning (items_of before) (items_of behind))
-
-module _ {sign : SignData} {octets : List ℕ} {before behind : List Piece} {cursor : Cursor} (b : IsBetween sign octets before behind cursor) (off : sign.line_fill ≡ Off) where
-  -- none of the items before the cursor offends
-  pub fine_before : IsFine sign (map meant before)
-  fine_before =
-      subst (IsFine sign) (sym (unfilled_front sign before behind off b.laid))
-      (fine_items sign off (items_of before) (left_nil (offences sign (items_of before)) _ (sym (some_after-append (fault_at sign) (items_of before) (items_of behind)) ∙ b.placed.accepted.none)))
-
-module _ {sign : SignData} {octets : List ℕ} {before rest : List Piece} {piece : Piece} {cursor : Cursor} (b : IsBetween sign octets before (piece ∷ rest) cursor) where
+module _ {sign : SignData} {octets : List ℕ} {before rest : List LaidItem} {piece : LaidItem} {cursor : Cursor} (b : IsBetween sign octets before (piece ∷ rest) cursor) where
   all_split : map meaning (items_of (before ++ piece ∷ rest)) ≡ map meaning (items_of before) ++ meaning piece.item ∷ map meaning (items_of rest)
-  all_split = ap (map meaning) (map-append (λ (p : Piece). p.item) before (piece ∷ rest)) ∙ map-append meaning (items_of before) (piece.item ∷ items_of rest)
+  all_split = ap (map meaning) (map-append (λ (p : LaidItem). p.item) before (piece ∷ rest)) ∙ map-append meaning (items_of before) (piece.item ∷ items_of rest)
 
   pub unfilled_meant : sign.line_fill ≡ Off → meant piece ≡ meaning piece.item
   unfilled_meant off =
@@ -153,7 +135,7 @@ tag_item : (setting : LineFill) (sign : SignData) (all before : List Meaning) (t
 tag_item setting sign all before (NewLine gap) = refl
 tag_item setting sign all before _ = refl
 
-pub read_tag : {sign : SignData} {octets : List ℕ} {before rest : List Piece} {piece : Piece} {cursor : Cursor} → IsBetween sign octets before (piece ∷ rest) cursor
+pub read_tag : {sign : SignData} {octets : List ℕ} {before rest : List LaidItem} {piece : LaidItem} {cursor : Cursor} → IsBetween sign octets before (piece ∷ rest) cursor
     → {next : NextItem} → ((number : ℕ) → next.item ≡ Char number → ⊥) → IsItemRead piece.item next → IsRead piece next
 read_tag {sign} {octets} {before} {rest} {piece} {cursor} b {next} other read = of next.item refl
   where
@@ -163,16 +145,6 @@ read_tag {sign} {octets} {before} {rest} {piece} {cursor} b {next} other read = 
         let does : meaning piece.item ≡ Does tag = read.meant ∙ ap meant_by is in
         record { meant = laid_here sign before rest piece b.laid ∙ ap (laid_item sign.line_fill sign _ _) does ∙ tag_item sign.line_fill sign _ _ tag ∙ sym (ap meant_by is); known = read.known; len = read.len }
 
--- where lines aren't filled, none of the items up to the next offends
-pub fine_with : {sign : SignData} {octets : List ℕ} {before rest : List Piece} {piece : Piece} {cursor : Cursor} → IsBetween sign octets before (piece ∷ rest) cursor → sign.line_fill ≡ Off → IsFine sign (map meant (before ++ piece ∷ []))
-fine_with {sign} {octets} {before} {rest} {piece} {cursor} b off =
-    let again : before ++ piece ∷ rest ≡ (before ++ piece ∷ []) ++ rest = sym (append_assoc before (piece ∷ []) rest) in
-    let items : items_of before ++ piece.item ∷ items_of rest ≡ items_of (before ++ piece ∷ []) ++ items_of rest =
-    sym (append_assoc (items_of before) (piece.item ∷ []) (items_of rest)) ∙ ap (λ l. l ++ items_of rest) (sym (map-append (λ (p : Piece). p.item) before (piece ∷ []))) in
-    subst (IsFine sign) (sym (unfilled_front sign (before ++ piece ∷ []) rest off (subst (λ l. map meant l ≡ laid_meanings sign (items_of l)) again b.laid)))
-    (fine_items sign off (items_of (before ++ piece ∷ []))
-    (left_nil (offences sign (items_of (before ++ piece ∷ []))) _ (sym (some_after-append (fault_at sign) (items_of (before ++ piece ∷ [])) (items_of rest)) ∙ ap (offences sign) (sym items) ∙ b.placed.accepted.none)))
-
 -- what begins an area places nothing
 begins_unplaced : (m : Meaning) → begins_area m ≡ true → has_place m ≡ false
 begins_unplaced (Shows number) e = cc
@@ -180,7 +152,7 @@ begins_unplaced (Does (NewLine gap)) e = cc
 begins_unplaced _ e = refl
 
 -- where an area ends before the items, it does before the pieces
-pub ends_laid : (sign : SignData) (before behind : List Piece) → map meant (before ++ behind) ≡ laid_meanings sign (items_of (before ++ behind)) → EndsArea (map meaning (items_of behind)) → EndsArea (map meant behind)
+pub ends_laid : (sign : SignData) (before behind : List LaidItem) → map meant (before ++ behind) ≡ laid_meanings sign (items_of (before ++ behind)) → EndsArea (map meaning (items_of behind)) → EndsArea (map meant behind)
 ends_laid sign before [] laid ends = inl refl
 ends_laid sign before (p ∷ behind) laid (inl none) = cc
 ends_laid sign before (p ∷ behind) laid (inr (x, rest, begins, is)) =
@@ -188,31 +160,16 @@ ends_laid sign before (p ∷ behind) laid (inr (x, rest, begins, is)) =
     let begins' : begins_area (meaning p.item) ≡ true = ap begins_area (sym same) ∙ begins in
     inr (meant p, map meant behind, ap begins_area (unplaced_laid sign before behind p laid (begins_unplaced (meaning p.item) begins')) ∙ begins', refl)
 
-pub ends_pieces : {sign : SignData} {octets : List ℕ} {before behind : List Piece} {cursor : Cursor} → IsBetween sign octets before behind cursor → EndsArea (map meaning (items_of behind)) → EndsArea (map meant behind)
-ends_pieces {sign} {octets} {before} {behind} {cursor} b = ends_laid sign before behind b.laid
-
 -- the first of the items is that of the first piece
-pub first_piece : (behind : List Piece) (next : NextItem) → IsFirst (items_of behind) (Some next) → (piece : Piece) × (rest : List Piece) × (behind ≡ piece ∷ rest) × IsItemRead piece.item next
+pub first_piece : (behind : List LaidItem) (next : NextItem) → IsFirst (items_of behind) (Some next) → (piece : LaidItem) × (rest : List LaidItem) × (behind ≡ piece ∷ rest) × IsItemRead piece.item next
 first_piece [] next (item, rest, is, read) = cc
 first_piece (p ∷ behind) next (item, rest, is, read) =
     let same : item ≡ p.item = cc in
     (p, behind, refl, subst (λ x. IsItemRead x next) same read)
 
-pub no_piece : (behind : List Piece) → items_of behind ≡ [] → behind ≡ []
+pub no_piece : (behind : List LaidItem) → items_of behind ≡ [] → behind ≡ []
 no_piece [] e = refl
 no_piece (p ∷ behind) e = cc
-
-pub first_unfilled : {sign : SignData} {octets : List ℕ} {before behind : List Piece} {cursor : Cursor} → IsBetween sign octets before behind cursor → sign.line_fill ≡ Off
-    → (next : NextItem) → IsFirst (items_of behind) (Some next) → IsPieceFirst behind (Some next)
-first_unfilled {sign} {octets} {before} {behind} {cursor} b off next first =
-    let (piece, rest, is, read) = first_piece behind next first in
-    (piece, rest, is, read_unfilled (subst (λ l. IsBetween sign octets before l cursor) is b) off read)
-
-pub first_unplaced : {sign : SignData} {octets : List ℕ} {before behind : List Piece} {cursor : Cursor} → IsBetween sign octets before behind cursor
-    → (next : NextItem) → has_place (meant_by next.item) ≡ false → IsFirst (items_of behind) (Some next) → IsPieceFirst behind (Some next)
-first_unplaced {sign} {octets} {before} {behind} {cursor} b next none first =
-    let (piece, rest, is, read) = first_piece behind next first in
-    (piece, rest, is, read_unplaced (subst (λ l. IsBetween sign octets before l cursor) is b) none read)
 
 -- where an area ends before the pieces, this is read of the first one
 laid_placed : (setting : LineFill) (sign : SignData) (all before : List Meaning) (x : Meaning) → has_place x ≡ true → has_place (laid_item setting sign all before x) ≡ true
@@ -234,7 +191,7 @@ placed_begins (Shows number) e = refl
 placed_begins (Does (NewLine gap)) e = refl
 placed_begins _ e = cc
 
-pub plain_laid : (sign : SignData) (before rest : List Piece) (piece : Piece) → map meant (before ++ piece ∷ rest) ≡ laid_meanings sign (items_of (before ++ piece ∷ rest))
+pub plain_laid : (sign : SignData) (before rest : List LaidItem) (piece : LaidItem) → map meant (before ++ piece ∷ rest) ≡ laid_meanings sign (items_of (before ++ piece ∷ rest))
     → begins_area (meaning piece.item) ≡ false → begins_area (meant piece) ≡ false
 plain_laid sign before rest piece laid plain = of (has_place (meaning piece.item)) refl
   where
@@ -243,7 +200,7 @@ plain_laid sign before rest piece laid plain = of (has_place (meaning piece.item
     of true e = placed_begins (meant piece) (ap has_place (laid_here sign before rest piece laid) ∙ laid_placed sign.line_fill sign _ _ (meaning piece.item) e)
 
 -- a piece that places nothing is its item
-pub itself : {sign : SignData} {octets : List ℕ} {before rest : List Piece} {piece : Piece} {cursor : Cursor} → IsBetween sign octets before (piece ∷ rest) cursor → has_place (meant piece) ≡ false
+pub itself : {sign : SignData} {octets : List ℕ} {before rest : List LaidItem} {piece : LaidItem} {cursor : Cursor} → IsBetween sign octets before (piece ∷ rest) cursor → has_place (meant piece) ≡ false
     → (has_place (meaning piece.item) ≡ false) × (meaning piece.item ≡ meant piece)
 itself {sign} {octets} {before} {rest} {piece} {cursor} b none =
     let unplaced : has_place (meaning piece.item) ≡ false = of (has_place (meaning piece.item)) refl in
@@ -255,7 +212,7 @@ itself {sign} {octets} {before} {rest} {piece} {cursor} b none =
         let wrong : true ≡ false = sym (laid_placed sign.line_fill sign _ _ (meaning piece.item) e) ∙ ap has_place (sym (laid_here sign before rest piece b.laid)) ∙ none in
         absurd cc
 
-pub first_ended : {sign : SignData} {octets : List ℕ} {before behind : List Piece} {cursor : Cursor} → IsBetween sign octets before behind cursor → EndsArea (map meant behind)
+pub first_ended : {sign : SignData} {octets : List ℕ} {before behind : List LaidItem} {cursor : Cursor} → IsBetween sign octets before behind cursor → EndsArea (map meant behind)
     → (next : NextItem) → IsFirst (items_of behind) (Some next) → IsPieceFirst behind (Some next)
 first_ended {sign} {octets} {before} {behind} {cursor} b ends next first =
     let (piece, rest, is, read) = first_piece behind next first in
@@ -263,14 +220,14 @@ first_ended {sign} {octets} {before} {behind} {cursor} b ends next first =
     let none = (itself b' (begins_unplaced (meant piece) (begins piece rest (subst (λ l. EndsArea (map meant l)) is ends)))).0 in
     (piece, rest, is, read_unplaced b' (ap has_place (sym read.meant) ∙ none) read)
   where
-    begins : (piece : Piece) (rest : List Piece) → EndsArea (map meant (piece ∷ rest)) → begins_area (meant piece) ≡ true
+    begins : (piece : LaidItem) (rest : List LaidItem) → EndsArea (map meant (piece ∷ rest)) → begins_area (meant piece) ≡ true
     begins piece rest (inl none) = cc
     begins piece rest (inr (x, more, starts, is)) = let same : meant piece ≡ x = cc in ap begins_area same ∙ starts
 
 -- the first item, laid out, is the first piece
-pub laid_first : {sign : SignData} {octets : List ℕ} {cursor : Cursor} (lines : LineTable) (raw next : NextItem) (before behind : List Piece) → IsBetween sign octets before behind cursor → HasCounted (whole_area sign before behind) lines
+pub laid_first : {sign : SignData} {octets : List ℕ} {cursor : Cursor} (lines : LineTable) (raw next : NextItem) (before behind : List LaidItem) → IsBetween sign octets before behind cursor → HasCounted (whole_area sign before behind) lines
     → IsFirst (items_of behind) (Some raw)
-    → ((before rest : List Piece) (piece : Piece) → IsBetween sign octets before (piece ∷ rest) cursor → HasCounted (whole_area sign before (piece ∷ rest)) lines → IsItemRead piece.item raw → IsRead piece next)
+    → ((before rest : List LaidItem) (piece : LaidItem) → IsBetween sign octets before (piece ∷ rest) cursor → HasCounted (whole_area sign before (piece ∷ rest)) lines → IsItemRead piece.item raw → IsRead piece next)
     → IsPieceFirst behind (Some next)
 laid_first {sign} {octets} {cursor} lines raw next before behind b counted first lays =
     let (piece, rest, is, read) = first_piece behind raw first in
@@ -282,13 +239,13 @@ module _ (sign : SignData) (octets : List ℕ) (before behind : List Item) (curs
   abbrev all : List Meaning
   all = map meaning (before ++ behind)
 
-  abbrev piece_at : List Item → Item → Piece
+  abbrev piece_at : List Item → Item → LaidItem
   piece_at earlier item = record { item = item; as_laid = laid_item sign.line_fill sign all (map meaning earlier) (meaning item) }
 
-  abbrev pub pieces_before : List Piece
+  abbrev pub pieces_before : List LaidItem
   pieces_before = each_after piece_at before
 
-  abbrev pub pieces_behind : List Piece
+  abbrev pub pieces_behind : List LaidItem
   pieces_behind = each_after (λ more. piece_at (before ++ more)) behind
 
   whole : pieces_before ++ pieces_behind ≡ pieces_of sign (before ++ behind)

@@ -18,9 +18,9 @@ use Rattle.multi_layout.specs.Line.{bearers, line_height, height_of, width_of, g
 use Rattle.multi_layout.specs.Fit.{fit, area_fits}
 use Rattle.multi_layout.specs.declared.place.Place.{Place}
 use Rattle.multi_layout.specs.Place.{place_of, start, spread}
-use Rattle.multi_layout.specs.State.{attributes_of}
-use Rattle.multi_layout.specs.Sums.{segment_sum, ended_lines, group_sum, IsCharacter}
-use Rattle.multi_layout.specs.Table.{counted_line, table_of, width_in, column_in}
+use Rattle.multi_layout.specs.kept.State.{attributes_of}
+use Rattle.multi_layout.specs.kept.Sums.{segment_sum, ended_lines, group_sum, IsCharacter}
+use Rattle.multi_layout.specs.kept.Table.{counted_line, table_of, width_in, column_in}
 use Rattle.multi_layout.proofs.WordLemmas.{largest_push, push_ind, All-split}
 use Rattle.multi_layout.proofs.LineSumLemmas.{filter_yes}
 use Rattle.multi_layout.proofs.TableLemmas.{table_length, look_up, look_up_bottom, ended_count}

@@ -14,8 +14,8 @@ use Rattle.multi_layout.specs.Address.{Break, Glyph, Spot, area_of, in_group, is
 use Rattle.multi_layout.specs.Fit.{FitsWithout}
 use Rattle.multi_layout.specs.Meaning.{Meaning, Shows, Does}
 use Rattle.multi_layout.specs.Offence.{clashes, conflicts, never_big, offence, unsized_offence}
-use Rattle.multi_layout.specs.State.{IsStateOf, present_area}
-use Rattle.multi_layout.specs.Sums.{IsBelow, IsBreak, IsCharacter, IsPlacing, area_sum}
+use Rattle.multi_layout.specs.kept.State.{IsStateOf, present_area}
+use Rattle.multi_layout.specs.kept.Sums.{IsBelow, IsBreak, IsCharacter, IsPlacing, area_sum}
 use Rattle.multi_layout.proofs.AreaSumLemmas.{area_placing, no_back, no_clash, present_behind}
 use Rattle.multi_layout.proofs.JudgedLemmas.{cell_found, character-conflict, character-too_big, character-fits, state-character, break-conflict, break-too_big, break-fits, state-break}
 use Rattle.multi_layout.proofs.OffenceLemmas.{offence-break, offence-character}

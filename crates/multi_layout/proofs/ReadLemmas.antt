@@ -19,8 +19,8 @@ use Rattle.multi_layout.specs.declared.state.State.{State}
 use Rattle.multi_layout.specs.Address.{standing}
 use Rattle.multi_layout.specs.Meaning.{Meaning, meaning}
 use Rattle.multi_layout.specs.Offence.{offence}
-use Rattle.multi_layout.specs.Progress.{IsAt, IsTold, ReadSoFar}
-use Rattle.multi_layout.specs.State.{IsReady, IsStateOf, IsUnfilledOf, attributes_of, whole_times}
+use Rattle.multi_layout.specs.kept.Judging.{IsAt, IsTold, ReadSoFar}
+use Rattle.multi_layout.specs.kept.State.{IsReady, IsStateOf, IsUnfilledOf, attributes_of, whole_times}
 use Rattle.multi_layout.specs.Times.{Times, cycle, ended_times, page_times, times_at}
 use Rattle.multi_layout.specs.Verdict.{Accepted, IsCycle, IsVerdict, Refused, broken, of_first, pages_of, verdict, verdict_on}
 use Rattle.multi_layout.proofs.JudgedLemmas.{ready}

@@ -16,8 +16,8 @@ use Rattle.multi_layout.specs.Address.{Standing, area_of, standing, Put, Glyph, 
 use Rattle.multi_layout.specs.Fit.{area_fits, line_fits}
 use Rattle.multi_layout.specs.Laid.{too_big}
 use Rattle.multi_layout.specs.Offence.{conflicts, offence}
-use Rattle.multi_layout.specs.State.{present_area}
-use Rattle.multi_layout.specs.Walk.{IsFine}
+use Rattle.multi_layout.specs.kept.State.{present_area}
+use Rattle.multi_layout.specs.kept.Cursors.{IsFine}
 use Rattle.multi_layout.proofs.InForceLemmas.{area_high, each_ind, rectangle_within}
 use Rattle.multi_layout.proofs.OffenceLemmas.{offence-undefined, offence-character, offence-break}
 use Rattle.multi_layout.proofs.PlaceLemmas.{lines_within}

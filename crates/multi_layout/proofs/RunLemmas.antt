@@ -19,9 +19,9 @@ use Rattle.multi_layout.specs.Fit.{FitsWithout, area_fits, fit, line_fits}
 use Rattle.multi_layout.specs.Line.{average, height_of, width_of}
 use Rattle.multi_layout.specs.Meaning.{Meaning, Shows}
 use Rattle.multi_layout.specs.Offence.{clashes, conflicts, offence}
-use Rattle.multi_layout.specs.Run.{IsRun, kept_fits, kept_group_height, kept_height, kept_width, lengthened, lengthened_area, lengthened_line, line_in_force}
-use Rattle.multi_layout.specs.State.{IsStateOf}
-use Rattle.multi_layout.specs.Sums.{IsBelow, IsCharacter, IsPlacing, area_sum, group_sum, height_before, line_sum, segment_sum, width_before}
+use Rattle.multi_layout.specs.kept.Run.{IsRun, kept_fits, kept_group_height, kept_height, kept_width, lengthened, lengthened_area, lengthened_line, line_in_force}
+use Rattle.multi_layout.specs.kept.State.{IsStateOf}
+use Rattle.multi_layout.specs.kept.Sums.{IsBelow, IsCharacter, IsPlacing, area_sum, group_sum, height_before, line_sum, segment_sum, width_before}
 use Rattle.multi_layout.specs.Words.{largest}
 use Rattle.multi_layout.proofs.AreaSumLemmas.{area_stays, area_with, conflicts_character, fits_character, group_of_own, other_height, present_height, none_of_later_group, own_line, placing_character}
 use Rattle.multi_layout.proofs.GroupHeightLemmas.{height_ended, height_present}

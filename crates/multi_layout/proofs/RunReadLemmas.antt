@@ -16,10 +16,10 @@ use Rattle.sign_font.specs.Sound.{IsWithin}
 use Rattle.sign_font.specs.Text.{HasWidth, width_in}
 use Rattle.multi_layout.specs.declared.state.State.{State}
 use Rattle.multi_layout.specs.Meaning.{meaning}
-use Rattle.multi_layout.specs.Progress.{ReadSoFar}
-use Rattle.multi_layout.specs.Run.{IsRun, lengthened, line_in_force}
-use Rattle.multi_layout.specs.State.{IsUnfilledOf}
-use Rattle.multi_layout.specs.Sums.{IsBelow}
+use Rattle.multi_layout.specs.kept.Judging.{ReadSoFar}
+use Rattle.multi_layout.specs.kept.Run.{IsRun, lengthened, line_in_force}
+use Rattle.multi_layout.specs.kept.State.{IsUnfilledOf}
+use Rattle.multi_layout.specs.kept.Sums.{IsBelow}
 use Rattle.multi_layout.proofs.BeforeLemmas.{fits_without}
 use Rattle.multi_layout.proofs.ReadLemmas.{unfilled_more}
 use Rattle.multi_layout.proofs.RunLemmas.{longer_below, run_goes_on, run_stays}

@@ -14,14 +14,14 @@ use Rattle.multi_layout.specs.declared.cursor.Cursor.{Cursor}
 use Rattle.multi_layout.specs.declared.cursor.NextItem.{NextItem}
 use Rattle.multi_layout.specs.declared.state.State.{State}
 use Rattle.multi_layout.specs.Address.{Standing, spots, standing}
-use Rattle.multi_layout.specs.KnownItem.{meant_by}
+use Rattle.multi_layout.specs.kept.KnownItem.{meant_by}
 use Rattle.multi_layout.specs.Meaning.{BeginsPage, Does, Meaning, Shows, has_place, is_new_page, meaning}
 use Rattle.multi_layout.specs.Offence.{first_code, offence, offence_by, unsized_offence}
-use Rattle.multi_layout.specs.State.{IsReady, IsStateOf, attributes_of, present_area, standing_behind}
-use Rattle.multi_layout.specs.Sums.{area_sum}
+use Rattle.multi_layout.specs.kept.State.{IsReady, IsStateOf, attributes_of, present_area, standing_behind}
+use Rattle.multi_layout.specs.kept.Sums.{area_sum}
 use Rattle.multi_layout.specs.Times.{cycle, ended_times, times_at}
 use Rattle.multi_layout.specs.Verdict.{pages_of}
-use Rattle.multi_layout.specs.Walk.{IsPassing, IsItemRead, unplaced}
+use Rattle.multi_layout.specs.kept.Cursors.{IsPassing, IsItemRead, unplaced}
 use Rattle.multi_layout.proofs.BoundLemmas.{below_more}
 use Rattle.multi_layout.proofs.JudgedLemmas.{ready}
 use Rattle.multi_layout.proofs.StandingLemmas.{standing_push}

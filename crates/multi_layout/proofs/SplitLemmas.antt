@@ -5,7 +5,7 @@ use Rattle.std.proofs.lemmas.Bool.{cases_eq}
 use Rattle.std.proofs.lemmas.List.{drop-append-le, length-drop, length-take, length_push, take-append-le, take_all}
 use Rattle.multi_layout.specs.declared.table.CountedLine.{CountedLine}
 use Rattle.multi_layout.specs.declared.table.LineTable.{LineTable}
-use Rattle.multi_layout.specs.Table.{IsOrdered, group_lines}
+use Rattle.multi_layout.specs.kept.Table.{IsOrdered, group_lines}
 
 -- what holds of the page justifications top, middle and bottom
 pub each_group : (P : ℕ → Type 0) → P 2 → P 3 → P 4 → (just : ℕ) → 2 ≤ just → just ≤ 4 → P just

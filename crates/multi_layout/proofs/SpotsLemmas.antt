@@ -162,12 +162,6 @@ begins_none k defaults here (Does NewPage) begins = refl
 begins_none k defaults here (Does (Rect x y w h)) begins = refl
 begins_none k defaults here _ begins = absurd (cc)
 
--- the items behind some others leave what stands in an area
-pub area_goes_on : (sign : SignData) (before behind : List Meaning) (k : ℕ) → (more : List Spot) × (in_area k (spots sign (before ++ behind)) ≡ in_area k (spots sign before) ++ more)
-area_goes_on sign before behind k =
-    let more = spots_behind sign before behind in
-    (in_area k more, ap (in_area k) (spots_split sign before behind) ∙ in_area-append k (spots sign before) more)
-
 module _ (sign : SignData) (before : List Meaning) where
   -- behind an item that begins an area stands the next area
   area_next : (x : Meaning) → begins_area x ≡ true → (standing sign (before ++ x ∷ [])).area ≡ (standing sign before).area + 1

@@ -2,7 +2,7 @@
 use Rattle.std.proofs.Common.{◌≡◌, cond, List, [], ◌∷◌, ◌++◌, None}
 use Rattle.std.proofs.lemmas.List.Sums.{sum_by_push}
 use Rattle.sign_font.specs.Sign.{SignData}
-use Rattle.multi_layout.specs.State.{standing_behind}
+use Rattle.multi_layout.specs.kept.State.{standing_behind}
 use Rattle.multi_layout.specs.Meaning.{Meaning, is_new_page, begins_area}
 use Rattle.multi_layout.specs.Address.{standing}
 use Rattle.multi_layout.specs.Attributes.{default_font, whole_sign, given_font, given_line_just, given_page_just, given_spacing, given_fore, given_back, given_on, given_off, given_flash, given_rectangle}

@@ -7,7 +7,7 @@ use Rattle.std.proofs.lemmas.Bool.{eq-eqb, ne_eqb, and_right}
 use Rattle.sign_font.specs.Sign.{SignData}
 use Rattle.multi_layout.specs.Meaning.{Meaning, begins_area}
 use Rattle.multi_layout.specs.Address.{Put, Spot, Standing, is_break, is_glyph, put_at, spot_at, spots, standing, in_area}
-use Rattle.multi_layout.specs.State.{present_area}
+use Rattle.multi_layout.specs.kept.State.{present_area}
 use Rattle.multi_layout.proofs.AreaLemmas.{area_new}
 use Rattle.multi_layout.proofs.LayoutLemmas.{spots_push}
 use Rattle.multi_layout.proofs.StandingLemmas.{standing_push}

@@ -10,8 +10,8 @@ use Rattle.multi_layout.specs.declared.table.CountedLine.{CountedLine}
 use Rattle.multi_layout.specs.Words.{each_after}
 use Rattle.multi_layout.specs.Address.{Spot, is_glyph, is_break, segment, lines_of}
 use Rattle.multi_layout.specs.Line.{height_of, width_of}
-use Rattle.multi_layout.specs.Sums.{ended_lines, IsPlacing}
-use Rattle.multi_layout.specs.Table.{counted_line, line_entry, table_of}
+use Rattle.multi_layout.specs.kept.Sums.{ended_lines, IsPlacing}
+use Rattle.multi_layout.specs.kept.Table.{counted_line, line_entry, table_of}
 use Rattle.multi_layout.proofs.WordLemmas.{each_after_length, each_after_push, last_or_push, push_ind}
 use Rattle.multi_layout.proofs.CutLemmas.{Cut, cut, cut_push, cut_behind_is}
 use Rattle.multi_layout.proofs.GroupHeightLemmas.{part_none, part_some}
@@ -169,7 +169,3 @@ table_open g h =
     ap table_of all
     ∙ table_push (ended_lines g) (after_last is_break g)
     ∙ ap (λ n. table_of (ended_lines g) ++ open_entry g n ∷ []) (ap height_of (sym all))
-
--- else there is none
-pub table_closed : (g : List Spot) → All IsPlacing g → list_any is_glyph (after_last is_break g) ≡ false → table_of (lines_of g) ≡ table_of (ended_lines g)
-table_closed g placing h = ap table_of (lines_closed g placing h)

@@ -17,8 +17,8 @@ use Rattle.multi_layout.specs.Address.{standing}
 use Rattle.multi_layout.specs.Attributes.{is_inside}
 use Rattle.multi_layout.specs.Meaning.{Meaning, Does}
 use Rattle.multi_layout.specs.Offence.{offence, offence_by}
-use Rattle.multi_layout.specs.State.{IsKnown, IsSimple, IsStateOf, attributes_of, standing_behind}
-use Rattle.multi_layout.specs.Sums.{IsBelow}
+use Rattle.multi_layout.specs.kept.State.{IsKnown, IsSimple, IsStateOf, attributes_of, standing_behind}
+use Rattle.multi_layout.specs.kept.Sums.{IsBelow}
 use Rattle.multi_layout.proofs.BoundLemmas.{below_more}
 use Rattle.multi_layout.proofs.JudgedLemmas.{font_of_info, found_again, state-attribute, state-cover}
 use Rattle.multi_layout.proofs.OffenceLemmas.{offence-font, offence-no_font}

@@ -8,11 +8,11 @@ use Rattle.sign_font.specs.Sound.{IsWithin}
 use Rattle.sign_font.specs.Text.{HasWidth, IsNoSpace, width_in}
 use Rattle.multi_layout.specs.declared.pass.Pass.{Pass}
 use Rattle.multi_layout.specs.declared.run.Run.{Run}
-use Rattle.multi_layout.specs.FilledRun.{IsFilledRun, with_space, with_word}
-use Rattle.multi_layout.specs.FilledState.{IsFilledFor, IsFilledReady}
-use Rattle.multi_layout.specs.Progress.{IsAt, ReadSoFar}
-use Rattle.multi_layout.specs.Run.{IsRun, line_in_force}
-use Rattle.multi_layout.specs.Text.{IsInText}
+use Rattle.multi_layout.specs.kept.FilledRun.{IsFilledRun, with_space, with_word}
+use Rattle.multi_layout.specs.kept.FilledState.{IsFilledFor, IsFilledReady}
+use Rattle.multi_layout.specs.kept.Judging.{IsAt, ReadSoFar}
+use Rattle.multi_layout.specs.kept.Run.{IsRun, line_in_force}
+use Rattle.multi_layout.specs.kept.Text.{IsInText}
 use Rattle.multi_layout.proofs.FilledReadLemmas.{filled_ready_here}
 use Rattle.multi_layout.proofs.FilledRunLemmas.{one_goes_on, one_taken}
 use Rattle.multi_layout.proofs.FilledTextLemmas.{front_runs, front_taken}

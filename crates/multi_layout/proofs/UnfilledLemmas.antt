@@ -1,11 +1,9 @@
 -- Where lines aren't filled, all is as it was.
-use Rattle.std.proofs.Common.{◌≡◌, Bool, true, false, cond, List, [], ◌∷◌, ◌++◌, length, refl, ap, ◌∙◌, append_assoc}
+use Rattle.std.proofs.Common.{◌≡◌, Bool, true, false, cond, List, ◌∷◌, ◌++◌, length, refl, ap, ◌∙◌}
 use Rattle.std.specs.Prelude.{slice_index_or}
 use Rattle.std.proofs.lemmas.List.{get_or_at}
 use Rattle.sign_font.specs.declared.parts.LineFill.TheVariants.{Off}
 use Rattle.multi_layout.specs.Address.{Spot, is_glyph, group_of}
-use Rattle.multi_layout.proofs.WordLemmas.{push_ind, each_after_push}
-use Rattle.multi_layout.specs.Laid.{laid_spot, laid}
 use Rattle.multi_layout.proofs.GroupLaidLemmas.{members_with, own_member}
 
 pub spot_if : (all some more : List Spot) (x : Spot) (b : Bool) → is_glyph x ≡ b → all ≡ some ++ x ∷ more → cond b (slice_index_or (group_of x all) (length (group_of x some)) x) x ≡ x
@@ -13,14 +11,3 @@ spot_if all some more x false e is = refl
 spot_if all some more x true e is =
     ap (λ l. slice_index_or l (length (group_of x some)) x) (ap (group_of x) is ∙ members_with x.at.area x.at.page_just some more x (own_member Off all x e))
     ∙ get_or_at (group_of x some) x (group_of x more) x (length (group_of x some)) refl
-
--- the spots are laid as they are
-pub laid_off : (all some more : List Spot) → all ≡ some ++ more → laid Off all some ≡ some
-laid_off all = push_ind (λ some. (more : List Spot) → all ≡ some ++ more → laid Off all some ≡ some) (λ more is. refl) step
-  where
-    step : (some : List Spot) (x : Spot) → ((more : List Spot) → all ≡ some ++ more → laid Off all some ≡ some) → (more : List Spot) → all ≡ (some ++ x ∷ []) ++ more → laid Off all (some ++ x ∷ []) ≡ some ++ x ∷ []
-    step some x ih more is =
-        let is' : all ≡ some ++ x ∷ more = is ∙ append_assoc some (x ∷ []) more in
-        each_after_push (laid_spot Off all) some x
-        ∙ ap (λ l. l ++ laid_spot Off all some x ∷ []) (ih (x ∷ more) is')
-        ∙ ap (λ y. some ++ y ∷ []) (spot_if all some more x (is_glyph x) refl is')

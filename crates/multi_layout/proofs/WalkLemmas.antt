@@ -17,9 +17,9 @@ use Rattle.multi_layout.specs.declared.cursor.Cursor.{Cursor}
 use Rattle.multi_layout.specs.LaidItems.{laid_item}
 use Rattle.multi_layout.specs.Meaning.{Faulty, meaning}
 use Rattle.multi_layout.specs.Offence.{offence, unsized_offence}
-use Rattle.multi_layout.specs.State.{IsReady, IsStateOf}
+use Rattle.multi_layout.specs.kept.State.{IsReady, IsStateOf}
 use Rattle.multi_layout.specs.Verdict.{fault_at, offences}
-use Rattle.multi_layout.specs.Walk.{IsAccepted, IsBetween, IsFine, IsOrderly, IsPlaced, Piece, items_of, laid_meanings, meant, spell_of}
+use Rattle.multi_layout.specs.kept.Cursors.{IsAccepted, IsBetween, IsFine, IsOrderly, IsPlaced, LaidItem, items_of, laid_meanings, meant, spell_of}
 use Rattle.multi_layout.proofs.InForceLemmas.{none_front, none_last}
 use Rattle.multi_layout.proofs.JudgedLemmas.{ready}
 use Rattle.multi_layout.proofs.OffenceLemmas.{offence-faulty}
@@ -141,14 +141,14 @@ fine_items sign off = push_ind (λ items. offences sign items ≡ [] → IsFine 
 
 -- PIECES
 
-pub spell_of-append : (xs ys : List Piece) → spell_of (xs ++ ys) ≡ spell_of xs ++ spell_of ys
-spell_of-append xs ys = ap spell (map-append (λ (p : Piece). p.item) xs ys) ∙ spell-append (items_of xs) (items_of ys)
+pub spell_of-append : (xs ys : List LaidItem) → spell_of (xs ++ ys) ≡ spell_of xs ++ spell_of ys
+spell_of-append xs ys = ap spell (map-append (λ (p : LaidItem). p.item) xs ys) ∙ spell-append (items_of xs) (items_of ys)
 
-pub few_pieces : (pieces : List Piece) → length (map meant pieces) ≡ length (items_of pieces)
+pub few_pieces : (pieces : List LaidItem) → length (map meant pieces) ≡ length (items_of pieces)
 few_pieces [] = refl
 few_pieces (p ∷ pieces) = ap (λ n. Prim.Native.Nat.suc n) (few_pieces pieces)
 
-module _ (sign : SignData) (octets : List ℕ) (before behind : List Piece) (cursor : Cursor) (b : IsBetween sign octets before behind cursor) where
+module _ (sign : SignData) (octets : List ℕ) (before behind : List LaidItem) (cursor : Cursor) (b : IsBetween sign octets before behind cursor) where
   -- the items so far are few
   pub few_between : length (map meant before) ≤ 2 ^ 32
   few_between = omega (arith, few_placed sign octets (items_of before) (items_of behind) cursor.at b.placed, few_pieces before)
@@ -161,7 +161,7 @@ module _ (sign : SignData) (octets : List ℕ) (before behind : List Piece) (cur
   within_between = within sign octets (items_of before) (items_of behind) cursor.at b.placed
 
 -- the next item
-module _ (sign : SignData) (octets : List ℕ) (before rest : List Piece) (item : Piece) (cursor : Cursor) (b : IsBetween sign octets before (item ∷ rest) cursor) where
+module _ (sign : SignData) (octets : List ℕ) (before rest : List LaidItem) (item : LaidItem) (cursor : Cursor) (b : IsBetween sign octets before (item ∷ rest) cursor) where
   -- it doesn't offend by more than its size
   pub never_offends : unsized_offence sign (map meant before) (meant item) ≡ None
   never_offends =
@@ -175,7 +175,7 @@ module _ (sign : SignData) (octets : List ℕ) (before rest : List Piece) (item 
   between_more new at st =
       let again : before ++ item ∷ rest ≡ (before ++ item ∷ []) ++ rest = sym (append_assoc before (item ∷ []) rest) in
       record {
-        placed = subst (λ l. IsPlaced sign octets l (items_of rest) new.at) (sym (map-append (λ (p : Piece). p.item) before (item ∷ [])))
+        placed = subst (λ l. IsPlaced sign octets l (items_of rest) new.at) (sym (map-append (λ (p : LaidItem). p.item) before (item ∷ [])))
             (placed_more sign octets (items_of before) (items_of rest) item.item cursor.at b.placed new.at at);
         laid = subst (λ l. map meant l ≡ laid_meanings sign (items_of l)) again b.laid;
         orderly = subst (λ l. IsOrderly sign (map meant l)) again b.orderly;
@@ -191,13 +191,13 @@ same_head (x ∷ xs) [] as' bs a b n e = absurd (omega (arith, n))
 same_head (x ∷ xs) (y ∷ ys) as' bs a b n e = same_head xs ys as' bs a b (omega (arith, n)) (cc)
 
 -- what an item is laid out as, by its place among all
-pub laid_here : (sign : SignData) (before rest : List Piece) (piece : Piece) → map meant (before ++ piece ∷ rest) ≡ laid_meanings sign (items_of (before ++ piece ∷ rest))
+pub laid_here : (sign : SignData) (before rest : List LaidItem) (piece : LaidItem) → map meant (before ++ piece ∷ rest) ≡ laid_meanings sign (items_of (before ++ piece ∷ rest))
     → meant piece ≡ laid_item sign.line_fill sign (map meaning (items_of (before ++ piece ∷ rest))) (map meaning (items_of before)) (meaning piece.item)
 laid_here sign before rest piece laid =
     let all = map meaning (items_of (before ++ piece ∷ rest)) in
     let f = laid_item sign.line_fill sign all in
     let ms = map meaning (items_of before) in
-    let split : all ≡ ms ++ meaning piece.item ∷ map meaning (items_of rest) = ap (map meaning) (map-append (λ (p : Piece). p.item) before (piece ∷ rest)) ∙ map-append meaning (items_of before) (piece.item ∷ items_of rest) in
+    let split : all ≡ ms ++ meaning piece.item ∷ map meaning (items_of rest) = ap (map meaning) (map-append (λ (p : LaidItem). p.item) before (piece ∷ rest)) ∙ map-append meaning (items_of before) (piece.item ∷ items_of rest) in
     let parts : laid_meanings sign (items_of (before ++ piece ∷ rest)) ≡ each_after f ms ++ f ms (meaning piece.item) ∷ each_after (λ more. f (ms ++ meaning piece.item ∷ more)) (map meaning (items_of rest)) =
     ap (each_after f) split ∙ each_after-append f ms (meaning piece.item ∷ map meaning (items_of rest)) ∙ ap (λ l. each_after f ms ++ f l (meaning piece.item) ∷ each_after (λ more. f (ms ++ meaning piece.item ∷ more)) (map meaning (items_of rest))) (append-nil ms) in
     same_head (map meant before) (each_after f ms) (map meant rest) _ (meant piece) (f ms (meaning piece.item))

@@ -9,9 +9,9 @@ use Rattle.multi_layout.specs.Filling.{filled}
 use Rattle.multi_layout.specs.Laid.{fill_at, laid}
 use Rattle.multi_layout.specs.LaidItems.{laid_items}
 use Rattle.multi_layout.specs.Meaning.{EndsArea, Meaning}
-use Rattle.multi_layout.specs.Passes.{HasCounted}
-use Rattle.multi_layout.specs.State.{present_area}
-use Rattle.multi_layout.specs.Table.{table_of}
+use Rattle.multi_layout.specs.kept.AreaDrawing.{HasCounted}
+use Rattle.multi_layout.specs.kept.State.{present_area}
+use Rattle.multi_layout.specs.kept.Table.{table_of}
 use Rattle.multi_layout.proofs.FilledOnLemmas.{HasWidth, groups_laid}
 use Rattle.multi_layout.proofs.LaidItemLemmas.{are_laid}
 use Rattle.multi_layout.proofs.RectangleLemmas.{same_rectangle}

@@ -1,8 +1,8 @@
 -- The words on lists, at one more item and at two lists.
-use Rattle.std.proofs.Common.{◌≡◌, ℕ, ◌+◌, ◌<◌, ◌≤◌, max, length, take, drop, get_or, List, [], ◌∷◌, ◌++◌, Option, Some, None, suc, refl, sym, ap, subst, ◌∙◌, arith}
+use Rattle.std.proofs.Common.{◌≡◌, ℕ, ◌+◌, ◌≤◌, max, length, List, [], ◌∷◌, ◌++◌, Option, Some, None, suc, refl, sym, ap, subst, ◌∙◌, arith}
 use Rattle.std.specs.List.{sum_by, filter_map, last_or, cons_option, All}
 use Rattle.std.specs.Option.{option_map, option_map_or}
-use Rattle.std.proofs.lemmas.List.{append_assoc, append-nil, take_more, drop_more, take-append-drop}
+use Rattle.std.proofs.lemmas.List.{append_assoc, append-nil}
 use Rattle.std.proofs.lemmas.List.Elements.{filter_map-append, All-nil, All-cons, All-head, All-push, All-tail, All-weaker}
 use Rattle.std.proofs.lemmas.List.Sums.{sum_by_push, sum_by-append, fold_push}
 use Rattle.multi_layout.specs.Words.{each_after, some_after, successive, largest, extent}
@@ -72,30 +72,6 @@ some_after_push f xs x = ap (λ l. filter_map (λ o. o) l) (each_after_push f xs
 -- of none is made something, and of one more neither
 pub none_more : {X Y : Type 0} (f : List X → X → Option Y) (xs : List X) (x : X) → some_after f xs ≡ [] → f xs x ≡ None → some_after f (xs ++ x ∷ []) ≡ []
 none_more f xs x none fine = some_after_push f xs x ∙ ap (λ l. l ++ cons_option (f xs x) []) none ∙ ap (λ o. cons_option o []) fine
-
--- a loop's step
-module _ {X : Type 0} (xs : List X) (i : ℕ) (d : X) (within : i < length xs) where
-  pub some_after_more : {Y : Type 0} (f : List X → X → Option Y) → some_after f (take (i + 1) xs) ≡ some_after f (take i xs) ++ cons_option (f (take i xs) (get_or xs i d)) []
-  some_after_more f =
-      ap (some_after f) (take_more xs i d within)
-      ∙ some_after-append f (take i xs) (get_or xs i d ∷ [])
-      ∙ ap (λ l. some_after f (take i xs) ++ cons_option (f l (get_or xs i d)) []) (append-nil (take i xs))
-
-  -- the item at i is the first of which f makes something
-  pub some_after_first : {Y : Type 0} (f : List X → X → Option Y) (v : Y) → some_after f (take i xs) ≡ [] → f (take i xs) (get_or xs i d) ≡ Some v → (more : List Y) × (some_after f xs ≡ v ∷ more)
-  some_after_first {Y} f v none some =
-      let rest = some_after (λ before. f (take i xs ++ get_or xs i d ∷ before)) (drop (i + 1) xs) in
-      let at : some_after f xs ≡ some_after f (take i xs) ++ cons_option (f (take i xs ++ []) (get_or xs i d)) rest =
-      ap (some_after f) (sym (take-append-drop i xs) ∙ ap (λ l. take i xs ++ l) (drop_more xs i d within))
-      ∙ some_after-append f (take i xs) (get_or xs i d ∷ drop (i + 1) xs) in
-      (rest, at ∙ ap (λ l. l ++ cons_option (f (take i xs ++ []) (get_or xs i d)) rest) none ∙ ap (λ l. cons_option (f l (get_or xs i d)) rest) (append-nil (take i xs)) ∙ ap (λ o. cons_option o rest) some)
-
-  pub extent_more : (size : X → ℕ) (gap : X → X → ℕ) → extent size gap (take (i + 1) xs) ≡ extent size gap (take i xs) + gap_before gap (take i xs) (get_or xs i d) + size (get_or xs i d)
-  extent_more size gap = ap (extent size gap) (take_more xs i d within) ∙ extent_push size gap (take i xs) (get_or xs i d)
-
--- the last of the first i + 1 items
-pub last_or_more : {X : Type 0} (xs : List X) (i : ℕ) (d : X) → i < length xs → last_or None (take (i + 1) xs) ≡ Some (get_or xs i d)
-last_or_more xs i d within = ap (last_or None) (take_more xs i d within) ∙ last_or_push None (take i xs) (get_or xs i d)
 
 -- induction on a list from its end
 push_ind_from : {X : Type 0} (P : List X → Type 0) → ((xs : List X) (x : X) → P xs → P (xs ++ x ∷ [])) → (ys xs : List X) → P xs → P (xs ++ ys)

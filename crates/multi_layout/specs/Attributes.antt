@@ -17,7 +17,9 @@ in_force given default before = unwrap_or (last_or None (filter_map given before
 
 -- the default font, which an accepted sign defines (NTCIP 1203 v03, defaultFont)
 abbrev pub default_font : SignData → FontData
-default_font sign = unwrap_or (font_numbered sign sign.defaults.font) (record { number = 0; version = 0; height = 0; char_spacing = 0; line_spacing = 0; cells = [] })
+default_font sign =
+    unwrap_or (font_numbered sign sign.defaults.font)
+    (record { number = 0; version = 0; height = 0; char_spacing = 0; line_spacing = 0; cells = [] })
 
 -- the font that an item gives: that of the number, or the default (NTCIP 1203 v03, MULTI tag 'fo')
 abbrev pub given_font : SignData → Meaning → Option FontData
@@ -63,7 +65,8 @@ given_off defaults _ = None
 
 -- the flash that an item gives, with the default of each absent time; at its end none (NTCIP 1203 v03, MULTI tags 'fl' and '/fl')
 abbrev pub given_flash : Defaults → Meaning → Option (Option FlashTimes)
-given_flash defaults (Does (Flash off_first on off)) = Some (Some (record { off_first = off_first; on = unwrap_or on defaults.flash_on; off = unwrap_or off defaults.flash_off }))
+given_flash defaults (Does (Flash off_first on off)) =
+    Some (Some (record { off_first = off_first; on = unwrap_or on defaults.flash_on; off = unwrap_or off defaults.flash_off }))
 given_flash defaults (Does FlashEnd) = Some None
 given_flash defaults _ = None
 

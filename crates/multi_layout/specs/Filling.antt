@@ -25,7 +25,9 @@ pub record CutAt (X : Type 0) : Type 0 where
 -- a list, cut at its last item that passes p (own)
 abbrev pub cut_at_last : {X : Type 0} → (X → Bool) → List X → Option (CutAt X)
 cut_at_last p [] = None
-cut_at_last p (x ∷ xs) = option_map_or (λ c. Some (record c { before = x ∷ c.before })) (cut_at_last p xs) (if p x then Some (record { before = []; item = x; behind = xs }) else None)
+cut_at_last p (x ∷ xs) =
+    option_map_or (λ c. Some (record c { before = x ∷ c.before })) (cut_at_last p xs)
+    (if p x then Some (record { before = []; item = x; behind = xs }) else None)
 
 -- a cut list with more items behind it (own)
 abbrev pub longer : {X : Type 0} → List X → CutAt X → CutAt X

@@ -20,11 +20,14 @@ SmallerFits = (a b c a' b' c' length : ℕ) → a' ≤ a → b' ≤ b → c' ≤
 
 -- a line fits a width: its left, centre and right characters stand apart, and its full ones aren't wider (NTCIP 1203 v03, MULTI tag 'jl')
 abbrev pub line_fits : ℕ → List Spot → Bool
-line_fits width line = fit (width_of (segment 2 line)) (width_of (segment 3 line)) (width_of (segment 4 line)) width && nat_le (width_of (segment 5 line)) width
+line_fits width line =
+    fit (width_of (segment 2 line)) (width_of (segment 3 line)) (width_of (segment 4 line)) width
+    && nat_le (width_of (segment 5 line)) width
 
 -- an area fits a height: its top, middle and bottom groups stand apart (NTCIP 1203 v03, MULTI tag 'jp')
 abbrev pub area_fits : ℕ → List Spot → Bool
-area_fits height area = fit (height_of (lines_of (in_group 2 area))) (height_of (lines_of (in_group 3 area))) (height_of (lines_of (in_group 4 area))) height
+area_fits height area =
+    fit (height_of (lines_of (in_group 2 area))) (height_of (lines_of (in_group 3 area))) (height_of (lines_of (in_group 4 area))) height
 
 -- without a spot the line that it joins and its area fit (own)
 abbrev pub FitsWithout : List Spot → Spot → Type 0

@@ -20,7 +20,9 @@ laid_group fill just area = filled fill (in_group just area)
 
 -- an area fits a height: its top, middle and bottom groups stand apart (NTCIP 1203 v03, MULTI tag 'jp'; how parts fit is own)
 abbrev pub laid_fits : Option ℕ → ℕ → List Spot → Bool
-laid_fits fill height area = fit (height_of (lines_of (laid_group fill 2 area))) (height_of (lines_of (laid_group fill 3 area))) (height_of (lines_of (laid_group fill 4 area))) height
+laid_fits fill height area =
+    fit (height_of (lines_of (laid_group fill 2 area))) (height_of (lines_of (laid_group fill 3 area)))
+    (height_of (lines_of (laid_group fill 4 area))) height
 
 -- textTooBig: the line of a character doesn't fit, or the area no longer does (NTCIP 1203 v03, dmsMultiSyntaxError)
 abbrev pub too_big : LineFill → List Spot → Spot → Bool
@@ -32,7 +34,9 @@ too_big setting before spot =
 
 -- a spot as it stands in its group among all spots (own)
 abbrev pub laid_spot : LineFill → List Spot → List Spot → Spot → Spot
-laid_spot setting all before spot = if is_glyph spot then slice_index_or (filled (fill_at setting spot.at) (group_of spot all)) (length (group_of spot before)) spot else spot
+laid_spot setting all before spot =
+    if is_glyph spot then slice_index_or (filled (fill_at setting spot.at) (group_of spot all)) (length (group_of spot before)) spot else
+    spot
 
 -- some spots from the first on, as they are laid out among all (own)
 abbrev pub laid : LineFill → List Spot → List Spot → List Spot

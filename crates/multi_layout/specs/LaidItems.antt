@@ -17,7 +17,8 @@ laid_of item (Some spot) = if is_break spot then Does (NewLine (given_gap spot))
 
 -- an item as it is laid out among all (own)
 abbrev pub laid_item : LineFill → SignData → List Meaning → List Meaning → Meaning → Meaning
-laid_item setting sign all before item = laid_of item (option_map (laid_spot setting (spots sign all) (spots sign before)) (spot_at sign.defaults (standing sign before) item))
+laid_item setting sign all before item =
+    laid_of item (option_map (laid_spot setting (spots sign all) (spots sign before)) (spot_at sign.defaults (standing sign before) item))
 
 -- some items from the first on, as they are laid out among all (own)
 abbrev pub laid_items : LineFill → SignData → List Meaning → List Meaning → List Meaning

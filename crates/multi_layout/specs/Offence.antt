@@ -29,7 +29,8 @@ clashes later earlier = nat_lt later.at.line_just earlier.at.line_just || ((late
 -- tagConflict: a group goes back within the area, or a character's segment on its line (NTCIP 1203 v03,
 -- dmsMultiSyntaxError; what conflicts is own)
 abbrev pub conflicts : List Spot → Spot → Bool
-conflicts before spot = list_any (goes_back spot) (area_of spot before) || (is_glyph spot && list_any (clashes spot) (line_before before spot))
+conflicts before spot =
+    list_any (goes_back spot) (area_of spot before) || (is_glyph spot && list_any (clashes spot) (line_before before spot))
 
 -- the cases of a placing item: 11 tagConflict, 5 textTooBig where it is too big (NTCIP 1203 v03, dmsMultiSyntaxError; their order is own)
 abbrev pub placing_cases : (List Spot → Spot → Bool) → List Spot → Spot → List Case

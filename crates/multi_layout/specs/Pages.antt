@@ -8,7 +8,7 @@ use Rattle.multi_layout.specs.declared.cursor.Cursor.{Cursor}
 use Rattle.multi_layout.specs.CheckedData.{CheckedData}
 use Rattle.multi_layout.specs.Limits.{plane_limit, plane_octets, reading_limit}
 use Rattle.multi_layout.specs.Meaning.{meanings}
-use Rattle.multi_layout.specs.Paging.{IsPageStart}
+use Rattle.multi_layout.specs.kept.PageDrawing.{IsPageStart}
 use Rattle.multi_layout.specs.Verdict.{pages_of}
 
 -- the string and the plane as they are, what is drawn, the page that comes next, and both counts at the start (own)
@@ -46,7 +46,8 @@ pub record IsUnderWay (pages : PagesState) (cursor : Cursor) : Type 0 where
       → IsPageStart pages.string.sign pages.string.source.octets cursor × (cursor.state.pages ≡ pages.next + 1)
   pub within : cursor.at ≤ length pages.string.source.octets
   pub read_least : pages.string_started ≤ pages.string.source.steps
-  pub read_most : pages.string.source.steps ≤ pages.string_started + 18 * cursor.at + (if pages.next == page_count pages.string then 2 else 0)
+  pub read_most :
+      pages.string.source.steps ≤ pages.string_started + 18 * cursor.at + (if pages.next == page_count pages.string then 2 else 0)
   pub fills : ℕ
   pub fills_few : 4 * fills ≤ cursor.at + (if pages.next == page_count pages.string then 4 else 0)
   pub drawn_least : pages.plane_started ≤ pages.plane.steps

@@ -55,7 +55,9 @@ things sign phase items = things_among phase (spots sign items) (spots sign item
 -- which page 0 begins (NTCIP 1203 v03, defaultBackgroundColor; that the last thing covers the others is own)
 abbrev pub colour_of : Defaults → List Thing → ℕ → ℕ → ℕ → ℕ
 colour_of defaults things page column row =
-    unwrap_or (last_or None (filter_map (λ thing. if (thing.page == page) && thing.covers column row then Some thing.colour else None) things)) defaults.back
+    unwrap_or
+    (last_or None (filter_map (λ thing. if (thing.page == page) && thing.covers column row then Some thing.colour else None) things))
+    defaults.back
 
 -- the colour that a sign shows: a monochrome one shows 1 to 9 as 1 (NTCIP 1203 v03, dmsColorScheme; that it takes them is own)
 abbrev pub shown_colour : SignData → ℕ → ℕ
@@ -64,7 +66,8 @@ shown_colour sign colour = if sign.classic then colour else min colour 1
 -- a pixel of a page has a colour at a phase: the plane of that colour has the pixel (own)
 unfoldable pub in_plane : SignData → List Meaning → ℕ → ℕ → ℕ → ℕ → ℕ → Bool
 unfolding things
-in_plane sign items page phase colour column row = shown_colour sign (colour_of sign.defaults (things sign phase items) page column row) == colour
+in_plane sign items page phase colour column row =
+    shown_colour sign (colour_of sign.defaults (things sign phase items) page column row) == colour
 
 -- a pixel has a colour while this is shown of the items as they are laid out; in an off time every pixel has colour 0 (own)
 abbrev pub pixel_at : SignData → List Meaning → Shown → ℕ → ℕ → ℕ → Bool

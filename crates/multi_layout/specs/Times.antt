@@ -37,7 +37,8 @@ begin pages k = cycle (take k pages)
 
 -- the clock is in the on time of page k (own)
 abbrev pub is_on : List Times → ℕ → ℕ → Bool
-is_on pages clock k = nat_le (begin pages k) clock && option_map_or (λ times. nat_lt clock (begin pages k + times.on)) (slice_get pages k) false
+is_on pages clock k =
+    nat_le (begin pages k) clock && option_map_or (λ times. nat_lt clock (begin pages k + times.on)) (slice_get pages k) false
 
 -- what is shown at a time of the cycle: the page in whose on time it is, with the time since it began, or nothing (own)
 unfoldable pub shown_within : List Times → ℕ → Shown

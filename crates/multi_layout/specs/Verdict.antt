@@ -14,7 +14,8 @@ use Rattle.multi_layout.specs.Words.{some_after}
 -- the error of an item and the offset of its first octet, if it offends after the items before it (NTCIP 1203 v03,
 -- dmsMultiSyntaxErrorPosition; that it counts from 0 is own)
 abbrev pub fault_at : SignData → List Item → Item → Option (ℕ × ℕ)
-fault_at sign before item = option_map (λ code. (code, length (spell before))) (offence sign.line_fill sign (map meaning before) (meaning item))
+fault_at sign before item =
+    option_map (λ code. (code, length (spell before))) (offence sign.line_fill sign (map meaning before) (meaning item))
 
 -- the error and the offset of each item that offends after the items before it (own)
 abbrev pub offences : SignData → List Item → List (ℕ × ℕ)
@@ -49,7 +50,8 @@ IsVerdict sign octets verdict = (items : List Item) × (rest : List ℕ) × IsRe
 
 -- these are the times of all pages of the string together, in tenths of a second (own)
 abbrev pub IsCycle : SignData → List ℕ → ℕ → Type 0
-IsCycle sign octets tenths = (items : List Item) × (rest : List ℕ) × IsReading octets items rest × (tenths ≡ cycle (page_times sign (map meaning items)))
+IsCycle sign octets tenths =
+    (items : List Item) × (rest : List ℕ) × IsReading octets items rest × (tenths ≡ cycle (page_times sign (map meaning items)))
 
 -- the verdict on a string as a function of its octets, which definitions of whole strings cite (own)
 unfoldable pub verdict : SignData → List ℕ → Verdict

@@ -9,8 +9,8 @@ ghost use Rattle.multi_layout.specs.Fit.{FitsWithout, area_fits, fit};
 ghost use Rattle.multi_layout.specs.Laid.{too_big};
 ghost use Rattle.multi_layout.specs.Line.{average, height_of};
 ghost use Rattle.multi_layout.specs.Offence.{clashes, conflicts};
-ghost use Rattle.multi_layout.specs.Run.{GroupsFitBefore, IsBehindOne, IsOpen, IsOpenArea, kept_fits_height, kept_group_height, kept_height, lengthened_area};
-ghost use Rattle.multi_layout.specs.Sums.{group_sum, area_sum, area_sum_in, IsPlacing, IsCharacter, IsBreak, IsGroupBelow, IsBelow};
+ghost use Rattle.multi_layout.specs.kept.Run.{GroupsFitBefore, IsBehindOne, IsOpen, IsOpenArea, kept_fits_height, kept_group_height, kept_height, lengthened_area};
+ghost use Rattle.multi_layout.specs.kept.Sums.{group_sum, area_sum, area_sum_in, IsPlacing, IsCharacter, IsBreak, IsGroupBelow, IsBelow};
 
 use crate::line::{Character, Line, gap_or_average, parts_fit, room_for};
 use sign_font::FontInfo;
@@ -79,6 +79,7 @@ impl Group {
     }
 
     /// Adds an `nl` of this group.
+    #[inline(always)]
     pub(crate) fn add_break(&mut self, gap: Option<u8>, font: &FontInfo)
         requires below { IsGroupBelow (2 ^ 62) self.old }
         ensures sum { (group : List Spot) (s : Spot) → All IsPlacing group → self.old ≡ group_sum group → IsBreak s gap font.now
@@ -105,6 +106,7 @@ impl Group {
     }
 
     /// The height of the group's lines in pixels, with the gaps between them.
+    #[inline(always)]
     pub(crate) fn height(self) -> u64
         requires below { self.closed ≤ 2 ^ 62 + 1024 }
         ensures sum { (group : List Spot) → All IsPlacing group → self ≡ group_sum group
@@ -151,6 +153,7 @@ impl Area {
     }
 
     /// Adds an `nl`, with this font in force and this page justification, which isn't before that of the present group.
+    #[inline(always)]
     pub(crate) fn add_break(&mut self, page_just: u8, gap: Option<u8>, font: &FontInfo)
         requires page_just { (2 ≤ page_just) × (page_just ≤ 4) }
         requires below { IsBelow (2 ^ 62) self.old }
@@ -163,13 +166,15 @@ impl Area {
     }
 
     /// Goes on to the group with a page justification, which isn't before that of the present one.
+    #[inline(always)]
     pub(crate) fn go_on(&mut self, page_just: u8)
         requires page_just { (2 ≤ page_just) × (page_just ≤ 4) }
         requires below { IsBelow (2 ^ 62) self.old }
         ensures sum { (area : List Spot) → All IsPlacing area → self.old ≡ area_sum area → self.old.present ≤ page_just
             → self.new ≡ area_sum_in page_just area }
         ensures grows { (k : ℕ) → IsBelow k self.old
-            → (self.new.top ≤ k + 1024) × (self.new.middle ≤ k + 1024) × IsGroupBelow k self.new.group × (2 ≤ self.new.present) × (self.new.present ≤ 4) }
+            → (self.new.top ≤ k + 1024) × (self.new.middle ≤ k + 1024) × IsGroupBelow k self.new.group × (2 ≤ self.new.present)
+            × (self.new.present ≤ 4) }
         ensures may { (just : ℕ) → IsOpenArea page_just just self.old → (self.new.present ≡ page_just) × IsOpen just self.new.group.line }
     {
         if page_just <= self.present {
@@ -187,7 +192,8 @@ impl Area {
 
     /// The group with this page justification, top 2, middle 3 or bottom 4, which isn't before the present one.
     pub(crate) fn group_for(&self, page_just: u8) -> Group
-        ensures sum { (area : List Spot) → self.now ≡ area_sum area → self.now.present ≤ page_just → result ≡ group_sum (in_group page_just area) }
+        ensures sum { (area : List Spot) → self.now ≡ area_sum area → self.now.present ≤ page_just
+            → result ≡ group_sum (in_group page_just area) }
         ensures below { (k : ℕ) → IsBelow k self.now → IsGroupBelow k result }
     {
         if page_just == self.present {
@@ -198,10 +204,12 @@ impl Area {
     }
 
     /// The height of the group with a page justification, in pixels: top 2, middle 3, bottom 4.
+    #[inline(always)]
     pub(crate) fn height(&self, page_just: u8) -> u64
         requires known { (2 ≤ page_just) × (page_just ≤ 4) }
         requires below { IsBelow (2 ^ 62 + 1024) self.now }
-        ensures sum { (area : List Spot) → All IsPlacing area → self.now ≡ area_sum area → result ≡ height_of (lines_of (in_group page_just area)) }
+        ensures sum { (area : List Spot) → All IsPlacing area → self.now ≡ area_sum area
+            → result ≡ height_of (lines_of (in_group page_just area)) }
         ensures kept { result ≡ kept_group_height page_just self.now }
         ensures below { result ≤ 2 ^ 62 + 2048 }
     {
@@ -246,15 +254,18 @@ impl Area {
     }
 
     /// Whether the area fits a height in pixels, into which its groups before the present one fit.
+    #[inline(always)]
     fn still_fits(&self, height: u16) -> bool
         requires below { IsBelow (2 ^ 62 + 1024) self.now }
         requires page_just { (2 ≤ self.now.present) × (self.now.present ≤ 4) }
-        ensures { (area : List Spot) → self.now ≡ area_sum area → GroupsFitBefore height self.now → result ≡ kept_fits_height height self.now }
+        ensures { (area : List Spot) → self.now ≡ area_sum area → GroupsFitBefore height self.now
+            → result ≡ kept_fits_height height self.now }
     {
         self.group.height() <= room_for(self.present, self.top, self.middle, height)
     }
 
     /// Whether the area fits a rectangle of this height in pixels, as far as its last item goes: an `nl`.
+    #[inline(always)]
     pub(crate) fn fits_with_break(&self, height: u16) -> bool
         requires below { IsBelow (2 ^ 62 + 1024) self.now }
         ensures { (before : List Spot) (s : Spot) → is_break s ≡ true → self.now ≡ area_sum (area_of s before ++ s ∷ [])

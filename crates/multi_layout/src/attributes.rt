@@ -63,7 +63,7 @@ pub(crate) fn whole_sign(sign: &Terms<'_>) -> Rectangle
 }
 
 impl Attributes {
-    ghost use Rattle.multi_layout.specs.State.{IsSimple, attributes_of, standing_behind};
+    ghost use Rattle.multi_layout.specs.kept.State.{IsSimple, attributes_of, standing_behind};
 
     /// A character of this width in pixels, as its line sees it.
     pub(crate) fn character(&self, width: u8) -> Character

@@ -4,10 +4,10 @@ ghost use Rattle.std.specs.Prelude.{◌≡◌, ◌≢◌, ◌+◌, ◌-◌, ◌*
 ghost use Rattle.multi_token.specs.Counted.{RisesBetween};
 ghost use Rattle.multi_tag.specs.Closed.{HasNoTagAt};
 ghost use Rattle.multi_layout.specs.Codes.{code_of};
-ghost use Rattle.multi_layout.specs.ItemAt.{IsFaultAt, IsItemAt};
-ghost use Rattle.multi_layout.specs.KnownItem.{IsKnownItem, meant_by};
+ghost use Rattle.multi_layout.specs.kept.ItemAt.{IsFaultAt, IsItemAt};
+ghost use Rattle.multi_layout.specs.kept.KnownItem.{IsKnownItem, meant_by};
 ghost use Rattle.multi_layout.specs.Meaning.{said_by};
-ghost use Rattle.multi_layout.specs.State.{IsKnown};
+ghost use Rattle.multi_layout.specs.kept.State.{IsKnown};
 
 use crate::fault::SyntaxError;
 use crate::item::{KnownItem, tag_error};

@@ -1,16 +1,16 @@
 //! The way through an accepted string, from item to item.
 
-ghost use Rattle.std.specs.Prelude.{◌≡◌, false, None, ℕ, ◌+◌, ◌-◌, ◌*◌, ◌<◌, ◌^◌, [], ◌∷◌, ◌++◌, List, Some, IfSome, IfNone, length, map};
+ghost use Rattle.std.specs.Prelude.{◌≡◌, false, None, ℕ, ◌+◌, ◌-◌, ◌*◌, ◌<◌, ◌^◌, [], ◌∷◌, ◌++◌, List, Some, IfSome, IfNone};
 ghost use Rattle.multi_token.specs.Counted.{RisesBetween};
 ghost use Rattle.multi_token.specs.Spelling as spelled;
 ghost use Rattle.sign_font.specs.Cell.{SizedCell};
 ghost use Rattle.sign_font.specs.Sign.{SignData, cell_in};
 ghost use Rattle.sign_font.specs.Sound.{IsSound};
-ghost use Rattle.multi_layout.specs.KnownItem.{IsKnownItem, meant_by};
-ghost use Rattle.multi_layout.specs.Meaning.{Meaning, has_place, meaning};
+ghost use Rattle.multi_layout.specs.kept.KnownItem.{IsKnownItem, meant_by};
+ghost use Rattle.multi_layout.specs.Meaning.{Meaning, has_place};
 ghost use Rattle.multi_layout.specs.Offence.{unsized_offence};
-ghost use Rattle.multi_layout.specs.State.{IsReady, IsStateOf};
-ghost use Rattle.multi_layout.specs.Walk.{GoesBehind, IsAccepted, IsBefore, IsBetween, IsFirst, IsOrderly, IsPassing, IsPassingBefore, IsPlaced, IsRead, IsWithin, laid_meanings, PassesOn, Piece, pieces_of};
+ghost use Rattle.multi_layout.specs.kept.State.{IsReady, IsStateOf};
+ghost use Rattle.multi_layout.specs.kept.Cursors.{GoesBehind, IsAccepted, IsBefore, IsBetween, IsFirst, IsOrderly, IsPassing, IsPassingBefore, IsPlaced, IsRead, IsWithin, laid_meanings, PassesOn, LaidItem, pieces_of};
 
 use crate::item::{KnownItem, read_item};
 use crate::judge::judge_tag;
@@ -36,9 +36,11 @@ pub(crate) struct NextItem {
 impl Cursor {
     /// The cursor before the first item.
     pub(crate) fn new(sign: &Terms<'_>) -> Cursor
-        ensures between { (octets : List ℕ) (items : List spelled.Item) → IsAccepted sign.now octets items → IsOrderly sign.now (laid_meanings sign.now items)
+        ensures between { (octets : List ℕ) (items : List spelled.Item) → IsAccepted sign.now octets items
+            → IsOrderly sign.now (laid_meanings sign.now items)
             → IsBetween sign.now octets [] (pieces_of sign.now items) result }
-        ensures passing { (octets : List ℕ) (items : List spelled.Item) → IsAccepted sign.now octets items → IsPassing sign.now octets [] items result }
+        ensures passing { (octets : List ℕ) (items : List spelled.Item) → IsAccepted sign.now octets items
+            → IsPassing sign.now octets [] items result }
         ensures sound { IsSound sign.now }
     {
         Cursor {
@@ -92,8 +94,10 @@ impl Cursor {
         requires known { IsKnownItem item }
         requires ready { IsReady self.old.state }
         requires unplaced { has_place (meant_by item) ≡ false }
-        requires fine { (items : List Meaning) × IsStateOf sign.now items self.old.state × (unsized_offence sign.now items (meant_by item) ≡ None) }
-        ensures passed { (items : List Meaning) → IsStateOf sign.now items self.old.state → IsStateOf sign.now (items ++ meant_by item ∷ []) self.new.state }
+        requires fine { (items : List Meaning) × IsStateOf sign.now items self.old.state
+            × (unsized_offence sign.now items (meant_by item) ≡ None) }
+        ensures passed { (items : List Meaning) → IsStateOf sign.now items self.old.state
+            → IsStateOf sign.now (items ++ meant_by item ∷ []) self.new.state }
         ensures at { self.new.at ≡ self.old.at }
         ensures steps { RisesBetween source.old source.new 0 1 }
     {
@@ -141,7 +145,7 @@ impl Cursor {
     pub(crate) fn pass_character(&mut self, number: u16, width: u8, len: usize)
         requires { (sign : SignData) × (octets : List ℕ)
             × IsBefore sign octets (record { item = KnownItem.Char number; len = len }) self.old }
-        ensures passed { (sign : SignData) (octets : List ℕ) (before rest : List Piece) (item : Piece) (cell : SizedCell)
+        ensures passed { (sign : SignData) (octets : List ℕ) (before rest : List LaidItem) (item : LaidItem) (cell : SizedCell)
             → IsBetween sign octets before (item ∷ rest) self.old → IsRead item (record { item = KnownItem.Char number; len = len })
             → cell_in sign self.old.state.attributes.font.number number ≡ Some cell → width ≡ cell.width
             → IsBetween sign octets (before ++ item ∷ []) rest self.new }

@@ -4,16 +4,16 @@ ghost use Rattle.std.specs.Prelude.{◌^◌, ◌≡◌, ℕ, ◌+◌, ◌-◌, �
 ghost use Rattle.std.specs.Option.{unwrap_or};
 ghost use Rattle.multi_token.specs.Counted.{RisesBetween};
 ghost use Rattle.sign_font.specs.Sound.{IsSound};
-ghost use Rattle.multi_layout.specs.Sums.{IsBelow};
+ghost use Rattle.multi_layout.specs.kept.Sums.{IsBelow};
 ghost use Rattle.multi_layout.specs.Drawn.{Lights};
 ghost use Rattle.multi_layout.specs.Meaning.{begins_area};
 ghost use Rattle.multi_layout.specs.Pages.{IsSized};
-ghost use Rattle.multi_layout.specs.Paging.{IsFilledFew, IsPagePassed, IsPageStart, IsReadTwice};
-ghost use Rattle.multi_layout.specs.Passes.{DrawsOn, HasCounted, IsFilledBy, OverArea, IsLow, BeginsNoArea, IsQuiet, whole_area};
+ghost use Rattle.multi_layout.specs.kept.PageDrawing.{IsFilledFew, IsPagePassed, IsPageStart, IsReadTwice};
+ghost use Rattle.multi_layout.specs.kept.AreaDrawing.{DrawsOn, HasCounted, IsFilledBy, OverArea, IsLow, BeginsNoArea, IsQuiet, whole_area};
 ghost use Rattle.multi_layout.specs.Limits.{plane_octets};
 ghost use Rattle.multi_layout.specs.Picture.{in_plane, shown_colour};
-ghost use Rattle.multi_layout.specs.Table.{IsOrdered};
-ghost use Rattle.multi_layout.specs.Walk.{GoesBehind, IsBetween, IsItemRead, IsRead, meant, Piece, spell_of};
+ghost use Rattle.multi_layout.specs.kept.Table.{IsOrdered};
+ghost use Rattle.multi_layout.specs.kept.Cursors.{GoesBehind, IsBetween, IsItemRead, IsRead, meant, LaidItem, spell_of};
 
 use crate::cursor::{Cursor, NextItem};
 use crate::item::KnownItem;
@@ -37,9 +37,10 @@ pub(crate) fn draw_page(
 ) -> Cursor
     requires begins { IsPageStart sign.now source.old.octets cursor }
     requires size { IsSized plane.old sign.now }
-    ensures drawn { (before behind : List Piece) → IsBetween sign.now source.old.octets before behind cursor
-        → Lights plane.new (λ column row. in_plane sign.now (map meant (before ++ behind)) (cursor.state.pages - 1) layer.phase layer.colour column row) }
-    ensures passed { (before behind : List Piece) → IsBetween sign.now source.old.octets before behind cursor
+    ensures drawn { (before behind : List LaidItem) → IsBetween sign.now source.old.octets before behind cursor
+        → Lights plane.new
+        (λ column row. in_plane sign.now (map meant (before ++ behind)) (cursor.state.pages - 1) layer.phase layer.colour column row) }
+    ensures passed { (before behind : List LaidItem) → IsBetween sign.now source.old.octets before behind cursor
         → IsPagePassed sign.now source.old.octets before behind cursor result }
     ensures size { (plane.new.width ≡ plane.old.width) × (plane.new.height ≡ plane.old.height) }
     ensures kept { source.new.octets ≡ source.old.octets }
@@ -72,13 +73,16 @@ fn draw_area(
     plane: &mut Plane,
 )
     requires sound { IsSound sign.now }
-    requires known { (before area rest : List Piece) × IsBetween sign.now source.old.octets before (area ++ rest) cursor.old
-        × BeginsNoArea area × (read.now.end ≡ cursor.old.at + length (spell_of area)) × HasCounted (whole_area sign.now before (area ++ rest)) read.now.lines }
+    requires known { (before area rest : List LaidItem) × IsBetween sign.now source.old.octets before (area ++ rest) cursor.old
+        × BeginsNoArea area × (read.now.end ≡ cursor.old.at + length (spell_of area))
+        × HasCounted (whole_area sign.now before (area ++ rest)) read.now.lines }
     requires low { IsLow read.now.lines }
     requires ordered { IsOrdered read.now.lines }
     requires size { IsSized plane.old sign.now }
-    ensures passed { OverArea sign.now source.old.octets cursor.old read.now (λ before area rest. IsBetween sign.now source.old.octets (before ++ area) rest cursor.new) }
-    ensures drawn { OverArea sign.now source.old.octets cursor.old read.now (λ before area rest. DrawsOn sign.now layer before area rest plane.old plane.new) }
+    ensures passed { OverArea sign.now source.old.octets cursor.old read.now
+        (λ before area rest. IsBetween sign.now source.old.octets (before ++ area) rest cursor.new) }
+    ensures drawn { OverArea sign.now source.old.octets cursor.old read.now
+        (λ before area rest. DrawsOn sign.now layer before area rest plane.old plane.new) }
     ensures steps { RisesBetween source.old source.new 0 (9 * (read.now.end - cursor.old.at)) }
     ensures fills { IsFilledBy sign.now plane.old plane.new (read.now.end - cursor.old.at) }
 {
@@ -95,8 +99,10 @@ fn draw_area(
 /// The next item as it is laid out: a space that is dropped is the end of its line.
 fn lay(sign: &Terms<'_>, cursor: &Cursor, lines: &LineTable, next: NextItem) -> NextItem
     requires ordered { IsOrdered lines.now }
-    requires stands { (octets : List ℕ) × (before rest : List Piece) × (item : Piece) × IsBetween sign.now octets before (item ∷ rest) cursor.now }
-    ensures read { (octets : List ℕ) (before rest : List Piece) (item : Piece) → IsBetween sign.now octets before (item ∷ rest) cursor.now
+    requires stands { (octets : List ℕ) × (before rest : List LaidItem) × (item : LaidItem)
+        × IsBetween sign.now octets before (item ∷ rest) cursor.now }
+    ensures read { (octets : List ℕ) (before rest : List LaidItem) (item : LaidItem)
+        → IsBetween sign.now octets before (item ∷ rest) cursor.now
         → HasCounted (whole_area sign.now before (item ∷ rest)) lines.now → IsItemRead item.item next → IsRead item result }
     ensures len { result.len ≡ next.len }
 {
@@ -113,7 +119,8 @@ fn lay_filled(sign: &Terms<'_>, cursor: &Cursor, lines: &LineTable, next: NextIt
     requires line_just { (2 ≤ cursor.now.state.attributes.line_just) × (cursor.now.state.attributes.line_just ≤ 5) }
     requires page_just { (2 ≤ cursor.now.state.attributes.page_just) × (cursor.now.state.attributes.page_just ≤ 4) }
     requires below { IsBelow (2 ^ 43) cursor.now.state.area }
-    ensures read { (octets : List ℕ) (before rest : List Piece) (item : Piece) → IsBetween sign.now octets before (item ∷ rest) cursor.now
+    ensures read { (octets : List ℕ) (before rest : List LaidItem) (item : LaidItem)
+        → IsBetween sign.now octets before (item ∷ rest) cursor.now
         → HasCounted (whole_area sign.now before (item ∷ rest)) lines.now → IsItemRead item.item next → IsRead item result }
     ensures len { result.len ≡ next.len }
 {
@@ -146,13 +153,14 @@ fn draw_item(
     plane: &mut Plane,
 )
     requires sound { IsSound sign.now }
-    requires known { (before rest : List Piece) × (item : Piece) × IsBetween sign.now source.old.octets before (item ∷ rest) cursor.old
+    requires known { (before rest : List LaidItem) × (item : LaidItem)
+        × IsBetween sign.now source.old.octets before (item ∷ rest) cursor.old
         × IsRead item next × HasCounted (whole_area sign.now before (item ∷ rest)) lines.now }
     requires low { IsLow lines.now }
     requires ordered { IsOrdered lines.now }
     requires size { IsSized plane.old sign.now }
     ensures passed { GoesBehind sign.now source.old.octets next cursor.old cursor.new }
-    ensures drawn { (before rest : List Piece) (item : Piece) → IsBetween sign.now source.old.octets before (item ∷ rest) cursor.old
+    ensures drawn { (before rest : List LaidItem) (item : LaidItem) → IsBetween sign.now source.old.octets before (item ∷ rest) cursor.old
         → IsRead item next → begins_area (meant item) ≡ false → HasCounted (whole_area sign.now before (item ∷ rest)) lines.now
         → DrawsOn sign.now layer before (item ∷ []) rest plane.old plane.new }
     ensures at { cursor.new.at ≡ cursor.old.at + next.len }
@@ -179,7 +187,8 @@ fn draw_item(
 /// Fills the plane where a tag sets the page's background.
 fn draw_tag(sign: &Terms<'_>, tag: Tag, layer: Layer, plane: &mut Plane)
     requires size { IsSized plane.old sign.now }
-    ensures back { (given : Option ℕ) → tag ≡ Tag.Back given → Lights plane.new (λ column row. shown_colour sign.now (unwrap_or given sign.now.defaults.back) == layer.colour) }
+    ensures back { (given : Option ℕ) → tag ≡ Tag.Back given
+        → Lights plane.new (λ column row. shown_colour sign.now (unwrap_or given sign.now.defaults.back) == layer.colour) }
     ensures quiet { IsQuiet tag → plane.new ≡ plane.old }
     ensures counted { plane.old.steps ≤ plane.new.steps }
     ensures steps { plane.new.steps ≤ plane.old.steps + plane_octets sign.now }

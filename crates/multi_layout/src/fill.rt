@@ -5,11 +5,11 @@ ghost use Rattle.std.specs.List.{All, AllPass, after_last, list_any};
 ghost use Rattle.sign_font.specs.Sign.{info_of};
 ghost use Rattle.multi_layout.specs.Address.{Spot, is_break, is_glyph};
 ghost use Rattle.multi_layout.specs.Fit.{line_fits};
-ghost use Rattle.multi_layout.specs.FillSums.{FillsArea, FillsGroup, IsSplitBelow, split_sum};
+ghost use Rattle.multi_layout.specs.kept.FillSums.{FillsArea, FillsGroup, IsSplitBelow, split_sum};
 ghost use Rattle.multi_layout.specs.Filling.{dropped, is_space};
 ghost use Rattle.multi_layout.specs.Offence.{clashes};
-ghost use Rattle.multi_layout.specs.Run.{kept_fits};
-ghost use Rattle.multi_layout.specs.Sums.{IsBelow, IsCharacter, IsGroupBelow, IsLineBelow, IsPlacing, area_sum, group_sum, line_sum};
+ghost use Rattle.multi_layout.specs.kept.Run.{kept_fits};
+ghost use Rattle.multi_layout.specs.kept.Sums.{IsBelow, IsCharacter, IsGroupBelow, IsLineBelow, IsPlacing, group_sum, line_sum};
 
 use crate::area::{Area, Group};
 use crate::line::{Character, Line};
@@ -41,10 +41,12 @@ impl Group {
         requires below { IsGroupBelow (2 ^ 62) self.old }
         requires before { IsLineBelow (2 ^ 62) split.now.before }
         ensures sum { (front before behind : List Spot) (space : Spot) → All IsPlacing (front ++ before) → after_last is_break front ≡ []
-            → AllPass is_glyph before → AllPass is_glyph behind → is_glyph space ≡ true → self.old ≡ group_sum (front ++ (before ++ space ∷ behind))
+            → AllPass is_glyph before → AllPass is_glyph behind → is_glyph space ≡ true
+            → self.old ≡ group_sum (front ++ (before ++ space ∷ behind))
             → split.now.before ≡ line_sum before → split.now.font ≡ info_of space.at.font → split.now.behind ≡ line_sum behind
             → self.new ≡ group_sum (((front ++ before) ++ dropped space ∷ []) ++ behind) }
-        ensures grows { (k : ℕ) → IsGroupBelow k self.old → IsLineBelow k split.now.before → IsLineBelow k split.now.behind → IsGroupBelow (k + 1024) self.new }
+        ensures grows { (k : ℕ) → IsGroupBelow k self.old → IsLineBelow k split.now.before → IsLineBelow k split.now.behind
+            → IsGroupBelow (k + 1024) self.new }
         ensures line { self.new.line ≡ split.now.behind }
     {
         self.line = split.before;
@@ -69,7 +71,8 @@ impl Group {
         ensures sum { FillsGroup width self.old split.old character.now space self.new split.new result.ended }
         ensures fits { (line : List Spot) → self.new.line ≡ line_sum line → result.fits ≡ line_fits width line }
         ensures kept_fits { result.fits ≡ kept_fits width self.new.line }
-        ensures grows { (k : ℕ) → IsGroupBelow k self.old → IsSplitBelow k split.old → IsGroupBelow (k + 1024) self.new × IsSplitBelow (k + 1024) split.new }
+        ensures grows { (k : ℕ) → IsGroupBelow k self.old → IsSplitBelow k split.old
+            → IsGroupBelow (k + 1024) self.new × IsSplitBelow (k + 1024) split.new }
         ensures small { IfSome result.ended (IsLineBelow (2 ^ 62)) }
     {
         let before = self.line;
@@ -128,7 +131,8 @@ impl Area {
         ensures sum { FillsArea page_just width self.old split.old character.now space self.new split.new result.ended }
         ensures fits { (line : List Spot) → self.new.group.line ≡ line_sum line → result.fits ≡ line_fits width line }
         ensures kept_fits { result.fits ≡ kept_fits width self.new.group.line }
-        ensures grows { (k : ℕ) → IsBelow k self.old → IsSplitBelow k split.old → IsBelow (k + 1024) self.new × IsSplitBelow (k + 1024) split.new }
+        ensures grows { (k : ℕ) → IsBelow k self.old → IsSplitBelow k split.old
+            → IsBelow (k + 1024) self.new × IsSplitBelow (k + 1024) split.new }
         ensures small { IfSome result.ended (IsLineBelow (2 ^ 62)) }
     {
         if page_just > self.present {
@@ -144,7 +148,8 @@ fn grow(split: &mut Option<Split>, line: &Line, character: &Character, space: bo
     requires known { character.now.just ≤ 5 }
     requires below { IsSplitBelow (2 ^ 62) split.old }
     ensures sum { (before : List Spot) (s : Spot) → AllPass is_glyph before → IsCharacter s character.now → is_space s ≡ space
-        → list_any (clashes s) before ≡ false → line.now ≡ line_sum before → split.old ≡ split_sum before → split.new ≡ split_sum (before ++ s ∷ []) }
+        → list_any (clashes s) before ≡ false → line.now ≡ line_sum before → split.old ≡ split_sum before
+        → split.new ≡ split_sum (before ++ s ∷ []) }
     ensures grows { (k : ℕ) → IsLineBelow k line.now → IsSplitBelow k split.old → IsSplitBelow (k + 1024) split.new }
 {
     if space {

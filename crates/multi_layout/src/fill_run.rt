@@ -1,14 +1,13 @@
 //! Text behind a character with the same attributes, where lines are filled: as long as it stays on its line, each word and
 //! each space only lengthens what is kept.
 
-ghost use Rattle.std.specs.Prelude.{◌≡◌, ℕ, ◌+◌, ◌*◌, ◌^◌, ◌<◌, ◌≤◌, true, false, IfSome, length, Option};
+ghost use Rattle.std.specs.Prelude.{◌≡◌, ℕ, ◌+◌, ◌*◌, ◌^◌, ◌<◌, ◌≤◌, true, false, length, Option};
 ghost use Rattle.multi_token.specs.Counted.{charged};
-ghost use Rattle.multi_layout.specs.FilledRun.{GoesOnBehind, IsFilledRun, IsOrderOf, longer_line, with_run, with_space, with_word};
-ghost use Rattle.multi_layout.specs.FilledState.{IsFilledFor, IsFilledReady};
-ghost use Rattle.multi_layout.specs.Progress.{IsAt, IsBehind};
-ghost use Rattle.multi_layout.specs.Run.{Fits, IsBehindOne, line_in_force};
-ghost use Rattle.multi_layout.specs.Sums.{IsLineBelow};
-ghost use Rattle.multi_layout.specs.Text.{IsInText, TakesSpace};
+ghost use Rattle.multi_layout.specs.kept.FilledRun.{GoesOnBehind, IsFilledRun, longer_line, with_run, with_space, with_word};
+ghost use Rattle.multi_layout.specs.kept.FilledState.{IsFilledFor, IsFilledReady};
+ghost use Rattle.multi_layout.specs.kept.Judging.{IsAt, IsBehind};
+ghost use Rattle.multi_layout.specs.kept.Run.{Fits, IsBehindOne};
+ghost use Rattle.multi_layout.specs.kept.Text.{IsInText, TakesSpace};
 
 use crate::attributes::Attributes;
 use crate::fill::Split;
@@ -138,7 +137,8 @@ fn take_word(
 ) -> Word
     requires short { length source.old.octets < 2 ^ 32 }
     requires text { IsInText sign.now source.old.octets at run.old pass.old source.old }
-    ensures spaced { (behind : ℕ) → result ≡ Word.Spaced behind → (at < behind) × IsInText sign.now source.old.octets behind run.new pass.new source.new }
+    ensures spaced { (behind : ℕ) → result ≡ Word.Spaced behind
+        → (at < behind) × IsInText sign.now source.old.octets behind run.new pass.new source.new }
     ensures ended { (behind : ℕ) (next : Option ℕ) → result ≡ Word.Ended behind next
         → (at ≤ behind) × IsAt sign.now source.old.octets behind next (IsFilledFor sign.now pass.new) source.new }
 {

@@ -1,14 +1,13 @@
 //! The items of a string, as they are read.
 
-ghost use Rattle.std.specs.Prelude.{◌≡◌, ◌+◌, ◌-◌, Err, IfOk, IfErr, slice_range};
+ghost use Rattle.std.specs.Prelude.{◌≡◌, ◌+◌, ◌-◌, Err, IfOk, IfErr};
 ghost use Rattle.multi_token.specs.Counted.{RisesBetween};
-ghost use Rattle.multi_token.specs.Spelling as spelled;
 ghost use Rattle.multi_token.specs.Tokens.{IsTokenOf, item_of};
 ghost use Rattle.multi_layout.specs.Codes.{code_of};
-ghost use Rattle.multi_layout.specs.KnownItem.{IsKnownItem, meant_by};
+ghost use Rattle.multi_layout.specs.kept.KnownItem.{IsKnownItem, meant_by};
 ghost use Rattle.multi_layout.specs.Meaning.{begins_area, Faulty, has_place, is_new_page, meaning, meaning_of_tag};
-ghost use Rattle.multi_layout.specs.State.{IsKnown};
-ghost use Rattle.multi_layout.specs.Passes.{ends_line};
+ghost use Rattle.multi_layout.specs.kept.State.{IsKnown};
+ghost use Rattle.multi_layout.specs.kept.AreaDrawing.{ends_line};
 
 use crate::fault::SyntaxError;
 use multi_tag::{Tag, TagFault, read_tag};

@@ -1,29 +1,21 @@
 //! The verdict on a string, in one reading from the left with running sums.
 
-ghost use Rattle.std.specs.Prelude.{◌≡◌, ℕ, ◌+◌, ◌-◌, ◌^◌, ◌<◌, ◌≤◌, ◌*◌, ◌==◌, if◌then◌else◌, [], length, List, IfOk, IfErr, IfSome, IfNone, OnOk, None, Some, true};
+ghost use Rattle.std.specs.Prelude.{◌≡◌, ◌+◌, ◌-◌, ◌^◌, ◌<◌, ◌≤◌, ◌*◌, ◌==◌, if◌then◌else◌, [], length, List, IfSome, IfNone, OnOk, None, Some, true};
 ghost use Rattle.std.specs.Option.{option_map_or};
-ghost use Rattle.multi_token.specs.Counted.{charged, RisesBetween};
-ghost use Rattle.multi_token.specs.Tokens.{IsBracketed, item_spelled, octets_of};
-ghost use Rattle.sign_font.specs.Defaults.{default_fault, under};
+ghost use Rattle.multi_token.specs.Counted.{RisesBetween};
 ghost use Rattle.sign_font.specs.Cell.{SizedCell};
 ghost use Rattle.sign_font.specs.Sign.{SignData, cell_in};
-ghost use Rattle.multi_layout.specs.Codes.{code_of};
-ghost use Rattle.multi_layout.specs.Limits.{check_limit};
-ghost use Rattle.multi_layout.specs.Meaning.{Does, Faulty, Meaning, Shows, meaning};
-ghost use Rattle.multi_layout.specs.KnownItem.{IsKnownItem, meant_by};
-ghost use Rattle.multi_layout.specs.Run.{IsBehindCharacter};
-ghost use Rattle.multi_layout.specs.State.{IsJudged, IsKnown, IsReady, IsStateOf, IsUnfilledOf, Judges};
-ghost use Rattle.multi_layout.specs.Verdict.{Accepted, IsCycle, IsVerdict, Refused};
+ghost use Rattle.multi_layout.specs.Meaning.{Does, Meaning, Shows};
+ghost use Rattle.multi_layout.specs.kept.Run.{IsBehindCharacter};
+ghost use Rattle.multi_layout.specs.kept.State.{IsJudged, IsKnown, IsReady, IsUnfilledOf, Judges};
 
 use crate::area::Area;
 use crate::attributes::{Rectangle, whole_sign};
-use crate::checked::Checked;
-use crate::fault::{Fault, SyntaxError};
+use crate::fault::SyntaxError;
 use crate::state::State;
 use crate::terms::Terms;
 use multi_tag::{FontPick, Tag};
 use multi_token::Source;
-use sign_font::{Cell, Defaults, Sign};
 
 /// Judges what a tag says.
 #[inline(always)]
@@ -77,6 +69,7 @@ pub(crate) fn judge_cell(state: &mut State, number: u16, width: u8) -> Result<()
 }
 
 /// Judges the end of a line.
+#[inline(always)]
 fn judge_break(state: &mut State, gap: Option<u8>) -> Result<(), SyntaxError>
     requires { IsReady state.old }
     ensures judged { (sign : SignData) → Judges sign state.old (Does (Tag.NewLine gap)) result state.new }

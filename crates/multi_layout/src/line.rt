@@ -1,14 +1,14 @@
 //! The running sums of a line's characters.
 
-ghost use Rattle.std.specs.Prelude.{◌≡◌, ℕ, ◌+◌, ◌^◌, ◌≤◌, true, false, nat_le, nat_lt, if◌then◌else◌, length, Some, List, [], ◌∷◌, ◌++◌};
+ghost use Rattle.std.specs.Prelude.{◌≡◌, ℕ, ◌+◌, ◌^◌, ◌≤◌, true, false, nat_le, if◌then◌else◌, length, Some, List, [], ◌∷◌, ◌++◌};
 ghost use Rattle.std.specs.List.{AllPass, list_any};
 ghost use Rattle.std.specs.Option.{option_map_or, unwrap_or};
 ghost use Rattle.multi_layout.specs.Address.{Spot, is_glyph, segment};
 ghost use Rattle.multi_layout.specs.Fit.{fit, line_fits, room_for};
 ghost use Rattle.multi_layout.specs.Line.{average, width_of};
 ghost use Rattle.multi_layout.specs.Offence.{clashes};
-ghost use Rattle.multi_layout.specs.Run.{FitsBefore, IsBehindOne, IsOpen, kept_fits, kept_width, lengthened_line};
-ghost use Rattle.multi_layout.specs.Sums.{segment_sum, line_sum, line_sum_in, IsCharacter, IsSegmentBelow, IsLineBelow};
+ghost use Rattle.multi_layout.specs.kept.Run.{FitsBefore, IsBehindOne, IsOpen, kept_fits, kept_width, lengthened_line};
+ghost use Rattle.multi_layout.specs.kept.Sums.{segment_sum, line_sum, line_sum_in, IsCharacter, IsSegmentBelow, IsLineBelow};
 
 use sign_font::FontInfo;
 
@@ -139,10 +139,12 @@ impl Line {
     }
 
     /// Goes on to the segment with a line justification, which isn't before that of the present one.
+    #[inline(always)]
     fn go_on(&mut self, just: u8)
         requires known { just ≤ 5 }
         ensures sum { (line : List Spot) → self.old ≡ line_sum line → self.old.present ≤ just → self.new ≡ line_sum_in just line }
-        ensures others { (self.new.has_parts ≡ self.old.has_parts) × (self.new.height ≡ self.old.height) × (self.new.spacing ≡ self.old.spacing) }
+        ensures others { (self.new.has_parts ≡ self.old.has_parts) × (self.new.height ≡ self.old.height)
+            × (self.new.spacing ≡ self.old.spacing) }
         ensures present { self.old.present ≤ just → self.new.present ≡ just }
         ensures grows { (k : ℕ) → IsLineBelow k self.old → IsLineBelow k self.new }
     {
@@ -204,6 +206,7 @@ impl Line {
     }
 
     /// The most pixels that the present segment may have within a width, into which those before it fit.
+    #[inline(always)]
     pub(crate) fn room(&self, width: u16) -> u64
         requires known { (2 ≤ self.now.present) × (self.now.present ≤ 5) }
         requires below { IsLineBelow (2 ^ 62 + 1024) self.now }
@@ -215,6 +218,7 @@ impl Line {
     }
 
     /// Whether the line fits a width in pixels, into which its segments before the present one fit.
+    #[inline(always)]
     pub(crate) fn still_fits(&self, width: u16) -> bool
         requires known { (2 ≤ self.now.present) × (self.now.present ≤ 5) }
         requires below { IsLineBelow (2 ^ 62 + 1024) self.now }

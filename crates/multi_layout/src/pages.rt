@@ -9,10 +9,10 @@ ghost use Rattle.multi_layout.specs.Drawn.{Lights};
 ghost use Rattle.multi_layout.specs.Limits.{drawing_limit, plane_limit, reading_limit};
 ghost use Rattle.multi_layout.specs.Meaning.{meanings};
 ghost use Rattle.multi_layout.specs.Pages.{IsSized, IsTurned, page_count};
-ghost use Rattle.multi_layout.specs.Paging.{IsFilledFew, IsPageStart, IsReadTwice};
+ghost use Rattle.multi_layout.specs.kept.PageDrawing.{IsFilledFew, IsPageStart, IsReadTwice};
 ghost use Rattle.multi_layout.specs.Picture.{picture};
 ghost use Rattle.multi_layout.specs.Verdict.{pages_of};
-ghost use Rattle.multi_layout.specs.Walk.{IsAccepted, IsOrderly};
+ghost use Rattle.multi_layout.specs.kept.Cursors.{IsAccepted, IsOrderly};
 
 use crate::checked::Checked;
 use crate::cursor::Cursor;
@@ -173,7 +173,8 @@ impl<'a> Pages<'a> {
         ensures* after { sem 𝓛 (TurnedAfter self.entry result) }
         ensures page { MatchOption result (self.old.next ≡ page_count self.old.string)
             (λ view. (self.old.next < page_count self.old.string) × (view.page ≡ self.old.next)
-            × Lights view.plane.now (picture self.old.string.sign self.old.string.source.octets self.old.next self.old.phase self.old.colour)) }
+            × Lights view.plane.now
+            (picture self.old.string.sign self.old.string.source.octets self.old.next self.old.phase self.old.colour)) }
         ensures size { IfSome result (λ view. IsSized view.plane.now self.old.string.sign) }
     {
         let page = self.next;
@@ -192,7 +193,8 @@ impl<'a> Pages<'a> {
 
     /// How much the counts of the string and of the plane have risen since the start, added up.
     pub fn steps(&self) -> u64
-        ensures risen { result ≡ (self.now.string.source.steps - self.now.string_started) + (self.now.plane.steps - self.now.plane_started) }
+        ensures risen { result
+            ≡ (self.now.string.source.steps - self.now.string_started) + (self.now.plane.steps - self.now.plane_started) }
         ensures most { result ≤ drawing_limit self.now.string.sign (length self.now.string.source.octets) }
         ensures read { (self.now.string_started ≤ self.now.string.source.steps)
             × (self.now.string.source.steps ≤ self.now.string_started + reading_limit (length self.now.string.source.octets)) }
@@ -209,7 +211,8 @@ impl<'a> Pages<'a> {
         ensures read { (self.entry.string_started ≤ self.entry.string.source.steps)
             × (self.entry.string.source.steps ≤ self.entry.string_started + reading_limit (length self.entry.string.source.octets)) }
         ensures drawn { (self.entry.plane_started ≤ self.entry.plane.steps)
-            × (self.entry.plane.steps ≤ self.entry.plane_started + plane_limit self.entry.string.sign (length self.entry.string.source.octets)) }
+            × (self.entry.plane.steps
+            ≤ self.entry.plane_started + plane_limit self.entry.string.sign (length self.entry.string.source.octets)) }
     {
         let Pages { string, plane, .. } = self;
         (string, plane)

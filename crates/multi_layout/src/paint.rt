@@ -5,11 +5,11 @@ ghost use Rattle.sign_font.specs.Sign.{cell_in};
 ghost use Rattle.sign_font.specs.Sound.{IsSound, IsSoundSize, IsWithin};
 ghost use Rattle.multi_layout.specs.Meaning.{Meaning, Shows};
 ghost use Rattle.multi_layout.specs.Offence.{unsized_offence};
-ghost use Rattle.multi_layout.specs.Passes.{DrawsGlyph, HasArea, IsLow};
+ghost use Rattle.multi_layout.specs.kept.AreaDrawing.{DrawsGlyph, HasArea, IsLow};
 ghost use Rattle.multi_layout.specs.Picture.{is_lit_at, shown_colour};
-ghost use Rattle.multi_layout.specs.State.{IsStateOf};
-ghost use Rattle.multi_layout.specs.Sums.{IsBelow};
-ghost use Rattle.multi_layout.specs.Table.{IsOrdered};
+ghost use Rattle.multi_layout.specs.kept.State.{IsStateOf};
+ghost use Rattle.multi_layout.specs.kept.Sums.{IsBelow};
+ghost use Rattle.multi_layout.specs.kept.Table.{IsOrdered};
 
 use crate::attributes::FlashTimes;
 use crate::cell::put_cell;

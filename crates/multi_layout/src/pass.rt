@@ -7,16 +7,17 @@ ghost use Rattle.sign_font.specs.declared.parts.LineFill.TheVariants.{Words};
 ghost use Rattle.sign_font.specs.Cell.{SizedCell};
 ghost use Rattle.sign_font.specs.Sign.{SignData, cell_in};
 ghost use Rattle.multi_layout.specs.Address.{Spot};
-ghost use Rattle.multi_layout.specs.FilledState.{IsFilledBehind, IsFilledJudged, IsFilledOf, IsFilledReady, JudgesFilled, begins_line};
-ghost use Rattle.multi_layout.specs.FillSums.{order_sum};
+ghost use Rattle.multi_layout.specs.kept.AreaReading.{IsCharacterPassed};
+ghost use Rattle.multi_layout.specs.kept.FilledState.{IsFilledJudged, IsFilledOf, IsFilledReady, JudgesFilled, begins_line};
+ghost use Rattle.multi_layout.specs.kept.FillSums.{order_sum};
 ghost use Rattle.multi_layout.specs.LaidItems.{laid_items};
-ghost use Rattle.multi_layout.specs.KnownItem.{IsKnownItem, meant_by};
+ghost use Rattle.multi_layout.specs.kept.KnownItem.{IsKnownItem, meant_by};
 ghost use Rattle.multi_layout.specs.Meaning.{Does, Meaning, Shows};
 ghost use Rattle.multi_layout.specs.Offence.{clashes, offence};
-ghost use Rattle.multi_layout.specs.Run.{Fits};
-ghost use Rattle.multi_layout.specs.PassOf.{IsItemJudged, IsPassBehind, IsPassOf, IsPassReady, JudgesItem};
-ghost use Rattle.multi_layout.specs.State.{IsKnown, IsStateOf, present_area};
-ghost use Rattle.multi_layout.specs.Sums.{IsLineBelow};
+ghost use Rattle.multi_layout.specs.kept.Run.{Fits};
+ghost use Rattle.multi_layout.specs.kept.PassState.{IsItemJudged, IsPassBehind, IsPassOf, IsPassReady, JudgesItem};
+ghost use Rattle.multi_layout.specs.kept.State.{IsKnown, IsStateOf, present_area};
+ghost use Rattle.multi_layout.specs.kept.Sums.{IsLineBelow};
 
 use crate::attributes::Rectangle;
 use crate::fault::SyntaxError;
@@ -154,7 +155,7 @@ impl Pass {
 
     /// Judges what a tag says.
     #[inline(always)]
-    fn judge_tag<const WORDS: bool>(
+    pub(crate) fn judge_tag<const WORDS: bool>(
         &mut self,
         sign: &Terms<'_>,
         source: &mut Source<'_>,
@@ -173,7 +174,7 @@ impl Pass {
     }
 
     /// Judges what a tag says, where lines are filled.
-    pub(crate) fn fill_tag(
+    fn fill_tag(
         &mut self,
         sign: &Terms<'_>,
         source: &mut Source<'_>,
@@ -227,11 +228,27 @@ impl Pass {
 
     /// Goes behind a character of an accepted string, whose cell has this width in pixels. The answer is the line that it ended, if
     /// it did.
-    pub(crate) fn pass_cell(&mut self, number: u16, width: u8) -> Option<Line>
-        requires ready { IsFilledReady self.old }
-        ensures passed { (sign : SignData) (items : List Meaning) (cell : SizedCell) → IsFilledOf sign items self.old
+    pub(crate) fn pass_cell<const WORDS: bool>(&mut self, number: u16, width: u8) -> Option<Line>
+        requires ready { IsPassReady WORDS self.old }
+        ensures passed { (sign : SignData) (items : List Meaning) (cell : SizedCell) → IsPassOf WORDS sign self.old items
             → cell_in sign self.old.state.attributes.font.number number ≡ Some cell → width ≡ cell.width
-            → offence Words sign items (Shows number) ≡ None → IsFilledBehind sign items number self.old self.new result }
+            → offence sign.line_fill sign items (Shows number) ≡ None → IsCharacterPassed WORDS sign items number self.old self.new result }
+        ensures small { IfSome result (IsLineBelow (2 ^ 62)) }
+    {
+        if WORDS {
+            self.pass_filled(number, width)
+        } else {
+            self.state.pass_character(width);
+            None
+        }
+    }
+
+    /// The same where lines are filled.
+    fn pass_filled(&mut self, number: u16, width: u8) -> Option<Line>
+        requires ready { IsFilledReady self.old }
+        ensures passed { (sign : SignData) (items : List Meaning) (cell : SizedCell) → IsPassOf true sign self.old items
+            → cell_in sign self.old.state.attributes.font.number number ≡ Some cell → width ≡ cell.width
+            → offence Words sign items (Shows number) ≡ None → IsCharacterPassed true sign items number self.old self.new result }
         ensures small { IfSome result (IsLineBelow (2 ^ 62)) }
     {
         let attributes = self.state.attributes;

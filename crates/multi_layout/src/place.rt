@@ -7,9 +7,9 @@ ghost use Rattle.multi_layout.specs.Address.{Spot, is_glyph, is_break, area_of, 
 ghost use Rattle.multi_layout.specs.Line.{glyph_width, width_of, height_of};
 ghost use Rattle.multi_layout.specs.Offence.{clashes};
 ghost use Rattle.multi_layout.specs.Place.{start, spread, place_of};
-ghost use Rattle.multi_layout.specs.State.{attributes_of};
-ghost use Rattle.multi_layout.specs.Sums.{segment_sum, line_sum, area_sum, IsSegmentBelow, IsLineBelow, IsBelow, IsPlacing};
-ghost use Rattle.multi_layout.specs.Table.{table_of, column_in};
+ghost use Rattle.multi_layout.specs.kept.State.{attributes_of};
+ghost use Rattle.multi_layout.specs.kept.Sums.{segment_sum, line_sum, area_sum, IsSegmentBelow, IsLineBelow, IsBelow, IsPlacing};
+ghost use Rattle.multi_layout.specs.kept.Table.{table_of, column_in};
 
 use crate::area::Area;
 use crate::attributes::Attributes;
@@ -37,7 +37,8 @@ pub(crate) fn place_at(
     requires low { All (λ line. line.bottom ≤ 2 ^ 43) lines.now }
     ensures place { (before all : List Spot) (spot : Spot) → is_glyph spot ≡ true → attributes.now ≡ attributes_of spot.at
         → glyph_width spot ≡ width → area.now ≡ area_sum (area_of spot before) → lines.now ≡ table_of (lines_of (group_of spot all))
-        → count_by is_break (group_of spot before) < length (lines_of (group_of spot all)) → list_any (clashes spot) (line_before before spot) ≡ false
+        → count_by is_break (group_of spot before) < length (lines_of (group_of spot all))
+        → list_any (clashes spot) (line_before before spot) ≡ false
         → area.now.present ≤ attributes.now.page_just → result ≡ place_of before all spot }
     ensures low { (result.column ≤ 2 ^ 62) × (result.row ≤ 2 ^ 62) }
 {
@@ -77,7 +78,8 @@ fn column_at(attributes: &Attributes, before: &Line, line: &CountedLine, width: 
     requires line_just { (2 ≤ attributes.now.line_just) × (attributes.now.line_just ≤ 5) }
     requires below { IsLineBelow (2 ^ 43) before.now }
     ensures column { (earlier : List Spot) (spot : Spot) → is_glyph spot ≡ true → attributes.now ≡ attributes_of spot.at
-        → glyph_width spot ≡ width → before.now ≡ line_sum earlier → list_any (clashes spot) earlier ≡ false → result ≡ column_in line.now earlier spot }
+        → glyph_width spot ≡ width → before.now ≡ line_sum earlier → list_any (clashes spot) earlier ≡ false
+        → result ≡ column_in line.now earlier spot }
     ensures low { result ≤ 2 ^ 62 }
 {
     let just = attributes.line_just;

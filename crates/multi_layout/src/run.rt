@@ -3,10 +3,10 @@
 ghost use Rattle.std.specs.Prelude.{◌≡◌, ◌+◌, ◌^◌, ◌<◌, ◌≤◌, List, length};
 ghost use Rattle.sign_font.specs.Sign.{SignData};
 ghost use Rattle.multi_layout.specs.Meaning.{Meaning};
-ghost use Rattle.multi_layout.specs.PassOf.{IsPassBehind, IsPassOf};
-ghost use Rattle.multi_layout.specs.Progress.{IsAt, IsBehind};
-ghost use Rattle.multi_layout.specs.Run.{Fits, IsBehindCharacter, IsRun, lengthened, line_in_force};
-ghost use Rattle.multi_layout.specs.State.{IsReady, IsStateOf, IsUnfilledOf};
+ghost use Rattle.multi_layout.specs.kept.PassState.{IsPassBehind, IsPassOf};
+ghost use Rattle.multi_layout.specs.kept.Judging.{IsAt, IsBehind};
+ghost use Rattle.multi_layout.specs.kept.Run.{Fits, IsBehindCharacter, IsRun, lengthened, line_in_force};
+ghost use Rattle.multi_layout.specs.kept.State.{IsReady, IsStateOf, IsUnfilledOf};
 
 use crate::fill_run::judge_text;
 use crate::pass::Pass;
@@ -46,7 +46,8 @@ impl State {
     pub(crate) fn lengthen(&mut self, width: u64, count: u64)
         requires width { (line_in_force self.old).part.width + width < 2 ^ 64 }
         requires count { (line_in_force self.old).part.count + count < 2 ^ 64 }
-        ensures { self.new ≡ lengthened ((line_in_force self.old).part.width + width) ((line_in_force self.old).part.count + count) self.old }
+        ensures { self.new
+            ≡ lengthened ((line_in_force self.old).part.width + width) ((line_in_force self.old).part.count + count) self.old }
     {
         let part = &self.area.group.line.part;
         let (width, count) = (part.width + width, part.count + count);

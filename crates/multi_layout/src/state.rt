@@ -25,7 +25,7 @@ impl State {
     ghost use Rattle.sign_font.specs.Sign.{SignData, cell_in};
     ghost use Rattle.multi_layout.specs.Meaning.{Does, Meaning, Shows};
     ghost use Rattle.multi_layout.specs.Offence.{unsized_offence};
-    ghost use Rattle.multi_layout.specs.State.{IsReady, IsStateOf, whole_times};
+    ghost use Rattle.multi_layout.specs.kept.State.{IsReady, IsStateOf, whole_times};
 
     /// The state before the first item.
     pub(crate) fn new(sign: &Terms<'_>) -> State
@@ -66,7 +66,8 @@ impl State {
     pub(crate) fn pass_character(&mut self, width: u8)
         requires ready { IsReady self.old }
         ensures passed { (sign : SignData) (items : List Meaning) (number : ℕ) (cell : SizedCell) → IsStateOf sign items self.old
-            → cell_in sign self.old.attributes.font.number number ≡ Some cell → width ≡ cell.width → unsized_offence sign items (Shows number) ≡ None
+            → cell_in sign self.old.attributes.font.number number ≡ Some cell → width ≡ cell.width
+            → unsized_offence sign items (Shows number) ≡ None
             → IsStateOf sign (items ++ Shows number ∷ []) self.new }
     {
         let character = self.attributes.character(width);

@@ -2,8 +2,8 @@
 
 ghost use Rattle.std.specs.Prelude.{◌≡◌, ℕ, ◌<◌, ◌≤◌, ◌==◌, length, List, [], ◌∷◌, ◌++◌, if◌then◌else◌};
 ghost use Rattle.multi_layout.specs.Address.{Spot};
-ghost use Rattle.multi_layout.specs.Sums.{line_sum};
-ghost use Rattle.multi_layout.specs.Table.{IsNarrow, IsOrdered, width_in, group_lines, line_entry};
+ghost use Rattle.multi_layout.specs.kept.Sums.{line_sum};
+ghost use Rattle.multi_layout.specs.kept.Table.{IsNarrow, IsOrdered, width_in, group_lines, line_entry};
 
 use crate::line::Line;
 use arrayvec::ArrayVec;

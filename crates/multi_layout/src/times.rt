@@ -6,7 +6,7 @@ ghost use Rattle.multi_token.specs.Reading.{reading};
 ghost use Rattle.multi_layout.specs.Limits.{check_limit};
 ghost use Rattle.multi_layout.specs.Meaning.{meanings};
 ghost use Rattle.multi_layout.specs.Times.{cycle, page_times, shown, shown_within};
-ghost use Rattle.multi_layout.specs.Walk.{IsAccepted};
+ghost use Rattle.multi_layout.specs.kept.Cursors.{IsAccepted};
 
 use crate::checked::Checked;
 use crate::cursor::Cursor;
@@ -71,8 +71,10 @@ fn find_page(sign: &Terms<'_>, source: &mut Source<'_>, time: u64) -> Shown
 fn shown_in(state: &State, time: u64) -> Option<Shown>
     requires some { 1 ≤ state.now.pages }
     requires began { state.now.cycle ≤ time }
-    ensures on { time < state.now.cycle + state.now.attributes.on → result ≡ Some (Shown.Page (state.now.pages - 1) (time - state.now.cycle)) }
-    ensures off { state.now.cycle + state.now.attributes.on ≤ time → time < state.now.cycle + state.now.attributes.on + state.now.attributes.off
+    ensures on { time < state.now.cycle + state.now.attributes.on
+        → result ≡ Some (Shown.Page (state.now.pages - 1) (time - state.now.cycle)) }
+    ensures off { state.now.cycle + state.now.attributes.on ≤ time
+        → time < state.now.cycle + state.now.attributes.on + state.now.attributes.off
         → result ≡ Some Shown.Off }
     ensures ended { state.now.cycle + state.now.attributes.on + state.now.attributes.off ≤ time → result ≡ None }
 {

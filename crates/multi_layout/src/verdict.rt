@@ -1,13 +1,10 @@
 //! The verdict on a string, in one reading from the left with running sums.
 
-ghost use Rattle.std.specs.Prelude.{◌≡◌, Bool, ℕ, ◌+◌, ◌^◌, ◌<◌, ◌≤◌, ◌*◌, ◌-◌, ◌⊎◌, [], length, slice_get, IfOk, IfErr, OnOk, None, Some};
-ghost use Rattle.multi_token.specs.Counted.{charged, RisesBetween};
+ghost use Rattle.std.specs.Prelude.{◌≡◌, ℕ, ◌+◌, ◌^◌, ◌<◌, ◌≤◌, ◌*◌, ◌-◌, ◌⊎◌, [], length, IfOk, IfErr, None, Some};
 ghost use Rattle.sign_font.specs.Defaults.{default_fault, under};
-ghost use Rattle.multi_layout.specs.Codes.{code_of};
 ghost use Rattle.multi_layout.specs.Limits.{check_limit};
-ghost use Rattle.multi_layout.specs.Progress.{IsAt, IsBehind, IsRefused, IsTold};
-ghost use Rattle.multi_layout.specs.PassOf.{IsPassBehind, IsPassOf, fill_of};
-ghost use Rattle.multi_layout.specs.State.{whole_times};
+ghost use Rattle.multi_layout.specs.kept.Judging.{IsAt, IsRefused, IsTold};
+ghost use Rattle.multi_layout.specs.kept.PassState.{IsPassOf, fill_of};
 ghost use Rattle.multi_layout.specs.Verdict.{Accepted, IsVerdict, Refused};
 
 use crate::bracket::read_spelled;
@@ -25,6 +22,13 @@ use sign_font::{Defaults, LineFill, Sign};
 pub(crate) struct Offence {
     pub(crate) error: SyntaxError,
     pub(crate) at: usize,
+}
+
+/// What is told of an accepted string: its pages, and the times of all of them together, in tenths of a second.
+#[derive(Clone, Copy)]
+struct Told {
+    pages: u8,
+    cycle: u32,
 }
 
 /// Whether a sign accepts a string by the sign's own defaults. Everything else is as [`check_with`] says.
@@ -80,11 +84,10 @@ pub fn check_with<'a>(
 {
     let terms = Terms::new(sign, defaults);
     let mut source = source;
-    let mut pass = Pass::new(State::new(&terms));
-    match judge(&terms, &mut pass, &mut source) {
-        Ok(()) => Ok(Checked {
-            pages: pass.state.pages,
-            cycle: pass.state.whole_cycle(),
+    match judge(&terms, &mut source) {
+        Ok(told) => Ok(Checked {
+            pages: told.pages,
+            cycle: told.cycle,
             terms,
             source,
         }),
@@ -96,40 +99,33 @@ pub fn check_with<'a>(
     }
 }
 
-/// Goes from the pass before the first item through an accepted string, and leaves its pages and times in the pass, or goes to the
-/// first item that offends.
+/// Judges the items of a string from the left, up to the first that offends.
 #[inline(always)]
-fn judge(sign: &Terms<'_>, pass: &mut Pass, source: &mut Source<'_>) -> Result<(), Offence>
-    requires start { (words : Bool) → sign.now.line_fill ≡ fill_of words → IsPassOf words sign.now pass.old [] }
+fn judge(sign: &Terms<'_>, source: &mut Source<'_>) -> Result<Told, Offence>
     requires fresh { source.old.steps ≡ 0 }
     requires short { length source.old.octets < 2 ^ 32 }
-    ensures accepted { OnOk result (IsTold sign.now source.old.octets pass.new.state.pages (whole_times pass.new.state) source.new) }
-    ensures small { OnOk result (pass.new.state.cycle ≤ 510 * pass.new.state.pages) }
+    ensures told { IfOk result (λ told. IsTold sign.now source.old.octets told.pages told.cycle source.new) }
     ensures refused { IfErr result (λ offence. IsRefused sign.now source.old.octets offence source.new) }
 {
     match sign.line_fill() {
-        LineFill::Off => judge_all::<false>(sign, pass, source),
-        LineFill::Words => judge_all::<true>(sign, pass, source),
+        LineFill::Off => judge_all::<false>(sign, source),
+        LineFill::Words => judge_all::<true>(sign, source),
     }
 }
 
-/// The same for lines of one kind: filled or not.
-fn judge_all<const WORDS: bool>(
-    sign: &Terms<'_>,
-    pass: &mut Pass,
-    source: &mut Source<'_>,
-) -> Result<(), Offence>
-    requires start { IsPassOf WORDS sign.now pass.old [] }
+/// The same for lines of one kind: filled or not. What is kept is made here, so that no more of it is than that kind reads.
+fn judge_all<const WORDS: bool>(sign: &Terms<'_>, source: &mut Source<'_>) -> Result<Told, Offence>
+    requires kind { sign.now.line_fill ≡ fill_of WORDS }
     requires fresh { source.old.steps ≡ 0 }
     requires short { length source.old.octets < 2 ^ 32 }
-    ensures accepted { OnOk result (IsTold sign.now source.old.octets pass.new.state.pages (whole_times pass.new.state) source.new) }
-    ensures small { OnOk result (pass.new.state.cycle ≤ 510 * pass.new.state.pages) }
+    ensures told { IfOk result (λ told. IsTold sign.now source.old.octets told.pages told.cycle source.new) }
     ensures refused { IfErr result (λ offence. IsRefused sign.now source.old.octets offence source.new) }
 {
+    let mut pass = Pass::new(State::new(sign));
     let mut at = 0;
     let mut next = source.read(at);
     while let Some(first) = next {
-        match judge_from::<WORDS>(sign, pass, source, at, first) {
+        match judge_from::<WORDS>(sign, &mut pass, source, at, first) {
             Ok((behind, octet)) => {
                 at = behind;
                 next = octet;
@@ -137,7 +133,10 @@ fn judge_all<const WORDS: bool>(
             Err(offence) => return Err(offence),
         }
     }
-    Ok(())
+    Ok(Told {
+        pages: pass.state.pages,
+        cycle: pass.state.whole_cycle(),
+    })
 }
 
 /// Judges what begins with this octet at an offset, which was read: an item that begins with a bracket, or a character and those

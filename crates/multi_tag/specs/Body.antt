@@ -14,7 +14,8 @@ pub record Row : Type 1 where
   pub name : List ℕ
   pub rest : Form Tag
 
--- the table, in small letters; d stands for a number, d? for one or none, h for a hexadecimal number (NTCIP 1203 v03, MULTI; the ranges of 'nl', 'sc' and 'fl' are own)
+-- the table, in small letters; d stands for a number, d? for one or none, h for a hexadecimal
+-- number (NTCIP 1203 v03, MULTI; the ranges of 'nl', 'sc' and 'fl' are own)
 abbrev pub table : Name → Row
 table names.NewPage = record { name = codes "np"; rest = nothing NewPage }
 table names.NewLine = record { name = codes "nl"; rest = d? 0 255 means NewLine }
@@ -49,7 +50,9 @@ table names.Fore = record { name = codes "cf"; rest = d? 0 9 means Fore }
 table names.Back = record { name = codes "pb"; rest = d? 0 9 means Back }
 table names.Rect = record {
   name = codes "tr";
-  rest = between comma (d 0 99999) (between comma (d 0 99999) (between comma (d 0 99999) (d 0 99999))) means (λ (x, (y, (w, h))). Rect x y w h);
+  rest =
+      between comma (d 0 99999) (between comma (d 0 99999) (between comma (d 0 99999) (d 0 99999))) means
+      (λ (x, (y, (w, h))). Rect x y w h);
 }
 table names.HexChar = record { name = codes "hc"; rest = h 1 65535 means HexChar }
 

@@ -48,4 +48,5 @@ after octet form octets value = (rest : List ℕ) × (octets ≡ octet ∷ rest)
 
 -- two forms with an octet between them (own)
 abbrev pub between : {U V : Type 0} → ℕ → Form U → Form V → Form (U × V)
-between octet first second octets values = (front rest : List ℕ) × (octets ≡ front ++ octet ∷ rest) × first front values.0 × second rest values.1
+between octet first second octets values =
+    (front rest : List ℕ) × (octets ≡ front ++ octet ∷ rest) × first front values.0 × second rest values.1

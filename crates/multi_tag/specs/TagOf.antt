@@ -76,7 +76,8 @@ abbrev pub read_between : {U V : Type 0} → ℕ → Reads U → Reads V → Rea
 read_between octet first second octets =
     option_and_then (λ (front, rest). option_zip (first front) (second rest)) (parts octet octets)
 
--- what stands behind a name, in small letters, is read by the form of its row (NTCIP 1203 v03, MULTI; the ranges of 'nl', 'sc' and 'fl' are own)
+-- what stands behind a name, in small letters, is read by the form of its row (NTCIP 1203 v03,
+-- MULTI; the ranges of 'nl', 'sc' and 'fl' are own)
 abbrev pub read_rest : Name → Reads Tag
 read_rest names.NewPage = read_nothing NewPage
 read_rest names.NewLine = decimal? 0 255 means NewLine
@@ -100,12 +101,16 @@ read_rest names.Flash =
 read_rest names.FlashEnd = read_nothing FlashEnd
 read_rest names.Fore = decimal? 0 9 means Fore
 read_rest names.Back = decimal? 0 9 means Back
-read_rest names.Rect = read_between comma (decimal 0 99999) (read_between comma (decimal 0 99999) (read_between comma (decimal 0 99999) (decimal 0 99999))) means (λ (x, (y, (w, h))). Rect x y w h)
+read_rest names.Rect =
+    read_between comma (decimal 0 99999) (read_between comma (decimal 0 99999) (read_between comma (decimal 0 99999) (decimal 0 99999)))
+    means (λ (x, (y, (w, h))). Rect x y w h)
 read_rest names.HexChar = hexadecimal 1 65535 means HexChar
 
 -- the names of the table, in its order (own)
 abbrev pub listed : List Name
-listed = names.NewPage ∷ names.NewLine ∷ names.LineJust ∷ names.PageJust ∷ names.Font ∷ names.CharSpacing ∷ names.CharSpacingEnd ∷ names.PageTime ∷ names.Flash ∷ names.FlashEnd ∷ names.Fore ∷ names.Back ∷ names.Rect ∷ names.HexChar ∷ []
+listed =
+    names.NewPage ∷ names.NewLine ∷ names.LineJust ∷ names.PageJust ∷ names.Font ∷ names.CharSpacing ∷ names.CharSpacingEnd ∷ names.PageTime
+    ∷ names.Flash ∷ names.FlashEnd ∷ names.Fore ∷ names.Back ∷ names.Rect ∷ names.HexChar ∷ []
 
 -- the listed name that begins the octets, if one does (own)
 abbrev pub name_at_front : List ℕ → Option Name

@@ -1,11 +1,11 @@
 //! Tags in octets behind an opening bracket, in one reading.
 
-ghost use Rattle.std.specs.Prelude.{◌≡◌, ◌≢◌, ◌≤◌, ℕ, List, ◌∷◌, IfSome, IfNone, Some, None};
+ghost use Rattle.std.specs.Prelude.{◌≡◌, ◌≢◌, ◌≤◌, ℕ, ◌∷◌, IfSome, IfNone, Some, None};
 ghost use Rattle.std.specs.Str.{str_to_ascii_lowercase};
 ghost use Rattle.multi_tag.specs.declared.name.Name.TheVariants as names;
 ghost use Rattle.multi_tag.specs.Body.{table};
 ghost use Rattle.multi_tag.specs.Closed.{HasNoClosedTag, IsClosedTag};
-ghost use Rattle.multi_tag.specs.Form.{d, d?, h, nothing};
+ghost use Rattle.multi_tag.specs.Form.{d, d?, h};
 ghost use Rattle.multi_tag.specs.Number.{IsDigit};
 ghost use Rattle.multi_tag.specs.Part.{HasNoPartBefore, IsPartBefore, times};
 

@@ -1,6 +1,6 @@
 //! Octets that are reached by counted reads alone.
 
-ghost use Rattle.std.specs.Prelude.{◌≡◌, ℕ, ◌+◌, ◌-◌, ◌*◌, ◌^◌, ◌<◌, ◌≤◌, ◌⊎◌, length, min, slice_get, slice_index, slice_range, take, drop, IfSome, None};
+ghost use Rattle.std.specs.Prelude.{◌≡◌, ℕ, ◌+◌, ◌-◌, ◌*◌, ◌^◌, ◌<◌, ◌≤◌, ◌⊎◌, length, min, slice_get, slice_index, slice_range, take, drop, None};
 ghost use Rattle.std.specs.List.{All};
 ghost use Rattle.multi_token.specs.Counted.{charged};
 ghost use Rattle.multi_token.specs.Run.{IsRun, taken};

@@ -1,9 +1,8 @@
 //! Tokens of a counted source.
 
-ghost use Rattle.std.specs.Prelude.{◌≡◌, ◌+◌, ◌-◌, ◌^◌, ◌<◌, ◌≤◌, ◌⊎◌, length, drop, slice_get, slice_range, IfOk, IfErr, IfSome, IfNone, OnErr, IsErr, Ok, None};
-ghost use Rattle.std.specs.List.{All};
+ghost use Rattle.std.specs.Prelude.{◌≡◌, ◌+◌, ◌-◌, ◌^◌, ◌<◌, ◌≤◌, ◌⊎◌, length, drop, slice_get, IfOk, IfErr, IfSome, IfNone, OnErr, IsErr, Ok, None};
 ghost use Rattle.multi_token.specs.Counted.{charged, RisesBetween};
-ghost use Rattle.multi_token.specs.Spelling.{IsPlain, HasNoItem};
+ghost use Rattle.multi_token.specs.Spelling.{HasNoItem};
 ghost use Rattle.multi_token.specs.Tokens.{IsBracketed, IsTokenOf, octets_of};
 
 use crate::source::Source;

@@ -43,4 +43,6 @@ pub record IsWhole (page : ColourData) : Type 0 where
 pub record IsPage (sign : SignData) (octets : List ℕ) (page phase : ℕ) (colours : ColourData) : Type 0 where
   pub width : colours.width ≡ sign.width
   pub height : colours.height ≡ sign.height
-  pub pixels : (column row : ℕ) → column < sign.width → row < sign.height → colour_at colours column row ≡ page_colour sign octets page phase column row
+  pub pixels :
+      (column row : ℕ) → column < sign.width → row < sign.height
+      → colour_at colours column row ≡ page_colour sign octets page phase column row

@@ -10,7 +10,8 @@ off_middle side point = (2 * point + 1 - side) + (side - (2 * point + 1))
 -- three quarters of that of the side (own)
 unfoldable pub is_in_dot : ℕ → ℕ → ℕ → Bool
 is_in_dot side line point =
-    nat_lt side 4 || nat_le (4 * (off_middle side line * off_middle side line + off_middle side point * off_middle side point)) (3 * (side * side))
+    nat_lt side 4
+    || nat_le (4 * (off_middle side line * off_middle side line + off_middle side point * off_middle side point)) (3 * (side * side))
 
 -- a point of a pixel of a colour, by its number in the palette: 0 between the dots, and in a dot the number after the colour's (own)
 abbrev pub point_of : ℕ → ℕ → ℕ → ℕ → ℕ

@@ -14,7 +14,8 @@ head_of width height = codes "P6\n" ++ decimal width ++ codes " " ++ decimal hei
 -- points by the palette (own)
 unfoldable pub scaled_ppm : ℕ → Bool → ColourData → List ℕ
 scaled_ppm side classic colours =
-    head_of (side * colours.width) (side * colours.height) ++ flat_map (shares classic) (dots side (colour_at colours) colours.width colours.height)
+    head_of (side * colours.width) (side * colours.height)
+    ++ flat_map (shares classic) (dots side (colour_at colours) colours.width colours.height)
 
 -- the same with 8 by 8 points for a pixel (own)
 abbrev pub ppm_of : Bool → ColourData → List ℕ

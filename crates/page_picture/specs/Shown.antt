@@ -26,4 +26,5 @@ colours sign text shown = values (shown_colour_at sign text shown) sign.width si
 pub record AreShown (sign : SignData) (text : List ℕ) (shown : Shown) (page : ColourData) : Type 0 where
   pub width : page.width ≡ sign.width
   pub height : page.height ≡ sign.height
-  pub pixels : (column row : ℕ) → column < sign.width → row < sign.height → colour_at page column row ≡ shown_colour_at sign text shown column row
+  pub pixels :
+      (column row : ℕ) → column < sign.width → row < sign.height → colour_at page column row ≡ shown_colour_at sign text shown column row

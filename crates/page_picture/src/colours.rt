@@ -29,8 +29,8 @@ impl Model for PageColours {
 }
 
 impl PageColours {
-    /// What is shown of a string that this sign accepts, as [`Checked::locate`] tells it of a clock: a page of the string, or an off time, in
-    /// which all pixels are black. The error says that memory was refused.
+    /// What is shown of a string that this sign accepts, as [`Checked::locate`] tells it of a clock: a page
+    /// of the string, or an off time, in which all pixels are black. The error says that memory was refused.
     pub fn of_shown(
         alloc: Global,
         sign: &Sign,

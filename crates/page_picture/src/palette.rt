@@ -43,9 +43,9 @@ pub(crate) fn shares(classic: bool, number: u8) -> &'static [u8]
     }
 }
 
-/// The palette of pictures: red, green and blue, 0 to 255 each, of 16 colours. Number 0 is dark, between the dots, and the numbers from 1 on
-/// are the colours from 0 on. With `classic` these are the ten classic colours, and else all but 0 is amber. The error says that memory was
-/// refused.
+/// The palette of pictures: red, green and blue, 0 to 255 each, of 16 colours. Number 0 is dark,
+/// between the dots, and the numbers from 1 on are the colours from 0 on. With `classic` these are
+/// the ten classic colours, and else all but 0 is amber. The error says that memory was refused.
 pub fn palette_of(alloc: Global, classic: bool) -> Result<Vec<u8>, AllocError>
     ensures shares { IfOk result (λ octets. octets.items ≡ palette classic) }
     ensures count { IfOk result (λ octets. length octets.items ≡ 48) }

@@ -56,8 +56,8 @@ fn push_row(
     Ok(())
 }
 
-/// The points of a picture of a sign, by the colours of its pixels, row by row: `side` by `side` points for each pixel, each by its number in
-/// the palette. The error says that memory was refused.
+/// The points of a picture of a sign, by the colours of its pixels, row by row: `side` by `side`
+/// points for each pixel, each by its number in the palette. The error says that memory was refused.
 pub fn dot_points(
     alloc: Global,
     colours: &[u8],

@@ -42,7 +42,9 @@ fn push_line(
     line: u8,
 ) -> Result<(), AllocError>
     requires { row < colours.now.height }
-    ensures { OnOk result (text.new.items ≡ text.old.items ++ flat_map (shares classic) (line_points side (colour_at colours.now) row line colours.now.width)) }
+    ensures { OnOk result
+        (text.new.items
+        ≡ text.old.items ++ flat_map (shares classic) (line_points side (colour_at colours.now) row line colours.now.width)) }
 {
     for column in 0..colours.width() {
         push_dot_line(text, side, classic, colours.colour(column, row), line)?;
@@ -59,7 +61,9 @@ fn push_row(
     row: u16,
 ) -> Result<(), AllocError>
     requires { row < colours.now.height }
-    ensures { OnOk result (text.new.items ≡ text.old.items ++ flat_map (shares classic) (row_points side (colour_at colours.now) colours.now.width row side)) }
+    ensures { OnOk result
+        (text.new.items
+        ≡ text.old.items ++ flat_map (shares classic) (row_points side (colour_at colours.now) colours.now.width row side)) }
 {
     for line in 0..side {
         push_line(text, side, classic, colours, row, line)?;
@@ -74,7 +78,9 @@ fn push_rows(
     classic: bool,
     colours: &PageColours,
 ) -> Result<(), AllocError>
-    ensures { OnOk result (text.new.items ≡ text.old.items ++ flat_map (shares classic) (dots side (colour_at colours.now) colours.now.width colours.now.height)) }
+    ensures { OnOk result
+        (text.new.items
+        ≡ text.old.items ++ flat_map (shares classic) (dots side (colour_at colours.now) colours.now.width colours.now.height)) }
 {
     for row in 0..colours.height() {
         push_row(text, side, classic, colours, row)?;
@@ -95,9 +101,9 @@ fn push_head(text: &mut Vec<u8>, width: u64, height: u64) -> Result<(), AllocErr
 }
 
 impl PageColours {
-    /// Appends a picture of the page as a file in PPM: `side` by `side` points for each pixel, with a dot that shines in the pixel's colour,
-    /// or is dark, and is round from 4 points on. With `classic` these are the ten classic colours, and else all but 0 is amber. The text
-    /// grows by three octets for each point, and up to 19 before them. The error says that memory was refused.
+    /// Appends a picture of the page as a file in PPM: `side` by `side` points for each pixel, with a dot that shines in the pixel's
+    /// colour, or is dark, and is round from 4 points on. With `classic` these are the ten classic colours, and else all but 0 is
+    /// amber. The text grows by three octets for each point, and up to 19 before them. The error says that memory was refused.
     #[tactic(auto, unfolding(crate::specs::Ppm::scaled_ppm))]
     pub fn push_scaled_ppm(
         &self,

@@ -5,7 +5,7 @@ ghost use Rattle.page_plane.specs.Plane.{is_lit};
 ghost use Rattle.multi_layout.specs.Limits.{plane_limit, reading_limit};
 ghost use Rattle.multi_layout.specs.Pages.{IsSized, page_count};
 ghost use Rattle.page_picture.specs.Colours.{page_colour};
-ghost use Rattle.page_picture.specs.Painted.{HaveValues, IsPainted};
+ghost use Rattle.page_picture.specs.Painted.{HaveValues, IsPainted, TakesSteps, pixel_count};
 ghost use Rattle.page_picture.specs.Shown.{IsThere, colours};
 
 use multi_layout::{Checked, Shown};
@@ -55,16 +55,16 @@ fn paint_lit(octets: &mut [u8], plane: &Plane, colour: u8)
 fn write_page(checked: &mut Checked<'_>, page: u8, phase: u64, plane: &mut Plane, octets: &mut [u8])
     requires size { IsSized plane.old checked.old.sign }
     requires page { page < page_count checked.old }
-    requires whole { checked.old.sign.width * checked.old.sign.height ≤ length octets.old }
+    requires whole { pixel_count checked.old.sign ≤ length octets.old }
     requires black { HaveValues checked.old.sign.width checked.old.sign.height (λ column row. 0) octets.old }
-    ensures colours { HaveValues checked.old.sign.width checked.old.sign.height (page_colour checked.old.sign checked.old.source.octets page phase) octets.new }
+    ensures colours { HaveValues checked.old.sign.width checked.old.sign.height
+        (page_colour checked.old.sign checked.old.source.octets page phase) octets.new }
     ensures count { length octets.new ≡ length octets.old }
-    ensures behind { drop (checked.old.sign.width * checked.old.sign.height) octets.new ≡ drop (checked.old.sign.width * checked.old.sign.height) octets.old }
+    ensures behind { drop (pixel_count checked.old.sign) octets.new ≡ drop (pixel_count checked.old.sign) octets.old }
     ensures kept { checked.new.sign ≡ checked.old.sign }
     ensures size { (plane.new.width ≡ plane.old.width) × (plane.new.height ≡ plane.old.height) }
     ensures steps { RisesBetween checked.old.source checked.new.source 0 (9 * reading_limit (length checked.old.source.octets)) }
-    ensures plane_steps { (plane.old.steps ≤ plane.new.steps)
-        × (plane.new.steps ≤ plane.old.steps + 9 * plane_limit checked.old.sign (length checked.old.source.octets)) }
+    ensures plane_steps { TakesSteps plane.old plane.new (9 * plane_limit checked.old.sign (length checked.old.source.octets)) }
 {
     for done in 0..COLOURS {
         let colour = COLOURS - done;
@@ -98,15 +98,14 @@ pub fn write_colours(
 ) -> bool
     requires size { IsSized plane.old checked.old.sign }
     requires there { IsThere checked.old.source.octets shown }
-    ensures room { result ≡ nat_le (checked.old.sign.width * checked.old.sign.height) (length octets.old) }
+    ensures room { result ≡ nat_le (pixel_count checked.old.sign) (length octets.old) }
     ensures colours { result ≡ true → octets.new ≡ colours checked.old.sign checked.old.source.octets shown
-        ++ drop (checked.old.sign.width * checked.old.sign.height) octets.old }
+        ++ drop (pixel_count checked.old.sign) octets.old }
     ensures refused { result ≡ false → (checked.new ≡ checked.old) × (plane.new ≡ plane.old) × (octets.new ≡ octets.old) }
     ensures kept { checked.new.sign ≡ checked.old.sign }
     ensures size { (plane.new.width ≡ plane.old.width) × (plane.new.height ≡ plane.old.height) }
     ensures steps { RisesBetween checked.old.source checked.new.source 0 (9 * reading_limit (length checked.old.source.octets)) }
-    ensures plane_steps { (plane.old.steps ≤ plane.new.steps)
-        × (plane.new.steps ≤ plane.old.steps + 9 * plane_limit checked.old.sign (length checked.old.source.octets)) }
+    ensures plane_steps { TakesSteps plane.old plane.new (9 * plane_limit checked.old.sign (length checked.old.source.octets)) }
 {
     let count = usize::from(plane.width()) * usize::from(plane.height());
     if octets.len() < count {

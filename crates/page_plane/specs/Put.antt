@@ -26,7 +26,8 @@ is_block_put x y width rows column row = is_first_put x y width rows (length row
 -- are as before (own)
 abbrev pub IsBlockPutAt : List ℕ → List ℕ → ℕ → ℕ → ℕ → ℕ → List ℕ → ℕ → Bool → Type 0
 IsBlockPutAt old new columns x y width rows count on = (column row : ℕ) → column < 8 * row_octets columns
-    → is_bit_set new (bit_place columns column row) ≡ (if is_first_put x y width rows count column row then on else is_bit_set old (bit_place columns column row))
+    → is_bit_set new (bit_place columns column row)
+    ≡ (if is_first_put x y width rows count column row then on else is_bit_set old (bit_place columns column row))
 
 -- the bits of this octet of each row of octets under the set pixels of the first of these rows are on, and all others are as
 -- before (own)

@@ -25,14 +25,17 @@ end_of fault = of fault.problem
     of problems.Memory = faults.Tool Memory
     of _ = faults.Font fault
 
--- the whole input is a font, and its table is written, or its beginning, if the writer fails; or it is none, or it isn't read whole, or memory
--- is refused, and nothing is written (own)
-abbrev pub WritesTable : FontSetting → Option (List ℕ) → Option (List ℕ) → Option (List ℕ) → Option (List ℕ) → Result (Unit {0}) FontFault → Type 0
+-- the whole input is a font, and its table is written, or its beginning, if the writer fails; or it
+-- is none, or it isn't read whole, or memory is refused, and nothing is written (own)
+abbrev pub WritesTable :
+    FontSetting → Option (List ℕ) → Option (List ℕ) → Option (List ℕ) → Option (List ℕ) → Result (Unit {0}) FontFault → Type 0
 WritesTable setting input input' output output' (Ok done) = (octets table : List ℕ)
-    × Consumes input input' octets × IsAtEnd input' × (length octets ≤ input_limit) × IsFontTable setting octets table × Appends output output' table
+    × Consumes input input' octets × IsAtEnd input' × (length octets ≤ input_limit) × IsFontTable setting octets table
+    × Appends output output' table
 WritesTable setting input input' output output' (Err (faults.Font fault)) = (octets : List ℕ)
     × Consumes input input' octets × IsAtEnd input' × IsNoFont setting octets fault.problem × Appends output output' []
 WritesTable setting input input' output output' (Err (faults.Tool fault)) =
     (Appends output output' [] × IsReadFault input input' fault)
-    ⊎ ((fault ≡ Write) × ((octets sent unsent : List ℕ) × Consumes input input' octets × IsAtEnd input' × IsFontTable setting octets (sent ++ unsent)
+    ⊎ ((fault ≡ Write)
+    × ((octets sent unsent : List ℕ) × Consumes input input' octets × IsAtEnd input' × IsFontTable setting octets (sent ++ unsent)
     × Appends output output' sent))

@@ -54,18 +54,22 @@ IsFaultOf side sign octets view (faults.Refused code at) = verdict sign octets �
 IsFaultOf side sign octets view faults.TooLong = 4096 < length octets
 IsFaultOf side sign octets view faults.NoMessage = ⊥
 IsFaultOf side sign octets view (faults.SecondMessage line) = ⊥
-IsFaultOf side sign octets view fault = (pages : ℕ) × (verdict sign octets ≡ Accepted pages) × ((why : DrawFault) × (fault ≡ picture_fault why) × drawing.IsUndrawn side sign octets view why)
+IsFaultOf side sign octets view fault =
+    (pages : ℕ) × (verdict sign octets ≡ Accepted pages)
+    × ((why : DrawFault) × (fault ≡ picture_fault why) × drawing.IsUndrawn side sign octets view why)
 
 -- what stands behind the sign isn't one message: it is nothing, or a second line begins, or a line has a fault (own)
 abbrev pub IsNoMessage : LineStart → Option (List ℕ) → Option (List ℕ) → PictureFault → Type 0
 IsNoMessage place input input' faults.NoMessage = Consumes input input' [] × IsAtEnd input'
 IsNoMessage place input input' (faults.SecondMessage line) =
     (line ≡ place.number + 1) × ((first more : List ℕ) × Consumes input input' (first ++ 10 ∷ more) × IsOneLine first × (0 < length more))
-IsNoMessage place input input' (faults.Tool e) = (lines : List (List ℕ)) × (more : List ℕ) × (left : ℕ) × Consumes input input' (octets_of lines ++ more)
+IsNoMessage place input input' (faults.Tool e) =
+    (lines : List (List ℕ)) × (more : List ℕ) × (left : ℕ) × Consumes input input' (octets_of lines ++ more)
     × (length (octets_of lines) + left ≡ place.left) × IsLineFault (place.number + length lines) left more input' e
 IsNoMessage place input input' fault = ⊥
 
--- why nothing is drawn: there is no sign, for the same reason as in the other modes, or behind it isn't one message, or that isn't drawn (own)
+-- why nothing is drawn: there is no sign, for the same reason as in the other modes, or behind it
+-- isn't one message, or that isn't drawn (own)
 abbrev pub IsUndrawn : Bool → ℕ → View → Option (List ℕ) → Option (List ℕ) → PictureFault → Type 0
 IsUndrawn sample side view input input' fault =
     ((e : ToolFault) × (fault ≡ faults.Tool e) × Fails sample input input' e)
@@ -78,9 +82,13 @@ abbrev pub IsPicture : Bool → ℕ → View → Option (List ℕ) → Option (L
 IsPicture sample side view input input' file = (setup : Setup) × (line : List ℕ) × HasMessage sample input input' setup line
     × DrawsMessage side setup.sign (text_of line) view file
 
--- the file of the one message of an input is written, or its beginning, if the writer fails; or there is a fault, and nothing is written (own)
-abbrev pub DrawsInput : Bool → ℕ → View → Option (List ℕ) → Option (List ℕ) → Option (List ℕ) → Option (List ℕ) → Result (Unit {0}) PictureFault → Type 0
-DrawsInput sample side view input input' output output' (Ok done) = (file : List ℕ) × IsPicture sample side view input input' file × Appends output output' file
+-- the file of the one message of an input is written, or its beginning, if the writer fails; or
+-- there is a fault, and nothing is written (own)
+abbrev pub DrawsInput :
+    Bool → ℕ → View → Option (List ℕ) → Option (List ℕ) → Option (List ℕ) → Option (List ℕ) → Result (Unit {0}) PictureFault → Type 0
+DrawsInput sample side view input input' output output' (Ok done) =
+    (file : List ℕ) × IsPicture sample side view input input' file × Appends output output' file
 DrawsInput sample side view input input' output output' (Err e) =
     (Appends output output' [] × IsUndrawn sample side view input input' e)
-    ⊎ ((e ≡ faults.Tool Write) × ((sent unsent : List ℕ) × IsPicture sample side view input input' (sent ++ unsent) × Appends output output' sent))
+    ⊎ ((e ≡ faults.Tool Write)
+    × ((sent unsent : List ℕ) × IsPicture sample side view input input' (sent ++ unsent) × Appends output output' sent))

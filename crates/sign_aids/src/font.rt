@@ -38,7 +38,8 @@ pub fn run_font<R: Read, W: Write>(
     reader: &mut R,
     writer: &mut W,
 ) -> Result<(), FontFault>
-    ensures written { WritesTable setting.now (R.remaining reader.old) (R.remaining reader.new) (W.contents writer.old) (W.contents writer.new) result }
+    ensures written { WritesTable setting.now
+        (R.remaining reader.old) (R.remaining reader.new) (W.contents writer.old) (W.contents writer.new) result }
 {
     let octets = match read_whole(alloc, reader) {
         Ok(octets) => octets,

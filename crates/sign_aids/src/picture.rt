@@ -37,7 +37,8 @@ pub enum PictureFault {
     NoPage { pages: u8 },
     /// The message begins anew after so many tenths of a second, and a film lasts for at most 6,000. `u32::MAX` stands for that long or
     /// longer.
-    #[error("too long: the message begins anew after {tenths} tenths of a second, and a film lasts for at most 6000; --seconds N takes the first N")]
+    #[error("too long: the message begins anew after {tenths} tenths of a second, and a film lasts for at most 6000; \
+        --seconds N takes the first N")]
     LongFilm { tenths: u32 },
     /// A film of so many tenths of a second may have more than 64,000,000 octets.
     #[error("too large: a film of {tenths} tenths of a second has more than 64 MB; --seconds N takes the first N")]
@@ -125,8 +126,8 @@ fn picture_of(
     }
 }
 
-/// Reads an input to its end, and draws its one message: the octets of a file in PPM or GIF, with `side` by `side` points for each pixel, 1 to
-/// 16. The input is that of `check`, with one message.
+/// Reads an input to its end, and draws its one message: the octets of a file in PPM or GIF, with
+/// `side` by `side` points for each pixel, 1 to 16. The input is that of `check`, with one message.
 pub fn draw_picture<R: Read>(
     alloc: Global,
     sample: bool,
@@ -166,7 +167,8 @@ pub fn run_picture<R: Read, W: Write>(
 ) -> Result<(), PictureFault>
     requires side { side ≤ 16 }
     requires seconds { AllowsSeconds view }
-    ensures drawn { DrawsInput sample side view (R.remaining reader.old) (R.remaining reader.new) (W.contents writer.old) (W.contents writer.new) result }
+    ensures drawn { DrawsInput sample side view
+        (R.remaining reader.old) (R.remaining reader.new) (W.contents writer.old) (W.contents writer.new) result }
 {
     let file = match draw_picture(alloc, sample, view, side, reader) {
         Ok(file) => file,

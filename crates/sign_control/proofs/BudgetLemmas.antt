@@ -20,7 +20,8 @@ use Rattle.sign_control.specs.declared.code.ActivateError.{ActivateError}
 use Rattle.sign_control.specs.declared.code.ActivationCode.{ActivationCode}
 use Rattle.sign_control.specs.declared.command.Command.{Command}
 use Rattle.sign_control.specs.declared.command.Command.TheVariants as command
-use Rattle.sign_control.specs.Activation.{CandidateData, is_accepted, named, verdict_of}
+use Rattle.message_store.specs.Judged.{is_accepted}
+use Rattle.sign_control.specs.Activation.{CandidateData, named, verdict_of}
 use Rattle.sign_control.specs.Code.{activation_code}
 use Rattle.sign_control.specs.Run.{EveryRunStaysWithin, run}
 use Rattle.sign_control.specs.State.{StateData, Stepped}

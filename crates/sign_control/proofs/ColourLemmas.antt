@@ -8,7 +8,7 @@ use Rattle.multi_token.specs.Spelling.{Item, Char, Tag}
 use Rattle.multi_tag.specs.declared.name.Name.{Name}
 use Rattle.multi_tag.specs.declared.name.Name.TheVariants as names
 use Rattle.multi_tag.specs.declared.tag.Tag as tags
-use Rattle.multi_tag.specs.declared.tag.Tag.TheVariants.{NewPage, NewLine, LineJust, PageJust, Font, CharSpacing, CharSpacingEnd, PageTime, Flash, FlashEnd, Fore, Back, Rect, HexChar}
+use Rattle.multi_tag.specs.declared.tag.Tag.TheVariants.{NewPage, Fore, Back}
 use Rattle.multi_tag.specs.declared.tag.TagFault.{TagFault}
 use Rattle.multi_tag.specs.declared.tag.TagFault.TheVariants.{Unsupported, Value}
 use Rattle.multi_tag.specs.Body.{table, Spells, SpellsSmall}
@@ -19,7 +19,7 @@ use Rattle.sign_font.specs.Sign.{CellData, SignData, cell_numbered}
 use Rattle.multi_layout.specs.Address.{Break, Cover, Glyph, Put, Spot, Standing, is_break, put_at, spot_at, spots, standing}
 use Rattle.multi_layout.specs.Attributes.{given_back, given_fore, in_force}
 use Rattle.multi_layout.specs.LaidItems.{laid_item, laid_of, laid_out}
-use Rattle.multi_layout.specs.Meaning.{Meaning, Shows, Does, Faulty, meaning, meaning_of_tag, meanings, said_by}
+use Rattle.multi_layout.specs.Meaning.{Meaning, Shows, Does, meaning, meaning_of_tag, meanings, said_by}
 use Rattle.multi_layout.specs.Picture.{Thing, colour_of, shown_colour, thing_at, things, things_among}
 use Rattle.multi_layout.specs.Place.{place_of}
 use Rattle.multi_layout.specs.Words.{each_after, some_after}

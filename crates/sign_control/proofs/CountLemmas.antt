@@ -6,7 +6,6 @@ use Rattle.step_count.specs.Count.{raised}
 use Rattle.step_count.proofs.CountLemmas.{raised-zero}
 use Rattle.sign_font.specs.Defaults.{under}
 use Rattle.sign_font.specs.Sign.{SignData}
-use Rattle.multi_layout.specs.Limits.{check_limit}
 use Rattle.multi_layout.specs.Verdict.{Verdict, Accepted, Refused, verdict}
 use Rattle.message_store.specs.Slot.{SlotData, StoreData, slot_at}
 use Rattle.message_store.specs.Work.{IsCounted, JudgedData, JudgementData, judgement, of_verdict, told, worked_at}
@@ -16,15 +15,11 @@ use Rattle.sign_control.specs.declared.code.ActivationCode.{ActivationCode}
 use Rattle.sign_control.specs.declared.command.Command.{Command}
 use Rattle.sign_control.specs.declared.command.Reply.{Reply}
 use Rattle.sign_control.specs.Activation.{CandidateData, text_of}
-use Rattle.sign_control.specs.Counts.{IsAdded, IsCountOf, IsJudgedIn, JudgedText, activated_text, candidate_text, least_steps, slot_text, text_judged, waiting_text}
+use Rattle.message_store.proofs.WorkLemmas.{judged_in}
+use Rattle.sign_control.specs.Counts.{IsAdded, IsCountOf, IsJudgedIn, JudgedText, activated_text, candidate_text, slot_text, text_judged, waiting_text}
 use Rattle.sign_control.specs.Run.{AreCountsOf, run, run_limit, text_limit}
 use Rattle.sign_control.specs.State.{StateData}
 use Rattle.sign_control.specs.Step.{step}
-
--- a judgement took as many steps as its verdict says
-pub judged-in : (sign : SignData) (text : List ℕ) (v : Verdict) (steps : ℕ) → v ≡ verdict sign text → least_steps (length text) v ≤ steps → steps ≤ check_limit (length text)
-    → IsJudgedIn (record { sign = sign; text = text }) steps
-judged-in sign text v steps is least most = (subst (λ (w : Verdict). least_steps (length text) w ≤ steps) is least, most)
 
 -- steps that were added
 pub added : (judged : Option JudgedText) (steps old new : ℕ) → IsAdded judged steps → new ≡ raised old steps → IsCountOf judged old new
@@ -45,8 +40,8 @@ activated-count sign state code message found text steps old new is low text-is 
 
 in-verdict : (sign : SignData) (text : List ℕ) (v : Verdict) (steps : ℕ) → v ≡ verdict sign text → IsCounted (length text) (validate_code (of_verdict v).error) (of_verdict v).syntax steps
     → IsJudgedIn (record { sign = sign; text = text }) steps
-in-verdict sign text (Accepted pages) steps is counted = judged-in sign text (Accepted pages) steps is counted.0 counted.1
-in-verdict sign text (Refused code at) steps is counted = judged-in sign text (Refused code at) steps is counted.0 counted.1
+in-verdict sign text (Accepted pages) steps is counted = judged_in sign text (Accepted pages) steps is counted.0 counted.1
+in-verdict sign text (Refused code at) steps is counted = judged_in sign text (Refused code at) steps is counted.0 counted.1
 
 counted-if : (sign : SignData) (text : List ℕ) (one other : Bool) (a b : JudgementData) (steps : ℕ)
     → a.syntax ≡ None → b.syntax ≡ None

@@ -9,18 +9,11 @@ use Rattle.multi_layout.specs.declared.times.Shown.TheVariants.{Page, Off}
 use Rattle.multi_layout.specs.LaidItems.{laid_out}
 use Rattle.multi_layout.specs.Meaning.{meanings}
 use Rattle.multi_layout.specs.Picture.{colour_of, in_plane, pixel_at, shown_colour, things}
-use Rattle.multi_layout.specs.Times.{shown}
 use Rattle.multi_layout.specs.Verdict.{Accepted, IsVerdict, Refused, broken, of_first, offences, pages_of, verdict, verdict_on}
-use Rattle.multi_layout.proofs.TimesLemmas.{page_below}
 use Rattle.multi_layout.proofs.VerdictLemmas.{one_verdict}
 use Rattle.sign_control.specs.Headline.{IsOnly}
-use Rattle.sign_control.specs.State.{IsThere, IsAccepted}
+use Rattle.sign_control.specs.State.{IsAccepted}
 use Rattle.sign_control.proofs.ColourLemmas.{colour_most, laid_out_coloured}
-
--- a page that is shown is one of the text's
-pub there : (sign : SignData) (octets : List ℕ) (clock : ℕ) (s : Shown) → s ≡ shown sign octets clock → IsThere s (pages_of (meanings octets))
-there sign octets clock (Page page phase) is = page_below sign octets clock page phase (sym is)
-there sign octets clock Off is = tt
 
 -- an accepted text isn't refused
 pub not_refused : (sign : SignData) (text octets : List ℕ) (code at : ℕ) → IsAccepted sign text → octets ≡ text → IsVerdict sign octets (Refused code at) → ⊥

@@ -21,7 +21,8 @@ use Rattle.sign_control.specs.declared.command.Command.{Command}
 use Rattle.sign_control.specs.declared.command.Command.TheVariants as command
 use Rattle.sign_control.specs.declared.display.Display.{Display}
 use Rattle.sign_control.specs.declared.display.Registers.{Registers}
-use Rattle.sign_control.specs.Activation.{CandidateData, blank_one, current, fitting, found, is_accepted, is_crc, named, of_row, or_blank, text_of, verdict_of}
+use Rattle.message_store.specs.Judged.{is_accepted}
+use Rattle.sign_control.specs.Activation.{CandidateData, blank_one, current, fitting, found, is_crc, named, of_row, or_blank, text_of, verdict_of}
 use Rattle.sign_control.specs.Code.{activation_code, id_code}
 use Rattle.sign_control.specs.Counts.{IsCountOf, JudgedText, activated_text, candidate_text, end_text, slot_text, text_judged, ticked_text, waiting_text}
 use Rattle.sign_control.specs.Headline.{Headline, after, shown_by, shown_now}
@@ -29,9 +30,10 @@ use Rattle.sign_control.specs.Run.{AreCountsOf, IsWithin, run, text_limit}
 use Rattle.sign_control.specs.State.{IsAccepted, IsOneOf, StateData, Stepped, started}
 use Rattle.sign_control.specs.Step.{activated, defaults_step, judged_activation, judged_step, step, store_step, with_default}
 use Rattle.sign_control.specs.Time.{end_step, passed, ticked}
+use Rattle.page_picture.proofs.ShownLemmas.{there_at}
 use Rattle.sign_control.proofs.BudgetLemmas.{every_run_stays_within}
 use Rattle.sign_control.proofs.CountLemmas.{count-le}
-use Rattle.sign_control.proofs.FrameLemmas.{accepted-pages, one-colour, there}
+use Rattle.sign_control.proofs.FrameLemmas.{accepted-pages, one-colour}
 use Rattle.message_store.proofs.ShortLemmas.{HasShort, HasShortIn, IsShortRow, row-short, short-beacon, short-cleared, short-multi, short-owner, short-pixel, short-priority, short-requested, short-worked, slot-short}
 use Rattle.sign_control.proofs.StepLemmas.{accepted-is, accepted-or-blank, none-accepted, one-taken}
 
@@ -314,6 +316,6 @@ headline sign store commands sound taken kept =
       steps = λ old new counts. steps-run sign first commands old new steady counts;
       short = is.showing.short;
       accepted = accepted-pages (shown_by sign last) last.text is.showing.accepted;
-      there = there (shown_by sign last) last.text last.display.clock (shown_now sign last) refl;
+      there = there_at (shown_by sign last) last.text last.display.clock (shown_now sign last) refl;
       coloured = λ column row. one-colour (shown_by sign last) last.text (shown_now sign last) column row (sound_under sign last.display.defaults sound is.showing.shown_taken);
     }

@@ -1,9 +1,12 @@
 -- The state at making, and what commands make of it that no worked script gives, computed.
-use Rattle.std.proofs.Common.{◌≡◌, ◌<◌, ℕ, [], ◌∷◌, map, codes, refl, None}
+use Rattle.std.proofs.Common.{◌≡◌, ◌<◌, ℕ, List, [], ◌∷◌, map, codes, refl, None}
 use Rattle.sign_font.specs.declared.fault.DefaultFault.TheVariants.{Value, FontUnknown}
 use Rattle.sign_font.specs.declared.parts.Defaults.{Defaults}
 use Rattle.sign_font.specs.Sample.{sample}
 use Rattle.multi_layout.specs.declared.times.Shown.TheVariants as shown
+use Rattle.multi_layout.specs.Meaning.{meanings}
+use Rattle.multi_layout.specs.Verdict.{pages_of}
+use Rattle.page_picture.specs.Shown.{IsThere}
 use Rattle.message_store.specs.declared.fault.StoreFault.TheVariants as fault
 use Rattle.message_store.specs.declared.message.MsgRef.{MsgRef}
 use Rattle.message_store.specs.declared.slot.Status.TheVariants.{Modifying}
@@ -14,7 +17,7 @@ use Rattle.sign_control.specs.declared.command.Command.TheVariants.{SetBeacon, S
 use Rattle.sign_control.specs.declared.command.DefaultField.{DefaultField}
 use Rattle.sign_control.specs.declared.command.DefaultField.TheVariants.{Font, Line, Page, PageOn, PageOff, FlashOn, FlashOff, Fore, Back}
 use Rattle.sign_control.specs.declared.command.Reply.TheVariants.{Done, Refused, NotSet}
-use Rattle.sign_control.specs.State.{IsThere, StateData, no_errors, started}
+use Rattle.sign_control.specs.State.{StateData, no_errors, started}
 use Rattle.sign_control.specs.Step.{step, with_default}
 
 abbrev with_slot : SlotData → StoreData
@@ -52,8 +55,8 @@ no_text_is_shown = refl
 blank_1_follows_a_duration : state.end ≡ record { message = record { memory = 7; number = 1 }; crc = 0 }
 blank_1_follows_a_duration = refl
 
-the_second_page_needs_two : (count : ℕ) → IsThere (shown.Page 1 5) count → 1 < count
-the_second_page_needs_two count there = there
+the_second_page_needs_two : (text : List ℕ) → IsThere text (shown.Page 1 5) → 1 < pages_of (meanings text)
+the_second_page_needs_two text there = there
 
 -- ---- commands
 

@@ -9,8 +9,7 @@ use Rattle.sign_font.specs.Sound.{IsSound}
 use Rattle.page_plane.specs.Plane.{BitPlane}
 use Rattle.multi_token.specs.Reading.{reading, read_items}
 use Rattle.multi_layout.specs.Pages.{IsSized}
-use Rattle.multi_layout.specs.Verdict.{Verdict, Accepted, Refused, IsVerdict, verdict, verdict_on}
-use Rattle.multi_layout.proofs.VerdictLemmas.{one_verdict}
+use Rattle.multi_layout.specs.Verdict.{Verdict, Accepted, Refused, verdict, verdict_on}
 use Rattle.message_store.specs.declared.fault.StoreFault.{StoreFault}
 use Rattle.message_store.specs.declared.limits.StoreLimits.{StoreLimits}
 use Rattle.message_store.specs.Slot.{StoreData}
@@ -23,7 +22,8 @@ use Rattle.sign_control.specs.declared.display.Registers.{Registers}
 use Rattle.sign_control.specs.declared.command.Reply.TheVariants as reply
 use Rattle.sign_control.specs.declared.display.Display.{Display}
 use Rattle.sign_control.specs.declared.display.Showing.{Showing}
-use Rattle.sign_control.specs.Activation.{CandidateData, blank_one, displayed, error_of, is_accepted, or_blank, position_of, remaining_of, text_of, verdict_of}
+use Rattle.message_store.specs.Judged.{error_of, is_accepted, position_of}
+use Rattle.sign_control.specs.Activation.{CandidateData, blank_one, displayed, or_blank, remaining_of, text_of, verdict_of}
 use Rattle.sign_control.specs.State.{StateData, Stepped, IsAccepted, IsOneOf, IsReady, start}
 use Rattle.sign_control.specs.Step.{activated, activated_registers, judged_activation, not_shown, reply_of, store_step}
 use Rattle.sign_control.specs.Time.{passed}
@@ -34,10 +34,6 @@ use Rattle.sign_control.specs.Time.{passed}
 pub none-accepted : (sign : SignData) → IsAccepted sign []
 unfolding verdict verdict_on reading read_items
 none-accepted sign = (1, refl)
-
--- the verdict that a judgement answers
-pub verdict-is : (sign : SignData) (text octets : List ℕ) (v : Verdict) → octets ≡ text → IsVerdict sign octets v → v ≡ verdict sign text
-verdict-is sign text octets v same is = (one_verdict sign octets v).0 is ∙ ap (λ (l : List ℕ). verdict sign l) same
 
 -- a string that is accepted has pages
 pub accepted-is : (v : Verdict) → is_accepted v ≡ true → (pages : ℕ) × (v ≡ Accepted pages)

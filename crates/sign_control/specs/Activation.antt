@@ -1,13 +1,14 @@
 -- The message that is to be shown, and what keeps it from being shown (NTCIP 1203 v03, dmsActivateMessage).
-use Rattle.std.specs.Prelude.{ℕ, ◌+◌, ◌*◌, ◌/◌, ◌%◌, Bool, true, false, ◌||◌, ◌==◌, if◌then◌else◌, List, [], Option, Some, None, Result, Ok, Err}
+use Rattle.std.specs.Prelude.{ℕ, ◌+◌, ◌*◌, ◌/◌, ◌%◌, Bool, ◌||◌, ◌==◌, if◌then◌else◌, List, [], Option, Some, None, Result, Ok, Err}
 use Rattle.std.specs.Option.{unwrap_or, option_copied}
 use Rattle.sign_font.specs.declared.parts.Defaults.{Defaults}
 use Rattle.sign_font.specs.Defaults.{under}
 use Rattle.sign_font.specs.Sign.{SignData}
-use Rattle.multi_layout.specs.Verdict.{Verdict, Accepted, Refused, verdict}
+use Rattle.multi_layout.specs.Verdict.{Verdict, verdict}
 use Rattle.message_store.specs.declared.fault.StoreFault.{StoreFault}
 use Rattle.message_store.specs.declared.fault.StoreFault.TheVariants as fault
 use Rattle.message_store.specs.declared.message.MsgRef.{MsgRef}
+use Rattle.message_store.specs.Judged.{is_accepted}
 use Rattle.message_store.specs.Row.{RowData, row_at}
 use Rattle.message_store.specs.Slot.{StoreData}
 use Rattle.sign_control.specs.declared.activation.Candidate.{Candidate}
@@ -42,16 +43,46 @@ missing fault.NoSpace = error.MessageNumber
 -- a message of the store, judged by the present defaults (own)
 abbrev pub of_row : Defaults → MsgRef → Result RowData StoreFault → Result CandidateData ActivateError
 of_row defaults message (Err fault) = Err (missing fault)
-of_row defaults message (Ok row) = Ok (record { source = message; text = Some row.multi; priority = row.priority; beacon = row.beacon; pixel = row.pixel; crc = row.crc; status = row.status; defaults = defaults })
+of_row defaults message (Ok row) =
+    Ok (record {
+      source = message;
+      text = Some row.multi;
+      priority = row.priority;
+      beacon = row.beacon;
+      pixel = row.pixel;
+      crc = row.crc;
+      status = row.status;
+      defaults = defaults;
+    })
 
 -- the currentBuffer is what is shown now, judged by the defaults with which it is shown; it is valid
 -- (NTCIP 1203 v03, dmsMessageMemoryType)
 abbrev pub current : Display → CandidateData
-current display = record { source = display.source; text = None; priority = display.priority; beacon = display.beacon; pixel = display.pixel; crc = display.crc; status = 4; defaults = display.defaults }
+current display =
+    record {
+      source = display.source;
+      text = None;
+      priority = display.priority;
+      beacon = display.beacon;
+      pixel = display.pixel;
+      crc = display.crc;
+      status = 4;
+      defaults = display.defaults;
+    }
 
 -- blank 1, by these defaults (NTCIP 1203 v03, dmsMessageMemoryType)
 abbrev pub blank_one : Defaults → CandidateData
-blank_one defaults = record { source = record { memory = 7; number = 1 }; text = Some []; priority = 1; beacon = 0; pixel = 0; crc = 0; status = 4; defaults = defaults }
+blank_one defaults =
+    record {
+      source = record { memory = 7; number = 1 };
+      text = Some [];
+      priority = 1;
+      beacon = 0;
+      pixel = 0;
+      crc = 0;
+      status = 4;
+      defaults = defaults;
+    }
 
 -- the message of a memory type and a number, or messageMemoryType or messageNumber (NTCIP 1203 v03, dmsActivateMsgError)
 abbrev pub found : StoreData → Display → Defaults → MsgRef → Result CandidateData ActivateError
@@ -88,21 +119,6 @@ text_of shown message = unwrap_or message.text shown
 abbrev pub verdict_of : SignData → List ℕ → CandidateData → Verdict
 verdict_of sign shown message = verdict (under sign message.defaults) (text_of shown message)
 
--- the string is accepted (own)
-abbrev pub is_accepted : Verdict → Bool
-is_accepted (Accepted pages) = true
-is_accepted (Refused code at) = false
-
--- the MULTI error, 2 where there is none (NTCIP 1203 v03, dmsMultiSyntaxError)
-abbrev pub error_of : Verdict → ℕ
-error_of (Accepted pages) = 2
-error_of (Refused code at) = code
-
--- the position of the MULTI error, 0 where there is none (NTCIP 1203 v03, dmsMultiSyntaxErrorPosition)
-abbrev pub position_of : Verdict → ℕ
-position_of (Accepted pages) = 0
-position_of (Refused code at) = at
-
 -- the duration in tenths of a second; 65535 is without end (NTCIP 1203 v03, MessageActivationCode)
 abbrev pub remaining_of : ℕ → Option ℕ
 remaining_of minutes = if minutes == 65535 then None else Some (minutes * 600)
@@ -129,7 +145,17 @@ or_blank sign shown defaults (Ok message) = if is_accepted (verdict_of sign show
 
 -- the candidate of the code as data (own)
 abbrev pub candidate_of : Candidate → CandidateData
-candidate_of message = record { source = message.source; text = option_copied message.text; priority = message.priority; beacon = message.beacon; pixel = message.pixel; crc = message.crc; status = message.status; defaults = message.defaults }
+candidate_of message =
+    record {
+      source = message.source;
+      text = option_copied message.text;
+      priority = message.priority;
+      beacon = message.beacon;
+      pixel = message.pixel;
+      crc = message.crc;
+      status = message.status;
+      defaults = message.defaults;
+    }
 
 -- the answer of the code as data (own)
 abbrev pub candidate_result : Result Candidate ActivateError → Result CandidateData ActivateError

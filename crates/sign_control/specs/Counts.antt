@@ -1,10 +1,10 @@
 -- The steps that commands add to the count.
-use Rattle.std.specs.Prelude.{◌≡◌, ◌≤◌, ℕ, ◌+◌, not, ◌&&◌, ◌==◌, nat_lt, nat_le, if◌then◌else◌, List, length, Option, Some, None, Result, Ok, Err}
+use Rattle.std.specs.Prelude.{◌≡◌, ℕ, not, ◌&&◌, ◌==◌, nat_lt, nat_le, if◌then◌else◌, List, length, Option, Some, None, Result, Ok, Err}
 use Rattle.step_count.specs.Count.{raised}
 use Rattle.sign_font.specs.Defaults.{under}
 use Rattle.sign_font.specs.Sign.{SignData}
-use Rattle.multi_layout.specs.Limits.{check_limit}
-use Rattle.multi_layout.specs.Verdict.{Verdict, Accepted, Refused, verdict}
+use Rattle.multi_layout.specs.Verdict.{verdict}
+use Rattle.message_store.specs.Judged.{AreStepsOf}
 use Rattle.message_store.specs.Slot.{SlotData, StoreData, slot_at}
 use Rattle.message_store.specs.Work.{waiting}
 use Rattle.sign_control.specs.declared.code.ActivateError.{ActivateError}
@@ -74,16 +74,9 @@ text_judged sign state (command.SetEnd octets) = None
 text_judged sign state (command.Tick tenths) = ticked_text sign state tenths state.display.remaining
 text_judged sign state (command.SetDefault field value) = None
 
--- the least steps of a judgement of n octets: n + 1 of a text that is accepted, and else one more than the offset of its
--- error (own)
-abbrev pub least_steps : ℕ → Verdict → ℕ
-least_steps n (Accepted pages) = n + 1
-least_steps n (Refused code at) = at + 1
-
 -- the text was judged in this many steps (own)
 abbrev pub IsJudgedIn : JudgedText → ℕ → Type 0
-IsJudgedIn judged steps =
-    (least_steps (length judged.text) (verdict judged.sign judged.text) ≤ steps) × (steps ≤ check_limit (length judged.text))
+IsJudgedIn judged steps = AreStepsOf (length judged.text) (verdict judged.sign judged.text) steps
 
 -- the steps of judging a text, if one was judged; without one there are none (own)
 abbrev pub IsAdded : Option JudgedText → ℕ → Type 0

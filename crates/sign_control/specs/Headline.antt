@@ -9,12 +9,13 @@ use Rattle.multi_layout.specs.Meaning.{meanings}
 use Rattle.multi_layout.specs.Picture.{pixel_at}
 use Rattle.multi_layout.specs.Times.{shown}
 use Rattle.multi_layout.specs.Verdict.{Accepted, pages_of, verdict}
+use Rattle.page_picture.specs.Shown.{IsThere}
 use Rattle.message_store.specs.Limits.{IsKept}
 use Rattle.message_store.specs.Slot.{StoreData}
 use Rattle.sign_control.specs.declared.command.Command.{Command}
 use Rattle.sign_control.specs.Counts.{IsCountOf, text_judged}
 use Rattle.sign_control.specs.Run.{AreCountsOf, IsWithin, run}
-use Rattle.sign_control.specs.State.{IsThere, StateData, started}
+use Rattle.sign_control.specs.State.{StateData, started}
 
 -- the sign with the defaults of what it shows (own)
 abbrev pub shown_by : SignData → StateData → SignData
@@ -41,19 +42,28 @@ pub record Holds (sign : SignData) (store : StoreData) (commands : List Command)
   -- the used bytes and slots are within the store's limits
   pub within : IsWithin store.limits (after sign store commands).store
   -- whatever is asked next takes at most the check limit of the longest text
-  pub next : (command : Command) (old new : ℕ) → IsCountOf (text_judged sign (after sign store commands) command) old new → (old ≤ new) × (new ≤ old + check_limit 4096)
+  pub next :
+      (command : Command) (old new : ℕ) → IsCountOf (text_judged sign (after sign store commands) command) old new
+      → (old ≤ new) × (new ≤ old + check_limit 4096)
   -- so all commands together took at most that for each
-  pub steps : (old new : ℕ) → AreCountsOf sign (started sign.defaults store) commands old new → (old ≤ new) × (new ≤ old + check_limit 4096 * length commands)
+  pub steps :
+      (old new : ℕ) → AreCountsOf sign (started sign.defaults store) commands old new
+      → (old ≤ new) × (new ≤ old + check_limit 4096 * length commands)
   -- the text that is shown has at most 4,096 octets
   pub short : length (after sign store commands).text ≤ 4096
   -- and is accepted
-  pub accepted : let state = after sign store commands in verdict (shown_by sign state) state.text ≡ Accepted (pages_of (meanings state.text))
+  pub accepted :
+      let state = after sign store commands in
+      verdict (shown_by sign state) state.text ≡ Accepted (pages_of (meanings state.text))
   -- a frame shows a page of that text, or an off time
-  pub there : let state = after sign store commands in IsThere (shown_now sign state) (pages_of (meanings state.text))
+  pub there : let state = after sign store commands in IsThere state.text (shown_now sign state)
   -- each pixel of a frame has one colour, of 0 to 9
-  pub coloured : (column row : ℕ) → (colour : ℕ) × (colour ≤ 9) × IsOnly colour (λ other. pixel_now sign (after sign store commands) other column row)
+  pub coloured :
+      (column row : ℕ) → (colour : ℕ) × (colour ≤ 9) × IsOnly colour (λ other. pixel_now sign (after sign store commands) other column row)
 
 -- a law: it holds after every list of commands of every sign within its limits, which takes its own defaults, and of every store
 -- within its own (own)
 abbrev pub Headline : Type 0
-Headline = (sign : SignData) (store : StoreData) (commands : List Command) → IsSound sign → default_fault sign sign.defaults ≡ None → IsKept store → Holds sign store commands
+Headline =
+    (sign : SignData) (store : StoreData) (commands : List Command) → IsSound sign → default_fault sign sign.defaults ≡ None → IsKept store
+    → Holds sign store commands

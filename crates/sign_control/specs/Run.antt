@@ -32,7 +32,8 @@ text_limit (Some judged) = check_limit (length judged.text)
 -- the most steps that commands add: the check limits of the texts that they judge (own)
 abbrev pub run_limit : SignData → StateData → List Command → ℕ
 run_limit sign state [] = 0
-run_limit sign state (command ∷ commands) = text_limit (text_judged sign state command) + run_limit sign (step sign state command).state commands
+run_limit sign state (command ∷ commands) =
+    text_limit (text_judged sign state command) + run_limit sign (step sign state command).state commands
 
 -- the count before and after commands: each that judges a text adds the steps of this, and any other adds none (own)
 abbrev pub AreCountsOf : SignData → StateData → List Command → ℕ → ℕ → Type 0

@@ -1,12 +1,10 @@
 -- What a controller is seen as, at making and ever after.
-use Rattle.std.specs.Prelude.{◌≡◌, ◌⊎◌, ◌≤◌, ◌<◌, ◌*◌, ℕ, List, [], length, None, IfSome}
+use Rattle.std.specs.Prelude.{◌≡◌, ◌⊎◌, ◌≤◌, ◌*◌, ℕ, List, [], length, None, IfSome}
 use Rattle.sign_font.specs.declared.parts.Defaults.{Defaults}
 use Rattle.sign_font.specs.Defaults.{default_fault, under}
 use Rattle.sign_font.specs.Sign.{SignData}
 use Rattle.sign_font.specs.Sound.{IsSound}
 use Rattle.page_plane.specs.Plane.{BitPlane}
-use Rattle.multi_layout.specs.declared.times.Shown.{Shown}
-use Rattle.multi_layout.specs.declared.times.Shown.TheVariants.{Page, Off}
 use Rattle.multi_layout.specs.Pages.{IsSized}
 use Rattle.multi_layout.specs.Verdict.{Accepted, verdict}
 use Rattle.message_store.specs.Slot.{StoreData}
@@ -67,14 +65,10 @@ IsAccepted sign text = (pages : ℕ) × (verdict sign text ≡ Accepted pages)
 abbrev pub IsOneOf : Defaults → Defaults → Defaults → Type 0
 IsOneOf defaults one other = (defaults ≡ one) ⊎ (defaults ≡ other)
 
--- a page that is shown is one of these (own)
-abbrev pub IsThere : Shown → ℕ → Type 0
-IsThere (Page page phase) count = page < count
-IsThere Off count = Unit {0}
-
 -- what holds of every controller: the sign takes the defaults in force and those of the display, it accepts the display's
 -- text by these, and text, plane and remaining time are within their memory and limits (own)
-pub record IsReady (sign : SignData) (store : StoreData) (defaults : Defaults) (display : Display) (text : List ℕ) (capacity : ℕ) (plane : BitPlane) : Type 0 where
+pub record IsReady (sign : SignData) (store : StoreData) (defaults : Defaults) (display : Display) (text : List ℕ) (capacity : ℕ)
+    (plane : BitPlane) : Type 0 where
   pub sound : IsSound sign
   pub taken : default_fault sign defaults ≡ None
   pub shown_taken : default_fault sign display.defaults ≡ None

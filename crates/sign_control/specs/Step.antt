@@ -20,7 +20,8 @@ use Rattle.sign_control.specs.declared.command.DefaultField.TheVariants as field
 use Rattle.sign_control.specs.declared.command.Reply.{Reply}
 use Rattle.sign_control.specs.declared.command.Reply.TheVariants as reply
 use Rattle.sign_control.specs.declared.display.Registers.{Registers}
-use Rattle.sign_control.specs.Activation.{CandidateData, displayed, error_of, is_accepted, named, position_of, remaining_of, text_of, verdict_of}
+use Rattle.message_store.specs.Judged.{error_of, is_accepted, position_of}
+use Rattle.sign_control.specs.Activation.{CandidateData, displayed, named, remaining_of, text_of, verdict_of}
 use Rattle.sign_control.specs.Code.{activation_code, error_code, id_code}
 use Rattle.sign_control.specs.State.{StateData, Stepped}
 use Rattle.sign_control.specs.Time.{tick_step}
@@ -59,12 +60,14 @@ work_step sign state =
 
 -- a message isn't shown: all but the register is kept (NTCIP 1203 v03, dmsActivateMsgError)
 abbrev pub not_shown : StateData → ActivateError → Stepped
-not_shown state error = record { state = record state { registers = record (state.registers) { activate = error } }; reply = reply.NotShown (error_code error) }
+not_shown state error =
+    record { state = record state { registers = record (state.registers) { activate = error } }; reply = reply.NotShown (error_code error) }
 
 -- the registers after an activation whose text was judged: 2 and 0 where it was accepted (NTCIP 1203 v03,
 -- dmsActivateMsgError, dmsMultiSyntaxError, dmsMultiSyntaxErrorPosition)
 abbrev pub activated_registers : Registers → Bool → ℕ → ℕ → Registers
-activated_registers registers accepted multi position = record registers { activate = if accepted then error.None else error.SyntaxMulti; multi = multi; position = position }
+activated_registers registers accepted multi position =
+    record registers { activate = if accepted then error.None else error.SyntaxMulti; multi = multi; position = position }
 
 -- the message is shown for its duration where the sign accepts its text, else it is syntaxMULTI
 -- (NTCIP 1203 v03, dmsActivateMsgError)
@@ -73,7 +76,9 @@ judged_activation state code message v =
     let registers = activated_registers state.registers (is_accepted v) (error_of v) (position_of v) in
     if is_accepted v then record {
       state = record state {
-        display = displayed message (record { clock = 0; remaining = remaining_of code.duration; requester = code.requester; mode = mode.Central });
+        display =
+            displayed message
+            (record { clock = 0; remaining = remaining_of code.duration; requester = code.requester; mode = mode.Central });
         text = text_of state.text message;
         registers = registers;
       };

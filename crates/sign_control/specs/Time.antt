@@ -18,7 +18,8 @@ end_step sign state ago =
     let message = or_blank sign state.text state.defaults (named state.store state.display state.defaults state.end) in
     record {
       state = record state {
-        display = displayed message (record { clock = ago; remaining = None; requester = state.display.requester; mode = mode.EndDuration });
+        display =
+            displayed message (record { clock = ago; remaining = None; requester = state.display.requester; mode = mode.EndDuration });
         text = text_of state.text message;
       };
       reply = reply.Ended;
@@ -27,7 +28,8 @@ end_step sign state ago =
 -- the display after some tenths of its duration: its clock has risen, and what is left has fallen
 -- (NTCIP 1203 v03, dmsMessageTimeRemaining)
 abbrev pub passed : Display → ℕ → Display
-passed display tenths = record display { clock = later display.clock tenths; remaining = option_map (λ left. left - tenths) display.remaining }
+passed display tenths =
+    record display { clock = later display.clock tenths; remaining = option_map (λ left. left - tenths) display.remaining }
 
 -- some tenths pass where this is left of the duration: the display goes on, or the duration ends (own)
 abbrev pub ticked : SignData → StateData → ℕ → Option ℕ → Stepped

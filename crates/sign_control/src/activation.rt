@@ -3,16 +3,14 @@
 ghost use Rattle.std.specs.Prelude.{◌≡◌, ◌≤◌, ◌*◌, None, length, IfOk, IfSome};
 ghost use Rattle.std.specs.Option.{option_copied, unwrap_or};
 ghost use Rattle.std.specs.Vec.{vec_capacity};
-ghost use Rattle.multi_layout.specs.Verdict.{verdict};
-ghost use Rattle.sign_font.specs.Defaults.{default_fault, under};
-ghost use Rattle.sign_control.specs.Activation.{blank_one, candidate_of, candidate_result, error_of, found, is_accepted, is_crc, missing, named, or_blank, position_of, remaining_of, swapped, text_of};
-ghost use Rattle.sign_control.specs.Counts.{IsAdded, IsJudgedIn, end_text};
+ghost use Rattle.sign_font.specs.Defaults.{default_fault};
+ghost use Rattle.sign_control.specs.Activation.{blank_one, candidate_of, candidate_result, found, is_crc, missing, named, or_blank, remaining_of, swapped, text_of};
+ghost use Rattle.sign_control.specs.Counts.{IsAdded, end_text};
 ghost use Rattle.sign_control.specs.State.{IsOneOf};
 
-use crate::check::check_text;
 use crate::code::{ActivateError, IdCode};
 use crate::display::Display;
-use message_store::{MsgRef, Store, StoreFault};
+use message_store::{MsgRef, Store, StoreFault, judge_text};
 use sign_font::{Defaults, Sign};
 
 /// A message that may be shown.
@@ -28,15 +26,6 @@ pub(crate) struct Candidate<'a> {
     pub(crate) status: u8,
     /// The defaults by which its text is judged.
     pub(crate) defaults: Defaults,
-}
-
-/// What a sign says of a text: 2 and 0 where it accepts it.
-#[derive(Clone, Copy)]
-pub(crate) struct Judgement {
-    pub(crate) accepted: bool,
-    pub(crate) error: u8,
-    pub(crate) position: u16,
-    pub(crate) steps: u64,
 }
 
 /// Blank 1, which is shown by these defaults.
@@ -162,31 +151,6 @@ pub(crate) fn text_of<'a>(shown: &'a [u8], message: &Candidate<'a>) -> &'a [u8]
     }
 }
 
-/// What a sign says of a text by these defaults.
-pub(crate) fn judge(sign: &Sign, defaults: Defaults, text: &[u8]) -> Judgement
-    requires taken { default_fault sign.now defaults ≡ None }
-    requires short { length text.now ≤ 4096 }
-    ensures accepted { result.accepted ≡ is_accepted (verdict (under sign.now defaults) text.now) }
-    ensures error { result.error ≡ error_of (verdict (under sign.now defaults) text.now) }
-    ensures position { result.position ≡ position_of (verdict (under sign.now defaults) text.now) }
-    ensures steps { IsJudgedIn (record { sign = under sign.now defaults; text = text.now }) result.steps }
-{
-    match check_text(sign, defaults, text) {
-        Ok(checked) => Judgement {
-            accepted: true,
-            error: 2,
-            position: 0,
-            steps: checked.steps(),
-        },
-        Err(fault) => Judgement {
-            accepted: false,
-            error: fault.code,
-            position: fault.at as u16,
-            steps: fault.source.steps(),
-        },
-    }
-}
-
 /// The message that follows a duration, blank 1 where a check fails, and the steps of judging its text.
 pub(crate) fn end_message<'a>(
     sign: &Sign,
@@ -208,7 +172,7 @@ pub(crate) fn end_message<'a>(
     match named(store, display, defaults, code) {
         Err(_) => (blank_one(defaults), 0),
         Ok(message) => {
-            let judged = judge(sign, message.defaults, text_of(shown, &message));
+            let judged = judge_text(sign, message.defaults, text_of(shown, &message));
             if judged.accepted {
                 (message, judged.steps)
             } else {

@@ -7,14 +7,12 @@ ghost use Rattle.sign_control.specs.Step.{activate_step, activated_registers, de
 ghost use Rattle.sign_control.specs.Time.{end_step, passed, tick_step};
 ghost use Rattle.sign_control.specs.declared.command.Command.TheVariants as command;
 
-use crate::activation::{
-    Judgement, end_message, judge, named, remaining_of, replace_text, text_of,
-};
+use crate::activation::{end_message, named, remaining_of, replace_text, text_of};
 use crate::code::{ActivateError, ActivationCode, SourceMode, activation_code, id_code};
 use crate::command::{Command, DefaultField, Reply, with_default};
 use crate::controller::Controller;
 use crate::display::{Display, Registers, Showing, displayed};
-use message_store::{Judged, StoreFault};
+use message_store::{Judged, StoreFault, TextJudgement, judge_text};
 use page_plane::Memory;
 use std::alloc::Global;
 use step_count::raised;
@@ -39,7 +37,7 @@ fn judged_registers(registers: Registers, judged: Judged) -> Registers
 }
 
 /// The registers after an activation whose text was judged.
-fn activated_registers(registers: Registers, judged: Judgement) -> Registers
+fn activated_registers(registers: Registers, judged: TextJudgement) -> Registers
     ensures { result ≡ activated_registers registers judged.accepted judged.error judged.position }
 {
     let activate = if judged.accepted {
@@ -122,7 +120,7 @@ impl Controller {
         if code.priority < self.display.priority {
             return self.refuse(ActivateError::Priority);
         }
-        let judged = judge(&self.sign, message.defaults, text_of(&self.text, &message));
+        let judged = judge_text(&self.sign, message.defaults, text_of(&self.text, &message));
         self.steps = raised(self.steps, judged.steps);
         self.registers = activated_registers(self.registers, judged);
         if !judged.accepted {
@@ -175,7 +173,8 @@ impl Controller {
         ensures state { self.new.state ≡ (tick_step self.old.sign self.old.state tenths).state }
         ensures reply { result ≡ (tick_step self.old.sign self.old.state tenths).reply }
         ensures kept { (self.new.sign ≡ self.old.sign) × (self.new.plane ≡ self.old.plane) }
-        ensures steps { IsCountOf (ticked_text self.old.sign self.old.state tenths self.old.state.display.remaining) self.old.steps self.new.steps }
+        ensures steps { IsCountOf (ticked_text self.old.sign self.old.state tenths self.old.state.display.remaining)
+            self.old.steps self.new.steps }
     {
         match self.display.remaining {
             Some(remaining) if remaining <= tenths => self.end(tenths - remaining),

@@ -10,8 +10,8 @@ use multi_layout::{Checked, Fault, check_with};
 use multi_token::Source;
 use sign_font::{Defaults, Sign};
 
-/// Whether a sign accepts a text by these defaults. Every text of this crate is judged here, and the steps of the source that
-/// comes back are reported by whoever asks.
+/// Whether a sign accepts a text whose pages are drawn, by these defaults. The steps of the source that comes back are reported by
+/// whoever asks.
 #[inline(always)]
 pub(crate) fn check_text<'a>(
     sign: &'a Sign,

@@ -47,7 +47,8 @@ impl Model for Controller {
 
     ghost view = { λ c. record {
       sign = c.sign;
-      state = record { store = c.store; defaults = c.defaults; display = c.display; text = c.text.items; registers = c.registers; end = c.end };
+      state = record
+          { store = c.store; defaults = c.defaults; display = c.display; text = c.text.items; registers = c.registers; end = c.end };
       plane = c.plane;
       steps = c.steps;
     } };
@@ -102,8 +103,10 @@ impl Controller {
     /// number of octets of the plane.
     pub fn frame(&mut self, colour: u8) -> Frame<'_>
         ensures* after { sem 𝓛 (FramedAfter self.entry result) }
-        ensures shown { result.shown ≡ shown (under self.old.sign self.old.state.display.defaults) self.old.state.text self.old.state.display.clock }
-        ensures drawn { Lights result.plane.now (pixel_at (under self.old.sign self.old.state.display.defaults) (meanings self.old.state.text) result.shown colour) }
+        ensures shown { result.shown
+            ≡ shown (under self.old.sign self.old.state.display.defaults) self.old.state.text self.old.state.display.clock }
+        ensures drawn { Lights result.plane.now
+            (pixel_at (under self.old.sign self.old.state.display.defaults) (meanings self.old.state.text) result.shown colour) }
         ensures size { IsSized result.plane.now self.old.sign }
         ensures least { length self.old.state.text + 1 + (result.plane.now.steps - self.old.plane.steps) ≤ result.steps }
         ensures most { result.steps ≤ frame_limit self.old.sign (length self.old.state.text) }

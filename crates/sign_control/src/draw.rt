@@ -2,18 +2,18 @@
 
 ghost use Rattle.std.specs.Prelude.{◌≡◌, ◌+◌, ◌-◌, ◌≤◌, None, length};
 ghost use Rattle.multi_layout.specs.Drawn.{Lights};
-ghost use Rattle.multi_layout.specs.Limits.{frame_limit, plane_limit, reading_limit};
+ghost use Rattle.multi_layout.specs.Limits.{frame_limit};
 ghost use Rattle.multi_layout.specs.Meaning.{meanings};
-ghost use Rattle.multi_layout.specs.Pages.{IsSized, page_count};
+ghost use Rattle.multi_layout.specs.Pages.{IsSized};
 ghost use Rattle.multi_layout.specs.Picture.{pixel_at};
 ghost use Rattle.multi_layout.specs.Times.{shown};
-ghost use Rattle.multi_token.specs.Counted.{RisesBetween};
 ghost use Rattle.sign_font.specs.Defaults.{default_fault, under};
 ghost use Rattle.sign_font.specs.Sound.{IsSound};
-ghost use Rattle.sign_control.specs.State.{IsAccepted, IsThere};
+ghost use Rattle.sign_control.specs.State.{IsAccepted};
 
 use crate::check::accepted_text;
-use multi_layout::{Checked, Shown};
+use multi_layout::Shown;
+use page_picture::show;
 use page_plane::Plane;
 use sign_font::{Defaults, Sign};
 
@@ -40,24 +40,6 @@ pub(crate) fn draw_shown(
     let mut checked = accepted_text(sign, defaults, text);
     let before = plane.steps();
     let shown = checked.locate(clock);
-    draw(&mut checked, shown, colour, plane);
+    show(&mut checked, shown, colour, plane);
     (shown, checked.steps() + (plane.steps() - before))
-}
-
-/// Draws what is shown of a string: a page, or in an off time every pixel in colour 0.
-fn draw(checked: &mut Checked<'_>, shown: Shown, colour: u8, plane: &mut Plane)
-    requires size { IsSized plane.old checked.old.sign }
-    requires there { IsThere shown (page_count checked.old) }
-    ensures drawn { Lights plane.new (pixel_at checked.old.sign (meanings checked.old.source.octets) shown colour) }
-    ensures size { (plane.new.width ≡ plane.old.width) × (plane.new.height ≡ plane.old.height) }
-    ensures steps { RisesBetween checked.old.source checked.new.source 0 (reading_limit (length checked.old.source.octets)) }
-    ensures plane_steps { (plane.old.steps ≤ plane.new.steps)
-        × (plane.new.steps ≤ plane.old.steps + plane_limit checked.old.sign (length checked.old.source.octets)) }
-{
-    match shown {
-        Shown::Page { page, phase } => {
-            checked.draw(page, phase, colour, plane);
-        }
-        Shown::Off => plane.fill(colour == 0),
-    }
 }

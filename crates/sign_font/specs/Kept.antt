@@ -41,7 +41,8 @@ ArePlaces number_of things places =
 -- by octet, the width of the cell of that number, or 0; of a wider number it says nothing (own)
 abbrev pub AreWidths : List SizedCell → List ℕ → Type 0
 AreWidths cells widths =
-    (octet : ℕ) → octet < 256 → slice_index widths octet ≡ unwrap_or (option_map (λ cell. cell.width) (find (λ cell. cell.number == octet) cells)) 0
+    (octet : ℕ) → octet < 256
+    → slice_index widths octet ≡ unwrap_or (option_map (λ cell. cell.width) (find (λ cell. cell.number == octet) cells)) 0
 
 -- the cells' numbers rise, and the tables are those of the cells whose numbers are octets (own)
 pub record AreTables (cells : List SizedCell) (places widths : List ℕ) : Type 0 where

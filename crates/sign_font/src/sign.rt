@@ -1,6 +1,6 @@
 //! A sign, which is made once and never changes.
 
-ghost use Rattle.std.specs.Prelude.{◌≡◌, ℕ, ◌+◌, ◌<◌, ◌≤◌, min, All, Any, length, IfOk, IfErr, IfSome, IfNone, OnOk, None, map, option_map};
+ghost use Rattle.std.specs.Prelude.{◌≡◌, ℕ, ◌+◌, ◌<◌, ◌≤◌, All, Any, IfOk, IfErr, IfSome, IfNone, OnOk, None, map, option_map};
 ghost use Rattle.std.specs.Option.{option_copied};
 ghost use Rattle.multi_token.specs.Counted.{charged, RisesBetween};
 ghost use Rattle.sign_font.specs.Sign.{sign_of, font_of, font_numbered, info_of, cell_in, tallest};

@@ -1,10 +1,18 @@
 //! Why permanent messages are refused, in words.
 
 use crate::setup::setup_of;
-use message_report::Explainer;
+use message_report::{Explainer, Format, Telling};
 use message_store::Permanent;
 use sign_words::{PermanentRefusal, Setup};
 use std::alloc::{AllocError, Global};
+
+/// Words for people, without pictures.
+const WORDS: Telling = Telling {
+    format: Format::Text,
+    phase: 0,
+    refused_only: true,
+    pictures: false,
+};
 
 /// Why a permanent message is refused: lines, in the words of `explain`.
 fn explanation_of(
@@ -19,8 +27,10 @@ fn explanation_of(
         None => b"",
     };
     let mut text = Vec::new(alloc);
-    explainer.explain(alloc, message, 0, &mut text)?;
+    explainer.explain(alloc, WORDS, b"", 1, message, &mut text)?;
     let words = str::from_utf8(&text).unwrap_or("");
+    // it is no line of a file of messages
+    let words = words.strip_prefix("line 1: ").unwrap_or(words);
     // an empty line stands behind each explanation
     String::from_str(alloc, words.strip_suffix("\n").unwrap_or(words))
 }
@@ -38,7 +48,7 @@ pub(crate) fn explanations_of(
     let Some(Setup { sign, store }) = setup_of(alloc, octets)? else {
         return Ok(explanations);
     };
-    let explainer = Explainer::new(alloc, sign)?;
+    let explainer = Explainer::new(alloc, sign, store.limits().max_string)?;
     for refusal in refusals {
         let explanation = explanation_of(alloc, &explainer, store.permanents(), *refusal)?;
         explanations.push(explanation)?;

@@ -1,10 +1,10 @@
 pub mod AskLemmas
+pub mod Asked
 pub mod FieldsFound
 pub mod FieldsRead
 pub mod LengthLemmas
 pub mod NumberLemmas
 pub mod PartedLemmas
 pub mod PartsLemmas
-pub mod QuestionLemmas
 pub mod ScriptRows
 pub mod WordLemmas

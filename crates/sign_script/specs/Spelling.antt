@@ -39,7 +39,8 @@ IsField (Hex octets) part = ((digits : List ℕ) × (decode_of digits ≡ Ok oct
 -- fields, one after the other (own)
 abbrev pub AreFields : List Field → List ℕ → Type 0
 AreFields [] parts = parts ≡ []
-AreFields (field ∷ fields) parts = (part : List ℕ) × (others : List ℕ) × (parts ≡ part ++ others) × IsField field part × AreFields fields others
+AreFields (field ∷ fields) parts =
+    (part : List ℕ) × (others : List ℕ) × (parts ≡ part ++ others) × IsField field part × AreFields fields others
 
 -- a word and its fields (own)
 abbrev pub IsLine : List ℕ → List Field → List ℕ → Type 0
@@ -54,11 +55,14 @@ abbrev pub IsSpelled : Ask → List ℕ → Type 0
 IsSpelled ask.Nothing line = (line ≡ []) ⊎ ((rest : List ℕ) × (line ≡ 35 ∷ rest))
 IsSpelled (ask.Command (command.Request message code)) line = IsLine (codes "request") (of_message message (Number 255 code ∷ [])) line
 IsSpelled (ask.Command (command.SetMulti message text)) line =
-    IsLine (codes "multi") (of_message message (Text text.now ∷ [])) line ⊎ IsLine (codes "multix") (of_message message (Hex text.now ∷ [])) line
+    IsLine (codes "multi") (of_message message (Text text.now ∷ [])) line
+    ⊎ IsLine (codes "multix") (of_message message (Hex text.now ∷ [])) line
 IsSpelled (ask.Command (command.SetOwner message owner)) line = IsLine (codes "owner") (of_message message (Hex owner.now ∷ [])) line
-IsSpelled (ask.Command (command.SetPriority message value)) line = IsLine (codes "priority") (of_message message (Number 255 value ∷ [])) line
+IsSpelled (ask.Command (command.SetPriority message value)) line =
+    IsLine (codes "priority") (of_message message (Number 255 value ∷ [])) line
 IsSpelled (ask.Command (command.SetBeacon message value)) line = IsLine (codes "beacon") (of_message message (Number 255 value ∷ [])) line
-IsSpelled (ask.Command (command.SetPixelService message value)) line = IsLine (codes "pixel") (of_message message (Number 255 value ∷ [])) line
+IsSpelled (ask.Command (command.SetPixelService message value)) line =
+    IsLine (codes "pixel") (of_message message (Number 255 value ∷ [])) line
 IsSpelled (ask.Command command.Clear) line = IsLine (codes "clear") [] line
 IsSpelled (ask.Command command.Work) line = IsLine (codes "work") [] line
 IsSpelled (ask.Command (command.Activate octets)) line = IsLine (codes "activate") (Octets 12 octets ∷ []) line

@@ -14,7 +14,7 @@
 //! | `activate HEX` | `Command::Activate` with 12 octets |
 //! | `end HEX` | `Command::SetEnd` with 5 octets |
 //! | `tick T` | `Command::Tick` |
-//! | `default FIELD V` | `Command::SetDefault`; FIELD is `font`, `line`, `page`, `page_on`, `page_off`, `flash_on`, `flash_off`, `fore` or `back` |
+//! | `default FIELD V` | `Command::SetDefault`; FIELD is the name of a field of `Defaults`, as `font` or `page_on` |
 //! | `frame C` | [`Ask::Frame`] |
 //! | `row M N` | [`Ask::Row`] |
 //! | `report`, `defaults` | [`Ask::Report`], [`Ask::Defaults`] |

@@ -117,7 +117,7 @@ fn more_asked(line: &[u8]) -> Option<Question<'_>>
 ///
 /// The error `Bad` says that the line is neither. `Memory` says that memory was refused, and leaves open whether the line is one; it comes
 /// only if `octets` has room for less than half the octets of the line.
-#[tactic(auto, using(crate::proofs::QuestionLemmas::gives_asked, crate::proofs::QuestionLemmas::question_script, crate::proofs::QuestionLemmas::question_more))]
+#[tactic(auto, using(crate::proofs::Asked::gives_asked, crate::proofs::Asked::question_script, crate::proofs::Asked::question_more))]
 pub fn read_question<'a>(line: &'a [u8], octets: &'a mut Vec<u8>) -> Result<Question<'a>, LineFault>
     ensures asked { Gives bare_question result (question_of line.now) }
     ensures spelled { IfOk result (λ question. IsAsked question line.now) }

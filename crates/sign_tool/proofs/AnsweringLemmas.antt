@@ -10,7 +10,7 @@ use Rattle.tool_streams.specs.declared.fault.ToolFault.TheVariants as faults
 use Rattle.sign_tool.specs.declared.first.FirstLine.{FirstLine}
 use Rattle.sign_tool.specs.declared.first.FirstLine.TheVariants as line_is
 use Rattle.tool_streams.specs.declared.lines.NextLine.TheVariants as next
-use Rattle.sign_tool.specs.Blocks.{AnswersFirst, EndsRefused, EndsWith, ReadsOn, WritesReady}
+use Rattle.sign_tool.specs.kept.Blocks.{AnswersFirst, EndsRefused, EndsWith, ReadsOn, WritesReady}
 use Rattle.tool_streams.specs.Lines.{IsOneLine, input_limit, text_of}
 use Rattle.sign_tool.specs.Output.{Outcome, ended, outcome, output_of_whole}
 use Rattle.sign_tool.specs.Runs.{AnswersLine, IsFront, Runs}

@@ -9,7 +9,7 @@ use Rattle.memchr.specs.Find.{NoneBefore, Nowhere, Passes, is_byte, places, plac
 use Rattle.tool_streams.specs.declared.fault.ToolFault.{ToolFault}
 use Rattle.tool_streams.specs.declared.fault.ToolFault.TheVariants as faults
 use Rattle.tool_streams.specs.declared.lines.NextLine.TheVariants as next
-use Rattle.sign_tool.specs.Blocks.{EndsWith, IsLineEnd}
+use Rattle.sign_tool.specs.kept.Blocks.{EndsWith, IsLineEnd}
 use Rattle.tool_streams.specs.Lines.{IsOneLine}
 use Rattle.tool_streams.specs.Streams.{TakesLine}
 use Rattle.tool_streams.proofs.SeenLemmas.{length-text_of}

@@ -14,7 +14,7 @@ use Rattle.sign_file.specs.declared.fault.FileFault.TheVariants as file_faults
 use Rattle.sign_file.specs.Keys.{Gives}
 use Rattle.sign_file.specs.SignFile.{FileData, file_of, file_of_octets}
 use Rattle.tool_streams.specs.declared.fault.ToolFault.TheVariants as faults
-use Rattle.tool_streams.specs.Faults.{refusal, unmade, unread}
+use Rattle.sign_tool.specs.Faults.{refusal, unmade, unread}
 use Rattle.sign_tool.specs.FileSetup.{setup_of_octets, unless_refused, with_store}
 
 -- a fault that isn't refused memory is the first one

@@ -1,8 +1,7 @@
-pub mod Blocks
+pub mod Faults
 pub mod FileSetup
 pub mod Frame
 pub mod Output
-pub mod Ready
 pub mod Replies
 pub mod Reply
 pub mod Runs
@@ -11,3 +10,4 @@ pub mod Script
 pub mod Served
 pub mod Serving
 pub mod Tool
+pub mod kept

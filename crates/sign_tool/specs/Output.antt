@@ -70,15 +70,18 @@ unless_long (Some number) others = ended (Some (LineTooLong number))
 unless_long None others = others
 
 -- The lines behind a sign file, of which the first has this number, are answered by what it sets up, if it does (own).
-abbrev pub answered_on : (Setup → List (List ℕ) → List (Option (List ℕ))) → Result Setup ToolFault → ℕ → List (List ℕ) → (ℕ → Option ToolFault) → Outcome
+abbrev pub answered_on :
+    (Setup → List (List ℕ) → List (Option (List ℕ))) → Result Setup ToolFault → ℕ → List (List ℕ) → (ℕ → Option ToolFault) → Outcome
 answered_on answers (Err fault) number lines at_end = ended (Some fault)
 answered_on answers (Ok setup) number lines at_end = answered number lines (answers setup (map text_of lines)) at_end
 
 -- Without a mark an input has the fault `unmarked`; else its sign file's lines and the mark are counted, and the sign
 -- comes before the lines behind it (own).
-abbrev pub behind_file : (Setup → List (List ℕ) → List (Option (List ℕ))) → List (List ℕ) → Option (List (List ℕ)) → ToolFault → (ℕ → Option ToolFault) → Outcome
+abbrev pub behind_file :
+    (Setup → List (List ℕ) → List (Option (List ℕ))) → List (List ℕ) → Option (List (List ℕ)) → ToolFault → (ℕ → Option ToolFault) → Outcome
 behind_file answers file None unmarked at_end = ended (Some unmarked)
-behind_file answers file (Some lines) unmarked at_end = answered_on answers (setup_of_octets (octets_of file)) (length file + 2) lines at_end
+behind_file answers file (Some lines) unmarked at_end =
+    answered_on answers (setup_of_octets (octets_of file)) (length file + 2) lines at_end
 
 -- The outcome of these lines, which begin with a sign file, and of what comes behind the last (own).
 unfoldable pub filed : (Setup → List (List ℕ) → List (Option (List ℕ))) → List (List ℕ) → ToolFault → (ℕ → Option ToolFault) → Outcome

@@ -18,9 +18,13 @@ use Rattle.sign_tool.specs.Tool.{answers_of, outcome_of, output_so_far}
 
 -- The line's answer is appended, or the line is bad and nothing is, or there is no memory; `behind` has the answers to all the
 -- lines that come after this one (own).
-abbrev pub AnswersLine : (List (List ℕ) → List (Option (List ℕ))) → (List (List ℕ) → List (Option (List ℕ))) → List ℕ → List ℕ → List ℕ → Result LineAnswer AllocError → Type 0
-AnswersLine before behind line old new (Ok Text) = (text : List ℕ) × (new ≡ old ++ text) × ((lines : List (List ℕ)) → before (line ∷ lines) ≡ Some text ∷ behind lines)
-AnswersLine before behind line old new (Ok BadLine) = (new ≡ old) × ((lines : List (List ℕ)) → (others : List (Option (List ℕ))) × (before (line ∷ lines) ≡ None ∷ others))
+abbrev pub AnswersLine :
+    (List (List ℕ) → List (Option (List ℕ))) → (List (List ℕ) → List (Option (List ℕ))) → List ℕ → List ℕ → List ℕ
+    → Result LineAnswer AllocError → Type 0
+AnswersLine before behind line old new (Ok Text) =
+    (text : List ℕ) × (new ≡ old ++ text) × ((lines : List (List ℕ)) → before (line ∷ lines) ≡ Some text ∷ behind lines)
+AnswersLine before behind line old new (Ok BadLine) =
+    (new ≡ old) × ((lines : List (List ℕ)) → (others : List (Option (List ℕ))) × (before (line ∷ lines) ≡ None ∷ others))
 AnswersLine before behind line old new (Err refused) = Unit {0}
 
 -- A run ends with no fault or with one (own).
@@ -42,7 +46,8 @@ IsOfLines so_far taken sent = (front : List ℕ) × IsFront front taken × (so_f
 abbrev pub IsWritten : (List ℕ → Outcome) → (List ℕ → List ℕ) → Option (List ℕ) → List ℕ → List ℕ → Option ToolFault → Type 0
 IsWritten outcomes so_far input taken sent (Some Read) = so_far taken ≡ sent
 IsWritten outcomes so_far input taken sent (Some Write) = IfSome input (λ octets. IsFront sent (outcomes octets).output)
-IsWritten outcomes so_far input taken sent (Some Memory) = IsOfLines so_far taken sent × IfSome input (λ octets. IsFront sent (outcomes octets).output)
+IsWritten outcomes so_far input taken sent (Some Memory) =
+    IsOfLines so_far taken sent × IfSome input (λ octets. IsFront sent (outcomes octets).output)
 IsWritten outcomes so_far input taken sent fault = IfSome input (λ octets. outcomes octets ≡ record { output = sent; fault = fault })
 
 -- Some octets are taken, and the answers to some number of whole lines, the first of these octets, are written and no more (own).
@@ -52,7 +57,8 @@ WritesLines so_far input input' output output' = (taken : List ℕ) × (front : 
 
 -- A run takes some octets of its input and sends some, where inputs have these outcomes, the whole lines of what was
 -- read have the output `so_far`, and at most `limit` octets are taken as lines (own).
-pub record Runs (outcomes : List ℕ → Outcome) (so_far : List ℕ → List ℕ) (limit : ℕ) (input input' output output' : Option (List ℕ)) (fault : Option ToolFault) : Type 0 where
+pub record Runs (outcomes : List ℕ → Outcome) (so_far : List ℕ → List ℕ) (limit : ℕ) (input input' output output' : Option (List ℕ))
+    (fault : Option ToolFault) : Type 0 where
   pub taken : List ℕ
   pub sent : List ℕ
   pub takes : Consumes input input' taken
@@ -92,7 +98,8 @@ pub record Fails (sample : Bool) (input input' : Option (List ℕ)) (e : ToolFau
 
 -- The octets of a sign file and the mark are taken (own).
 abbrev pub TakesFile : Option (List ℕ) → Option (List ℕ) → Result FilePart ToolFault → Type 0
-TakesFile input input' (Ok part) = (taken : List ℕ) × Consumes input input' taken × Leads false taken (setup_of_octets part.octets.items) part.place
+TakesFile input input' (Ok part) =
+    (taken : List ℕ) × Consumes input input' taken × Leads false taken (setup_of_octets part.octets.items) part.place
 TakesFile input input' (Err e) = Fails false input input' e
 
 -- What stands before the lines is taken, and there is a sign (own).

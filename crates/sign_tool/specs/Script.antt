@@ -82,5 +82,7 @@ CarriesOn = (sign : SignData) (state : StateData) (before after : List (List ℕ
 
 -- The replies to lines that spell commands are the texts of the replies of the controller's run of these commands (own).
 abbrev pub RepliesAsRun : Type 0
-RepliesAsRun = (sign : SignData) (state : StateData) (commands : List Command) (lines : List (List ℕ)) → map ask_of lines ≡ map (λ c. Some (ask.Command c)) commands
+RepliesAsRun =
+    (sign : SignData) (state : StateData) (commands : List Command) (lines : List (List ℕ))
+    → map ask_of lines ≡ map (λ c. Some (ask.Command c)) commands
     → replies sign state lines ≡ map (λ r. Some (reply_text r)) (run sign state commands).replies

@@ -61,7 +61,8 @@ tenths_text tenths = if tenths == 4294967295 then codes "next never\n" else code
 -- The twelve octets of an activation code, whose source address is 0 (NTCIP 1203 v03, MessageActivationCode).
 abbrev pub code_octets : MsgRef → ℕ → ℕ → ℕ → List ℕ
 code_octets message duration priority crc =
-    to_be_bytes w16 duration ++ (priority ∷ message.memory ∷ []) ++ to_be_bytes w16 message.number ++ to_be_bytes w16 crc ++ (0 ∷ 0 ∷ 0 ∷ 0 ∷ [])
+    to_be_bytes w16 duration ++ (priority ∷ message.memory ∷ []) ++ to_be_bytes w16 message.number ++ to_be_bytes w16 crc
+    ++ (0 ∷ 0 ∷ 0 ∷ 0 ∷ [])
 
 -- The activation code of a message as it stands, or the refusal where there is no such message (own).
 abbrev pub code_reply : MsgRef → ℕ → ℕ → Result RowData StoreFault → List ℕ

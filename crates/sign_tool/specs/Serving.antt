@@ -11,7 +11,7 @@ use Rattle.tool_streams.specs.Streams.{WritesWhole}
 use Rattle.sign_tool.specs.declared.first.FirstLine.{FirstLine}
 use Rattle.sign_tool.specs.declared.first.FirstLine.TheVariants.{Answered, Open}
 use Rattle.sign_tool.specs.declared.setup.Setup.{Setup}
-use Rattle.sign_tool.specs.Blocks.{Begins}
+use Rattle.sign_tool.specs.kept.Blocks.{Begins}
 use Rattle.sign_tool.specs.Runs.{IsFront, IsOfLines}
 use Rattle.sign_tool.specs.Script.{Told}
 use Rattle.sign_tool.specs.Served.{joined, served, told_line, too_long}
@@ -72,7 +72,8 @@ pub record Serves (server : ServerData) (input input' output output' : Option (L
 
 -- The next line is answered and there are others behind it, or it doesn't end here; or memory was refused for its reply (own).
 abbrev pub AnswersNext : ServerData → ServerData → Bool → List ℕ → List ℕ → List ℕ → Result FirstLine AllocError → Type 0
-AnswersNext old new is_cut octets ready ready' (Ok (Answered count)) = (line others : List ℕ) × Begins octets line others × (count ≡ length line + 1)
+AnswersNext old new is_cut octets ready ready' (Ok (Answered count)) =
+    (line others : List ℕ) × Begins octets line others × (count ≡ length line + 1)
     × (ready' ≡ ready ++ (told_cut old is_cut line).text) × (new ≡ record { sign = old.sign; state = (told_cut old is_cut line).state })
 AnswersNext old new is_cut octets ready ready' (Ok Open) = IsOneLine octets × (new ≡ old) × (ready' ≡ ready)
 AnswersNext old new is_cut octets ready ready' (Ok line) = ⊥

@@ -119,7 +119,8 @@ fn push_tenths(text: &mut Ready, tenths: u32) -> Result<(), AllocError>
 
 /// Appends the tenths of a second until what the display shows changes.
 pub(crate) fn push_next(text: &mut Ready, controller: &mut Controller) -> Result<(), AllocError>
-    ensures text { OnOk result (text.new.begun ≡ text.old.begun ++ tenths_text (next_change controller.old.sign controller.old.state 4294967295)) }
+    ensures text { OnOk result
+        (text.new.begun ≡ text.old.begun ++ tenths_text (next_change controller.old.sign controller.old.state 4294967295)) }
     ensures whole { text.new.whole ≡ text.old.whole }
     ensures kept { (controller.new.sign ≡ controller.old.sign) × (controller.new.state ≡ controller.old.state) }
 {
@@ -134,7 +135,8 @@ fn push_code(
     priority: u8,
     crc: u16,
 ) -> Result<(), AllocError>
-    ensures text { OnOk result (text.new.begun ≡ text.old.begun ++ (codes "code " ++ encode_lower (code_octets message duration priority crc) ++ codes "\n")) }
+    ensures text { OnOk result (text.new.begun ≡ text.old.begun
+        ++ (codes "code " ++ encode_lower (code_octets message duration priority crc) ++ codes "\n")) }
     ensures whole { text.new.whole ≡ text.old.whole }
 {
     push_octets(text, b"code ")?;
@@ -153,7 +155,8 @@ pub(crate) fn push_message_code(
     duration: u16,
     priority: u8,
 ) -> Result<(), AllocError>
-    ensures text { OnOk result (text.new.begun ≡ text.old.begun ++ code_reply message duration priority (row_shown controller.now.state message)) }
+    ensures text { OnOk result
+        (text.new.begun ≡ text.old.begun ++ code_reply message duration priority (row_shown controller.now.state message)) }
     ensures whole { text.new.whole ≡ text.old.whole }
 {
     match controller.row(message) {

@@ -1,6 +1,6 @@
 //! The octets of an input that were read and aren't answered yet.
 ghost use Rattle.std.specs.Prelude.{◌≡◌, ◌^◌, ◌<◌, ◌≤◌, [], length, take, drop};
-ghost use Rattle.sign_tool.specs.Blocks.{ReadsMore};
+ghost use Rattle.sign_tool.specs.kept.Blocks.{ReadsMore};
 
 use std::io::Read;
 use std::marker::Model;

@@ -1,6 +1,6 @@
 //! The first line of a block.
 ghost use Rattle.std.specs.Prelude.{◌≡◌, ◌≤◌, [], OnOk, length, take};
-ghost use Rattle.sign_tool.specs.Blocks.{AnswersFirst, IsLineEnd};
+ghost use Rattle.sign_tool.specs.kept.Blocks.{AnswersFirst, IsLineEnd};
 ghost use Rattle.tool_streams.specs.Lines.{IsOneLine};
 
 use crate::answer::{Answer, LineAnswer};

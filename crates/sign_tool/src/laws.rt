@@ -10,8 +10,8 @@ pub fn scripts_run_the_controller()
     ensures state { CarriesOn }
 {}
 
-/// Each line of a served sign has one reply. What comes after some lines finds the state that one run of the controller makes of the commands
-/// that they spell: a bad line, and one that is too long, change nothing.
+/// Each line of a served sign has one reply. What comes after some lines finds the state that one run of the
+/// controller makes of the commands that they spell: a bad line, and one that is too long, change nothing.
 pub fn served_signs_run_the_controller()
     ensures one { OneReplyEach }
     ensures state { ServesOn }

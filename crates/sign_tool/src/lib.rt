@@ -9,6 +9,7 @@ mod answer;
 mod answers;
 mod block;
 mod check;
+mod fault;
 mod first;
 mod laws;
 mod output;

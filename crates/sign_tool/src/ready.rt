@@ -17,7 +17,7 @@ pub(crate) struct Ready {
 
 impl Model for Ready {
     ghost use Rattle.std.specs.Prelude.{◌≤◌, length, take, drop};
-    ghost use Rattle.sign_tool.specs.Ready.{ReadyData};
+    ghost use Rattle.sign_tool.specs.kept.Ready.{ReadyData};
 
     ghost Value = { ReadyData };
 

@@ -1,7 +1,7 @@
 //! What follows a block that has no whole line.
 ghost use Rattle.std.specs.Prelude.{◌≡◌, ◌+◌, ◌<◌, ◌≤◌, length, take};
 ghost use Rattle.std.specs.Io.KnownBytes.{prepend_known};
-ghost use Rattle.sign_tool.specs.Blocks.{EndsWith, ReadsOn};
+ghost use Rattle.sign_tool.specs.kept.Blocks.{EndsWith, ReadsOn};
 ghost use Rattle.tool_streams.specs.Lines.{IsOneLine};
 
 use crate::block::Block;

@@ -1,6 +1,6 @@
 //! The texts of replies to a script's lines.
 ghost use Rattle.std.specs.Prelude.{◌≡◌, ◌++◌, OnOk, decimal};
-ghost use Rattle.std.specs.Int.{to_be_bytes, w32};
+ghost use Rattle.std.specs.Int.{to_be_bytes};
 ghost use Rattle.hex.specs.Hex.{encode_lower};
 ghost use Rattle.message_store.specs.Row.{data_of, row_result};
 ghost use Rattle.sign_tool.specs.Replies.{asked_text, crc_text, defaults_text, errors_text, fault_text, fields_text, numbers_text, octets_text, reply_text, report_text, row_reply, shown_text, table_text};

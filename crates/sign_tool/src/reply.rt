@@ -1,5 +1,5 @@
 //! The texts of answers.
-ghost use Rattle.std.specs.Prelude.{◌≡◌, ◌++◌, OnOk, decimal};
+ghost use Rattle.std.specs.Prelude.{◌≡◌, ◌++◌, OnOk};
 ghost use Rattle.sign_tool.specs.Reply.{pages_text, refused_text, too_long_text};
 
 use crate::ready::{Ready, push_number, push_octets};

@@ -1,5 +1,5 @@
 //! The answers that a controller gives to a script.
-ghost use Rattle.std.specs.Prelude.{◌≡◌, ◌++◌, OnOk, IfOk, IfErr, ◌⊎◌};
+ghost use Rattle.std.specs.Prelude.{◌≡◌, ◌++◌, OnOk, IfOk, ◌⊎◌};
 ghost use Rattle.page_plane.specs.Plane.{is_lit};
 ghost use Rattle.sign_control.specs.State.{started};
 ghost use Rattle.sign_script.specs.Asks.{ask_of};
@@ -87,7 +87,8 @@ fn answer_line(
     controller: &mut Controller,
     text: &mut Ready,
 ) -> Result<LineAnswer, AllocError>
-    ensures told { AnswersAsk controller.old.sign controller.old.state (ask_of line.now) text.old.begun text.new.begun controller.new.state result }
+    ensures told { AnswersAsk controller.old.sign controller.old.state (ask_of line.now)
+        text.old.begun text.new.begun controller.new.state result }
     ensures sign { controller.new.sign ≡ controller.old.sign }
     ensures whole { text.new.whole ≡ text.old.whole }
 {

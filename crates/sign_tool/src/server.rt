@@ -58,7 +58,8 @@ fn push_question(
     question: Question<'_>,
 ) -> Result<(), AllocError>
     requires room { length pixels.old.items ≡ controller.old.sign.width * controller.old.sign.height }
-    ensures text { OnOk result (text.new.begun ≡ text.old.begun ++ (told_question controller.old.sign controller.old.state question.entry).text) }
+    ensures text { OnOk result
+        (text.new.begun ≡ text.old.begun ++ (told_question controller.old.sign controller.old.state question.entry).text) }
     ensures state { controller.new.state ≡ (told_question controller.old.sign controller.old.state question.entry).state }
     ensures sign { controller.new.sign ≡ controller.old.sign }
     ensures whole { text.new.whole ≡ text.old.whole }
@@ -102,7 +103,8 @@ impl Server {
     fn answer_short(&mut self, line: &[u8], text: &mut Ready) -> Result<(), AllocError>
         requires short { length line.now ≤ 8300 }
         ensures text { OnOk result (text.new.begun ≡ text.old.begun ++ (told_line self.old.sign self.old.state line.now).text) }
-        ensures server { OnOk result (self.new ≡ record { sign = self.old.sign; state = (told_line self.old.sign self.old.state line.now).state }) }
+        ensures server { OnOk result
+            (self.new ≡ record { sign = self.old.sign; state = (told_line self.old.sign self.old.state line.now).state }) }
         ensures whole { text.new.whole ≡ text.old.whole }
     {
         match read_question(line, &mut self.octets) {

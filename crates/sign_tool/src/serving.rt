@@ -96,7 +96,8 @@ fn serve_lines<R: Read, W: Write>(
     writer: &mut W,
 ) -> Result<(), ToolFault>
     requires empty { ready.old ≡ record { whole = []; begun = [] } }
-    ensures serves { Serves server.old (R.remaining reader.old) (R.remaining reader.new) (W.contents writer.old) (W.contents writer.new) (fault_of result) }
+    ensures serves { Serves server.old
+        (R.remaining reader.old) (R.remaining reader.new) (W.contents writer.old) (W.contents writer.new) (fault_of result) }
 {
     let mut block = Block::new();
     let mut seen = 0;
@@ -133,19 +134,20 @@ fn serve_all<R: Read, W: Write>(
     reader: &mut R,
     writer: &mut W,
 ) -> Result<(), ToolFault>
-    ensures { Serves (at_start setup) (R.remaining reader.old) (R.remaining reader.new) (W.contents writer.old) (W.contents writer.new) (fault_of result) }
+    ensures { Serves (at_start setup)
+        (R.remaining reader.old) (R.remaining reader.new) (W.contents writer.old) (W.contents writer.new) (fault_of result) }
 {
     let mut ready = Ready::with_room(alloc, MAX_READY + LONGEST_REPLY)?;
     let mut server = Server::new(alloc, setup)?;
     serve_lines(&mut server, &mut ready, reader, writer)
 }
 
-/// Serves a sign: answers each line of an input by one reply, up to the end of the input or the first fault from outside (own). The reply to
-/// each line is written before more is read than the block of octets in which the line has ended.
+/// Serves a sign: answers each line of an input by one reply, up to the end of the input or the first fault from outside
+/// (own). The reply to each line is written before more is read than the block of octets in which the line has ended.
 ///
-/// A line is one of the table of `sign_script`, for a served sign. An empty line and a comment are answered `ok`, a line of another kind
-/// `bad line`, and one with more than 8,300 octets `too long`; none of these changes anything. What stands behind the last line feed is a line
-/// too. The faults are `Read`, `Write`, `Memory`, and, after 9,223,372,036,854,775,808 octets or more, `InputTooLong`.
+/// A line is one of the table of `sign_script`, for a served sign. An empty line and a comment are answered `ok`, a line of another
+/// kind `bad line`, and one with more than 8,300 octets `too long`; none of these changes anything. What stands behind the last line
+/// feed is a line too. The faults are `Read`, `Write`, `Memory`, and, after 9,223,372,036,854,775,808 octets or more, `InputTooLong`.
 pub fn serve<R: Read, W: Write>(
     alloc: Global,
     setup: Setup,
@@ -169,10 +171,12 @@ pub fn serve<R: Read, W: Write>(
 
     // If memory was refused, it is the replies to some number of whole lines, the first of those that were read.
     ensures lines { fault_of result ≡ Some ToolFault.Memory →
-        WritesLines (replies_so_far (at_start setup)) (R.remaining reader.old) (R.remaining reader.new) (W.contents writer.old) (W.contents writer.new) }
+        WritesLines (replies_so_far (at_start setup))
+        (R.remaining reader.old) (R.remaining reader.new) (W.contents writer.old) (W.contents writer.new) }
 
     // There is no other fault, but at the end of a run that no machine lives to see.
-    ensures only { IfErr result (λ e. (e ≡ ToolFault.Read) ⊎ (e ≡ ToolFault.Write) ⊎ (e ≡ ToolFault.Memory) ⊎ (e ≡ ToolFault.InputTooLong)) }
+    ensures only { IfErr result (λ e. (e ≡ ToolFault.Read) ⊎ (e ≡ ToolFault.Write) ⊎ (e ≡ ToolFault.Memory)
+        ⊎ (e ≡ ToolFault.InputTooLong)) }
     ensures long { fault_of result ≡ Some ToolFault.InputTooLong → (taken : List ℕ)
         × Consumes (R.remaining reader.old) (R.remaining reader.new) taken × (2 ^ 63 ≤ length taken) }
 {

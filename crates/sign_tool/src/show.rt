@@ -14,6 +14,7 @@ use crate::ready::{Ready, push_number, push_octet, push_octets};
 use crate::reply::{push_refused, push_too_long};
 use multi_layout::{Checked, Shown, check};
 use multi_token::Source;
+use page_picture::show;
 use page_plane::Plane;
 use sign_font::Sign;
 use std::alloc::{AllocError, Global};
@@ -109,15 +110,7 @@ fn draw_shown(checked: &mut Checked<'_>, clock: u32, colour: u8, plane: &mut Pla
     ensures size { IsSized plane.new checked.old.sign }
 {
     let shown = checked.locate(u64::from(clock));
-    match shown {
-        Shown::Page { page, phase } => {
-            if !checked.draw(page, phase, colour, plane) {
-                // A page that is shown is one of the string's.
-                unreachable!();
-            }
-        }
-        Shown::Off => plane.fill(colour == 0),
-    }
+    show(checked, shown, colour, plane);
     shown
 }
 

@@ -4,6 +4,7 @@ ghost use Rattle.std.specs.Prelude.{◌≡◌, ◌++◌, ◌⊎◌, ◌∷◌, [
 ghost use Rattle.sign_tool.specs.Runs.{Starts, TakesFile};
 ghost use Rattle.sign_tool.specs.FileSetup.{setup_of_octets};
 
+use crate::fault::{refusal, unmade, unread};
 use crate::setup::{Setup, make_sample};
 use message_store::Store;
 use octet_text::{push_octet, push_octets};
@@ -69,14 +70,23 @@ fn setup_of_octets(alloc: Global, octets: &[u8]) -> Result<Setup, ToolFault>
     ensures ok { IfOk result (λ setup. setup_of_octets octets.now ≡ Ok setup) }
     ensures err { IfErr result (λ e. (e ≡ ToolFault.Memory) ⊎ (setup_of_octets octets.now ≡ Err e)) }
 {
-    let file = read_sign_file(alloc, octets)?;
+    let file = match read_sign_file(alloc, octets) {
+        Ok(file) => file,
+        Err(fault) => return Err(unread(fault)),
+    };
     let SignFile {
         sign,
         limits,
         permanents,
     } = file;
-    let sign = Sign::new(alloc, sign)?;
-    let store = Store::new(alloc, limits, permanents)?;
+    let sign = match Sign::new(alloc, sign) {
+        Ok(sign) => sign,
+        Err(fault) => return Err(refusal(fault)),
+    };
+    let store = match Store::new(alloc, limits, permanents) {
+        Ok(store) => store,
+        Err(fault) => return Err(unmade(fault)),
+    };
     Ok(Setup { sign, store })
 }
 

@@ -51,7 +51,8 @@ fn answer_lines<A: Answer, R: Read, W: Write>(
     writer: &mut W,
 ) -> Result<(), ToolFault>
     requires { place.number + place.left ≤ input_limit + 1 }
-    ensures runs { Runs (outcome (A.answers answer.old) place.number place.left) (output_of_whole (A.answers answer.old) place.number) place.left
+    ensures runs { Runs (outcome (A.answers answer.old) place.number place.left)
+        (output_of_whole (A.answers answer.old) place.number) place.left
         (R.remaining reader.old) (R.remaining reader.new) (W.contents writer.old) (W.contents writer.new) (fault_of result) }
 {
     let mut block = Block::new();
@@ -93,7 +94,8 @@ fn run_on<R: Read, W: Write>(
     writer: &mut W,
 ) -> Result<(), ToolFault>
     requires { start.place.number + start.place.left ≤ input_limit + 1 }
-    ensures { Runs (outcome (answers_of mode start.setup) start.place.number start.place.left) (output_of_whole (answers_of mode start.setup) start.place.number) start.place.left
+    ensures { Runs (outcome (answers_of mode start.setup) start.place.number start.place.left)
+        (output_of_whole (answers_of mode start.setup) start.place.number) start.place.left
         (R.remaining reader.old) (R.remaining reader.new) (W.contents writer.old) (W.contents writer.new) (fault_of result) }
 {
     let Start { setup, place } = start;
@@ -163,7 +165,8 @@ pub fn run_tool<R: Read, W: Write>(
 
     // If memory was refused, it is the answers to some number of whole lines, the first of those that were read.
     ensures lines { fault_of result ≡ Some ToolFault.Memory →
-        WritesLines (output_so_far mode sample) (R.remaining reader.old) (R.remaining reader.new) (W.contents writer.old) (W.contents writer.new) }
+        WritesLines (output_so_far mode sample)
+        (R.remaining reader.old) (R.remaining reader.new) (W.contents writer.old) (W.contents writer.new) }
 
     // No more is read than what shows that an input is too long.
     ensures most { (taken : List ℕ) × Consumes (R.remaining reader.old) (R.remaining reader.new) taken
@@ -197,7 +200,8 @@ pub fn run_script<R: Read, W: Write>(
 
     // If memory was refused, it is the answers to some number of whole lines, the first of those that were read.
     ensures lines { fault_of result ≡ Some ToolFault.Memory →
-        WritesLines (output_so_far mode.Run sample) (R.remaining reader.old) (R.remaining reader.new) (W.contents writer.old) (W.contents writer.new) }
+        WritesLines (output_so_far mode.Run sample)
+        (R.remaining reader.old) (R.remaining reader.new) (W.contents writer.old) (W.contents writer.new) }
 
     // No more is read than what shows that an input is too long.
     ensures most { (taken : List ℕ) × Consumes (R.remaining reader.old) (R.remaining reader.new) taken

@@ -16,6 +16,9 @@ pub(crate) const FAULTED: u8 = 1;
 /// The exit status if the command line is refused (own).
 pub(crate) const REFUSED: u8 = 2;
 
+/// The exit status of `explain` if its sign file or its messages aren't read, or what it tells isn't written (own).
+pub(crate) const UNREAD: u8 = 3;
+
 /// Answers a command line that asks for no run. Help is written to the output, and why it is refused to the errors.
 pub(crate) fn answer_words<W: Write, E: Write>(
     answer: Error,

@@ -79,6 +79,11 @@ impl<'a> Front<'a> {
         }
     }
 
+    /// How many lines stand before the input.
+    pub(crate) fn lines(&self) -> u32 {
+        self.lines
+    }
+
     /// A line as the input counts it, or `None` if it is one of the file.
     pub(crate) fn line_behind(&self, line: u32) -> Option<u32> {
         line.checked_sub(self.lines).filter(|behind| *behind > 0)

@@ -7,7 +7,8 @@ use crate::commands::picture::answer_picture;
 use crate::commands::serve::answer_serve;
 use crate::commands::sign::answer_sign;
 use crate::ends::{
-    FAULTED, answer_words, end_of, end_of_answer, end_of_lines, end_of_picture, say_of_file,
+    DONE, FAULTED, UNREAD, answer_words, end_of, end_of_answer, end_of_lines, end_of_picture,
+    say_of_file,
 };
 use crate::front::Front;
 use crate::words::{Request, request_of};
@@ -36,9 +37,15 @@ pub(crate) fn main_with<P: Files, R: Read, W: Write, E: Write>(
         Ok(front) => front,
         Err((name, fault)) => {
             say_of_file(name, &fault, errors);
-            return FAULTED;
+            return match request {
+                Request::Explain(_) => UNREAD,
+                _ => FAULTED,
+            };
         }
     };
+    if let Request::Explain(asked) = &request {
+        return answer_explain(alloc, files, asked, &front, reader, writer, errors);
+    }
     let mut input = front.octets.as_slice().chain(reader);
     match request {
         Request::Lines(asked) => {
@@ -49,10 +56,7 @@ pub(crate) fn main_with<P: Files, R: Read, W: Write, E: Write>(
             let end = answer_serve(alloc, asked, &mut input, writer);
             end_of_lines(end, &front, errors)
         }
-        Request::Explain(asked) => {
-            let end = answer_explain(alloc, asked, &mut input, writer);
-            end_of_answer(end, &front, errors)
-        }
+        Request::Explain(_) => DONE,
         Request::Picture(asked) => {
             let end = answer_picture(alloc, files, asked, &mut input, writer);
             end_of_picture(end, &front, errors)

@@ -77,13 +77,12 @@ fn command<'a>(alloc: Global) -> Result<Command<'a>, AllocError> {
     with_files(alloc, with_pages(alloc, with_lines(alloc, tool)?)?)
 }
 
-/// What a command with this name is asked for. `font` and `picture` are asked for apart, since they can be refused.
+/// What a command with this name is asked for. `font`, `picture` and `explain` are asked for apart, since they can be refused.
 fn asked_of<'a>(name: &str, asked: &ArgMatches<'a>) -> Request<'a> {
     match name {
         "show" => Request::Lines(show_asked(asked)),
         "run" => Request::Lines(run_asked(asked)),
         "serve" => Request::Serve(serve_asked(asked)),
-        "explain" => Request::Explain(explain_asked(asked)),
         "sign" => Request::Sign(sign_asked(asked)),
         _ => Request::Lines(check_asked(asked)),
     }
@@ -103,6 +102,13 @@ pub(crate) fn request_of<'a>(alloc: Global, words: &'a [&'a str]) -> Result<Requ
         return match picture_asked(picture) {
             Ok(asked) => Ok(Request::Picture(asked)),
             Err(why) => Err(tool.error(ErrorKind::ArgumentConflict, why)?),
+        };
+    }
+    if let Some(explain) = matches.subcommand_matches("explain") {
+        let asked = explain_asked(alloc, explain)?;
+        return match asked.refusal() {
+            None => Ok(Request::Explain(asked)),
+            Some(why) => Err(tool.error(ErrorKind::MissingRequiredArgument, why)?),
         };
     }
     match matches.subcommand() {

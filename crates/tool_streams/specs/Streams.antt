@@ -43,9 +43,12 @@ KeepsUnfinished old new left line result = Unit {0}
 -- of the input, or the input goes on past its limit; or the reader or the writer failed, or memory was refused (own).
 abbrev pub IsLineFault : ℕ → ℕ → List ℕ → Option (List ℕ) → ToolFault → Type 0
 IsLineFault number left more input (faults.LineTooLong line) =
-    (line ≡ number) × ((taken : List ℕ) × (more ≡ taken ++ 10 ∷ []) × IsOneLine taken × (length more ≤ left) × (8300 < length (text_of taken)))
-IsLineFault number left more input (faults.BadLine line) = (line ≡ number) × IsOneLine more × (0 < length more) × (length more ≤ left) × IsAtEnd input
-IsLineFault number left more input faults.InputTooLong = (taken : List ℕ) × (octet : ℕ) × (more ≡ taken ++ octet ∷ []) × IsOneLine taken × (length taken ≡ left)
+    (line ≡ number)
+    × ((taken : List ℕ) × (more ≡ taken ++ 10 ∷ []) × IsOneLine taken × (length more ≤ left) × (8300 < length (text_of taken)))
+IsLineFault number left more input (faults.BadLine line) =
+    (line ≡ number) × IsOneLine more × (0 < length more) × (length more ≤ left) × IsAtEnd input
+IsLineFault number left more input faults.InputTooLong =
+    (taken : List ℕ) × (octet : ℕ) × (more ≡ taken ++ octet ∷ []) × IsOneLine taken × (length taken ≡ left)
 IsLineFault number left more input faults.Read = IsOneLine more
 IsLineFault number left more input faults.Write = Unit {0}
 IsLineFault number left more input faults.Memory = Unit {0}
@@ -60,9 +63,11 @@ IsReadFault old new e = ⊥
 
 -- A sign file is read to its end, and octets are those of the file, a line feed that ends its last line, and a line with the mark (own).
 abbrev pub IsSignPart : Option (List ℕ) → Option (List ℕ) → List ℕ → Type 0
-IsSignPart old new front = (octets : List ℕ) × Consumes old new octets × IsAtEnd new × (length octets ≤ input_limit) × (front ≡ octets ++ codes "\n%%\n")
+IsSignPart old new front =
+    (octets : List ℕ) × Consumes old new octets × IsAtEnd new × (length octets ≤ input_limit) × (front ≡ octets ++ codes "\n%%\n")
 
 -- A writer takes all of the octets, or where it fails some of them, from the front (own).
 abbrev pub WritesWhole : Option (List ℕ) → Option (List ℕ) → List ℕ → Result (Unit {0}) ToolFault → Type 0
 WritesWhole old new octets (Ok done) = Appends old new octets
-WritesWhole old new octets (Err e) = (e ≡ faults.Write) × (sent : List ℕ) × (unsent : List ℕ) × Appends old new sent × (sent ++ unsent ≡ octets)
+WritesWhole old new octets (Err e) =
+    (e ≡ faults.Write) × (sent : List ℕ) × (unsent : List ℕ) × Appends old new sent × (sent ++ unsent ≡ octets)

@@ -1,11 +1,5 @@
 //! Why a run ends before the end of its input.
 
-ghost use Rattle.std.specs.Prelude.{◌≡◌};
-ghost use Rattle.tool_streams.specs.Faults.{refusal, unmade, unread};
-
-use message_store::StoreMade;
-use sign_file::FileFault;
-use sign_font::SignFault;
 use std::alloc::AllocError;
 use thiserror::Error;
 
@@ -48,40 +42,5 @@ impl From<AllocError> for ToolFault {
 
     fn from(_refused: AllocError) -> ToolFault {
         ToolFault::Memory
-    }
-}
-
-impl From<FileFault> for ToolFault {
-    ghost from_gives = { λ fault e. e ≡ unread fault };
-
-    fn from(fault: FileFault) -> ToolFault {
-        match fault {
-            FileFault::Bad => ToolFault::BadSign,
-            FileFault::Memory => ToolFault::from(AllocError),
-        }
-    }
-}
-
-impl From<SignFault> for ToolFault {
-    ghost from_gives = { λ fault e. e ≡ refusal fault };
-
-    fn from(fault: SignFault) -> ToolFault {
-        match fault {
-            SignFault::Memory => ToolFault::from(AllocError),
-            fault => ToolFault::SignRefused {
-                number: fault.code(),
-            },
-        }
-    }
-}
-
-impl From<StoreMade> for ToolFault {
-    ghost from_gives = { λ fault e. e ≡ unmade fault };
-
-    fn from(fault: StoreMade) -> ToolFault {
-        match fault {
-            StoreMade::BadLimit => ToolFault::from(SignFault::BadLimit),
-            StoreMade::Memory => ToolFault::from(AllocError),
-        }
     }
 }

@@ -1,7 +1,7 @@
 //! How the tool reads its input and writes its output, over streams that are handed in.
 //!
-//! [`next_line`] reads a line, [`read_whole`] all of an input, [`read_sign`] a sign file that stands before one, and [`write_whole`] writes octets in as many writes as it takes. Each fault
-//! that they answer is a [`ToolFault`].
+//! [`next_line`] reads a line, [`read_whole`] all of an input, [`read_sign`] a sign file that stands before one,
+//! and [`write_whole`] writes octets in as many writes as it takes. Each fault that they answer is a [`ToolFault`].
 #![tactic(auto)]
 
 mod fault;

@@ -78,11 +78,11 @@ pub fn is_mark(line: &[u8]) -> bool
     text_of(line) == b"%%".as_slice()
 }
 
-/// Reads up to the end of a line. Its octets are then in `line`, with the carriage return if it has one. At `NextLine::Unfinished` its first
-/// `MAX_KEPT` octets are.
+/// Reads up to the end of a line. Its octets are then in `line`, with the carriage return if it has
+/// one. At `NextLine::Unfinished` its first `MAX_KEPT` octets are.
 ///
-/// At most `left` octets are taken as lines. If all of them are present, one more is read to see whether the input goes on. At `NextLine::Line`
-/// `left` falls by the octets of the line and its line feed. The errors are `Read` and `Memory`.
+/// At most `left` octets are taken as lines. If all of them are present, one more is read to see whether the input goes
+/// on. At `NextLine::Line` `left` falls by the octets of the line and its line feed. The errors are `Read` and `Memory`.
 pub fn next_line<R: Read>(
     reader: &mut R,
     line: &mut Vec<u8>,

@@ -8,9 +8,9 @@ use crate::sign::{Sign, Verdict};
 use std::fmt;
 use std::ptr::null_mut;
 
-/// A text has at most so many octets in the table of any sign.
+/// The most octets of a text in the table of any sign.
 const MOST_TEXT: usize = 4096;
-/// An owner has at most so many.
+/// The most octets of an owner.
 const MOST_OWNER: usize = 127;
 
 /// The reply to a command. It is written as `signctl run` does.

@@ -114,7 +114,8 @@ fn outside_option<'a>(alloc: Global) -> Arg<'a> {
         .long("outside")
         .value_name("WHAT")
         .help(
-            "What is done with a character that doesn't fit its cell: the font is refused, the cell is widened, the pixels outside are cropped, or the character is skipped",
+            "What is done with a character that doesn't fit its cell: the font is refused, \
+             the cell is widened, the pixels outside are cropped, or the character is skipped",
         )
         .value_parser(names)
         .default_value("widen")

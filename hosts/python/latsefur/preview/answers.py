@@ -51,7 +51,7 @@ class Answers:
         }
 
     def message(self, text: Text, view: Any, caret: int, begin: int, tenths: int) -> dict[str, Any]:
-        """The verdict on a text and, if it is accepted, what is shown from `begin` on, for so many tenths of a second.
+        """The verdict on a text and, if it is accepted, what is shown from `begin` on, for this many tenths of a second.
 
         `view` is a page by its number, from 0, and the times are then phases of it; or `"caret"`, the page on which the octet `caret` stands;
         or `None`, the message as it plays, and the times are then clocks. A page past the last one is the last one. A frame has its time, its

@@ -4,7 +4,7 @@ use mir.Val.{SFits}
 use Rattle.std.proofs.lemmas.Int.{to_z-of_z}
 use Rattle.font_bdf.specs.declared.rows.FontBox.{FontBox}
 use Rattle.font_bdf.specs.Bitmap.{drawing_of}
-use Rattle.font_bdf.specs.Font.{wide_of}
+use Rattle.font_bdf.specs.Placed.{wide_of}
 use Rattle.font_bdf.proofs.PlacedLemmas.{widened_none}
 use Rattle.font_bdf.proofs.placed.widened_cell.Goals as goal
 

@@ -2,13 +2,13 @@ use Rattle.std.proofs.Common.{◌<◌, ◌≤◌, arith, refl}
 use Rattle.multi_layout.specs.Meaning.{meanings}
 use Rattle.multi_layout.specs.Verdict.{pages_of}
 use Rattle.multi_layout.proofs.AcceptedLemmas.{accepted_is}
-use Rattle.latsefur_c.proofs.SeenLemmas
+use Rattle.page_picture.proofs.ShownLemmas.{there_at}
 use Rattle.latsefur_c.proofs.seen.seen.Goals as goal
 
 pub returns-in-Clock-clause-some : goal.returns-in-Clock-clause-some
 returns-in-Clock-clause-some c =
     let string = c.args.checked.now in
-    rw c.in-Clock.is (c.locate.ensures.shown, SeenLemmas.there_at string.sign string.source.octets c.in-Clock.clock c.locate.result c.locate.ensures.shown, tt)
+    rw c.in-Clock.is (c.locate.ensures.shown, there_at string.sign string.source.octets c.in-Clock.clock c.locate.result c.locate.ensures.shown, tt)
 
 pub returns-then-page-pages-clause-some : goal.returns-then-page-pages-clause-some
 returns-then-page-pages-clause-some c =

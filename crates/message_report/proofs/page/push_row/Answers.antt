@@ -1,6 +1,6 @@
 use Rattle.std.proofs.Common.{◌∷◌, ◌++◌, [], ap, ◌∙◌}
 use Rattle.octet_text.proofs.TextLemmas
-use Rattle.message_report.specs.Explanation.{mark, mark_at}
+use Rattle.message_report.specs.Pictures.{mark, mark_at}
 use Rattle.message_report.proofs.PageLemmas
 use Rattle.message_report.proofs.page.push_row.Goals as goal
 

@@ -1,5 +1,5 @@
 use Rattle.std.proofs.Common.{◌≡◌, ◌++◌}
-use Rattle.message_report.specs.Explanation.{mark_at, marks}
+use Rattle.message_report.specs.Pictures.{mark_at, marks}
 use Rattle.message_report.proofs.page.push_row.Given as goal
 
 abbrev pub invariant-loop-column : goal.invariant-loop-column

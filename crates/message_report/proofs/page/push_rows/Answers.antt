@@ -1,6 +1,6 @@
 use Rattle.std.proofs.Common.{◌++◌, sym, ap, ◌∙◌, append-nil}
 use Rattle.octet_text.proofs.TextLemmas
-use Rattle.message_report.specs.Explanation.{mark_at}
+use Rattle.message_report.specs.Pictures.{mark_at}
 use Rattle.message_report.proofs.PageLemmas
 use Rattle.message_report.proofs.page.push_rows.Goals as goal
 

@@ -1,5 +1,5 @@
 use Rattle.std.proofs.Common.{◌≡◌, ◌++◌}
-use Rattle.message_report.specs.Explanation.{mark_at, rows_text}
+use Rattle.message_report.specs.Pictures.{mark_at, rows_text}
 use Rattle.message_report.proofs.page.push_rows.Given as goal
 
 abbrev pub invariant-loop-row : goal.invariant-loop-row

@@ -2,8 +2,8 @@ use Rattle.std.proofs.Common.{◌≡◌, ◌+◌, ◌-◌, ◌*◌, ◌≤◌, L
 use Rattle.multi_token.specs.Counted.{Counted, RisesBetween}
 use Rattle.multi_token.proofs.ReadingLemmas.{spelling_some}
 use Rattle.multi_token.proofs.StepLemmas.{charged-zero, rises_more, rises_then}
-use Rattle.multi_layout.specs.Passes.{HasCounted, IsDrawnTo, IsFilledBy, whole_area}
-use Rattle.multi_layout.specs.Walk.{IsBetween, items_of, meant, Piece, spell_of}
+use Rattle.multi_layout.specs.kept.AreaDrawing.{HasCounted, IsDrawnTo, IsFilledBy, whole_area}
+use Rattle.multi_layout.specs.kept.Cursors.{IsBetween, items_of, meant, LaidItem, spell_of}
 use Rattle.multi_layout.proofs.PieceLemmas.{laid_first, no_piece}
 use Rattle.multi_layout.proofs.AreaDrawLemmas.{area_here, area_begins, area_more, area_next, area_ended, at_end, none_first, filled_then, filled_none}
 use Rattle.multi_layout.proofs.draw.draw_area.Goals as goal
@@ -74,7 +74,7 @@ loop-cursor-preserved c =
     let (before', area', rest', b', plain', ends', counted') = c.requires.known in
     let s' = i.so_far before' area' rest' b' plain' ends' counted' in
     let end' : c.args.read.now.end ≡ length (spell_of before') + length (spell_of area') = omega (arith, ends', b'.placed.place) in
-    let first = λ (earlier behind : List Piece) (x : IsBetween sign octets earlier behind c.loop-cursor.cursor) (counted : HasCounted (whole_area sign earlier behind) c.args.read.now.lines). laid_first c.args.read.now.lines c.in-Some.next c.lay-next.result earlier behind x counted (c.in-Some.ensures.first sign (items_of earlier) (items_of behind) (subst (λ o. IsBetween sign o earlier behind c.loop-cursor.cursor) (sym same) x).placed) (c.lay-next.ensures.read octets) in
+    let first = λ (earlier behind : List LaidItem) (x : IsBetween sign octets earlier behind c.loop-cursor.cursor) (counted : HasCounted (whole_area sign earlier behind) c.args.read.now.lines). laid_first c.args.read.now.lines c.in-Some.next c.lay-next.result earlier behind x counted (c.in-Some.ensures.first sign (items_of earlier) (items_of behind) (subst (λ o. IsBetween sign o earlier behind c.loop-cursor.cursor) (sym same) x).placed) (c.lay-next.ensures.read octets) in
     let some = area_next sign octets before' area' rest' c.args.read.now.lines c.args.layer c.args.plane.now c.loop-cursor.cursor c.loop-cursor.plane s' c.args.read.now.end end' c.loop-cursor-test.true next first in
     let long : 1 ≤ next.len = omega (arith, some.4.len, spelling_some some.0.item) in
     let both = rises_then c.args.source.now c.loop-cursor.source c.next_item.new.source 0 (9 * (c.loop-cursor.cursor.at - c.args.cursor.now.at)) 0 (2 * c.in-Some.next.len - 1) i.steps c.in-Some.ensures.steps in

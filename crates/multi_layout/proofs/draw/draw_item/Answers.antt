@@ -1,12 +1,12 @@
 use Rattle.std.proofs.Common.{◌≡◌, ℕ, ◌^◌, List, [], ◌∷◌, ◌++◌, map, Option, Some, None, sym, ap, ◌∙◌, subst, arith}
 use Rattle.multi_token.proofs.ReadingLemmas.{spelling_some}
 use Rattle.sign_font.specs.Sign.{cell_in}
-use Rattle.multi_layout.specs.Walk.{meant}
+use Rattle.multi_layout.specs.kept.Cursors.{meant}
 use Rattle.multi_layout.specs.Address.{spots, standing, in_area}
-use Rattle.multi_layout.specs.KnownItem.{meant_by}
+use Rattle.multi_layout.specs.kept.KnownItem.{meant_by}
 use Rattle.multi_layout.specs.Meaning.{begins_area, Does, has_place, Meaning, Shows}
 use Rattle.multi_layout.specs.Offence.{unsized_offence}
-use Rattle.multi_layout.specs.Passes.{HasCounted, IsDrawnTo}
+use Rattle.multi_layout.specs.kept.AreaDrawing.{HasCounted, IsDrawnTo}
 use Rattle.multi_layout.proofs.DrawLemmas.{low_between, cell_height, map_split, four_octets, tag_drawn, rows_few, tag_filled}
 use Rattle.multi_layout.proofs.BoundLemmas.{below_more}
 use Rattle.multi_layout.proofs.JudgedLemmas.{unsized-undefined}

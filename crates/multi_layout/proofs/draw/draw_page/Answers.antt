@@ -6,8 +6,8 @@ use Rattle.page_plane.specs.Octets.{octet_count}
 use Rattle.multi_layout.specs.Address.{standing}
 use Rattle.multi_layout.specs.Limits.{plane_octets}
 use Rattle.multi_layout.specs.Meaning.{BeginsPage, EndsArea, EndsPage, has_place, is_new_page}
-use Rattle.multi_layout.specs.Passes.{IsFilledBy}
-use Rattle.multi_layout.specs.Walk.{IsBetween, items_of, meant}
+use Rattle.multi_layout.specs.kept.AreaDrawing.{IsFilledBy}
+use Rattle.multi_layout.specs.kept.Cursors.{IsBetween, items_of, meant}
 use Rattle.multi_layout.proofs.AreaDrawLemmas.{filled_longer, filled_none, filled_then}
 use Rattle.multi_layout.proofs.DrawLemmas.{four_octets}
 use Rattle.multi_layout.proofs.PageDrawLemmas.{area_no_page, first_begins, first_ends, first_filled, if_same, last_passed, more_filled, new_page_is, no_less, one_place, page_begins, page_filled, page_goes_on, page_passed, page_shown, rises_far, same_pages, string_end, string_more}
@@ -55,7 +55,7 @@ draw_area-requires-clause-known c =
       subst (λ l. IsBetween sign c.read_area.new.source.octets (before ++ s.so.done) l c.loop-next.cursor) a.split b1,
       a.plain,
       a.end,
-      subst (λ l. Rattle.multi_layout.specs.Passes.HasCounted (Rattle.multi_layout.specs.Passes.whole_area sign (before ++ s.so.done) l) c.read_area.new.read.lines) a.split a.table,
+      subst (λ l. Rattle.multi_layout.specs.kept.AreaDrawing.HasCounted (Rattle.multi_layout.specs.kept.AreaDrawing.whole_area sign (before ++ s.so.done) l) c.read_area.new.read.lines) a.split a.table,
     )
 
 pub draw_area-requires-clause-low : goal.draw_area-requires-clause-low

@@ -1,14 +1,14 @@
 use Rattle.std.proofs.Common.{◌-◌, ◌*◌, ◌≤◌, List, length}
 use Rattle.multi_token.specs.Counted.{RisesBetween}
-use Rattle.multi_layout.specs.Passes.{IsFilledBy}
-use Rattle.multi_layout.specs.Walk.{IsBetween, Piece}
+use Rattle.multi_layout.specs.kept.AreaDrawing.{IsFilledBy}
+use Rattle.multi_layout.specs.kept.Cursors.{IsBetween, LaidItem}
 use Rattle.multi_layout.proofs.PageDrawLemmas.{PageSoFar}
 use Rattle.multi_layout.proofs.draw.draw_page.Given as goal
 
 -- the page's areas so far are drawn
 abbrev pub invariant-loop-next : goal.invariant-loop-next
 invariant-loop-next l = record {
-  so_far : (before behind : List Piece) → IsBetween l.sign l.initial.source.octets before behind l.initial.cursor
+  so_far : (before behind : List LaidItem) → IsBetween l.sign l.initial.source.octets before behind l.initial.cursor
       → PageSoFar l.sign l.initial.source.octets before behind l.layer l.cursor l.plane;
   on : l.initial.cursor.at ≤ l.cursor.at;
   steps : RisesBetween l.initial.source l.source 0 (18 * (l.cursor.at - l.initial.cursor.at));

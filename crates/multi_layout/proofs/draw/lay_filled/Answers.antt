@@ -1,9 +1,9 @@
 use Rattle.std.proofs.Common.{◌≡◌, ◌≤◌, ◌∷◌, ◌++◌, List, true, sym, ap, ◌∙◌}
 use Rattle.multi_layout.specs.Address.{Spot, in_group, is_glyph, lines_of}
 use Rattle.multi_layout.specs.Line.{glyph_width}
-use Rattle.multi_layout.specs.Sums.{IsPlacing, area_sum}
-use Rattle.multi_layout.specs.Table.{group_lines, table_of}
-use Rattle.multi_layout.specs.KnownItem.{meant_by}
+use Rattle.multi_layout.specs.kept.Sums.{IsPlacing, area_sum}
+use Rattle.multi_layout.specs.kept.Table.{group_lines, table_of}
+use Rattle.multi_layout.specs.kept.KnownItem.{meant_by}
 use Rattle.multi_layout.proofs.FullLemmas.{laid_end, laid_stays}
 use Rattle.multi_layout.proofs.PieceLemmas.{read_tag}
 use Rattle.multi_layout.proofs.draw.lay_filled.Goals as goal

@@ -1,5 +1,5 @@
 use Rattle.std.proofs.Common.{sym, ◌∙◌, subst}
-use Rattle.multi_layout.specs.FillSums.{IsSplitBelow}
+use Rattle.multi_layout.specs.kept.FillSums.{IsSplitBelow}
 use Rattle.multi_layout.proofs.FillSplitLemmas.{line_below, split_none, split_space, split_word}
 use Rattle.multi_layout.proofs.fill.grow.Goals as goal
 

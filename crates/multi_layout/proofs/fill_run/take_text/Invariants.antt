@@ -1,5 +1,5 @@
 use Rattle.std.proofs.Common.{◌-◌, ◌≤◌, length}
-use Rattle.multi_layout.specs.Text.{IsInText}
+use Rattle.multi_layout.specs.kept.Text.{IsInText}
 use Rattle.multi_layout.proofs.fill_run.take_text.Given as goal
 
 -- the words before this offset are taken

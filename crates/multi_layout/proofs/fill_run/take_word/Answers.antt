@@ -4,9 +4,9 @@ use Rattle.multi_token.proofs.StepLemmas.{rises_then}
 use Rattle.multi_layout.specs.declared.pass.Pass.{Pass}
 use Rattle.sign_font.specs.Sign.{SignData}
 use Rattle.sign_font.specs.Text.{width_in}
-use Rattle.multi_layout.specs.FilledRun.{with_space, with_word}
-use Rattle.multi_layout.specs.FilledState.{IsFilledFor, IsFilledReady}
-use Rattle.multi_layout.specs.Progress.{IsAt}
+use Rattle.multi_layout.specs.kept.FilledRun.{with_space, with_word}
+use Rattle.multi_layout.specs.kept.FilledState.{IsFilledFor, IsFilledReady}
+use Rattle.multi_layout.specs.kept.Judging.{IsAt}
 use Rattle.multi_layout.proofs.FilledReadLemmas.{filled_ready_here}
 use Rattle.multi_layout.proofs.ItemAtLemmas.{read_is}
 use Rattle.multi_layout.proofs.TextLemmas.{text_same, word_ended, word_ready, word_spaced}

@@ -3,7 +3,7 @@ use Rattle.std.specs.Prelude.{IfOk, IfErr}
 use Rattle.multi_token.specs.Tokens.{body_of}
 use Rattle.multi_tag.proofs.TagOfLemmas.{tag_of-read}
 use Rattle.multi_layout.specs.Codes.{code_of}
-use Rattle.multi_layout.specs.KnownItem.{meant_by}
+use Rattle.multi_layout.specs.kept.KnownItem.{meant_by}
 use Rattle.multi_layout.specs.Meaning.{Faulty}
 use Rattle.multi_layout.proofs.MeaningLemmas.{known_read, meaning-tag}
 use Rattle.multi_layout.proofs.item.read_item.Goals as goal

@@ -2,7 +2,7 @@ use Rattle.std.proofs.Common.{◌≡◌, ◌++◌, List, sym, ap, subst, arith}
 use Rattle.multi_token.specs.Counted.{Counted}
 use Rattle.multi_token.specs.Spelling.{Item}
 use Rattle.multi_layout.specs.LaidItems.{laid_out}
-use Rattle.multi_layout.specs.Walk.{IsOrderly, IsPassing}
+use Rattle.multi_layout.specs.kept.Cursors.{IsOrderly, IsPassing}
 use Rattle.multi_layout.proofs.PagesLemmas.{not_the_end, same_meanings, some_read, steps_further, way_further, within_further}
 use Rattle.multi_layout.proofs.PieceLemmas.{begins_page, pieces_before, pieces_behind, starts_between}
 use Rattle.multi_layout.proofs.pages.page_start.Goals as goal

@@ -1,6 +1,6 @@
 use Rattle.std.proofs.Common.{◌≡◌, ◌^◌, ap, ◌∙◌, arith}
 use Rattle.multi_layout.specs.declared.attributes.Attributes.{Attributes}
-use Rattle.multi_layout.specs.Sums.{segment_sum}
+use Rattle.multi_layout.specs.kept.Sums.{segment_sum}
 use Rattle.multi_layout.proofs.LineSumLemmas.{in_order}
 use Rattle.multi_layout.proofs.PlaceLemmas.{column_is}
 use Rattle.multi_layout.proofs.place.column_at.Goals as goal

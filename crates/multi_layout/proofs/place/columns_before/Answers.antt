@@ -1,7 +1,7 @@
 use Rattle.std.proofs.Common.{◌≡◌, sym, ap, refl, ◌∙◌}
 use Rattle.multi_layout.specs.declared.attributes.Attributes.{Attributes}
 use Rattle.multi_layout.specs.declared.line.Character.{Character}
-use Rattle.multi_layout.specs.Sums.{segment_sum}
+use Rattle.multi_layout.specs.kept.Sums.{segment_sum}
 use Rattle.multi_layout.proofs.PlaceLemmas.{seen_character, width_with}
 use Rattle.multi_layout.proofs.place.columns_before.Goals as goal
 

@@ -2,7 +2,7 @@ use Rattle.std.proofs.Common.{◌≡◌, ◌^◌, ap, ◌∙◌, arith}
 use Rattle.multi_layout.specs.declared.area.Group.{Group}
 use Rattle.multi_layout.specs.declared.attributes.Attributes.{Attributes}
 use Rattle.multi_layout.specs.Address.{area_of, in_group, group_of, lines_of, line_before}
-use Rattle.multi_layout.specs.Sums.{group_sum}
+use Rattle.multi_layout.specs.kept.Sums.{group_sum}
 use Rattle.multi_layout.proofs.PlaceLemmas.{place_from}
 use Rattle.multi_layout.proofs.place.place_at.Goals as goal
 

@@ -1,8 +1,8 @@
-use Rattle.std.proofs.Common.{true, false, ◌∙◌, sym}
+use Rattle.std.proofs.Common.{◌∙◌, sym}
 use Rattle.multi_layout.proofs.verdict.judge.Goals as goal
 
-pub judge_all-requires-clause-start : goal.judge_all-requires-clause-start
-judge_all-requires-clause-start c = c.requires.start false (sym c.line_fill.ensures.line_fill ∙ c.in-Off.is)
+pub judge_all-requires-clause-kind : goal.judge_all-requires-clause-kind
+judge_all-requires-clause-kind c = sym c.line_fill.ensures.line_fill ∙ c.in-Off.is
 
-pub judge_all-requires-in-Words-clause-start : goal.judge_all-requires-in-Words-clause-start
-judge_all-requires-in-Words-clause-start c = c.requires.start true (sym c.line_fill.ensures.line_fill ∙ c.in-Words.is)
+pub judge_all-requires-in-Words-clause-kind : goal.judge_all-requires-in-Words-clause-kind
+judge_all-requires-in-Words-clause-kind c = sym c.line_fill.ensures.line_fill ∙ c.in-Words.is

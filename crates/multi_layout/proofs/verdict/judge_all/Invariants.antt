@@ -1,6 +1,6 @@
 use Rattle.std.proofs.Common.{◌-◌, ◌==◌, not, length}
-use Rattle.multi_layout.specs.Progress.{IsAt}
-use Rattle.multi_layout.specs.PassOf.{IsPassOf}
+use Rattle.multi_layout.specs.kept.Judging.{IsAt}
+use Rattle.multi_layout.specs.kept.PassState.{IsPassOf}
 use Rattle.multi_layout.proofs.verdict.judge_all.Given as goal
 
 -- the items before this octet are judged

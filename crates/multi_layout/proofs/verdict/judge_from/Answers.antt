@@ -1,6 +1,6 @@
 use Rattle.std.proofs.Common.{◌≤◌, ◌==◌, not, map, arith}
 use Rattle.multi_layout.specs.Meaning.{meaning}
-use Rattle.multi_layout.specs.PassOf.{IsPassOf}
+use Rattle.multi_layout.specs.kept.PassState.{IsPassOf}
 use Rattle.multi_layout.proofs.AtLemmas.{octet_behind, octet_offends}
 use Rattle.multi_layout.proofs.PassLemmas.{pass_ready_here}
 use Rattle.multi_layout.proofs.verdict.judge_from.Goals as goal

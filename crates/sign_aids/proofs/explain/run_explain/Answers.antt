@@ -7,7 +7,8 @@ use Rattle.sign_aids.proofs.explain.run_explain.Goals as goal
 pub returns-in_default : goal.returns-in_default
 returns-in_default g c =
     let (taken, took, leads) = c.in-Ok.ensures.starts in
+    let setup = c.in-Ok.start.setup in
     let between = g.R.Read.remaining c.begin.new.reader in
     record {
-      explained = inl (taken, c.in-Ok.start.setup, c.in-Ok.start.place, between, leads, took, ExplainLemmas.begins_none _ _ _ between between _ [] Memory (Consumes-nil between) tt);
+      explained = inl (taken, setup, c.in-Ok.start.place, between, leads, took, ExplainLemmas.begins_none (record { sign = setup.sign; telling = c.args.telling; name = c.args.name.now; before = c.args.before }) _ between between _ [] Memory (Consumes-nil between) tt);
     }

@@ -5,25 +5,22 @@ use Rattle.multi_layout.specs.Limits.{plane_limit}
 use Rattle.sign_font.specs.Defaults.{under}
 use Rattle.sign_font.specs.Sign.{SignData}
 use Rattle.sign_font.proofs.DefaultLemmas.{sound_under}
-use Rattle.multi_layout.specs.Meaning.{meanings}
-use Rattle.multi_layout.specs.Verdict.{pages_of}
-use Rattle.sign_control.specs.State.{IsThere}
-use Rattle.sign_control.proofs.FrameLemmas.{there}
+use Rattle.page_picture.specs.Shown.{IsThere}
+use Rattle.page_picture.proofs.ShownLemmas.{there_at}
 use Rattle.sign_control.proofs.draw.draw_shown.Goals as goal
 
-pub draw-requires-clause-there : goal.draw-requires-clause-there
-draw-requires-clause-there c =
+pub show-requires-clause-there : goal.show-requires-clause-there
+show-requires-clause-there c =
     let old = c.accepted_text-checked.result in
     let (k, low, high, is) = c.locate-shown.ensures.steps in
     let octets = ap (λ (s : Counted). s.octets) is in
-    let P : List ℕ → Type 0 = λ l. IsThere c.locate-shown.result (pages_of (meanings l)) in
-    subst P (sym octets) (there old.sign old.source.octets c.args.clock c.locate-shown.result c.locate-shown.ensures.shown)
+    subst (λ (l : List ℕ). IsThere l c.locate-shown.result) (sym octets) (there_at old.sign old.source.octets c.args.clock c.locate-shown.result c.locate-shown.ensures.shown)
 
 pub overflow_add-result : goal.overflow_add-result
 overflow_add-result c =
     let sign = under c.args.sign.now c.args.defaults in
     let (k, low, high, is) = c.locate-shown.ensures.steps in
-    let (j, low', high', is') = c.draw.ensures.steps in
+    let (j, low', high', is') = c.show.ensures.steps in
     let octets = ap (λ (s : Counted). length s.octets) is in
     let kept = ap (λ (l : List ℕ). length l) c.accepted_text-checked.ensures.kept.1 in
     let same = c.locate-shown.ensures.kept ∙ c.accepted_text-checked.ensures.kept.0 in
@@ -40,7 +37,7 @@ overflow_add-result c =
       high',
       ap (λ (s : Counted). s.steps) is,
       ap (λ (s : Counted). s.steps) is',
-      c.draw.ensures.plane_steps,
+      c.show.ensures.plane_steps,
       limit,
       limit',
       c.steps.ensures,

@@ -1,4 +1,4 @@
-use Rattle.sign_script.proofs.QuestionLemmas.{question_found, question_only}
+use Rattle.sign_script.proofs.Asked.{question_found, question_only}
 use Rattle.sign_script.proofs.laws.questions_are_spelled.Goals as goal
 
 pub returns-clause-found : goal.returns-clause-found

@@ -1,7 +1,7 @@
 use Rattle.std.proofs.Common.{◌≡◌, rules}
 use Rattle.sign_script.specs.Fields.{Gives}
 use Rattle.sign_script.specs.Questions.{bare_question, more_asked, question_of}
-use Rattle.sign_script.proofs.QuestionLemmas.{gives_unasked, question_bad}
+use Rattle.sign_script.proofs.Asked.{gives_unasked, question_bad}
 use Rattle.sign_script.proofs.question.read_question.Goals as goal
 
 pub returns-in-Err-Bad-clause-bad : goal.returns-in-Err-Bad-clause-bad

@@ -1,6 +1,6 @@
 use Rattle.std.proofs.Common.{◌+◌, take, drop, ap, ◌∙◌, arith}
 use Rattle.std.proofs.lemmas.List.{length-take-le}
-use Rattle.sign_tool.specs.Ready.{ReadyData}
+use Rattle.sign_tool.specs.kept.Ready.{ReadyData}
 use Rattle.sign_tool.proofs.BlockLemmas
 use Rattle.sign_tool.proofs.first.answer_first.Goals as goal
 

@@ -1,7 +1,7 @@
 use Rattle.std.proofs.Common.{◌^◌, refl, sym, ap, ◌∙◌}
 use Rattle.multi_layout.specs.declared.area.Area.{Area}
 use Rattle.multi_layout.specs.Address.{in_group}
-use Rattle.multi_layout.specs.Sums.{group_sum}
+use Rattle.multi_layout.specs.kept.Sums.{group_sum}
 use Rattle.multi_layout.proofs.AreaSumLemmas.{area_with}
 use Rattle.multi_layout.proofs.GroupSumLemmas.{own_group, placing_group}
 use Rattle.multi_layout.proofs.area.Area.add_break.Goals as goal

@@ -3,8 +3,8 @@ use Rattle.std.specs.List.{after_last}
 use Rattle.multi_layout.specs.declared.area.Area.{Area}
 use Rattle.multi_layout.specs.Address.{is_break}
 use Rattle.multi_layout.specs.Filling.{filled}
-use Rattle.multi_layout.specs.FillSums.{IsSplitBelow, split_sum}
-use Rattle.multi_layout.specs.Sums.{group_sum}
+use Rattle.multi_layout.specs.kept.FillSums.{IsSplitBelow, split_sum}
+use Rattle.multi_layout.specs.kept.Sums.{group_sum}
 use Rattle.multi_layout.proofs.AreaFillLemmas.{area_filled, nothing_yet}
 use Rattle.multi_layout.proofs.area.Area.fill_character.Goals as goal
 use Rattle.multi_layout.proofs.area.Area.fill_character.Goals.{then-page_just-self, else-page_just-self}

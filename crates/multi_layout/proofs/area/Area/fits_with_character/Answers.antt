@@ -2,7 +2,7 @@ use Rattle.std.proofs.Common.{◌≡◌, true, [], ◌∷◌, ◌++◌, refl, ap
 use Rattle.multi_layout.specs.declared.area.Group.{Group}
 use Rattle.multi_layout.specs.Address.{area_of, line_before}
 use Rattle.multi_layout.specs.Fit.{area_fits, line_fits}
-use Rattle.multi_layout.specs.Sums.{line_sum}
+use Rattle.multi_layout.specs.kept.Sums.{line_sum}
 use Rattle.multi_layout.proofs.AreaSumLemmas.{fits_character, group_of_own, placing_character, present_line}
 use Rattle.multi_layout.proofs.BeforeLemmas.{groups_fit_before, segments_fit_before}
 use Rattle.multi_layout.proofs.RunLemmas.{kept_area_fits, kept_fits_is}

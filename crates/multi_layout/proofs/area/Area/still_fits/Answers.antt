@@ -1,6 +1,6 @@
 use Rattle.std.proofs.Common.{ap, ◌∙◌}
 use Rattle.std.specs.Prelude.{nat_le}
-use Rattle.multi_layout.specs.Run.{kept_height}
+use Rattle.multi_layout.specs.kept.Run.{kept_height}
 use Rattle.multi_layout.proofs.BeforeLemmas.{group_room}
 use Rattle.multi_layout.proofs.area.Area.still_fits.Goals as goal
 

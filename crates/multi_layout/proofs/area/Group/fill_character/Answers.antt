@@ -2,8 +2,8 @@ use Rattle.std.proofs.Common.{◌^◌, Some, sym, ap, ◌∙◌, subst, arith}
 use Rattle.std.specs.List.{after_last}
 use Rattle.multi_layout.specs.Address.{is_break}
 use Rattle.multi_layout.specs.Filling.{filled}
-use Rattle.multi_layout.specs.FillSums.{IsSplitBelow, split_sum}
-use Rattle.multi_layout.specs.Sums.{IsLineBelow}
+use Rattle.multi_layout.specs.kept.FillSums.{IsSplitBelow, split_sum}
+use Rattle.multi_layout.specs.kept.Sums.{IsLineBelow}
 use Rattle.multi_layout.proofs.FillGroupLemmas.{breaks_ended, breaks_split, breaks_sum, drops_ended, drops_split, drops_sum, next_line, present_glyphs, present_line, stands_ended, stands_line, stands_sum, stays_ended, stays_line, stays_sum}
 use Rattle.multi_layout.proofs.FillSplitLemmas.{split_none}
 use Rattle.multi_layout.proofs.area.Group.fill_character.Goals as goal

@@ -1,6 +1,6 @@
 use Rattle.std.proofs.Common.{List, [], refl, sym, subst, ◌∙◌, ap}
 use Rattle.multi_token.specs.Spelling.{Item}
-use Rattle.multi_layout.specs.Walk.{IsOrderly, IsPlaced, laid_meanings}
+use Rattle.multi_layout.specs.kept.Cursors.{IsOrderly, IsPlaced, laid_meanings}
 use Rattle.multi_layout.proofs.PieceLemmas.{pieces_are}
 use Rattle.multi_layout.proofs.cursor.Cursor.new.Goals as goal
 

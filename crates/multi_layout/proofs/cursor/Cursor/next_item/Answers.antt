@@ -6,7 +6,7 @@ use Rattle.multi_token.proofs.ReadingLemmas.{spelling_some}
 use Rattle.multi_token.proofs.StepLemmas.{rises_then}
 use Rattle.multi_layout.specs.Codes.{code_of}
 use Rattle.multi_layout.specs.Meaning.{meaning}
-use Rattle.multi_layout.specs.Walk.{IsPlaced}
+use Rattle.multi_layout.specs.kept.Cursors.{IsPlaced}
 use Rattle.multi_layout.proofs.WalkLemmas.{none_at_end, never_broken, never_faulty, first_is}
 use Rattle.multi_layout.proofs.cursor.Cursor.next_item.Goals as goal
 

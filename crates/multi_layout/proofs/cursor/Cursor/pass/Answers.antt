@@ -1,11 +1,11 @@
 use Rattle.std.proofs.Common.{◌≡◌, ◌+◌, [], ◌∷◌, ◌++◌, ℕ, map, Option, Some, None, sym, ap, subst, ◌∙◌}
 use Rattle.multi_tag.specs.declared.tag.Tag.TheVariants.{NewLine}
 use Rattle.sign_font.specs.Sign.{cell_in}
-use Rattle.multi_layout.specs.Walk.{meant}
-use Rattle.multi_layout.specs.KnownItem.{meant_by}
+use Rattle.multi_layout.specs.kept.Cursors.{meant}
+use Rattle.multi_layout.specs.kept.KnownItem.{meant_by}
 use Rattle.multi_layout.specs.Meaning.{Does, Meaning, Shows, has_place}
 use Rattle.multi_layout.specs.Offence.{unsized_offence}
-use Rattle.multi_layout.specs.State.{IsStateOf}
+use Rattle.multi_layout.specs.kept.State.{IsStateOf}
 use Rattle.multi_layout.proofs.JudgedLemmas.{unsized-undefined}
 use Rattle.multi_layout.proofs.RunReadLemmas.{cell_of_width, no_cell}
 use Rattle.multi_layout.proofs.SkipLemmas.{tag_unplaced}

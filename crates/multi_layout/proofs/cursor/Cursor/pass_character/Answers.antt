@@ -1,8 +1,8 @@
 use Rattle.std.proofs.Common.{◌≡◌, ◌+◌, [], ◌∷◌, ◌++◌, map, None, sym, ap, ◌∙◌, subst}
-use Rattle.multi_layout.specs.Walk.{meant}
+use Rattle.multi_layout.specs.kept.Cursors.{meant}
 use Rattle.multi_layout.specs.Meaning.{Meaning, Shows}
 use Rattle.multi_layout.specs.Offence.{unsized_offence}
-use Rattle.multi_layout.specs.State.{IsStateOf}
+use Rattle.multi_layout.specs.kept.State.{IsStateOf}
 use Rattle.multi_layout.proofs.WalkLemmas.{ready_between, never_offends, between_more}
 use Rattle.multi_layout.proofs.cursor.Cursor.pass_character.Goals as goal
 

@@ -1,6 +1,6 @@
 use Rattle.std.proofs.Common.{◌+◌, map, refl, sym, ap, ◌∙◌}
 use Rattle.multi_layout.specs.Meaning.{meaning}
-use Rattle.multi_layout.specs.Walk.{unplaced}
+use Rattle.multi_layout.specs.kept.Cursors.{unplaced}
 use Rattle.multi_layout.proofs.SkipLemmas.{fine_passing, passing_placed, passing_tag, ready_passing}
 use Rattle.multi_layout.proofs.cursor.Cursor.skip.Goals as goal
 

@@ -1,6 +1,6 @@
 use Rattle.std.proofs.Common.{◌≡◌, Bool, true, false, ◌&&◌, sym, ◌^◌, ◌*◌, length, ap, refl, subst, ◌∙◌}
 use Rattle.multi_layout.specs.declared.line.Character.{Character}
-use Rattle.multi_layout.specs.Sums.{IsBelow}
+use Rattle.multi_layout.specs.kept.Sums.{IsBelow}
 use Rattle.multi_layout.proofs.FilledJudgedLemmas.{filled_conflict}
 use Rattle.multi_layout.proofs.FilledKeptLemmas.{exit_fits, exit_too_big, laid_count}
 use Rattle.multi_layout.proofs.pass.Pass.fill_cell.Goals as goal

@@ -1,6 +1,6 @@
 use Rattle.std.proofs.Common.{None, subst, sym, ◌∙◌}
 use Rattle.multi_layout.specs.declared.pass.Order.{Order}
-use Rattle.multi_layout.specs.FilledState.{IsFilledJudged}
+use Rattle.multi_layout.specs.kept.FilledState.{IsFilledJudged}
 use Rattle.multi_layout.specs.LaidItems.{laid_items}
 use Rattle.sign_font.specs.declared.parts.LineFill.TheVariants.{Words}
 use Rattle.multi_layout.specs.Meaning.{Does}

@@ -1,6 +1,6 @@
 use Rattle.std.proofs.Common.{None, refl, subst, sym}
 use Rattle.multi_layout.specs.declared.pass.Order.{Order}
-use Rattle.multi_layout.specs.FilledState.{IsFilledOf}
+use Rattle.multi_layout.specs.kept.FilledState.{IsFilledOf}
 use Rattle.multi_layout.proofs.FilledReadLemmas.{filled_start}
 use Rattle.multi_layout.proofs.pass.Pass.new.Goals as goal
 

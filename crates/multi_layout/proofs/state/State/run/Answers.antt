@@ -2,8 +2,8 @@ use Rattle.std.proofs.Common.{◌≡◌, ◌+◌, sym, ◌∙◌, arith}
 use Rattle.std.specs.List.{after_last}
 use Rattle.std.proofs.lemmas.Bool.{leb-true}
 use Rattle.multi_layout.specs.Address.{in_group, is_break}
-use Rattle.multi_layout.specs.Run.{line_in_force}
-use Rattle.multi_layout.specs.State.{present_area}
+use Rattle.multi_layout.specs.kept.Run.{line_in_force}
+use Rattle.multi_layout.specs.kept.State.{present_area}
 use Rattle.multi_layout.proofs.AreaSumLemmas.{own_line}
 use Rattle.multi_layout.proofs.BeforeLemmas.{fits_before}
 use Rattle.multi_layout.proofs.state.State.run.Goals as goal

@@ -1,6 +1,6 @@
 use Rattle.std.proofs.Common.{◌≡◌, ◌++◌, [], ◌∷◌, refl, ◌∙◌, arith}
 use Rattle.std.specs.Prelude.{◌==◌, if◌then◌else◌}
-use Rattle.multi_layout.specs.Table.{group_lines}
+use Rattle.multi_layout.specs.kept.Table.{group_lines}
 use Rattle.multi_layout.proofs.SplitLemmas.{each_group, pushed_bottom, pushed_middle, pushed_top}
 use Rattle.multi_layout.proofs.table.LineTable.push.Goals as goal
 

@@ -15,7 +15,7 @@ returns-then-not-judged-clause-state c =
     let state : StateData = record { store = s.store; defaults = s.defaults; display = s.display; text = s.text.items; registers = s.registers; end = s.end } in
     let message = candidate_of c.in-Ok.message in
     let text = c.text_of.ensures.text ∙ ap (λ (l : List ℕ). text_of l message) c.deref.ensures.value in
-    let j = c.judge-judged in
+    let j = c.judge_text-judged in
     rw (← c.self.view_is) (ap (λ (after : Stepped). after.state)
     (activated-refused s.sign state c.args.code _ message c.text_of.result.now j.result.accepted j.result.error j.result.position c.code.result c.activated_registers-self-inside.result
     c.in-Ok.ensures.named c.if-code-self.false text j.ensures.accepted j.ensures.error j.ensures.position c.activated_registers-self-inside.ensures
@@ -27,7 +27,7 @@ returns-then-not-judged-clause-reply c =
     let state : StateData = record { store = s.store; defaults = s.defaults; display = s.display; text = s.text.items; registers = s.registers; end = s.end } in
     let message = candidate_of c.in-Ok.message in
     let text = c.text_of.ensures.text ∙ ap (λ (l : List ℕ). text_of l message) c.deref.ensures.value in
-    let j = c.judge-judged in
+    let j = c.judge_text-judged in
     rw (← c.self.view_is) (ap (λ (after : Stepped). after.reply)
     (activated-refused s.sign state c.args.code _ message c.text_of.result.now j.result.accepted j.result.error j.result.position c.code.result c.activated_registers-self-inside.result
     c.in-Ok.ensures.named c.if-code-self.false text j.ensures.accepted j.ensures.error j.ensures.position c.activated_registers-self-inside.ensures
@@ -39,7 +39,7 @@ returns-then-not-judged-clause-steps c =
     let state : StateData = record { store = s.store; defaults = s.defaults; display = s.display; text = s.text.items; registers = s.registers; end = s.end } in
     let message = candidate_of c.in-Ok.message in
     let text = c.text_of.ensures.text ∙ ap (λ (l : List ℕ). text_of l message) c.deref.ensures.value in
-    let j = c.judge-judged in
+    let j = c.judge_text-judged in
     rw (← c.self.view_is) (activated-count s.sign state c.args.code message _ c.text_of.result.now j.result.steps s.steps c.raised-self-inside.result
     c.in-Ok.ensures.named c.if-code-self.false text j.ensures.steps c.raised-self-inside.ensures)
 
@@ -47,7 +47,7 @@ pub invariant_of-self-2 : goal.invariant_of-self-2
 invariant_of-self-2 c =
     let s = c.self.inside in
     let message = candidate_of c.in-Ok.message in
-    let accepted = judged-accepted s.sign c.deref.result.now c.text_of.result.now message c.judge-judged.result.accepted c.text_of.ensures.text c.judge-judged.ensures.accepted c.if-not-judged.false in
+    let accepted = judged-accepted s.sign c.deref.result.now c.text_of.result.now message c.judge_text-judged.result.accepted c.text_of.ensures.text c.judge_text-judged.ensures.accepted c.if-not-judged.false in
     let text = c.replace_text.ensures.items ∙ ap (λ (l : List ℕ). text_of l message) (sym c.deref.ensures.value) in
     ready-shown s.sign s.store s.defaults s.display c.displayed-self-inside.result s.text.items c.replace_text.new.shown.items _ _ s.plane c.self.invariant
     (ap (λ (d : Display). default_fault s.sign d.defaults) c.displayed-self-inside.ensures ∙ one-taken s.sign c.in-Ok.message.defaults s.display.defaults s.defaults c.in-Ok.ensures.defaults c.self.invariant.shown_taken c.self.invariant.taken)
@@ -61,7 +61,7 @@ returns-clause-state c =
     let state : StateData = record { store = s.store; defaults = s.defaults; display = s.display; text = s.text.items; registers = s.registers; end = s.end } in
     let message = candidate_of c.in-Ok.message in
     let text = c.text_of.ensures.text ∙ ap (λ (l : List ℕ). text_of l message) c.deref.ensures.value in
-    let j = c.judge-judged in
+    let j = c.judge_text-judged in
     rw (← c.self.view_is) (ap (λ (after : Stepped). after.state)
     (activated-shown s.sign state c.args.code _ message c.text_of.result.now c.replace_text.new.shown.items j.result.accepted j.result.error j.result.position c.activated_registers-self-inside.result
     c.displayed-self-inside.result _
@@ -76,7 +76,7 @@ returns-clause-reply c =
     let state : StateData = record { store = s.store; defaults = s.defaults; display = s.display; text = s.text.items; registers = s.registers; end = s.end } in
     let message = candidate_of c.in-Ok.message in
     let text = c.text_of.ensures.text ∙ ap (λ (l : List ℕ). text_of l message) c.deref.ensures.value in
-    let j = c.judge-judged in
+    let j = c.judge_text-judged in
     rw (← c.self.view_is) (ap (λ (after : Stepped). after.reply)
     (activated-shown s.sign state c.args.code _ message c.text_of.result.now c.replace_text.new.shown.items j.result.accepted j.result.error j.result.position c.activated_registers-self-inside.result
     c.displayed-self-inside.result _
@@ -91,6 +91,6 @@ returns-clause-steps c =
     let state : StateData = record { store = s.store; defaults = s.defaults; display = s.display; text = s.text.items; registers = s.registers; end = s.end } in
     let message = candidate_of c.in-Ok.message in
     let text = c.text_of.ensures.text ∙ ap (λ (l : List ℕ). text_of l message) c.deref.ensures.value in
-    let j = c.judge-judged in
+    let j = c.judge_text-judged in
     rw (← c.self.view_is) (activated-count s.sign state c.args.code message _ c.text_of.result.now j.result.steps s.steps c.raised-self-inside.result
     c.in-Ok.ensures.named c.if-code-self.false text j.ensures.steps c.raised-self-inside.ensures)

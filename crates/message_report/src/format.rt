@@ -1,0 +1,35 @@
+//! How messages are told of.
+
+/// What an explanation is written as (own).
+#[derive(Clone, Copy, Debug, PartialEq, Eq)]
+pub enum Format {
+    /// Words and pictures for people.
+    Text,
+    /// A line for a refused message, and one for each warning on an accepted one: `NAME:LINE:COLUMN: error: ..` or `warning: ..`. Columns are
+    /// octets, counted from 1.
+    Lines,
+    /// A record in JSON, as a line.
+    Json,
+}
+
+/// How messages are told of (own).
+#[derive(Clone, Copy, Debug, PartialEq, Eq)]
+pub struct Telling {
+    /// What an explanation is written as.
+    pub format: Format,
+    /// When pages are drawn, in tenths of a second since each began.
+    pub phase: u64,
+    /// Whether nothing is said of an accepted message unless there are warnings on it, and no page is drawn.
+    pub refused_only: bool,
+    /// Whether the record of a page has its picture.
+    pub pictures: bool,
+}
+
+/// What was told of a message (own).
+#[derive(Clone, Copy, Debug, PartialEq, Eq)]
+pub struct Told {
+    /// Whether the sign takes it.
+    pub is_taken: bool,
+    /// How many warnings there are on it.
+    pub warnings: u32,
+}

@@ -1,0 +1,65 @@
+//! Messages in lines, as editors read them.
+ghost use Rattle.std.specs.Prelude.{◌≡◌, ◌++◌, ◌∷◌, ◌<◌, ◌^◌, [], List, ℕ, codes, OnOk};
+ghost use Rattle.message_report.specs.Explanation.{IsWarnings, error_text, place_text, warning_text};
+ghost use Rattle.message_report.specs.Words.{IsOneLine};
+
+use crate::text::push_line;
+use crate::verdict::{push_error, push_place};
+use message_words::Warning;
+use octet_text::push_octets;
+use std::alloc::AllocError;
+
+/// The most octets of a message before the place of a warning (own).
+const LAST: usize = 4_096;
+
+/// Appends the line of a refused message.
+pub(crate) fn push_error_line(
+    text: &mut Vec<u8>,
+    name: &[u8],
+    line: u32,
+    code: u8,
+    at: usize,
+    reason: &String,
+) -> Result<(), AllocError>
+    requires small { at < 2 ^ 63 }
+    ensures { OnOk result ((words : List ℕ) × IsOneLine words
+        × (text.new.items ≡ text.old.items ++ (place_text name.now line at ++ codes "error: " ++ error_text code ++ codes ": " ++ words ++ 10 ∷ []))) }
+{
+    push_place(text, name, line, at)?;
+    push_octets(text, b"error: ")?;
+    push_error(text, code)?;
+    push_octets(text, b": ")?;
+    push_line(text, reason)?;
+    Ok(())
+}
+
+/// Appends the line of a warning.
+fn push_warning_line(
+    text: &mut Vec<u8>,
+    name: &[u8],
+    line: u32,
+    warning: &Warning,
+) -> Result<(), AllocError>
+    ensures { OnOk result ((at : ℕ) × (words : List ℕ) × IsOneLine words
+        × (text.new.items ≡ text.old.items ++ warning_text name.now line at words)) }
+{
+    push_place(text, name, line, warning.at.min(LAST))?;
+    push_octets(text, b"warning: ")?;
+    push_line(text, &warning.words)?;
+    Ok(())
+}
+
+/// Appends the lines of all warnings.
+pub(crate) fn push_warning_lines(
+    text: &mut Vec<u8>,
+    name: &[u8],
+    line: u32,
+    warnings: &[Warning],
+) -> Result<(), AllocError>
+    ensures { OnOk result ((told : List ℕ) × (text.new.items ≡ text.old.items ++ told) × IsWarnings name.now line told) }
+{
+    for warning in warnings {
+        push_warning_line(text, name, line, warning)?;
+    }
+    Ok(())
+}

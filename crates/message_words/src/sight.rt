@@ -1,0 +1,305 @@
+//! Whether text on the pages of an accepted message is seen.
+
+use crate::standing::{Piece, piece_at};
+use multi_layout::check;
+use multi_tag::{Tag, read_body};
+use multi_token::Source;
+use page_picture::PageColours;
+use sign_font::Sign;
+use std::alloc::{AllocError, Global};
+use std::fmt::Write;
+
+/// The most moments of a page that are looked at (own).
+const MOMENTS: usize = 6;
+
+/// The most runs of text of a message that are looked at (own).
+const RUNS: usize = 48;
+
+/// The most octets of a message with tags added.
+const LONGEST: usize = 8_192;
+
+/// The number of the space.
+const SPACE: u16 = 32;
+
+/// A flash.
+#[derive(Clone, Copy)]
+struct Flash {
+    off_first: bool,
+    on: u8,
+    off: u8,
+}
+
+/// What is in force where characters stand.
+#[derive(Clone, Copy)]
+struct Look {
+    /// The page, counted from 0.
+    page: u8,
+    flash: Option<Flash>,
+    fore: u8,
+    back: u8,
+}
+
+/// Characters without a tag between them, or one that is written by its number.
+#[derive(Clone, Copy)]
+pub(crate) struct Run {
+    /// The octet where they begin, and the octet behind them.
+    pub(crate) from: usize,
+    end: usize,
+    look: Look,
+}
+
+impl Run {
+    /// The page that they stand on, counted from 0.
+    pub(crate) fn page(&self) -> u8 {
+        self.look.page
+    }
+
+    /// Whether they have a flash that never lights.
+    pub(crate) fn is_never_lit(&self) -> bool {
+        match self.look.flash {
+            Some(flash) => flash.on == 0 && flash.off > 0,
+            None => false,
+        }
+    }
+
+    /// The moment at which they begin to be lit, in tenths of a second since their page began.
+    fn first_lit(&self) -> u64 {
+        match self.look.flash {
+            Some(flash) if flash.off_first && flash.on > 0 => u64::from(flash.off),
+            _ => 0,
+        }
+    }
+}
+
+impl Look {
+    /// What is in force behind a tag.
+    fn behind(self, sign: &Sign, tag: Tag) -> Look {
+        let defaults = sign.defaults();
+        match tag {
+            Tag::NewPage => Look {
+                page: self.page.saturating_add(1),
+                ..self
+            },
+            Tag::Flash { off_first, on, off } => Look {
+                flash: Some(Flash {
+                    off_first,
+                    on: on.unwrap_or(defaults.flash_on),
+                    off: off.unwrap_or(defaults.flash_off),
+                }),
+                ..self
+            },
+            Tag::FlashEnd => Look {
+                flash: None,
+                ..self
+            },
+            Tag::Fore(colour) => Look {
+                fore: colour.unwrap_or(defaults.fore),
+                ..self
+            },
+            Tag::Back(colour) => Look {
+                back: colour.unwrap_or(defaults.back),
+                ..self
+            },
+            _ => self,
+        }
+    }
+}
+
+/// What a sign has in force before the first item.
+fn first_look(sign: &Sign) -> Look {
+    let defaults = sign.defaults();
+    Look {
+        page: 0,
+        flash: None,
+        fore: defaults.fore,
+        back: defaults.back,
+    }
+}
+
+/// A message with its text.
+#[derive(Drop)]
+pub(crate) struct Sight<'a> {
+    alloc: Global,
+    sign: &'a Sign,
+    message: &'a [u8],
+    /// The first runs of its characters.
+    pub(crate) runs: Vec<Run>,
+    /// Whether nothing but spaces can hide text: no tag sets a colour, a flash or a rectangle.
+    is_plain: bool,
+}
+
+impl<'a> Sight<'a> {
+    /// A message that a sign accepts. The error says that memory was refused.
+    pub(crate) fn new(
+        alloc: Global,
+        sign: &'a Sign,
+        message: &'a [u8],
+    ) -> Result<Sight<'a>, AllocError> {
+        let defaults = sign.defaults();
+        let mut sight = Sight {
+            alloc,
+            sign,
+            message,
+            runs: Vec::new(alloc),
+            is_plain: defaults.fore != defaults.back && defaults.fore > 0,
+        };
+        sight.read()?;
+        Ok(sight)
+    }
+
+    /// Reads the items.
+    fn read(&mut self) -> Result<(), AllocError> {
+        let mut look = first_look(self.sign);
+        let mut at = 0;
+        for _ in 0..self.message.len() {
+            let Some((piece, end)) = piece_at(self.message, at) else {
+                return Ok(());
+            };
+            match piece {
+                Piece::Char(octet) => self.pass(look, u16::from(octet), at, end)?,
+                Piece::Tag(body) => match read_body(body) {
+                    Ok(Tag::HexChar(number)) => self.pass(look, number, at, end)?,
+                    Ok(tag) => {
+                        self.see(tag);
+                        look = look.behind(self.sign, tag);
+                    }
+                    Err(_) => {}
+                },
+            }
+            at = end;
+        }
+        Ok(())
+    }
+
+    /// Sees whether a tag can hide text.
+    fn see(&mut self, tag: Tag) {
+        match tag {
+            Tag::Fore(_) | Tag::Back(_) | Tag::Flash { .. } | Tag::Rect { .. } => {
+                self.is_plain = false;
+            }
+            _ => {}
+        }
+    }
+
+    /// Adds a character.
+    fn pass(&mut self, look: Look, number: u16, at: usize, end: usize) -> Result<(), AllocError> {
+        if let Some(last) = self.runs.last_mut() {
+            if last.end == at {
+                last.end = end;
+                return Ok(());
+            }
+        }
+        if number != SPACE && self.runs.len() < RUNS {
+            self.runs.push(Run {
+                from: at,
+                end,
+                look,
+            })?;
+        }
+        Ok(())
+    }
+
+    /// The colours of a page of a message with added tags at a moment, or `None` if there are none.
+    fn colours(&self, octets: &[u8], page: u8, moment: u64) -> Result<Option<Vec<u8>>, AllocError> {
+        if octets.len() > LONGEST {
+            return Ok(None);
+        }
+        let Ok(mut checked) = check(self.sign, Source::new(octets)) else {
+            return Ok(None);
+        };
+        if page >= checked.pages() {
+            return Ok(None);
+        }
+        let colours = PageColours::new(self.alloc, self.sign, &mut checked, page, moment)?;
+        Ok(Some(colours.octets(self.alloc)?))
+    }
+
+    /// The message with one tag before a run and another behind it.
+    fn with_tags(&self, run: Run, before: &str, behind: &str) -> Result<Vec<u8>, AllocError> {
+        let mut octets = Vec::new(self.alloc);
+        octets.extend_from_slice(self.message.get(..run.from).unwrap_or(b""))?;
+        octets.extend_from_slice(before.as_bytes())?;
+        octets.extend_from_slice(self.message.get(run.from..run.end).unwrap_or(b""))?;
+        octets.extend_from_slice(behind.as_bytes())?;
+        octets.extend_from_slice(self.message.get(run.end..).unwrap_or(b""))?;
+        Ok(octets)
+    }
+
+    /// The message in which a run is never lit, so that nothing of it covers what is below it.
+    fn without(&self, run: Run) -> Result<Vec<u8>, AllocError> {
+        let mut behind = String::new(self.alloc);
+        match run.look.flash {
+            Some(flash) if flash.off_first => write!(behind, "[flo{}t{}]", flash.off, flash.on)?,
+            Some(flash) => write!(behind, "[flt{}o{}]", flash.on, flash.off)?,
+            None => behind.push_str("[/fl]")?,
+        }
+        self.with_tags(run, "[flt0o1]", &behind)
+    }
+
+    /// The message in which a run has another colour.
+    fn coloured(&self, run: Run, colour: u8) -> Result<Vec<u8>, AllocError> {
+        let mut before = String::new(self.alloc);
+        write!(before, "[cf{colour}]")?;
+        let mut behind = String::new(self.alloc);
+        write!(behind, "[cf{}]", run.look.fore)?;
+        self.with_tags(run, &before, &behind)
+    }
+
+    /// The moments of a page at which something of it begins to be lit.
+    fn moments(&self, page: u8) -> Result<Vec<u64>, AllocError> {
+        let mut moments = Vec::new(self.alloc);
+        moments.push(0)?;
+        for run in &self.runs {
+            let moment = run.first_lit();
+            if run.look.page == page && moments.len() < MOMENTS && !moments.contains(&moment) {
+                moments.push(moment)?;
+            }
+        }
+        Ok(moments)
+    }
+
+    /// Whether a page looks the same at all these moments in two messages.
+    fn are_alike(&self, one: &[u8], other: &[u8], page: u8) -> Result<bool, AllocError> {
+        for moment in &self.moments(page)? {
+            let (Some(first), Some(second)) = (
+                self.colours(one, page, *moment)?,
+                self.colours(other, page, *moment)?,
+            ) else {
+                return Ok(false);
+            };
+            if first.as_slice() != second.as_slice() {
+                return Ok(false);
+            }
+        }
+        Ok(true)
+    }
+
+    /// Whether something of a run is seen.
+    pub(crate) fn is_seen(&self, run: Run) -> Result<bool, AllocError> {
+        if self.is_plain {
+            return Ok(true);
+        }
+        let without = self.without(run)?;
+        Ok(!self.are_alike(self.message, &without, run.look.page)?)
+    }
+
+    /// Whether what stands behind a run covers all of it.
+    pub(crate) fn is_covered(&self, run: Run) -> Result<bool, AllocError> {
+        let (dark, lit) = (self.coloured(run, 0)?, self.coloured(run, 1)?);
+        self.are_alike(&dark, &lit, run.look.page)
+    }
+
+    /// Whether a pixel of a page is lit at one of its moments.
+    pub(crate) fn is_lit(&self, page: u8) -> Result<bool, AllocError> {
+        if self.is_plain {
+            return Ok(self.runs.len() >= RUNS || self.runs.iter().any(|run| run.look.page == page));
+        }
+        for moment in &self.moments(page)? {
+            match self.colours(self.message, page, *moment)? {
+                Some(colours) if colours.iter().all(|colour| *colour == 0) => {}
+                _ => return Ok(true),
+            }
+        }
+        Ok(false)
+    }
+}

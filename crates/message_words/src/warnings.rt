@@ -1,0 +1,281 @@
+//! What the writer of an accepted message can't have meant.
+
+use crate::sight::Sight;
+use crate::standing::{Piece, Times, piece_at, times_of};
+use multi_layout::check;
+use multi_tag::{FontPick, Tag, read_body};
+use multi_token::Source;
+use sign_font::Sign;
+use std::alloc::{AllocError, Global};
+use std::fmt;
+use std::fmt::{Display, Formatter, Write};
+
+/// A warning on an accepted message (own).
+#[derive(Drop)]
+pub struct Warning {
+    /// The octet where it stands, counted from 0.
+    pub at: usize,
+    /// A sentence.
+    pub words: String,
+}
+
+/// The least time for which a page is shown without a warning, in tenths of a second (own).
+const LEAST: u8 = 5;
+
+/// The most octets of a message that is judged (own).
+const LONGEST: usize = 4_096;
+
+/// The number of the space.
+const SPACE: u16 = 32;
+
+/// The number of left justification (NTCIP 1203 v03, MULTI tag 'jl').
+const LEFT: u8 = 2;
+
+/// What has been read of a message.
+#[derive(Drop)]
+struct Reading<'a> {
+    alloc: Global,
+    sign: &'a Sign,
+    message: &'a [u8],
+    found: Vec<Warning>,
+    /// The page, counted from 0, and the octet where it begins.
+    page: u8,
+    begin: usize,
+    /// The octet of the last tag that set page times.
+    times: usize,
+    line_just: u8,
+    /// The octet of the space that is the last character of the line so far, if it is one, behind another character.
+    space: Option<usize>,
+    /// Whether the line has a character that is no space.
+    is_begun: bool,
+    /// Whether a font was asked for without its version.
+    is_asked: bool,
+}
+
+impl<'a> Reading<'a> {
+    /// Adds a warning.
+    fn warn(&mut self, at: usize, words: String) -> Result<(), AllocError> {
+        Ok(self.found.push(Warning { at, words })?)
+    }
+
+    /// Adds a warning in these words.
+    fn say(&mut self, at: usize, words: &str) -> Result<(), AllocError> {
+        let words = String::from_str(self.alloc, words)?;
+        self.warn(at, words)
+    }
+
+    /// Ends a line.
+    fn end_line(&mut self) -> Result<(), AllocError> {
+        if let Some(at) = self.space {
+            if self.line_just > LEFT {
+                self.say(
+                    at,
+                    "a space at the end of the line takes room and moves the line",
+                )?;
+            }
+        }
+        self.space = None;
+        self.is_begun = false;
+        Ok(())
+    }
+
+    /// Ends a page of a message of more than one.
+    fn end_page(&mut self, cycle: u32) -> Result<(), AllocError> {
+        let Times { on, .. } = times_of(self.sign, self.message, self.page);
+        if on >= LEAST || cycle == 0 {
+            return Ok(());
+        }
+        let page = u32::from(self.page).saturating_add(1);
+        let mut words = String::new(self.alloc);
+        if on == 0 {
+            write!(words, "page {page} is never shown")?;
+        } else {
+            write!(words, "page {page} is shown for 0.{on} seconds only")?;
+        }
+        self.warn(self.times, words)
+    }
+
+    /// Passes a character.
+    fn pass_character(&mut self, number: u16, at: usize) {
+        if number != SPACE {
+            self.is_begun = true;
+            self.space = None;
+        } else if self.is_begun && self.space.is_none() {
+            self.space = Some(at);
+        }
+    }
+
+    /// Passes a font that is asked for.
+    fn pass_font(&mut self, pick: FontPick, at: usize) -> Result<(), AllocError> {
+        let mut source = Source::new(b"");
+        let (Some(font), None, false) = (
+            self.sign.font(&mut source, pick.number),
+            pick.version,
+            self.is_asked,
+        ) else {
+            return Ok(());
+        };
+        self.is_asked = true;
+        let mut words = String::new(self.alloc);
+        write!(
+            words,
+            "any version of font {} is taken; [fo{},{:X}] asks for this one",
+            pick.number, pick.number, font.version
+        )?;
+        self.warn(at, words)
+    }
+
+    /// Passes a tag.
+    fn pass_tag(&mut self, tag: Tag, at: usize, behind: usize) -> Result<(), AllocError> {
+        match tag {
+            Tag::NewPage => {
+                self.end_line()?;
+                self.begin = behind;
+                self.page = self.page.saturating_add(1);
+            }
+            Tag::NewLine(_) | Tag::Rect { .. } => self.end_line()?,
+            Tag::LineJust(just) => self.line_just = just.unwrap_or(self.sign.defaults().line),
+            Tag::PageTime { .. } => self.times = at,
+            Tag::Font(Some(pick)) => self.pass_font(pick, at)?,
+            Tag::HexChar(number) => self.pass_character(number, at),
+            _ => {}
+        }
+        Ok(())
+    }
+
+    /// Warns of a page on which nothing is lit.
+    fn look_at_page(&mut self, sight: &Sight<'a>) -> Result<(), AllocError> {
+        if sight.is_lit(self.page)? {
+            return Ok(());
+        }
+        let mut words = String::new(self.alloc);
+        write!(
+            words,
+            "nothing is lit on page {}",
+            u32::from(self.page).saturating_add(1)
+        )?;
+        self.warn(self.begin, words)
+    }
+
+    /// Warns at the end of a page.
+    fn look_back(&mut self, sight: &Sight<'a>, cycle: u32, is_one: bool) -> Result<(), AllocError> {
+        self.look_at_page(sight)?;
+        if is_one { Ok(()) } else { self.end_page(cycle) }
+    }
+
+    /// Reads the message, item by item.
+    fn read(&mut self, sight: &Sight<'a>, cycle: u32, is_one: bool) -> Result<(), AllocError> {
+        let mut at = 0;
+        for _ in 0..self.message.len() {
+            let Some((piece, behind)) = piece_at(self.message, at) else {
+                break;
+            };
+            match piece {
+                Piece::Char(octet) => self.pass_character(u16::from(octet), at),
+                Piece::Tag(body) => {
+                    if let Ok(tag) = read_body(body) {
+                        if tag == Tag::NewPage {
+                            self.look_back(sight, cycle, is_one)?;
+                        }
+                        self.pass_tag(tag, at, behind)?;
+                    }
+                }
+            }
+            at = behind;
+        }
+        self.end_line()?;
+        self.look_back(sight, cycle, is_one)
+    }
+
+    /// Warns of text that isn't seen.
+    fn look_at_text(&mut self, sight: &Sight<'a>) -> Result<(), AllocError> {
+        for run in &sight.runs {
+            if sight.is_seen(*run)? {
+                continue;
+            }
+            let words = if run.is_never_lit() {
+                "this text is never lit: its flash has no on time"
+            } else if sight.is_covered(*run)? {
+                "this text can't be seen: what comes behind it covers it"
+            } else {
+                "this text can't be seen: it has the colour of what it covers"
+            };
+            self.say(run.from, words)?;
+        }
+        Ok(())
+    }
+
+    /// Warns of a message that the message table doesn't take, and of an off time that no page has.
+    fn look_at_whole(&mut self, max_string: u16, is_one: bool) -> Result<(), AllocError> {
+        let most = usize::from(max_string);
+        if self.message.len() > most {
+            let mut words = String::new(self.alloc);
+            write!(
+                words,
+                "the message has {} octets, and the sign's message table takes texts of at most {most}",
+                self.message.len()
+            )?;
+            self.warn(most, words)?;
+        }
+        let Times { off, .. } = times_of(self.sign, self.message, 0);
+        if is_one && off > 0 && off != self.sign.defaults().page_off {
+            self.say(
+                self.times,
+                "the off time does nothing: a message of one page is shown all the time",
+            )?;
+        }
+        Ok(())
+    }
+}
+
+/// The warnings on a message that a sign accepts (own): a text longer than the message table takes, an off time with one page, a page that is
+/// shown for less than half a second or on which nothing is lit, a space at the end of a line that moves it, a font whose version isn't
+/// asked for, and text that can't be seen. There are none on a message that it refuses. The error says that memory was refused.
+pub fn warnings_on(
+    alloc: Global,
+    sign: &Sign,
+    message: &[u8],
+    max_string: u16,
+) -> Result<Vec<Warning>, AllocError> {
+    if message.len() > LONGEST {
+        return Ok(Vec::new(alloc));
+    }
+    let Ok(checked) = check(sign, Source::new(message)) else {
+        return Ok(Vec::new(alloc));
+    };
+    let is_one = checked.pages() == 1;
+    let cycle = checked.cycle();
+    let sight = Sight::new(alloc, sign, message)?;
+    let mut reading = Reading {
+        alloc,
+        sign,
+        message,
+        found: Vec::new(alloc),
+        page: 0,
+        begin: 0,
+        times: 0,
+        line_just: sign.defaults().line,
+        space: None,
+        is_begun: false,
+        is_asked: false,
+    };
+    reading.read(&sight, cycle, is_one)?;
+    reading.look_at_text(&sight)?;
+    reading.look_at_whole(max_string, is_one)?;
+    let Reading { found, .. } = reading;
+    Ok(found)
+}
+
+/// Warnings as lines (own). An empty line ends them. Written by `Display`.
+#[derive(Clone, Copy)]
+pub struct WarningLines<'a>(pub &'a [Warning]);
+
+impl Display for WarningLines<'_> {
+    fn fmt<W: Write>(&self, f: &mut Formatter<W>) -> fmt::Result {
+        for warning in self.0 {
+            writeln!(f, "warning at octet {}: {}", warning.at, warning.words)?;
+        }
+        // an empty line stands behind each explanation
+        f.write_str("\n")
+    }
+}

@@ -1,0 +1,183 @@
+-- The first reading of an area, at one more item.
+use Rattle.std.proofs.Common.{◌≡◌, ℕ, Bool, append-nil, ◌*◌, ◌^◌, ◌≤◌, true, false, List, [], ◌∷◌, ◌++◌, length, map, None, refl, sym, ap, subst, ◌∙◌, arith}
+use Rattle.std.specs.List.{All}
+use Rattle.std.proofs.lemmas.List.{map-append}
+use Rattle.multi_token.specs.Spelling.{Item}
+use Rattle.multi_tag.specs.declared.tag.Tag.{Tag}
+use Rattle.sign_font.specs.declared.parts.LineFill.TheVariants.{Off, Words}
+use Rattle.sign_font.specs.Sign.{SignData}
+use Rattle.sign_font.specs.Sound.{IsSound}
+use Rattle.multi_layout.specs.declared.area.Area.{Area}
+use Rattle.multi_layout.specs.declared.area.Group.{Group}
+use Rattle.multi_layout.specs.declared.pass.Pass.{Pass}
+use Rattle.multi_layout.specs.declared.item.KnownItem.{KnownItem}
+use Rattle.multi_layout.specs.declared.item.KnownItem.TheVariants as known
+use Rattle.multi_layout.specs.declared.item.KnownItem.TheVariants.{Char}
+use Rattle.multi_layout.specs.declared.table.LineTable.{LineTable}
+use Rattle.multi_layout.specs.Address.{Break, Spot, in_group, spots, standing}
+use Rattle.multi_layout.specs.kept.AreaReading.{IsCharacterPassed, IsNextRead, IsReadOf, laid_area}
+use Rattle.multi_layout.specs.kept.KnownItem.{meant_by}
+use Rattle.multi_layout.specs.LaidItems.{laid_item, laid_items}
+use Rattle.multi_layout.specs.Meaning.{Does, Meaning, Shows, has_place, meaning}
+use Rattle.multi_layout.specs.Offence.{offence, unsized_offence}
+use Rattle.multi_layout.specs.kept.AreaDrawing.{HasKnown, HasRoom, IsLow, next_group}
+use Rattle.multi_layout.specs.kept.PassState.{IsPassOf, IsPassReady, fill_of}
+use Rattle.multi_layout.specs.kept.Run.{kept_height}
+use Rattle.multi_layout.specs.kept.State.{IsStateOf, IsUnfilledOf, present_area}
+use Rattle.multi_layout.specs.Verdict.{offences}
+use Rattle.multi_layout.specs.kept.Sums.{IsBelow, IsPlacing, area_sum, ended_lines}
+use Rattle.multi_layout.specs.kept.Table.{IsNarrowArea, IsOrdered}
+use Rattle.multi_layout.proofs.AreaSumLemmas.{area_placing, group_of_own}
+use Rattle.multi_layout.proofs.BoundLemmas.{below_more}
+use Rattle.multi_layout.proofs.FilledKeptLemmas.{goes_on}
+use Rattle.multi_layout.proofs.FilledReadLemmas.{filled_ready}
+use Rattle.multi_layout.proofs.FilledRoomLemmas.{laid_narrow, laid_room}
+use Rattle.multi_layout.proofs.FilledTagLemmas.{offends_as_laid}
+use Rattle.multi_layout.proofs.KnownStepLemmas as steps
+use Rattle.multi_layout.proofs.GroupSumLemmas.{placing_group}
+use Rattle.multi_layout.proofs.JudgedLemmas.{ready}
+use Rattle.multi_layout.proofs.NarrowLemmas.{narrow_area}
+use Rattle.multi_layout.proofs.OrderlyLemmas.{unsized_if}
+use Rattle.multi_layout.proofs.PieceLemmas.{unfilled_items}
+use Rattle.multi_layout.proofs.RoomLemmas.{room}
+use Rattle.multi_layout.proofs.RunLemmas.{kept_height_is}
+use Rattle.multi_layout.proofs.WalkLemmas.{last_fine, length-meanings}
+use Rattle.multi_layout.proofs.WordLemmas.{each_after_length, none_more}
+
+-- WHAT IS KEPT
+
+-- a group is at least as high as its ended lines
+closed_most : (group : Group) → group.closed ≤ kept_height group
+closed_most group = by_any group.line.any refl
+  where
+    by_any : (b : Bool) → group.line.any ≡ b → group.closed ≤ kept_height group
+    by_any true some = rw some (omega arith)
+    by_any false none = rw none (omega arith)
+
+-- what the present area has is placing items
+pub present_placing : (sign : SignData) (items : List Meaning) → All IsPlacing (present_area sign items)
+present_placing sign items = area_placing (spots sign items) (record { at = standing sign items; put = Break None })
+
+-- so the ended lines of the present group aren't high
+pub closed_below : (spots : List Spot) (area : Area) → area ≡ area_sum spots → All IsPlacing spots → IsNarrowArea spots → (just : ℕ) → 2 ≤ just → just ≤ 4 → area.present ≡ just → area.group.closed ≤ 1024
+closed_below spots area is placing narrow just low high own =
+    let sum = group_of_own spots area is just (sym own) in
+    let tall = (narrow just low high).1 in
+    let most : area.group.closed ≤ kept_height area.group = closed_most area.group in
+    omega (arith, most, kept_height_is (in_group just spots) area.group (placing_group just spots placing) sum, tall)
+
+-- where lines aren't filled, the items are laid out as they are
+pub laid_plain : (sign : SignData) (items : List Meaning) → laid_items Off sign items items ≡ items
+laid_plain sign items = unfilled_items sign items items [] (sym (append-nil items))
+
+-- the state is that of the items as they are laid out
+pub state_of : (words : Bool) (sign : SignData) (kept : Pass) (items : List Meaning) → IsPassOf words sign kept items → IsStateOf sign (laid_items (fill_of words) sign items items) kept.state
+state_of true sign kept items of = of.of.state_is
+state_of false sign kept items of = subst (λ l. IsStateOf sign l kept.state) (sym (laid_plain sign items)) of.state_is
+
+ready_of : (words : Bool) (sign : SignData) (kept : Pass) (items : List Meaning) → IsPassOf words sign kept items → length items ≤ 2 ^ 32 → IsPassReady words kept
+ready_of true sign kept items of few = filled_ready sign items kept of.of few
+ready_of false sign kept items of few = ready sign items kept.state of.state_is few
+
+module _ (sign : SignData) (sound : IsSound sign) (items : List Item) (none : offences sign items ≡ []) where
+  -- the lines are few and narrow
+  pub room_of : (words : Bool) (kept : Pass) → IsPassOf words sign kept (map meaning items) → HasRoom (laid_area words sign (map meaning items))
+  room_of true kept of = laid_room sign sound of.words items none
+  room_of false kept of = subst (λ l. HasRoom (present_area sign l)) (sym (laid_plain sign (map meaning items))) (room sign sound sound.font (map meaning items) of.fine)
+
+  pub narrow_of : (words : Bool) (kept : Pass) → IsPassOf words sign kept (map meaning items) → IsNarrowArea (laid_area words sign (map meaning items))
+  narrow_of true kept of = laid_narrow sign sound of.words items none kept of.of
+  narrow_of false kept of = subst (λ l. IsNarrowArea (present_area sign l)) (sym (laid_plain sign (map meaning items))) (narrow_area sign sound (map meaning items) of.fine)
+
+-- a character joins the group in force where lines aren't filled
+pub plain_passed : (sign : SignData) (items : List Meaning) (old new : Pass) → IsUnfilledOf sign old.state items → (number : ℕ) → offence sign.line_fill sign items (Shows number) ≡ None
+    → IsStateOf sign (items ++ Shows number ∷ []) new.state → IsCharacterPassed false sign items number old new None
+plain_passed sign items old new of number fine st =
+    let fine' = subst (λ setting. offence setting sign items (Shows number) ≡ None) of.off fine in
+    let (present, order, others, own) = steps.glyph_joins sign items old.state of.state_is number (unsized_if Off sign items (Shows number) fine' true refl) new.state st in
+    let same = laid_plain sign items in
+    let same' = laid_plain sign (items ++ Shows number ∷ []) in
+    record {
+      of = record { off = of.off; fine = none_more (offence Off sign) items (Shows number) of.fine fine'; state_is = st };
+      present = present;
+      order = order;
+      others = λ just other. ap (λ l. in_group just (present_area sign l)) same' ∙ others just other ∙ ap (λ l. in_group just (present_area sign l)) (sym same);
+      own = ap (λ l. ended_lines (in_group old.state.attributes.page_just (present_area sign l))) same' ∙ own ∙ ap (λ l. ended_lines (in_group old.state.attributes.page_just (present_area sign l))) (sym same);
+    }
+
+-- WHAT WAS READ
+
+module _ {words : Bool} {sign : SignData} (sound : IsSound sign) {items : List Item} {present : ℕ} {kept : Pass} {lines : LineTable} (r : IsReadOf words sign items present kept lines) where
+  abbrev ms : List Meaning
+  ms = map meaning items
+
+  abbrev laid : List Meaning
+  laid = laid_items (fill_of words) sign ms ms
+
+  pub read_state : IsStateOf sign laid kept.state
+  read_state = state_of words sign kept ms r.of
+
+  -- the sums are small
+  pub read_ready : IsPassReady words kept
+  read_ready = ready_of words sign kept ms r.of (omega (arith, length-meanings items, r.fine.few))
+
+  pub read_below : IsBelow (2 ^ 42) kept.state.area
+  read_below = below_more (1024 * length laid) (2 ^ 42) kept.state.area (omega (arith, each_after_length (laid_item (fill_of words) sign ms) ms, length-meanings items, r.fine.few)) read_state.below
+
+  read_narrow : IsNarrowArea (present_area sign laid)
+  read_narrow = narrow_of sign sound items r.fine.none words kept r.of
+
+  -- the lines are few and narrow
+  pub read_lines : (spots : List Spot) × All IsPlacing spots × (kept.state.area ≡ area_sum spots) × HasKnown present spots lines × HasRoom spots × IsNarrowArea spots
+  read_lines = (present_area sign laid, present_placing sign laid, read_state.area, r.known, room_of sign sound items r.fine.none words kept r.of, read_narrow)
+
+  -- and the ended ones of the present group not high
+  pub read_closed : 2 ≤ kept.state.area.present → kept.state.area.present ≤ 4 → kept.state.area.group.closed ≤ 1024
+  read_closed low high = closed_below (present_area sign laid) kept.state.area read_state.area (present_placing sign laid) read_narrow kept.state.area.present low high refl
+
+-- the group before the item is left, if the item belongs to a later one
+pub group_left : {words : Bool} {sign : SignData} {items : List Item} {kept : Pass} {lines : LineTable} → IsReadOf words sign items kept.state.area.present kept lines → (x : Meaning) (lines' : LineTable)
+    → ((spots : List Spot) → All IsPlacing spots → kept.state.area ≡ area_sum spots → HasKnown kept.state.area.present spots lines → HasKnown (next_group kept.state x) spots lines')
+    → IsOrdered lines' → (IsLow lines → IsLow lines') → IsReadOf words sign items (next_group kept.state x) kept lines'
+group_left {words} {sign} {items} {kept} {lines} r x lines' known ordered low =
+    let ms = map meaning items in
+    let laid = laid_items (fill_of words) sign ms ms in
+    record {
+      fine = r.fine;
+      of = r.of;
+      known = known (present_area sign laid) (present_placing sign laid) (state_of words sign kept ms r.of).area r.known;
+      ordered = ordered;
+      low = low r.low;
+    }
+
+-- ONE MORE ITEM
+
+module _ {sign : SignData} {items : List Item} {item : Item} {read : KnownItem} (next : IsNextRead sign items item read) where
+  -- it doesn't offend
+  pub next_fine : offence sign.line_fill sign (map meaning items) (meant_by read) ≡ None
+  next_fine = subst (λ m. offence sign.line_fill sign (map meaning items) m ≡ None) next.meant (last_fine sign items item next.fine.none).1
+
+  pub items_with : map meaning (items ++ item ∷ []) ≡ map meaning items ++ meant_by read ∷ []
+  items_with = map-append meaning items (item ∷ []) ∙ ap (λ m. map meaning items ++ m ∷ []) next.meant
+
+-- a tag doesn't offend among the items as they are laid out
+pub tag_unsized : (words : Bool) (sign : SignData) (kept : Pass) (ms : List Meaning) → IsPassOf words sign kept ms → (tag : Tag) → offence sign.line_fill sign ms (Does tag) ≡ None
+    → unsized_offence sign (laid_items (fill_of words) sign ms ms) (Does tag) ≡ None
+tag_unsized true sign kept ms of tag fine =
+    let fine' = subst (λ setting. offence setting sign ms (Does tag) ≡ None) of.words fine in
+    unsized_if Off sign (laid_items Words sign ms ms) (Does tag) (sym (offends_as_laid sign ms tag) ∙ fine') (has_place (Does tag)) refl
+tag_unsized false sign kept ms of tag fine =
+    subst (λ l. unsized_offence sign l (Does tag) ≡ None) (sym (laid_plain sign ms)) (unsized_if sign.line_fill sign ms (Does tag) fine (has_place (Does tag)) refl)
+
+-- what has a place isn't before the present group
+character_order : (words : Bool) (sign : SignData) (kept : Pass) (ms : List Meaning) → IsPassOf words sign kept ms → (number : ℕ) → offence sign.line_fill sign ms (Shows number) ≡ None
+    → kept.state.area.present ≤ kept.state.attributes.page_just
+character_order true sign kept ms of number fine = goes_on sign ms kept of.of number (subst (λ setting. offence setting sign ms (Shows number) ≡ None) of.words fine)
+character_order false sign kept ms of number fine = steps.order sign ms kept.state of.state_is (Shows number) (unsized_if sign.line_fill sign ms (Shows number) fine true refl) refl
+
+pub next_order : (words : Bool) (sign : SignData) (items : List Item) (kept : Pass) → IsPassOf words sign kept (map meaning items) → (item : Item) (read : KnownItem) → IsNextRead sign items item read
+    → has_place (meant_by read) ≡ true → kept.state.area.present ≤ kept.state.attributes.page_just
+next_order words sign items kept of item (Char number) next place = character_order words sign kept (map meaning items) of number (next_fine next)
+next_order words sign items kept of item (known.Tag tag) next place =
+    let ms = map meaning items in
+    steps.order sign (laid_items (fill_of words) sign ms ms) kept.state (state_of words sign kept ms of) (Does tag) (tag_unsized words sign kept ms of tag (next_fine next)) place

@@ -1,0 +1,127 @@
+-- The two readings of an area: one for the table of its lines, one to put its cells.
+use Rattle.std.specs.Prelude.{◌≡◌, ℕ, ◌+◌, ◌-◌, ◌*◌, ◌^◌, ◌≤◌, Bool, true, false, nat_lt, List, [], ◌∷◌, ◌++◌, map, length, if◌then◌else◌}
+use Rattle.std.specs.List.{All}
+use Rattle.multi_token.specs.Counted.{Counted, RisesBetween}
+use Rattle.multi_token.specs.Spelling.{Item, spelling}
+use Rattle.multi_tag.specs.declared.tag.Tag.{Tag}
+use Rattle.multi_tag.specs.declared.tag.Tag.TheVariants.{Back, NewLine}
+use Rattle.page_plane.specs.Plane.{BitPlane}
+use Rattle.sign_font.specs.Sign.{SignData, tallest}
+use Rattle.multi_layout.specs.declared.cursor.Cursor.{Cursor}
+use Rattle.multi_layout.specs.declared.paint.Layer.{Layer}
+use Rattle.multi_layout.specs.declared.read.AreaLines.{AreaLines}
+use Rattle.multi_layout.specs.declared.state.State.{State}
+use Rattle.multi_layout.specs.declared.table.LineTable.{LineTable}
+use Rattle.multi_layout.specs.Address.{Spot, spots, standing, in_group, lines_of, in_area}
+use Rattle.multi_layout.specs.Drawn.{Lights, has_colour}
+use Rattle.multi_layout.specs.Limits.{plane_octets}
+use Rattle.multi_layout.specs.Meaning.{Meaning, Does, Shows, EndsArea, begins_area, has_place}
+use Rattle.multi_layout.specs.kept.State.{present_area}
+use Rattle.multi_layout.specs.kept.Sums.{ended_lines}
+use Rattle.multi_layout.specs.kept.Cursors.{IsBetween, items_of, meant, LaidItem, spell_of}
+use Rattle.multi_layout.specs.kept.Table.{IsOrdered, group_lines, table_of}
+
+-- the item ends a line (NTCIP 1203 v03, MULTI tag 'nl')
+abbrev pub ends_line : Meaning → Bool
+ends_line (Does (NewLine gap)) = true
+ends_line _ = false
+
+-- the page justification of the group to which the next item belongs, if it has a place, or else that of the present group (own)
+abbrev pub next_group : State → Meaning → ℕ
+next_group state item = if has_place item then state.attributes.page_just else state.area.present
+
+-- the lines of a group that are known when items go on in this group: all counted lines of the groups before it, and the ended
+-- lines of the others (own)
+abbrev pub known_lines : ℕ → ℕ → List Spot → List (List Spot)
+known_lines present just area = if nat_lt just present then lines_of (in_group just area) else ended_lines (in_group just area)
+
+-- the table has the known lines of each group of an area (own)
+abbrev pub HasKnown : ℕ → List Spot → LineTable → Type 0
+HasKnown present area table = (just : ℕ) → 2 ≤ just → just ≤ 4 → group_lines just table ≡ table_of (known_lines present just area)
+
+-- the table has the counted lines of each group of an area (own)
+abbrev pub HasCounted : List Spot → LineTable → Type 0
+HasCounted area table = (just : ℕ) → 2 ≤ just → just ≤ 4 → group_lines just table ≡ table_of (lines_of (in_group just area))
+
+-- the bottoms of the table's lines are low enough that no sum overflows (own)
+abbrev pub IsLow : LineTable → Type 0
+IsLow table = (just : ℕ) → 2 ≤ just → just ≤ 4 → All (λ line. line.bottom ≤ 2 ^ 43) (group_lines just table)
+
+-- an area has no more counted lines than a table has room for (own)
+abbrev pub HasRoom : List Spot → Type 0
+HasRoom area = length (lines_of (in_group 2 area)) + length (lines_of (in_group 3 area)) + length (lines_of (in_group 4 area)) ≤ 128
+
+-- no area begins behind these items (own)
+abbrev pub BeginsNoArea : List LaidItem → Type 0
+BeginsNoArea area = All (λ item. begins_area (meant item) ≡ false) area
+
+-- a tag that sets no background (own)
+abbrev pub IsQuiet : Tag → Type 0
+IsQuiet (Back given) = ⊥
+IsQuiet tag = Unit {0}
+
+-- the placing items of the area in which the next item stands, those behind that item too (own)
+abbrev pub whole_area : SignData → List LaidItem → List LaidItem → List Spot
+whole_area sign before behind = in_area (standing sign (map meant before)).area (spots sign (map meant (before ++ behind)))
+
+-- the table has the counted lines of the area in which the first of the items behind stands (own)
+abbrev pub HasArea : SignData → List Meaning → List Meaning → LineTable → Type 0
+HasArea sign before behind lines = HasCounted (in_area (standing sign before).area (spots sign (before ++ behind))) lines
+
+-- the table has the lines that are known before these items, where the cursor stands (own)
+abbrev pub IsKnownBefore : SignData → List LaidItem → Cursor → LineTable → Type 0
+IsKnownBefore sign before cursor lines = HasKnown cursor.state.area.present (present_area sign (map meant before)) lines
+
+-- the steps that reading the first of these items takes at most, and one at the end (own)
+abbrev pub first_steps : List Item → ℕ
+first_steps [] = 1
+first_steps (item ∷ rest) = 2 * length (spelling item) - 1
+
+-- the area that begins at the cursor was read: these are its items, and those behind it (own)
+pub record IsAreaRead (sign : SignData) (before behind : List LaidItem) (cursor : Cursor) (read : AreaLines) (source source' : Counted) :
+    Type
+    0 where
+  pub area : List LaidItem
+  pub rest : List LaidItem
+  pub split : behind ≡ area ++ rest
+  pub plain : BeginsNoArea area
+  pub ends : EndsArea (map meant rest)
+  pub end : read.end ≡ cursor.at + length (spell_of area)
+  pub table : HasCounted (whole_area sign before behind) read.lines
+  pub ordered : IsOrdered read.lines
+  pub low : IsLow read.lines
+  pub steps : RisesBetween source source' 0 (9 * length (spell_of area) + first_steps (items_of rest))
+
+-- the plane shows what these items put on their page, of all the items of the string (own)
+abbrev pub IsDrawnTo : SignData → Layer → List Meaning → List Meaning → BitPlane → Type 0
+IsDrawnTo sign layer items before plane =
+    Lights plane (has_colour sign (standing sign before).page layer.phase layer.colour (spots sign items) (spots sign before))
+
+-- if the old plane shows what the items before these put on their page, the new one shows what these put on it too (own)
+abbrev pub DrawsOn : SignData → Layer → List LaidItem → List LaidItem → List LaidItem → BitPlane → BitPlane → Type 0
+DrawsOn sign layer before these rest old new =
+    IsDrawnTo sign layer (map meant (before ++ (these ++ rest))) (map meant before) old
+    → IsDrawnTo sign layer (map meant (before ++ (these ++ rest))) (map meant (before ++ these)) new
+
+-- the same of a character by its number, whatever of the string is behind it (own)
+abbrev pub DrawsGlyph : SignData → Layer → List Meaning → ℕ → List Meaning → BitPlane → BitPlane → Type 0
+DrawsGlyph sign layer before number rest old new =
+    IsDrawnTo sign layer (before ++ Shows number ∷ rest) before old
+    → IsDrawnTo sign layer (before ++ Shows number ∷ rest) (before ++ Shows number ∷ []) new
+
+-- so it is wherever the cursor stands before the items of an area that was read, and other items (own)
+abbrev pub OverArea : SignData → List ℕ → Cursor → AreaLines → (List LaidItem → List LaidItem → List LaidItem → Type 0) → Type 0
+OverArea sign octets cursor read So =
+    (before area rest : List LaidItem) → IsBetween sign octets before (area ++ rest) cursor → BeginsNoArea area
+    → read.end ≡ cursor.at + length (spell_of area)
+    → HasCounted (whole_area sign before (area ++ rest)) read.lines → So before area rest
+
+-- these octets of a page took at most these steps over the plane: a row for each row of each character, and a fill for each
+-- background, which has four octets (own)
+pub record IsFilledBy (sign : SignData) (plane plane' : BitPlane) (octets : ℕ) : Type 0 where
+  pub fills : ℕ
+  pub few : 4 * fills ≤ octets
+  pub least : plane.steps ≤ plane'.steps
+  pub most : plane'.steps ≤ plane.steps + tallest sign * octets + plane_octets sign * fills
+  pub width : plane'.width ≡ plane.width
+  pub height : plane'.height ≡ plane.height

@@ -1,0 +1,54 @@
+-- The first reading of an area, for the table of its lines (own).
+use Rattle.std.specs.Prelude.{◌≡◌, ℕ, ◌^◌, ◌≤◌, Bool, List, [], ◌∷◌, ◌++◌, Option, map, length}
+use Rattle.multi_token.specs.Spelling.{Item}
+use Rattle.sign_font.specs.Sign.{SignData}
+use Rattle.multi_layout.specs.declared.pass.Pass.{Pass}
+use Rattle.multi_layout.specs.declared.item.KnownItem.{KnownItem}
+use Rattle.multi_layout.specs.declared.line.Line.{Line}
+use Rattle.multi_layout.specs.declared.table.LineTable.{LineTable}
+use Rattle.multi_layout.specs.Address.{Spot, in_group}
+use Rattle.multi_layout.specs.kept.FillSums.{EndsLine}
+use Rattle.multi_layout.specs.kept.KnownItem.{IsKnownItem, meant_by}
+use Rattle.multi_layout.specs.LaidItems.{laid_items}
+use Rattle.multi_layout.specs.Meaning.{Meaning, Shows, meaning}
+use Rattle.multi_layout.specs.kept.AreaDrawing.{HasKnown, IsLow}
+use Rattle.multi_layout.specs.kept.PassState.{IsPassOf, fill_of}
+use Rattle.multi_layout.specs.kept.State.{present_area}
+use Rattle.multi_layout.specs.kept.Table.{IsOrdered}
+use Rattle.multi_layout.specs.Verdict.{offences}
+
+-- some items of which none offends, and which a string can have (own)
+pub record AreFine (sign : SignData) (items : List Item) : Type 0 where
+  pub none : offences sign items ≡ []
+  pub few : length items ≤ 2 ^ 32
+
+-- the placing items of the present area behind these items, as they are laid out among them (own)
+abbrev pub laid_area : Bool → SignData → List Meaning → List Spot
+laid_area words sign items = present_area sign (laid_items (fill_of words) sign items items)
+
+-- this is kept of the items of an accepted string, and the table has the lines of their area, as it is laid out, that are known
+-- when items go on in this group (own)
+pub record IsReadOf (words : Bool) (sign : SignData) (items : List Item) (present : ℕ) (kept : Pass) (lines : LineTable) : Type 0 where
+  pub fine : AreFine sign items
+  pub of : IsPassOf words sign kept (map meaning items)
+  pub known : HasKnown present (laid_area words sign (map meaning items)) lines
+  pub ordered : IsOrdered lines
+  pub low : IsLow lines
+
+-- this is read of one more item, and none offends with it (own)
+pub record IsNextRead (sign : SignData) (items : List Item) (item : Item) (read : KnownItem) : Type 0 where
+  pub meant : meaning item ≡ meant_by read
+  pub known : IsKnownItem read
+  pub fine : AreFine sign (items ++ item ∷ [])
+
+-- one more character is passed that doesn't offend: this is then what is kept of the items with it, its group is the present one,
+-- the other groups stay as they are laid out, and its own has the lines that it had, or one more (own)
+pub record IsCharacterPassed (words : Bool) (sign : SignData) (items : List Meaning) (number : ℕ) (old new : Pass) (ended : Option Line) :
+    Type 0 where
+  pub of : IsPassOf words sign new (items ++ Shows number ∷ [])
+  pub present : new.state.area.present ≡ old.state.attributes.page_just
+  pub order : old.state.area.present ≤ old.state.attributes.page_just
+  pub others : (just : ℕ) → (just ≡ old.state.attributes.page_just → ⊥)
+      → in_group just (laid_area words sign (items ++ Shows number ∷ [])) ≡ in_group just (laid_area words sign items)
+  pub own : EndsLine (in_group old.state.attributes.page_just (laid_area words sign items))
+      (in_group old.state.attributes.page_just (laid_area words sign (items ++ Shows number ∷ []))) ended

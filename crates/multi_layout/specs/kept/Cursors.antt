@@ -1,0 +1,127 @@
+-- A place between two items of an accepted string.
+use Rattle.std.specs.Prelude.{◌≡◌, ℕ, ◌^◌, ◌<◌, not, List, [], ◌∷◌, ◌++◌, map, length, Option, Some, None}
+use Rattle.std.specs.List.{All, filter}
+use Rattle.multi_token.specs.Spelling.{Item, IsItem, spelling, spell}
+use Rattle.sign_font.specs.declared.parts.LineFill.TheVariants.{Off}
+use Rattle.sign_font.specs.Sign.{SignData}
+use Rattle.multi_layout.specs.LaidItems.{laid_item, laid_out}
+use Rattle.multi_layout.specs.declared.cursor.Cursor.{Cursor}
+use Rattle.multi_layout.specs.declared.cursor.NextItem.{NextItem}
+use Rattle.multi_layout.specs.kept.KnownItem.{meant_by, IsKnownItem}
+use Rattle.multi_layout.specs.Meaning.{Meaning, has_place, meaning}
+use Rattle.multi_layout.specs.Offence.{offence, unsized_offence}
+use Rattle.multi_layout.specs.kept.State.{IsStateOf}
+use Rattle.multi_layout.specs.Verdict.{offences}
+use Rattle.multi_layout.specs.Words.{each_after, some_after}
+
+-- no item of these offends after those before it, where lines aren't filled (own)
+abbrev pub IsFine : SignData → List Meaning → Type 0
+IsFine sign items = some_after (offence Off sign) items ≡ []
+
+-- no item of these offends after those before it by more than its size (own)
+abbrev pub IsOrderly : SignData → List Meaning → Type 0
+IsOrderly sign items = some_after (unsized_offence sign) items ≡ []
+
+-- these are the items of an accepted string: it spells them, and none offends (own)
+pub record IsAccepted (sign : SignData) (octets : List ℕ) (items : List Item) : Type 0 where
+  pub each : All IsItem items
+  pub spelled : octets ≡ spell items
+  pub none : offences sign items ≡ []
+  pub short : length octets < 2 ^ 32
+
+-- the offset is between these items of an accepted string (own)
+pub record IsPlaced (sign : SignData) (octets : List ℕ) (before behind : List Item) (at : ℕ) : Type 0 where
+  pub accepted : IsAccepted sign octets (before ++ behind)
+  pub place : at ≡ length (spell before)
+
+-- an item of a string, with what it is laid out as (own)
+pub record LaidItem : Type 0 where
+  pub item : Item
+  pub as_laid : Meaning
+
+-- what a piece means (own)
+abbrev pub meant : LaidItem → Meaning
+meant piece = piece.as_laid
+
+-- the items of some pieces (own)
+abbrev pub items_of : List LaidItem → List Item
+items_of pieces = map (λ piece. piece.item) pieces
+
+-- the octets of some pieces (own)
+abbrev pub spell_of : List LaidItem → List ℕ
+spell_of pieces = spell (items_of pieces)
+
+-- the items of a string, as they are laid out (own)
+abbrev pub laid_meanings : SignData → List Item → List Meaning
+laid_meanings sign items = laid_out sign (map meaning items)
+
+-- the pieces of a string with these items (own)
+abbrev pub pieces_of : SignData → List Item → List LaidItem
+pieces_of sign items =
+    let all = map meaning items in
+    each_after (λ before item. record { item = item; as_laid = laid_item sign.line_fill sign all (map meaning before) (meaning item) })
+    items
+
+-- the cursor stands between these pieces of an accepted string (own)
+pub record IsBetween (sign : SignData) (octets : List ℕ) (before behind : List LaidItem) (cursor : Cursor) : Type 0 where
+  pub placed : IsPlaced sign octets (items_of before) (items_of behind) cursor.at
+  pub laid : map meant (before ++ behind) ≡ laid_meanings sign (items_of (before ++ behind))
+  pub orderly : IsOrderly sign (map meant (before ++ behind))
+  pub state_is : IsStateOf sign (map meant before) cursor.state
+
+-- without the characters and the `nl`, which alone are laid out (own)
+abbrev pub unplaced : List Meaning → List Meaning
+unplaced items = filter (λ x. not (has_place x)) items
+
+-- the cursor stands between these items of an accepted string, and nothing was laid out (own)
+pub record IsPassing (sign : SignData) (octets : List ℕ) (before behind : List Item) (cursor : Cursor) : Type 0 where
+  pub placed : IsPlaced sign octets before behind cursor.at
+  pub state_is : IsStateOf sign (unplaced (map meaning before)) cursor.state
+
+-- the offset is between two items of an accepted string (own)
+abbrev pub IsWithin : SignData → List ℕ → ℕ → Type 0
+IsWithin sign octets at = (before behind : List Item) × IsPlaced sign octets before behind at
+
+-- this is read of an item (own)
+pub record IsItemRead (item : Item) (next : NextItem) : Type 0 where
+  pub meant : meaning item ≡ meant_by next.item
+  pub known : IsKnownItem next.item
+  pub len : next.len ≡ length (spelling item)
+
+-- this is a piece, by what it is laid out as (own)
+pub record IsRead (piece : LaidItem) (next : NextItem) : Type 0 where
+  pub meant : meant piece ≡ meant_by next.item
+  pub known : IsKnownItem next.item
+  pub len : next.len ≡ length (spelling piece.item)
+
+-- this is read of the first of these items, or there is none (own)
+abbrev pub IsFirst : List Item → Option NextItem → Type 0
+IsFirst behind None = behind ≡ []
+IsFirst behind (Some next) = (item : Item) × (rest : List Item) × (behind ≡ item ∷ rest) × IsItemRead item next
+
+-- this is the first of these pieces, or there is none (own)
+abbrev pub IsPieceFirst : List LaidItem → Option NextItem → Type 0
+IsPieceFirst behind None = behind ≡ []
+IsPieceFirst behind (Some next) = (piece : LaidItem) × (rest : List LaidItem) × (behind ≡ piece ∷ rest) × IsRead piece next
+
+-- the cursor stands before an item of an accepted string, of which this is read (own)
+abbrev pub IsBefore : SignData → List ℕ → NextItem → Cursor → Type 0
+IsBefore sign octets next cursor =
+    (before rest : List LaidItem) × (item : LaidItem) × IsBetween sign octets before (item ∷ rest) cursor × IsRead item next
+
+-- the new cursor stands behind the next item, of which this is read, wherever the old one stands before it (own)
+abbrev pub GoesBehind : SignData → List ℕ → NextItem → Cursor → Cursor → Type 0
+GoesBehind sign octets next old new =
+    (before rest : List LaidItem) (item : LaidItem) → IsBetween sign octets before (item ∷ rest) old → IsRead item next
+    → IsBetween sign octets (before ++ item ∷ []) rest new
+
+-- the cursor passes before an item of an accepted string, of which this is read (own)
+abbrev pub IsPassingBefore : SignData → List ℕ → NextItem → Cursor → Type 0
+IsPassingBefore sign octets next cursor =
+    (before rest : List Item) × (item : Item) × IsPassing sign octets before (item ∷ rest) cursor × IsItemRead item next
+
+-- the new cursor has passed the next item, of which this is read, wherever the old one stands before it (own)
+abbrev pub PassesOn : SignData → List ℕ → NextItem → Cursor → Cursor → Type 0
+PassesOn sign octets next old new =
+    (before rest : List Item) (item : Item) → IsPassing sign octets before (item ∷ rest) old → IsItemRead item next
+    → IsPassing sign octets (before ++ item ∷ []) rest new

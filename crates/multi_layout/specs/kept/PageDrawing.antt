@@ -1,0 +1,39 @@
+-- The drawing of pages, one after the other.
+use Rattle.std.specs.Prelude.{◌≡◌, ◌⊎◌, ℕ, ◌+◌, ◌-◌, ◌*◌, ◌≤◌, ◌==◌, List, [], ◌++◌, map, if◌then◌else◌}
+use Rattle.multi_token.specs.Counted.{Counted, RisesBetween}
+use Rattle.page_plane.specs.Plane.{BitPlane}
+use Rattle.sign_font.specs.Sign.{SignData, tallest}
+use Rattle.multi_layout.specs.declared.cursor.Cursor.{Cursor}
+use Rattle.multi_layout.specs.Limits.{plane_octets}
+use Rattle.multi_layout.specs.Meaning.{BeginsPage}
+use Rattle.multi_layout.specs.kept.Cursors.{IsBetween, meant, LaidItem}
+
+-- the cursor stands where a page of an accepted string begins (own)
+abbrev pub IsPageStart : SignData → List ℕ → Cursor → Type 0
+IsPageStart sign octets cursor =
+    (before behind : List LaidItem) × IsBetween sign octets before behind cursor × BeginsPage (map meant before)
+
+-- the page that begins at the old cursor is passed: the new one stands behind the `np` that ends it, or at the end of the string (own)
+pub record IsPagePassed (sign : SignData) (octets : List ℕ) (before behind : List LaidItem) (old new : Cursor) : Type 0 where
+  pub page : List LaidItem
+  pub rest : List LaidItem
+  pub split : behind ≡ page ++ rest
+  pub between : IsBetween sign octets (before ++ page) rest new
+  pub on : old.at ≤ new.at
+  pub ends :
+      ((rest ≡ []) × (new.state.pages ≡ old.state.pages))
+      ⊎ (BeginsPage (map meant (before ++ page)) × (new.state.pages ≡ old.state.pages + 1))
+
+-- the steps over the string from cursor to cursor: each octet is read at most twice for the table of its area's lines, and at most
+-- twice to draw; at the end of the string each of both takes one more (own)
+abbrev pub IsReadTwice : Counted → Counted → Cursor → Cursor → Type 0
+IsReadTwice source source' old new =
+    RisesBetween source source' 0 (18 * (new.at - old.at) + (if new.state.pages == old.state.pages then 2 else 0))
+
+-- the steps over the plane: a row for each row of each character, and a fill where the page begins and for each background; each
+-- background and each `np` behind the page has four octets, so that only the fill with which the last page begins has none (own)
+pub record IsFilledFew (sign : SignData) (plane plane' : BitPlane) (old new : Cursor) : Type 0 where
+  pub fills : ℕ
+  pub least : plane.steps ≤ plane'.steps
+  pub few : 4 * fills ≤ (new.at - old.at) + (if new.state.pages == old.state.pages then 4 else 0)
+  pub most : plane'.steps ≤ plane.steps + tallest sign * (new.at - old.at) + plane_octets sign * fills

@@ -1,0 +1,109 @@
+-- What is kept of the items that were read (own).
+use Rattle.std.specs.Prelude.{◌≡◌, ℕ, ◌+◌, ◌*◌, ◌^◌, ◌≤◌, List, [], ◌∷◌, ◌++◌, length, Some, None, Result, Ok, Err, if◌then◌else◌}
+use Rattle.std.specs.Option.{unwrap_or}
+use Rattle.multi_tag.specs.declared.tag.Tag.{Tag}
+use Rattle.multi_tag.specs.declared.tag.Tag.TheVariants.{NewPage, NewLine, LineJust, PageJust, Font, Rect}
+use Rattle.sign_font.specs.declared.parts.LineFill.TheVariants.{Off}
+use Rattle.sign_font.specs.Sign.{SignData, font_numbered, info_of}
+use Rattle.multi_layout.specs.declared.attributes.Attributes.{Attributes}
+use Rattle.multi_layout.specs.declared.fault.SyntaxError.{SyntaxError}
+use Rattle.multi_layout.specs.declared.state.State.{State}
+use Rattle.multi_layout.specs.Codes.{code_of}
+use Rattle.multi_layout.specs.Attributes.{given_font, given_line_just, given_page_just, given_spacing, given_fore, given_back, given_on, given_off, given_flash, given_rectangle}
+use Rattle.multi_layout.specs.Meaning.{Meaning, begins_area, is_new_page}
+use Rattle.multi_layout.specs.Address.{Spot, Standing, in_area, spots, standing}
+use Rattle.multi_layout.specs.Offence.{offence}
+use Rattle.multi_layout.specs.kept.Sums.{IsBelow, area_sum}
+use Rattle.multi_layout.specs.Times.{cycle, ended_times}
+use Rattle.multi_layout.specs.Verdict.{pages_of}
+use Rattle.multi_layout.specs.Words.{some_after}
+
+-- the placing items of the present area, in which the next item stands (own)
+abbrev pub present_area : SignData → List Meaning → List Spot
+present_area sign items = in_area (standing sign items).area (spots sign items)
+
+-- the values in force behind one more item (own)
+abbrev pub standing_behind : SignData → Standing → Meaning → Standing
+standing_behind sign here x = record {
+  page = here.page + (if is_new_page x then 1 else 0);
+  area = here.area + (if begins_area x then 1 else 0);
+  font = unwrap_or (given_font sign x) here.font;
+  line_just = unwrap_or (given_line_just sign.defaults x) here.line_just;
+  page_just = unwrap_or (given_page_just sign.defaults x) here.page_just;
+  spacing = unwrap_or (given_spacing x) here.spacing;
+  fore = unwrap_or (given_fore sign.defaults x) here.fore;
+  back = unwrap_or (given_back sign.defaults x) here.back;
+  on = unwrap_or (given_on sign.defaults x) here.on;
+  off = unwrap_or (given_off sign.defaults x) here.off;
+  flash = unwrap_or (given_flash sign.defaults x) here.flash;
+  rectangle = unwrap_or (given_rectangle sign x) here.rectangle;
+}
+
+-- what is kept of the values in force (own)
+abbrev pub attributes_of : Standing → Attributes
+attributes_of at = record {
+  font = info_of at.font;
+  line_just = at.line_just;
+  page_just = at.page_just;
+  spacing = at.spacing;
+  fore = at.fore;
+  back = at.back;
+  on = at.on;
+  off = at.off;
+  flash = at.flash;
+  rectangle = at.rectangle;
+}
+
+-- the state is that of these items: their pages, their ended pages' times, the values in force behind them, and the sums of
+-- their present area; the font in force is the sign's, and the justifications are known ones (own)
+pub record IsStateOf (sign : SignData) (items : List Meaning) (state : State) : Type 0 where
+  pub pages : state.pages ≡ pages_of items
+  pub times : state.cycle ≡ cycle (ended_times sign items)
+  pub attributes : state.attributes ≡ attributes_of (standing sign items)
+  pub area : state.area ≡ area_sum (present_area sign items)
+  pub font : font_numbered sign (standing sign items).font.number ≡ Some (standing sign items).font
+  pub line_just : (2 ≤ state.attributes.line_just) × (state.attributes.line_just ≤ 5)
+  pub page_just : (2 ≤ state.attributes.page_just) × (state.attributes.page_just ≤ 4)
+  pub below : IsBelow (1024 * length items) state.area
+  pub short : state.cycle ≤ 510 * state.pages
+
+-- the times of all pages of a string that ends in this state, in tenths of a second (own)
+abbrev pub whole_times : State → ℕ
+whole_times state = state.cycle + state.attributes.on + state.attributes.off
+
+-- lines aren't filled, the state is that of these items, and none of them offends (own)
+pub record IsUnfilledOf (sign : SignData) (state : State) (items : List Meaning) : Type 0 where
+  pub off : sign.line_fill ≡ Off
+  pub fine : some_after (offence Off sign) items ≡ []
+  pub state_is : IsStateOf sign items state
+
+-- the state is small enough that no sum overflows, and its justifications are known ones (own)
+pub record IsReady (state : State) : Type 0 where
+  pub line_just : (2 ≤ state.attributes.line_just) × (state.attributes.line_just ≤ 5)
+  pub page_just : (2 ≤ state.attributes.page_just) × (state.attributes.page_just ≤ 4)
+  pub below : IsBelow (2 ^ 62) state.area
+  pub short : state.cycle ≤ 510 * state.pages
+
+-- one more item is judged where lines aren't filled: it doesn't offend and the state is then that
+-- of the items with it, or it offends by this error (own)
+abbrev pub IsJudged : SignData → List Meaning → Meaning → Result (Unit {0}) SyntaxError → State → Type 0
+IsJudged sign items item (Ok done) state = (offence Off sign items item ≡ None) × IsStateOf sign (items ++ item ∷ []) state
+IsJudged sign items item (Err error) state = offence Off sign items item ≡ Some (code_of error)
+
+-- whatever the items before are, if the old state is theirs, the item is judged behind them, and the new state is the one then (own)
+abbrev pub Judges : SignData → State → Meaning → Result (Unit {0}) SyntaxError → State → Type 0
+Judges sign old item result new = (items : List Meaning) → IsStateOf sign items old → IsJudged sign items item result new
+
+-- a tag that the layout of the sign has no part in: it begins nothing, places nothing, and asks for no font (own)
+abbrev pub IsSimple : Tag → Type 0
+IsSimple NewPage = ⊥
+IsSimple (NewLine gap) = ⊥
+IsSimple (Font pick) = ⊥
+IsSimple (Rect x y w h) = ⊥
+IsSimple tag = Unit {0}
+
+-- the justification that a tag gives is a known one (NTCIP 1203 v03, MULTI tags 'jl' and 'jp')
+abbrev pub IsKnown : Tag → Type 0
+IsKnown (LineJust (Some just)) = (2 ≤ just) × (just ≤ 5)
+IsKnown (PageJust (Some just)) = (2 ≤ just) × (just ≤ 4)
+IsKnown tag = Unit {0}
