@@ -6,10 +6,7 @@ use crate::commands::lines::answer_lines;
 use crate::commands::picture::answer_picture;
 use crate::commands::serve::answer_serve;
 use crate::commands::sign::answer_sign;
-use crate::ends::{
-    DONE, FAULTED, UNREAD, answer_words, end_of, end_of_answer, end_of_lines, end_of_picture,
-    say_of_file,
-};
+use crate::ends::{answer_words, end_of, end_of_answer, end_of_lines, end_of_picture, say_of_file};
 use crate::front::Front;
 use crate::words::{Request, request_of};
 use std::alloc::Global;
@@ -33,38 +30,41 @@ pub(crate) fn main_with<P: Files, R: Read, W: Write, E: Write>(
         Ok(request) => request,
         Err(answer) => return answer_words(answer, writer, errors),
     };
+    let unread = request.unread();
     let front = match Front::read(alloc, files, request.sign()) {
         Ok(front) => front,
         Err((name, fault)) => {
             say_of_file(name, &fault, errors);
-            return match request {
-                Request::Explain(_) => UNREAD,
-                _ => FAULTED,
-            };
+            return unread;
         }
     };
-    if let Request::Explain(asked) = &request {
-        return answer_explain(alloc, files, asked, &front, reader, writer, errors);
-    }
-    let mut input = front.octets.as_slice().chain(reader);
     match request {
         Request::Lines(asked) => {
+            let mut input = front.octets.as_slice().chain(reader);
             let end = answer_lines(alloc, asked, &mut input, writer);
             end_of_lines(end, &front, errors)
         }
         Request::Serve(asked) => {
+            let mut input = front.octets.as_slice().chain(reader);
             let end = answer_serve(alloc, asked, &mut input, writer);
             end_of_lines(end, &front, errors)
         }
-        Request::Explain(_) => DONE,
+        Request::Explain(asked) => {
+            answer_explain(alloc, files, &asked, &front, reader, writer, errors)
+        }
         Request::Picture(asked) => {
+            let mut input = front.octets.as_slice().chain(reader);
             let end = answer_picture(alloc, files, asked, &mut input, writer);
             end_of_picture(end, &front, errors)
         }
         Request::Sign(asked) => {
+            let mut input = front.octets.as_slice().chain(reader);
             let end = answer_sign(alloc, asked, &mut input, writer);
             end_of_answer(end, &front, errors)
         }
-        Request::Font(asked) => end_of(answer_font(alloc, &asked, &mut input, writer), errors),
+        Request::Font(asked) => {
+            let mut input = front.octets.as_slice().chain(reader);
+            end_of(answer_font(alloc, &asked, &mut input, writer), errors)
+        }
     }
 }

@@ -9,6 +9,7 @@ use crate::commands::lines::{
 use crate::commands::picture::{PictureRequest, picture_asked, picture_command};
 use crate::commands::serve::{ServeRequest, serve_asked, serve_command};
 use crate::commands::sign::{SignRequest, sign_asked, sign_command};
+use crate::ends::{FAULTED, UNREAD};
 use crate::options::SignSource;
 use clap::error::ErrorKind;
 use clap::{ArgMatches, Command, Error};
@@ -41,6 +42,18 @@ impl<'a> Request<'a> {
             Request::Picture(asked) => asked.sign,
             Request::Sign(_) => SignSource::Input,
             Request::Font(_) => SignSource::Input,
+        }
+    }
+
+    /// The exit status if a file that is named can't be read.
+    pub(crate) fn unread(&self) -> u8 {
+        match self {
+            Request::Explain(_) => UNREAD,
+            Request::Lines(_) => FAULTED,
+            Request::Serve(_) => FAULTED,
+            Request::Picture(_) => FAULTED,
+            Request::Sign(_) => FAULTED,
+            Request::Font(_) => FAULTED,
         }
     }
 }
