@@ -48,7 +48,7 @@ the line needs 15 pixels, the rectangle has 12
             "line 2: refused: unsupportedTag (3) at octet 0
 [green]
 ^
-the sign takes no tag 'green'; no tag of the standard begins so
+the sign takes no tag 'green'; no tag of the standard begins so; perhaps [cf3] is meant
 
 ",
         ),
