@@ -12,8 +12,7 @@
  *   be written too. All of them have been given some value before the call, as by `= {0}`, or `= {}` in C++.
  * - What a call writes overlaps nothing else that is handed to it. What it reads stays the same until it returns.
  * - malloc, realloc and free come from one allocator, align as C asks, and return.
- * - The thread has stack left: 64 KiB for a sign file whose tables are nested no deeper than docs/signs.md nests them, and 2 MiB for any
- *   other; on AArch64 128 KiB and 3 MiB. A file from anybody may have keys that aren't looked at, with tables nested thousands deep.
+ * - The thread has 64 KiB of stack left. That serves for every sign file: one that nests too deep isn't read.
  * - No call is made from a signal handler, or from the forked child of a process that had threads. None is left by longjmp, or by cancelling
  *   its thread.
  * - No other function of the program has a name that begins with latsefur_ or rattle_.

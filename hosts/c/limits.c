@@ -13,12 +13,8 @@
 #include <string.h>
 #include <sys/mman.h>
 
-/* The stack that latsefur.h asks for: for a sign file whose tables are nested as in docs/signs.md, and for any. */
-#ifdef __aarch64__
-enum { USUAL_STACK = 128 << 10, ANY_STACK = 3 << 20 };
-#else
-enum { USUAL_STACK = 64 << 10, ANY_STACK = 2 << 20 };
-#endif
+/* The stack that latsefur.h asks for, and a larger one, in which it is seen how much is used. */
+enum { STACK = 64 << 10, PAINTED = 256 << 10 };
 
 enum { MARK = 0xa5, BEHIND = 16, THREADS = 4, MANY = 1000 };
 
@@ -584,7 +580,7 @@ static void test_threads(void) {
     }
 }
 
-/* A call that is made on a thread with so little stack. */
+/* A call that is made on a thread with a stack of ours. */
 typedef struct {
     export which;
     const uint8_t *sign;
@@ -598,51 +594,85 @@ static void *call_there(void *given) {
     return NULL;
 }
 
-/* The outcome of each export must be this one. */
-static void expect_on_stack(const uint8_t *sign, size_t sign_len, size_t stack, uint8_t outcome) {
+/* The outcome of each export must be this one, and no call may use more stack than latsefur.h asks for, with what the thread itself
+ * uses of it. */
+static void expect_on_stack(const uint8_t *sign, size_t sign_len, uint8_t outcome) {
     small_call mine = {SIGN, sign, sign_len, MARK};
-    pthread_attr_t small;
+    pthread_attr_t ours;
     pthread_t thread;
+    size_t unused;
     int which;
-    EXPECT(pthread_attr_init(&small) == 0 && pthread_attr_setstacksize(&small, stack) == 0);
+    uint8_t *stack = mmap(NULL, PAINTED, PROT_READ | PROT_WRITE, MAP_PRIVATE | MAP_ANONYMOUS, -1, 0);
+    EXPECT(stack != MAP_FAILED && pthread_attr_init(&ours) == 0 && pthread_attr_setstack(&ours, stack, PAINTED) == 0);
     for (which = SIGN; which < EXPORTS; which++) {
         mine.which = (export)which;
-        EXPECT(pthread_create(&thread, &small, call_there, &mine) == 0);
+        memset(stack, MARK, PAINTED);
+        EXPECT(pthread_create(&thread, &ours, call_there, &mine) == 0);
         EXPECT(pthread_join(thread, NULL) == 0);
         EXPECT(mine.outcome == outcome);
+        for (unused = 0; unused < PAINTED && stack[unused] == MARK; unused++) {
+        }
+        EXPECT(PAINTED - unused <= STACK);
     }
-    pthread_attr_destroy(&small);
+    pthread_attr_destroy(&ours);
+    munmap(stack, PAINTED);
 }
 
-static char *put_key(char *at) {
+static char *put_name(char *at, int parts) {
     int part;
-    for (part = 0; part < 80; part++)
-        at += sprintf(at, part < 79 ? "a." : "a");
+    for (part = 0; part < parts; part++)
+        at += sprintf(at, part < parts - 1 ? "a." : "a");
     return at;
 }
 
-/* The stack that latsefur.h asks for is enough, also for tables that are nested as deeply as TOML lets them be here: a table by a name of
- * 80 parts, a key of 80 parts in it, and 80 tables in one another after that, each with a key of 80 parts. */
-static void test_stack(void) {
-    static char nested[82 * 80 * 2 + 80 * 8 + 64];
-    char *at = nested;
-    int depth;
-    *at++ = '[';
-    at = put_key(at);
-    at += sprintf(at, "]\n");
-    at = put_key(at);
-    at += sprintf(at, " = ");
-    for (depth = 0; depth < 80; depth++) {
-        *at++ = '{';
-        at = put_key(at);
-        at += sprintf(at, " = ");
+/* A line by which tables nest so deep: by a name of so many parts, and by names of as many in tables in one another. */
+static char *put_tables(char *at, int parts, int depth) {
+    int count;
+    at += sprintf(at, "b.");
+    at = put_name(at, parts - 1);
+    for (count = 0; count < depth; count++) {
+        at += sprintf(at, " = {");
+        at = put_name(at, parts);
     }
-    *at++ = '1';
-    for (depth = 0; depth < 80; depth++)
+    at += sprintf(at, " = 1");
+    for (count = 0; count < depth; count++)
         *at++ = '}';
     *at++ = '\n';
-    expect_on_stack(file, file_len, USUAL_STACK, LATSEFUR_DONE);
-    expect_on_stack(octets_of(nested), (size_t)(at - nested), ANY_STACK, LATSEFUR_NO_SIGN_FILE);
+    return at;
+}
+
+/* Arrays of tables in one another by names of up to so many parts, and such a line in the innermost. */
+static char *put_nested(char *at, int parts, int depth) {
+    int count;
+    for (count = 1; count <= parts; count++) {
+        at += sprintf(at, "\n[[");
+        at = put_name(at, count);
+        at += sprintf(at, "]]");
+    }
+    *at++ = '\n';
+    return put_tables(at, parts, depth);
+}
+
+/* The stack that latsefur.h asks for is enough: for the sign file, also with tables that nobody looks at and that nest as deep as they
+ * may, with their line twice, which is refused deep inside, and for texts that nest too deep, of which one has 60,000 brackets. */
+static void test_stack(void) {
+    uint8_t *nested = malloc(file_len + (1 << 16));
+    char *behind = (char *)nested + file_len, *end;
+    EXPECT(nested != NULL);
+    memcpy(nested, file, file_len);
+    expect_on_stack(file, file_len, LATSEFUR_DONE);
+    end = put_nested(behind, 4, 16);
+    expect_on_stack(nested, file_len + (size_t)(end - behind), LATSEFUR_DONE);
+    end = put_tables(end, 4, 16);
+    expect_on_stack(nested, file_len + (size_t)(end - behind), LATSEFUR_NO_SIGN_FILE);
+    end = put_nested(behind, 4, 17);
+    expect_on_stack(nested, file_len + (size_t)(end - behind), LATSEFUR_NO_SIGN_FILE);
+    end = put_nested(behind, 80, 80);
+    expect_on_stack(nested, file_len + (size_t)(end - behind), LATSEFUR_NO_SIGN_FILE);
+    memcpy(nested, "a = ", 4);
+    memset(nested + 4, '[', 60000);
+    expect_on_stack(nested, 60004, LATSEFUR_NO_SIGN_FILE);
+    free(nested);
 }
 
 /* What a controller tells of its sign is what the sign file says. */

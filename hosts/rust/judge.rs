@@ -14,8 +14,7 @@ use std::io::{self, BufWriter, Read, Write};
 const MAX_TEXT: usize = 4096;
 
 /// Six of the exports, as `hosts/latsefur.h` has them, behind a type that keeps what they ask of a host but the stack: slices are never null, and what
-/// is written is borrowed by the call alone. A thread that reads a sign file from anybody needs more stack than the 2 MiB that a thread of
-/// Rust has if nothing else is said. `latsefur_plane_of_page` and `latsefur_colours_of_page` are like those `_at` a clock, with a
+/// is written is borrowed by the call alone. `latsefur_plane_of_page` and `latsefur_colours_of_page` are like those `_at` a clock, with a
 /// page and a phase in its place.
 mod latsefur {
     #[repr(C)]

@@ -33,7 +33,7 @@ descriptor width height = 44 ∷ word 0 ++ word 0 ++ word width ++ word height +
 unfoldable pub picture_head : ℕ → ℕ → ℕ → List ℕ
 picture_head width height delay = control delay ++ descriptor width height ++ 4 ∷ []
 
--- data in blocks, each behind its length, and an empty one at the end (GIF89a, data sub-blocks and block terminator)
+-- data in blocks, each after its length, and an empty one at the end (GIF89a, data sub-blocks and block terminator)
 unfoldable pub blocks : List (List ℕ) → List ℕ
 blocks parts = flat_map (λ part. length part ∷ part) parts ++ 0 ∷ []
 

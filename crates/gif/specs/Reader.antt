@@ -12,22 +12,22 @@ pub record Film : Type 0 where
   pub palette : List ℕ
   pub pictures : List Picture
 
--- what a reader finds behind what it has found, if it has found it (GIF89a)
+-- what a reader finds next, if it has found what comes before (GIF89a)
 abbrev pub and_then : {T U : Type 0} → Option T → (T → Option U) → Option U
 and_then found f = option_and_then f found
 
--- what comes behind these octets, if the others begin with them (GIF89a)
+-- what follows these octets, if the others begin with them (GIF89a)
 unfoldable pub behind : List ℕ → List ℕ → Option (List ℕ)
 behind [] octets = Some octets
 behind (first ∷ rest) [] = None
 behind (first ∷ rest) (octet ∷ octets) = if first == octet then behind rest octets else None
 
--- data, and what comes behind it (GIF89a)
+-- data, and what follows it (GIF89a)
 pub record Found : Type 0 where
   pub content : List ℕ
   pub more : List ℕ
 
--- data in blocks, each behind its length, up to an empty one, in at most so many blocks (GIF89a)
+-- data in blocks, each after its length, up to an empty one, in at most this many blocks (GIF89a)
 unfoldable pub found_in : ℕ → List ℕ → Option Found
 found_in zero octets = None
 found_in (suc most) [] = None
@@ -52,7 +52,7 @@ is_end (octet ∷ other ∷ octets) = false
 abbrev pub whole : ℕ → List ℕ → Option (List ℕ)
 whole size pixels = if length pixels == size then Some pixels else None
 
--- at most so many pictures, up to the end of a file (GIF89a)
+-- at most this many pictures, up to the end of a file (GIF89a)
 unfoldable pub pictures_in : ℕ → ℕ → ℕ → List ℕ → Option (List Picture)
 pictures_in zero width height octets = None
 pictures_in (suc most) width height octets =

@@ -1,7 +1,7 @@
 //! The controller of a sign file.
 ghost use Rattle.std.specs.Prelude.{◌≡◌, ◌⊎◌, map, true, false, IfOk, IfErr};
 ghost use Rattle.message_store.specs.Limits.{can_be_made, made};
-ghost use Rattle.message_store.specs.Stored.{permanent_of};
+ghost use Rattle.message_store.specs.Slot.{permanent_of};
 ghost use Rattle.latsefur_c.specs.Held.{LacksController, SetsUp};
 
 use crate::outcome::{NO_MEMORY, NO_SIGN_FILE, TABLE_FAULT};

@@ -1,8 +1,8 @@
 -- What is shown of a text stays until its next change.
-use Rattle.std.proofs.Common.{◌≡◌, ℕ, ◌+◌, ◌-◌, ◌%◌, ◌<◌, ◌≤◌, Bool, true, false, ◌==◌, ◌||◌, ◌&&◌, nat_le, nat_lt, cond, List, [], ◌∷◌, length, Option, Some, None, refl, sym, ap, ◌∙◌, subst, inl, inr, arith, eqb-true}
+use Rattle.std.proofs.Common.{◌≡◌, ℕ, ◌+◌, ◌-◌, ◌%◌, ◌<◌, ◌≤◌, Bool, true, false, ◌==◌, ◌||◌, ◌&&◌, nat_le, nat_lt, cond, List, [], length, Some, None, refl, sym, ap, ◌∙◌, subst, inl, inr, arith, eqb-true}
 use Rattle.std.proofs.Math.Nat.{mod-lt}
 use Rattle.std.proofs.lemmas.Bool.{cases_Bool, cases_lt, eq-eqb, or_right, true≢false}
-use Rattle.std.specs.List.{AllByRecursion, cons_option, filter_map, last_or}
+use Rattle.std.specs.List.{AllByRecursion, filter_map, last_or}
 use Rattle.std.specs.Option.{unwrap_or}
 use Rattle.sign_font.specs.Cell as cells
 use Rattle.sign_font.specs.Sign.{SignData, sized}
@@ -11,30 +11,17 @@ use Rattle.multi_layout.specs.declared.times.Shown.{Shown}
 use Rattle.multi_layout.specs.declared.times.Shown.TheVariants.{Off, Page}
 use Rattle.multi_layout.specs.LaidItems.{laid_out}
 use Rattle.multi_layout.specs.Meaning.{Meaning, meanings}
-use Rattle.multi_layout.specs.Picture.{Thing, in_plane, pixel_at, shown_colour, thing_at, things, things_among}
+use Rattle.multi_layout.specs.Picture.{in_plane, pixel_at, shown_colour, thing_at, things, things_among}
 use Rattle.multi_layout.specs.Place.{place_of}
-use Rattle.multi_layout.specs.Times.{Times, cycle, page_times, shown, shown_at, shown_within}
-use Rattle.multi_layout.specs.Words.{some_after}
+use Rattle.multi_layout.specs.Times.{Times, cycle, page_times, shown, shown_within}
+use Rattle.multi_layout.proofs.PixelLemmas.{all_same, pick, picked}
 use Rattle.multi_layout.proofs.TimesLemmas.{cycle_within, shown_always, shown_modulo}
-use Rattle.message_change.specs.Change.{IsBefore, IsSamePage, Stays, change_at, change_of, change_within, flash_left, flashes_left, page_flashes, sooner, times_left}
+use Rattle.message_change.specs.Change.{IsBefore, IsSamePage, Stays, change_at, change_of, change_within, flashes_left, page_flashes, sooner, times_left}
 use Rattle.message_change.proofs.FlashLemmas.{before_all, before_both, mod_on, steady}
 use Rattle.message_change.proofs.LaidLemmas.{IsSteady, laid_out_steady}
 use Rattle.message_change.proofs.TurnLemmas.{IsTurnOf, later, off_shown, on_shown, turn_later, turn_of}
 
 -- PIXELS
-
--- what a thing gives a pixel of a page
-abbrev pick : ℕ → ℕ → ℕ → Thing → Option ℕ
-pick page column row thing = cond ((thing.page == page) && thing.covers column row) (Some thing.colour) None
-
-abbrev picked : ℕ → ℕ → ℕ → Option Thing → Option ℕ
-picked page column row None = None
-picked page column row (Some thing) = pick page column row thing
-
-pick_cons : (page column row : ℕ) (thing : Option Thing) (rest : List Thing)
-    → filter_map (pick page column row) (cons_option thing rest) ≡ cons_option (picked page column row thing) (filter_map (pick page column row) rest)
-pick_cons page column row None rest = refl
-pick_cons page column row (Some thing) rest = refl
 
 -- what is put gives a pixel of a page the same before it changes
 put_same : (phase tenths page column row : ℕ) (before all : List Spot) (at : Spot) (put : Put) → IsSteady page phase tenths (record { at = at.at; put = put })
@@ -49,19 +36,6 @@ put_same phase tenths page column row before all at (Glyph cell) soon =
       | inl is ↦ ap (λ lit. cond ((at.at.page == page) && covers lit) (Some at.at.fore) None) (steady phase tenths at.at.flash (soon (eqb-true at.at.page page is)))
       | inr isn't ↦ rw isn't refl
     ]
-
--- what items make, one after the other, gives a pixel the same where each gives it the same
-all_same : {X : Type 0} (page column row : ℕ) (f g : List X → X → Option Thing) (Holds : X → Type 0)
-    → ((before : List X) (x : X) → Holds x → picked page column row (f before x) ≡ picked page column row (g before x)) → (xs : List X) → AllByRecursion Holds xs
-    → filter_map (pick page column row) (some_after f xs) ≡ filter_map (pick page column row) (some_after g xs)
-all_same page column row f g Holds same [] hold = refl
-all_same page column row f g Holds same (x ∷ xs) hold =
-    let f_rest = some_after (λ before. f (x ∷ before)) xs in
-    let g_rest = some_after (λ before. g (x ∷ before)) xs in
-    pick_cons page column row (f [] x) f_rest
-    ∙ ap (λ o. cons_option o (filter_map (pick page column row) f_rest)) (same [] x hold.0)
-    ∙ ap (λ l. cons_option (picked page column row (g [] x)) l) (all_same page column row (λ before. f (x ∷ before)) (λ before. g (x ∷ before)) Holds (λ before. same (x ∷ before)) xs hold.1)
-    ∙ sym (pick_cons page column row (g [] x) g_rest)
 
 things_same : (sign : SignData) (phase tenths : ℕ) (items : List Meaning) (page column row : ℕ) → AllByRecursion (IsSteady page phase tenths) (spots sign items)
     → filter_map (pick page column row) (things sign (phase + tenths) items) ≡ filter_map (pick page column row) (things sign phase items)

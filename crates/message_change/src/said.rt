@@ -16,7 +16,7 @@ pub(crate) struct Said {
 }
 
 impl Said {
-    /// Whether a page begins behind the item.
+    /// Whether a page begins after the item.
     pub(crate) fn begins_page(&self) -> bool
         ensures { result ≡ is_page_said self.now.tag }
     {

@@ -1,4 +1,4 @@
-//! What is in force behind the items of a page, and when it changes.
+//! What is in force after the items of a page, and when it changes.
 ghost use Rattle.std.specs.Prelude.{◌≡◌, ◌+◌, ◌-◌, ◌^◌, ◌≤◌, ◌<◌, None, if◌then◌else◌};
 ghost use Rattle.std.specs.Option.{option_map};
 ghost use Rattle.sign_font.specs.Sign.{SignData};
@@ -12,7 +12,7 @@ use crate::flash::{Flash, flash_left, sooner};
 use multi_tag::Tag;
 use sign_font::Defaults;
 
-/// When the present page began, what is in force behind its items so far, and the soonest change of a flash among them.
+/// When the present page began, what is in force after its items so far, and the soonest change of a flash among them.
 #[derive(Clone, Copy)]
 pub(crate) struct Walk {
     pub(crate) begin: u64,
@@ -36,7 +36,7 @@ impl Walk {
         }
     }
 
-    /// Goes behind an item that begins no page, at a phase of the page.
+    /// Passes an item that begins no page, at a phase of the page.
     pub(crate) fn pass(&mut self, defaults: Defaults, said: Option<Tag>, phase: u64)
         ensures in_force { (sign : SignData) (at : Standing) (item : Meaning) → sign.defaults ≡ defaults → IsSaid item said
             → IsIn at self.old → IsIn (standing_behind sign at item) self.new }
@@ -51,7 +51,7 @@ impl Walk {
         }
     }
 
-    /// Goes behind what a tag says.
+    /// Passes what a tag says.
     fn put(&mut self, defaults: Defaults, tag: Tag, phase: u64)
         ensures in_force { (sign : SignData) (at : Standing) → sign.defaults ≡ defaults → IsIn at self.old
             → IsIn (standing_behind sign at (said_by tag)) self.new }

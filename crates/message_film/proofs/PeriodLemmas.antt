@@ -14,10 +14,11 @@ use Rattle.multi_layout.specs.declared.times.Shown.TheVariants.{Page}
 use Rattle.multi_layout.specs.LaidItems.{laid_of, laid_out}
 use Rattle.multi_layout.specs.Laid.{laid_spot}
 use Rattle.multi_layout.specs.Meaning.{Meaning, meanings}
-use Rattle.multi_layout.specs.Picture.{Thing, in_plane, is_lit_at, pixel_at, shown_colour, thing_at, things, things_among}
+use Rattle.multi_layout.specs.Picture.{in_plane, is_lit_at, pixel_at, shown_colour, thing_at, things, things_among}
 use Rattle.multi_layout.specs.Place.{place_of}
 use Rattle.multi_layout.specs.Times.{cycle, shown_at, shown_within}
 use Rattle.multi_layout.specs.Words.{each_after, some_after}
+use Rattle.multi_layout.proofs.PixelLemmas.{all_same, pick, picked}
 use Rattle.multi_layout.proofs.TimesLemmas.{shown_always, shown_modulo}
 use Rattle.page_picture.specs.Shown.{shown_colour_at}
 use Rattle.message_film.specs.Moving.{seen_points}
@@ -56,19 +57,6 @@ lit_again phase tenths (Some flash) (inr (times, is)) =
     let same : (phase + tenths) % sum ≡ phase % sum = ap (λ n. (phase + n) % sum) is ∙ add-mul-mod_self_right phase times sum in
     ap (λ m. cond (sum == 0) true (cond flash.off_first (nat_le flash.off m) (nat_lt m flash.on))) same
 
--- what a thing gives a pixel
-abbrev pick : ℕ → ℕ → ℕ → Thing → Option ℕ
-pick page column row thing = cond ((thing.page == page) && thing.covers column row) (Some thing.colour) None
-
-abbrev picked : ℕ → ℕ → ℕ → Option Thing → Option ℕ
-picked page column row None = None
-picked page column row (Some thing) = pick page column row thing
-
-pick_cons : (page column row : ℕ) (thing : Option Thing) (rest : List Thing)
-    → filter_map (pick page column row) (cons_option thing rest) ≡ cons_option (picked page column row thing) (filter_map (pick page column row) rest)
-pick_cons page column row None rest = refl
-pick_cons page column row (Some thing) rest = refl
-
 -- what is put gives a pixel the same where its flash is the same
 put_again : (phase tenths page column row : ℕ) (before all : List Spot) (spot : Spot) (put : Put) → IfSome spot.at.flash (Divides tenths)
     → picked page column row (thing_at (phase + tenths) (place_of before all spot) spot put) ≡ picked page column row (thing_at phase (place_of before all spot) spot put)
@@ -78,19 +66,6 @@ put_again phase tenths page column row before all spot (Glyph cell) divides =
     let place = place_of before all spot in
     ap (λ lit. cond ((spot.at.page == page) && (lit && nat_le place.column column && nat_le place.row row && nat_lt row (place.row + spot.at.font.height)
     && cells.is_lit (sized spot.at.font cell) (column - place.column) (row - place.row))) (Some spot.at.fore) None) (lit_again phase tenths spot.at.flash divides)
-
--- what items make, one after the other, gives a pixel the same where each gives it the same
-all_again : {X : Type 0} (page column row : ℕ) (f g : List X → X → Option Thing) (Holds : X → Type 0)
-    → ((before : List X) (x : X) → Holds x → picked page column row (f before x) ≡ picked page column row (g before x)) → (xs : List X) → AllByRecursion Holds xs
-    → filter_map (pick page column row) (some_after f xs) ≡ filter_map (pick page column row) (some_after g xs)
-all_again page column row f g Holds same [] hold = refl
-all_again page column row f g Holds same (x ∷ xs) hold =
-    let f_rest = some_after (λ before. f (x ∷ before)) xs in
-    let g_rest = some_after (λ before. g (x ∷ before)) xs in
-    pick_cons page column row (f [] x) f_rest
-    ∙ ap (λ o. cons_option o (filter_map (pick page column row) f_rest)) (same [] x hold.0)
-    ∙ ap (λ l. cons_option (picked page column row (g [] x)) l) (all_again page column row (λ before. f (x ∷ before)) (λ before. g (x ∷ before)) Holds (λ before. same (x ∷ before)) xs hold.1)
-    ∙ sym (pick_cons page column row (g [] x) g_rest)
 
 -- THE FLASH IN FORCE
 
@@ -160,7 +135,7 @@ things_again : (sign : SignData) (phase tenths : ℕ) (items : List Meaning) (pa
 unfolding things things_among
 things_again sign phase tenths items page column row allow =
     let all = spots sign items in
-    all_again page column row (λ before spot. thing_at (phase + tenths) (place_of before all spot) spot spot.put) (λ before spot. thing_at phase (place_of before all spot) spot spot.put)
+    all_same page column row (λ before spot. thing_at (phase + tenths) (place_of before all spot) spot spot.put) (λ before spot. thing_at phase (place_of before all spot) spot spot.put)
     (λ (spot : Spot). IfSome spot.at.flash (Divides tenths))
     (λ before spot divides. put_again phase tenths page column row before all spot spot.put divides)
     all (spots_flash sign tenths items allow)

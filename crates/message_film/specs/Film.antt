@@ -17,7 +17,7 @@ IsUnmade side sign tenths Memory = Unit {0}
 IsUnmade side sign tenths (TooLarge long) = (long ≡ tenths) × (64000000 ≤ most_of_film side sign.width sign.height tenths)
 IsUnmade side sign tenths (TooLong long) = ⊥
 
--- no seconds are asked for, and a film of a text would last for so many tenths of a second, more than 6,000 (own)
+-- no seconds are asked for, and a film of the text would last for this many tenths of a second, more than 6,000 (own)
 abbrev pub IsTooLong : SignData → List ℕ → Option ℕ → FilmFault → Type 0
 IsTooLong sign text seconds (TooLong tenths) = (seconds ≡ None) × PlaysFor sign text tenths × (6000 < tenths)
 IsTooLong sign text seconds fault = ⊥

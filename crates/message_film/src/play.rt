@@ -25,10 +25,10 @@ pub enum FilmFault {
     /// Memory was refused.
     #[error("out of memory")]
     Memory,
-    /// The file of a film of so many tenths of a second would have more than 64,000,000 octets.
+    /// The file of a film of this many tenths of a second would have more than 64,000,000 octets.
     #[error("too large: a film of {tenths} tenths of a second has more than 64 MB")]
     TooLarge { tenths: u16 },
-    /// The string begins anew after so many tenths of a second, and a film lasts for at most 6,000. `u32::MAX` stands for that long or
+    /// The string begins anew after this many tenths of a second, and a film lasts for at most 6,000. `u32::MAX` stands for that long or
     /// longer.
     #[error("too long: it begins anew after {tenths} tenths of a second")]
     TooLong { tenths: u32 },

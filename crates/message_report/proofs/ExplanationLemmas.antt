@@ -13,7 +13,6 @@ use Rattle.octet_text.proofs.TextLemmas.{grown}
 use Rattle.message_report.specs.Words.{IsOneLine}
 use Rattle.message_report.specs.declared.format.Telling.{Telling}
 use Rattle.message_report.specs.Explanation.{Explains, HasPages, IsWarnings, Tells, TellsTooLong, accepts, head_text, takes, warning_text}
-use Rattle.message_report.specs.Pictures.{page_text}
 
 -- an accepted string has the pages that its items begin
 pub pages_are : (sign : SignData) (octets : List ℕ) (pages : ℕ) → IsVerdict sign octets (Accepted pages) → length octets < 2 ^ 32 → pages ≡ pages_of (meanings octets)
@@ -35,12 +34,12 @@ three_more start now one two three shown head words page so_far first second thi
     grown start (one ++ words) three (shown ++ head ++ words) (10 ∷ page) _ (grown start one (one ++ words) (shown ++ head) words _ (grown start now one shown head _ so_far first refl) refl refl) (behind_line one two three words page second third) refl
 
 -- one more page comes behind those before it
-pub pages_more : (sign : SignData) (octets : List ℕ) (phase pages page : ℕ) (shown words : List ℕ) → HasPages sign octets phase pages page shown → IsOneLine words
-    → HasPages sign octets phase pages (page + 1) (shown ++ head_text page pages ++ words ++ 10 ∷ page_text sign octets page phase)
-pages_more sign octets phase pages page shown words has line =
+pub pages_more : (picture : ℕ → List ℕ) (pages page : ℕ) (shown words : List ℕ) → HasPages picture pages page shown → IsOneLine words
+    → HasPages picture pages (page + 1) (shown ++ head_text page pages ++ words ++ 10 ∷ picture page)
+pages_more picture pages page shown words has line =
     let next : suc page ≡ page + 1 = omega arith in
-    let more : HasPages sign octets phase pages (suc page) (shown ++ head_text page pages ++ words ++ 10 ∷ page_text sign octets page phase) = (shown, words, has, line, refl) in
-    subst (λ n. HasPages sign octets phase pages n (shown ++ head_text page pages ++ words ++ 10 ∷ page_text sign octets page phase)) next more
+    let more : HasPages picture pages (suc page) (shown ++ head_text page pages ++ words ++ 10 ∷ picture page) = (shown, words, has, line, refl) in
+    subst (λ n. HasPages picture pages n (shown ++ head_text page pages ++ words ++ 10 ∷ picture page)) next more
 
 -- a message of at most 4,096 octets is explained by the one verdict on it
 pub explained : (telling : Telling) (sign : SignData) (name octets message : List ℕ) (line : ℕ) (v : Verdict) (text : List ℕ) → length message ≤ 4096 → octets ≡ message → IsVerdict sign octets v

@@ -1,3 +1,4 @@
+pub mod BlockLemmas
 pub mod ExplanationLemmas
 pub mod PageLemmas
 pub mod RecordLemmas

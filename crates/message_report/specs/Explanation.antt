@@ -1,12 +1,15 @@
 -- What is told of a message: the verdict on it and its place, and the pages as pictures, with words for people between them.
-use Rattle.std.specs.Prelude.{◌≡◌, ◌⊎◌, ℕ, zero, suc, ◌+◌, Bool, true, false, ◌==◌, nat_lt, List, [], ◌∷◌, ◌++◌, All, map, length, codes, decimal, if◌then◌else◌}
-use Rattle.std.specs.List.{flat_map, range_with_len}
+use Rattle.std.specs.Prelude.{◌≡◌, ◌⊎◌, ℕ, zero, suc, ◌+◌, Bool, true, false, ◌==◌, nat_lt, List, [], ◌∷◌, ◌++◌, All, length, codes, decimal, if◌then◌else◌}
+use Rattle.std.specs.List.{flat_map}
 use Rattle.sign_font.specs.Sign.{SignData}
 use Rattle.multi_layout.specs.Verdict.{Verdict, Accepted, Refused, verdict}
 use Rattle.message_report.specs.Words.{IsOneLine}
 use Rattle.message_report.specs.declared.format.Format.{Format}
-use Rattle.message_report.specs.declared.format.Format.TheVariants.{Json, Lines, Text}
+use Rattle.message_report.specs.declared.format.Format.TheVariants.{Ansi, Json, Lines, Text}
 use Rattle.message_report.specs.declared.format.Telling.{Telling}
+use Rattle.message_report.specs.declared.picture.Picture.{Picture}
+use Rattle.message_report.specs.declared.picture.Picture.TheVariants.{Blocks, Marks}
+use Rattle.message_report.specs.Blocks.{coloured_text}
 use Rattle.message_report.specs.Records.{TellsRecord, TooLongRecord}
 use Rattle.message_report.specs.Names.{name_of}
 use Rattle.message_report.specs.Pictures.{page_text}
@@ -45,30 +48,35 @@ head_text page pages = codes "page " ++ decimal (page + 1) ++ codes " of " ++ de
 
 -- WORDS AND PICTURES
 
--- a text has the first pages of a string at a phase, each with its head, some words to the end of that line, and its picture (own)
-abbrev pub HasPages : SignData → List ℕ → ℕ → ℕ → ℕ → List ℕ → Type 0
-HasPages sign octets phase pages zero text = text ≡ []
-HasPages sign octets phase pages (suc page) text = (front words : List ℕ) × HasPages sign octets phase pages page front
-    × IsOneLine words × (text ≡ front ++ head_text page pages ++ words ++ 10 ∷ page_text sign octets page phase)
+-- the picture of a page of a string at a phase, by its number, in marks or in the sign's colours (own)
+abbrev pub picture_text : Picture → SignData → List ℕ → ℕ → ℕ → List ℕ
+picture_text Marks sign octets phase page = page_text sign octets page phase
+picture_text Blocks sign octets phase page = coloured_text sign octets page phase
+
+-- a text has the first pages of so many, each with its head, some words to the end of that line, and its picture (own)
+abbrev pub HasPages : (ℕ → List ℕ) → ℕ → ℕ → List ℕ → Type 0
+HasPages picture pages zero text = text ≡ []
+HasPages picture pages (suc page) text = (front words : List ℕ) × HasPages picture pages page front × IsOneLine words
+    × (text ≡ front ++ head_text page pages ++ words ++ 10 ∷ picture page)
 
 -- a text tells of an accepted message: the number of its pages, a line, all pages, and some words (own)
-abbrev pub ShowsPages : SignData → List ℕ → ℕ → ℕ → ℕ → List ℕ → Type 0
-ShowsPages sign octets phase line pages text = (front shown words : List ℕ) × HasPages sign octets phase pages pages shown
-    × IsOneLine front × (text ≡ line_head line ++ accepted_text pages ++ front ++ 10 ∷ shown ++ words)
+abbrev pub ShowsPages : (ℕ → List ℕ) → ℕ → ℕ → List ℕ → Type 0
+ShowsPages picture line pages text = (front shown words : List ℕ) × HasPages picture pages pages shown × IsOneLine front
+    × (text ≡ line_head line ++ accepted_text pages ++ front ++ 10 ∷ shown ++ words)
 
 -- or it says nothing of it, or only the number of its pages and some words (own)
 abbrev pub PassesOver : ℕ → ℕ → List ℕ → Type 0
 PassesOver line pages text = (text ≡ []) ⊎ ((words : List ℕ) × (text ≡ line_head line ++ accepted_text pages ++ words))
 
 -- an accepted message is shown, or passed over if only refused ones are asked for (own)
-abbrev pub TellsAccepted : Bool → SignData → List ℕ → ℕ → ℕ → ℕ → List ℕ → Type 0
-TellsAccepted true sign octets phase line pages text = PassesOver line pages text
-TellsAccepted false sign octets phase line pages text = ShowsPages sign octets phase line pages text
+abbrev pub TellsAccepted : Bool → (ℕ → List ℕ) → ℕ → ℕ → List ℕ → Type 0
+TellsAccepted true picture line pages text = PassesOver line pages text
+TellsAccepted false picture line pages text = ShowsPages picture line pages text
 
 -- a text tells a verdict in words and pictures (own)
-abbrev pub TellsWords : Telling → SignData → List ℕ → ℕ → Verdict → List ℕ → Type 0
-TellsWords telling sign octets line (Accepted pages) text = TellsAccepted telling.refused_only sign octets telling.phase line pages text
-TellsWords telling sign octets line (Refused code at) text = (words : List ℕ) × (text ≡ line_head line ++ refused_text code at ++ words)
+abbrev pub TellsWords : Bool → (ℕ → List ℕ) → ℕ → Verdict → List ℕ → Type 0
+TellsWords refused_only picture line (Accepted pages) text = TellsAccepted refused_only picture line pages text
+TellsWords refused_only picture line (Refused code at) text = (words : List ℕ) × (text ≡ line_head line ++ refused_text code at ++ words)
 
 -- LINES FOR EDITORS
 
@@ -81,8 +89,8 @@ abbrev pub IsWarnings : List ℕ → ℕ → List ℕ → Type 0
 IsWarnings name line text = (warnings : List (ℕ × List ℕ)) × All (λ warning. IsOneLine warning.1) warnings
     × (text ≡ flat_map (λ warning. warning_text name line warning.0 warning.1) warnings)
 
--- a text tells a verdict to editors: of a refused message one line with its place, its error and some words, and of an accepted one warnings
--- alone (own)
+-- a text tells a verdict to editors: of a refused message one line with its place, its error and some words, and of an accepted one
+-- warnings alone (own)
 abbrev pub TellsLines : List ℕ → ℕ → Verdict → List ℕ → Type 0
 TellsLines name line (Accepted pages) text = IsWarnings name line text
 TellsLines name line (Refused code at) text = (words : List ℕ) × IsOneLine words
@@ -92,13 +100,17 @@ TellsLines name line (Refused code at) text = (words : List ℕ) × IsOneLine wo
 
 -- a text tells a verdict in a format (own)
 abbrev pub Tells : Telling → Format → SignData → List ℕ → List ℕ → ℕ → Verdict → List ℕ → Type 0
-Tells telling Text sign name octets line v text = TellsWords telling sign octets line v text
+Tells telling Text sign name octets line v text =
+    TellsWords telling.refused_only (picture_text Marks sign octets telling.phase) line v text
+Tells telling Ansi sign name octets line v text =
+    TellsWords telling.refused_only (picture_text Blocks sign octets telling.phase) line v text
 Tells telling Lines sign name octets line v text = TellsLines name line v text
 Tells telling Json sign name octets line v text = TellsRecord telling sign octets line v text
 
 -- a text tells in a format that a message has too many octets (own)
 abbrev pub TellsTooLong : Format → List ℕ → ℕ → List ℕ → Type 0
 TellsTooLong Text name line text = text ≡ line_head line ++ too_long_text ++ codes "\n"
+TellsTooLong Ansi name line text = text ≡ line_head line ++ too_long_text ++ codes "\n"
 TellsTooLong Lines name line text = text ≡ place_text name line 4096 ++ codes "error: " ++ too_long_text
 TellsTooLong Json name line text = TooLongRecord line text
 

@@ -1,3 +1,4 @@
+pub mod Blocks
 pub mod Explanation
 pub mod Names
 pub mod Pictures

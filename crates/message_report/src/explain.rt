@@ -2,16 +2,19 @@
 ghost use Rattle.std.specs.Prelude.{◌≡◌, ◌++◌, ◌<◌, ◌^◌, List, ℕ, length, OnOk, IfOk};
 ghost use Rattle.multi_layout.specs.Pages.{page_count};
 ghost use Rattle.multi_layout.specs.Verdict.{Accepted, Refused};
-ghost use Rattle.message_report.specs.Explanation.{Explains, Tells, line_head, refused_text, TellsTooLong, takes};
+ghost use Rattle.message_report.specs.Explanation.{Explains, Tells, TellsTooLong, line_head, refused_text, takes};
+ghost use Rattle.message_report.specs.Words.{GrowsBy};
 
+use crate::accepted::AcceptedMessage;
 use crate::format::{Format, Telling, Told};
 use crate::large::large_sign;
 use crate::lines::{push_error_line, push_warning_lines};
 use crate::pages::push_told;
+use crate::picture::Picture;
 use crate::record::{push_accepted_record, push_refused_record, push_too_long_record};
 use crate::text::push_words;
 use crate::verdict::{push_line_head, push_place, push_refused, push_too_long};
-use message_words::{FontCharacters, Refusal, Warning, warnings_on};
+use message_words::{FontCharacters, Refusal, warnings_on};
 use multi_layout::{Checked, check};
 use multi_token::Source;
 use octet_text::push_octets;
@@ -66,10 +69,10 @@ fn push_unjudged(
     name: &[u8],
     line: u32,
 ) -> Result<(), AllocError>
-    ensures { OnOk result ((told : List ℕ) × (text.new.items ≡ text.old.items ++ told) × TellsTooLong format name.now line told) }
+    ensures { OnOk result (GrowsBy (TellsTooLong format name.now line) text.old.items text.new.items) }
 {
     match format {
-        Format::Text => {
+        Format::Text | Format::Ansi => {
             push_line_head(text, line)?;
             push_too_long(text)?;
             push_octets(text, b"\n")
@@ -86,26 +89,22 @@ fn push_unjudged(
 /// Appends the explanation of an accepted message.
 fn push_accepted(
     text: &mut Vec<u8>,
-    alloc: Global,
-    telling: Telling,
-    sign: &Sign,
     name: &[u8],
-    line: u32,
-    message: &[u8],
+    message: &AcceptedMessage<'_>,
     checked: Checked<'_>,
-    warnings: &[Warning],
 ) -> Result<(), AllocError>
-    requires sign { checked.sign ≡ sign.now }
+    requires sign { checked.sign ≡ message.now.sign.now }
     requires short { length checked.source.octets < 2 ^ 32 }
-    ensures { OnOk result ((told : List ℕ) × (text.new.items ≡ text.old.items ++ told)
-        × Tells telling telling.format sign.now name.now checked.entry.source.octets line (Accepted (page_count checked.entry)) told) }
+    ensures { OnOk result (GrowsBy
+        (Tells message.now.telling message.now.telling.format message.now.sign.now name.now checked.entry.source.octets
+        message.now.line (Accepted (page_count checked.entry)))
+        text.old.items text.new.items) }
 {
-    match telling.format {
-        Format::Text => push_told(text, alloc, telling, sign, line, message, checked, warnings),
-        Format::Lines => push_warning_lines(text, name, line, warnings),
-        Format::Json => {
-            push_accepted_record(text, alloc, telling, sign, line, message, checked, warnings)
-        }
+    match message.telling.format {
+        Format::Text => push_told(text, message, checked, Picture::Marks),
+        Format::Ansi => push_told(text, message, checked, Picture::Blocks),
+        Format::Lines => push_warning_lines(text, name, message.line, message.warnings),
+        Format::Json => push_accepted_record(text, message, checked),
     }
 }
 
@@ -115,7 +114,8 @@ fn push_refusal_words(
     line: u32,
     refusal: &Refusal<'_>,
 ) -> Result<(), AllocError>
-    ensures { OnOk result ((words : List ℕ) × (text.new.items ≡ text.old.items ++ (line_head line ++ refused_text refusal.now.code refusal.now.at ++ words))) }
+    ensures { OnOk result ((words : List ℕ)
+        × (text.new.items ≡ text.old.items ++ (line_head line ++ refused_text refusal.now.code refusal.now.at ++ words))) }
 {
     push_line_head(text, line)?;
     push_refused(text, refusal.code, refusal.at)?;
@@ -132,11 +132,13 @@ fn push_refusal(
     refusal: &Refusal<'_>,
 ) -> Result<(), AllocError>
     requires small { refusal.now.at < 2 ^ 63 }
-    ensures { OnOk result ((told : List ℕ) × (text.new.items ≡ text.old.items ++ told)
-        × Tells telling telling.format refusal.now.sign.now name.now refusal.now.message.now line (Refused refusal.now.code refusal.now.at) told) }
+    ensures { OnOk result (GrowsBy
+        (Tells telling telling.format refusal.now.sign.now name.now refusal.now.message.now line
+        (Refused refusal.now.code refusal.now.at))
+        text.old.items text.new.items) }
 {
     match telling.format {
-        Format::Text => push_refusal_words(text, line, refusal),
+        Format::Text | Format::Ansi => push_refusal_words(text, line, refusal),
         Format::Lines => {
             let reason = refusal.reason()?;
             push_error_line(text, name, line, refusal.code, refusal.at, &reason)
@@ -157,10 +159,10 @@ fn push_refusal(
 }
 
 impl Explainer {
-    /// Appends the explanation of the message of a line, as it is asked for: the sign's verdict on it, and where it is refused and why, or else its
-    /// pages, each with its times and its picture in all colours at once, and what its writer can't have meant. A picture shows the page as it
-    /// is at the phase, in tenths of a second since the page began. The name is that of the file of the messages. The answer is whether the
-    /// sign takes the message, and the number of warnings.
+    /// Appends the explanation of the message of a line, as it is asked for: the sign's verdict on it, and where it is refused and why, or
+    /// else its pages, each with its times and its picture in all colours at once, and what its writer can't have meant. A picture shows
+    /// the page as it is at the phase, in tenths of a second since the page began. The name is that of the file of the messages. The answer
+    /// is whether the sign takes the message, and the number of warnings.
     ///
     /// A message with more than 4,096 octets isn't judged, and not taken. The error says that memory was refused.
     pub fn explain(
@@ -172,7 +174,8 @@ impl Explainer {
         message: &[u8],
         text: &mut Vec<u8>,
     ) -> Result<Told, AllocError>
-        ensures told { OnOk result ((told : List ℕ) × (text.new.items ≡ text.old.items ++ told) × Explains telling self.now name.now line message.now told) }
+        ensures told { OnOk result
+            (GrowsBy (Explains telling self.now name.now line message.now) text.old.items text.new.items) }
         ensures taken { IfOk result (λ told. told.is_taken ≡ takes self.now message.now) }
     {
         if message.len() > MAX_MESSAGE {
@@ -184,10 +187,16 @@ impl Explainer {
         }
         match check(&self.sign, Source::new(message)) {
             Ok(checked) => {
-                let found = warnings_on(alloc, &self.sign, message, self.max_string)?;
-                push_accepted(
-                    text, alloc, telling, &self.sign, name, line, message, checked, &found,
-                )?;
+                let found = warnings_on(alloc, &self.sign, message, &checked, self.max_string)?;
+                let accepted = AcceptedMessage {
+                    alloc,
+                    telling,
+                    sign: &self.sign,
+                    line,
+                    message,
+                    warnings: &found,
+                };
+                push_accepted(text, name, &accepted, checked)?;
                 Ok(Told {
                     is_taken: true,
                     warnings: found.len().min(MAX_MESSAGE) as u32,

@@ -5,8 +5,10 @@
 pub enum Format {
     /// Words and pictures for people.
     Text,
-    /// A line for a refused message, and one for each warning on an accepted one: `NAME:LINE:COLUMN: error: ..` or `warning: ..`. Columns are
-    /// octets, counted from 1.
+    /// The same for terminals: pictures in the sign's colours, with two rows of pixels a line.
+    Ansi,
+    /// A line for a refused message, and one for each warning on an accepted one: `NAME:LINE:COLUMN: error: ..` or `warning: ..`.
+    /// Columns are octets, counted from 1.
     Lines,
     /// A record in JSON, as a line.
     Json,

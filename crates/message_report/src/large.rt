@@ -54,7 +54,8 @@ fn blank_fonts(
     Ok(fonts)
 }
 
-/// A sign with the most pixels and pages, and with the fonts and defaults of another, whose characters are these, or `None` if there is none.
+/// A sign with the most pixels and pages, and with the fonts and defaults of another, whose characters are these, or `None` if there is
+/// none.
 pub(crate) fn large_sign(
     alloc: Global,
     sign: &Sign,

@@ -5,12 +5,15 @@
 //! Programs call `multi_layout::check`.
 #![tactic(auto)]
 
+mod accepted;
+mod blocks;
 mod explain;
 mod format;
 mod large;
 mod lines;
-mod page;
+mod marks;
 mod pages;
+mod picture;
 mod record;
 mod text;
 mod verdict;

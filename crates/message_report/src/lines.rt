@@ -1,7 +1,7 @@
 //! Messages in lines, as editors read them.
 ghost use Rattle.std.specs.Prelude.{◌≡◌, ◌++◌, ◌∷◌, ◌<◌, ◌^◌, [], List, ℕ, codes, OnOk};
 ghost use Rattle.message_report.specs.Explanation.{IsWarnings, error_text, place_text, warning_text};
-ghost use Rattle.message_report.specs.Words.{IsOneLine};
+ghost use Rattle.message_report.specs.Words.{GrowsBy, IsOneLine};
 
 use crate::text::push_line;
 use crate::verdict::{push_error, push_place};
@@ -23,7 +23,8 @@ pub(crate) fn push_error_line(
 ) -> Result<(), AllocError>
     requires small { at < 2 ^ 63 }
     ensures { OnOk result ((words : List ℕ) × IsOneLine words
-        × (text.new.items ≡ text.old.items ++ (place_text name.now line at ++ codes "error: " ++ error_text code ++ codes ": " ++ words ++ 10 ∷ []))) }
+        × (text.new.items ≡ text.old.items
+        ++ (place_text name.now line at ++ codes "error: " ++ error_text code ++ codes ": " ++ words ++ 10 ∷ []))) }
 {
     push_place(text, name, line, at)?;
     push_octets(text, b"error: ")?;
@@ -56,7 +57,7 @@ pub(crate) fn push_warning_lines(
     line: u32,
     warnings: &[Warning],
 ) -> Result<(), AllocError>
-    ensures { OnOk result ((told : List ℕ) × (text.new.items ≡ text.old.items ++ told) × IsWarnings name.now line told) }
+    ensures { OnOk result (GrowsBy (IsWarnings name.now line) text.old.items text.new.items) }
 {
     for warning in warnings {
         push_warning_line(text, name, line, warning)?;

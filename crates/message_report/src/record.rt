@@ -4,13 +4,15 @@ ghost use Rattle.serde_json.specs.Data.{Data, array};
 ghost use Rattle.serde_json.specs.View.{items_of, view};
 ghost use Rattle.serde_json.specs.Written.{compact_text, has_float};
 ghost use Rattle.multi_layout.specs.Pages.{page_count};
-ghost use Rattle.multi_layout.specs.Verdict.{Accepted, Refused};
+ghost use Rattle.multi_layout.specs.Verdict.{Accepted};
 ghost use Rattle.message_report.specs.Names.{name_of};
 ghost use Rattle.message_report.specs.Pictures.{page_text};
 ghost use Rattle.message_report.specs.Records.{ArePages, TellsPages, TellsRecord, TooLongRecord, accepted_record, page_record, picture_data, refused_record, too_long_record, warning_record};
+ghost use Rattle.message_report.specs.Words.{GrowsBy};
 
+use crate::accepted::AcceptedMessage;
 use crate::format::Telling;
-use crate::page::push_page;
+use crate::picture::{Picture, push_picture};
 use crate::verdict::name_of;
 use message_words::{Warning, times_of};
 use multi_layout::Checked;
@@ -133,7 +135,7 @@ pub(crate) fn push_too_long_record(
     alloc: Global,
     line: u32,
 ) -> Result<(), AllocError>
-    ensures { OnOk result ((told : List ℕ) × (text.new.items ≡ text.old.items ++ told) × TooLongRecord line told) }
+    ensures { OnOk result (GrowsBy (TooLongRecord line) text.old.items text.new.items) }
 {
     let record = too_long_value(alloc, line)?;
     push_record(text, alloc, &record)
@@ -149,14 +151,23 @@ fn picture_value(
 ) -> Result<Value, AllocError>
     requires sign { checked.old.sign ≡ sign.now }
     requires page { page < page_count checked.old }
-    ensures ok { IfOk result (λ v. view v ≡ picture_data telling.pictures (page_text sign.now checked.old.source.octets page telling.phase)) }
+    ensures ok { IfOk result (λ v.
+        view v ≡ picture_data telling.pictures (page_text sign.now checked.old.source.octets page telling.phase)) }
     ensures kept { (checked.new.sign ≡ checked.old.sign) × (checked.new.source.octets ≡ checked.old.source.octets) }
 {
     if !telling.pictures {
         return Ok(Value::Null);
     }
     let mut text = Vec::new(alloc);
-    push_page(&mut text, alloc, sign, checked, page, telling.phase)?;
+    push_picture(
+        &mut text,
+        alloc,
+        sign,
+        checked,
+        Picture::Marks,
+        page,
+        telling.phase,
+    )?;
     match String::from_utf8(text) {
         Ok(text) => Ok(Value::String(text)),
         // A mark is an octet of ASCII.
@@ -174,21 +185,25 @@ fn page_value(alloc: Global, page: u8, on: u8, off: u8, picture: Value) -> Resul
 
 /// The records of all pages.
 fn page_values(
-    alloc: Global,
-    telling: Telling,
-    sign: &Sign,
-    message: &[u8],
+    message: &AcceptedMessage<'_>,
     checked: &mut Checked<'_>,
 ) -> Result<Value, AllocError>
-    requires sign { checked.old.sign ≡ sign.now }
+    requires sign { checked.old.sign ≡ message.now.sign.now }
     requires short { length checked.old.source.octets < 2 ^ 32 }
-    ensures { IfOk result (λ v. (records : List Data) × ArePages telling sign.now checked.old.source.octets (page_count checked.old) records
+    ensures { IfOk result (λ v. (records : List Data)
+        × ArePages message.now.telling message.now.sign.now checked.old.source.octets (page_count checked.old) records
         × (view v ≡ array (items_of records))) }
 {
+    let AcceptedMessage {
+        alloc,
+        telling,
+        sign,
+        ..
+    } = *message;
     let mut list = Vec::new(alloc);
     let pages = checked.pages();
     for page in 0..pages {
-        let times = times_of(sign, message, page);
+        let times = times_of(sign, message.message, page);
         let picture = picture_value(alloc, telling, sign, checked, page)?;
         let value = page_value(alloc, page, times.on, times.off, picture)?;
         list.push(value)?;
@@ -221,46 +236,40 @@ fn accepted_value(
 /// Appends the record of an accepted message with its pages.
 fn push_pages_record(
     text: &mut Vec<u8>,
-    alloc: Global,
-    telling: Telling,
-    sign: &Sign,
-    line: u32,
-    message: &[u8],
+    message: &AcceptedMessage<'_>,
     checked: Checked<'_>,
-    warnings: &[Warning],
 ) -> Result<(), AllocError>
-    requires sign { checked.sign ≡ sign.now }
+    requires sign { checked.sign ≡ message.now.sign.now }
     requires short { length checked.source.octets < 2 ^ 32 }
-    ensures { OnOk result ((told : List ℕ) × (text.new.items ≡ text.old.items ++ told)
-        × TellsPages telling sign.now checked.entry.source.octets line (page_count checked.entry) told) }
+    ensures { OnOk result (GrowsBy
+        (TellsPages message.now.telling message.now.sign.now checked.entry.source.octets message.now.line (page_count checked.entry))
+        text.old.items text.new.items) }
 {
     let mut checked = checked;
-    let shown = message_value(alloc, message)?;
-    let octets = octets_value(alloc, message)?;
-    let pages = page_values(alloc, telling, sign, message, &mut checked)?;
-    let all = warning_values(alloc, warnings)?;
-    let record = accepted_value(alloc, line, shown, octets, pages, all)?;
+    let alloc = message.alloc;
+    let shown = message_value(alloc, message.message)?;
+    let octets = octets_value(alloc, message.message)?;
+    let pages = page_values(message, &mut checked)?;
+    let all = warning_values(alloc, message.warnings)?;
+    let record = accepted_value(alloc, message.line, shown, octets, pages, all)?;
     push_record(text, alloc, &record)
 }
 
 /// Appends the record of an accepted message, unless only refused ones are asked for and there is no warning on it.
 pub(crate) fn push_accepted_record(
     text: &mut Vec<u8>,
-    alloc: Global,
-    telling: Telling,
-    sign: &Sign,
-    line: u32,
-    message: &[u8],
+    message: &AcceptedMessage<'_>,
     checked: Checked<'_>,
-    warnings: &[Warning],
 ) -> Result<(), AllocError>
-    requires sign { checked.sign ≡ sign.now }
+    requires sign { checked.sign ≡ message.now.sign.now }
     requires short { length checked.source.octets < 2 ^ 32 }
-    ensures { OnOk result ((told : List ℕ) × (text.new.items ≡ text.old.items ++ told)
-        × TellsRecord telling sign.now checked.entry.source.octets line (Accepted (page_count checked.entry)) told) }
+    ensures { OnOk result (GrowsBy
+        (TellsRecord message.now.telling message.now.sign.now checked.entry.source.octets message.now.line
+        (Accepted (page_count checked.entry)))
+        text.old.items text.new.items) }
 {
-    if telling.refused_only && warnings.is_empty() {
+    if message.telling.refused_only && message.warnings.is_empty() {
         return Ok(());
     }
-    push_pages_record(text, alloc, telling, sign, line, message, checked, warnings)
+    push_pages_record(text, message, checked)
 }

@@ -1,8 +1,10 @@
 //! Words for people that are appended.
-ghost use Rattle.std.specs.Prelude.{◌≡◌, ◌≢◌, ◌++◌, ◌∷◌, [], List, ℕ, OnOk};
-ghost use Rattle.message_report.specs.Words.{Grows, IsOneLine};
+ghost use Rattle.std.specs.Prelude.{◌≢◌, OnOk};
+ghost use Rattle.message_report.specs.Words.{Grows, GrowsByLine};
 
-use message_words::{Legend, MessageLine, PageTimes, Warning, WarningLines};
+use crate::accepted::AcceptedMessage;
+use crate::picture::Picture;
+use message_words::{Legend, MessageLine, PageTimes, WarningLines};
 use multi_layout::Checked;
 use octet_text::{push_octet, push_octets};
 use sign_font::Sign;
@@ -24,7 +26,7 @@ fn in_line(octet: u8) -> u8
 
 /// Appends words as one line, with a question mark in place of a line feed.
 pub(crate) fn push_line(text: &mut Vec<u8>, words: &String) -> Result<(), AllocError>
-    ensures { OnOk result ((line : List ℕ) × IsOneLine line × (text.new.items ≡ text.old.items ++ (line ++ 10 ∷ []))) }
+    ensures { OnOk result (GrowsByLine text.old.items text.new.items) }
 {
     for octet in words.as_bytes() {
         push_octet(text, in_line(*octet))?;
@@ -38,7 +40,7 @@ pub(crate) fn push_message(
     alloc: Global,
     message: &[u8],
 ) -> Result<(), AllocError>
-    ensures { OnOk result ((line : List ℕ) × IsOneLine line × (text.new.items ≡ text.old.items ++ (line ++ 10 ∷ []))) }
+    ensures { OnOk result (GrowsByLine text.old.items text.new.items) }
 {
     let words = MessageLine(message).to_string(alloc)?;
     push_line(text, &words)
@@ -53,7 +55,7 @@ pub(crate) fn push_times(
     page: u8,
     pages: u8,
 ) -> Result<(), AllocError>
-    ensures { OnOk result ((line : List ℕ) × IsOneLine line × (text.new.items ≡ text.old.items ++ (line ++ 10 ∷ []))) }
+    ensures { OnOk result (GrowsByLine text.old.items text.new.items) }
 {
     let times = PageTimes {
         sign,
@@ -65,35 +67,33 @@ pub(crate) fn push_times(
     push_line(text, &words)
 }
 
-/// Appends what the marks of the pictures mean, and what they don't show.
+/// Appends what the marks of the pictures mean, if they have marks, and what pictures don't show.
 pub(crate) fn push_legend(
     text: &mut Vec<u8>,
-    alloc: Global,
-    sign: &Sign,
-    message: &[u8],
+    message: &AcceptedMessage<'_>,
     checked: &Checked<'_>,
-    phase: u64,
+    picture: Picture,
 ) -> Result<(), AllocError>
     ensures { OnOk result (Grows text.old.items text.new.items) }
 {
     let legend = Legend {
-        sign,
-        message,
+        sign: message.sign,
+        message: message.message,
         cycle: checked.cycle(),
-        phase,
+        phase: message.telling.phase,
+        has_marks: matches!(&picture, Picture::Marks),
     };
-    let words = legend.to_string(alloc)?;
+    let words = legend.to_string(message.alloc)?;
     push_words(text, &words)
 }
 
-/// Appends warnings, and an empty line.
+/// Appends the warnings on a message, and an empty line.
 pub(crate) fn push_warnings(
     text: &mut Vec<u8>,
-    alloc: Global,
-    warnings: &[Warning],
+    message: &AcceptedMessage<'_>,
 ) -> Result<(), AllocError>
     ensures { OnOk result (Grows text.old.items text.new.items) }
 {
-    let words = WarningLines(warnings).to_string(alloc)?;
+    let words = WarningLines(message.warnings).to_string(message.alloc)?;
     push_words(text, &words)
 }

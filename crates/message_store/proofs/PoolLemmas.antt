@@ -7,7 +7,7 @@ use Rattle.std.proofs.lemmas.List.{ext_get_or, get_or-map, get_or-set_same, get_
 use Rattle.std.proofs.lemmas.List.Sums.{sum_by-cons, sum_by-set}
 use Rattle.std.proofs.Math.Seq.{drop-append-add}
 use Rattle.message_store.specs.declared.texts.Span.{Span}
-use Rattle.message_store.specs.Pool.{ArePlaced, AreApart, Pool, moved, moved_start, no_span, span_at, text_in, used}
+use Rattle.message_store.specs.kept.Pool.{ArePlaced, AreApart, Pool, moved, moved_start, no_span, span_at, text_in, used}
 
 -- ---- a part of a list
 

@@ -8,13 +8,13 @@ use Rattle.message_store.specs.declared.slot.Slot.{Slot}
 use Rattle.message_store.specs.declared.slot.Status.TheVariants.{NotUsed}
 use Rattle.message_store.specs.declared.limits.StoreLimits.{StoreLimits}
 use Rattle.message_store.specs.declared.message.Permanent.{Permanent}
-use Rattle.message_store.specs.Pool.{Pool, used}
+use Rattle.message_store.specs.kept.Pool.{Pool, used}
 use Rattle.message_store.specs.Limits.{IsKept, IsShort, can_be_made, made}
-use Rattle.message_store.specs.Slot.{SlotData, StoreData, slot_at, empty_slot, used_bytes, used_slots, is_not_used}
+use Rattle.message_store.specs.Slot.{SlotData, StoreData, slot_at, empty_slot, used_bytes, used_slots, is_not_used, permanent_of}
 use Rattle.message_store.specs.Step.{cleared, with_slot}
 use Rattle.message_store.proofs.WholeLemmas.{length-whole, get-whole, set-multi, set-owner, set-slot, used-whole, used_slots-whole, whole-empty}
 use Rattle.message_store.proofs.LimitsLemmas.{sound-limits, sound-permanent}
-use Rattle.message_store.specs.Stored.{slot_of, whole, stored, permanent_of, IsStored}
+use Rattle.message_store.specs.kept.Stored.{slot_of, whole, stored, IsStored}
 
 -- ---- the store that is kept in these parts
 

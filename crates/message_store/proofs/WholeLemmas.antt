@@ -5,7 +5,7 @@ use Rattle.std.proofs.lemmas.List.{drop-set-add, get_or-drop, get_or-set_other}
 use Rattle.std.proofs.lemmas.List.Sums.{sum_by-cons}
 use Rattle.message_store.specs.declared.slot.Slot.{Slot}
 use Rattle.message_store.specs.Slot.{SlotData, slot_bytes, is_not_used, is_validating}
-use Rattle.message_store.specs.Stored.{slot_of, whole}
+use Rattle.message_store.specs.kept.Stored.{slot_of, whole}
 
 pub length-whole : (slots : List Slot) (texts : List (List ℕ)) → length (whole slots texts) ≡ length slots
 length-whole [] texts = refl

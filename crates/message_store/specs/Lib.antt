@@ -1,11 +1,9 @@
 pub mod Codes
 pub mod Crc
-pub mod Pool
 pub mod Slot
 pub mod Limits
 pub mod Step
 pub mod Judged
 pub mod Work
 pub mod Row
-pub mod Stored
-pub mod Seen
+pub mod kept

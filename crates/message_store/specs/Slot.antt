@@ -2,6 +2,7 @@
 use Rattle.std.specs.Prelude.{ℕ, ◌+◌, Bool, true, false, not, List, [], length, slice_index_or}
 use Rattle.std.specs.List.{sum_by, count_by}
 use Rattle.message_store.specs.declared.limits.StoreLimits.{StoreLimits}
+use Rattle.message_store.specs.declared.message.Permanent.{Permanent}
 use Rattle.message_store.specs.declared.slot.Status.{Status}
 use Rattle.message_store.specs.declared.slot.Status.TheVariants.{NotUsed, Modifying, Validating, Valid, Error}
 
@@ -20,6 +21,10 @@ pub record PermanentData : Type 0 where
   pub priority : ℕ
   pub beacon : ℕ
   pub pixel : ℕ
+
+-- the permanent message that was handed in (own)
+abbrev pub permanent_of : Permanent → PermanentData
+permanent_of message = record { multi = message.multi.items; priority = message.priority; beacon = message.beacon; pixel = message.pixel }
 
 -- a store: its limits, its permanent messages and its slots, both in the order of their numbers from 1 on (own)
 pub record StoreData : Type 0 where

@@ -5,6 +5,7 @@ use Rattle.multi_layout.specs.Limits.{check_limit}
 use Rattle.multi_layout.specs.Verdict.{Verdict, Accepted, Refused, verdict}
 use Rattle.message_store.specs.declared.slot.Status.{Status}
 use Rattle.message_store.specs.declared.slot.Status.TheVariants.{Valid, Error}
+use Rattle.message_store.specs.declared.work.Judged.{Judged}
 use Rattle.message_store.specs.declared.work.ValidateError.{ValidateError}
 use Rattle.message_store.specs.declared.work.ValidateError.TheVariants as validate
 use Rattle.message_store.specs.Codes.{status_code, validate_code}
@@ -48,6 +49,10 @@ pub record JudgedData : Type 0 where
   pub status : ℕ
   pub validate_error : ℕ
   pub syntax : Option (ℕ × ℕ)
+
+-- the answer of the code, without its steps (own)
+abbrev pub judged_of : Judged → JudgedData
+judged_of result = record { number = result.number; status = result.status; validate_error = result.validate_error; syntax = result.syntax }
 
 -- the numbers that are told of it (own)
 abbrev pub told : ℕ → JudgementData → JudgedData

@@ -3,7 +3,7 @@
 ghost use Rattle.std.specs.Prelude.{◌≡◌, map};
 ghost use Rattle.std.specs.List.{list_all};
 ghost use Rattle.message_store.specs.Limits.{are_limits, can_be_made, is_permanent};
-ghost use Rattle.message_store.specs.Stored.{permanent_of};
+ghost use Rattle.message_store.specs.Slot.{permanent_of};
 
 use crate::message::Permanent;
 

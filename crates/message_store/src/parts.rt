@@ -4,7 +4,7 @@ ghost use Rattle.std.specs.Prelude.{◌≡◌, ◌+◌, ◌<◌, ◌≤◌, leng
 ghost use Rattle.message_store.specs.Limits.{IsKept};
 ghost use Rattle.message_store.specs.Slot.{empty_slot, is_validating, slot_at, used_bytes};
 ghost use Rattle.message_store.specs.Step.{cleared, with_slot};
-ghost use Rattle.message_store.specs.Stored.{slot_of};
+ghost use Rattle.message_store.specs.kept.Stored.{slot_of};
 ghost use Rattle.message_store.specs.Work.{waiting};
 
 use crate::slot::{EMPTY, Slot, Status};

@@ -18,7 +18,7 @@ pub struct Row<'a> {
     pub status: u8,
     /// The MULTI text.
     pub multi: &'a [u8],
-    /// At most 127 octets; none but of a changeable message.
+    /// At most 127 octets, and empty unless the message is changeable.
     pub owner: &'a [u8],
     /// The run-time priority, 1 to 255; of a blank message its number.
     pub priority: u8,

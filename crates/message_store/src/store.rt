@@ -3,8 +3,7 @@
 ghost use Rattle.std.specs.Prelude.{◌≡◌, ◌≤◌, ◌+◌, length, map, true, false, not, IfOk, IfErr, OnOk, Err};
 ghost use Rattle.std.specs.List.{count_by};
 ghost use Rattle.message_store.specs.Limits.{IsKept, can_be_made, made};
-ghost use Rattle.message_store.specs.Slot.{is_not_used, used_bytes, used_slots};
-ghost use Rattle.message_store.specs.Stored.{permanent_of};
+ghost use Rattle.message_store.specs.Slot.{is_not_used, used_bytes, used_slots, permanent_of};
 
 use crate::fault::StoreMade;
 use crate::limits::{StoreLimits, can_be_made};
@@ -26,7 +25,7 @@ pub struct Store {
 
 impl Model for Store {
     ghost use Rattle.message_store.specs.Slot.{StoreData};
-    ghost use Rattle.message_store.specs.Stored.{stored, IsStored};
+    ghost use Rattle.message_store.specs.kept.Stored.{stored, IsStored};
 
     ghost Value = { StoreData };
 

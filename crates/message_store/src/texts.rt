@@ -2,7 +2,7 @@
 
 ghost use Rattle.std.specs.Prelude.{◌≡◌, ◌+◌, ◌<◌, ◌≤◌, ◌++◌, [], map, take, drop, length, replicate, slice_set, slice_index_or, IfOk};
 ghost use Rattle.std.specs.Vec.{vec_capacity};
-ghost use Rattle.message_store.specs.Pool.{ArePlaced, Pool, moved, span_at, text_in, used};
+ghost use Rattle.message_store.specs.kept.Pool.{ArePlaced, Pool, moved, span_at, text_in, used};
 
 use std::alloc::{AllocError, Global};
 use std::marker::Model;
@@ -28,7 +28,7 @@ pub(crate) struct Texts {
 impl Model for Texts {
     ghost use Rattle.std.specs.Prelude.{◌≤◌, length, map};
     ghost use Rattle.std.specs.Vec.{vec_capacity};
-    ghost use Rattle.message_store.specs.Pool.{ArePlaced, Pool, text_in};
+    ghost use Rattle.message_store.specs.kept.Pool.{ArePlaced, Pool, text_in};
 
     ghost Value = { Pool };
 
@@ -38,7 +38,7 @@ impl Model for Texts {
         × (t.room ≤ vec_capacity t.octets) };
 }
 
-/// Moves the place of a text up where a gap of `len` octets before `end` was closed and it stands behind that.
+/// Moves the place of a text up, if it stands after a gap of `len` octets before `end` that was closed.
 fn move_one(span: &mut Span, end: usize, len: usize)
     requires { len ≤ end }
     ensures { span.new ≡ moved end len span.old }
@@ -59,7 +59,7 @@ fn move_up(spans: &mut [Span], end: usize, len: usize)
     }
 }
 
-/// Takes out the `len` octets from `start` on. What is behind them moves up.
+/// Takes out the `len` octets from `start` on. What stands after them moves up.
 fn close_gap(octets: &mut Vec<u8>, start: usize, len: usize)
     requires within { start + len ≤ length octets.old.items }
     ensures items { octets.new.items ≡ take start octets.old.items ++ drop (start + len) octets.old.items }
@@ -81,7 +81,7 @@ fn put_over(octets: &mut Vec<u8>, start: usize, text: &[u8])
         .copy_from_slice(text);
 }
 
-/// Takes a text out of the pool. Those behind it move up.
+/// Takes a text out of the pool. Those after it move up.
 fn take_out(spans: &mut Vec<Span>, octets: &mut Vec<u8>, span: Span)
     requires within { span.start + span.len ≤ length octets.old.items }
     ensures spans { spans.new.items ≡ map (moved (span.start + span.len) span.len) spans.old.items }
@@ -95,7 +95,7 @@ fn take_out(spans: &mut Vec<Span>, octets: &mut Vec<u8>, span: Span)
     close_gap(octets, span.start, span.len);
 }
 
-/// Puts a text in behind the others, within the memory that is there, and answers its place.
+/// Puts a text in after the others, within the memory that is there, and answers its place.
 fn put_in(octets: &mut Vec<u8>, text: &[u8]) -> Span
     requires room { length octets.old.items + length text.now ≤ vec_capacity octets.old }
     ensures place { result ≡ record { start = length octets.old.items; len = length text.now } }

@@ -5,10 +5,10 @@ ghost use Rattle.sign_font.specs.Defaults.{default_fault, under};
 ghost use Rattle.multi_layout.specs.Verdict.{verdict};
 ghost use Rattle.message_store.specs.Codes.{validate_code};
 ghost use Rattle.message_store.specs.Limits.{IsKept};
-ghost use Rattle.message_store.specs.Seen.{judgement_of, judged_of};
+ghost use Rattle.message_store.specs.kept.Working.{judgement_of};
 ghost use Rattle.message_store.specs.Slot.{slot_at};
-ghost use Rattle.message_store.specs.Stored.{slot_of};
-ghost use Rattle.message_store.specs.Work.{IsCounted, judged_status, judgement, of_verdict, worked};
+ghost use Rattle.message_store.specs.kept.Stored.{slot_of};
+ghost use Rattle.message_store.specs.Work.{IsCounted, judged_status, judgement, of_verdict, worked, judged_of};
 
 use crate::judge::judge_text;
 use crate::slot::{Slot, Status};

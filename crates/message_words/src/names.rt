@@ -142,6 +142,9 @@ const MEANT: [(&str, &str); 36] = [
 
 /// The tag that a word for one means, with its brackets. What stands behind a word doesn't count.
 pub(crate) fn meant(body: &[u8]) -> Option<&'static str> {
+    if body.eq_ignore_ascii_case(b"n") {
+        return Some("[nl]");
+    }
     for (word, tag) in MEANT {
         if let Some(front) = body.get(..word.len()) {
             if front.eq_ignore_ascii_case(word.as_bytes()) {

@@ -52,6 +52,9 @@ fn write_body(text: &mut String, body: &[u8]) -> Result<(), AllocError> {
 /// The number of the tab.
 const TAB: u16 = 9;
 
+/// The number of the backslash.
+const BACKSLASH: u16 = 92;
+
 /// The capital of a small letter, or the small letter of a capital.
 fn other_case(number: u16) -> Option<u8> {
     let letter = u8::try_from(number).ok()?;
@@ -169,10 +172,14 @@ impl Place<'_> {
             );
         }
         text.push_str("'; no tag of the standard begins so")?;
+        let bare = body.trim_ascii();
+        if bare.len() < body.len() && form_of(bare).is_some() {
+            return text.push_str("; it is meant without spaces");
+        }
         match (meant(body), nearest(self.alloc, body)?) {
             (Some(tag), _) => write!(text, "; perhaps {tag} is meant"),
             (None, Some(name)) => write!(text, "; perhaps '{name}' is meant"),
-            (None, None) => Ok(()),
+            (None, None) => text.push_str("; [[ and ]] write brackets"),
         }
     }
 
@@ -269,6 +276,9 @@ impl Place<'_> {
         }
         if number == TAB {
             return text.push_str(", which is a tab; write spaces");
+        }
+        if number == BACKSLASH && self.message.get(self.at.saturating_add(1)) == Some(&b'n') {
+            return text.push_str("; [nl] begins a line");
         }
         let Some(characters) = characters else {
             return Ok(());

@@ -1,5 +1,6 @@
 //! Whether text on the pages of an accepted message is seen.
 
+use crate::plain::Plain;
 use crate::standing::{Piece, piece_at};
 use multi_layout::check;
 use multi_tag::{Tag, read_body};
@@ -124,8 +125,8 @@ pub(crate) struct Sight<'a> {
     message: &'a [u8],
     /// The first runs of its characters.
     pub(crate) runs: Vec<Run>,
-    /// Whether nothing but spaces can hide text: no tag sets a colour, a flash or a rectangle.
-    is_plain: bool,
+    /// What its tags tell, so that pages are drawn only where text can be hidden.
+    plain: Plain,
 }
 
 impl<'a> Sight<'a> {
@@ -135,13 +136,12 @@ impl<'a> Sight<'a> {
         sign: &'a Sign,
         message: &'a [u8],
     ) -> Result<Sight<'a>, AllocError> {
-        let defaults = sign.defaults();
         let mut sight = Sight {
             alloc,
             sign,
             message,
             runs: Vec::new(alloc),
-            is_plain: defaults.fore != defaults.back && defaults.fore > 0,
+            plain: Plain::new(alloc, sign),
         };
         sight.read()?;
         Ok(sight)
@@ -160,7 +160,7 @@ impl<'a> Sight<'a> {
                 Piece::Tag(body) => match read_body(body) {
                     Ok(Tag::HexChar(number)) => self.pass(look, number, at, end)?,
                     Ok(tag) => {
-                        self.see(tag);
+                        self.plain.see(self.sign, tag);
                         look = look.behind(self.sign, tag);
                     }
                     Err(_) => {}
@@ -171,18 +171,11 @@ impl<'a> Sight<'a> {
         Ok(())
     }
 
-    /// Sees whether a tag can hide text.
-    fn see(&mut self, tag: Tag) {
-        match tag {
-            Tag::Fore(_) | Tag::Back(_) | Tag::Flash { .. } | Tag::Rect { .. } => {
-                self.is_plain = false;
-            }
-            _ => {}
-        }
-    }
-
     /// Adds a character.
     fn pass(&mut self, look: Look, number: u16, at: usize, end: usize) -> Result<(), AllocError> {
+        if number != SPACE {
+            self.plain.pass(look.fore)?;
+        }
         if let Some(last) = self.runs.last_mut() {
             if last.end == at {
                 last.end = end;
@@ -276,7 +269,7 @@ impl<'a> Sight<'a> {
 
     /// Whether something of a run is seen.
     pub(crate) fn is_seen(&self, run: Run) -> Result<bool, AllocError> {
-        if self.is_plain {
+        if self.plain.shows_text() {
             return Ok(true);
         }
         let without = self.without(run)?;
@@ -291,8 +284,9 @@ impl<'a> Sight<'a> {
 
     /// Whether a pixel of a page is lit at one of its moments.
     pub(crate) fn is_lit(&self, page: u8) -> Result<bool, AllocError> {
-        if self.is_plain {
-            return Ok(self.runs.len() >= RUNS || self.runs.iter().any(|run| run.look.page == page));
+        let has_text = self.runs.len() >= RUNS || self.runs.iter().any(|run| run.look.page == page);
+        if self.plain.shows_text() && (has_text || self.plain.is_dark_without_text()) {
+            return Ok(has_text);
         }
         for moment in &self.moments(page)? {
             match self.colours(self.message, page, *moment)? {

@@ -2,7 +2,7 @@
 
 use crate::sight::Sight;
 use crate::standing::{Piece, Times, piece_at, times_of};
-use multi_layout::check;
+use multi_layout::Checked;
 use multi_tag::{FontPick, Tag, read_body};
 use multi_token::Source;
 use sign_font::Sign;
@@ -21,9 +21,6 @@ pub struct Warning {
 
 /// The least time for which a page is shown without a warning, in tenths of a second (own).
 const LEAST: u8 = 5;
-
-/// The most octets of a message that is judged (own).
-const LONGEST: usize = 4_096;
 
 /// The number of the space.
 const SPACE: u16 = 32;
@@ -228,21 +225,16 @@ impl<'a> Reading<'a> {
     }
 }
 
-/// The warnings on a message that a sign accepts (own): a text longer than the message table takes, an off time with one page, a page that is
-/// shown for less than half a second or on which nothing is lit, a space at the end of a line that moves it, a font whose version isn't
-/// asked for, and text that can't be seen. There are none on a message that it refuses. The error says that memory was refused.
+/// The warnings on a message that a sign accepts (own): a text longer than the message table takes, an off time with one page, a page that
+/// is shown for less than half a second or on which nothing is lit, a space at the end of a line that moves it, a font whose version isn't
+/// asked for, and text that can't be seen. What the sign made of the message is handed in. The error says that memory was refused.
 pub fn warnings_on(
     alloc: Global,
     sign: &Sign,
     message: &[u8],
+    checked: &Checked<'_>,
     max_string: u16,
 ) -> Result<Vec<Warning>, AllocError> {
-    if message.len() > LONGEST {
-        return Ok(Vec::new(alloc));
-    }
-    let Ok(checked) = check(sign, Source::new(message)) else {
-        return Ok(Vec::new(alloc));
-    };
     let is_one = checked.pages() == 1;
     let cycle = checked.cycle();
     let sight = Sight::new(alloc, sign, message)?;

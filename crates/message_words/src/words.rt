@@ -123,8 +123,8 @@ impl Display for PageTimes<'_> {
     }
 }
 
-/// What the marks of the pictures of a message's pages mean, and what they don't show: that its pages don't change, and that text flashes
-/// (own). Written by `Display`.
+/// What the marks of the pictures of a message's pages mean, if they have marks, and what pictures don't show: that its pages don't change,
+/// and that text flashes (own). Written by `Display`.
 #[derive(Clone, Copy)]
 pub struct Legend<'a> {
     /// The sign.
@@ -135,16 +135,27 @@ pub struct Legend<'a> {
     pub cycle: u32,
     /// When its pages are drawn, in tenths of a second since each began.
     pub phase: u64,
+    /// Whether the pictures have marks, and not the sign's colours.
+    pub has_marks: bool,
+}
+
+impl Legend<'_> {
+    /// What the marks mean.
+    fn marks(&self) -> &'static str {
+        if !self.has_marks {
+            ""
+        } else if self.sign.classic() {
+            "colours: 1 red, 2 yellow, 3 green, 4 cyan, 5 blue, 6 magenta, 7 white, 8 orange, 9 amber, . black\n"
+        } else {
+            "pixels: 1 lit, . dark\n"
+        }
+    }
 }
 
 impl Display for Legend<'_> {
     fn fmt<W: Write>(&self, f: &mut Formatter<W>) -> fmt::Result {
         let standing = standing_at(self.sign, self.message, self.message.len(), u32::MAX);
-        f.write_str(if self.sign.classic() {
-            "colours: 1 red, 2 yellow, 3 green, 4 cyan, 5 blue, 6 magenta, 7 white, 8 orange, 9 amber, . black\n"
-        } else {
-            "pixels: 1 lit, . dark\n"
-        })?;
+        f.write_str(self.marks())?;
         if standing.pages > 1 && self.cycle == 0 {
             f.write_str("all times are 0, so page 1 is shown all the time\n")?;
         }

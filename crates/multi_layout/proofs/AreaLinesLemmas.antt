@@ -11,7 +11,7 @@ use Rattle.sign_font.specs.declared.parts.LineFill.{LineFill}
 use Rattle.sign_font.specs.declared.parts.LineFill.TheVariants.{Words}
 use Rattle.sign_font.specs.Sign.{SignData}
 use Rattle.multi_layout.specs.declared.cursor.Cursor.{Cursor}
-use Rattle.multi_layout.specs.declared.cursor.NextItem.{NextItem}
+use Rattle.multi_layout.specs.declared.item.NextItem.{NextItem}
 use Rattle.multi_layout.specs.declared.pass.Pass.{Pass}
 use Rattle.multi_layout.specs.declared.read.AreaLines.{AreaLines}
 use Rattle.multi_layout.specs.declared.table.LineTable.{LineTable}
@@ -40,11 +40,11 @@ use Rattle.multi_layout.proofs.WordLemmas.{left_nil, some_after-append}
 
 -- the steps of one more item
 pub steps_on : (at : ℕ) (source a b d : Counted) (from to len : ℕ) → from ≤ at → to ≡ at + len → at < to
-    → RisesBetween source a 0 (9 * (at - from)) → RisesBetween a b 0 (2 * len - 1) → RisesBetween b d 0 8 → RisesBetween source d 0 (9 * (to - from))
+    → RisesBetween source a 0 (9 * (at - from)) → RisesBetween a b 0 (9 * len - 8) → RisesBetween b d 0 8 → RisesBetween source d 0 (9 * (to - from))
 steps_on at source a b d from to len low on more earlier item passing =
-    let all : 9 * (at - from) + (2 * len - 1) + 8 ≤ 9 * (to - from) = omega arith in
+    let all : 9 * (at - from) + (9 * len - 8) + 8 ≤ 9 * (to - from) = omega arith in
     rises_more source d 0 _ _ all
-    (rises_then source b d 0 (9 * (at - from) + (2 * len - 1)) 0 8 (rises_then source a b 0 (9 * (at - from)) 0 (2 * len - 1) earlier item) passing)
+    (rises_then source b d 0 (9 * (at - from) + (9 * len - 8)) 0 8 (rises_then source a b 0 (9 * (at - from)) 0 (9 * len - 8) earlier item) passing)
 
 abbrev item_at : LaidItem → Item
 item_at piece = piece.item

@@ -34,7 +34,7 @@ height_glyph line s h g =
     ∙ ap (λ l. max (largest (λ (t : Spot). t.at.font.height) l) s.at.font.height) (sym (bearers_glyphs line h))
 
 -- a `nl` ends a line: with characters it changes neither, without it gives both
-any_glyph : (s : Spot) (line : List Spot) → glyphs (s ∷ line) → list_any is_glyph (s ∷ line) ≡ true
+pub any_glyph : (s : Spot) (line : List Spot) → glyphs (s ∷ line) → list_any is_glyph (s ∷ line) ≡ true
 any_glyph s line h = ap (λ b. b || list_any is_glyph line) (All-head (λ x. is_glyph x ≡ true) s line h)
 
 pub bearers_ended : (s : Spot) (line : List Spot) (b : Spot) → glyphs (s ∷ line) → is_glyph b ≡ false → bearers ((s ∷ line) ++ b ∷ []) ≡ s ∷ line

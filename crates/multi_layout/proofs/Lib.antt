@@ -79,6 +79,7 @@ pub mod PictureExamples
 pub mod PictureLemmas
 pub mod PieceLemmas
 pub mod PixelExamples
+pub mod PixelLemmas
 pub mod PlaceExamples
 pub mod PlaceLemmas
 pub mod PlacingLemmas

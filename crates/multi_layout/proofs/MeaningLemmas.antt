@@ -1,6 +1,5 @@
 -- What a token's item means, from what its tag was read as.
-use Rattle.std.proofs.Common.{◌≡◌, ℕ, List, Some, Result, Ok, Err, refl, ap, ◌∙◌}
-use Rattle.std.specs.Prelude.{IfOk}
+use Rattle.std.proofs.Common.{◌≡◌, ℕ, List, Some, Result, refl, ap, ◌∙◌}
 use Rattle.multi_token.specs.declared.token.Token.{Token}
 use Rattle.multi_token.specs.declared.token.Kind.TheVariants as kinds
 use Rattle.multi_token.specs.Spelling as items
@@ -19,11 +18,6 @@ pub known_of : (body : List ℕ) (tag : Tag) → Spells body tag → IsKnown tag
 known_of body (LineJust (Some just)) s = line_just_known body just s
 known_of body (PageJust (Some just)) s = page_just_known body just s
 known_of body tag s = tt
-
--- and so does what was read
-pub known_read : (body : List ℕ) (result : Result Tag TagFault) → IfOk result (Spells body) → IfOk result IsKnown
-known_read body (Ok tag) s = known_of body tag s
-known_read body (Err fault) s = tt
 
 -- a tag that says that some tag is done is that tag
 does_same : (a b : Tag) → Does a ≡ Does b → a ≡ b

@@ -299,11 +299,11 @@ string_end a b c d e start at end left on more none w x y z =
 
 -- the steps over the string behind one more item
 pub string_more : (a b c d e f : Counted) (start at end len : ℕ) (item : LaidItem) (rest left : List LaidItem) → start ≤ at → at ≤ end → left ≡ item ∷ rest → len ≡ length (spelling item.item)
-    → RisesBetween a b 0 (18 * (at - start)) → RisesBetween b c 0 (9 * (end - at) + first_steps (items_of left)) → RisesBetween c d 0 (9 * (end - at)) → RisesBetween d e 0 (2 * len - 1) → RisesBetween e f 0 8
+    → RisesBetween a b 0 (18 * (at - start)) → RisesBetween b c 0 (9 * (end - at) + first_steps (items_of left)) → RisesBetween c d 0 (9 * (end - at)) → RisesBetween d e 0 (9 * len - 8) → RisesBetween e f 0 8
     → RisesBetween a f 0 (18 * (end + len - start))
 string_more a b c d e f start at end len item rest left on more some is v w x y z =
-    let first : first_steps (items_of left) ≡ 2 * length (spelling item.item) - 1 = ap (λ l. first_steps (items_of l)) some in
-    let all = rises_then a e f 0 _ 0 8 (rises_then a d e 0 _ 0 (2 * len - 1) (rises_then a c d 0 _ 0 (9 * (end - at)) (rises_then a b c 0 (18 * (at - start)) 0 (9 * (end - at) + first_steps (items_of left)) v w) x) y) z in
+    let first : first_steps (items_of left) ≡ 9 * length (spelling item.item) - 8 = ap (λ l. first_steps (items_of l)) some in
+    let all = rises_then a e f 0 _ 0 8 (rises_then a d e 0 _ 0 (9 * len - 8) (rises_then a c d 0 _ 0 (9 * (end - at)) (rises_then a b c 0 (18 * (at - start)) 0 (9 * (end - at) + first_steps (items_of left)) v w) x) y) z in
     rises_more a f 0 _ (18 * (end + len - start)) (omega (arith, first, on, more, is, spelling_some item.item)) all
 
 -- the steps over the plane of the areas of a page so far, with the fill where it begins

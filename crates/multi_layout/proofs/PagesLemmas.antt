@@ -19,7 +19,7 @@ use Rattle.sign_font.specs.Sign.{FontData, SignData, largest, tallest}
 use Rattle.sign_font.specs.Sound.{IsSound, IsSoundFont}
 use Rattle.multi_layout.specs.LaidItems.{laid_out}
 use Rattle.multi_layout.specs.declared.cursor.Cursor.{Cursor}
-use Rattle.multi_layout.specs.declared.cursor.NextItem.{NextItem}
+use Rattle.multi_layout.specs.declared.item.NextItem.{NextItem}
 use Rattle.multi_layout.specs.Drawn as drawn
 use Rattle.multi_layout.specs.Limits.{drawing_limit, plane_limit, plane_octets, reading_limit}
 use Rattle.multi_layout.specs.Meaning.{BeginsPage, Does, Meaning, is_new_page, meaning, meanings}
@@ -140,7 +140,7 @@ module _ (sign : SignData) (octets : List ℕ) (page : ℕ) where
 
 -- ---- one step of the way: an item is read, and the cursor passes it
 
-module _ (sign : SignData) (page : ℕ) (start source read passed : Counted) (old new : Cursor) (next : NextItem) (steps : RisesBetween start source 0 (9 * old.at)) (reads : RisesBetween source read 0 (2 * next.len - 1)) (at : new.at ≡ old.at + next.len) where
+module _ (sign : SignData) (page : ℕ) (start source read passed : Counted) (old new : Cursor) (next : NextItem) (steps : RisesBetween start source 0 (9 * old.at)) (reads : RisesBetween source read 0 (9 * next.len - 8)) (at : new.at ≡ old.at + next.len) where
   source_same : source.octets ≡ start.octets
   source_same = ap (λ (s : Counted). s.octets) steps.3
 
@@ -149,8 +149,8 @@ module _ (sign : SignData) (page : ℕ) (start source read passed : Counted) (ol
 
   pub steps_further : 1 ≤ next.len → RisesBetween read passed 0 1 → RisesBetween start passed 0 (9 * new.at)
   steps_further some judges =
-      let both = rises_then source read passed 0 (2 * next.len - 1) 0 1 reads judges in
-      let all = rises_then start source passed 0 (9 * old.at) 0 (2 * next.len - 1 + 1) steps both in
+      let both = rises_then source read passed 0 (9 * next.len - 8) 0 1 reads judges in
+      let all = rises_then start source passed 0 (9 * old.at) 0 (9 * next.len - 8 + 1) steps both in
       rises_more start passed 0 _ _ (omega (arith, at, some)) all
 
   module _ (w : IsOnTheWay sign start.octets page old) (first : IsFirst w.behind (Some next)) where

@@ -1,5 +1,5 @@
 -- The next item of an accepted string.
-use Rattle.std.proofs.Common.{◌≡◌, ℕ, ◌+◌, ◌^◌, ◌<◌, ◌≤◌, List, [], ◌∷◌, ◌++◌, length, drop, map, Some, None, refl, sym, ap, subst, ◌∙◌, arith, append_assoc, append-nil}
+use Rattle.std.proofs.Common.{◌≡◌, ℕ, ◌+◌, ◌^◌, ◌<◌, ◌≤◌, inl, inr, List, [], ◌∷◌, ◌++◌, length, drop, map, Some, None, refl, sym, ap, subst, ◌∙◌, arith, append_assoc, append-nil}
 use Rattle.std.specs.List.{All, cons_option}
 use Rattle.std.proofs.lemmas.List.{length-append, map-append}
 use Rattle.std.proofs.lemmas.List.Concat.{flat_map-append}
@@ -14,12 +14,15 @@ use Rattle.sign_font.specs.Sign.{SignData}
 use Rattle.multi_layout.specs.Words.{each_after, some_after}
 use Rattle.multi_layout.specs.Laid.{too_big}
 use Rattle.multi_layout.specs.declared.cursor.Cursor.{Cursor}
+use Rattle.multi_layout.specs.declared.item.NextItem.{NextItem}
 use Rattle.multi_layout.specs.LaidItems.{laid_item}
 use Rattle.multi_layout.specs.Meaning.{Faulty, meaning}
 use Rattle.multi_layout.specs.Offence.{offence, unsized_offence}
 use Rattle.multi_layout.specs.kept.State.{IsReady, IsStateOf}
 use Rattle.multi_layout.specs.Verdict.{fault_at, offences}
-use Rattle.multi_layout.specs.kept.Cursors.{IsAccepted, IsBetween, IsFine, IsOrderly, IsPlaced, LaidItem, items_of, laid_meanings, meant, spell_of}
+use Rattle.multi_layout.specs.kept.ItemAt.{IsFaultAt, IsItemAt}
+use Rattle.multi_layout.specs.kept.KnownItem.{IsKnownItem, meant_by}
+use Rattle.multi_layout.specs.kept.Cursors.{IsAccepted, IsBetween, IsFine, IsFirst, IsOrderly, IsPlaced, LaidItem, items_of, laid_meanings, meant, spell_of}
 use Rattle.multi_layout.proofs.InForceLemmas.{none_front, none_last}
 use Rattle.multi_layout.proofs.JudgedLemmas.{ready}
 use Rattle.multi_layout.proofs.OffenceLemmas.{offence-faulty}
@@ -89,6 +92,12 @@ module _ (sign : SignData) (octets : List ℕ) (before behind : List Item) (at :
           let same = one_item_begins x (item_of octets t) (spell items) (drop (t.at + t.len) octets) (All-head IsItem x items each) stands.begins.0 e in
           (items, ap (λ y. y ∷ items) same.0)
 
+  -- an item that stands here is the first, of which this is read
+  pub item_is : (next : NextItem) → IsItemAt octets at next.len (meant_by next.item) → IsKnownItem next.item → IsFirst behind (Some next)
+  item_is next (t, here, long, stands, means) known =
+      let (rest, is) = first_is t here stands in
+      (item_of octets t, rest, is, record { meant = means; known = known; len = sym long ∙ stands.len })
+
 -- none of some items offends, so the last doesn't, nor any before it
 pub last_fine : (sign : SignData) (items : List Item) (item : Item) → offences sign (items ++ item ∷ []) ≡ []
     → (offences sign items ≡ []) × (offence sign.line_fill sign (map meaning items) (meaning item) ≡ None)
@@ -123,6 +132,13 @@ module _ (sign : SignData) (octets : List ℕ) (before rest : List Item) (item :
 
   pub room : at + length (spelling item) ≤ length octets
   room = omega (arith, p.place, ap length (p.accepted.spelled ∙ spell-append before (item ∷ rest)), length-append (spell before) (spell (item ∷ rest)), length-append (spelling item) (spell rest))
+
+-- no error stands between the items of an accepted string
+pub no_fault : (sign : SignData) (octets : List ℕ) (before behind : List Item) (at code : ℕ) → IsPlaced sign octets before behind at → at < length octets → IsFaultAt octets at code → ⊥
+no_fault sign octets before behind at code p before_end (inl (none, is)) = never_broken sign octets before behind at p before_end none
+no_fault sign octets before behind at code p before_end (inr (len, (t, here, long, stands, means))) =
+    let (rest, is) = first_is sign octets before behind at p t here stands in
+    never_faulty sign octets before rest (item_of octets t) at (subst (λ (l : List Item). IsPlaced sign octets before l at) is p) code means
 
 -- the items of an accepted string don't offend where lines aren't filled
 pub fine_items : (sign : SignData) → sign.line_fill ≡ Off → (items : List Item) → offences sign items ≡ [] → IsFine sign (map meaning items)

@@ -10,17 +10,9 @@ ghost use Rattle.multi_layout.specs.Meaning.{said_by};
 ghost use Rattle.multi_layout.specs.kept.State.{IsKnown};
 
 use crate::fault::SyntaxError;
-use crate::item::{KnownItem, tag_error};
+use crate::item::{KnownItem, NextItem, tag_error};
 use multi_tag::{Tag, read_ahead, read_tag};
 use multi_token::{Bracketed, Kind, Source, Token, read_bracket};
-
-/// An item that begins with a bracket.
-#[derive(Clone, Copy)]
-pub(crate) struct Spelled {
-    pub(crate) item: KnownItem,
-    /// The octets that spell it, its brackets with them.
-    pub(crate) len: usize,
-}
 
 /// The item that begins with this bracket at an offset, which was read, or the error of a bracket with which none begins and of a
 /// tag that has no value.
@@ -32,7 +24,7 @@ pub(crate) fn read_spelled(
     source: &mut Source<'_>,
     at: usize,
     bracket: u8,
-) -> Result<Spelled, SyntaxError>
+) -> Result<NextItem, SyntaxError>
     requires bracket { (bracket ≡ 91) ⊎ (bracket ≡ 93) }
     requires stands { slice_get source.old.octets at ≡ Some bracket }
     // whoever read the bracket knows this of the source
@@ -44,7 +36,7 @@ pub(crate) fn read_spelled(
     ensures fault_steps { OnErr result (RisesBetween source.old source.new 0 (4 * (length source.old.octets - at))) }
 {
     if source.read(at + 1) == Some(bracket) {
-        return Ok(Spelled {
+        return Ok(NextItem {
             item: KnownItem::Char(u16::from(bracket)),
             len: 2,
         });
@@ -53,7 +45,7 @@ pub(crate) fn read_spelled(
         return Err(SyntaxError::UnsupportedTag);
     }
     match read_ahead(source, at) {
-        Some((tag, len)) => Ok(Spelled {
+        Some((tag, len)) => Ok(NextItem {
             item: said(tag),
             len,
         }),

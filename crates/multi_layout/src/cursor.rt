@@ -1,6 +1,6 @@
 //! The way through an accepted string, from item to item.
 
-ghost use Rattle.std.specs.Prelude.{◌≡◌, false, None, ℕ, ◌+◌, ◌-◌, ◌*◌, ◌<◌, ◌^◌, [], ◌∷◌, ◌++◌, List, Some, IfSome, IfNone};
+ghost use Rattle.std.specs.Prelude.{◌≡◌, false, None, ℕ, ◌+◌, ◌-◌, ◌*◌, ◌<◌, ◌≤◌, ◌⊎◌, ◌^◌, [], ◌∷◌, ◌++◌, List, Some, IfSome, IfNone, length, slice_get};
 ghost use Rattle.multi_token.specs.Counted.{RisesBetween};
 ghost use Rattle.multi_token.specs.Spelling as spelled;
 ghost use Rattle.sign_font.specs.Cell.{SizedCell};
@@ -12,25 +12,19 @@ ghost use Rattle.multi_layout.specs.Offence.{unsized_offence};
 ghost use Rattle.multi_layout.specs.kept.State.{IsReady, IsStateOf};
 ghost use Rattle.multi_layout.specs.kept.Cursors.{GoesBehind, IsAccepted, IsBefore, IsBetween, IsFirst, IsOrderly, IsPassing, IsPassingBefore, IsPlaced, IsRead, IsWithin, laid_meanings, PassesOn, LaidItem, pieces_of};
 
-use crate::item::{KnownItem, read_item};
+use crate::bracket::read_spelled;
+use crate::item::{KnownItem, NextItem};
 use crate::judge::judge_tag;
 use crate::state::State;
 use crate::terms::Terms;
 use multi_tag::Tag;
-use multi_token::{Source, next_token};
+use multi_token::Source;
 
 /// A place between two items of an accepted string: the offset of the next, and the state behind those before it.
 #[derive(Clone, Copy)]
 pub(crate) struct Cursor {
     pub(crate) at: usize,
     pub(crate) state: State,
-}
-
-/// What is read of the next item: the item, and the number of its octets.
-#[derive(Clone, Copy)]
-pub(crate) struct NextItem {
-    pub(crate) item: KnownItem,
-    pub(crate) len: usize,
 }
 
 impl Cursor {
@@ -50,24 +44,40 @@ impl Cursor {
     }
 
     /// Reads the next item, or `None` at the end.
+    #[inline(always)]
     pub(crate) fn next_item(&self, source: &mut Source<'_>) -> Option<NextItem>
         requires { (sign : SignData) × IsWithin sign source.old.octets self.now.at }
         ensures first { (sign : SignData) (before behind : List spelled.Item)
             → IsPlaced sign source.old.octets before behind self.now.at → IsFirst behind result }
-        ensures steps { IfSome result (λ next. RisesBetween source.old source.new 0 (2 * next.len - 1)) }
+        ensures steps { IfSome result (λ next. RisesBetween source.old source.new 0 (9 * next.len - 8)) }
         ensures end_steps { IfNone result (RisesBetween source.old source.new 0 1) }
     {
-        // An accepted string has neither a broken bracket nor a tag with an error.
-        let token = match next_token(source, self.at) {
-            Ok(Some(token)) => token,
-            Ok(None) => return None,
-            Err(_) => unreachable!(),
-        };
-        match read_item(source, &token) {
-            Ok(item) => Some(NextItem {
-                item,
-                len: token.len,
-            }),
+        let first = source.read(self.at)?;
+        if first != b'[' && first != b']' {
+            return Some(NextItem {
+                item: KnownItem::Char(u16::from(first)),
+                len: 1,
+            });
+        }
+        Some(self.next_spelled(source, first))
+    }
+
+    /// Reads the next item, which begins with this bracket that was read. It isn't put into its callers' code, since octets that stand
+    /// for themselves are many more.
+    #[inline(never)]
+    fn next_spelled(&self, source: &mut Source<'_>, bracket: u8) -> NextItem
+        requires within { (sign : SignData) × IsWithin sign source.old.octets self.now.at }
+        requires bracket { (bracket ≡ 91) ⊎ (bracket ≡ 93) }
+        requires stands { slice_get source.old.octets self.now.at ≡ Some bracket }
+        requires room { length source.old.octets < 2 ^ 63 }
+        ensures first { (sign : SignData) (before behind : List spelled.Item)
+            → IsPlaced sign source.old.octets before behind self.now.at → IsFirst behind (Some result) }
+        ensures some { 1 ≤ result.len }
+        ensures steps { RisesBetween source.old source.new 0 (9 * result.len - 9) }
+    {
+        match read_spelled(source, self.at, bracket) {
+            Ok(next) => next,
+            // An accepted string has neither a broken bracket nor a tag with an error.
             Err(_) => unreachable!(),
         }
     }

@@ -15,8 +15,8 @@ ghost use Rattle.multi_layout.specs.Picture.{in_plane, shown_colour};
 ghost use Rattle.multi_layout.specs.kept.Table.{IsOrdered};
 ghost use Rattle.multi_layout.specs.kept.Cursors.{GoesBehind, IsBetween, IsItemRead, IsRead, meant, LaidItem, spell_of};
 
-use crate::cursor::{Cursor, NextItem};
-use crate::item::KnownItem;
+use crate::cursor::Cursor;
+use crate::item::{KnownItem, NextItem};
 use crate::paint::{Layer, put_character};
 use crate::place::is_full;
 use crate::read::{AreaLines, read_area};

@@ -3,7 +3,7 @@
 
 ghost use Rattle.std.specs.Prelude.{◌≡◌, ℕ, ◌+◌, ◌*◌, ◌^◌, ◌<◌, ◌≤◌, true, false, length, Option};
 ghost use Rattle.multi_token.specs.Counted.{charged};
-ghost use Rattle.multi_layout.specs.kept.FilledRun.{GoesOnBehind, IsFilledRun, longer_line, with_run, with_space, with_word};
+ghost use Rattle.multi_layout.specs.kept.FilledRun.{GoesOnBehind, IsFilledRun, with_run, with_space, with_word};
 ghost use Rattle.multi_layout.specs.kept.FilledState.{IsFilledFor, IsFilledReady};
 ghost use Rattle.multi_layout.specs.kept.Judging.{IsAt, IsBehind};
 ghost use Rattle.multi_layout.specs.kept.Run.{Fits, IsBehindOne};
@@ -31,29 +31,20 @@ impl Line {
             & (self.part.last == Some(font.char_spacing))
     }
 
-    /// The line with so many more pixels and characters in its present segment.
-    fn longer(&self, pixels: u64, count: u64) -> Line
-        requires { (self.now.part.width + pixels < 2 ^ 64) × (self.now.part.count + count < 2 ^ 64) }
-        ensures { result ≡ longer_line pixels count self.now }
-    {
-        let mut line = *self;
-        line.lengthen(self.part.width + pixels, self.part.count + count);
-        line
-    }
-
-    /// The line with so many more characters with these attributes, of so many pixels with this gap before each: on a line of no
-    /// character the first one has none.
-    fn with_run(&self, here: &Attributes, gap: u8, pixels: u64, count: u64) -> Line
-        requires { (self.now.part.width + pixels < 2 ^ 64) × (self.now.part.count + count < 2 ^ 64) }
-        ensures { result ≡ with_run here.now gap pixels count self.now }
+    /// Adds characters with these attributes, of so many pixels with this gap before each: on a line of no character the first one has
+    /// none.
+    fn add_run(&mut self, here: &Attributes, gap: u8, pixels: u64, count: u64)
+        requires { (self.old.part.width + pixels < 2 ^ 64) × (self.old.part.count + count < 2 ^ 64) }
+        ensures { self.new ≡ with_run here.now gap pixels count self.old }
     {
         if self.any {
-            return self.longer(pixels, count);
+            self.lengthen(self.part.width + pixels, self.part.count + count);
+            return;
         }
         if count == 0 {
-            return *self;
+            return;
         }
-        Line {
+        *self = Line {
             present: here.line_just,
             left: 0,
             centre: 0,
@@ -67,7 +58,7 @@ impl Line {
             height: here.font.height,
             spacing: here.font.line_spacing,
             any: true,
-        }
+        };
     }
 }
 
@@ -201,7 +192,7 @@ impl Pass {
     {
         let here = self.state.attributes;
         if let Some(parts) = &mut self.split {
-            parts.behind = parts.behind.with_run(&here, gap, pixels, count);
+            parts.behind.add_run(&here, gap, pixels, count);
         }
         self.state.lengthen(pixels, count);
     }

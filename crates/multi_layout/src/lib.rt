@@ -37,4 +37,4 @@ pub use fault::{Fault, SyntaxError};
 pub use laws::{broken_bracket_stands, keeps_breaks, one_verdict, refusal_stands, smaller_fits};
 pub use pages::{PageView, Pages};
 pub use times::Shown;
-pub use verdict::{check, check_with};
+pub use verdict::{Judge, Offence, check, check_with};

@@ -120,6 +120,31 @@ impl Line {
         }
     }
 
+    /// A line of one character.
+    #[inline(always)]
+    fn of(character: &Character) -> Line
+        requires known { character.now.just ≤ 5 }
+        ensures sum { (s : Spot) → IsCharacter s character.now → result ≡ line_sum (s ∷ []) }
+        ensures below { IsLineBelow 1024 result }
+        ensures behind { IsBehindOne character.now.just character.now.font result }
+    {
+        Line {
+            present: character.just,
+            left: 0,
+            centre: 0,
+            right: 0,
+            part: Segment {
+                width: u64::from(character.width),
+                count: 1,
+                last: Some(character.font.char_spacing),
+            },
+            has_parts: character.just < 5,
+            height: character.font.height,
+            spacing: character.font.line_spacing,
+            any: true,
+        }
+    }
+
     /// Adds a character, whose line justification isn't before that of an earlier one.
     #[inline(always)]
     pub(crate) fn add(&mut self, character: &Character)
@@ -130,6 +155,10 @@ impl Line {
         ensures grows { (k : ℕ) → IsLineBelow k self.old → IsLineBelow (k + 1024) self.new }
         ensures behind { IsOpen character.now.just self.old → IsBehindOne character.now.just character.now.font self.new }
     {
+        if !self.any {
+            *self = Line::of(character);
+            return;
+        }
         self.go_on(character.just);
         self.part.add(character);
         self.has_parts |= character.just < 5;
@@ -292,6 +321,9 @@ pub(crate) fn room_for(just: u8, start: u64, middle: u64, length: u16) -> u64
     ensures most { result ≤ length }
 {
     let length = u64::from(length);
+    if (start == 0) & (middle == 0) {
+        return length;
+    }
     match just {
         3 => length.saturating_sub(2 * start),
         4 if middle == 0 => length.saturating_sub(start),

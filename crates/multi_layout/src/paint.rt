@@ -87,12 +87,12 @@ pub(crate) fn put_character(
     ensures width { plane.new.width ≡ plane.old.width }
     ensures height { plane.new.height ≡ plane.old.height }
 {
-    let attributes = state.attributes;
+    let attributes = &state.attributes;
     if !layer.is_lit(attributes.flash) {
         return;
     }
     let lines = lines.group(attributes.page_just);
-    let place = place_at(&attributes, &state.area, lines, cell.width());
+    let place = place_at(attributes, &state.area, lines, cell.width());
     let on = layer.has(sign, attributes.fore);
     put_cell(cell, place.column, place.row, on, plane);
 }

@@ -21,8 +21,8 @@ ghost use Rattle.multi_layout.specs.kept.Table.{IsNarrowArea, IsOrdered, group_l
 ghost use Rattle.multi_layout.specs.kept.Cursors.{IsBetween, IsFirst, IsPlaced, IsWithin, meant, LaidItem};
 
 use crate::area::Area;
-use crate::cursor::{Cursor, NextItem};
-use crate::item::KnownItem;
+use crate::cursor::Cursor;
+use crate::item::{KnownItem, NextItem};
 use crate::pass::Pass;
 use crate::state::State;
 use crate::table::{CountedLine, LineTable};
@@ -102,7 +102,7 @@ fn next_plain(cursor: &Cursor, source: &mut Source<'_>) -> Option<NextItem>
     ensures first { IfSome result (λ next. (sign : SignData) (before behind : List spelled.Item)
         → IsPlaced sign source.old.octets before behind cursor.now.at → IsFirst behind (Some next)) }
     ensures plain { IfSome result (λ next. begins_area (meant_by next.item) ≡ false) }
-    ensures steps { IfSome result (λ next. RisesBetween source.old source.new 0 (2 * next.len - 1)) }
+    ensures steps { IfSome result (λ next. RisesBetween source.old source.new 0 (9 * next.len - 8)) }
     ensures ends { IfNone result ((sign : SignData) (before behind : List spelled.Item)
         → IsPlaced sign source.old.octets before behind cursor.now.at
         → EndsArea (map meaning behind) × RisesBetween source.old source.new 0 (first_steps behind)) }

@@ -1,10 +1,13 @@
 //! The verdict on a string, in one reading from the left with running sums.
 
-ghost use Rattle.std.specs.Prelude.{◌≡◌, ℕ, ◌+◌, ◌^◌, ◌<◌, ◌≤◌, ◌*◌, ◌-◌, ◌⊎◌, [], length, IfOk, IfErr, None, Some};
+ghost use Rattle.std.specs.Prelude.{◌≡◌, ℕ, ◌+◌, ◌^◌, ◌<◌, ◌≤◌, ◌*◌, ◌-◌, ◌⊎◌, [], length, IfOk, IfErr, OnOk, None, Some};
 ghost use Rattle.sign_font.specs.Defaults.{default_fault, under};
+ghost use Rattle.sign_font.specs.Sign.{SignData};
+ghost use Rattle.multi_layout.specs.Codes.{code_of};
 ghost use Rattle.multi_layout.specs.Limits.{check_limit};
 ghost use Rattle.multi_layout.specs.kept.Judging.{IsAt, IsRefused, IsTold};
 ghost use Rattle.multi_layout.specs.kept.PassState.{IsPassOf, fill_of};
+ghost use Rattle.multi_layout.specs.kept.State.{IsStateOf};
 ghost use Rattle.multi_layout.specs.Verdict.{Accepted, IsVerdict, Refused};
 
 use crate::bracket::read_spelled;
@@ -16,12 +19,13 @@ use crate::state::State;
 use crate::terms::Terms;
 use multi_token::Source;
 use sign_font::{Defaults, LineFill, Sign};
+use std::marker::Model;
 
-/// The first error of a string, and the offset of its item.
-#[derive(Clone, Copy)]
-pub(crate) struct Offence {
-    pub(crate) error: SyntaxError,
-    pub(crate) at: usize,
+/// The first error of a string, and the offset of its item (NTCIP 1203 v03, dmsMultiSyntaxError and dmsMultiSyntaxErrorPosition).
+#[derive(Clone, Copy, Debug, PartialEq, Eq)]
+pub struct Offence {
+    pub error: SyntaxError,
+    pub at: usize,
 }
 
 /// What is told of an accepted string: its pages, and the times of all of them together, in tenths of a second.
@@ -84,7 +88,7 @@ pub fn check_with<'a>(
 {
     let terms = Terms::new(sign, defaults);
     let mut source = source;
-    match judge(&terms, &mut source) {
+    match judge_string(&terms, State::new(&terms), &mut source) {
         Ok(told) => Ok(Checked {
             pages: told.pages,
             cycle: told.cycle,
@@ -99,33 +103,101 @@ pub fn check_with<'a>(
     }
 }
 
-/// Judges the items of a string from the left, up to the first that offends.
+/// Gives the verdicts of a sign on strings, one after the other, by the sign's own defaults (own).
+#[derive(Drop)]
+pub struct Judge<'a> {
+    terms: Terms<'a>,
+}
+
+impl<'a> Model for Judge<'a> {
+    ghost Value = { SignData };
+
+    ghost view = { λ j. j.terms };
+}
+
+impl<'a> Judge<'a> {
+    /// What all verdicts of a sign need is looked up once.
+    pub fn new(sign: &'a Sign) -> Judge<'a>
+        ensures { result ≡ sign.now }
+    {
+        Judge {
+            terms: Terms::new(sign, sign.defaults()),
+        }
+    }
+
+    /// The number of pages of a string that the sign accepts; else the first error. Verdict and steps are those of [`check`].
+    #[inline(always)]
+    pub fn pages(&self, source: &mut Source<'_>) -> Result<u8, Offence>
+        requires fresh { source.old.steps ≡ 0 }
+        requires short { length source.old.octets < 2 ^ 32 }
+        ensures accepted { IfOk result (λ pages. IsVerdict self.now source.old.octets (Accepted pages)) }
+        ensures refused { IfErr result (λ offence. IsVerdict self.now source.old.octets (Refused (code_of offence.error) offence.at)) }
+        ensures kept { source.new.octets ≡ source.old.octets }
+        ensures steps { IfOk result (λ pages. length source.old.octets + 1 ≤ source.new.steps) }
+        ensures fault_steps { IfErr result (λ offence. offence.at + 1 ≤ source.new.steps) }
+        ensures most { source.new.steps ≤ check_limit (length source.old.octets) }
+    {
+        match judge_string(&self.terms, State::new(&self.terms), source) {
+            Ok(told) => Ok(told.pages),
+            Err(offence) => Err(offence),
+        }
+    }
+}
+
+/// Judges the items of a string from the left, up to the first that offends, from the state before the first.
 #[inline(always)]
-fn judge(sign: &Terms<'_>, source: &mut Source<'_>) -> Result<Told, Offence>
+fn judge_string(sign: &Terms<'_>, start: State, source: &mut Source<'_>) -> Result<Told, Offence>
+    requires start { IsStateOf sign.now [] start }
     requires fresh { source.old.steps ≡ 0 }
     requires short { length source.old.octets < 2 ^ 32 }
     ensures told { IfOk result (λ told. IsTold sign.now source.old.octets told.pages told.cycle source.new) }
     ensures refused { IfErr result (λ offence. IsRefused sign.now source.old.octets offence source.new) }
 {
     match sign.line_fill() {
-        LineFill::Off => judge_all::<false>(sign, source),
-        LineFill::Words => judge_all::<true>(sign, source),
+        LineFill::Off => judge_all::<false>(sign, start, source),
+        LineFill::Words => judge_all::<true>(sign, start, source),
     }
 }
 
 /// The same for lines of one kind: filled or not. What is kept is made here, so that no more of it is than that kind reads.
-fn judge_all<const WORDS: bool>(sign: &Terms<'_>, source: &mut Source<'_>) -> Result<Told, Offence>
+fn judge_all<const WORDS: bool>(
+    sign: &Terms<'_>,
+    start: State,
+    source: &mut Source<'_>,
+) -> Result<Told, Offence>
     requires kind { sign.now.line_fill ≡ fill_of WORDS }
+    requires start { IsStateOf sign.now [] start }
     requires fresh { source.old.steps ≡ 0 }
     requires short { length source.old.octets < 2 ^ 32 }
     ensures told { IfOk result (λ told. IsTold sign.now source.old.octets told.pages told.cycle source.new) }
     ensures refused { IfErr result (λ offence. IsRefused sign.now source.old.octets offence source.new) }
 {
-    let mut pass = Pass::new(State::new(sign));
+    let mut pass = Pass::new(start);
+    judge_items::<WORDS>(sign, &mut pass, source)?;
+    Ok(Told {
+        pages: pass.state.pages,
+        cycle: pass.state.whole_cycle(),
+    })
+}
+
+/// Judges the items of a string from the first on. The pass stays where its caller has it, since in registers there are too few places
+/// for it.
+#[inline(never)]
+fn judge_items<const WORDS: bool>(
+    sign: &Terms<'_>,
+    pass: &mut Pass,
+    source: &mut Source<'_>,
+) -> Result<(), Offence>
+    requires start { IsPassOf WORDS sign.now pass.old [] }
+    requires fresh { source.old.steps ≡ 0 }
+    requires short { length source.old.octets < 2 ^ 32 }
+    ensures ended { OnOk result ((at : ℕ) × IsAt sign.now source.old.octets at None (IsPassOf WORDS sign.now pass.new) source.new) }
+    ensures refused { IfErr result (λ offence. IsRefused sign.now source.old.octets offence source.new) }
+{
     let mut at = 0;
     let mut next = source.read(at);
     while let Some(first) = next {
-        match judge_from::<WORDS>(sign, &mut pass, source, at, first) {
+        match judge_from::<WORDS>(sign, pass, source, at, first) {
             Ok((behind, octet)) => {
                 at = behind;
                 next = octet;
@@ -133,10 +205,7 @@ fn judge_all<const WORDS: bool>(sign: &Terms<'_>, source: &mut Source<'_>) -> Re
             Err(offence) => return Err(offence),
         }
     }
-    Ok(Told {
-        pages: pass.state.pages,
-        cycle: pass.state.whole_cycle(),
-    })
+    Ok(())
 }
 
 /// Judges what begins with this octet at an offset, which was read: an item that begins with a bracket, or a character and those

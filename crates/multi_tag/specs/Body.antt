@@ -1,4 +1,4 @@
--- The table of tags: their names, and the forms of what stands behind a name.
+-- The table of tags: their names, and the forms of what follows a name.
 use Rattle.std.specs.Prelude.{◌≡◌, ℕ, false, true, List, ◌++◌, Some, None, Result, Ok, codes}
 use Rattle.std.specs.Str.{str_to_ascii_lowercase}
 use Rattle.multi_tag.specs.declared.name.Name.{Name}
@@ -9,7 +9,7 @@ use Rattle.multi_tag.specs.declared.tag.TagFault.{TagFault}
 use Rattle.multi_tag.specs.Octet.{comma, letter_o, letter_t}
 use Rattle.multi_tag.specs.Form.{Form, nothing, d, d?, h, ◌means◌, ◌or◌, after, between}
 
--- a row of the table: a name, and the form of what stands behind it (NTCIP 1203 v03, MULTI)
+-- a row of the table: a name, and the form of what follows it (NTCIP 1203 v03, MULTI)
 pub record Row : Type 1 where
   pub name : List ℕ
   pub rest : Form Tag

@@ -5,15 +5,15 @@ use Rattle.multi_token.specs.Tokens.{IsTagOf, body_of}
 use Rattle.multi_tag.specs.declared.tag.Tag.{Tag}
 use Rattle.multi_tag.specs.Body.{Spells}
 
--- octets begin with a body that spells this tag and the bracket behind it, so many octets together (NTCIP 1203 v03, MULTI)
+-- octets begin with a body that spells this tag and its closing bracket, together this many octets (NTCIP 1203 v03, MULTI)
 abbrev pub IsClosedTag : List ℕ → Tag → ℕ → Type 0
 IsClosedTag octets tag len = (body rest : List ℕ) × (octets ≡ body ++ 93 ∷ rest) × Spells body tag × (len ≡ length body + 1)
 
--- octets begin with no body that spells a tag and has a bracket behind it (NTCIP 1203 v03, MULTI)
+-- octets begin with no body that spells a tag and is followed by a closing bracket (NTCIP 1203 v03, MULTI)
 abbrev pub HasNoClosedTag : List ℕ → Type 0
 HasNoClosedTag octets = (body rest : List ℕ) (tag : Tag) → octets ≡ body ++ 93 ∷ rest → ¬ (Spells body tag)
 
--- a tag of so many octets stands at a place of octets, and its body spells this (NTCIP 1203 v03, MULTI)
+-- a tag of this many octets stands at a place of octets, and its body spells this (NTCIP 1203 v03, MULTI)
 abbrev pub IsTagAt : List ℕ → ℕ → Tag → ℕ → Type 0
 IsTagAt octets at tag len =
     IsTagOf octets (record { at = at; len = len; kind = kinds.Tag })

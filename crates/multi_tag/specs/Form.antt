@@ -11,7 +11,7 @@ Form V = List ℕ → V → Type 0
 abbrev pub nothing : {V : Type 0} → V → Form V
 nothing meaning octets value = (octets ≡ []) × (value ≡ meaning)
 
--- the octets are digits of a base, one to so many, and the number that they write lies from low to high (NTCIP 1203 v03, MULTI)
+-- the octets are digits of a base, at least one and at most this many, and write a number from low to high (NTCIP 1203 v03, MULTI)
 pub record IsNumber (base most low high : ℕ) (octets : List ℕ) (value : ℕ) : Type 0 where
   pub each : All (IsDigit base) octets
   pub least : octets ≢ []

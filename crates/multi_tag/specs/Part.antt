@@ -29,7 +29,7 @@ abbrev pub BeginsWithDigit : ℕ → List ℕ → Type 0
 BeginsWithDigit base [] = ⊥
 BeginsWithDigit base (octet ∷ octets) = IsDigit base octet
 
--- the octets begin with as many digits as there are, but so many at most, which write this; the rest stands behind them (own)
+-- the octets begin with digits, all that stand there or as many of them as may be read, which write this number; the rest follows (own)
 pub record IsCut (base most : ℕ) (octets : List ℕ) (value : Option ℕ) (rest : List ℕ) : Type 0 where
   pub digits : List ℕ
   pub whole : octets ≡ digits ++ rest
@@ -38,11 +38,11 @@ pub record IsCut (base most : ℕ) (octets : List ℕ) (value : Option ℕ) (res
   pub stops : BeginsWithDigit base rest → length digits ≡ most
   pub value_is : value ≡ written base digits
 
--- octets begin with a number and an octet behind it; the rest stands behind both (own)
+-- octets begin with a number and then this octet; the rest follows (own)
 abbrev pub IsPartBefore : {V : Type 0} → ℕ → Form V → List ℕ → V → List ℕ → Type 0
 IsPartBefore octet form octets value rest = (front : List ℕ) × (octets ≡ front ++ octet ∷ rest) × form front value
 
--- octets begin with no number that this octet stands behind (own)
+-- octets begin with no number that is followed by this octet (own)
 abbrev pub HasNoPartBefore : {V : Type 0} → ℕ → Form V → List ℕ → Type 0
 HasNoPartBefore {V} octet form octets = (front behind : List ℕ) (value : V) → octets ≡ front ++ octet ∷ behind → ¬ (form front value)
 

@@ -23,7 +23,7 @@ abbrev pub read_nothing : {V : Type 0} → V → Reads V
 read_nothing value [] = Some value
 read_nothing value (_ ∷ _) = None
 
--- the octets are one digit to so many, and the number that they write lies from low to high (own)
+-- the octets are digits, at least one and at most this many, and write a number from low to high (own)
 abbrev pub are_digits : ℕ → ℕ → ℕ → ℕ → List ℕ → Bool
 are_digits base most low high octets =
     list_all (λ octet. nat_lt (digit_value octet) base) octets
@@ -32,7 +32,7 @@ are_digits base most low high octets =
     && nat_le low (number base octets)
     && nat_le (number base octets) high
 
--- one digit to so many, read as the number that they write, if it lies from low to high (own)
+-- such digits, read as the number that they write, if it lies from low to high (own)
 abbrev pub digits : ℕ → ℕ → ℕ → ℕ → Reads ℕ
 digits base most low high octets = if are_digits base most low high octets then Some (number base octets) else None
 
@@ -76,7 +76,7 @@ abbrev pub read_between : {U V : Type 0} → ℕ → Reads U → Reads V → Rea
 read_between octet first second octets =
     option_and_then (λ (front, rest). option_zip (first front) (second rest)) (parts octet octets)
 
--- what stands behind a name, in small letters, is read by the form of its row (NTCIP 1203 v03,
+-- what follows a name, in small letters, is read by the form of its row (NTCIP 1203 v03,
 -- MULTI; the ranges of 'nl', 'sc' and 'fl' are own)
 abbrev pub read_rest : Name → Reads Tag
 read_rest names.NewPage = read_nothing NewPage

@@ -14,7 +14,7 @@ use crate::number::{in_range, read_numeral};
 use crate::rect::read_before_comma;
 use crate::tag::{FontPick, Tag};
 
-/// The tag whose body begins the octets, and the number of octets up to the one behind its closing bracket.
+/// The tag whose body begins the octets, and how many octets that body and its closing bracket have.
 #[inline(always)]
 pub fn read_closed(octets: &[u8]) -> Option<(Tag, usize)>
     ensures some { IfSome result (λ (tag, len). IsClosedTag octets.now tag len) }
@@ -25,7 +25,7 @@ pub fn read_closed(octets: &[u8]) -> Option<(Tag, usize)>
     Some((tag, octets.len() - behind.len()))
 }
 
-/// What stands behind a name and before a bracket, and the octets behind the bracket.
+/// What stands between a name and a bracket, and the octets after the bracket.
 #[inline(always)]
 fn read_rest(octets: &[u8], name: Name) -> Option<(Tag, &[u8])>
     ensures some { IfSome result (λ (tag, behind).

@@ -4,7 +4,7 @@ use Rattle.std.specs.Prelude.{◌≡◌, ◌≢◌, ◌⊎◌, ℕ, List, [], �
 use Rattle.std.specs.List.{All}
 use Rattle.multi_token.specs.Spelling.{Item, IsPlain, BeginsWith, HasNoItem}
 
--- a string that may have been cut within an item: a `]` alone, or a `[` with nothing but octets of a body behind it, or with none (own)
+-- a string that may have been cut within an item: a `]` alone, or a `[` followed by nothing but octets of a body, or by nothing (own)
 abbrev pub IsOpen : List ℕ → Type 0
 IsOpen octets = (octets ≡ 93 ∷ []) ⊎ ((body : List ℕ) × All IsPlain body × (octets ≡ 91 ∷ body))
 

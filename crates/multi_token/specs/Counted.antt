@@ -1,4 +1,4 @@
--- Octets behind a counter of steps.
+-- Octets with a count of the steps over them.
 use Rattle.std.specs.Prelude.{ℕ, ◌≤◌, ◌≡◌, List}
 use Rattle.step_count.specs.Count.{raised}
 

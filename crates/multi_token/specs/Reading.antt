@@ -38,7 +38,7 @@ pub record Reading : Type 0 where
   pub items : List Item
   pub rest : List ℕ
 
--- the first item, if there is one, and then what stands behind it (own)
+-- the first item, if there is one, and then the items after it (own)
 unfoldable pub read_item : List ℕ → (Item → Reading) → Option Item → Reading
 read_item octets behind None = record { items = []; rest = octets }
 read_item octets behind (Some item) = record { items = item ∷ (behind item).items; rest = (behind item).rest }

@@ -6,7 +6,7 @@ use Rattle.std.specs.List.{sum_by}
 abbrev pub taken : List ℕ → ℕ → List ℕ → ℕ
 taken table gap octets = sum_by (λ octet. gap + slice_index table octet) octets
 
--- so many octets are the longest front that goes into the room, behind what is taken already (own)
+-- this many octets are the longest front that goes into the room after what is taken already (own)
 pub record IsRun (table : List ℕ) (gap width room : ℕ) (octets : List ℕ) (len : ℕ) : Type 0 where
   pub within : len ≤ length octets
   pub fits : width + taken table gap (take len octets) ≤ room

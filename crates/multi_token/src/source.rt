@@ -67,7 +67,7 @@ impl<'a> Source<'a> {
 
     /// The octets without brackets from an offset on, at most `most` of them, and the octet that ends them: a bracket, or
     /// `None` at the end. Each octet that is handed out takes one step, and so does the octet or the end that ends them.
-    /// Where there are `most`, nothing behind them is read, and the answer is `None`.
+    /// Where there are `most`, nothing after them is read, and the answer is `None`.
     pub(crate) fn read_plain(&mut self, from: usize, most: usize) -> (&'a [u8], Option<u8>)
         requires start { from ≤ length self.old.octets }
         ensures few { length result.0.now ≤ most }
@@ -127,7 +127,7 @@ impl<'a> Source<'a> {
     /// source is used again.
     pub fn ahead(&mut self, from: usize, most: usize) -> &[u8]
         requires start { from ≤ length self.old.octets }
-        // so many at a time, and no whole string
+        // a few at a time, and no whole string
         requires few { most ≤ 26 }
         ensures octets { result.now ≡ take most (drop from self.old.octets) }
         // the source, once what it lends is given back

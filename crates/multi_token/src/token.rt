@@ -160,7 +160,7 @@ fn close_bracket(source: &mut Source<'_>, at: usize) -> Result<Bracketed, TokenF
     }
 }
 
-/// A character that is spelled by so many octets.
+/// A character that is spelled by `len` octets.
 fn character(at: usize, len: usize, number: u8) -> Token
     ensures { result ≡ record { at = at; len = len; kind = Kind.Char number } }
 {

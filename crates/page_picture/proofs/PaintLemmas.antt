@@ -1,8 +1,12 @@
 -- Pixels that are painted, one after the other.
-use Rattle.std.proofs.Common.{◌≡◌, ℕ, ◌+◌, ◌*◌, ◌<◌, ◌≤◌, Bool, true, false, ◌==◌, ◌&&◌, ◌||◌, nat_lt, List, length, set, get_or, refl, sym, ap, subst, ◌∙◌, arith, inl, inr, if◌then◌else◌}
+use Rattle.std.proofs.Common.{◌≡◌, ℕ, zero, suc, ◌+◌, ◌-◌, ◌*◌, ◌/◌, ◌%◌, ◌<◌, ◌≤◌, Bool, true, false, ◌==◌, ◌&&◌, ◌||◌, nat_lt, List, [], ◌∷◌, length, set, get_or, refl, sym, ap, subst, ◌∙◌, arith, inl, inr, if◌then◌else◌}
 use Rattle.std.proofs.Math.Nat.{mul-le-mul_left}
-use Rattle.std.proofs.lemmas.Bool.{and_right, cases_Bool, cases_eq, cases_lt, eq-eqb, le-ltb, lt-ltb, ne_eqb}
+use Rattle.std.specs.Int.{bit_at}
+use Rattle.std.specs.List.{list_all}
+use Rattle.std.proofs.lemmas.Nat.Bits.{bit_at-zero}
+use Rattle.std.proofs.lemmas.Bool.{eqb-true, false≢true, and_right, cases_Bool, cases_eq, cases_lt, eq-eqb, le-ltb, lt-ltb, ne_eqb}
 use Rattle.std.proofs.lemmas.List.{drop-set-lt, get_or-set_other, get_or-set_same, length-set}
+use Rattle.page_plane.specs.Octets.{is_bit_set}
 use Rattle.page_picture.specs.Dots.{value_at}
 use Rattle.page_picture.specs.Painted.{IsPainted}
 use Rattle.page_picture.proofs.CountLemmas.{row_inside}
@@ -15,6 +19,24 @@ painted_none width height colour has octets none = record {
   pixels = λ column row left above. rw (none column row) refl;
   behind = refl;
 }
+
+-- octets without a set bit are 0
+zero_at : (octets : List ℕ) (place : ℕ) → list_all (λ octet. octet == 0) octets ≡ true → get_or octets place 0 ≡ 0
+zero_at [] place dark = refl
+zero_at (octet ∷ octets) zero dark = elim (cases_Bool (octet == 0)) [
+  | inl none ↦ eqb-true octet 0 none
+  | inr some ↦ absurd (false≢true (sym (ap (λ b. b && list_all (λ octet. octet == 0) octets) some) ∙ dark))
+]
+zero_at (octet ∷ octets) (suc place) dark = elim (cases_Bool (octet == 0)) [
+  | inl none ↦ zero_at octets place (sym (ap (λ b. b && list_all (λ octet. octet == 0) octets) none) ∙ dark)
+  | inr some ↦ absurd (false≢true (sym (ap (λ b. b && list_all (λ octet. octet == 0) octets) some) ∙ dark))
+]
+
+dark_at : (octets : List ℕ) (place : ℕ) → list_all (λ octet. octet == 0) octets ≡ true → is_bit_set octets place ≡ false
+unfolding is_bit_set
+dark_at octets place dark =
+    let none : get_or octets (place / 8) 0 ≡ 0 = zero_at octets (place / 8) dark in
+    rw none (ne_eqb (bit_at 0 (7 - place % 8)) 1 (λ one. let zero' = bit_at-zero (7 - place % 8) in absurd (omega (arith, zero', one))))
 
 either : (colour old mid new : ℕ) (one two both : Bool) → mid ≡ (if one then colour else old) → new ≡ (if two then colour else mid) → both ≡ (one || two)
     → new ≡ (if both then colour else old)
@@ -44,6 +66,17 @@ painted_same width height colour one other old new same is = record {
   pixels = λ column row left above. rw (same column row left above) (is.pixels column row left above);
   behind = is.behind;
 }
+
+-- a row without a lit pixel
+pub painted_dark : (width height colour row : ℕ) (octets : List ℕ) (lit : ℕ → ℕ → Bool) (old : List ℕ) → list_all (λ octet. octet == 0) octets ≡ true
+    → ((x : ℕ) → x < width → is_bit_set octets x ≡ lit x row) → IsPainted width height colour (λ x y. (y == row) && lit x y) old old
+painted_dark width height colour row octets lit old dark bits =
+    painted_same width height colour (λ x y. false) (λ x y. (y == row) && lit x y) old old
+    (λ x y left above. elim (cases_eq y row) [
+      | inl same ↦ and_right (y == row) (lit x y) (ap (lit x) same ∙ sym (bits x left) ∙ dark_at octets x dark)
+      | inr other ↦ ap (λ b. b && lit x y) (ne_eqb y row other)
+    ])
+    (painted_none width height colour (λ x y. false) old (λ x y. refl))
 
 -- another pixel stands at another place
 other_row : (width x y column row : ℕ) → x < width → column < width → (y ≡ row → ⊥) → width * y + x ≡ width * row + column → ⊥

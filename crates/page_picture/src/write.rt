@@ -1,4 +1,5 @@
 //! The colours of what is shown of a text, written over lent octets.
+ghost use Rattle.std.specs.List.{list_all};
 ghost use Rattle.std.specs.Prelude.{◌≡◌, ◌+◌, ◌*◌, ◌<◌, ◌≤◌, ◌==◌, ◌&&◌, ◌++◌, true, false, nat_le, length, drop, replicate, set, slice_index, if◌then◌else◌};
 ghost use Rattle.multi_token.specs.Counted.{RisesBetween};
 ghost use Rattle.page_plane.specs.Plane.{is_lit};
@@ -24,12 +25,22 @@ fn paint(octets: &mut [u8], place: usize, lit: bool, colour: u8)
     }
 }
 
-/// Gives the pixels of a row that a plane has lit this colour.
+/// Whether no bit of octets is set.
+fn is_dark(octets: &[u8]) -> bool
+    ensures { result ≡ list_all (λ octet. octet == 0) octets.now }
+{
+    octets.iter().all(|octet| *octet == 0)
+}
+
+/// Gives the pixels of a row that a plane has lit this colour. Most rows have none.
 fn paint_row(octets: &mut [u8], plane: &Plane, row: u16, colour: u8)
     requires whole { plane.now.width * plane.now.height ≤ length octets.old }
     requires row { row < plane.now.height }
     ensures { IsPainted plane.now.width plane.now.height colour (λ x y. (y == row) && is_lit plane.now x y) octets.old octets.new }
 {
+    if is_dark(plane.row(row)) {
+        return;
+    }
     let start = usize::from(plane.width()) * usize::from(row);
     for column in 0..plane.width() {
         paint(

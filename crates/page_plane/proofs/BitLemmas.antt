@@ -1,5 +1,5 @@
 -- Single bits of octets and of rows.
-use Rattle.std.proofs.Common.{◌≡◌, ℕ, ◌<◌, ◌≤◌, ◌+◌, ◌-◌, ◌*◌, ◌/◌, ◌%◌, ◌^◌, min, max, true, false, ◌==◌, ◌&&◌, nat_le, nat_lt, if◌then◌else◌, refl, sym, ap, subst, ◌∙◌, inl, inr, arith, add-zero, bit_and, bit_or}
+use Rattle.std.proofs.Common.{◌≡◌, ℕ, ◌<◌, ◌≤◌, ◌+◌, ◌-◌, ◌*◌, ◌/◌, ◌%◌, ◌^◌, min, max, Bool, true, false, ◌==◌, ◌&&◌, nat_le, nat_lt, if◌then◌else◌, refl, sym, ap, subst, ◌∙◌, inl, inr, arith, add-zero, bit_and, bit_or}
 use Rattle.std.specs.Int.{bit_at, rotate_left, w8, w64}
 use Rattle.std.proofs.lemmas.Bool.{lt-ltb, le-ltb, le-leb, lt-leb, eq-eqb, eqb-true, ne_eqb, cases_lt, cases_eq}
 use Rattle.std.proofs.lemmas.Nat.{shr-shr, shl-shr, shr_split, mod_low, mod-pow-add, pow_pos}
@@ -29,28 +29,36 @@ end_octet len j width h l g =
     subst (λ n. (bit_at (255 * 2 ^ (n - width) % 256) (7 - j) == 1) ≡ nat_lt (8 * (len - 1) + j) width) same (last_octet (len - 1) j width h l (omega arith))
 
 -- a set bit of the part becomes on, any other stays
-pub painted_on : (octet part i : ℕ) → (bit_at (bit_or octet part) i == 1) ≡ (if bit_at part i == 1 then true else bit_at octet i == 1)
-painted_on octet part i =
-    let a = bit_at-lt octet i in
-    let b = bit_at-lt part i in
-    let both = bit_at_or octet part i in
-    elim (cases_eq (bit_at part i) 1) [
-      | inl e ↦ rw (eq-eqb (bit_at part i) 1 e) (eq-eqb (bit_at (bit_or octet part) i) 1 (omega arith))
-      | inr e ↦
-          let same : bit_at (bit_or octet part) i ≡ bit_at octet i = omega arith in
-          rw (ne_eqb (bit_at part i) 1 e, same) refl
-    ]
-
-pub painted_off : (octet part i : ℕ) → part < 256 → i < 8 → (bit_at (bit_and octet (255 - part)) i == 1) ≡ (if bit_at part i == 1 then false else bit_at octet i == 1)
-painted_off octet part i small h =
+pub painted_with : (octet part : ℕ) (on : Bool) (i : ℕ) → part < 256 → i < 8
+    → (bit_at (bit_or (bit_and octet (255 - part)) (bit_and part (if on then 255 else 0))) i == 1) ≡ (if bit_at part i == 1 then on else bit_at octet i == 1)
+painted_with octet part true i small h =
+    let rest = bit_and octet (255 - part) in
     let a = bit_at-lt octet i in
     let b = bit_at-lt part i in
     let not : bit_at (255 - part) i ≡ 1 - bit_at part i = bit_at_not w8 part i small h in
-    let both = bit_at_and octet (255 - part) i in
+    let kept = bit_at_and octet (255 - part) i in
+    let ones : bit_at 255 i ≡ 1 = bit_at_ones 8 i h in
+    let put = bit_at_and part 255 i in
+    let both = bit_at_or rest (bit_and part 255) i in
     elim (cases_eq (bit_at part i) 1) [
-      | inl e ↦ rw (eq-eqb (bit_at part i) 1 e) (ne_eqb (bit_at (bit_and octet (255 - part)) i) 1 (λ one. absurd (omega arith)))
+      | inl e ↦ rw (eq-eqb (bit_at part i) 1 e) (eq-eqb (bit_at (bit_or rest (bit_and part 255)) i) 1 (omega arith))
       | inr e ↦
-          let same : bit_at (bit_and octet (255 - part)) i ≡ bit_at octet i = omega arith in
+          let same : bit_at (bit_or rest (bit_and part 255)) i ≡ bit_at octet i = omega arith in
+          rw (ne_eqb (bit_at part i) 1 e, same) refl
+    ]
+painted_with octet part false i small h =
+    let rest = bit_and octet (255 - part) in
+    let a = bit_at-lt octet i in
+    let b = bit_at-lt part i in
+    let not : bit_at (255 - part) i ≡ 1 - bit_at part i = bit_at_not w8 part i small h in
+    let kept = bit_at_and octet (255 - part) i in
+    let none = bit_at-zero i in
+    let put = bit_at_and part 0 i in
+    let both = bit_at_or rest (bit_and part 0) i in
+    elim (cases_eq (bit_at part i) 1) [
+      | inl e ↦ rw (eq-eqb (bit_at part i) 1 e) (ne_eqb (bit_at (bit_or rest (bit_and part 0)) i) 1 (λ one. absurd (omega arith)))
+      | inr e ↦
+          let same : bit_at (bit_or rest (bit_and part 0)) i ≡ bit_at octet i = omega arith in
           rw (ne_eqb (bit_at part i) 1 e, same) refl
     ]
 

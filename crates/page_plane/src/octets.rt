@@ -136,9 +136,16 @@ fn part_of(bits: u64, turn: u32, mask: u8) -> u8
     (bits.rotate_left(turn) & 0xff) as u8 & mask
 }
 
-/// An octet with the set bits of `part` made `on`, and the others kept.
+/// An octet with the set bits of `part` made `on`, and the others kept. There is no branch, since rows are many.
 fn painted(octet: u8, part: u8, on: bool) -> u8
     ensures { (i : ℕ) → i < 8 → (bit_at result i == 1) ≡ (if bit_at part i == 1 then on else bit_at octet i == 1) }
 {
-    if on { octet | part } else { octet & !part }
+    (octet & !part) | (part & ink(on))
+}
+
+/// An octet all of whose bits are this.
+fn ink(on: bool) -> u8
+    ensures { result ≡ if on then 255 else 0 }
+{
+    if on { u8::MAX } else { 0 }
 }

@@ -13,9 +13,11 @@ use Rattle.tool_streams.specs.declared.fault.ToolFault.TheVariants as faults
 use Rattle.tool_streams.specs.declared.lines.LineStart.{LineStart}
 use Rattle.sign_aids.specs.declared.explain.Counts.{Counts}
 use Rattle.sign_aids.specs.declared.explain.NextMessage.TheVariants.{Last}
-use Rattle.sign_aids.specs.Explain.{Asking, BeginsToExplain, Explained, ExplainedAll, ExplainsLast, ExplainsLines, IsMessageFault, ReadsMessage, TellsMessage, refused_of, refused_one}
+use Rattle.sign_aids.specs.Explain.{Asking, BeginsToExplain, ExplainedAll, ExplainsLines, IsMessageFault, refused_of, refused_one}
+use Rattle.sign_aids.specs.kept.Explaining.{Explained, ExplainsLast, ReadsMessage, TellsMessage}
 use Rattle.tool_streams.specs.Lines.{IsOneLine, octets_of, text_of}
 use Rattle.tool_streams.specs.Streams.{FailsAfter}
+use Rattle.tool_streams.proofs.FaultLemmas.{failing}
 use Rattle.sign_tool.specs.Serving.{last_line}
 
 octets_more : (lines more : List (List ℕ)) → octets_of (lines ++ more) ≡ octets_of lines ++ octets_of more
@@ -30,14 +32,7 @@ more_length lines more = ap length (octets_more lines more) ∙ length-append (o
 
 -- a reader that fails, or refused memory
 pub failed : (number left : ℕ) (taken : List ℕ) (input : Option (List ℕ)) (e : ToolFault) → FailsAfter taken e → IsMessageFault number left taken input e
-failed number left taken input faults.Read is = is
-failed number left taken input faults.Write is = tt
-failed number left taken input faults.Memory is = tt
-failed number left taken input (faults.LineTooLong line) is = absurd cc
-failed number left taken input (faults.BadLine line) is = absurd cc
-failed number left taken input faults.InputTooLong is = absurd cc
-failed number left taken input faults.BadSign is = absurd cc
-failed number left taken input (faults.SignRefused fault) is = absurd cc
+failed number left taken input e is = failing (λ (e : ToolFault). IsMessageFault number left taken input e) taken e (λ one. one) tt is
 
 -- what some octets are read for has some octets, and is then the last line
 pub last_is : (line : List ℕ) → 0 < length line → last_line line ≡ line ∷ []

@@ -1,7 +1,8 @@
 //! Messages, explained one after the other.
-ghost use Rattle.std.specs.Prelude.{◌≡◌, ◌+◌, ◌-◌, ◌<◌, ◌≤◌, ◌++◌, List, ℕ, OnOk, IfOk, if◌then◌else◌};
+ghost use Rattle.std.specs.Prelude.{◌≡◌, ◌+◌, ◌-◌, ◌≤◌, OnOk, IfOk, if◌then◌else◌};
 ghost use Rattle.message_report.specs.Explanation.{Explains, takes};
-ghost use Rattle.sign_aids.specs.Explain.{ExplainsInput, ExplainsNext, ExplainsRest, IsFurther, ReadsMessage, TellsMessage};
+ghost use Rattle.sign_aids.specs.Explain.{ExplainsInput, ExplainsRest};
+ghost use Rattle.sign_aids.specs.kept.Explaining.{ExplainsNext, IsFurther, ReadsMessage, TellsMessage};
 ghost use Rattle.tool_streams.specs.Lines.{input_limit, text_of};
 
 use message_report::{Explainer, Telling, Told};

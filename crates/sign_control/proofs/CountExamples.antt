@@ -9,7 +9,8 @@ use Rattle.message_store.specs.Slot.{SlotData, empty_slot}
 use Rattle.sign_control.specs.declared.command.Command.TheVariants.{Clear, Work, Activate, SetEnd, Tick}
 use Rattle.sign_control.specs.Activation.{blank_one}
 use Rattle.message_store.specs.Judged.{least_steps}
-use Rattle.sign_control.specs.Counts.{IsAdded, IsJudgedIn, JudgedText, activated_text, slot_text, text_judged, ticked_text}
+use Rattle.sign_control.specs.Counts.{IsJudgedIn, JudgedText, activated_text, slot_text, text_judged, ticked_text}
+use Rattle.sign_control.specs.kept.Answered.{IsAdded}
 use Rattle.sign_control.specs.Run.{run_limit, text_limit}
 use Rattle.sign_control.specs.State.{StateData, started}
 

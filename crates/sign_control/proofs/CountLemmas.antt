@@ -16,7 +16,8 @@ use Rattle.sign_control.specs.declared.command.Command.{Command}
 use Rattle.sign_control.specs.declared.command.Reply.{Reply}
 use Rattle.sign_control.specs.Activation.{CandidateData, text_of}
 use Rattle.message_store.proofs.WorkLemmas.{judged_in}
-use Rattle.sign_control.specs.Counts.{IsAdded, IsCountOf, IsJudgedIn, JudgedText, activated_text, candidate_text, slot_text, text_judged, waiting_text}
+use Rattle.sign_control.specs.Counts.{IsCountOf, IsJudgedIn, JudgedText, activated_text, candidate_text, slot_text, text_judged, waiting_text}
+use Rattle.sign_control.specs.kept.Answered.{IsAdded}
 use Rattle.sign_control.specs.Run.{AreCountsOf, run, run_limit, text_limit}
 use Rattle.sign_control.specs.State.{StateData}
 use Rattle.sign_control.specs.Step.{step}

@@ -24,8 +24,10 @@ use Rattle.sign_control.specs.declared.display.Display.{Display}
 use Rattle.sign_control.specs.declared.display.Showing.{Showing}
 use Rattle.message_store.specs.Judged.{error_of, is_accepted, position_of}
 use Rattle.sign_control.specs.Activation.{CandidateData, blank_one, displayed, or_blank, remaining_of, text_of, verdict_of}
-use Rattle.sign_control.specs.State.{StateData, Stepped, IsAccepted, IsOneOf, IsReady, start}
-use Rattle.sign_control.specs.Step.{activated, activated_registers, judged_activation, not_shown, reply_of, store_step}
+use Rattle.sign_control.specs.State.{StateData, Stepped, start}
+use Rattle.sign_control.specs.kept.Ready.{IsAccepted, IsReady}
+use Rattle.sign_control.specs.kept.Answered.{IsOneOf, reply_of}
+use Rattle.sign_control.specs.Step.{activated, activated_registers, judged_activation, not_shown, store_step}
 use Rattle.sign_control.specs.Time.{passed}
 
 -- ---- verdicts

@@ -1,6 +1,6 @@
 -- The message that is to be shown, and what keeps it from being shown (NTCIP 1203 v03, dmsActivateMessage).
 use Rattle.std.specs.Prelude.{ℕ, ◌+◌, ◌*◌, ◌/◌, ◌%◌, Bool, ◌||◌, ◌==◌, if◌then◌else◌, List, [], Option, Some, None, Result, Ok, Err}
-use Rattle.std.specs.Option.{unwrap_or, option_copied}
+use Rattle.std.specs.Option.{unwrap_or}
 use Rattle.sign_font.specs.declared.parts.Defaults.{Defaults}
 use Rattle.sign_font.specs.Defaults.{under}
 use Rattle.sign_font.specs.Sign.{SignData}
@@ -11,7 +11,6 @@ use Rattle.message_store.specs.declared.message.MsgRef.{MsgRef}
 use Rattle.message_store.specs.Judged.{is_accepted}
 use Rattle.message_store.specs.Row.{RowData, row_at}
 use Rattle.message_store.specs.Slot.{StoreData}
-use Rattle.sign_control.specs.declared.activation.Candidate.{Candidate}
 use Rattle.sign_control.specs.declared.code.ActivateError.{ActivateError}
 use Rattle.sign_control.specs.declared.code.ActivateError.TheVariants as error
 use Rattle.sign_control.specs.declared.code.IdCode.{IdCode}
@@ -142,22 +141,3 @@ displayed message showing = record {
 abbrev pub or_blank : SignData → List ℕ → Defaults → Result CandidateData ActivateError → CandidateData
 or_blank sign shown defaults (Err error) = blank_one defaults
 or_blank sign shown defaults (Ok message) = if is_accepted (verdict_of sign shown message) then message else blank_one defaults
-
--- the candidate of the code as data (own)
-abbrev pub candidate_of : Candidate → CandidateData
-candidate_of message =
-    record {
-      source = message.source;
-      text = option_copied message.text;
-      priority = message.priority;
-      beacon = message.beacon;
-      pixel = message.pixel;
-      crc = message.crc;
-      status = message.status;
-      defaults = message.defaults;
-    }
-
--- the answer of the code as data (own)
-abbrev pub candidate_result : Result Candidate ActivateError → Result CandidateData ActivateError
-candidate_result (Ok message) = Ok (candidate_of message)
-candidate_result (Err error) = Err error

@@ -5,14 +5,14 @@ use Rattle.multi_layout.specs.declared.times.Shown.{Shown}
 use Rattle.multi_layout.specs.Limits.{check_limit, drawing_limit}
 use Rattle.page_picture.specs.Shown.{colours}
 
--- the colours of what is shown of a text stand at the front of octets, and those behind them are as before; or there are fewer octets
+-- the colours of what is shown of a text stand at the front of octets, and those after them are as before; or there are fewer octets
 -- than pixels, and nothing is written (own)
 abbrev pub WritesColours : SignData → List ℕ → Shown → List ℕ → List ℕ → Bool → Type 0
 WritesColours sign text seen old new true =
     (sign.width * sign.height ≤ length old) × (new ≡ colours sign text seen ++ drop (sign.width * sign.height) old)
 WritesColours sign text seen old new false = (length old < sign.width * sign.height) × (new ≡ old)
 
--- the same, and it is told what is shown; or nothing is (own)
+-- the same, and the answer is what is shown; or nothing is written, and the answer is `None` (own)
 abbrev pub TellsColours : SignData → List ℕ → Shown → List ℕ → List ℕ → Option Shown → Type 0
 TellsColours sign text seen old new (Some told) = WritesColours sign text seen old new true × (told ≡ seen)
 TellsColours sign text seen old new None = WritesColours sign text seen old new false

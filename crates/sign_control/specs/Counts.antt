@@ -78,11 +78,6 @@ text_judged sign state (command.SetDefault field value) = None
 abbrev pub IsJudgedIn : JudgedText → ℕ → Type 0
 IsJudgedIn judged steps = AreStepsOf (length judged.text) (verdict judged.sign judged.text) steps
 
--- the steps of judging a text, if one was judged; without one there are none (own)
-abbrev pub IsAdded : Option JudgedText → ℕ → Type 0
-IsAdded None steps = steps ≡ 0
-IsAdded (Some judged) steps = IsJudgedIn judged steps
-
 -- the count before and after a text was judged, if one was; without one it stays (own)
 abbrev pub IsCountOf : Option JudgedText → ℕ → ℕ → Type 0
 IsCountOf None old new = new ≡ old

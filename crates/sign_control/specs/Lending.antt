@@ -1,4 +1,4 @@
--- What a call that lends the plane leaves behind once its frame is gone.
+-- What holds of a controller once the frame that it lent is gone.
 use Rattle.std.specs.Prelude.{◌≡◌, ⊤}
 use Rattle.std.specs.Borrow.{follows_so, MutBor, Fml}
 use mathlib.Core.Option.{none}

@@ -11,3 +11,4 @@ pub mod Lending
 pub mod Change
 pub mod TextPage
 pub mod Colours
+pub mod kept

@@ -31,11 +31,6 @@ abbrev pub store_step : StateData → Result StoreData StoreFault → Stepped
 store_step state (Ok store) = record { state = record state { store = store }; reply = reply.Done }
 store_step state (Err fault) = record { state = state; reply = reply.Refused fault }
 
--- the reply to a call of the store (own)
-abbrev pub reply_of : Result (Unit {0}) StoreFault → Reply
-reply_of (Ok done) = reply.Done
-reply_of (Err fault) = reply.Refused fault
-
 -- the registers after a message was judged: the MULTI error and its position where its text was
 -- (NTCIP 1203 v03, dmsValidateMessageError, dmsMultiSyntaxError, dmsMultiSyntaxErrorPosition)
 abbrev pub judged_registers : Registers → ℕ → Option (ℕ × ℕ) → Registers

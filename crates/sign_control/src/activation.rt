@@ -4,9 +4,9 @@ ghost use Rattle.std.specs.Prelude.{◌≡◌, ◌≤◌, ◌*◌, None, length,
 ghost use Rattle.std.specs.Option.{option_copied, unwrap_or};
 ghost use Rattle.std.specs.Vec.{vec_capacity};
 ghost use Rattle.sign_font.specs.Defaults.{default_fault};
-ghost use Rattle.sign_control.specs.Activation.{blank_one, candidate_of, candidate_result, found, is_crc, missing, named, or_blank, remaining_of, swapped, text_of};
-ghost use Rattle.sign_control.specs.Counts.{IsAdded, end_text};
-ghost use Rattle.sign_control.specs.State.{IsOneOf};
+ghost use Rattle.sign_control.specs.Activation.{blank_one, found, is_crc, missing, named, or_blank, remaining_of, swapped, text_of};
+ghost use Rattle.sign_control.specs.kept.Answered.{candidate_of, candidate_result, IsAdded, IsOneOf};
+ghost use Rattle.sign_control.specs.Counts.{end_text};
 
 use crate::code::{ActivateError, IdCode};
 use crate::display::Display;

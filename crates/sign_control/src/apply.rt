@@ -3,7 +3,8 @@
 ghost use Rattle.std.specs.Prelude.{◌≡◌, ◌≤◌, ◌+◌, IfOk, OnOk, OnErr};
 ghost use Rattle.sign_control.specs.Counts.{IsCountOf, activation_text, following_text, text_judged, ticked_text};
 ghost use Rattle.sign_control.specs.Run.{AreCountsOf, StaysWithin, run, run_limit};
-ghost use Rattle.sign_control.specs.Step.{activate_step, activated_registers, default_step, judged_registers, not_shown, reply_of, step, work_step};
+ghost use Rattle.sign_control.specs.Step.{activate_step, activated_registers, default_step, judged_registers, not_shown, step, work_step};
+ghost use Rattle.sign_control.specs.kept.Answered.{reply_of};
 ghost use Rattle.sign_control.specs.Time.{end_step, passed, tick_step};
 ghost use Rattle.sign_control.specs.declared.command.Command.TheVariants as command;
 

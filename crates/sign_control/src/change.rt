@@ -6,7 +6,7 @@ ghost use Rattle.sign_font.specs.Sound.{IsSound};
 ghost use Rattle.multi_layout.specs.Meaning.{meanings};
 ghost use Rattle.message_change.specs.Change.{change_at};
 ghost use Rattle.sign_control.specs.Change.{IsCounted, change_limit, next_change, no_later};
-ghost use Rattle.sign_control.specs.State.{IsAccepted};
+ghost use Rattle.sign_control.specs.kept.Ready.{IsAccepted};
 
 use crate::check::accepted_text;
 use crate::controller::Controller;

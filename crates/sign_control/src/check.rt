@@ -4,7 +4,7 @@ ghost use Rattle.std.specs.Prelude.{◌≡◌, ℕ, ◌+◌, ◌^◌, ◌<◌, �
 ghost use Rattle.multi_layout.specs.Limits.{check_limit};
 ghost use Rattle.multi_layout.specs.Verdict.{Accepted, IsVerdict, Refused};
 ghost use Rattle.sign_font.specs.Defaults.{default_fault, under};
-ghost use Rattle.sign_control.specs.State.{IsAccepted};
+ghost use Rattle.sign_control.specs.kept.Ready.{IsAccepted};
 
 use multi_layout::{Checked, Fault, check_with};
 use multi_token::Source;

@@ -9,7 +9,7 @@ ghost use Rattle.sign_font.specs.Sound.{IsSound};
 ghost use Rattle.sign_control.specs.Change.{IsCounted};
 ghost use Rattle.sign_control.specs.Colours.{TellsColours, WritesColours, colours_limit, page_colours_limit};
 ghost use Rattle.sign_control.specs.Headline.{shown_by, shown_now};
-ghost use Rattle.sign_control.specs.State.{IsAccepted};
+ghost use Rattle.sign_control.specs.kept.Ready.{IsAccepted};
 ghost use Rattle.sign_control.specs.TextPage.{HasPage, LacksPage, in_force};
 
 use crate::check::accepted_text;
@@ -48,7 +48,7 @@ fn write_shown(
     } else {
         None
     };
-    (told, checked.steps() + (plane.steps() - before))
+    (told, raised(checked.steps(), plane.steps() - before))
 }
 
 /// Writes the colours of a page of a text by these defaults, and counts the steps of this, or of finding that there is none.
@@ -80,12 +80,12 @@ fn write_text(
         phase: at.phase,
     };
     let written = write_colours(&mut checked, shown, plane, octets);
-    (Ok(written), checked.steps() + (plane.steps() - before))
+    (Ok(written), raised(checked.steps(), plane.steps() - before))
 }
 
 impl Controller {
     /// Writes the colours of all pixels of what the display shows at its clock into the first octets, and tells which page that is: 0 to
-    /// 9, an octet each, row by row from the top, and each row from the left. In an off time all are 0. The octets behind them stay as
+    /// 9, an octet each, row by row from the top, and each row from the left. In an off time all are 0. The octets after them stay as
     /// they are.
     ///
     /// The display's own text is drawn by the defaults with which it is shown. `None` if there are fewer octets than pixels, and then

@@ -40,7 +40,8 @@ pub struct Controller {
 }
 
 impl Model for Controller {
-    ghost use Rattle.sign_control.specs.State.{ControllerData, IsReady};
+    ghost use Rattle.sign_control.specs.State.{ControllerData};
+    ghost use Rattle.sign_control.specs.kept.Ready.{IsReady};
     ghost use Rattle.std.specs.Vec.{vec_capacity};
 
     ghost Value = { ControllerData };

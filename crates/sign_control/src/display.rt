@@ -1,7 +1,8 @@
 //! What the display shows beside its text, and the registers.
 
 ghost use Rattle.std.specs.Prelude.{◌≡◌};
-ghost use Rattle.sign_control.specs.Activation.{blank_one, candidate_of, displayed};
+ghost use Rattle.sign_control.specs.Activation.{blank_one, displayed};
+ghost use Rattle.sign_control.specs.kept.Answered.{candidate_of};
 ghost use Rattle.sign_control.specs.State.{start};
 
 use crate::activation::{Candidate, blank_one};

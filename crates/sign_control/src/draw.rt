@@ -9,7 +9,7 @@ ghost use Rattle.multi_layout.specs.Picture.{pixel_at};
 ghost use Rattle.multi_layout.specs.Times.{shown};
 ghost use Rattle.sign_font.specs.Defaults.{default_fault, under};
 ghost use Rattle.sign_font.specs.Sound.{IsSound};
-ghost use Rattle.sign_control.specs.State.{IsAccepted};
+ghost use Rattle.sign_control.specs.kept.Ready.{IsAccepted};
 
 use crate::check::accepted_text;
 use multi_layout::Shown;

@@ -1,7 +1,7 @@
 //! What a controller holds: its sign, and the limits and the permanent messages of its store.
 
 ghost use Rattle.std.specs.Prelude.{◌≡◌, ◌≤◌, length, map};
-ghost use Rattle.message_store.specs.Stored.{permanent_of};
+ghost use Rattle.message_store.specs.Slot.{permanent_of};
 
 use crate::controller::Controller;
 use message_store::{Permanent, StoreLimits};

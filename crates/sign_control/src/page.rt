@@ -98,7 +98,7 @@ pub(crate) fn draw_text(
         // The text has the page.
         unreachable!();
     }
-    (Ok(()), checked.steps() + (plane.steps() - before))
+    (Ok(()), raised(checked.steps(), plane.steps() - before))
 }
 
 impl Controller {

@@ -1,4 +1,10 @@
+pub mod Depths
 pub mod EntryLemmas
+pub mod NestingLemmas
+pub mod NestingRows
 pub mod OnLiterals
+pub mod PassedDocument
+pub mod PassedKeys
+pub mod PassedOver
 pub mod SignFileLemmas
 pub mod SignFileRows

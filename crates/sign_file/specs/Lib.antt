@@ -1,3 +1,5 @@
 pub mod Keys
+pub mod Nesting
 pub mod SignKeys
 pub mod SignFile
+pub mod kept

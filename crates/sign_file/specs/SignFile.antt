@@ -1,14 +1,14 @@
 -- A sign file: what its octets say, as they stand in a TOML document.
-use Rattle.std.specs.Prelude.{ℕ, List, if◌then◌else◌, Option, None, Some, codes, map}
+use Rattle.std.specs.Prelude.{ℕ, ◌&&◌, List, if◌then◌else◌, Option, None, Some, codes, map}
 use Rattle.std.specs.Str.{is_utf8}
 use Rattle.toml.specs.Data.{Members}
 use Rattle.toml.specs.Parse.{parse_document}
 use Rattle.sign_font.specs.Sign.{SignData, sign_of}
 use Rattle.sign_file.specs.declared.file.SignFile.{SignFile}
 use Rattle.message_store.specs.declared.limits.StoreLimits.{StoreLimits}
-use Rattle.message_store.specs.Slot.{PermanentData}
-use Rattle.message_store.specs.Stored.{permanent_of}
+use Rattle.message_store.specs.Slot.{PermanentData, permanent_of}
 use Rattle.sign_file.specs.Keys.{◌>>=◌, list_at, number_at, number_or, text_at}
+use Rattle.sign_file.specs.Nesting.{is_shallow}
 use Rattle.sign_file.specs.SignKeys.{sign_of_table}
 
 -- A sign file has a sign, the limits of its message store, and permanent messages (own).
@@ -42,10 +42,10 @@ file_of_table members = do
   permanents ← list_at permanent_of_table (codes "permanent") members
   Some (record { sign = sign; limits = limits; permanents = permanents })
 
--- The sign file that these octets are: text in UTF-8, a TOML document, and its keys (own).
+-- The sign file that these octets are: text in UTF-8 that nests no deeper than a sign file may, a TOML document, and its keys (own).
 unfoldable pub file_of_octets : List ℕ → Option FileData
 file_of_octets octets =
-    if is_utf8 octets then parse_document octets >>= file_of_table
+    if is_utf8 octets && is_shallow octets then parse_document octets >>= file_of_table
     else None
 
 -- A sign file without where it lies in memory (own).

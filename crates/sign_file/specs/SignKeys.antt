@@ -1,7 +1,6 @@
 -- The keys of a sign, of its fonts and of its defaults.
 use Rattle.std.specs.Prelude.{Option, Some, codes}
 use Rattle.toml.specs.Data.{Members, get_member}
-use Rattle.sign_font.specs.declared.parts.LineFill.TheVariants.{Off}
 use Rattle.sign_font.specs.Sign.{CellData, FontData, SignData}
 use Rattle.sign_font.specs.declared.parts.Defaults.{Defaults}
 use Rattle.sign_file.specs.Keys.{◌>>=◌, entry_of, flag_at, line_fill_at, list_at, number_at, number_or, octets_at, scheme_of, text_at}

@@ -3,12 +3,12 @@
 ghost use Rattle.std.specs.Prelude.{◌≡◌};
 ghost use Rattle.toml.specs.View.{table_view};
 ghost use Rattle.sign_file.specs.Keys.{Gives};
-ghost use Rattle.message_store.specs.Slot.{PermanentData};
-ghost use Rattle.message_store.specs.Stored.{permanent_of};
+ghost use Rattle.message_store.specs.Slot.{PermanentData, permanent_of};
 ghost use Rattle.sign_file.specs.SignFile.{file_of, file_of_octets, file_of_table, limits_of_table, permanent_of_table};
 
 use crate::fault::FileFault;
 use crate::keys::{Entry, list_at, text_at, u8_or, u16_at, u32_at};
+use crate::nesting::deep_at;
 use crate::sign::parts_of;
 use message_store::{Permanent, StoreLimits};
 use sign_font::SignParts;
@@ -79,7 +79,7 @@ fn file_of(alloc: Global, table: &Table) -> Result<SignFile, FileFault>
 }
 
 /// Reads a sign file from its octets: a TOML document in UTF-8 with the keys of a sign, of the limits of its message
-/// store and of its permanent messages (own).
+/// store and of its permanent messages, which nests no deeper than [`crate::deep_at`] says (own).
 ///
 /// Whether these are within their limits isn't judged here: [`sign_font::Sign::new`] says so of the sign, and
 /// [`message_store::Store::new`] of the limits and the permanent messages.
@@ -92,6 +92,9 @@ pub fn read_sign_file(alloc: Global, octets: &[u8]) -> Result<SignFile, FileFaul
     let Ok(text) = str::from_utf8(octets) else {
         return Err(FileFault::Bad);
     };
+    if deep_at(alloc, text)?.is_some() {
+        return Err(FileFault::Bad);
+    }
     match toml::table_from_str(alloc, text) {
         Ok(table) => file_of(alloc, &table),
         Err(error) if error.is_memory() => Err(FileFault::Memory),

@@ -11,7 +11,7 @@ use crate::keys::{
     Entry, flag_at, line_fill_at, list_at, member, octets_at, scheme_of, text_at, u8_at, u16_at,
     u16_or,
 };
-use sign_font::{CellPart, Defaults, FontPart, LineFill, SignParts};
+use sign_font::{CellPart, Defaults, FontPart, SignParts};
 use std::alloc::Global;
 use toml::Table;
 

@@ -1,5 +1,5 @@
 -- The pixels of a character's cell.
-use Rattle.std.specs.Prelude.{ℕ, ◌+◌, ◌-◌, ◌*◌, ◌/◌, ◌%◌, ◌<◌, ◌≡◌, Bool, ◌&&◌, ◌==◌, nat_lt, List, length, slice_index}
+use Rattle.std.specs.Prelude.{ℕ, ◌+◌, ◌-◌, ◌*◌, ◌/◌, ◌%◌, ◌<◌, ◌≡◌, Bool, ◌&&◌, ◌==◌, nat_lt, List, slice_index}
 use Rattle.std.specs.Int.{bit_at}
 
 -- a cell with its font's height: its number, its columns, its rows and the octets of its pixels (own)
@@ -9,7 +9,7 @@ pub record SizedCell : Type 0 where
   pub height : ℕ
   pub bits : List ℕ
 
--- the bit at a place among the bits of these octets, the highest bit of each octet first; behind the last
+-- the bit at a place among the bits of these octets, the highest bit of each octet first; after the last
 -- octet no bit is set (NTCIP 1203 v03, object characterBitmap)
 abbrev pub is_set : List ℕ → ℕ → Bool
 is_set octets place = bit_at (slice_index octets (place / 8)) (7 - place % 8) == 1
@@ -19,17 +19,6 @@ is_set octets place = bit_at (slice_index octets (place / 8)) (7 - place % 8) ==
 abbrev pub is_lit : SizedCell → ℕ → ℕ → Bool
 is_lit cell column row = nat_lt column cell.width && is_set cell.bits (row * cell.width + column)
 
--- the word has the bits from a place on, as many as the width says: the first in bit 63, and no other bit (own)
-abbrev pub IsWordOf : List ℕ → ℕ → ℕ → ℕ → Type 0
-IsWordOf octets first width word =
-    (column : ℕ) → column < 64
-    → (bit_at word (63 - column) == 1) ≡ (nat_lt column width && is_set octets (first + column))
-
 -- the word has the pixels of a row of the cell, column j in bit 63 - j, and no other bit (own)
 abbrev pub IsRowOf : SizedCell → ℕ → ℕ → Type 0
 IsRowOf cell row word = (column : ℕ) → column < 64 → (bit_at word (63 - column) == 1) ≡ is_lit cell column row
-
--- the words are the rows of the octets' pixels from the top, each this many columns wide (own)
-abbrev pub AreRowsOf : List ℕ → ℕ → List ℕ → Type 0
-AreRowsOf octets width words =
-    (row : ℕ) → row < length words → IsWordOf octets (row * width) width (slice_index words row)

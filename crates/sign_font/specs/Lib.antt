@@ -2,9 +2,9 @@ pub mod Advance
 pub mod Cell
 pub mod Defaults
 pub mod Fault
-pub mod Kept
 pub mod Limits
 pub mod Sample
 pub mod Sign
 pub mod Sound
 pub mod Text
+pub mod kept

@@ -11,7 +11,7 @@ use Rattle.sign_font.specs.Sign.{CellData, FontData, SignData, font_numbered}
 abbrev pub is_within : ℕ → ℕ → ℕ → Bool
 is_within low high number = nat_le low number && nat_le number high
 
--- each number is below all that stand behind it (own)
+-- each number is below all those after it (own)
 abbrev pub is_rising : List ℕ → Bool
 is_rising [] = true
 is_rising (number ∷ behind) = list_all (nat_lt number) behind && is_rising behind
@@ -30,7 +30,7 @@ has_fonts sign = is_within 1 16 (length sign.fonts)
     && list_all is_font sign.fonts
     && is_rising (map (λ font. font.number) sign.fonts)
 
--- the spare bits, which stand behind the pixels to the end of the last octet, are 0 (own)
+-- the spare bits, after the pixels to the end of the last octet, are 0 (own)
 abbrev pub is_clear_behind : List ℕ → ℕ → Bool
 is_clear_behind octets pixels =
     list_all (λ place. not (is_set octets place)) (range_with_len pixels (8 * length octets - pixels))

@@ -12,7 +12,7 @@ width_numbered font number = option_map (λ cell. cell.width) (cell_numbered fon
 abbrev pub width_in : SignData → ℕ → ℕ → Option ℕ
 width_in sign font number = option_map (λ cell. cell.width) (cell_in sign font number)
 
--- by these widths of octets every octet of a text has one, and with this gap before each the text has so many pixels (own)
+-- each octet of a text has a width by this function, from 1 to 64, and their sum, with a gap before each, is this number of pixels (own)
 pub record HasWidth (width_of : ℕ → Option ℕ) (gap : ℕ) (text : List ℕ) (pixels : ℕ) : Type 0 where
   pub widths : List ℕ
   pub each : map width_of text ≡ map Some widths

@@ -1,7 +1,8 @@
 //! Bits of octets, the highest of each octet first.
 
 ghost use Rattle.std.specs.Prelude.{◌≡◌, ℕ, ◌+◌, ◌^◌, ◌<◌, ◌≤◌, length, IfOk};
-ghost use Rattle.sign_font.specs.Cell.{is_set, AreRowsOf, IsWordOf};
+ghost use Rattle.sign_font.specs.Cell.{is_set};
+ghost use Rattle.sign_font.specs.kept.Rows.{AreRowsOf, IsWordOf};
 
 use std::alloc::{AllocError, Global};
 

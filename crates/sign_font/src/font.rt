@@ -42,7 +42,7 @@ pub(crate) struct Font {
 
 impl Model for Font {
     ghost use Rattle.sign_font.specs.Sign.{FontData};
-    ghost use Rattle.sign_font.specs.Kept.{font_kept, IsFontKeptWith};
+    ghost use Rattle.sign_font.specs.kept.Font.{font_kept, IsFontKeptWith};
 
     ghost Value = { FontData };
 

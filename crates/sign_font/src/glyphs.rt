@@ -4,7 +4,7 @@ ghost use Rattle.std.specs.Prelude.{◌≡◌, ℕ, ◌==◌, find, option_map, 
 ghost use Rattle.std.specs.Option.{option_copied};
 ghost use Rattle.multi_token.specs.Counted.{RisesBetween, charged};
 ghost use Rattle.sign_font.specs.Advance.{AreAdvances, advance_of, ends_run};
-ghost use Rattle.sign_font.specs.Kept.{AreNumbered, width_among};
+ghost use Rattle.sign_font.specs.kept.Font.{AreNumbered, width_among};
 
 use crate::cell::Glyph;
 use multi_token::Source;
@@ -29,7 +29,7 @@ pub(crate) struct Glyphs {
 impl Model for Glyphs {
     ghost use Rattle.std.specs.Prelude.{List};
     ghost use Rattle.sign_font.specs.Cell.{SizedCell};
-    ghost use Rattle.sign_font.specs.Kept.{AreTables};
+    ghost use Rattle.sign_font.specs.kept.Font.{AreTables};
 
     ghost Value = { List SizedCell };
 

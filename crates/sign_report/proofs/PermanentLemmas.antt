@@ -6,8 +6,7 @@ use Rattle.sign_font.specs.Sign.{SignData}
 use Rattle.multi_layout.specs.Verdict.{IsVerdict, Verdict, verdict}
 use Rattle.multi_layout.proofs.VerdictLemmas.{one_verdict}
 use Rattle.message_store.specs.Limits.{IsKept, IsPermanent}
-use Rattle.message_store.specs.Slot.{StoreData}
-use Rattle.message_store.specs.Stored.{permanent_of}
+use Rattle.message_store.specs.Slot.{StoreData, permanent_of}
 use Rattle.message_store.specs.declared.message.Permanent.{Permanent}
 use Rattle.sign_words.specs.declared.refusal.PermanentRefusal.{PermanentRefusal}
 use Rattle.sign_report.specs.Permanents.{as_list, refusal_of, refusals_from}

@@ -25,8 +25,9 @@ pub struct SignReport {
 /// Says of the octets of a sign file what they describe, or each fault that is found in them, and which of its permanent messages the
 /// sign refuses, and why.
 ///
-/// `view` says whether the description, the pictures of a font's characters, or a document in JSON is asked for. A refused permanent message is no
-/// fault of the file: the program takes it, but the sign never shows that message. The error says that memory was refused.
+/// `view` says whether the description, the pictures of a font's characters, or a document in JSON is asked for. A refused permanent
+/// message is no fault of the file: the program takes it, but the sign never shows that message. The error says that memory was
+/// refused.
 pub fn sign_report(alloc: Global, octets: &[u8], view: SignView) -> Result<SignReport, AllocError>
     ensures taken { IfOk result (λ report. report.is_taken ≡ is_taken octets.now) }
     ensures refusals { IfOk result (λ report. report.refusals.items ≡ refusals_of octets.now) }

@@ -115,8 +115,8 @@ fn more_asked(line: &[u8]) -> Option<Question<'_>>
 /// Reads a line that is asked of a served sign, its octets without a line feed (own): a line of a script, as [`read_ask`] reads it, or one
 /// that only a served sign answers. `octets` is room for the octets that the line writes in hexadecimal; what stood there is lost.
 ///
-/// The error `Bad` says that the line is neither. `Memory` says that memory was refused, and leaves open whether the line is one; it comes
-/// only if `octets` has room for less than half the octets of the line.
+/// The error `Bad` says that the line is no such line. `Memory` says that memory was refused before that was known; it comes only
+/// if `octets` has room for less than half the octets of the line.
 #[tactic(auto, using(crate::proofs::Asked::gives_asked, crate::proofs::Asked::question_script, crate::proofs::Asked::question_more))]
 pub fn read_question<'a>(line: &'a [u8], octets: &'a mut Vec<u8>) -> Result<Question<'a>, LineFault>
     ensures asked { Gives bare_question result (question_of line.now) }

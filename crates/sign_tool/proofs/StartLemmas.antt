@@ -8,8 +8,10 @@ use Rattle.tool_streams.specs.declared.fault.ToolFault.TheVariants as faults
 use Rattle.tool_streams.specs.declared.lines.LineStart.{LineStart}
 use Rattle.sign_tool.specs.declared.setup.Setup.{Setup}
 use Rattle.sign_tool.specs.declared.tool.Mode.{Mode}
-use Rattle.sign_tool.specs.declared.tool.Mode.TheVariants.{Show}
+use Rattle.sign_tool.specs.declared.tool.Mode.TheVariants.{Check, Show}
+use Rattle.sign_font.specs.Sign.{SignData}
 use Rattle.sign_tool.specs.Frame.{ShowerData, show_answer}
+use Rattle.sign_tool.specs.Reply.{check_answer}
 use Rattle.tool_streams.specs.Lines.{cut, input_limit}
 use Rattle.sign_tool.specs.Output.{Outcome, answered, outcome, output_of_whole}
 use Rattle.sign_tool.specs.Runs.{Fails, IsFront, IsOfLines, IsWritten, Leads, Runs, outcome_on, output_on}
@@ -147,6 +149,19 @@ Runs-unread outcomes answers number limit input output e is = subst (λ f. Runs 
 -- the answers of what is shown (own)
 abbrev shown_answers : ShowerData → List (List ℕ) → List (Option (List ℕ))
 shown_answers s lines = map (λ line. Some (show_answer s.sign s.colour s.clock line)) lines
+
+-- the answers of a run that judges by a sign
+abbrev pub checked_answers : SignData → List (List ℕ) → List (Option (List ℕ))
+checked_answers sign lines = map (λ line. Some (check_answer sign line)) lines
+
+-- a run that answers by the verdicts of the sign is one of the mode that judges
+pub Runs-checking : (mode : Mode) (setup : Setup) (number left limit : ℕ) (sign : SignData) (input new output written : Option (List ℕ)) (fault : Option ToolFault)
+    → mode ≡ Check → sign ≡ setup.sign
+    → Runs (outcome (checked_answers sign) number left) (output_of_whole (checked_answers sign) number) limit input new output written fault
+    → Runs (outcome (answers_of mode setup) number left) (output_of_whole (answers_of mode setup) number) limit input new output written fault
+Runs-checking mode setup number left limit sign input new output written fault checks is runs =
+    subst (λ m. Runs (outcome (answers_of m setup) number left) (output_of_whole (answers_of m setup) number) limit input new output written fault) (sym checks)
+    (subst (λ (s : SignData). Runs (outcome (checked_answers s) number left) (output_of_whole (checked_answers s) number) limit input new output written fault) is runs)
 
 -- a run that answers by what is shown is one of the mode that shows
 pub Runs-showing : (mode : Mode) (setup : Setup) (colour clock number left limit : ℕ) (shower : ShowerData) (input new output written : Option (List ℕ)) (fault : Option ToolFault)

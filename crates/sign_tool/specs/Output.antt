@@ -27,7 +27,7 @@ after_first number [] others = ended (Some (BadLine number))
 after_first number (None ∷ answers) others = ended (Some (BadLine number))
 after_first number ((Some text) ∷ answers) others = after text (others answers)
 
--- These lines, of which the first has this number, are answered up to the first fault, and behind the last
+-- These lines, of which the first has this number, are answered up to the first fault, and after the last
 -- comes the fault of the end (own).
 unfoldable pub answered : ℕ → List (List ℕ) → List (Option (List ℕ)) → (ℕ → Option ToolFault) → Outcome
 answered number [] answers at_end = ended (at_end number)
@@ -48,14 +48,14 @@ outcome answers number limit input =
     let parts = cut (take limit input) in
     answered number parts.whole (answers (map text_of parts.whole)) (fault_at_end (nat_lt limit (length input)) parts.rest)
 
--- The output of the whole lines of what was read, of which the first has this number, whatever comes behind
+-- The output of the whole lines of what was read, of which the first has this number, whatever follows
 -- them (own).
 unfoldable pub output_of_whole : (List (List ℕ) → List (Option (List ℕ))) → ℕ → List ℕ → List ℕ
 output_of_whole answers number octets =
     let parts = cut octets in
     (answered number parts.whole (answers (map text_of parts.whole)) (λ next. None)).output
 
--- ---- a sign file and the lines behind it
+-- ---- a sign file and the lines after it
 
 -- The number of the first line that is too long, if one is, where the first line has this number (own).
 abbrev pub first_long : ℕ → List (List ℕ) → Option ℕ
@@ -64,26 +64,26 @@ first_long number (line ∷ lines) =
     if nat_lt 8300 (length (text_of line)) then Some number
     else first_long (number + 1) lines
 
--- A line of the sign file that is too long is a fault, and comes before all that is behind the file (own).
+-- A line of the sign file that is too long is a fault, and comes before all that follows the file (own).
 abbrev pub unless_long : Option ℕ → Outcome → Outcome
 unless_long (Some number) others = ended (Some (LineTooLong number))
 unless_long None others = others
 
--- The lines behind a sign file, of which the first has this number, are answered by what it sets up, if it does (own).
+-- The lines after a sign file, of which the first has this number, are answered by what it sets up, if it does (own).
 abbrev pub answered_on :
     (Setup → List (List ℕ) → List (Option (List ℕ))) → Result Setup ToolFault → ℕ → List (List ℕ) → (ℕ → Option ToolFault) → Outcome
 answered_on answers (Err fault) number lines at_end = ended (Some fault)
 answered_on answers (Ok setup) number lines at_end = answered number lines (answers setup (map text_of lines)) at_end
 
 -- Without a mark an input has the fault `unmarked`; else its sign file's lines and the mark are counted, and the sign
--- comes before the lines behind it (own).
+-- comes before the lines after it (own).
 abbrev pub behind_file :
     (Setup → List (List ℕ) → List (Option (List ℕ))) → List (List ℕ) → Option (List (List ℕ)) → ToolFault → (ℕ → Option ToolFault) → Outcome
 behind_file answers file None unmarked at_end = ended (Some unmarked)
 behind_file answers file (Some lines) unmarked at_end =
     answered_on answers (setup_of_octets (octets_of file)) (length file + 2) lines at_end
 
--- The outcome of these lines, which begin with a sign file, and of what comes behind the last (own).
+-- The outcome of these lines, which begin with a sign file, and of what follows the last (own).
 unfoldable pub filed : (Setup → List (List ℕ) → List (Option (List ℕ))) → List (List ℕ) → ToolFault → (ℕ → Option ToolFault) → Outcome
 filed answers lines unmarked at_end =
     let parts = parted lines in
@@ -101,6 +101,6 @@ outcome_of_file answers limit input =
     let is_longer = nat_lt limit (length input) in
     filed answers parts.whole (fault_unmarked is_longer) (fault_at_end is_longer parts.rest)
 
--- The output of the whole lines of what was read, which begin with a sign file, whatever comes behind them (own).
+-- The output of the whole lines of what was read, which begin with a sign file, whatever follows them (own).
 unfoldable pub output_of_whole_file : (Setup → List (List ℕ) → List (Option (List ℕ))) → List ℕ → List ℕ
 output_of_whole_file answers octets = (filed answers (cut octets).whole BadSign (λ next. None)).output

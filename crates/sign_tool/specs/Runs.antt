@@ -73,17 +73,17 @@ pub record Runs (outcomes : List ℕ → Outcome) (so_far : List ℕ → List �
 abbrev pub IsLineStartAfter : List ℕ → LineStart → Type 0
 IsLineStartAfter taken place = (length taken + place.left ≡ input_limit) × (place.number + place.left ≤ input_limit + 1)
 
--- The outcome of the lines behind a sign, if there is one (own).
+-- The outcome of the lines after a sign, if there is one (own).
 abbrev pub outcome_on : Mode → Result Setup ToolFault → LineStart → List ℕ → Outcome
 outcome_on mode (Err fault) place rest = ended (Some fault)
 outcome_on mode (Ok setup) place rest = outcome (answers_of mode setup) place.number place.left rest
 
--- The output of the whole lines behind a sign, if there is one (own).
+-- The output of the whole lines after a sign, if there is one (own).
 abbrev pub output_on : Mode → Result Setup ToolFault → LineStart → List ℕ → List ℕ
 output_on mode (Err fault) place rest = []
 output_on mode (Ok setup) place rest = output_of_whole (answers_of mode setup) place.number rest
 
--- These octets lead to a place with this sign, or to the fault for which there is none, and write nothing (own).
+-- Reading these octets yields this sign and position, or the fault that explains why there is no sign, and writes nothing (own).
 pub record Leads (sample : Bool) (taken : List ℕ) (setup : Result Setup ToolFault) (place : LineStart) : Type 0 where
   pub place_is : IsLineStartAfter taken place
   pub whole : (mode : Mode) (rest : List ℕ) → outcome_of mode sample (taken ++ rest) ≡ outcome_on mode setup place rest

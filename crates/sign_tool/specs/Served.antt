@@ -112,7 +112,7 @@ unfoldable pub served : SignData → StateData → List (List ℕ) → List (Lis
 served sign state [] = []
 served sign state (line ∷ lines) = let t = told_line sign state line in t.text ∷ served sign t.state lines
 
--- The replies, one behind the other (own).
+-- The replies, one after the other (own).
 abbrev pub joined : List (List ℕ) → List ℕ
 joined replies = flat_map (λ reply. reply) replies
 

@@ -25,7 +25,7 @@ pub record ServerData : Type 0 where
 abbrev pub at_start : Setup → ServerData
 at_start setup = record { sign = setup.sign; state = started setup.sign.defaults setup.store }
 
--- What stands behind the last line feed is a line too, if anything stands there (own).
+-- What stands after the last line feed is a line too, if anything stands there (own).
 abbrev pub last_line : List ℕ → List (List ℕ)
 last_line [] = []
 last_line (c ∷ cs) = (c ∷ cs) ∷ []
@@ -70,7 +70,7 @@ pub record Serves (server : ServerData) (input input' output output' : Option (L
 
 -- ---- the steps of a run
 
--- The next line is answered and there are others behind it, or it doesn't end here; or memory was refused for its reply (own).
+-- The next line is answered and there are others after it, or it doesn't end here; or memory was refused for its reply (own).
 abbrev pub AnswersNext : ServerData → ServerData → Bool → List ℕ → List ℕ → List ℕ → Result FirstLine AllocError → Type 0
 AnswersNext old new is_cut octets ready ready' (Ok (Answered count)) =
     (line others : List ℕ) × Begins octets line others × (count ≡ length line + 1)
@@ -79,7 +79,7 @@ AnswersNext old new is_cut octets ready ready' (Ok Open) = IsOneLine octets × (
 AnswersNext old new is_cut octets ready ready' (Ok line) = ⊥
 AnswersNext old new is_cut octets ready ready' (Err refused) = ready' ≡ ready
 
--- The reply to what stands behind the last line feed, if anything does (own).
+-- The reply to what stands after the last line feed, if anything does (own).
 abbrev pub last_reply : ServerData → Bool → List ℕ → List ℕ
 last_reply server true line = (told_cut server true line).text
 last_reply server false [] = []

@@ -24,7 +24,7 @@ abbrev pub outcome_of : Mode → Bool → List ℕ → Outcome
 outcome_of mode true input = outcome (answers_of mode sample_setup) 1 input_limit input
 outcome_of mode false input = outcome_of_file (answers_of mode) input_limit input
 
--- The output of the whole lines of what was read, whatever comes behind them (own).
+-- The output of the whole lines of what was read, whatever follows them (own).
 abbrev pub output_so_far : Mode → Bool → List ℕ → List ℕ
 output_so_far mode true octets = output_of_whole (answers_of mode sample_setup) 1 octets
 output_so_far mode false octets = output_of_whole_file (answers_of mode) octets

@@ -56,7 +56,7 @@ impl Block {
         &self.octets[self.start..self.end]
     }
 
-    /// The first octets that wait, at most so many.
+    /// The first octets that wait, at most `most`.
     pub(crate) fn first(&self, most: usize) -> &[u8]
         ensures { result.now ≡ take most self.now }
     {
@@ -72,7 +72,7 @@ impl Block {
         self.start += count;
     }
 
-    /// Reads once, at most so many octets, and says how many were read: none only at the end. The error is `Read`.
+    /// Reads once, at most `most` octets, and says how many were read: none only at the end. The error is `Read`.
     pub(crate) fn read_more<R: Read>(
         &mut self,
         reader: &mut R,
@@ -83,7 +83,7 @@ impl Block {
         ensures reads { ReadsMore (R.remaining reader.old) (R.remaining reader.new) self.old self.new most result }
     {
         if self.end == BLOCK {
-            // There is no room behind the octets that wait, so they move to the front.
+            // There is no room after the octets that wait, so they move to the front.
             self.octets.rotate_left(self.start);
             self.end -= self.start;
             self.start = 0;

@@ -38,7 +38,7 @@ fn answer_next(
     Ok(FirstLine::Answered(end + 1))
 }
 
-/// Answers what stands behind the last line feed, if anything does, and adds the reply to those that are ready.
+/// Answers what stands after the last line feed, if anything does, and adds the reply to those that are ready.
 fn answer_last(
     server: &mut Server,
     line: &[u8],
@@ -55,7 +55,7 @@ fn answer_last(
     Ok(())
 }
 
-/// Ends the run at the end of its input: what stands behind the last line feed is answered, and what is ready is written.
+/// Ends the run at the end of its input: what stands after the last line feed is answered, and what is ready is written.
 fn end_served<W: Write>(
     server: &mut Server,
     line: &[u8],
@@ -146,7 +146,7 @@ fn serve_all<R: Read, W: Write>(
 /// (own). The reply to each line is written before more is read than the block of octets in which the line has ended.
 ///
 /// A line is one of the table of `sign_script`, for a served sign. An empty line and a comment are answered `ok`, a line of another
-/// kind `bad line`, and one with more than 8,300 octets `too long`; none of these changes anything. What stands behind the last line
+/// kind `bad line`, and one with more than 8,300 octets `too long`; none of these changes anything. What stands after the last line
 /// feed is a line too. The faults are `Read`, `Write`, `Memory`, and, after 9,223,372,036,854,775,808 octets or more, `InputTooLong`.
 pub fn serve<R: Read, W: Write>(
     alloc: Global,
@@ -174,7 +174,7 @@ pub fn serve<R: Read, W: Write>(
         WritesLines (replies_so_far (at_start setup))
         (R.remaining reader.old) (R.remaining reader.new) (W.contents writer.old) (W.contents writer.new) }
 
-    // There is no other fault, but at the end of a run that no machine lives to see.
+    // There is no other fault, except `InputTooLong`, for which no run lasts long enough.
     ensures only { IfErr result (λ e. (e ≡ ToolFault.Read) ⊎ (e ≡ ToolFault.Write) ⊎ (e ≡ ToolFault.Memory)
         ⊎ (e ≡ ToolFault.InputTooLong)) }
     ensures long { fault_of result ≡ Some ToolFault.InputTooLong → (taken : List ℕ)

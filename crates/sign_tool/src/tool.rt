@@ -18,6 +18,7 @@ use crate::script::Operator;
 use crate::setup::Setup;
 use crate::show::Shower;
 use crate::start::{Start, begin};
+use multi_layout::Judge;
 use std::alloc::Global;
 use std::io::{Read, Write};
 use tool_streams::{LineStart, ToolFault};
@@ -102,7 +103,9 @@ fn run_on<R: Read, W: Write>(
     let Setup { sign, store } = setup;
     match mode {
         Mode::Check => {
-            let mut answer = Checker { sign };
+            let mut answer = Checker {
+                judge: Judge::new(&sign),
+            };
             answer_lines(alloc, &mut answer, place, reader, writer)
         }
         Mode::Show { colour, clock } => {

@@ -39,9 +39,9 @@ fn push_cell(octets: &mut Vec<u8>, number: u16, cell: &Cell<'_>) -> Result<(), A
     push_pixels(octets, cell)
 }
 
-/// The CRC of a font's cells (ISO/IEC 3309; what it is over is own): over the height of the font, and then, in the order of their numbers, over each cell's
-/// number in two octets, the high one first, its width, and its pixels as a sign file has them. It changes as the cells do, and not with the
-/// font's number, version and spacings.
+/// The CRC of a font's cells (ISO/IEC 3309; what it is over is own): over the height of the font, and then, in the order of their
+/// numbers, over each cell's number in two octets, the high one first, its width, and its pixels as a sign file has them. It changes
+/// as the cells do, and not with the font's number, version and spacings.
 pub(crate) fn cells_crc(alloc: Global, sign: &Sign, font: FontInfo) -> Result<u16, AllocError> {
     let mut source = Source::new(b"");
     let mut octets = Vec::new(alloc);

@@ -1,7 +1,8 @@
 //! What a sign file describes, or every fault that is found in it, in words or in JSON.
 //!
-//! [`find_in`] and [`SignWords`] are for people who write sign files, and judge nothing. Whether a sign file is taken, and which of its permanent
-//! messages its sign refuses, says `sign_report::sign_report`, and `sign_file::read_sign_file` answers one fault to a program.
+//! [`find_in`] and [`SignWords`] are for people who write sign files, and judge nothing. Whether a sign file is taken, and which of
+//! its permanent messages its sign refuses, says `sign_report::sign_report`, and `sign_file::read_sign_file` answers one fault to a
+//! program.
 #![tactic(auto)]
 
 mod cells;

@@ -5,12 +5,16 @@ use crate::facts::json_of;
 use crate::find::{Findings, look_at_file};
 use crate::picture::draw_font;
 use crate::refusal::{PermanentRefusal, push_refusals};
+use sign_file::deep_at;
 use std::alloc::{AllocError, Global};
 use std::fmt;
 use std::fmt::{Display, Formatter, Write};
 
 /// The most octets of a line of a sign file that stands before a mark (own).
 const MOST: usize = 8_300;
+
+/// How deep a sign file may nest (own).
+const NESTING: &str = "at most 16 brackets may be open at once, and a name may have 4 parts";
 
 /// The line in which an offset stands, counted from 1.
 fn line_of(text: &[u8], offset: usize) -> usize {
@@ -40,8 +44,24 @@ fn look_at_lines(found: &mut Findings, octets: &[u8]) -> Result<(), AllocError> 
     Ok(())
 }
 
+/// Tells where a text nests too deep, if it does, and whether it does.
+fn look_at_nesting(found: &mut Findings, text: &str) -> Result<bool, AllocError> {
+    let at = match deep_at(found.alloc, text) {
+        Ok(Some(at)) => at,
+        Ok(None) => return Ok(false),
+        Err(_) => return Err(AllocError),
+    };
+    let number = line_of(text.as_bytes(), at);
+    let told = format!(in found.alloc; "line {number}: nested too deep; {NESTING}")?;
+    found.faults.push(told)?;
+    Ok(true)
+}
+
 /// Tells each fault that is found in a text, and what its maker may not have meant.
-fn look_at_text(found: &mut Findings, octets: &[u8], text: &str) -> Result<(), AllocError> {
+fn look_at_text(found: &mut Findings, text: &str) -> Result<(), AllocError> {
+    if look_at_nesting(found, text)? {
+        return Ok(());
+    }
     let error = match toml::table_from_str(found.alloc, text) {
         Ok(table) => return look_at_file(found, &table),
         Err(error) if error.is_memory() => return Err(AllocError),
@@ -49,7 +69,7 @@ fn look_at_text(found: &mut Findings, octets: &[u8], text: &str) -> Result<(), A
     };
     let line = match error.span() {
         Some(span) => {
-            let number = line_of(octets, span.start);
+            let number = line_of(text.as_bytes(), span.start);
             format!(in found.alloc; "line {number}: {}", error.message())?
         }
         None => format!(in found.alloc; "{}", error.message())?,
@@ -66,7 +86,7 @@ pub fn find_in(alloc: Global, octets: &[u8]) -> Result<Findings, AllocError> {
         warnings: Vec::new(alloc),
     };
     match str::from_utf8(octets) {
-        Ok(text) => look_at_text(&mut found, octets, text)?,
+        Ok(text) => look_at_text(&mut found, text)?,
         Err(error) => {
             let number = line_of(octets, error.valid_up_to());
             let line = format!(in alloc; "line {number}: no text in UTF-8")?;
@@ -88,8 +108,8 @@ pub enum SignView {
     Json,
 }
 
-/// What is told of a sign file (own): each fault, each permanent message that the sign refuses, each warning, and what the file describes, or all of it in
-/// JSON. Written by `Display`, which takes memory.
+/// What is told of a sign file (own): each fault, each permanent message that the sign refuses, each warning, and what the file
+/// describes, or all of it in JSON. Written by `Display`, which takes memory.
 #[derive(Clone, Copy)]
 pub struct SignWords<'a> {
     /// Where memory comes from.

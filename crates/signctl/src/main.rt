@@ -2,8 +2,8 @@
 //!
 //! `signctl check` reads a sign file, a line `%%`, and message lines from standard input. `signctl check --sign FILE` reads message lines
 //! alone, for the sign of that file, and `signctl check --sample` for the sample sign: so it is with each command that reads lines. A sign
-//! file is a TOML document that describes one sign. Each message line is a MULTI string for that sign. It gets one line of answer on standard output, which is written before more is read than
-//! the block of octets in which the message line has ended:
+//! file is a TOML document that describes one sign. Each message line is a MULTI string for that sign. It gets one line of answer on
+//! standard output, which is written before more is read than the block of octets in which the message line has ended:
 //!
 //! | Answer | Meaning |
 //! |---|---|
@@ -21,12 +21,15 @@
 //! `sign_script` says, and gets its reply. The controller is made once, and each line finds the state that the lines before
 //! it leave. An empty line and one that begins with `#` get no reply.
 //!
-//! `signctl serve` reads lines for one sign for as long as they come, and each gets one reply: those of a script, in which an empty line and
-//! one that begins with `#` get `ok`, and the others of `sign_script`'s table. A line that is none of them gets `bad line`, and one with too
-//! many octets `too long`; the sign goes on after it. What stands behind the last line feed is a line.
+//! `signctl serve` reads lines for one sign for as long as they come, and each gets one reply: those of a script, in which an empty line
+//! and one that begins with `#` get `ok`, and the others of `sign_script`'s table. A line that is none of them gets `bad line`, and one
+//! with too many octets `too long`; the sign goes on after it. What stands behind the last line feed is a line.
 //!
-//! `signctl explain` reads what `check` reads, and says of each message why it is refused, or draws its pages. `--phase` says when each page
-//! is drawn, in tenths of a second since it began. The exit status is 1 if a message was refused.
+//! `signctl explain` reads what `check` reads, or in place of message lines the file that is named, or the messages of `-m`. It says of
+//! each message why it is refused, or draws its pages, and warns of what can hardly be meant. `--phase` says when each page is drawn, in
+//! tenths of a second since it began, and `--ansi` draws it in the sign's colours, for a terminal. `--format lines` writes lines as editors
+//! read them, and `--format json` a record for each message, with the pictures of its pages by `--pages`. `--refused` leaves out what is
+//! accepted without a warning, and `--strict` counts a warning as a refusal. How many messages there were is said on standard error.
 //!
 //! `signctl picture` reads what `check` reads, with one message, and writes it as a picture in PPM, or with `--gif` in GIF. `--page` says
 //! which page, counted from 1, and `--phase` when, in tenths of a second since the page began; or `--clock` says when, since the message
@@ -34,9 +37,16 @@
 //! `--scale` by `--scale` points, 8 by 8 if it isn't given. `--output` names a file that is written in place of standard output, and whose
 //! ending says the format.
 //!
-//! `signctl sign` reads a sign file alone, and writes what it describes, or all faults that it finds in it, the permanent messages that its sign
-//! refuses, and warnings. `--font` shows the characters of a font in place of the description, `--format json` all of it in JSON, and with `--strict` a
-//! warning counts as a fault. `signctl font` reads a font in BDF, and writes it as the `[[font]]` table of a sign file.
+//! `signctl sign` reads a sign file alone, and writes what it describes, or all faults that it finds in it, the permanent messages that its
+//! sign refuses, and warnings. `--font` shows the characters of a font in place of the description, `--format json` all of it in JSON, and
+//! with `--strict` a warning counts as a fault.
+//!
+//! `signctl font` reads a font in BDF, and writes it as the `[[font]]` table of a sign file. `--number`, `--version`, `--char-spacing` and
+//! `--line-spacing` are the font's. `--first` and `--last`, or `--characters`, choose what is taken, and `--outside` says what is done with
+//! a character that reaches outside its cell. `--crop` takes off the rows at the top and at the bottom without a pixel, and `--height` adds
+//! such rows.
+//!
+//! `signctl --version` writes the version, and each command with `--help` its options.
 //!
 //! A line ends with a line feed, and one carriage return before that is dropped. What is left has at most 8,300 octets.
 //! An input has at most 16,777,216 octets, with those of the sign file, but for the lines of `serve`. The first fault ends the run, after
@@ -44,8 +54,8 @@
 //!
 //! | Fault | When |
 //! |---|---|
-//! | `sign not read` | no line is `%%`, or what stands before the first one is no sign file: it isn't TOML, or a key is missing, is of another kind, or has a number outside its type |
-//! | `sign fault N` | the sign is outside the limit N, from 1 to 5 (`sign_font::SignFault`), or its message table is outside its limits, which is 5 |
+//! | `sign not read` | no line is `%%`, or what stands before the first one is no sign file, as `sign_file` says |
+//! | `sign fault N` | the sign is outside its limit N, 1 to 5 (`sign_font::SignFault`), or its message table outside its own, which is 5 |
 //! | `line N: too long` | the line has too many octets |
 //! | `line N: bad line` | the input ends within the line, or the line is none of a script |
 //! | `input too long` | the input has too many octets |
@@ -55,12 +65,17 @@
 //! | `no such page: the last is N` | the message has no such page |
 //! | `too long: ..`, `too large: ..` | the message plays for longer than a film lasts, or the film has too many octets |
 //! | `read failed`, `write failed`, `out of memory` | what they say |
+//! | `FILE: ` and what is wrong | the file that is named can't be opened or read, or the sign of a sign file has this fault |
 //! | `line N: ` and what is wrong | the line of a font in BDF is wrong, as `font_bdf::BdfProblem` says |
 //!
-//! Lines are counted from 1, from the start of the sign file where there is one.
+//! Lines are counted from 1, from the start of the sign file where the input has one.
 //!
-//! The exit status is 0 with no fault and for help, 1 with a fault, also with one of a sign file that `sign` tells or with a permanent message that
-//! its sign refuses, and 2 for a refused command line.
+//! | Exit status | When |
+//! |---|---|
+//! | 0 | there was no fault; also of help and of the version |
+//! | 1 | there was a fault, also one that `sign` tells, or a permanent message that its sign refuses; `explain` told of a refused message |
+//! | 2 | the command line was refused |
+//! | 3 | of `explain`: the sign file or the messages weren't read, or what is told wasn't written |
 #![tactic(auto)]
 
 mod characters;

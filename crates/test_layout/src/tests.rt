@@ -1,3 +1,4 @@
+mod judge;
 mod lending;
 mod memory;
 mod picture;

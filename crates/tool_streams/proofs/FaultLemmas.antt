@@ -15,13 +15,16 @@ too_long number left taken input one room long = (refl, (taken, refl, one, omega
 pub past_limit : (number left : ℕ) (taken : List ℕ) (octet : ℕ) (input : Option (List ℕ)) → IsOneLine taken → length taken ≡ left → IsLineFault number left (taken ++ octet ∷ []) input faults.InputTooLong
 past_limit number left taken octet input one all = (taken, octet, refl, one, all)
 
--- a reader that fails, or refused memory
+-- what is so of a reader that fails, and of refused memory, is so of each failure
+pub failing : (Holds : ToolFault → Type 0) (taken : List ℕ) (e : ToolFault) → (IsOneLine taken → Holds faults.Read) → Holds faults.Memory → FailsAfter taken e → Holds e
+failing Holds taken faults.Read read memory is = read is
+failing Holds taken faults.Memory read memory is = memory
+failing Holds taken faults.Write read memory is = absurd cc
+failing Holds taken (faults.LineTooLong line) read memory is = absurd cc
+failing Holds taken (faults.BadLine line) read memory is = absurd cc
+failing Holds taken faults.InputTooLong read memory is = absurd cc
+failing Holds taken faults.BadSign read memory is = absurd cc
+failing Holds taken (faults.SignRefused fault) read memory is = absurd cc
+
 pub failed : (number left : ℕ) (taken : List ℕ) (input : Option (List ℕ)) (e : ToolFault) → FailsAfter taken e → IsLineFault number left taken input e
-failed number left taken input faults.Read is = is
-failed number left taken input faults.Write is = tt
-failed number left taken input faults.Memory is = tt
-failed number left taken input (faults.LineTooLong line) is = absurd cc
-failed number left taken input (faults.BadLine line) is = absurd cc
-failed number left taken input faults.InputTooLong is = absurd cc
-failed number left taken input faults.BadSign is = absurd cc
-failed number left taken input (faults.SignRefused fault) is = absurd cc
+failed number left taken input e is = failing (λ (e : ToolFault). IsLineFault number left taken input e) taken e (λ one. one) tt is

@@ -8,7 +8,7 @@ use Rattle.std.specs.Io.BufRead.{strip_last}
 abbrev pub input_limit : ℕ
 input_limit = 16777216
 
--- An input is cut at its line feeds into the octets before each, and those behind the last (own).
+-- An input is cut at its line feeds into the octets before each, and those after the last (own).
 pub record Cut : Type 0 where
   pub whole : List (List ℕ)
   pub rest : List ℕ
@@ -41,7 +41,7 @@ octets_of lines = flat_map (λ line. line ++ 10 ∷ []) lines
 abbrev pub is_mark : List ℕ → Bool
 is_mark line = bytes_eq (text_of line) (codes "%%")
 
--- Lines are parted at the first mark into those before it, which are a sign file's, and those behind it, if there is
+-- Lines are parted at the first mark into those before it, which are a sign file's, and those after it, if there is
 -- a mark (own).
 pub record Parted : Type 0 where
   pub file : List (List ℕ)

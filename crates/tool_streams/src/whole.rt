@@ -35,7 +35,7 @@ pub fn read_whole<R: Read>(alloc: Global, reader: &mut R) -> Result<Vec<u8>, Too
     Err(ToolFault::InputTooLong)
 }
 
-/// Reads a sign file to its end, and appends a line feed and the mark that stands behind a sign file in an input. So what is read of the
+/// Reads a sign file to its end, and appends a line feed and the mark that stands after a sign file in an input. So what is read of the
 /// answer and then of another reader is an input that begins with the sign file. The errors are `Read`, `InputTooLong` and `Memory`.
 pub fn read_sign<R: Read>(alloc: Global, reader: &mut R) -> Result<Vec<u8>, ToolFault>
     ensures read { IfOk result (λ front. IsSignPart (R.remaining reader.old) (R.remaining reader.new) front.items) }

@@ -69,8 +69,7 @@ class Sign:
     `library` is a file, or what `load` gives; if none is named, `load` says where it is looked for.
 
     Raises `NoSignFile` if the octets aren't a sign file, `SignFault` if its sign is outside a limit, and `LibraryNotFound` or `WrongLibrary`.
-    Any call may raise `NoMemory`, and one with a text `NotAnOctet` and `TextTooLong`. A sign file from anybody needs a thread with 2 MiB of
-    stack left, on AArch64 3 MiB, which those of Python have on Linux if nobody has asked for less.
+    Any call may raise `NoMemory`, and one with a text `NotAnOctet` and `TextTooLong`. The thread needs 64 KiB of stack.
     """
 
     __slots__ = ("_octets", "_named", "_library", "_facts")

@@ -56,8 +56,7 @@ impl fmt::Display for Verdict {
 /// Clocks, phases and other times are in tenths of a second. A clock counts from the moment at which the text is first shown, and a phase from
 /// the moment at which its page is. Pages count from 0.
 ///
-/// Any call may have [`Error::NoMemory`], and one with a text [`Error::TextTooLong`]. A thread that reads a sign file from anybody needs 2 MiB of
-/// stack left, on AArch64 3 MiB; a thread of Rust has 2 MiB in all if nothing else is said.
+/// Any call may have [`Error::NoMemory`], and one with a text [`Error::TextTooLong`]. The thread needs 64 KiB of stack.
 ///
 /// ```
 /// let sign = latsefur::Sign::from_file("../../signs/portable.toml")?;

@@ -75,7 +75,7 @@ IsKnownBefore sign before cursor lines = HasKnown cursor.state.area.present (pre
 -- the steps that reading the first of these items takes at most, and one at the end (own)
 abbrev pub first_steps : List Item → ℕ
 first_steps [] = 1
-first_steps (item ∷ rest) = 2 * length (spelling item) - 1
+first_steps (item ∷ rest) = 9 * length (spelling item) - 8
 
 -- the area that begins at the cursor was read: these are its items, and those behind it (own)
 pub record IsAreaRead (sign : SignData) (before behind : List LaidItem) (cursor : Cursor) (read : AreaLines) (source source' : Counted) :

@@ -6,7 +6,7 @@ use Rattle.sign_font.specs.declared.parts.LineFill.TheVariants.{Off}
 use Rattle.sign_font.specs.Sign.{SignData}
 use Rattle.multi_layout.specs.LaidItems.{laid_item, laid_out}
 use Rattle.multi_layout.specs.declared.cursor.Cursor.{Cursor}
-use Rattle.multi_layout.specs.declared.cursor.NextItem.{NextItem}
+use Rattle.multi_layout.specs.declared.item.NextItem.{NextItem}
 use Rattle.multi_layout.specs.kept.KnownItem.{meant_by, IsKnownItem}
 use Rattle.multi_layout.specs.Meaning.{Meaning, has_place, meaning}
 use Rattle.multi_layout.specs.Offence.{offence, unsized_offence}

@@ -28,6 +28,8 @@ enum Messages<'a> {
 pub(crate) struct ExplainRequest<'a> {
     pub(crate) sign: SignSource<'a>,
     telling: Telling,
+    /// Whether `--ansi` is asked for.
+    ansi: bool,
     /// Whether warnings count as refusals.
     strict: bool,
     messages: Messages<'a>,
@@ -36,6 +38,9 @@ pub(crate) struct ExplainRequest<'a> {
 impl ExplainRequest<'_> {
     /// Why it can't be answered, if it can't.
     pub(crate) fn refusal(&self) -> Option<&'static str> {
+        if self.ansi && self.telling.format != Format::Ansi {
+            return Some("--ansi goes with --format text");
+        }
         match (&self.messages, self.sign) {
             (Messages::Given(_), SignSource::Input) => {
                 Some("--message goes with --sign FILE or --sample")
@@ -94,6 +99,11 @@ fn with_telling<'a>(alloc: Global, explain: Command<'a>) -> Result<Command<'a>, 
         .arg(format_option(alloc))?
         .arg(flag(
             alloc,
+            "ansi",
+            "With --format text: draws pages in the sign's colours for a terminal, two rows of pixels a line",
+        ))?
+        .arg(flag(
+            alloc,
             "refused",
             "Tells of refused messages and of warnings alone",
         ))?
@@ -120,10 +130,11 @@ pub(crate) fn explain_command<'a>(alloc: Global) -> Result<Command<'a>, AllocErr
 }
 
 /// What an explanation is written as.
-fn format_of(explain: &ArgMatches<'_>) -> Format {
+fn format_of(explain: &ArgMatches<'_>, ansi: bool) -> Format {
     match explain.get_str("format") {
         Some("lines") => Format::Lines,
         Some("json") => Format::Json,
+        _ if ansi => Format::Ansi,
         _ => Format::Text,
     }
 }
@@ -155,14 +166,16 @@ pub(crate) fn explain_asked<'a>(
     explain: &ArgMatches<'a>,
 ) -> Result<ExplainRequest<'a>, AllocError> {
     let phase: u32 = explain.get_one("phase").unwrap_or(0);
+    let ansi = explain.get_flag("ansi");
     Ok(ExplainRequest {
         sign: sign_source(explain),
         telling: Telling {
-            format: format_of(explain),
+            format: format_of(explain, ansi),
             phase: u64::from(phase),
             refused_only: explain.get_flag("refused"),
             pictures: explain.get_flag("pages"),
         },
+        ansi,
         strict: explain.get_flag("strict"),
         messages: messages_of(alloc, explain)?,
     })

@@ -243,7 +243,7 @@ fn faults_have_their_numbers(rt: HostRuntime) {
 
 #[test]
 fn a_tag_is_read_from_the_octets_ahead(rt: HostRuntime) {
-    // a step for each octet behind the bracket, and no more than 26
+    // a step for each octet after the bracket, and no more than 26
     let rows: [(&[u8], Option<(Tag, usize)>, u64); 6] = [
         (b"[np]A", Some((Tag::NewPage, 4)), 4),
         (b"[fo1,1a2B]", Some((font(1, Some(6699)), 10)), 9),

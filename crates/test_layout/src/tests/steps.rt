@@ -3,8 +3,8 @@
 
 use crate::tests::so;
 use multi_layout::{Shown, check};
-use multi_tag::{Tag, read_ahead, read_tag};
-use multi_token::{Kind, Source, next_token};
+use multi_tag::{Tag, read_ahead};
+use multi_token::Source;
 use page_plane::Plane;
 use sign_font::{LineFill, Sign, sample_sign};
 use std::alloc::Global;
@@ -35,21 +35,9 @@ impl Walk {
         }
     }
 
-    /// Reads the next item, a character as the tag of its number. At the end the answer is `None`.
+    /// Reads the next item, a character as the tag of its number: its first octet, the octet behind a bracket, and those ahead of a
+    /// tag. At the end the answer is `None`.
     fn read(&mut self, source: &mut Source<'_>) -> Option<Tag> {
-        let at = self.at.min(source.len());
-        let Ok(Some(token)) = next_token(source, at) else {
-            return None;
-        };
-        self.at = at.saturating_add(token.len);
-        match token.kind {
-            Kind::Char(octet) => Some(Tag::HexChar(u16::from(octet))),
-            Kind::Tag => read_tag(source, &token).ok(),
-        }
-    }
-
-    /// Reads the next item as it is judged: its first octet, the octet behind a bracket, and those ahead of a tag.
-    fn read_once(&mut self, source: &mut Source<'_>) -> Option<Tag> {
         let at = self.at.min(source.len());
         let first = source.read(at)?;
         let (item, len) = if first != b'[' && first != b']' {
@@ -130,7 +118,7 @@ fn judged(sign: &Sign, octets: &[u8]) -> u64 {
     let mut source = Source::new(octets);
     let mut walk = Walk::new(sign);
     for _ in 0..=octets.len() {
-        let Some(item) = walk.read_once(&mut source) else {
+        let Some(item) = walk.read(&mut source) else {
             break;
         };
         walk.look(sign, &mut source, item);

@@ -81,14 +81,29 @@ fn a_message_is_told_in_lines_and_records(rt: HostRuntime) -> Result<(), Fail> {
         (
             Format::Json,
             "AAAA",
-            r#"{"code":5,"line":2,"message":"AAAA","name":"textTooBig","octet":3,"octets":null,"outcome":"refused","reason":"the line needs 15 pixels, the rectangle has 12"}
-"#,
+            "{\"code\":5,\"line\":2,\"message\":\"AAAA\",\"name\":\"textTooBig\",\"octet\":3,\"octets\":null,\
+             \"outcome\":\"refused\",\"reason\":\"the line needs 15 pixels, the rectangle has 12\"}\n",
         ),
         (
             Format::Json,
             "[tr1,1,12,3]I",
-            r#"{"line":2,"message":"[tr1,1,12,3]I","octets":null,"outcome":"accepted","pages":[{"number":1,"off":0,"on":30,"picture":".....1......\n.....1......\n.....1......\n............\n............\n............\n............\n"}],"warnings":[]}
-"#,
+            "{\"line\":2,\"message\":\"[tr1,1,12,3]I\",\"octets\":null,\"outcome\":\"accepted\",\
+             \"pages\":[{\"number\":1,\"off\":0,\"on\":30,\"picture\":\".....1......\\n.....1......\\n.....1......\\n\
+             ............\\n............\\n............\\n............\\n\"}],\"warnings\":[]}\n",
+        ),
+        (
+            Format::Ansi,
+            "I",
+            "line 2: accepted: 1 page
+I
+page 1 of 1, shown all the time:
+\x1b[38;2;40;40;40m\x1b[48;2;40;40;40m▀▀▀▀▀▀▀▀▀▀▀▀\x1b[0m
+\x1b[38;2;40;40;40m\x1b[48;2;40;40;40m▀▀▀▀▀\x1b[38;2;255;176;0m\x1b[48;2;255;176;0m▀\
+\x1b[38;2;40;40;40m\x1b[48;2;40;40;40m▀▀▀▀▀▀\x1b[0m
+\x1b[38;2;40;40;40m\x1b[48;2;40;40;40m▀▀▀▀▀\x1b[38;2;255;176;0m▀\x1b[38;2;40;40;40m▀▀▀▀▀▀\x1b[0m
+\x1b[38;2;40;40;40m\x1b[48;2;40;40;40m▀▀▀▀▀▀▀▀▀▀▀▀\x1b[0m
+
+",
         ),
     ];
     for (format, message, want) in rows {
@@ -101,7 +116,7 @@ fn a_message_is_told_in_lines_and_records(rt: HostRuntime) -> Result<(), Fail> {
 
 #[test]
 fn accepted_messages_are_passed_over(rt: HostRuntime) -> Result<(), Fail> {
-    for format in [Format::Text, Format::Lines, Format::Json] {
+    for format in [Format::Text, Format::Ansi, Format::Lines, Format::Json] {
         let telling = Telling {
             format,
             refused_only: true,

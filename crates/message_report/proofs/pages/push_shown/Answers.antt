@@ -13,5 +13,5 @@ returns c =
     let (front, line, between) = c.in_ok-push_message.ensures in
     let (shown, second, has) = c.in_ok-push_pages.ensures.ok in
     let (words, third) = c.in_ok-push_notes.ensures in
-    let all = ExplanationLemmas.three_more text c.push_line_head.new.text.items c.push_accepted.new.text.items c.push_message.new.text.items c.push_pages.new.text.items (line_head c.args.line) _ front shown c.in_ok-push_line_head.ensures first between second in
+    let all = ExplanationLemmas.three_more text c.push_line_head.new.text.items c.push_accepted.new.text.items c.push_message.new.text.items c.push_pages.new.text.items (line_head c.args.message.now.line) _ front shown c.in_ok-push_line_head.ensures first between second in
     (_, TextLemmas.grown text c.push_pages.new.text.items c.push_notes.new.text.items _ words _ all third refl, (front, shown, words, has, line, refl))

@@ -1,6 +1,5 @@
 use Rattle.std.proofs.Common.{subst}
-use Rattle.message_report.specs.Explanation.{PassesOver, TellsAccepted}
-use Rattle.multi_layout.specs.Pages.{page_count}
+use Rattle.message_report.specs.Explanation.{PassesOver}
 use Rattle.message_report.proofs.ExplanationLemmas
 use Rattle.message_report.proofs.pages.push_told.Goals as goal
 
@@ -9,5 +8,5 @@ returns-in_ok-push_warned c =
     let string = c.args.checked in
     let pages = ExplanationLemmas.pages_are string.sign string.source.octets c.pages.result c.pages.ensures c.requires.short in
     let (told, is, passes) = c.in_ok-push_warned.ensures in
-    let counted = subst (λ n. PassesOver c.args.line n told) pages passes in
-    (told, is, rw c.if-telling.true counted)
+    let counted = subst (λ n. PassesOver c.args.message.now.line n told) pages passes in
+    (told, is, rw c.if-message.true counted)

@@ -19,8 +19,8 @@ picture_value-requires-clause-page c =
 
 pub loop-page-preserved : goal.loop-page-preserved
 loop-page-preserved c =
-    let telling = c.args.telling in
-    let sign = c.args.sign.now in
+    let telling = c.args.message.now.telling in
+    let sign = c.args.message.now.sign.now in
     let octets = c.args.checked.now.source.octets in
     let page = c.loop-page.page in
     let list = c.loop-page.list.items in
@@ -40,5 +40,5 @@ returns c =
     let records = map view c.loop-page.list.items in
     let pages = ExplanationLemmas.pages_are string.sign string.source.octets c.pages-pages.result c.pages-pages.ensures c.requires.short in
     let last : c.loop-page.page ≡ c.pages-pages.result = omega (arith, c.loop-page-test.false, c.loop-page.auto.page-end) in
-    let are = subst (λ n. ArePages c.args.telling c.args.sign.now string.source.octets n records) (last ∙ pages) c.loop-page.invariant.0 in
+    let are = subst (λ n. ArePages c.args.message.now.telling c.args.message.now.sign.now string.source.octets n records) (last ∙ pages) c.loop-page.invariant.0 in
     (records, are, search (rules, the_lemmas))

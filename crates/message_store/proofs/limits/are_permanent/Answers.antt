@@ -4,7 +4,7 @@ use Rattle.std.proofs.lemmas.Iterator.{YieldsList-from_slice}
 use Rattle.std.proofs.lemmas.Iterator.Search.{all_from_yields_List}
 use Rattle.std.proofs.lemmas.List.Folds.{list_all-map}
 use Rattle.message_store.specs.Limits.{is_permanent}
-use Rattle.message_store.specs.Stored.{permanent_of}
+use Rattle.message_store.specs.Slot.{permanent_of}
 use Rattle.message_store.specs.declared.message.Permanent.{Permanent}
 use Rattle.message_store.proofs.limits.are_permanent.Goals as goal
 

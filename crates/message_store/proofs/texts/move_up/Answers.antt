@@ -1,4 +1,4 @@
-use Rattle.message_store.specs.Pool.{moved, no_span}
+use Rattle.message_store.specs.kept.Pool.{moved, no_span}
 use Rattle.message_store.proofs.PoolLemmas.{one-moved}
 use Rattle.message_store.proofs.texts.move_up.Goals as goal
 

@@ -1,5 +1,5 @@
 use Rattle.std.proofs.Common.{◌≡◌, ◌++◌, map, take, drop}
-use Rattle.message_store.specs.Pool.{moved}
+use Rattle.message_store.specs.kept.Pool.{moved}
 use Rattle.message_store.proofs.texts.move_up.Given as goal
 
 abbrev pub invariant-loop-index : goal.invariant-loop-index

@@ -1,7 +1,7 @@
 use Rattle.std.proofs.Common.{◌≡◌, ◌+◌, ◌++◌, ap, ◌∙◌, arith, List, ℕ, length, map, take, drop}
 use Rattle.std.proofs.lemmas.List.{get_or_default}
 use Rattle.message_store.specs.declared.texts.Span.{Span}
-use Rattle.message_store.specs.Pool.{no_span, span_at, text_in}
+use Rattle.message_store.specs.kept.Pool.{no_span, span_at, text_in}
 use Rattle.message_store.proofs.PoolLemmas.{texts-over}
 use Rattle.message_store.proofs.texts.replace_at.Goals as goal
 

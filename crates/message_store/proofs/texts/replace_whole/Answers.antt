@@ -1,7 +1,7 @@
 use Rattle.std.proofs.Common.{◌≡◌, ◌+◌, ◌++◌, ap, ◌∙◌, arith, List, ℕ, length, length-append, length-drop, map, slice_set, take, drop}
 use Rattle.std.proofs.lemmas.List.{get_or_default, length-take-le}
 use Rattle.message_store.specs.declared.texts.Span.{Span}
-use Rattle.message_store.specs.Pool.{moved, no_span, span_at, text_in}
+use Rattle.message_store.specs.kept.Pool.{moved, no_span, span_at, text_in}
 use Rattle.message_store.proofs.PoolLemmas.{replaced_octets, replaced_spans, replaced-placed, replaced-texts}
 use Rattle.message_store.proofs.texts.replace_whole.Goals as goal
 

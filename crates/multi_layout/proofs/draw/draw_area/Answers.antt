@@ -77,9 +77,9 @@ loop-cursor-preserved c =
     let first = λ (earlier behind : List LaidItem) (x : IsBetween sign octets earlier behind c.loop-cursor.cursor) (counted : HasCounted (whole_area sign earlier behind) c.args.read.now.lines). laid_first c.args.read.now.lines c.in-Some.next c.lay-next.result earlier behind x counted (c.in-Some.ensures.first sign (items_of earlier) (items_of behind) (subst (λ o. IsBetween sign o earlier behind c.loop-cursor.cursor) (sym same) x).placed) (c.lay-next.ensures.read octets) in
     let some = area_next sign octets before' area' rest' c.args.read.now.lines c.args.layer c.args.plane.now c.loop-cursor.cursor c.loop-cursor.plane s' c.args.read.now.end end' c.loop-cursor-test.true next first in
     let long : 1 ≤ next.len = omega (arith, some.4.len, spelling_some some.0.item) in
-    let both = rises_then c.args.source.now c.loop-cursor.source c.next_item.new.source 0 (9 * (c.loop-cursor.cursor.at - c.args.cursor.now.at)) 0 (2 * c.in-Some.next.len - 1) i.steps c.in-Some.ensures.steps in
-    let all = rises_then c.args.source.now c.next_item.new.source c.draw_item.new.source 0 (9 * (c.loop-cursor.cursor.at - c.args.cursor.now.at) + (2 * c.in-Some.next.len - 1)) 0 8 both c.draw_item.ensures.steps in
-    let steps : 9 * (c.loop-cursor.cursor.at - c.args.cursor.now.at) + (2 * c.in-Some.next.len - 1) + 8 ≤ 9 * (c.draw_item.new.cursor.at - c.args.cursor.now.at) = omega (arith, at, i.on, long, raw) in
+    let both = rises_then c.args.source.now c.loop-cursor.source c.next_item.new.source 0 (9 * (c.loop-cursor.cursor.at - c.args.cursor.now.at)) 0 (9 * c.in-Some.next.len - 8) i.steps c.in-Some.ensures.steps in
+    let all = rises_then c.args.source.now c.next_item.new.source c.draw_item.new.source 0 (9 * (c.loop-cursor.cursor.at - c.args.cursor.now.at) + (9 * c.in-Some.next.len - 8)) 0 8 both c.draw_item.ensures.steps in
+    let steps : 9 * (c.loop-cursor.cursor.at - c.args.cursor.now.at) + (9 * c.in-Some.next.len - 8) + 8 ≤ 9 * (c.draw_item.new.cursor.at - c.args.cursor.now.at) = omega (arith, at, i.on, long, raw) in
     let gone : (c.loop-cursor.cursor.at - c.args.cursor.now.at) + next.len ≡ c.draw_item.new.cursor.at - c.args.cursor.now.at = omega (arith, at, i.on) in
     record {
       so_far = λ before area rest b plain ends counted.

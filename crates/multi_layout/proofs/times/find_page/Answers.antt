@@ -21,7 +21,7 @@ returns-in-Some-shown_in-clause-steps c =
     let len = c.in-Some.next.len in
     let first = (rw i.octets at c.in-Some.ensures.first) c.args.sign.now s.before s.behind s.between.placed in
     let fits = next_fits s c.in-Some.next first in
-    let k = rises_then c.args.source.now c.loop-next.source c.next_item.new.source 0 (9 * c.loop-next.cursor.at) 0 (2 * len - 1) i.steps c.in-Some.ensures.steps in
+    let k = rises_then c.args.source.now c.loop-next.source c.next_item.new.source 0 (9 * c.loop-next.cursor.at) 0 (9 * len - 8) i.steps c.in-Some.ensures.steps in
     (k.0, k.1, omega (arith, k.2, fits), k.3)
 
 pub loop-next-smaller : goal.loop-next-smaller
@@ -42,8 +42,8 @@ loop-next-preserved c =
     let first = (rw i.octets at c.in-Some.ensures.first) c.args.sign.now s.before s.behind s.between.placed in
     let fits = next_fits s next first in
     let same : c.next_item.new.source.octets ≡ c.args.source.now.octets = ap (λ (s : Counted). s.octets) c.in-Some.ensures.steps.3 ∙ i.octets in
-    let k = rises_then c.args.source.now c.loop-next.source c.next_item.new.source 0 (9 * cursor.at) 0 (2 * next.len - 1) i.steps c.in-Some.ensures.steps in
-    let all = rises_then c.args.source.now c.next_item.new.source c.skip.new.source 0 (9 * cursor.at + (2 * next.len - 1)) 0 1 k skip.steps in
+    let k = rises_then c.args.source.now c.loop-next.source c.next_item.new.source 0 (9 * cursor.at) 0 (9 * next.len - 8) i.steps c.in-Some.ensures.steps in
+    let all = rises_then c.args.source.now c.next_item.new.source c.skip.new.source 0 (9 * cursor.at + (9 * next.len - 8)) 0 1 k skip.steps in
     record {
       searched = searched_more s next first c.skip.new.self (rw same at skip.passed) (elim c.if-ends_page.branch [
         | then-ends_page+in_default-shown_in w ↦ λ _. over_here s w.shown_in.ensures.on w.shown_in.ensures.off w.shown_in.ensures.ended w.in_default-shown_in.is

@@ -16,7 +16,7 @@ checked sign octets pages cycle source short told =
     )
 
 pub invariant_of-result : goal.invariant_of-result
-invariant_of-result c = checked c.new-terms.result c.args.source.octets _ _ c.judge.new.source c.requires.short c.in-Ok.ensures.told
+invariant_of-result c = checked c.new-terms.result c.args.source.octets _ _ c.judge_string.new.source c.requires.short c.in-Ok.ensures.told
 
 pub returns-in-Ok-clause-accepted : goal.returns-in-Ok-clause-accepted
 returns-in-Ok-clause-accepted c =

@@ -1,5 +1,5 @@
 use Rattle.std.proofs.Common.{◌≤◌, ◌+◌}
-use Rattle.sign_aids.specs.Explain.{Explained}
+use Rattle.sign_aids.specs.kept.Explaining.{Explained}
 use Rattle.tool_streams.specs.Lines.{input_limit}
 use Rattle.sign_aids.proofs.explain.explain_rest.Given as goal
 

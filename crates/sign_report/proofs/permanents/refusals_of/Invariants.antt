@@ -1,5 +1,5 @@
 use Rattle.std.proofs.Common.{◌≡◌, ◌≤◌, ◌+◌, ◌++◌, map, drop, length}
-use Rattle.message_store.specs.Stored.{permanent_of}
+use Rattle.message_store.specs.Slot.{permanent_of}
 use Rattle.sign_report.specs.Permanents.{refusals_from}
 use Rattle.sign_report.proofs.permanents.refusals_of.Given as goal
 

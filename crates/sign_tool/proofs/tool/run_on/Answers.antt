@@ -22,3 +22,7 @@ pub returns-in_ok-answer-in-Run : goal.returns-in_ok-answer-in-Run
 returns-in_ok-answer-in-Run g c =
     let made = c.in_ok-answer-in-Run.answer.controller in
     ScriptLemmas.Runs-running c.args.mode c.args.start.setup _ _ _ made.sign made.state _ _ _ _ _ c.in-Run.is c.in_ok-answer-in-Run.ensures.sign c.in_ok-answer-in-Run.ensures.state c.answer_lines-in-Run.ensures.runs
+
+pub returns-in-Check : goal.returns-in-Check
+returns-in-Check g c =
+    StartLemmas.Runs-checking c.args.mode c.args.start.setup _ _ _ c.new.result _ _ _ _ _ c.in-Check.is c.new.ensures c.answer_lines.ensures.runs

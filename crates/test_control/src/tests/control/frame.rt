@@ -18,7 +18,7 @@ const PIXELS_OF_A: [usize; 6] = [29, 40, 41, 42, 52, 54];
 
 const PIXELS_OF_I: [usize; 3] = [29, 41, 53];
 
-/// Whether the colours of the sample sign are 1 at these places and else 0, and the octet behind them is as it was.
+/// Whether the colours of the sample sign are 1 at these places and else 0, and the octet after them is as it was.
 fn are_lit(colours: [u8; 85], places: &[usize]) -> bool {
     for place in 0..84 {
         if colours[place] != u8::from(places.contains(&place)) {

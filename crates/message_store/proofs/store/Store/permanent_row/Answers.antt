@@ -1,7 +1,6 @@
 use Rattle.std.proofs.Common.{◌<◌, ap, ◌∙◌, sym, arith, List, ℕ, length}
 use Rattle.std.proofs.lemmas.List.{get_or-map, length-map}
-use Rattle.message_store.specs.Slot.{PermanentData, StoreData}
-use Rattle.message_store.specs.Stored.{permanent_of}
+use Rattle.message_store.specs.Slot.{PermanentData, StoreData, permanent_of}
 use Rattle.message_store.proofs.StoredLemmas.{seen}
 use Rattle.message_store.proofs.store.Store.permanent_row.Goals as goal
 

@@ -1,6 +1,6 @@
 use Rattle.std.proofs.Common.{◌≡◌, refl, replicate, ap, ◌∙◌, length}
 use Rattle.message_store.proofs.StoredLemmas.{seen}
-use Rattle.message_store.specs.Stored.{stored}
+use Rattle.message_store.specs.kept.Stored.{stored}
 use Rattle.message_store.proofs.StoredLemmas.{kept-clear, cleared-is, some_slot}
 use Rattle.message_store.proofs.store.Store.put_all_empty.Goals as goal
 

@@ -1,5 +1,5 @@
 use Rattle.std.proofs.Common.{refl, arith, slice_set}
-use Rattle.message_store.specs.Stored.{stored}
+use Rattle.message_store.specs.kept.Stored.{stored}
 use Rattle.message_store.proofs.StoredLemmas.{seen, put-slot, kept-slot}
 use Rattle.message_store.proofs.store.Store.put_slot.Goals as goal
 

@@ -1,7 +1,7 @@
 use Rattle.std.proofs.Common.{ap, ◌∙◌, sym, arith}
 use Rattle.message_store.specs.declared.slot.Slot.{Slot}
 use Rattle.message_store.specs.Slot.{slot_at}
-use Rattle.message_store.specs.Stored.{slot_of}
+use Rattle.message_store.specs.kept.Stored.{slot_of}
 use Rattle.message_store.proofs.StoredLemmas.{seen}
 use Rattle.message_store.proofs.store.Store.slot.Goals as goal
 

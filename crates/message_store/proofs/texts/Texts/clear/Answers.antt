@@ -1,7 +1,7 @@
 use Rattle.std.proofs.Common.{ap, ◌∙◌, sym, List, ℕ, [], length, map, replicate}
 use Rattle.std.proofs.lemmas.List.{length-map}
 use Rattle.message_store.specs.declared.texts.Span.{Span}
-use Rattle.message_store.specs.Pool.{Pool, no_span, text_in}
+use Rattle.message_store.specs.kept.Pool.{Pool, no_span, text_in}
 use Rattle.message_store.proofs.PoolLemmas.{no-texts}
 use Rattle.message_store.proofs.texts.Texts.clear.Goals as goal
 

@@ -3,7 +3,8 @@ use Rattle.sign_font.specs.Defaults.{default_fault}
 use Rattle.sign_control.specs.declared.display.Display.{Display}
 use Rattle.sign_control.specs.declared.display.Showing.{Showing}
 use Rattle.sign_control.specs.declared.code.SourceMode.TheVariants as mode
-use Rattle.sign_control.specs.Activation.{candidate_of, text_of}
+use Rattle.sign_control.specs.Activation.{text_of}
+use Rattle.sign_control.specs.kept.Answered.{candidate_of}
 use Rattle.sign_control.specs.State.{StateData, Stepped}
 use Rattle.sign_control.proofs.CountLemmas.{activated-count}
 use Rattle.sign_control.proofs.StepLemmas.{activated-refused, activated-shown, judged-accepted, not-false, not-true, one-taken, ready-shown, shown-accepted, shown-limited}

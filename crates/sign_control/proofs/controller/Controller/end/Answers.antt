@@ -1,8 +1,9 @@
 use Rattle.std.proofs.Common.{◌∙◌, ap, sym, subst, List, ℕ}
 use Rattle.sign_font.specs.Defaults.{default_fault}
 use Rattle.sign_control.specs.declared.display.Display.{Display}
-use Rattle.sign_control.specs.Activation.{candidate_of, named, text_of}
-use Rattle.sign_control.specs.Counts.{IsAdded, end_text}
+use Rattle.sign_control.specs.Activation.{named, text_of}
+use Rattle.sign_control.specs.kept.Answered.{candidate_of, IsAdded}
+use Rattle.sign_control.specs.Counts.{end_text}
 use Rattle.sign_control.proofs.CountLemmas.{added}
 use Rattle.sign_control.proofs.StepLemmas.{end-accepted, ready-shown, shown-accepted, shown-limited}
 use Rattle.sign_control.proofs.controller.Controller.end.Goals as goal

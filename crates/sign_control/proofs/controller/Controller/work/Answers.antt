@@ -1,6 +1,5 @@
 use Rattle.sign_font.specs.Defaults.{under}
-use Rattle.message_store.specs.Seen.{judged_of}
-use Rattle.message_store.specs.Work.{waiting}
+use Rattle.message_store.specs.Work.{waiting, judged_of}
 use Rattle.sign_control.proofs.CountLemmas.{worked-count}
 use Rattle.sign_control.proofs.controller.Controller.work.Goals as goal
 

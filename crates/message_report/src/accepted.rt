@@ -1,0 +1,22 @@
+//! An accepted message that is told of.
+
+use crate::format::Telling;
+use message_words::Warning;
+use sign_font::Sign;
+use std::alloc::Global;
+
+/// A message that a sign accepts, and how it is told of (own).
+#[derive(Clone, Copy)]
+pub(crate) struct AcceptedMessage<'a> {
+    /// Where memory comes from.
+    pub(crate) alloc: Global,
+    pub(crate) telling: Telling,
+    /// The sign that accepts it.
+    pub(crate) sign: &'a Sign,
+    /// Its line.
+    pub(crate) line: u32,
+    /// Its octets.
+    pub(crate) message: &'a [u8],
+    /// What its writer can't have meant.
+    pub(crate) warnings: &'a [Warning],
+}

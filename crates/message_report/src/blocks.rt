@@ -1,0 +1,185 @@
+//! A page in the sign's colours, by half blocks: two rows of pixels a line.
+ghost use Rattle.std.specs.Prelude.{◌≡◌, ◌++◌, ◌+◌, ◌*◌, ◌/◌, ◌<◌, ◌≤◌, ◌^◌, length, OnOk};
+ghost use Rattle.page_picture.specs.Colours.{colour_at};
+ghost use Rattle.message_report.specs.Blocks.{back_at, back_text, block_text, blocks_text, colour_within, fore_at, fore_text, goes_on, lines_text, rgb_text, two_rows};
+
+use octet_text::{push_number, push_octets};
+use page_picture::PageColours;
+use std::alloc::AllocError;
+
+/// What takes back the colours at the end of a line.
+const RESET: &[u8] = b"\x1b[0m\n";
+
+/// The upper half block in UTF-8.
+const HALF_BLOCK: &[u8] = &[0xe2, 0x96, 0x80];
+
+/// Appends the red, green and blue of a colour.
+#[tactic(auto, unfolding(crate::specs::Blocks::rgb_text))]
+fn push_rgb(text: &mut Vec<u8>, shares: &[u8], colour: u8) -> Result<(), AllocError>
+    requires shares { length shares.now ≡ 48 }
+    requires colour { colour ≤ 9 }
+    ensures { OnOk result (text.new.items ≡ text.old.items ++ rgb_text shares.now colour) }
+{
+    let red = 3 * (usize::from(colour) + 1);
+    push_number(text, u64::from(shares[red]))?;
+    push_octets(text, b";")?;
+    push_number(text, u64::from(shares[red + 1]))?;
+    push_octets(text, b";")?;
+    push_number(text, u64::from(shares[red + 2]))
+}
+
+/// Appends the escape for the foreground.
+#[tactic(auto, unfolding(crate::specs::Blocks::fore_text))]
+fn push_fore(text: &mut Vec<u8>, shares: &[u8], colour: u8) -> Result<(), AllocError>
+    requires shares { length shares.now ≡ 48 }
+    requires colour { colour ≤ 9 }
+    ensures { OnOk result (text.new.items ≡ text.old.items ++ fore_text shares.now colour) }
+{
+    push_octets(text, b"\x1b[38;2;")?;
+    push_rgb(text, shares, colour)?;
+    push_octets(text, b"m")
+}
+
+/// Appends the escape for the background.
+#[tactic(auto, unfolding(crate::specs::Blocks::back_text))]
+fn push_back(text: &mut Vec<u8>, shares: &[u8], colour: u8) -> Result<(), AllocError>
+    requires shares { length shares.now ≡ 48 }
+    requires colour { colour ≤ 9 }
+    ensures { OnOk result (text.new.items ≡ text.old.items ++ back_text shares.now colour) }
+{
+    push_octets(text, b"\x1b[48;2;")?;
+    push_rgb(text, shares, colour)?;
+    push_octets(text, b"m")
+}
+
+/// The colour of a pixel, which is black below the last row.
+fn colour_within(colours: &PageColours, row: u16, column: u16) -> u8
+    requires { column < colours.now.width }
+    ensures colour { result ≡ colour_within (colour_at colours.now) colours.now.height row column }
+    ensures range { result ≤ 9 }
+{
+    if row < colours.height() {
+        colours.colour(column, row)
+    } else {
+        0
+    }
+}
+
+/// Whether a colour is that of the column to the left, if there is one.
+fn goes_on(colours: &PageColours, row: u16, column: u16) -> bool
+    requires { column < colours.now.width }
+    ensures { result ≡ goes_on (colour_within (colour_at colours.now) colours.now.height row) column }
+{
+    column > 0 && colour_within(colours, row, column - 1) == colour_within(colours, row, column)
+}
+
+/// Appends the escape for the pixel of the upper row, unless its colour is that of the column to the left.
+fn push_upper(
+    text: &mut Vec<u8>,
+    shares: &[u8],
+    colours: &PageColours,
+    row: u16,
+    column: u16,
+) -> Result<(), AllocError>
+    requires shares { length shares.now ≡ 48 }
+    requires column { column < colours.now.width }
+    ensures { OnOk result (text.new.items ≡ text.old.items
+        ++ fore_at shares.now (colour_within (colour_at colours.now) colours.now.height row) column) }
+{
+    if goes_on(colours, row, column) {
+        return Ok(());
+    }
+    push_fore(text, shares, colour_within(colours, row, column))
+}
+
+/// Appends the escape for the pixel of the lower row, unless its colour is that of the column to the left.
+fn push_lower(
+    text: &mut Vec<u8>,
+    shares: &[u8],
+    colours: &PageColours,
+    row: u16,
+    column: u16,
+) -> Result<(), AllocError>
+    requires shares { length shares.now ≡ 48 }
+    requires column { column < colours.now.width }
+    ensures { OnOk result (text.new.items ≡ text.old.items
+        ++ back_at shares.now (colour_within (colour_at colours.now) colours.now.height row) column) }
+{
+    if goes_on(colours, row, column) {
+        return Ok(());
+    }
+    push_back(text, shares, colour_within(colours, row, column))
+}
+
+/// Appends two pixels, one above the other.
+#[tactic(auto, unfolding(crate::specs::Blocks::block_text))]
+fn push_block(
+    text: &mut Vec<u8>,
+    shares: &[u8],
+    colours: &PageColours,
+    row: u16,
+    column: u16,
+) -> Result<(), AllocError>
+    requires shares { length shares.now ≡ 48 }
+    requires row { row + 1 < 2 ^ 16 }
+    requires column { column < colours.now.width }
+    ensures { OnOk result (text.new.items ≡ text.old.items
+        ++ block_text shares.now (colour_within (colour_at colours.now) colours.now.height row)
+        (colour_within (colour_at colours.now) colours.now.height (row + 1)) column) }
+{
+    push_upper(text, shares, colours, row, column)?;
+    push_lower(text, shares, colours, row + 1, column)?;
+    push_octets(text, HALF_BLOCK)
+}
+
+/// Appends a row of pixels and the one below it.
+fn push_blocks(
+    text: &mut Vec<u8>,
+    shares: &[u8],
+    colours: &PageColours,
+    row: u16,
+) -> Result<(), AllocError>
+    requires shares { length shares.now ≡ 48 }
+    requires row { row + 1 < 2 ^ 16 }
+    ensures { OnOk result (text.new.items ≡ text.old.items
+        ++ blocks_text shares.now (colour_within (colour_at colours.now) colours.now.height row)
+        (colour_within (colour_at colours.now) colours.now.height (row + 1)) colours.now.width) }
+{
+    for column in 0..colours.width() {
+        push_block(text, shares, colours, row, column)?;
+    }
+    Ok(())
+}
+
+/// Appends a line.
+fn push_two_rows(
+    text: &mut Vec<u8>,
+    shares: &[u8],
+    colours: &PageColours,
+    line: u16,
+) -> Result<(), AllocError>
+    requires shares { length shares.now ≡ 48 }
+    requires line { 2 * line + 1 < 2 ^ 16 }
+    ensures { OnOk result (text.new.items ≡ text.old.items
+        ++ two_rows shares.now (colour_at colours.now) colours.now.width colours.now.height line) }
+{
+    push_blocks(text, shares, colours, 2 * line)?;
+    push_octets(text, RESET)
+}
+
+/// Appends all lines from the top.
+pub(crate) fn push_lines(
+    text: &mut Vec<u8>,
+    shares: &[u8],
+    colours: &PageColours,
+) -> Result<(), AllocError>
+    requires shares { length shares.now ≡ 48 }
+    ensures { OnOk result (text.new.items ≡ text.old.items
+        ++ lines_text shares.now (colour_at colours.now) colours.now.width colours.now.height ((colours.now.height + 1) / 2)) }
+{
+    let lines = (colours.height() + 1) / 2;
+    for line in 0..lines {
+        push_two_rows(text, shares, colours, line)?;
+    }
+    Ok(())
+}

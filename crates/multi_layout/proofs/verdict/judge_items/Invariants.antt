@@ -1,0 +1,11 @@
+use Rattle.std.proofs.Common.{◌-◌, ◌==◌, not, length}
+use Rattle.multi_layout.specs.kept.Judging.{IsAt}
+use Rattle.multi_layout.specs.kept.PassState.{IsPassOf}
+use Rattle.multi_layout.proofs.verdict.judge_items.Given as goal
+
+-- the items before this octet are judged
+abbrev pub invariant-loop-next : goal.invariant-loop-next
+invariant-loop-next g l = IsAt l.sign l.fn.source.octets l.at l.next (IsPassOf (not (g.row.WORDS == 0)) l.sign l.pass) l.source
+
+abbrev pub decreases-loop-next : goal.decreases-loop-next
+decreases-loop-next g l = length l.fn.source.octets - l.at
