@@ -27,10 +27,10 @@ use Rattle.multi_layout.specs.declared.state.State.{State}
 use Rattle.multi_layout.specs.declared.attributes.Attributes.{Attributes}
 use Rattle.multi_layout.specs.Address.{Standing, standing, put_at, spots, Break}
 use Rattle.multi_layout.specs.Limits.{plane_octets}
-use Rattle.multi_layout.specs.Meaning.{Meaning, Does, begins_area, is_new_page, meaning, meaning_of_tag}
+use Rattle.multi_layout.specs.Meaning.{Meaning, Does, Shows, begins_area, is_new_page, meaning, meaning_of_tag}
 use Rattle.multi_layout.specs.Drawn.{has_colour}
 use Rattle.multi_layout.specs.Drawn as drawn
-use Rattle.multi_layout.specs.kept.AreaDrawing.{IsDrawnTo, IsFilledBy, IsQuiet}
+use Rattle.multi_layout.specs.kept.AreaDrawing.{DrawsGlyph, DrawsOn, IsDrawnTo, IsFilledBy, IsQuiet}
 use Rattle.multi_layout.specs.Picture.{shown_colour}
 use Rattle.multi_layout.specs.kept.State.{IsStateOf}
 use Rattle.multi_layout.specs.kept.Sums.{IsBelow}
@@ -104,6 +104,16 @@ cell_height sign before state st number c found =
 -- the items of a string, as they mean
 pub map_split : (before rest : List LaidItem) (item : LaidItem) (m : Meaning) → meant item ≡ m → map meant (before ++ item ∷ rest) ≡ map meant before ++ m ∷ map meant rest
 map_split before rest item m e = map-append meant before (item ∷ rest) ∙ ap (λ x. map meant before ++ x ∷ map meant rest) e
+
+-- what is drawn of a character is drawn of its piece
+pub glyph_drawn : (sign : SignData) (layer : Layer) (before rest : List LaidItem) (item : LaidItem) (number : ℕ) → meant item ≡ Shows number → (old new : BitPlane)
+    → DrawsGlyph sign layer (map meant before) number (map meant rest) old new → DrawsOn sign layer before (item ∷ []) rest old new
+glyph_drawn sign layer before rest item number shows old new puts drawn =
+    let all = map_split before rest item (Shows number) shows in
+    let one = map_split before [] item (Shows number) shows in
+    subst (λ (ms : List Meaning). IsDrawnTo sign layer ms (map meant (before ++ item ∷ [])) new) (sym all)
+    (subst (λ (ms : List Meaning). IsDrawnTo sign layer (map meant before ++ Shows number ∷ map meant rest) ms new) (sym one)
+    (puts (subst (λ (ms : List Meaning). IsDrawnTo sign layer ms (map meant before) old) all drawn)))
 
 module _ (sign : SignData) (layer : Layer) (before rest : List Meaning) where
   -- a background covers the page

@@ -10,6 +10,7 @@ pub mod AreaSumLemmas
 pub mod AttributeExamples
 pub mod BeforeLemmas
 pub mod BehindLemmas
+mod BesideLemmas
 pub mod BoundLemmas
 pub mod BreakLemmas
 pub mod BreaksLineLemmas

@@ -19,7 +19,7 @@ use Rattle.multi_layout.specs.Address.{standing, Glyph, Spot, spots, area_of, gr
 use Rattle.multi_layout.specs.Drawn.{has_colour}
 use Rattle.multi_layout.specs.Line.{glyph_width}
 use Rattle.multi_layout.specs.Meaning.{Meaning, Shows}
-use Rattle.multi_layout.specs.kept.AreaDrawing.{HasCounted, IsDrawnTo}
+use Rattle.multi_layout.specs.kept.AreaDrawing.{HasCounted, IsDrawnTo, StandsAt}
 use Rattle.multi_layout.specs.Picture.{is_lit_at, shown_colour}
 use Rattle.multi_layout.specs.Place.{place_of}
 use Rattle.multi_layout.specs.kept.State.{IsStateOf, attributes_of}
@@ -50,17 +50,18 @@ module _ (sign : SignData) (before : List Meaning) (state : State) (st : IsState
       let number_is : state.attributes.font.number ≡ font.number = ap (λ (a : Attributes). a.font.number) st.attributes in
       some_sized font (cell_numbered font number) c (sym (cell_of_font sign font number st.font) ∙ ap (λ n. cell_in sign n number) (sym number_is) ∙ found)
 
-  -- the pixels of a character that is lit
-  module _ (rest : List Meaning) (layer : Layer) (lines : LineTable) (counted : HasCounted (in_area (standing sign before).area (spots sign (before ++ Shows number ∷ rest))) lines)
+  -- the place of a character, by the lines of its area
+  module _ (rest : List Meaning) (lines : LineTable) (counted : HasCounted (in_area (standing sign before).area (spots sign (before ++ Shows number ∷ rest))) lines)
       (place : Place)
       (placed : (earlier all : List Spot) (spot : Spot) → is_glyph spot ≡ true → state.attributes ≡ attributes_of spot.at → glyph_width spot ≡ c.width → state.area ≡ area_sum (area_of spot earlier)
       → group_lines state.attributes.page_just lines ≡ table_of (lines_of (group_of spot all)) → count_by is_break (group_of spot earlier) < length (lines_of (group_of spot all)) → list_any (clashes spot) (line_before earlier spot) ≡ false
       → state.area.present ≤ state.attributes.page_just → place ≡ place_of earlier all spot)
       (fine : unsized_offence sign before (Shows number) ≡ None) where
-    -- the place is the character's
-    place_is : (cell : CellData) → cell_numbered (standing sign before).font number ≡ Some cell → sized (standing sign before).font cell ≡ c
-        → place ≡ place_of (spots sign before) (spots sign (before ++ Shows number ∷ rest)) (record { at = standing sign before; put = Glyph cell })
-    place_is cell numbered is =
+    pub stands_at : StandsAt sign before number rest place
+    stands_at cell numbered =
+        let (cell', numbered', is') = glyph_found in
+        let same : cell' ≡ cell = same_Some cell' cell (sym numbered' ∙ numbered) in
+        let is : sized (standing sign before).font cell ≡ c = ap (sized (standing sign before).font) (sym same) ∙ is' in
         let at = standing sign before in
         let spot : Spot = record { at = at; put = Glyph cell } in
         let page : state.attributes.page_just ≡ at.page_just = ap (λ (a : Attributes). a.page_just) st.attributes in
@@ -78,6 +79,8 @@ module _ (sign : SignData) (before : List Meaning) (state : State) (st : IsState
         (no_clash (spots sign before) spot at.page_just refl refl (no_conflict sign before number cell numbered fine))
         (no_back (spots sign before) spot state.attributes.page_just state.area.present (sym page) (ap (λ (a : Area). a.present) st.area) (no_conflict sign before number cell numbered fine))
 
+  -- the pixels of a character that is lit
+  module _ (rest : List Meaning) (layer : Layer) (place : Place) (stands : StandsAt sign before number rest place) where
     -- a character that is lit covers the pixels of its cell
     pub lit_drawn : (old new : BitPlane) (on : Bool) → is_lit_at layer.phase state.attributes.flash ≡ true → on ≡ (shown_colour sign state.attributes.fore == layer.colour)
         → new.width ≡ old.width → new.height ≡ old.height
@@ -97,7 +100,7 @@ module _ (sign : SignData) (before : List Meaning) (state : State) (st : IsState
         let in_old : x < old.width = omega (arith, width, across) in
         let in_old' : y < old.height = omega (arith, tall, down) in
         pixels x y in_old in_old'
-        ∙ ap (λ (p : Place). cond (covers c p.column p.row x y) on (is_lit old x y)) (place_is cell numbered is)
+        ∙ ap (λ (p : Place). cond (covers c p.column p.row x y) on (is_lit old x y)) (stands cell numbered)
         ∙ ap (λ (z : cells.SizedCell). cond (covers z here.column here.row x y) on (is_lit old x y)) (sym is)
         ∙ ap (λ o. cond (covers (sized at.font cell) here.column here.row x y) o (is_lit old x y)) (colour ∙ ap (λ (a : Attributes). shown_colour sign a.fore == layer.colour) st.attributes)
         ∙ ap (λ b. cond (covers (sized at.font cell) here.column here.row x y) shown b) (drawn x y in_old in_old')

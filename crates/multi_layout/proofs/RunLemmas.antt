@@ -18,8 +18,8 @@ use Rattle.multi_layout.specs.Address.{Spot, area_of, in_group, is_break, is_gly
 use Rattle.multi_layout.specs.Fit.{FitsWithout, area_fits, fit, line_fits}
 use Rattle.multi_layout.specs.Line.{average, height_of, width_of}
 use Rattle.multi_layout.specs.Meaning.{Meaning, Shows}
-use Rattle.multi_layout.specs.Offence.{clashes, conflicts, offence}
-use Rattle.multi_layout.specs.kept.Run.{IsRun, kept_fits, kept_group_height, kept_height, kept_width, lengthened, lengthened_area, lengthened_line, line_in_force}
+use Rattle.multi_layout.specs.Offence.{clashes, conflicts, offence, unsized_offence}
+use Rattle.multi_layout.specs.kept.Run.{IsBehindCharacter, IsRun, kept_fits, kept_group_height, kept_height, kept_width, lengthened, lengthened_area, lengthened_line, line_in_force}
 use Rattle.multi_layout.specs.kept.State.{IsStateOf}
 use Rattle.multi_layout.specs.kept.Sums.{IsBelow, IsCharacter, IsPlacing, area_sum, group_sum, height_before, line_sum, segment_sum, width_before}
 use Rattle.multi_layout.specs.Words.{largest}
@@ -27,7 +27,7 @@ use Rattle.multi_layout.proofs.AreaSumLemmas.{area_stays, area_with, conflicts_c
 use Rattle.multi_layout.proofs.GroupHeightLemmas.{height_ended, height_present}
 use Rattle.multi_layout.proofs.GroupSumLemmas.{group_character, present_glyphs}
 use Rattle.multi_layout.proofs.LineSumLemmas.{line_clashes, line_with, none_of_later, segment_own, width_other_of, width_present}
-use Rattle.multi_layout.proofs.PlacingLemmas.{character-exit-fits}
+use Rattle.multi_layout.proofs.PlacingLemmas.{character-accepted, character-exit-fits}
 
 -- ---- what is kept of a line and of a group
 
@@ -93,7 +93,7 @@ and_none true = refl
 and_none false = refl
 
 -- the average of a number with itself
-average_same : (n : ℕ) → average n n ≡ n
+pub average_same : (n : ℕ) → average n n ≡ n
 average_same n = omega arith
 
 module _ (line : List Spot) (s : Spot) (c : Character) (glyphs : AllPass is_glyph line) (is : IsCharacter s c) (l : Line) (e : l ≡ line_sum line)
@@ -163,16 +163,52 @@ not_full n = elim (cases_eq n 5) [
   | inr other ↦ rw (ne_eqb n 5 other) refl
 ]
 
+-- ---- a character beside one with the same attributes
+
+-- the area with it
+abbrev pub longer_by : State → ℕ → SizedCell → Area
+longer_by state gap cell = lengthened_area ((line_in_force state).part.width + (gap + cell.width)) ((line_in_force state).part.count + 1) state.area
+
+-- the character
+abbrev pub seen_in : State → SizedCell → Character
+seen_in state cell = record { just = state.attributes.line_just; spacing = state.attributes.spacing; width = cell.width; font = state.attributes.font }
+
+-- what stands behind a character still does when its segment is lengthened
+pub behind_stays : (state : State) (width count : ℕ) → IsBehindCharacter state → IsBehindCharacter (lengthened width count state)
+behind_stays state width count b = record {
+  group = b.group;
+  line = record { segment = b.line.segment; parts = b.line.parts; any = b.line.any; height = b.line.height; spacing = b.line.spacing; last = b.line.last };
+}
+
+module _ (state : State) (behind : IsBehindCharacter state) (gap : ℕ) (gap_is : gap ≡ unwrap_or state.attributes.spacing state.attributes.font.char_spacing) (cell : SizedCell) where
+  pub area_beside : (xs : List Spot) (s : Spot) → All IsPlacing xs → state.area ≡ area_sum xs → IsCharacter s (seen_in state cell) → s.at.page_just ≡ state.attributes.page_just → state.area.present ≤ state.attributes.page_just
+      → list_any (clashes s) (after_last is_break (in_group state.attributes.page_just xs)) ≡ false → longer_by state gap cell ≡ area_sum (xs ++ s ∷ [])
+  area_beside xs s placing e is page order apart =
+      let spots = after_last is_break (in_group state.attributes.page_just xs) in
+      let here : line_in_force state ≡ line_sum spots = own_line xs state.area e ∙ ap (λ n. line_sum (after_last is_break (in_group n xs))) behind.group in
+      let grown = line_lengthened spots s (seen_in state cell) (present_glyphs state.attributes.page_just xs placing) is (line_in_force state) here
+      behind.line.segment behind.line.parts behind.line.any behind.line.height behind.line.spacing behind.line.last gap gap_is in
+      area_lengthened xs s state.area state.attributes.page_just ((line_in_force state).part.width + (gap + cell.width)) ((line_in_force state).part.count + 1) e is.glyph page behind.group grown
+
+  -- a character that doesn't offend lengthens the state
+  pub state_beside : (sign : SignData) (items : List Meaning) → IsStateOf sign items state → (number : ℕ) → cell_in sign state.attributes.font.number number ≡ Some cell → gap ≤ 255 → cell.width ≤ 64
+      → unsized_offence sign items (Shows number) ≡ None
+      → IsStateOf sign (items ++ Shows number ∷ []) (lengthened ((line_in_force state).part.width + (gap + cell.width)) ((line_in_force state).part.count + 1) state)
+  state_beside sign items st number found narrow small fine =
+      let below = longer_below (1024 * length items) ((line_in_force state).part.width + (gap + cell.width)) ((line_in_force state).part.count + 1) state.area st.below
+      (omega (arith, st.below.group.line.part.width, narrow, small)) (omega (arith, st.below.group.line.part.count)) in
+      character-accepted sign items state st number cell found (seen_in state cell) refl refl refl refl (longer_by state gap cell) area_beside below fine
+
 -- ---- what a character of the run does
 
 module _ (sign : SignData) (items : List Meaning) (state : State) (st : IsStateOf sign items state) (gap room : ℕ) (run : IsRun state gap room)
     (number : ℕ) (cell : SizedCell) (found : cell_in sign state.attributes.font.number number ≡ Some cell) (wide : 1 ≤ cell.width)
     (without : (s : Spot) → s.at ≡ standing sign items → FitsWithout (spots sign items) s) where
-  abbrev pub longer : Area
-  longer = lengthened_area ((line_in_force state).part.width + (gap + cell.width)) ((line_in_force state).part.count + 1) state.area
+  abbrev longer : Area
+  longer = longer_by state gap cell
 
-  abbrev pub seen : Character
-  seen = record { just = state.attributes.line_just; spacing = state.attributes.spacing; width = cell.width; font = state.attributes.font }
+  abbrev seen : Character
+  seen = seen_in state cell
 
   -- it doesn't conflict
   agrees : (before : List Spot) (s : Spot) → state.area ≡ area_sum (area_of s before) → is_glyph s ≡ true → s.at.page_just ≡ state.attributes.page_just → s.at.line_just ≡ state.attributes.line_just
@@ -194,16 +230,6 @@ module _ (sign : SignData) (items : List Meaning) (state : State) (st : IsStateO
       ∙ ap (λ b. b || ((state.attributes.page_just == state.area.present) && false)) (sym (le-ltb state.attributes.page_just state.area.present (omega (arith, run.group))))
       ∙ whole
 
-  -- the area behind it
-  sum_behind : (xs : List Spot) (s : Spot) → All IsPlacing xs → state.area ≡ area_sum xs → IsCharacter s seen → s.at.page_just ≡ state.attributes.page_just → state.area.present ≤ state.attributes.page_just
-      → list_any (clashes s) (after_last is_break (in_group state.attributes.page_just xs)) ≡ false → longer ≡ area_sum (xs ++ s ∷ [])
-  sum_behind xs s placing e is page order apart =
-      let spots = after_last is_break (in_group state.attributes.page_just xs) in
-      let here : line_in_force state ≡ line_sum spots = own_line xs state.area e ∙ ap (λ n. line_sum (after_last is_break (in_group n xs))) run.group in
-      let grown = line_lengthened spots s seen (present_glyphs state.attributes.page_just xs placing) is (line_in_force state) here
-      run.line.segment run.line.parts run.line.any run.line.height run.line.spacing run.line.last gap run.gap_is in
-      area_lengthened xs s state.area state.attributes.page_just ((line_in_force state).part.width + (gap + cell.width)) ((line_in_force state).part.count + 1) e is.glyph page run.group grown
-
   -- whether it fits
   fits_behind : (before : List Spot) (s : Spot) → is_glyph s ≡ true → longer ≡ area_sum (area_of s before ++ s ∷ []) → longer.present ≡ s.at.page_just
       → s.at.rectangle.width ≡ state.attributes.rectangle.width → s.at.rectangle.height ≡ state.attributes.rectangle.height
@@ -222,5 +248,5 @@ module _ (sign : SignData) (items : List Meaning) (state : State) (st : IsStateO
   pub run_goes_on : (line_in_force state).part.width + (gap + cell.width) ≤ room → IsBelow (1024 * length items + 1024) longer
       → (offence Off sign items (Shows number) ≡ None) × IsStateOf sign (items ++ Shows number ∷ []) (lengthened ((line_in_force state).part.width + (gap + cell.width)) ((line_in_force state).part.count + 1) state)
   run_goes_on fits below =
-      character-exit-fits sign items state st number cell found false agrees seen longer refl refl refl refl sum_behind
+      character-exit-fits sign items state st number cell found false agrees seen longer refl refl refl refl (area_beside state (record { group = run.group; line = run.line }) gap run.gap_is cell)
       (nat_le ((line_in_force state).part.width + (gap + cell.width)) room) (λ before s glyph sum present line w h alone. fits_behind before s glyph sum present w h) without refl (le-leb ((line_in_force state).part.width + (gap + cell.width)) room fits) below

@@ -1,6 +1,7 @@
 //! The attributes in force.
 
 ghost use Rattle.std.specs.Prelude.{◌≡◌};
+ghost use Rattle.std.specs.Option.{unwrap_or};
 ghost use Rattle.sign_font.specs.Sign.{SignData};
 ghost use Rattle.multi_layout.specs.Address.{Standing};
 ghost use Rattle.multi_layout.specs.Attributes.{whole_sign};
@@ -80,6 +81,13 @@ impl Attributes {
             width,
             font: self.font,
         }
+    }
+
+    /// The pixels between two characters with these attributes.
+    pub(crate) fn gap(&self) -> u8
+        ensures { result ≡ unwrap_or self.now.spacing self.now.font.char_spacing }
+    {
+        self.spacing.unwrap_or(self.font.char_spacing)
     }
 
     /// Puts the values in force behind a tag that begins nothing, places nothing and asks for no font.

@@ -53,13 +53,27 @@ impl Cursor {
         ensures end_steps { IfNone result (RisesBetween source.old source.new 0 1) }
     {
         let first = source.read(self.at)?;
+        Some(self.item_from(source, first))
+    }
+
+    /// Reads the rest of the next item, which begins with this octet that was read.
+    #[inline(always)]
+    pub(crate) fn item_from(&self, source: &mut Source<'_>, first: u8) -> NextItem
+        requires within { (sign : SignData) × IsWithin sign source.old.octets self.now.at }
+        requires stands { slice_get source.old.octets self.now.at ≡ Some first }
+        requires room { length source.old.octets < 2 ^ 63 }
+        ensures first { (sign : SignData) (before behind : List spelled.Item)
+            → IsPlaced sign source.old.octets before behind self.now.at → IsFirst behind (Some result) }
+        ensures some { 1 ≤ result.len }
+        ensures steps { RisesBetween source.old source.new 0 (9 * result.len - 9) }
+    {
         if first != b'[' && first != b']' {
-            return Some(NextItem {
+            return NextItem {
                 item: KnownItem::Char(u16::from(first)),
                 len: 1,
-            });
+            };
         }
-        Some(self.next_spelled(source, first))
+        self.next_spelled(source, first)
     }
 
     /// Reads the next item, which begins with this bracket that was read. It isn't put into its callers' code, since octets that stand

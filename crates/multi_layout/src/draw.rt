@@ -1,24 +1,26 @@
 //! The drawing of a page into one plane: each area is read for the table of its lines, and then to put its cells.
 
-ghost use Rattle.std.specs.Prelude.{◌^◌, ◌≡◌, ℕ, ◌+◌, ◌-◌, ◌*◌, ◌≤◌, [], ◌∷◌, ◌++◌, List, Option, false, length, map, ◌==◌};
+ghost use Rattle.std.specs.Prelude.{◌^◌, ◌≡◌, ◌≢◌, ℕ, ◌+◌, ◌-◌, ◌*◌, ◌<◌, ◌≤◌, [], ◌∷◌, ◌++◌, List, Option, IfSome, Some, false, length, map, slice_get, ◌==◌};
 ghost use Rattle.std.specs.Option.{unwrap_or};
-ghost use Rattle.multi_token.specs.Counted.{RisesBetween};
+ghost use Rattle.multi_token.specs.Counted.{RisesBetween, charged};
 ghost use Rattle.sign_font.specs.Sound.{IsSound};
 ghost use Rattle.multi_layout.specs.kept.Sums.{IsBelow};
 ghost use Rattle.multi_layout.specs.Drawn.{Lights};
 ghost use Rattle.multi_layout.specs.Meaning.{begins_area};
 ghost use Rattle.multi_layout.specs.Pages.{IsSized};
 ghost use Rattle.multi_layout.specs.kept.PageDrawing.{IsFilledFew, IsPagePassed, IsPageStart, IsReadTwice};
-ghost use Rattle.multi_layout.specs.kept.AreaDrawing.{DrawsOn, HasCounted, IsFilledBy, OverArea, IsLow, BeginsNoArea, IsQuiet, whole_area};
+ghost use Rattle.multi_layout.specs.kept.AreaDrawing.{AreaSoFar, DrawsOn, HasCounted, IsFilledBy, IsNextDrawn, IsReadBehind, NextStandsAt, OverArea, IsLow, BeginsNoArea, IsQuiet, octets_read, whole_area};
 ghost use Rattle.multi_layout.specs.Limits.{plane_octets};
 ghost use Rattle.multi_layout.specs.Picture.{in_plane, shown_colour};
 ghost use Rattle.multi_layout.specs.kept.Table.{IsOrdered};
 ghost use Rattle.multi_layout.specs.kept.Cursors.{GoesBehind, IsBetween, IsItemRead, IsRead, meant, LaidItem, spell_of};
 
+use crate::attributes::Attributes;
 use crate::cursor::Cursor;
+use crate::draw_run::draw_run;
 use crate::item::{KnownItem, NextItem};
 use crate::paint::{Layer, put_character};
-use crate::place::is_full;
+use crate::place::{Place, is_full, place_at};
 use crate::read::{AreaLines, read_area};
 use crate::table::LineTable;
 use crate::terms::Terms;
@@ -86,13 +88,15 @@ fn draw_area(
     ensures steps { RisesBetween source.old source.new 0 (9 * (read.now.end - cursor.old.at)) }
     ensures fills { IsFilledBy sign.now plane.old plane.new (read.now.end - cursor.old.at) }
 {
+    let mut first = None;
     while cursor.at < read.end {
-        let Some(next) = cursor.next_item(source) else {
+        let Some(octet) = octet_at(source, cursor.at, first) else {
             // The area goes on.
             unreachable!();
         };
+        let next = cursor.item_from(source, octet);
         let next = lay(sign, cursor, &read.lines, next);
-        draw_item(sign, source, cursor, next, &read.lines, layer, plane);
+        first = draw_next(sign, source, cursor, next, read, layer, plane);
     }
 }
 
@@ -142,7 +146,48 @@ fn lay_filled(sign: &Terms<'_>, cursor: &Cursor, lines: &LineTable, next: NextIt
     }
 }
 
-/// Draws what the next item puts, and goes behind it.
+/// The octet at an offset, if it isn't this one, which was read there.
+fn octet_at(source: &mut Source<'_>, at: usize, read: Option<u8>) -> Option<u8>
+    requires { IfSome read (λ octet. slice_get source.old.octets at ≡ Some octet) }
+    ensures octet { result ≡ slice_get source.old.octets at }
+    ensures step { source.new ≡ charged source.old (1 - octets_read read) }
+{
+    match read {
+        Some(_) => read,
+        None => source.read(at),
+    }
+}
+
+/// Draws what the next item puts, and with a character those that stand beside it, and goes behind them. It gives the octet there, if it
+/// was read.
+fn draw_next(
+    sign: &Terms<'_>,
+    source: &mut Source<'_>,
+    cursor: &mut Cursor,
+    next: NextItem,
+    read: &AreaLines,
+    layer: Layer,
+    plane: &mut Plane,
+) -> Option<u8>
+    requires sound { IsSound sign.now }
+    requires known { (before area rest : List LaidItem) × (item : LaidItem) × IsNextDrawn sign.now source.old.octets before area rest item
+        next read.now cursor.old }
+    requires low { IsLow read.now.lines }
+    requires ordered { IsOrdered read.now.lines }
+    requires size { IsSized plane.old sign.now }
+    ensures so_far { (before area rest : List LaidItem) (item : LaidItem)
+        → IsNextDrawn sign.now source.old.octets before area rest item next read.now cursor.old
+        → AreaSoFar sign.now source.old.octets before (item ∷ area) rest read.now.lines layer cursor.new plane.old plane.new }
+    ensures next { IsReadBehind source.old.octets cursor.new.at read.now.end result }
+    ensures steps { RisesBetween source.old source.new 0 (8 + 9 * (cursor.new.at - (cursor.old.at + next.len)) + octets_read result) }
+    ensures fills { IsFilledBy sign.now plane.old plane.new (cursor.new.at - cursor.old.at) }
+    ensures forward { cursor.old.at + next.len ≤ cursor.new.at }
+{
+    let place = draw_item(sign, source, cursor, next, &read.lines, layer, plane)?;
+    draw_run(sign, source, cursor, place, read, layer, plane)
+}
+
+/// Draws what the next item puts, and goes behind it. It gives the place of one more character, if it is known.
 fn draw_item(
     sign: &Terms<'_>,
     source: &mut Source<'_>,
@@ -151,7 +196,7 @@ fn draw_item(
     lines: &LineTable,
     layer: Layer,
     plane: &mut Plane,
-)
+) -> Option<Place>
     requires sound { IsSound sign.now }
     requires known { (before rest : List LaidItem) × (item : LaidItem)
         × IsBetween sign.now source.old.octets before (item ∷ rest) cursor.old
@@ -166,22 +211,52 @@ fn draw_item(
     ensures at { cursor.new.at ≡ cursor.old.at + next.len }
     ensures steps { RisesBetween source.old source.new 0 8 }
     ensures fills { IsFilledBy sign.now plane.old plane.new next.len }
+    ensures beside { IfSome result (λ place. (before rest : List LaidItem) (item : LaidItem)
+        → IsBetween sign.now source.old.octets before (item ∷ rest) cursor.old → IsRead item next
+        → HasCounted (whole_area sign.now before (item ∷ rest)) lines.now
+        → NextStandsAt sign.now (map meant (before ++ item ∷ [])) (map meant (before ++ item ∷ rest)) place) }
+    ensures apart { IfSome result (λ place. cursor.new.state.attributes.line_just ≢ 5) }
+    ensures wide { IfSome result (λ place. place.column ≤ 2 ^ 63) }
 {
     match next.item {
         KnownItem::Char(number) => {
-            let font = cursor.state.attributes.font.number;
-            let Some(cell) = sign.cell(source, font, number) else {
+            let attributes = cursor.state.attributes;
+            let Some(cell) = sign.cell(source, attributes.font.number, number) else {
                 // Each character of an accepted string has a cell.
                 unreachable!();
             };
-            put_character(sign, &cursor.state, &cell, lines, layer, plane);
-            cursor.pass_character(number, cell.width(), next.len);
+            let width = cell.width();
+            let lines = lines.group(attributes.page_just);
+            let place = place_at(&attributes, &cursor.state.area, lines, width);
+            put_character(sign, &attributes, &cell, place, layer, plane);
+            cursor.pass_character(number, width, next.len);
+            beside(&attributes, place, width)
         }
         KnownItem::Tag(tag) => {
             draw_tag(sign, tag, layer, plane);
             cursor.pass(sign, source, next);
+            None
         }
     }
+}
+
+/// The place of a character beside one with the same attributes, which stands at this place and whose cell has this width in pixels. On a
+/// full line it is none of these.
+fn beside(attributes: &Attributes, place: Place, width: u8) -> Option<Place>
+    requires low { place.column ≤ 2 ^ 62 }
+    ensures beside { IfSome result (λ next. (attributes.now.line_just ≢ 5) × (next ≡ record {
+      column = place.column + (width + unwrap_or attributes.now.spacing attributes.now.font.char_spacing);
+      row = place.row;
+    })) }
+    ensures low { IfSome result (λ next. next.column ≤ 2 ^ 63) }
+{
+    if attributes.line_just == 5 {
+        return None;
+    }
+    Some(Place {
+        column: place.column + (u64::from(width) + u64::from(attributes.gap())),
+        row: place.row,
+    })
 }
 
 /// Fills the plane where a tag sets the page's background.

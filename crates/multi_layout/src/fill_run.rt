@@ -20,7 +20,7 @@ use sign_font::FontInfo;
 
 impl Line {
     /// Whether the last character can have been one with this line justification and font.
-    fn is_behind_one(&self, just: u8, font: &FontInfo) -> bool
+    pub(crate) fn is_behind_one(&self, just: u8, font: &FontInfo) -> bool
         ensures { result ≡ true → IsBehindOne just font.now self.now }
     {
         (self.present == just)

@@ -13,6 +13,7 @@ mod cell;
 mod checked;
 mod cursor;
 mod draw;
+mod draw_run;
 mod fault;
 mod fill;
 mod fill_run;

@@ -1,21 +1,17 @@
 //! What a plane shows of a page: the pixels of one colour at one phase.
 
-ghost use Rattle.std.specs.Prelude.{◌≡◌, ℕ, ◌+◌, ◌^◌, ◌≤◌, ◌==◌, [], ◌∷◌, ◌++◌, List, Some, None};
+ghost use Rattle.std.specs.Prelude.{◌≡◌, ℕ, ◌+◌, ◌^◌, ◌≤◌, ◌==◌, [], ◌∷◌, ◌++◌, List, Some};
 ghost use Rattle.sign_font.specs.Sign.{cell_in};
-ghost use Rattle.sign_font.specs.Sound.{IsSound, IsSoundSize, IsWithin};
+ghost use Rattle.sign_font.specs.Sound.{IsSound, IsSoundSize};
 ghost use Rattle.multi_layout.specs.Meaning.{Meaning, Shows};
-ghost use Rattle.multi_layout.specs.Offence.{unsized_offence};
-ghost use Rattle.multi_layout.specs.kept.AreaDrawing.{DrawsGlyph, HasArea, IsLow};
+ghost use Rattle.multi_layout.specs.declared.state.State.{State};
+ghost use Rattle.multi_layout.specs.kept.AreaDrawing.{DrawsGlyph, StandsAt};
 ghost use Rattle.multi_layout.specs.Picture.{is_lit_at, shown_colour};
 ghost use Rattle.multi_layout.specs.kept.State.{IsStateOf};
-ghost use Rattle.multi_layout.specs.kept.Sums.{IsBelow};
-ghost use Rattle.multi_layout.specs.kept.Table.{IsOrdered};
 
-use crate::attributes::FlashTimes;
+use crate::attributes::{Attributes, FlashTimes};
 use crate::cell::put_cell;
-use crate::place::place_at;
-use crate::state::State;
-use crate::table::LineTable;
+use crate::place::Place;
 use crate::terms::Terms;
 use page_plane::Plane;
 use sign_font::Cell;
@@ -61,38 +57,26 @@ impl Layer {
     }
 }
 
-/// Puts a character's cell at its place, if it is lit; `lines` are those of its area, and the state is the one
-/// before the character.
+/// Puts the cell of a character with these attributes at its place, if it is lit.
 pub(crate) fn put_character(
     sign: &Terms<'_>,
-    state: &State,
+    attributes: &Attributes,
     cell: &Cell<'_>,
-    lines: &LineTable,
+    place: Place,
     layer: Layer,
     plane: &mut Plane,
 )
-    requires line_just { IsWithin 2 5 state.now.attributes.line_just }
-    requires page_just { IsWithin 2 4 state.now.attributes.page_just }
-    requires below { IsBelow (2 ^ 43) state.now.area }
-    requires low { IsLow lines.now }
-    requires ordered { IsOrdered lines.now }
     requires size { IsSoundSize cell.now }
-    requires height { cell.now.height ≡ state.now.attributes.font.height }
-    ensures drawn { (before rest : List Meaning) (number : ℕ) → IsStateOf sign.now before state.now
-        → cell_in sign.now state.now.attributes.font.number number ≡ Some cell.now → unsized_offence sign.now before (Shows number) ≡ None
-        → HasArea sign.now before (Shows number ∷ rest) lines.now
-        → DrawsGlyph sign.now layer before number rest plane.old plane.new }
+    ensures drawn { (before rest : List Meaning) (state : State) (number : ℕ) → IsStateOf sign.now before state
+        → state.attributes ≡ attributes.now → cell_in sign.now attributes.now.font.number number ≡ Some cell.now
+        → StandsAt sign.now before number rest place → DrawsGlyph sign.now layer before number rest plane.old plane.new }
     ensures counted { plane.old.steps ≤ plane.new.steps }
     ensures steps { plane.new.steps ≤ plane.old.steps + cell.now.height }
     ensures width { plane.new.width ≡ plane.old.width }
     ensures height { plane.new.height ≡ plane.old.height }
 {
-    let attributes = &state.attributes;
-    if !layer.is_lit(attributes.flash) {
-        return;
+    if layer.is_lit(attributes.flash) {
+        let on = layer.has(sign, attributes.fore);
+        put_cell(cell, place.column, place.row, on, plane);
     }
-    let lines = lines.group(attributes.page_just);
-    let place = place_at(attributes, &state.area, lines, cell.width());
-    let on = layer.has(sign, attributes.fore);
-    put_cell(cell, place.column, place.row, on, plane);
 }

@@ -1,98 +1,108 @@
-use Rattle.std.proofs.Common.{◌≡◌, ◌+◌, ◌-◌, ◌*◌, ◌≤◌, List, [], ◌∷◌, ◌++◌, length, map, sym, ap, ◌∙◌, subst, arith}
+use Rattle.std.proofs.Common.{◌≡◌, ◌+◌, ◌-◌, ◌*◌, ◌≤◌, List, ◌∷◌, ◌++◌, Some, length, map, slice_get, sym, ap, ◌∙◌, subst, arith}
+use Rattle.std.proofs.lemmas.Option.{IfSome_then}
 use Rattle.multi_token.specs.Counted.{Counted, RisesBetween}
-use Rattle.multi_token.proofs.ReadingLemmas.{spelling_some}
 use Rattle.multi_token.proofs.StepLemmas.{charged-zero, rises_more, rises_then}
-use Rattle.multi_layout.specs.kept.AreaDrawing.{HasCounted, IsDrawnTo, IsFilledBy, whole_area}
-use Rattle.multi_layout.specs.kept.Cursors.{IsBetween, items_of, meant, LaidItem, spell_of}
-use Rattle.multi_layout.proofs.PieceLemmas.{laid_first, no_piece}
-use Rattle.multi_layout.proofs.AreaDrawLemmas.{area_here, area_begins, area_more, area_next, area_ended, at_end, none_first, filled_then, filled_none}
+use Rattle.multi_layout.specs.kept.AreaDrawing.{AreaSoFar, HasCounted, IsDrawnTo, IsFilledBy, IsNextDrawn, octets_read, whole_area}
+use Rattle.multi_layout.specs.kept.Cursors.{IsBetween, IsPlaced, items_of, meant, LaidItem, spell_of}
+use Rattle.multi_layout.proofs.AreaDrawLemmas.{area_begins, area_ended, area_here, area_then, at_end, filled_none, filled_then, next_drawn, none_read, read_one}
+use Rattle.multi_layout.proofs.BesideLemmas.{octet_stands}
+use Rattle.multi_layout.proofs.PieceLemmas.{laid_first}
 use Rattle.multi_layout.proofs.draw.draw_area.Goals as goal
 
 pub loop-cursor-init : goal.loop-cursor-init
 loop-cursor-init c = record {
   so_far = λ before area rest b plain ends counted. area_begins c.args.sign.now c.args.source.now.octets before area rest c.args.read.now.lines c.args.layer c.args.plane.now c.args.cursor.now b plain counted;
   on = omega arith;
+  read_behind = tt;
   steps = (0, omega arith, omega arith, sym (charged-zero c.args.source.now));
   fills = subst (IsFilledBy c.args.sign.now c.args.plane.now c.args.plane.now) (omega arith) (filled_none c.args.sign.now c.args.plane.now);
 }
 
-pub next_item-requires : goal.next_item-requires
-next_item-requires c =
+pub octet_at-requires : goal.octet_at-requires
+octet_at-requires c =
     let i = c.loop-cursor.invariant in
-    let sign = c.args.sign.now in
-    let (before, area, rest, b, plain, ends, counted) = c.requires.known in
-    let s = i.so_far before area rest b plain ends counted in
     let same : c.loop-cursor.source.octets ≡ c.args.source.now.octets = ap (λ (x : Counted). x.octets) i.steps.3 in
-    (sign, (items_of (before ++ s.done), items_of (s.left ++ rest), (subst (λ o. IsBetween sign o (before ++ s.done) (s.left ++ rest) c.loop-cursor.cursor) (sym same) s.between).placed))
+    IfSome_then c.loop-cursor.first i.read_behind (λ octet is. ap (λ o. slice_get o c.loop-cursor.cursor.at) same ∙ is.0)
 
 pub unreachable-requires : goal.unreachable-requires
 unreachable-requires c =
     let i = c.loop-cursor.invariant in
-    let sign = c.args.sign.now in
     let (before, area, rest, b, plain, ends, counted) = c.requires.known in
     let s = i.so_far before area rest b plain ends counted in
     let same : c.loop-cursor.source.octets ≡ c.args.source.now.octets = ap (λ (x : Counted). x.octets) i.steps.3 in
     let end : c.args.read.now.end ≡ length (spell_of before) + length (spell_of area) = omega (arith, ends, b.placed.place) in
-    none_first sign c.args.source.now.octets before area rest c.args.read.now.lines c.args.layer c.args.plane.now c.loop-cursor.cursor c.loop-cursor.plane s c.args.read.now.end end c.loop-cursor-test.true
-    (no_piece (s.left ++ rest) (c.in_default.ensures.first sign (items_of (before ++ s.done)) (items_of (s.left ++ rest)) (subst (λ o. IsBetween sign o (before ++ s.done) (s.left ++ rest) c.loop-cursor.cursor) (sym same) s.between).placed))
+    octet_stands c.args.sign.now c.args.source.now.octets before area rest c.args.read.now.lines c.args.layer c.loop-cursor.cursor c.args.plane.now c.loop-cursor.plane s c.args.read.now.end end c.loop-cursor-test.true
+    (ap (λ o. slice_get o c.loop-cursor.cursor.at) (sym same) ∙ sym c.octet_at.ensures.octet ∙ c.in_default.is)
 
-pub draw_item-requires-clause-known : goal.draw_item-requires-clause-known
-draw_item-requires-clause-known c =
+pub item_from-next-requires : goal.item_from-next-requires
+item_from-next-requires c =
     let i = c.loop-cursor.invariant in
     let sign = c.args.sign.now in
     let (before, area, rest, b, plain, ends, counted) = c.requires.known in
     let s = i.so_far before area rest b plain ends counted in
-    let same : c.loop-cursor.source.octets ≡ c.args.source.now.octets = ap (λ (x : Counted). x.octets) i.steps.3 in
-    let read_same : c.next_item.new.source.octets ≡ c.args.source.now.octets = ap (λ (x : Counted). x.octets) c.in-Some.ensures.steps.3 ∙ same in
+    let same : c.octet_at.new.source.octets ≡ c.args.source.now.octets = ap (λ (x : Counted). x.octets) c.octet_at.ensures.step ∙ ap (λ (x : Counted). x.octets) i.steps.3 in
+    let first : c.octet_at.new.source.octets ≡ c.loop-cursor.source.octets = ap (λ (x : Counted). x.octets) c.octet_at.ensures.step in
+    record {
+      within = (sign, (items_of (before ++ s.done), items_of (s.left ++ rest), (subst (λ o. IsBetween sign o (before ++ s.done) (s.left ++ rest) c.loop-cursor.cursor) (sym same) s.between).placed));
+      stands = ap (λ o. slice_get o c.loop-cursor.cursor.at) first ∙ sym c.octet_at.ensures.octet ∙ c.in-Some.is;
+      room = omega (arith, ap length same, b.placed.accepted.short);
+    }
+
+pub lay-next-requires-clause-stands : goal.lay-next-requires-clause-stands
+lay-next-requires-clause-stands c =
+    let sign = c.args.sign.now in
+    let (before, area, rest, b, plain, ends, counted) = c.requires.known in
+    let s = c.loop-cursor.invariant.so_far before area rest b plain ends counted in
     let end : c.args.read.now.end ≡ length (spell_of before) + length (spell_of area) = omega (arith, ends, b.placed.place) in
-    let (item, more, is, here, read, table, quiet) = area_next sign c.args.source.now.octets before area rest c.args.read.now.lines c.args.layer c.args.plane.now c.loop-cursor.cursor c.loop-cursor.plane s c.args.read.now.end end c.loop-cursor-test.true c.lay-next.result
-    (λ earlier behind x counted. laid_first c.args.read.now.lines c.in-Some.next c.lay-next.result earlier behind x counted (c.in-Some.ensures.first sign (items_of earlier) (items_of behind) (subst (λ o. IsBetween sign o earlier behind c.loop-cursor.cursor) (sym same) x).placed) (c.lay-next.ensures.read c.args.source.now.octets)) in
-    (before ++ s.done, more ++ rest, item, subst (λ o. IsBetween sign o (before ++ s.done) (item ∷ (more ++ rest)) c.loop-cursor.cursor) (sym read_same) here, read, table)
+    let (item, more, here) = area_here sign c.args.source.now.octets before area rest c.args.read.now.lines c.args.layer c.args.plane.now c.loop-cursor.cursor c.loop-cursor.plane s c.args.read.now.end end c.loop-cursor-test.true in
+    (c.args.source.now.octets, before ++ s.done, more ++ rest, item, here)
+
+pub draw_next-first-requires-clause-known : goal.draw_next-first-requires-clause-known
+draw_next-first-requires-clause-known c =
+    let i = c.loop-cursor.invariant in
+    let sign = c.args.sign.now in
+    let octets = c.args.source.now.octets in
+    let (before, area, rest, b, plain, ends, counted) = c.requires.known in
+    let s = i.so_far before area rest b plain ends counted in
+    let same : c.octet_at.new.source.octets ≡ octets = ap (λ (x : Counted). x.octets) c.octet_at.ensures.step ∙ ap (λ (x : Counted). x.octets) i.steps.3 in
+    let read_same : c.item_from-next.new.source.octets ≡ octets = ap (λ (x : Counted). x.octets) c.item_from-next.ensures.steps.3 ∙ same in
+    let end : c.args.read.now.end ≡ length (spell_of before) + length (spell_of area) = omega (arith, ends, b.placed.place) in
+    let (item, more, is, n) = next_drawn sign octets before area rest c.args.read.now c.args.layer c.loop-cursor.cursor c.args.plane.now c.loop-cursor.plane s end c.loop-cursor-test.true c.lay-next.result
+    (λ earlier behind x counted. laid_first c.args.read.now.lines c.item_from-next.result c.lay-next.result earlier behind x counted (c.item_from-next.ensures.first sign (items_of earlier) (items_of behind) (subst (λ o. IsPlaced sign o (items_of earlier) (items_of behind) c.loop-cursor.cursor.at) (sym same) x.placed)) (c.lay-next.ensures.read octets)) in
+    (before ++ s.done, more, rest, item, subst (λ o. IsNextDrawn sign o (before ++ s.done) more rest item c.lay-next.result c.args.read.now c.loop-cursor.cursor) (sym read_same) n)
 
 pub loop-cursor-smaller : goal.loop-cursor-smaller
-loop-cursor-smaller c =
-    let i = c.loop-cursor.invariant in
-    let sign = c.args.sign.now in
-    let (before, area, rest, b, plain, ends, counted) = c.requires.known in
-    let s = i.so_far before area rest b plain ends counted in
-    let same : c.loop-cursor.source.octets ≡ c.args.source.now.octets = ap (λ (x : Counted). x.octets) i.steps.3 in
-    let end : c.args.read.now.end ≡ length (spell_of before) + length (spell_of area) = omega (arith, ends, b.placed.place) in
-    let (item, more, is, here, read, table, quiet) = area_next sign c.args.source.now.octets before area rest c.args.read.now.lines c.args.layer c.args.plane.now c.loop-cursor.cursor c.loop-cursor.plane s c.args.read.now.end end c.loop-cursor-test.true c.lay-next.result
-    (λ earlier behind x counted. laid_first c.args.read.now.lines c.in-Some.next c.lay-next.result earlier behind x counted (c.in-Some.ensures.first sign (items_of earlier) (items_of behind) (subst (λ o. IsBetween sign o earlier behind c.loop-cursor.cursor) (sym same) x).placed) (c.lay-next.ensures.read c.args.source.now.octets)) in
-    omega (arith, c.loop-cursor-test.true, c.draw_item.ensures.at, read.len, spelling_some item.item)
+loop-cursor-smaller c = omega (arith, c.loop-cursor-test.true, c.draw_next-first.ensures.forward, c.lay-next.ensures.len, c.item_from-next.ensures.some)
 
 pub loop-cursor-preserved : goal.loop-cursor-preserved
 loop-cursor-preserved c =
     let i = c.loop-cursor.invariant in
     let sign = c.args.sign.now in
     let octets = c.args.source.now.octets in
-    let next = c.lay-next.result in
-    let raw : c.lay-next.result.len ≡ c.in-Some.next.len = c.lay-next.ensures.len in
-    let at = c.draw_item.ensures.at in
-    let same : c.loop-cursor.source.octets ≡ octets = ap (λ (x : Counted). x.octets) i.steps.3 in
-    let read_same : c.next_item.new.source.octets ≡ octets = ap (λ (x : Counted). x.octets) c.in-Some.ensures.steps.3 ∙ same in
-    let (before', area', rest', b', plain', ends', counted') = c.requires.known in
-    let s' = i.so_far before' area' rest' b' plain' ends' counted' in
-    let end' : c.args.read.now.end ≡ length (spell_of before') + length (spell_of area') = omega (arith, ends', b'.placed.place) in
-    let first = λ (earlier behind : List LaidItem) (x : IsBetween sign octets earlier behind c.loop-cursor.cursor) (counted : HasCounted (whole_area sign earlier behind) c.args.read.now.lines). laid_first c.args.read.now.lines c.in-Some.next c.lay-next.result earlier behind x counted (c.in-Some.ensures.first sign (items_of earlier) (items_of behind) (subst (λ o. IsBetween sign o earlier behind c.loop-cursor.cursor) (sym same) x).placed) (c.lay-next.ensures.read octets) in
-    let some = area_next sign octets before' area' rest' c.args.read.now.lines c.args.layer c.args.plane.now c.loop-cursor.cursor c.loop-cursor.plane s' c.args.read.now.end end' c.loop-cursor-test.true next first in
-    let long : 1 ≤ next.len = omega (arith, some.4.len, spelling_some some.0.item) in
-    let both = rises_then c.args.source.now c.loop-cursor.source c.next_item.new.source 0 (9 * (c.loop-cursor.cursor.at - c.args.cursor.now.at)) 0 (9 * c.in-Some.next.len - 8) i.steps c.in-Some.ensures.steps in
-    let all = rises_then c.args.source.now c.next_item.new.source c.draw_item.new.source 0 (9 * (c.loop-cursor.cursor.at - c.args.cursor.now.at) + (9 * c.in-Some.next.len - 8)) 0 8 both c.draw_item.ensures.steps in
-    let steps : 9 * (c.loop-cursor.cursor.at - c.args.cursor.now.at) + (9 * c.in-Some.next.len - 8) + 8 ≤ 9 * (c.draw_item.new.cursor.at - c.args.cursor.now.at) = omega (arith, at, i.on, long, raw) in
-    let gone : (c.loop-cursor.cursor.at - c.args.cursor.now.at) + next.len ≡ c.draw_item.new.cursor.at - c.args.cursor.now.at = omega (arith, at, i.on) in
+    let len = c.item_from-next.result.len in
+    let d = c.draw_next-first.ensures in
+    let same : c.octet_at.new.source.octets ≡ octets = ap (λ (x : Counted). x.octets) c.octet_at.ensures.step ∙ ap (λ (x : Counted). x.octets) i.steps.3 in
+    let read_same : c.item_from-next.new.source.octets ≡ octets = ap (λ (x : Counted). x.octets) c.item_from-next.ensures.steps.3 ∙ same in
+    let gone = c.loop-cursor.cursor.at - c.args.cursor.now.at in
+    let one = rises_then c.args.source.now c.loop-cursor.source c.octet_at.new.source 0 (9 * gone + octets_read c.loop-cursor.first) 0 (1 - octets_read c.loop-cursor.first) i.steps (1 - octets_read c.loop-cursor.first, omega arith, omega arith, c.octet_at.ensures.step) in
+    let two = rises_then c.args.source.now c.octet_at.new.source c.item_from-next.new.source 0 _ 0 (9 * len - 9) one c.item_from-next.ensures.steps in
+    let three = rises_then c.args.source.now c.item_from-next.new.source c.draw_next-first.new.source 0 _ 0 _ two d.steps in
+    let forward = d.forward in
+    let on : gone + (c.draw_next-first.new.cursor.at - c.loop-cursor.cursor.at) ≡ c.draw_next-first.new.cursor.at - c.args.cursor.now.at = omega (arith, i.on, forward) in
     record {
       so_far = λ before area rest b plain ends counted.
           let s = i.so_far before area rest b plain ends counted in
           let end : c.args.read.now.end ≡ length (spell_of before) + length (spell_of area) = omega (arith, ends, b.placed.place) in
-          let (item, more, is, here, read, table, quiet) = area_next sign octets before area rest c.args.read.now.lines c.args.layer c.args.plane.now c.loop-cursor.cursor c.loop-cursor.plane s c.args.read.now.end end c.loop-cursor-test.true next first in
-          let here' = subst (λ o. IsBetween sign o (before ++ s.done) (item ∷ (more ++ rest)) c.loop-cursor.cursor) (sym read_same) here in
-          let passed = subst (λ o. IsBetween sign o ((before ++ s.done) ++ item ∷ []) (more ++ rest) c.draw_item.new.cursor) read_same (c.draw_item.ensures.passed (before ++ s.done) (more ++ rest) item here' read) in
-          area_more sign octets before area rest c.args.read.now.lines c.args.layer c.args.plane.now c.loop-cursor.cursor c.loop-cursor.plane s c.args.read.now.end end item more is c.draw_item.new.cursor c.draw_item.new.plane passed
-          (c.draw_item.ensures.drawn (before ++ s.done) (more ++ rest) item here' read quiet table);
-      on = omega (arith, at, i.on);
-      steps = rises_more c.args.source.now c.draw_item.new.source 0 _ _ steps all;
-      fills = subst (IsFilledBy sign c.args.plane.now c.draw_item.new.plane) gone (filled_then sign c.args.plane.now c.loop-cursor.plane c.draw_item.new.plane (c.loop-cursor.cursor.at - c.args.cursor.now.at) next.len i.fills c.draw_item.ensures.fills);
+          let (item, more, is, n) = next_drawn sign octets before area rest c.args.read.now c.args.layer c.loop-cursor.cursor c.args.plane.now c.loop-cursor.plane s end c.loop-cursor-test.true c.lay-next.result
+          (λ earlier behind x counted. laid_first c.args.read.now.lines c.item_from-next.result c.lay-next.result earlier behind x counted (c.item_from-next.ensures.first sign (items_of earlier) (items_of behind) (subst (λ o. IsPlaced sign o (items_of earlier) (items_of behind) c.loop-cursor.cursor.at) (sym same) x.placed)) (c.lay-next.ensures.read octets)) in
+          let drawn = d.so_far (before ++ s.done) more rest item (subst (λ o. IsNextDrawn sign o (before ++ s.done) more rest item c.lay-next.result c.args.read.now c.loop-cursor.cursor) (sym read_same) n) in
+          area_then sign octets before area rest c.args.read.now.lines c.args.layer c.loop-cursor.cursor c.draw_next-first.new.cursor c.args.plane.now c.loop-cursor.plane c.draw_next-first.new.plane s
+          (subst (λ l. AreaSoFar sign octets (before ++ s.done) l rest c.args.read.now.lines c.args.layer c.draw_next-first.new.cursor c.loop-cursor.plane c.draw_next-first.new.plane) (sym is)
+          (subst (λ o. AreaSoFar sign o (before ++ s.done) (item ∷ more) rest c.args.read.now.lines c.args.layer c.draw_next-first.new.cursor c.loop-cursor.plane c.draw_next-first.new.plane) read_same drawn));
+      on = omega (arith, i.on, forward);
+      read_behind = IfSome_then c.draw_next-first.result d.next (λ octet is. (ap (λ o. slice_get o c.draw_next-first.new.cursor.at) (sym read_same) ∙ is.0, is.1));
+      steps = rises_more c.args.source.now c.draw_next-first.new.source 0 _ _ (omega (arith, i.on, forward, c.lay-next.ensures.len, c.item_from-next.ensures.some, read_one c.loop-cursor.first)) three;
+      fills = subst (IsFilledBy sign c.args.plane.now c.draw_next-first.new.plane) on (filled_then sign c.args.plane.now c.loop-cursor.plane c.draw_next-first.new.plane gone (c.draw_next-first.new.cursor.at - c.loop-cursor.cursor.at) i.fills d.fills);
     }
 
 pub returns-clause-passed : goal.returns-clause-passed
@@ -116,8 +126,10 @@ returns-clause-steps c =
     let (before, area, rest, b, plain, ends, counted) = c.requires.known in
     let s = i.so_far before area rest b plain ends counted in
     let end : c.args.read.now.end ≡ length (spell_of before) + length (spell_of area) = omega (arith, ends, b.placed.place) in
-    let at = at_end sign c.args.source.now.octets before area rest c.args.read.now.lines c.args.layer c.args.plane.now c.loop-cursor.cursor c.loop-cursor.plane s c.args.read.now.end end (omega (arith, c.loop-cursor-test.false)) in
-    subst (λ n. RisesBetween c.args.source.now c.loop-cursor.source 0 (9 * (n - c.args.cursor.now.at))) at i.steps
+    let past : c.args.read.now.end ≤ c.loop-cursor.cursor.at = omega (arith, c.loop-cursor-test.false) in
+    let at = at_end sign c.args.source.now.octets before area rest c.args.read.now.lines c.args.layer c.args.plane.now c.loop-cursor.cursor c.loop-cursor.plane s c.args.read.now.end end past in
+    let none = none_read c.args.source.now.octets c.loop-cursor.cursor.at c.args.read.now.end c.loop-cursor.first i.read_behind past in
+    rises_more c.args.source.now c.loop-cursor.source 0 _ _ (omega (arith, at, none)) i.steps
 
 pub returns-clause-fills : goal.returns-clause-fills
 returns-clause-fills c =
@@ -128,12 +140,3 @@ returns-clause-fills c =
     let end : c.args.read.now.end ≡ length (spell_of before) + length (spell_of area) = omega (arith, ends, b.placed.place) in
     let at = at_end sign c.args.source.now.octets before area rest c.args.read.now.lines c.args.layer c.args.plane.now c.loop-cursor.cursor c.loop-cursor.plane s c.args.read.now.end end (omega (arith, c.loop-cursor-test.false)) in
     subst (λ n. IsFilledBy sign c.args.plane.now c.loop-cursor.plane (n - c.args.cursor.now.at)) at i.fills
-
-pub lay-next-requires-clause-stands : goal.lay-next-requires-clause-stands
-lay-next-requires-clause-stands c =
-    let sign = c.args.sign.now in
-    let (before, area, rest, b, plain, ends, counted) = c.requires.known in
-    let s = c.loop-cursor.invariant.so_far before area rest b plain ends counted in
-    let end : c.args.read.now.end ≡ length (spell_of before) + length (spell_of area) = omega (arith, ends, b.placed.place) in
-    let (item, more, here) = area_here sign c.args.source.now.octets before area rest c.args.read.now.lines c.args.layer c.args.plane.now c.loop-cursor.cursor c.loop-cursor.plane s c.args.read.now.end end c.loop-cursor-test.true in
-    (c.args.source.now.octets, before ++ s.done, more ++ rest, item, here)

@@ -1,8 +1,7 @@
 use Rattle.std.proofs.Common.{◌≡◌, ◌+◌, ◌-◌, ◌*◌, ◌≤◌, List, ◌++◌, length}
 use Rattle.multi_token.specs.Counted.{RisesBetween}
-use Rattle.multi_layout.specs.kept.AreaDrawing.{HasCounted, IsFilledBy, BeginsNoArea, whole_area}
+use Rattle.multi_layout.specs.kept.AreaDrawing.{AreaSoFar, HasCounted, IsFilledBy, IsReadBehind, BeginsNoArea, octets_read, whole_area}
 use Rattle.multi_layout.specs.kept.Cursors.{IsBetween, LaidItem, spell_of}
-use Rattle.multi_layout.proofs.AreaDrawLemmas.{AreaSoFar}
 use Rattle.multi_layout.proofs.draw.draw_area.Given as goal
 
 -- the area's items so far are drawn
@@ -12,7 +11,8 @@ invariant-loop-cursor l = record {
       → HasCounted (whole_area l.sign before (area ++ rest)) l.read.lines
       → AreaSoFar l.sign l.initial.source.octets before area rest l.read.lines l.layer l.cursor l.initial.plane l.plane;
   on : l.initial.cursor.at ≤ l.cursor.at;
-  steps : RisesBetween l.initial.source l.source 0 (9 * (l.cursor.at - l.initial.cursor.at));
+  read_behind : IsReadBehind l.initial.source.octets l.cursor.at l.read.end l.first;
+  steps : RisesBetween l.initial.source l.source 0 (9 * (l.cursor.at - l.initial.cursor.at) + octets_read l.first);
   fills : IsFilledBy l.sign l.initial.plane l.plane (l.cursor.at - l.initial.cursor.at);
 }
 

@@ -1,15 +1,23 @@
-use Rattle.std.proofs.Common.{◌≡◌, ℕ, ◌^◌, List, [], ◌∷◌, ◌++◌, map, Option, Some, None, sym, ap, ◌∙◌, subst, arith}
+use Rattle.std.proofs.Common.{◌≡◌, ℕ, ◌+◌, ◌^◌, List, [], ◌∷◌, ◌++◌, map, Option, Some, None, refl, sym, ap, ◌∙◌, subst, arith}
+use Rattle.std.specs.Option.{unwrap_or}
+use Rattle.std.proofs.lemmas.Option.{IfSome_then}
 use Rattle.multi_token.proofs.ReadingLemmas.{spelling_some}
 use Rattle.sign_font.specs.Sign.{cell_in}
+use Rattle.multi_layout.specs.declared.attributes.Attributes.{Attributes}
+use Rattle.multi_layout.specs.declared.place.Place.{Place}
 use Rattle.multi_layout.specs.kept.Cursors.{meant}
-use Rattle.multi_layout.specs.Address.{spots, standing, in_area}
+use Rattle.multi_layout.specs.kept.State.{attributes_of}
+use Rattle.multi_layout.specs.Place.{place_of}
+use Rattle.multi_layout.specs.Address.{Glyph, spots, standing, in_area}
 use Rattle.multi_layout.specs.kept.KnownItem.{meant_by}
 use Rattle.multi_layout.specs.Meaning.{begins_area, Does, has_place, Meaning, Shows}
 use Rattle.multi_layout.specs.Offence.{unsized_offence}
-use Rattle.multi_layout.specs.kept.AreaDrawing.{HasCounted, IsDrawnTo}
-use Rattle.multi_layout.proofs.DrawLemmas.{low_between, cell_height, map_split, four_octets, tag_drawn, rows_few, tag_filled}
+use Rattle.multi_layout.specs.kept.AreaDrawing.{HasCounted, IsDrawnTo, NextStandsAt}
+use Rattle.multi_layout.proofs.BesideLemmas.{beside_stands, same_standing}
+use Rattle.multi_layout.proofs.DrawLemmas.{low_between, cell_height, glyph_drawn, map_split, four_octets, tag_drawn, rows_few, tag_filled}
 use Rattle.multi_layout.proofs.BoundLemmas.{below_more}
 use Rattle.multi_layout.proofs.JudgedLemmas.{unsized-undefined}
+use Rattle.multi_layout.proofs.PaintLemmas.{stands_at}
 use Rattle.multi_layout.proofs.PieceLemmas.{itself}
 use Rattle.multi_layout.proofs.WalkLemmas.{never_offends}
 use Rattle.multi_layout.proofs.draw.draw_item.Goals as goal
@@ -25,38 +33,66 @@ unreachable-requires c =
     let wrong : ◌≡◌ {A = Option ℕ} (Some 7) None = sym offends ∙ ap (unsized_offence sign (map meant before)) (sym shows) ∙ fine in
     cc
 
-pub put_character-requires-clause-below : goal.put_character-requires-clause-below
-put_character-requires-clause-below c =
+pub place_at-place-requires-clause-below : goal.place_at-place-requires-clause-below
+place_at-place-requires-clause-below c =
     let (before, rest, item, b, read, counted) = c.requires.known in
     below_more (2 ^ 42) (2 ^ 43) c.args.cursor.now.state.area (omega arith) (low_between c.args.sign.now c.args.source.now.octets before (item ∷ rest) c.args.cursor.now b)
-
-pub put_character-requires-clause-height : goal.put_character-requires-clause-height
-put_character-requires-clause-height c =
-    let sign = c.args.sign.now in
-    let (before, rest, item, b, read, counted) = c.requires.known in
-    let found : cell_in sign c.args.cursor.now.state.attributes.font.number c.in-Char.number ≡ Some c.in-Some.cell = sym c.cell.ensures.cell ∙ c.in-Some.is in
-    (cell_height sign (map meant before) c.args.cursor.now.state b.state_is c.in-Char.number c.in-Some.cell found).0
 
 pub returns-in-Some-clause-passed : goal.returns-in-Some-clause-passed
 returns-in-Some-clause-passed c = λ before rest item b read.
     let sign = c.args.sign.now in
     let found : cell_in sign c.args.cursor.now.state.attributes.font.number c.in-Char.number ≡ Some c.in-Some.cell = sym c.cell.ensures.cell ∙ c.in-Some.is in
-    c.pass_character.ensures.passed sign c.args.source.now.octets before rest item c.in-Some.cell b (record { meant = read.meant ∙ ap meant_by c.in-Char.is; known = tt; len = read.len }) found c.width.ensures
+    c.pass_character.ensures.passed sign c.args.source.now.octets before rest item c.in-Some.cell b (record { meant = read.meant ∙ ap meant_by c.in-Char.is; known = tt; len = read.len }) found c.width-width.ensures
 
 pub returns-in-Some-clause-drawn : goal.returns-in-Some-clause-drawn
-returns-in-Some-clause-drawn c = λ before rest item b read plain counted drawn.
+returns-in-Some-clause-drawn c = λ before rest item b read plain counted.
     let sign = c.args.sign.now in
-    let shows : meant item ≡ Shows c.in-Char.number = read.meant ∙ ap meant_by c.in-Char.is in
-    let found : cell_in sign c.args.cursor.now.state.attributes.font.number c.in-Char.number ≡ Some c.in-Some.cell = sym c.cell.ensures.cell ∙ c.in-Some.is in
-    let all = map_split before rest item (Shows c.in-Char.number) shows in
-    let one = map_split before [] item (Shows c.in-Char.number) shows in
+    let state = c.args.cursor.now.state in
+    let number = c.in-Char.number in
+    let shows : meant item ≡ Shows number = read.meant ∙ ap meant_by c.in-Char.is in
+    let found : cell_in sign state.attributes.font.number number ≡ Some c.in-Some.cell = sym c.cell.ensures.cell ∙ c.in-Some.is in
     let k = (standing sign (map meant before)).area in
     let fine = ap (unsized_offence sign (map meant before)) (sym shows) ∙ never_offends sign c.args.source.now.octets before rest item c.args.cursor.now b in
-    let put = c.put_character.ensures.drawn (map meant before) (map meant rest) c.in-Char.number b.state_is found fine
-    (subst (λ (ms : List Meaning). HasCounted (in_area k (spots sign ms)) c.args.lines.now) all counted)
-    (subst (λ (ms : List Meaning). IsDrawnTo sign c.args.layer ms (map meant before) c.args.plane.now) all drawn) in
-    subst (λ (ms : List Meaning). IsDrawnTo sign c.args.layer ms (map meant (before ++ item ∷ [])) c.put_character.new.plane) (sym all)
-    (subst (λ (ms : List Meaning). IsDrawnTo sign c.args.layer (map meant before ++ Shows c.in-Char.number ∷ map meant rest) ms c.put_character.new.plane) (sym one) put)
+    let lines = subst (λ (ms : List Meaning). HasCounted (in_area k (spots sign ms)) c.args.lines.now) (map_split before rest item (Shows number) shows) counted in
+    let stands = stands_at sign (map meant before) state b.state_is number c.in-Some.cell found (map meant rest) c.args.lines.now lines c.place_at-place.result
+    (λ earlier all spot glyph attributes wide area group there apart order. c.place_at-place.ensures.place earlier all spot glyph attributes (wide ∙ sym c.width-width.ensures) area (c.group-lines.ensures.lines ∙ group) there apart order) fine in
+    glyph_drawn sign c.args.layer before rest item number shows c.args.plane.now c.put_character.new.plane
+    (c.put_character.ensures.drawn (map meant before) (map meant rest) state number b.state_is refl found stands)
+
+pub returns-in-Some-clause-beside : goal.returns-in-Some-clause-beside
+returns-in-Some-clause-beside c =
+    IfSome_then c.beside.result c.beside.ensures.beside
+    (λ next is before rest item b read counted.
+    let sign = c.args.sign.now in
+    let state = c.args.cursor.now.state in
+    let number = c.in-Char.number in
+    let items = map meant before in
+    let shows : meant item ≡ Shows number = read.meant ∙ ap meant_by c.in-Char.is in
+    let found : cell_in sign state.attributes.font.number number ≡ Some c.in-Some.cell = sym c.cell.ensures.cell ∙ c.in-Some.is in
+    let all = map_split before rest item (Shows number) shows in
+    let fine = ap (unsized_offence sign items) (sym shows) ∙ never_offends sign c.args.source.now.octets before rest item c.args.cursor.now b in
+    let lines = subst (λ (ms : List Meaning). HasCounted (in_area (standing sign items).area (spots sign ms)) c.args.lines.now) all counted in
+    let stands = stands_at sign items state b.state_is number c.in-Some.cell found (map meant rest) c.args.lines.now lines c.place_at-place.result
+    (λ earlier all spot glyph attributes wide area group there apart order. c.place_at-place.ensures.place earlier all spot glyph attributes (wide ∙ sym c.width-width.ensures) area (c.group-lines.ensures.lines ∙ group) there apart order) fine in
+    let behind = beside_stands sign items state b.state_is number c.in-Some.cell found (map meant (before ++ item ∷ rest)) c.place_at-place.result _ is.0 refl
+    (λ cell numbered. stands cell numbered ∙ ap (λ ms. place_of (spots sign items) (spots sign ms) (record { at = standing sign items; put = Glyph cell })) (sym all)) in
+    let here : Place = record { column = c.place_at-place.result.column + (c.in-Some.cell.width + unwrap_or state.attributes.spacing state.attributes.font.char_spacing); row = c.place_at-place.result.row } in
+    let wide = ap (λ n. let p : Place = record { column = c.place_at-place.result.column + (n + unwrap_or state.attributes.spacing state.attributes.font.char_spacing); row = c.place_at-place.result.row } in p) (sym c.width-width.ensures) in
+    subst (NextStandsAt sign (map meant (before ++ item ∷ [])) (map meant (before ++ item ∷ rest))) (wide ∙ sym is.1)
+    (subst (λ ms. NextStandsAt sign ms (map meant (before ++ item ∷ rest)) here) (sym (map_split before [] item (Shows number) shows)) behind))
+
+pub returns-in-Some-clause-apart : goal.returns-in-Some-clause-apart
+returns-in-Some-clause-apart c =
+    let sign = c.args.sign.now in
+    let state = c.args.cursor.now.state in
+    let number = c.in-Char.number in
+    let (before, rest, item, b, read, counted) = c.requires.known in
+    let shows : meant item ≡ Shows number = read.meant ∙ ap meant_by c.in-Char.is in
+    let found : cell_in sign state.attributes.font.number number ≡ Some c.in-Some.cell = sym c.cell.ensures.cell ∙ c.in-Some.is in
+    let new = c.pass_character.ensures.passed sign c.args.source.now.octets before rest item c.in-Some.cell b (record { meant = shows; known = tt; len = read.len }) found c.width-width.ensures in
+    let same : c.pass_character.new.self.state.attributes ≡ state.attributes =
+    new.state_is.attributes ∙ ap (λ ms. attributes_of (standing sign ms)) (map_split before [] item (Shows number) shows) ∙ ap attributes_of (same_standing sign (map meant before) number) ∙ sym b.state_is.attributes in
+    IfSome_then c.beside.result c.beside.ensures.beside (λ next is five. is.0 (ap (λ (a : Attributes). a.line_just) (sym same) ∙ five))
 
 pub returns-in-Some-clause-fills : goal.returns-in-Some-clause-fills
 returns-in-Some-clause-fills c =
