@@ -3,7 +3,8 @@ use Rattle.std.proofs.Common.{◌≡◌, ℕ, Bool, true, ◌+◌, ◌-◌, ◌*
 use Rattle.std.specs.List.{All}
 use Rattle.std.proofs.lemmas.List.{map-append}
 use Rattle.std.proofs.lemmas.List.Elements.{All-nil, All-push}
-use Rattle.multi_token.specs.Counted.{Counted, RisesBetween}
+use Rattle.std.specs.Prelude.{if◌then◌else◌}
+use Rattle.multi_token.specs.Counted.{Counted, RisesBetween, charged}
 use Rattle.multi_token.specs.Spelling.{Item}
 use Rattle.multi_token.proofs.ReadingLemmas.{spelling_some}
 use Rattle.multi_token.proofs.StepLemmas.{rises_more, rises_then}
@@ -38,13 +39,30 @@ use Rattle.multi_layout.proofs.WalkLemmas.{few_placed, fine_items, placed_more, 
 use Rattle.multi_layout.proofs.WholeAreaLemmas.{counted_whole}
 use Rattle.multi_layout.proofs.WordLemmas.{left_nil, some_after-append}
 
--- the steps of one more item
-pub steps_on : (at : ℕ) (source a b d : Counted) (from to len : ℕ) → from ≤ at → to ≡ at + len → at < to
-    → RisesBetween source a 0 (9 * (at - from)) → RisesBetween a b 0 (9 * len - 8) → RisesBetween b d 0 8 → RisesBetween source d 0 (9 * (to - from))
-steps_on at source a b d from to len low on more earlier item passing =
-    let all : 9 * (at - from) + (9 * len - 8) + 8 ≤ 9 * (to - from) = omega arith in
-    rises_more source d 0 _ _ all
-    (rises_then source b d 0 (9 * (at - from) + (9 * len - 8)) 0 8 (rises_then source a b 0 (9 * (at - from)) 0 (9 * len - 8) earlier item) passing)
+-- the steps of one more item, and of what goes on behind it, the octet there too
+pub steps_on : (source a b d e : Counted) (from at len to : ℕ) (octet : Bool) → from ≤ at → at + len ≤ to → 1 ≤ len → (octet ≡ false → to ≡ at + len)
+    → RisesBetween source a 0 (9 * (at - from)) → RisesBetween a b 0 (9 * len - 9) → RisesBetween b d 0 8 → (octet ≡ true → d ≡ charged b 1) → RisesBetween d e 1 (if octet then 2 * (to - (at + len)) + 3 else 1)
+    → RisesBetween source e 0 (9 * (to - from))
+steps_on source a b d e from at len to octet low on some alone earlier item passing one further = of octet refl
+  where
+    both : RisesBetween source b 0 (9 * (at - from) + (9 * len - 9))
+    both = rises_then source a b 0 (9 * (at - from)) 0 (9 * len - 9) earlier item
+
+    of : (is : Bool) → octet ≡ is → RisesBetween source e 0 (9 * (to - from))
+    of true is =
+        let step : RisesBetween b d 0 1 = (1, omega arith, omega arith, one is) in
+        let last : RisesBetween d e 1 (2 * (to - (at + len)) + 3) = subst (λ (o : Bool). RisesBetween d e 1 (if o then 2 * (to - (at + len)) + 3 else 1)) is further in
+        let all = rises_then source d e 0 (9 * (at - from) + (9 * len - 9) + 1) 1 (2 * (to - (at + len)) + 3) (rises_then source b d 0 (9 * (at - from) + (9 * len - 9)) 0 1 both step) last in
+        (all.0, omega arith, omega (arith, all.2), all.3)
+    of false is =
+        let last : RisesBetween d e 1 1 = subst (λ (o : Bool). RisesBetween d e 1 (if o then 2 * (to - (at + len)) + 3 else 1)) is further in
+        let all = rises_then source d e 0 (9 * (at - from) + (9 * len - 9) + 8) 1 1 (rises_then source b d 0 (9 * (at - from) + (9 * len - 9)) 0 8 both passing) last in
+        (all.0, omega arith, omega (arith, all.2, alone is), all.3)
+
+-- reading the first of some items, or their end, takes a step
+first_some : (items : List Item) → 1 ≤ first_steps items
+first_some [] = omega arith
+first_some (item ∷ items) = omega (arith, spelling_some item)
 
 abbrev item_at : LaidItem → Item
 item_at piece = piece.item
@@ -192,7 +210,7 @@ module _ {words : Bool} {sign : SignData} {octets : List ℕ} {before behind : L
   -- the end of the area
   pub area_read : sign.line_fill ≡ fill_of words → (start : Cursor) (read : AreaLines) (source source' source'' : Counted) → start.at ≡ length (spell_of before) → EndsArea (map meaning (items_of so.left))
       → HasCounted (present_area sign (laid_items (fill_of words) sign (map meaning (items_of done)) (map meaning (items_of done)))) read.lines → IsOrdered read.lines → IsLow read.lines → read.end ≡ at
-      → RisesBetween source source' 0 (9 * (at - start.at)) → RisesBetween source' source'' 0 (first_steps (items_of so.left)) → IsAreaRead sign before behind start read source source''
+      → RisesBetween source source' 0 (9 * (at - start.at) + 1) → RisesBetween source' source'' 0 (first_steps (items_of so.left) - 1) → IsAreaRead sign before behind start read source source''
   area_read kind start read source source' source'' place ends counted ordered low end earlier last =
       let ms = map meaning (items_of done) in
       let rest = map meaning (items_of so.left) in
@@ -204,7 +222,7 @@ module _ {words : Bool} {sign : SignData} {octets : List ℕ} {before behind : L
       ap (map meant) pieces ∙ so.laid ∙ ap (λ l. laid_items sign.line_fill sign l l) items ∙ ap (λ (setting : LineFill). laid_items setting sign (ms ++ rest) (ms ++ rest)) kind in
       let whole : whole_area sign before behind ≡ in_area (standing sign ms).area (spots sign (laid_items (fill_of words) sign (ms ++ rest) (ms ++ rest))) =
       ap (λ k. in_area k (spots sign (map meant (before ++ behind)))) (sym so.same_area) ∙ ap (λ l. in_area (standing sign ms).area (spots sign l)) all in
-      let steps : 9 * (at - start.at) ≡ 9 * length (spell_of so.pieces) = omega (arith, long) in
+      let all_steps = rises_then source source' source'' 0 (9 * (at - start.at) + 1) 0 (first_steps (items_of so.left) - 1) earlier last in
       record {
         area = so.pieces;
         rest = so.left;
@@ -215,5 +233,5 @@ module _ {words : Bool} {sign : SignData} {octets : List ℕ} {before behind : L
         table = subst (λ a. HasCounted a read.lines) (sym whole) (counted_among words sign ms rest ends read.lines counted);
         ordered = ordered;
         low = low;
-        steps = rises_then source source' source'' 0 (9 * length (spell_of so.pieces)) 0 (first_steps (items_of so.left)) (subst (RisesBetween source source' 0) steps earlier) last;
+        steps = rises_more source source'' 0 _ _ (omega (arith, long, first_some (items_of so.left))) all_steps;
       }

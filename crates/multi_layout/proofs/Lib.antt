@@ -89,6 +89,7 @@ pub mod ReadLemmas
 pub mod RectangleLemmas
 pub mod RoomLemmas
 pub mod RunLemmas
+mod RunLinesLemmas
 pub mod RunReadLemmas
 pub mod SkipLemmas
 pub mod SplitLemmas

@@ -1,8 +1,8 @@
 //! The items of a string, as they are read.
 
-ghost use Rattle.std.specs.Prelude.{◌≡◌, Err};
+ghost use Rattle.std.specs.Prelude.{◌≡◌, Err, true};
 ghost use Rattle.multi_layout.specs.Codes.{code_of};
-ghost use Rattle.multi_layout.specs.kept.KnownItem.{meant_by};
+ghost use Rattle.multi_layout.specs.kept.KnownItem.{IsOctet, meant_by};
 ghost use Rattle.multi_layout.specs.Meaning.{begins_area, Faulty, has_place, is_new_page, meaning_of_tag};
 ghost use Rattle.multi_layout.specs.kept.AreaDrawing.{ends_line};
 
@@ -43,6 +43,16 @@ impl KnownItem {
         ensures { result ≡ has_place (meant_by self) }
     {
         matches!(self, KnownItem::Char(_) | KnownItem::Tag(Tag::NewLine(_)))
+    }
+
+    /// Whether the item is a character whose number is that of an octet.
+    pub(crate) fn is_octet(self) -> bool
+        ensures { result ≡ true → IsOctet self }
+    {
+        match self {
+            KnownItem::Char(number) => number <= 255,
+            KnownItem::Tag(_) => false,
+        }
     }
 
     /// Whether the item ends a line.

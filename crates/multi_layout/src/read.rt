@@ -1,8 +1,8 @@
 //! The first reading of an area, for the table of its lines.
 
-ghost use Rattle.std.specs.Prelude.{◌≡◌, ◌≢◌, ℕ, ◌+◌, ◌-◌, ◌*◌, ◌^◌, ◌≤◌, ◌<◌, [], ◌∷◌, ◌++◌, List, Some, IfSome, IfNone, map, true, false};
+ghost use Rattle.std.specs.Prelude.{◌≡◌, ◌≢◌, ℕ, ◌+◌, ◌-◌, ◌*◌, ◌^◌, ◌≤◌, ◌<◌, [], ◌∷◌, ◌++◌, List, Some, IfSome, IfNone, length, map, slice_get, true, false, if◌then◌else◌};
 ghost use Rattle.std.specs.List.{All};
-ghost use Rattle.multi_token.specs.Counted.{RisesBetween};
+ghost use Rattle.multi_token.specs.Counted.{RisesBetween, charged};
 ghost use Rattle.multi_token.specs.Spelling as spelled;
 ghost use Rattle.sign_font.specs.declared.parts.LineFill.TheVariants.{Off, Words};
 ghost use Rattle.sign_font.specs.Sign.{SignData};
@@ -10,12 +10,12 @@ ghost use Rattle.sign_font.specs.Sound.{IsSound};
 ghost use Rattle.multi_layout.specs.Address.{Spot};
 ghost use Rattle.multi_layout.specs.declared.item.KnownItem.TheVariants as items;
 ghost use Rattle.multi_layout.specs.declared.item.KnownItem.TheVariants.{Char};
-ghost use Rattle.multi_layout.specs.kept.AreaReading.{IsNextRead, IsReadOf};
-ghost use Rattle.multi_layout.specs.kept.KnownItem.{meant_by};
+ghost use Rattle.multi_layout.specs.kept.AreaReading.{GoesOn, IsNextRead, IsReadOf};
+ghost use Rattle.multi_layout.specs.kept.KnownItem.{IsOctet, meant_by};
 ghost use Rattle.multi_layout.specs.Meaning.{begins_area, Does, EndsArea, has_place, meaning};
 ghost use Rattle.multi_layout.specs.kept.PassState.{fill_of};
 ghost use Rattle.multi_layout.specs.kept.AreaDrawing.{HasKnown, HasRoom, IsAreaRead, IsLow, first_steps, next_group};
-ghost use Rattle.multi_layout.specs.kept.State.{present_area};
+ghost use Rattle.multi_layout.specs.kept.State.{IsReady, present_area};
 ghost use Rattle.multi_layout.specs.kept.Sums.{IsBelow, IsPlacing, area_sum};
 ghost use Rattle.multi_layout.specs.kept.Table.{IsNarrowArea, IsOrdered, group_lines};
 ghost use Rattle.multi_layout.specs.kept.Cursors.{IsBetween, IsFirst, IsPlaced, IsWithin, meant, LaidItem};
@@ -24,6 +24,7 @@ use crate::area::Area;
 use crate::cursor::Cursor;
 use crate::item::{KnownItem, NextItem};
 use crate::pass::Pass;
+use crate::run::go_along;
 use crate::state::State;
 use crate::table::{CountedLine, LineTable};
 use crate::terms::Terms;
@@ -88,30 +89,57 @@ fn read_lines<const WORDS: bool>(
 {
     let mut cursor = cursor;
     let mut kept = Pass::new(cursor.state);
-    while let Some(next) = next_plain(&cursor, source) {
+    let mut first = source.read(cursor.at);
+    while let Some(next) = next_plain(&cursor, source, first) {
         pass_item::<WORDS>(sign, source, &mut kept, next.item, &mut read.lines);
-        cursor.at += next.len;
+        let behind = cursor.at + next.len;
+        (cursor.at, first) = go_on::<WORDS>(sign, source, &mut kept, behind, next.item.is_octet());
     }
     end_group(&mut read.lines, &kept.state.area);
     read.end = cursor.at;
 }
 
-/// Reads the next item, or `None` where the area ends.
-fn next_plain(cursor: &Cursor, source: &mut Source<'_>) -> Option<NextItem>
-    requires { (sign : SignData) × IsWithin sign source.old.octets cursor.now.at }
+/// The next item, which begins with this octet that was read, or `None` where the area ends.
+fn next_plain(cursor: &Cursor, source: &mut Source<'_>, first: Option<u8>) -> Option<NextItem>
+    requires within { (sign : SignData) × IsWithin sign source.old.octets cursor.now.at }
+    requires stands { first ≡ slice_get source.old.octets cursor.now.at }
+    requires room { length source.old.octets < 2 ^ 63 }
     ensures first { IfSome result (λ next. (sign : SignData) (before behind : List spelled.Item)
         → IsPlaced sign source.old.octets before behind cursor.now.at → IsFirst behind (Some next)) }
     ensures plain { IfSome result (λ next. begins_area (meant_by next.item) ≡ false) }
-    ensures steps { IfSome result (λ next. RisesBetween source.old source.new 0 (9 * next.len - 8)) }
+    ensures some { IfSome result (λ next. 1 ≤ next.len) }
+    ensures steps { IfSome result (λ next. RisesBetween source.old source.new 0 (9 * next.len - 9)) }
     ensures ends { IfNone result ((sign : SignData) (before behind : List spelled.Item)
         → IsPlaced sign source.old.octets before behind cursor.now.at
-        → EndsArea (map meaning behind) × RisesBetween source.old source.new 0 (first_steps behind)) }
+        → EndsArea (map meaning behind) × RisesBetween source.old source.new 0 (first_steps behind - 1)) }
 {
-    let next = cursor.next_item(source)?;
+    let next = cursor.item_from(source, first?);
     if next.item.begins_area() {
         return None;
     }
     Some(next)
+}
+
+/// Goes behind the characters that only lengthen the line of the one before them, if that is an octet and they are there: the offset
+/// there, and the octet, which is read.
+fn go_on<const WORDS: bool>(
+    sign: &Terms<'_>,
+    source: &mut Source<'_>,
+    kept: &mut Pass,
+    at: usize,
+    octet: bool,
+) -> (usize, Option<u8>)
+    requires small { (IsReady kept.old.state) × (length source.old.octets < 2 ^ 32) }
+    requires within { at ≤ length source.old.octets }
+    ensures gone { GoesOn WORDS sign.now source.old.octets at kept.old result.0 kept.new }
+    ensures next { result.1 ≡ slice_get source.old.octets result.0 }
+    ensures steps { RisesBetween source.old source.new 1 (if octet then 2 * (result.0 - at) + 3 else 1) }
+    ensures alone { octet ≡ false → result.0 ≡ at }
+{
+    if WORDS || !octet || !kept.state.is_behind_character() {
+        return (at, source.read(at));
+    }
+    go_along(sign, &mut kept.state, source, at)
 }
 
 /// Goes behind the next item of an area, and puts the lines that it ends into the table: the last one of a group that it leaves, and
@@ -132,6 +160,7 @@ fn pass_item<const WORDS: bool>(
         → IsReadOf WORDS sign.now before kept.old.state.area.present kept.old lines.old
         → IsNextRead sign.now before next item
         → IsReadOf WORDS sign.now (before ++ next ∷ []) kept.new.state.area.present kept.new lines.new }
+    ensures octet { IsOctet item → source.new ≡ charged source.old 1 }
     ensures steps { RisesBetween source.old source.new 0 8 }
 {
     leave_group(lines, item, &kept.state);
@@ -157,6 +186,7 @@ fn pass_shown<const WORDS: bool>(
         → IsReadOf WORDS sign.now before kept.old.state.attributes.page_just kept.old lines.old
         → IsNextRead sign.now before next (Char number)
         → IsReadOf WORDS sign.now (before ++ next ∷ []) kept.new.state.area.present kept.new lines.new }
+    ensures step { number ≤ 255 → source.new ≡ charged source.old 1 }
     ensures steps { RisesBetween source.old source.new 0 8 }
 {
     let font = kept.state.attributes.font.number;

@@ -1,11 +1,12 @@
 //! Characters behind one with the same attributes: each only lengthens the line that they share.
 
-ghost use Rattle.std.specs.Prelude.{◌≡◌, ◌+◌, ◌^◌, ◌<◌, ◌≤◌, true, List, length};
+ghost use Rattle.std.specs.Prelude.{◌≡◌, ◌+◌, ◌-◌, ◌*◌, ◌^◌, ◌<◌, ◌≤◌, true, List, length, slice_get};
+ghost use Rattle.multi_token.specs.Counted.{RisesBetween};
 ghost use Rattle.sign_font.specs.Sign.{SignData};
 ghost use Rattle.multi_layout.specs.Meaning.{Meaning};
 ghost use Rattle.multi_layout.specs.kept.PassState.{IsPassBehind, IsPassOf};
 ghost use Rattle.multi_layout.specs.kept.Judging.{IsAt, IsBehind};
-ghost use Rattle.multi_layout.specs.kept.Run.{Fits, IsBehindCharacter, IsRun, lengthened, line_in_force};
+ghost use Rattle.multi_layout.specs.kept.Run.{Fits, IsBehindCharacter, IsRun, IsRunPassed, lengthened, line_in_force};
 ghost use Rattle.multi_layout.specs.kept.State.{IsReady, IsStateOf, IsUnfilledOf};
 
 use crate::fill_run::judge_text;
@@ -99,6 +100,25 @@ fn judge_line(
     requires character { IsBehindCharacter state.old }
     ensures further { at ≤ result.0 }
     ensures at { IsAt sign.now source.old.octets result.0 result.1 (IsUnfilledOf sign.now state.new) source.new }
+{
+    go_along(sign, state, source, at)
+}
+
+/// Goes behind the characters from an offset on that only lengthen the line of the one before them: the offset behind them, and the
+/// octet read there.
+#[inline(always)]
+pub(crate) fn go_along(
+    sign: &Terms<'_>,
+    state: &mut State,
+    source: &mut Source<'_>,
+    at: usize,
+) -> (usize, Option<u8>)
+    requires character { IsBehindCharacter state.old }
+    requires small { (IsReady state.old) × (length source.old.octets < 2 ^ 32) }
+    requires within { at ≤ length source.old.octets }
+    ensures run { IsRunPassed sign.now source.old.octets at state.old result.0 state.new }
+    ensures next { result.1 ≡ slice_get source.old.octets result.0 }
+    ensures steps { RisesBetween source.old source.new (2 * (result.0 - at) + 1) (2 * (result.0 - at) + 3) }
 {
     let run = state.run();
     let font = state.attributes.font.number;

@@ -1,10 +1,11 @@
 -- The first reading of an area, for the table of its lines (own).
-use Rattle.std.specs.Prelude.{◌≡◌, ℕ, ◌^◌, ◌≤◌, Bool, List, [], ◌∷◌, ◌++◌, Option, map, length}
+use Rattle.std.specs.Prelude.{◌≡◌, ℕ, ◌^◌, ◌≤◌, Bool, false, ◌⊎◌, List, [], ◌∷◌, ◌++◌, Option, map, length}
 use Rattle.multi_token.specs.Spelling.{Item}
 use Rattle.sign_font.specs.Sign.{SignData}
 use Rattle.multi_layout.specs.declared.pass.Pass.{Pass}
 use Rattle.multi_layout.specs.declared.item.KnownItem.{KnownItem}
 use Rattle.multi_layout.specs.declared.line.Line.{Line}
+use Rattle.multi_layout.specs.declared.state.State.{State}
 use Rattle.multi_layout.specs.declared.table.LineTable.{LineTable}
 use Rattle.multi_layout.specs.Address.{Spot, in_group}
 use Rattle.multi_layout.specs.kept.FillSums.{EndsLine}
@@ -13,6 +14,7 @@ use Rattle.multi_layout.specs.LaidItems.{laid_items}
 use Rattle.multi_layout.specs.Meaning.{Meaning, Shows, meaning}
 use Rattle.multi_layout.specs.kept.AreaDrawing.{HasKnown, IsLow}
 use Rattle.multi_layout.specs.kept.PassState.{IsPassOf, fill_of}
+use Rattle.multi_layout.specs.kept.Run.{IsBehindCharacter, IsRunPassed}
 use Rattle.multi_layout.specs.kept.State.{present_area}
 use Rattle.multi_layout.specs.kept.Table.{IsOrdered}
 use Rattle.multi_layout.specs.Verdict.{offences}
@@ -52,3 +54,11 @@ pub record IsCharacterPassed (words : Bool) (sign : SignData) (items : List Mean
       → in_group just (laid_area words sign (items ++ Shows number ∷ [])) ≡ in_group just (laid_area words sign items)
   pub own : EndsLine (in_group old.state.attributes.page_just (laid_area words sign items))
       (in_group old.state.attributes.page_just (laid_area words sign (items ++ Shows number ∷ []))) ended
+
+-- the new is the old one at the same offset, or, where lines aren't filled, with the characters up to a later offset, which lengthen the
+-- line of the one before them (own)
+abbrev pub GoesOn : Bool → SignData → List ℕ → ℕ → Pass → ℕ → Pass → Type 0
+GoesOn words sign octets at old at' new =
+    ((at' ≡ at) × (new ≡ old))
+    ⊎ ((words ≡ false) × IsBehindCharacter old.state × (state : State) × (new ≡ record old { state = state })
+    × IsRunPassed sign octets at old.state at' state)

@@ -1,4 +1,5 @@
 -- The items of a string, as they are read.
+use Rattle.std.specs.Prelude.{◌≤◌}
 use Rattle.multi_layout.specs.declared.item.KnownItem.{KnownItem}
 use Rattle.multi_layout.specs.declared.item.KnownItem.TheVariants.{Char, Tag}
 use Rattle.multi_layout.specs.Meaning.{Meaning, Shows, Does}
@@ -13,3 +14,8 @@ meant_by (Tag tag) = Does tag
 abbrev pub IsKnownItem : KnownItem → Type 0
 IsKnownItem (Char number) = Unit {0}
 IsKnownItem (Tag tag) = IsKnown tag
+
+-- a character whose number is that of an octet (own)
+abbrev pub IsOctet : KnownItem → Type 0
+IsOctet (Char number) = number ≤ 255
+IsOctet (Tag tag) = ⊥

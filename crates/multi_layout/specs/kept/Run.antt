@@ -1,13 +1,19 @@
 -- A run: characters behind one with the same attributes, which only lengthen their segment.
-use Rattle.std.specs.Prelude.{◌≡◌, ℕ, ◌+◌, ◌≤◌, Bool, true, false, ◌&&◌, ◌==◌, nat_le, nat_lt, Some, if◌then◌else◌}
+use Rattle.std.specs.Prelude.{◌≡◌, ℕ, ◌+◌, ◌-◌, ◌≤◌, Bool, true, false, ◌&&◌, ◌==◌, nat_le, nat_lt, List, Some, length, slice_range, if◌then◌else◌}
+use Rattle.std.specs.List.{All}
 use Rattle.std.specs.Option.{option_map_or, unwrap_or}
+use Rattle.multi_token.specs.Spelling.{IsPlain}
 use Rattle.sign_font.specs.declared.font.FontInfo.{FontInfo}
+use Rattle.sign_font.specs.Sign.{SignData}
+use Rattle.sign_font.specs.Text.{HasWidth, width_in}
 use Rattle.multi_layout.specs.declared.area.Area.{Area}
 use Rattle.multi_layout.specs.declared.area.Group.{Group}
 use Rattle.multi_layout.specs.declared.line.Line.{Line}
 use Rattle.multi_layout.specs.declared.state.State.{State}
 use Rattle.multi_layout.specs.Fit.{fit}
 use Rattle.multi_layout.specs.Line.{average}
+use Rattle.multi_layout.specs.Meaning.{Meaning}
+use Rattle.multi_layout.specs.kept.State.{IsStateOf}
 
 -- the width of the characters with a line justification, by what is kept of the line: left 2, centre 3, right 4, full 5 (own)
 abbrev pub kept_width : ℕ → Line → ℕ
@@ -106,3 +112,18 @@ pub record IsRun (state : State) (gap room : ℕ) : Type 0 where
   pub room_is :
       (width count : ℕ) → 1 ≤ width
       → kept_fits state.attributes.rectangle.width (lengthened_line width count (line_in_force state)) ≡ nat_le width room
+
+-- the octets between two offsets are characters that lengthen the segment of the one before them, by these pixels: they go into what is
+-- left where the line fits, and the new state is the old one with them (own)
+pub record IsRunPassed (sign : SignData) (octets : List ℕ) (at : ℕ) (state : State) (at' : ℕ) (state' : State) : Type 0 where
+  pub gap : ℕ
+  pub left : ℕ
+  pub pixels : ℕ
+  pub forward : at ≤ at'
+  pub within : at' ≤ length octets
+  pub plain : All IsPlain (slice_range octets at at')
+  pub width : HasWidth (width_in sign state.attributes.font.number) gap (slice_range octets at at') pixels
+  pub narrow : pixels ≤ left
+  pub run : (items : List Meaning) (sign : SignData) → IsStateOf sign items state → Fits state
+      → IsRun state gap ((line_in_force state).part.width + left)
+  pub is : state' ≡ lengthened ((line_in_force state).part.width + pixels) ((line_in_force state).part.count + (at' - at)) state

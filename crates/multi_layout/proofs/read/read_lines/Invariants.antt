@@ -1,4 +1,4 @@
-use Rattle.std.proofs.Common.{◌==◌, not, ◌≡◌, ◌≤◌, ◌-◌, ◌*◌, List, [], map, length}
+use Rattle.std.proofs.Common.{◌==◌, not, ◌≡◌, ◌≤◌, ◌-◌, ◌*◌, List, [], map, length, ◌+◌, slice_get}
 use Rattle.multi_token.specs.Counted.{RisesBetween}
 use Rattle.multi_layout.specs.kept.State.{present_area}
 use Rattle.multi_layout.specs.kept.Cursors.{IsBetween, meant, LaidItem}
@@ -11,6 +11,7 @@ invariant-loop-next g l = record {
   so_far : (before behind : List LaidItem) → IsBetween l.sign l.initial.source.octets before behind l.initial.cursor
       → present_area l.sign (map meant before) ≡ [] → SoFar (not (g.row.WORDS == 0)) l.sign l.initial.source.octets before behind l.cursor.at l.kept l.read.lines;
   forward : l.initial.cursor.at ≤ l.cursor.at;
+  first : l.first ≡ slice_get l.initial.source.octets l.cursor.at;
   steps : RisesBetween l.initial.source l.source 0 (9 * (l.cursor.at - l.initial.cursor.at));
 }
 
