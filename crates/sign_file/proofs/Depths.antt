@@ -6,7 +6,7 @@ use Rattle.std.specs.Cmp.Lexicographic.{slice_cmp}
 use Rattle.toml_parser.specs.Strings.{Key}
 use Rattle.toml.specs.Data.{Data, table, Items, no_items, item, no_members, depth, items_depth, members_depth, push_item, same_key}
 use Rattle.toml.specs.Tables.{implicit, dotted, header, Node, value, open_table, open_array, Nodes, no_nodes, node, close, close_node, get_node, insert, replace, Edit, header_node, dot_node, by_header, by_dot, along_header, along_dots, Definition, key_value, std_table, array_table, Expression, new_node, redefine, at_found, at_key, put, Document, define_as, define}
-use Rattle.sign_file.proofs.PassedKeys.{option_map_some}
+use Rattle.sign_file.proofs.PassedWords.{option_map_some}
 
 pub pushed : (items : Items) (last : Data) → items_depth (push_item items last) ≡ max (items_depth items) (depth last)
 pushed no_items last = grind arith

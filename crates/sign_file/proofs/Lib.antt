@@ -6,5 +6,6 @@ pub mod OnLiterals
 pub mod PassedDocument
 pub mod PassedKeys
 pub mod PassedOver
+pub mod PassedWords
 pub mod SignFileLemmas
 pub mod SignFileRows
