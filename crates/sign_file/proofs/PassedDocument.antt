@@ -15,7 +15,8 @@ use Rattle.toml.specs.Tables.{Nodes, no_nodes, close, Expression, Document, put,
 use Rattle.toml.specs.Parse.{after_byte, after_element, atom, ends_line, expression, header_key, items, key_equals, keyval, line, lines, members, parse_document, skip_bom, val}
 use Rattle.sign_file.specs.Names.{names, names_in, names_of_pair, names_of_items, names_of_members, names_of_value, names_of_line, names_of_lines}
 use Rattle.sign_file.proofs.PassedOver.{IsOk, over_ok, string_ok, end_ok, opening_ok, closing_ok, fewer_ok, reset_ok, ws_ok, blank_ok, line_end_ok}
-use Rattle.sign_file.proofs.PassedWords.{option_map_some, unquoted_ok}
+use Rattle.sign_file.proofs.OptionLemmas.{option_map_some}
+use Rattle.sign_file.proofs.PassedWords.{unquoted_ok}
 use Rattle.sign_file.proofs.PassedKeys.{key_ok}
 use Rattle.sign_file.proofs.Depths.{pushed, nodes_depth, deep_of, put_deepens, define_deepens}
 
