@@ -1,8 +1,8 @@
 -- A date or a time has one dot at most.
-use Rattle.std.proofs.Common.{◌≡◌, ℕ, ◌+◌, ◌≤◌, Bool, false, ◌&&◌, ◌==◌, if◌then◌else◌, List, [], ◌∷◌, drop, slice_index, Option, Some, None, option_map, option_and_then, refl, ap, inl, inr, arith}
+use Rattle.std.proofs.Common.{◌≡◌, ℕ, ◌+◌, ◌≤◌, Bool, false, ◌&&◌, ◌==◌, if◌then◌else◌, List, [], ◌∷◌, drop, slice_index, Option, Some, None, option_and_then, refl, ap, inl, inr, arith}
 use Rattle.std.proofs.lemmas.Bool.{cases_Bool}
 use Rattle.std.proofs.lemmas.Bool.Decides.{nat_tests}
-use Rattle.std.proofs.lemmas.Option.{none-some, same_Some, cond_some, option_and_then_some}
+use Rattle.std.proofs.lemmas.Option.{none-some, same_Some, some_pair_parts, cond_some, option_and_then_some}
 use Rattle.std.specs.List.{prefix_len}
 use Rattle.std.specs.Char.{is_ascii_digit}
 use Rattle.toml_datetime.specs.Parse.{Read, after_byte, two_digits, full_date, nanoseconds, optional, seconds, partial_time, offset_minutes, time_offset, is_zulu, is_time_delim, whole, after_time, after_date, parse_datetime}
@@ -10,7 +10,7 @@ use Rattle.toml_datetime.specs.declared.datetime.Date.{Date}
 use Rattle.toml_datetime.specs.declared.datetime.Time.{Time}
 use Rattle.toml_datetime.specs.declared.datetime.Datetime.{Datetime}
 use Rattle.toml_parser.specs.Lexical.{first}
-use Rattle.sign_file.proofs.OptionLemmas.{option_map_some}
+use Rattle.sign_file.proofs.OptionLemmas.{option_map_some, read_map_some}
 use Rattle.sign_file.proofs.Dots.{dots_in, digits_dots, one_more, no_more}
 
 -- what was read has this many dots at most
@@ -24,10 +24,10 @@ two_digits_dots (a ∷ []) value rest read = absurd (none-some _ read)
 two_digits_dots (a ∷ b ∷ more) value rest read =
     elim (cases_Bool (is_ascii_digit a && is_ascii_digit b)) [
       | inl digits ↦
-          let same : more ≡ rest = ap (λ p. p.1) (same_Some _ (value, rest) (rw digits at read)) in
-          let first_other : (a == 46) ≡ false = grind (arith, nat_tests) in
-          let second_other : (b == 46) ≡ false = grind (arith, nat_tests) in
-          rw (first_other, second_other, same) (omega arith)
+          let one = no_more (a ∷ b ∷ more) (grind (arith, nat_tests)) in
+          let two = no_more (b ∷ more) (grind (arith, nat_tests)) in
+          let as_many = ap dots_in (some_pair_parts _ value more rest (rw digits at read)).1 in
+          omega arith
       | inr other ↦ absurd (none-some _ (rw other at read))
     ]
 
@@ -36,9 +36,9 @@ after_byte_dots byte [] rest other read = absurd (none-some rest read)
 after_byte_dots byte (c ∷ cs) rest other read =
     elim (cases_Bool (c == byte)) [
       | inl is ↦
-          let same : cs ≡ rest = same_Some cs rest (rw is at read) in
-          let no_dot : (c == 46) ≡ false = grind (arith, nat_tests) in
-          rw (no_dot, same) (omega arith)
+          let one = no_more (c ∷ cs) (grind (arith, nat_tests)) in
+          let as_many = ap dots_in (same_Some cs rest (rw is at read)) in
+          omega arith
       | inr another ↦ absurd (none-some rest (rw another at read))
     ]
 
@@ -57,15 +57,15 @@ if_rest b v w text rest read = ap (λ p. dots_in p.1) (cond_some b (v, text) (w,
 full_date_dots : HasDots 0 full_date
 unfolding full_date
 full_date_dots text value rest read =
-    option_and_then_some _ (two_digits text) (value, rest) read λ century is1 read1.
-    option_and_then_some _ (two_digits century.1) (value, rest) read1 λ year is2 read2.
-    option_and_then_some _ (option_and_then two_digits (after_byte 45 year.1)) (value, rest) read2 λ month is3 read3.
-    option_and_then_some _ (option_and_then two_digits (after_byte 45 month.1)) (value, rest) read3 λ day is4 read4.
-    let century_dots = two_digits_dots text century.0 century.1 is1 in
-    let year_dots = two_digits_dots century.1 year.0 year.1 is2 in
-    let month_dots = after_digits_dots 45 year.1 month.0 month.1 refl is3 in
-    let day_dots = after_digits_dots 45 month.1 day.0 day.1 refl is4 in
-    let same = if_rest _ _ value day.1 rest read4 in
+    option_and_then_some _ (two_digits text) (value, rest) read λ century century_is century_more.
+    option_and_then_some _ (two_digits century.1) (value, rest) century_more λ year year_is year_more.
+    option_and_then_some _ (option_and_then two_digits (after_byte 45 year.1)) (value, rest) year_more λ month month_is month_more.
+    option_and_then_some _ (option_and_then two_digits (after_byte 45 month.1)) (value, rest) month_more λ day day_is day_more.
+    let century_dots = two_digits_dots text century.0 century.1 century_is in
+    let year_dots = two_digits_dots century.1 year.0 year.1 year_is in
+    let month_dots = after_digits_dots 45 year.1 month.0 month.1 refl month_is in
+    let day_dots = after_digits_dots 45 month.1 day.0 day.1 refl day_is in
+    let same = if_rest _ _ value day.1 rest day_more in
     omega arith
 
 nanoseconds_dots : HasDots 0 nanoseconds
@@ -75,9 +75,8 @@ nanoseconds_dots text value rest read =
     elim (cases_Bool (len == 0)) [
       | inl none ↦ absurd (none-some _ (rw none at read))
       | inr some ↦
-          let same : drop len text ≡ rest = ap (λ p. p.1) (same_Some _ (value, rest) (rw some at read)) in
           let digits = digits_dots text in
-          let as_many : dots_in (drop len text) ≡ dots_in rest = ap dots_in same in
+          let as_many = ap dots_in (some_pair_parts _ value (drop len text) rest (rw some at read)).1 in
           omega arith
     ]
 
@@ -85,13 +84,12 @@ fraction_dots : HasDots 1 (optional 46 nanoseconds)
 fraction_dots text value rest read =
     elim (cases_Bool (first text == 46)) [
       | inl dot ↦
-          option_map_some _ (nanoseconds (drop 1 text)) (value, rest) (rw dot at read) λ digits is same.
-          let after = nanoseconds_dots (drop 1 text) digits.0 digits.1 is in
+          read_map_some _ (nanoseconds (drop 1 text)) value rest (rw dot at read) λ fraction is same.
+          let after = nanoseconds_dots (drop 1 text) fraction rest is in
           let before = one_more text in
-          let as_many : dots_in digits.1 ≡ dots_in rest = ap (λ p. dots_in p.1) same in
           omega arith
       | inr none ↦
-          let as_many : dots_in text ≡ dots_in rest = ap (λ p. dots_in p.1) (same_Some (None, text) (value, rest) (rw none at read)) in
+          let as_many = ap dots_in (some_pair_parts None value text rest (rw none at read)).1 in
           omega arith
     ]
 
@@ -101,45 +99,36 @@ seconds_dots text value rest read =
     elim (cases_Bool (first text == 58)) [
       | inl colon ↦
           option_and_then_some _ (two_digits (drop 1 text)) (value, rest) (rw colon at read) λ second is more.
-          option_map_some _ (optional 46 nanoseconds second.1) (value, rest) more λ fraction found same.
+          read_map_some _ (optional 46 nanoseconds second.1) value rest more λ fraction found same.
           let before = no_more text (grind (arith, nat_tests)) in
           let digits = two_digits_dots (drop 1 text) second.0 second.1 is in
-          let after = fraction_dots second.1 fraction.0 fraction.1 found in
-          let as_many : dots_in fraction.1 ≡ dots_in rest = ap (λ p. dots_in p.1) same in
+          let after = fraction_dots second.1 fraction rest found in
           omega arith
       | inr none ↦
-          let as_many : dots_in text ≡ dots_in rest = ap (λ p. dots_in p.1) (same_Some ((None, None), text) (value, rest) (rw none at read)) in
+          let as_many = ap dots_in (some_pair_parts (None, None) value text rest (rw none at read)).1 in
           omega arith
     ]
 
 partial_time_dots : HasDots 1 partial_time
 unfolding partial_time
 partial_time_dots text value rest read =
-    option_and_then_some _ (two_digits text) (value, rest) read λ hour is1 read1.
-    option_and_then_some _ (option_and_then two_digits (after_byte 58 hour.1)) (value, rest) read1 λ minute is2 read2.
-    option_and_then_some _ (seconds minute.1) (value, rest) read2 λ more is3 read3.
-    let hour_dots = two_digits_dots text hour.0 hour.1 is1 in
-    let minute_dots = after_digits_dots 58 hour.1 minute.0 minute.1 refl is2 in
-    let more_dots = seconds_dots minute.1 more.0 more.1 is3 in
-    let same = if_rest _ _ value more.1 rest read3 in
+    option_and_then_some _ (two_digits text) (value, rest) read λ hour hour_is hour_more.
+    option_and_then_some _ (option_and_then two_digits (after_byte 58 hour.1)) (value, rest) hour_more λ minute minute_is minute_more.
+    option_and_then_some _ (seconds minute.1) (value, rest) minute_more λ second second_is second_more.
+    let hour_dots = two_digits_dots text hour.0 hour.1 hour_is in
+    let minute_dots = after_digits_dots 58 hour.1 minute.0 minute.1 refl minute_is in
+    let second_dots = seconds_dots minute.1 second.0 second.1 second_is in
+    let same = if_rest _ _ value second.1 rest second_more in
     omega arith
 
 offset_minutes_dots : HasDots 0 offset_minutes
 unfolding offset_minutes
 offset_minutes_dots text value rest read =
-    option_and_then_some _ (two_digits text) (value, rest) read λ hours is1 read1.
-    option_and_then_some _ (option_and_then two_digits (after_byte 58 hours.1)) (value, rest) read1 λ minutes is2 read2.
-    let hours_dots = two_digits_dots text hours.0 hours.1 is1 in
-    let minutes_dots = after_digits_dots 58 hours.1 minutes.0 minutes.1 refl is2 in
-    let same = if_rest _ _ value minutes.1 rest read2 in
-    omega arith
-
--- an offset in minutes, after its sign
-signed_dots : {A : Type 0} (f : ℕ → A) (text : List ℕ) (value : A) (rest : List ℕ) → option_map {U = A × List ℕ} (λ p. (f p.0, p.1)) (offset_minutes text) ≡ Some (value, rest) → dots_in text ≤ dots_in rest
-signed_dots f text value rest read =
-    option_map_some _ (offset_minutes text) (value, rest) read λ minutes is same.
-    let digits = offset_minutes_dots text minutes.0 minutes.1 is in
-    let as_many : dots_in minutes.1 ≡ dots_in rest = ap (λ p. dots_in p.1) same in
+    option_and_then_some _ (two_digits text) (value, rest) read λ hours hours_is hours_more.
+    option_and_then_some _ (option_and_then two_digits (after_byte 58 hours.1)) (value, rest) hours_more λ minutes minutes_is minutes_more.
+    let hours_dots = two_digits_dots text hours.0 hours.1 hours_is in
+    let minutes_dots = after_digits_dots 58 hours.1 minutes.0 minutes.1 refl minutes_is in
+    let same = if_rest _ _ value minutes.1 rest minutes_more in
     omega arith
 
 time_offset_dots : HasDots 0 time_offset
@@ -148,19 +137,17 @@ time_offset_dots [] value rest read = absurd (none-some _ read)
 time_offset_dots (c ∷ cs) value rest read =
     elim (cases_Bool (is_zulu c)) [
       | inl zulu ↦
-          let as_many : dots_in cs ≡ dots_in rest = ap (λ p. dots_in p.1) (same_Some _ (value, rest) (rw zulu at read)) in
-          let no_dot : (c == 46) ≡ false = grind (arith, nat_tests) in
-          rw no_dot (omega arith)
+          let one = no_more (c ∷ cs) (grind (arith, nat_tests)) in
+          let as_many = ap dots_in (some_pair_parts _ value cs rest (rw zulu at read)).1 in
+          omega arith
       | inr no_zulu ↦ elim (cases_Bool (c == 43)) [
         | inl plus ↦
-            let after = signed_dots _ cs value rest (rw (no_zulu, plus) at read) in
-            let no_dot : (c == 46) ≡ false = grind (arith, nat_tests) in
-            rw no_dot (omega arith)
+            let one = no_more (c ∷ cs) (grind (arith, nat_tests)) in
+            read_map_some _ (offset_minutes cs) value rest (rw (no_zulu, plus) at read) λ minutes is same. omega (arith, offset_minutes_dots cs minutes rest is)
         | inr no_plus ↦ elim (cases_Bool (c == 45)) [
           | inl dash ↦
-              let after = signed_dots _ cs value rest (rw (no_zulu, no_plus, dash) at read) in
-              let no_dot : (c == 46) ≡ false = grind (arith, nat_tests) in
-              rw no_dot (omega arith)
+              let one = no_more (c ∷ cs) (grind (arith, nat_tests)) in
+              read_map_some _ (offset_minutes cs) value rest (rw (no_zulu, no_plus, dash) at read) λ minutes is same. omega (arith, offset_minutes_dots cs minutes rest is)
           | inr none ↦ absurd (none-some _ (rw (no_zulu, no_plus, none) at read))
         ]
       ]
@@ -185,10 +172,10 @@ after_date_dots date (c ∷ cs) value read =
     elim (cases_Bool (is_time_delim c)) [
       | inl delim ↦
           option_and_then_some _ (partial_time cs) value (rw delim at read) λ time is more.
+          let one = no_more (c ∷ cs) (grind (arith, nat_tests)) in
           let before = partial_time_dots cs time.0 time.1 is in
           let after = after_time_dots date time.0 time.1 value more in
-          let no_dot : (c == 46) ≡ false = grind (arith, nat_tests) in
-          rw no_dot (omega arith)
+          omega arith
       | inr none ↦ absurd (none-some value (rw none at read))
     ]
 

@@ -1,12 +1,12 @@
 -- What the look at nesting passes over in a text that TOML's grammar reads.
-use Rattle.std.proofs.Common.{◌≡◌, ℕ, zero, suc, ◌+◌, ◌-◌, ◌≤◌, nat_le, Bool, true, false, not, ◌&&◌, ◌||◌, ◌==◌, if◌then◌else◌, List, [], ◌∷◌, ◌++◌, drop, length, Some, refl, sym, ap, subst, ◌∙◌, inl, inr, arith}
+use Rattle.std.proofs.Common.{◌≡◌, ℕ, zero, suc, ◌+◌, ◌-◌, ◌≤◌, Bool, true, false, not, ◌&&◌, ◌||◌, ◌==◌, List, [], ◌∷◌, drop, Some, refl, sym, ◌∙◌, inl, inr, arith}
 use Rattle.std.proofs.lemmas.Bool.{cases_Bool, true≢false, and_parts}
 use Rattle.std.proofs.lemmas.Bool.Decides.{nat_tests}
-use Rattle.std.specs.List.{prefix_len, list_all}
+use Rattle.std.specs.List.{prefix_len}
 use Rattle.toml_parser.specs.Lexical.{first, is_ws, skip_blank, skip_from, skip_ws}
 use Rattle.toml_parser.specs.Strings.{quoted, starts_string}
 use Rattle.toml.specs.Parse.{ends_line}
-use Rattle.sign_file.specs.Nesting.{opens, closes, ends_name, mark_of, most_open, most_dots, outside}
+use Rattle.sign_file.specs.Nesting.{opens, closes, ends_name, mark_of, outside}
 use Rattle.sign_file.proofs.NestingLemmas.{fits_in, open_after, dots_after, most_dots-more, goes_on, fits_nothing, is_over, outside_over, outside_string, outside_mark}
 
 -- no more than 16 brackets are open at once, and no name has more than `most` dots, in a text after so many of both, however far it is looked at

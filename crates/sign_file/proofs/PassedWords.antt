@@ -10,7 +10,7 @@ use Rattle.std.specs.List.{prefix_len, list_all}
 use Rattle.std.specs.Char.{is_ascii_digit}
 use lib.Seq.{get_or-drop}
 use Rattle.toml_parser.specs.Lexical.{first, is_word}
-use Rattle.toml_parser.specs.Numbers.{number, unquoted, word_len, word_value}
+use Rattle.toml_parser.specs.Numbers.{unquoted, word_len, word_value}
 use Rattle.toml_parser.specs.declared.scalar.Scalar.{Scalar}
 use Rattle.sign_file.proofs.PassedOver.{IsOk, plain_ok, dot_ok, fewer_ok}
 use Rattle.sign_file.proofs.OptionLemmas.{option_map_some}
