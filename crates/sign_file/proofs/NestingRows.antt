@@ -38,10 +38,6 @@ they_are_counted_as_five = refl
 
 numbers_and_dates_are_no_names : is_shallow (codes "a.b.c.d = [1.5, 2.5, 3.5, 4.5, 1979-05-27 07:32:00.5]\n") ≡ true
 unfolding sign_file_on_literals
-they_are_counted_as_five : map parts (names (codes "a.b.c.d.e = 1")) ≡ 5 ∷ []
-unfolding sign_file_on_literals
-they_are_counted_as_five = refl
-
 numbers_and_dates_are_no_names = refl
 
 names_of_headers_and_pairs : names (codes "[a.b]\nc.d = 1.5 # e.f\n") ≡ (codes "a" ∷ [], codes "b") ∷ (codes "c" ∷ [], codes "d") ∷ []
