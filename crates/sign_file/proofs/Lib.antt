@@ -1,10 +1,15 @@
+pub mod DateDots
 pub mod Depths
+pub mod Dots
 pub mod EntryLemmas
 pub mod NestingLemmas
 pub mod NestingRows
+pub mod NumberDots
 pub mod OnLiterals
+pub mod OptionLemmas
 pub mod PassedDocument
 pub mod PassedKeys
 pub mod PassedOver
+pub mod PassedWords
 pub mod SignFileLemmas
 pub mod SignFileRows

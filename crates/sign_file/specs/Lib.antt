@@ -1,4 +1,5 @@
 pub mod Keys
+pub mod Names
 pub mod Nesting
 pub mod SignKeys
 pub mod SignFile

@@ -1,9 +1,10 @@
 -- How deep the octets of a text nest, seen before they are read as TOML.
-use Rattle.std.specs.Prelude.{ℕ, zero, suc, ◌-◌, ◌≤◌, ◌≡◌, Bool, true, ◌&&◌, ◌||◌, ◌==◌, nat_le, max, if◌then◌else◌, List, [], ◌∷◌, length, drop, None, Some}
+use Rattle.std.specs.Prelude.{ℕ, zero, suc, ◌-◌, ◌≤◌, ◌≡◌, Bool, true, ◌&&◌, ◌||◌, ◌==◌, nat_le, max, if◌then◌else◌, List, [], ◌∷◌, length, drop, All, None, Some}
 use Rattle.toml_parser.specs.Lexical.{Read, line_feed, hash, comma, dot, equals, left_bracket, right_bracket, left_brace, right_brace, first, skip_blank}
 use Rattle.toml_parser.specs.Strings.{quoted, starts_string}
 use Rattle.toml.specs.Data.{Members, members_depth}
 use Rattle.toml.specs.Parse.{parse_document, skip_bom}
+use Rattle.sign_file.specs.Names.{names, parts}
 
 -- What comes after a string, if the string is one (own).
 abbrev pub after_string : (List ℕ → List ℕ) → Read (List ℕ) → List ℕ
@@ -59,6 +60,10 @@ brackets_limit = 16
 abbrev pub dots_limit : ℕ
 dots_limit = 3
 
+-- How many parts they may have (own).
+abbrev pub parts_limit : ℕ
+parts_limit = suc dots_limit
+
 -- Whether these octets nest no deeper than they may, after so many open brackets and dots of a name (own).
 abbrev pub fits : ℕ → ℕ → List ℕ → Bool
 fits opened dots octets = nat_le (most_open opened octets) brackets_limit && nat_le (most_dots dots octets) dots_limit
@@ -72,3 +77,9 @@ abbrev pub FewLevelsFit : Type 0
 FewLevelsFit =
     (text : List ℕ) (keys : Members) → parse_document text ≡ Some keys → members_depth keys ≤ brackets_limit
     → nat_le (most_open 0 (outside (suc (length text)) (skip_bom text))) brackets_limit ≡ true
+
+-- No text is refused whose arrays and tables are nested no deeper, and none of whose names has more parts, than may be (own).
+abbrev pub ShortNamesFit : Type 0
+ShortNamesFit =
+    (text : List ℕ) (keys : Members) → parse_document text ≡ Some keys → members_depth keys ≤ brackets_limit
+    → All (λ name. parts name ≤ parts_limit) (names text) → is_shallow text ≡ true

@@ -25,4 +25,4 @@ mod sign;
 
 pub use fault::FileFault;
 pub use file::{SignFile, read_sign_file};
-pub use nesting::{deep_at, few_levels_fit};
+pub use nesting::{deep_at, few_levels_fit, short_names_fit};

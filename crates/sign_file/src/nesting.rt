@@ -3,7 +3,7 @@
 ghost use Rattle.std.specs.Prelude.{◌≡◌, ◌<◌, ◌≤◌, ℕ, ◌∷◌, List, length, slice_index, is_none, IfErr, IfOk, IfSome};
 ghost use Rattle.toml.specs.Parse as grammar;
 ghost use Rattle.sign_file.specs.Nesting as spec;
-ghost use Rattle.sign_file.specs.Nesting.{FewLevelsFit, fits, is_shallow};
+ghost use Rattle.sign_file.specs.Nesting.{FewLevelsFit, ShortNamesFit, fits, is_shallow};
 ghost use Rattle.sign_file.specs.kept.Octets.{IsWithin, fits_after};
 
 use crate::fault::FileFault;
@@ -144,4 +144,9 @@ pub fn deep_at(alloc: Global, text: &str) -> Result<Option<usize>, FileFault>
 /// No text is refused for its brackets whose arrays and tables, as TOML has them, are nested at most 16 deep (own).
 pub fn few_levels_fit()
     ensures { FewLevelsFit }
+{}
+
+/// No text is refused whose arrays and tables, as TOML has them, are nested at most 16 deep, and whose names have at most 4 parts (own).
+pub fn short_names_fit()
+    ensures { ShortNamesFit }
 {}

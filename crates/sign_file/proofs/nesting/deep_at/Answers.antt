@@ -21,7 +21,7 @@ returns-then-octet-eq0-clause-shallow c =
     let l = c.octets in
     let (text, within, n, room, known) = l.invariant in
     let over : is_over (first l.rest.now) ≡ true = grind (arith, nat_tests, common_steps) in
-    sym (fits_nothing l.nested.brackets l.nested.dots within.brackets within.dots)
+    sym (fits_nothing 3 l.nested.brackets l.nested.dots within.brackets within.dots)
     ∙ ap (fits l.nested.brackets l.nested.dots) (sym (outside_over n l.rest.now over))
     ∙ known
 
@@ -30,7 +30,7 @@ returns-in-Err-At-clause-shallow c =
     let l = c.octets in
     let (text, within, n, room, known) = l.invariant in
     let going : is_over (first l.rest.now) ≡ false = grind (arith, nat_tests, common_steps) in
-    sym (fits_nothing l.nested.brackets l.nested.dots within.brackets within.dots)
+    sym (fits_nothing 3 l.nested.brackets l.nested.dots within.brackets within.dots)
     ∙ ap (fits l.nested.brackets l.nested.dots) (sym (outside_no_string n l.rest.now going (grind arith) (c.in-Err-At.ensures.value (λ memory. absurd (grind arith)))))
     ∙ known
 
