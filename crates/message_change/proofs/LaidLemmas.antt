@@ -1,23 +1,21 @@
 -- The characters of a page as they are laid out, and the flashes in force where they stand.
-use Rattle.std.proofs.Common.{◌≡◌, ◌⊎◌, ℕ, ◌+◌, Bool, true, false, ◌==◌, ◌&&◌, cond, List, [], ◌∷◌, ◌++◌, Option, Some, None, IfSome, refl, sym, ap, ◌∙◌, subst, inl, inr, append-nil, append_assoc, eq-eqb}
+use Rattle.std.proofs.Common.{◌≡◌, ◌⊎◌, ℕ, ◌+◌, true, false, ◌==◌, cond, List, [], ◌∷◌, ◌++◌, Option, Some, None, IfSome, refl, sym, ap, ◌∙◌, subst, inl, inr, append-nil, append_assoc, eq-eqb}
 use Rattle.std.proofs.lemmas.Bool.{cases_Bool}
 use Rattle.std.specs.List.{AllByRecursion, cons_option}
 use Rattle.std.specs.Option.{option_map, unwrap_or}
-use Rattle.multi_tag.specs.declared.tag.Tag.{Tag}
-use Rattle.multi_tag.specs.declared.tag.Tag.TheVariants.{NewPage, NewLine, LineJust, PageJust, Font, CharSpacing, CharSpacingEnd, PageTime, Flash, FlashEnd, Fore, Back, Rect, HexChar}
+use Rattle.multi_tag.specs.declared.tag.Tag.TheVariants.{NewPage, NewLine}
 use Rattle.sign_font.specs.declared.parts.LineFill.{LineFill}
 use Rattle.sign_font.specs.Sign.{CellData, SignData, cell_numbered}
-use Rattle.multi_layout.specs.Address.{Break, Cover, Glyph, Put, Spot, Standing, is_break, put_at, spot_at, spots, standing}
+use Rattle.multi_layout.specs.Address.{Break, Cover, Glyph, Put, Spot, Standing, is_break, spot_at, spots, standing}
 use Rattle.multi_layout.specs.Attributes.{given_flash}
 use Rattle.multi_layout.specs.declared.attributes.FlashTimes.{FlashTimes}
 use Rattle.multi_layout.specs.Laid.{laid_spot}
 use Rattle.multi_layout.specs.LaidItems.{laid_of, laid_out}
 use Rattle.multi_layout.specs.Line.{given_gap}
-use Rattle.multi_layout.specs.Meaning.{Does, Faulty, Meaning, Shows, is_new_page}
-use Rattle.multi_layout.specs.kept.State.{standing_behind}
+use Rattle.multi_layout.specs.Meaning.{Does, Meaning, Shows, is_new_page}
 use Rattle.multi_layout.specs.Words.{each_after, some_after}
 use Rattle.multi_layout.proofs.StandingLemmas.{standing_push}
-use Rattle.message_change.specs.Change.{IsBefore, flash_left, flash_on, is_shown, page_flashes}
+use Rattle.message_change.specs.Change.{IsBefore, flash_left, flash_on, page_flashes}
 
 -- an item as it is laid out: the item itself, or the end of a line for one that begins no page and gives no flash
 abbrev Alike : SignData → Meaning → Meaning → Type 0

@@ -1,7 +1,7 @@
 //! A message, drawn.
 ghost use Rattle.std.specs.Prelude.{◌≡◌, ◌<◌, ◌≤◌, ◌^◌, IfErr, IfOk, length};
 ghost use Rattle.page_picture.specs.Shown.{IsThere};
-ghost use Rattle.message_picture.specs.Drawn.{AllowsSeconds, IsDrawn, IsNoFilm, IsNoMoment, IsUndrawn, ppm_of, seen};
+ghost use Rattle.message_picture.specs.Drawn.{AllowsSeconds, IsDrawn, IsNoFilm, IsNoMoment, IsUndrawn, seen};
 
 use crate::view::{Moment, View};
 use message_film::{FilmFault, as_it_plays, still};
@@ -29,6 +29,17 @@ pub enum DrawFault {
     TooLong { tenths: u32 },
 }
 
+impl From<AllocError> for DrawFault {
+    ghost use Rattle.std.specs.Prelude.{◌≡◌};
+    ghost use Rattle.message_picture.specs.declared.draw.DrawFault.TheVariants.{Memory};
+
+    ghost from_gives = { λ _ fault. fault ≡ Memory };
+
+    fn from(_refused: AllocError) -> DrawFault {
+        DrawFault::Memory
+    }
+}
+
 /// What is shown of a string at a moment.
 fn seen_at(checked: &mut Checked<'_>, moment: Moment) -> Result<Shown, DrawFault>
     requires { length checked.old.source.octets < 2 ^ 32 }
@@ -49,24 +60,6 @@ fn seen_at(checked: &mut Checked<'_>, moment: Moment) -> Result<Shown, DrawFault
     }
 }
 
-/// What is shown of a string, as a file in PPM.
-fn ppm_file(
-    alloc: Global,
-    sign: &Sign,
-    checked: &mut Checked<'_>,
-    shown: Shown,
-    side: u8,
-) -> Result<Vec<u8>, AllocError>
-    requires sign { checked.old.sign ≡ sign.now }
-    requires there { IsThere checked.old.source.octets shown }
-    ensures { IfOk result (λ file. file.items ≡ ppm_of side sign.now checked.old.source.octets shown) }
-{
-    let colours = PageColours::of_shown(alloc, sign, checked, shown)?;
-    let mut file = Vec::new(alloc);
-    colours.push_scaled_ppm(&mut file, sign.classic(), side)?;
-    Ok(file)
-}
-
 /// A moment of a string, as a file in PPM.
 fn draw_ppm(
     alloc: Global,
@@ -80,38 +73,11 @@ fn draw_ppm(
     ensures drawn { IfOk result (λ file. IsDrawn side sign.now checked.old.source.octets (View.Ppm moment) file.items) }
     ensures fault { IfErr result (IsNoMoment checked.old.source.octets moment) }
 {
-    let shown = match seen_at(checked, moment) {
-        Ok(shown) => shown,
-        Err(fault) => return Err(fault),
-    };
-    match ppm_file(alloc, sign, checked, shown, side) {
-        Ok(file) => Ok(file),
-        Err(_) => Err(DrawFault::Memory),
-    }
-}
-
-/// A moment of a string, as a file in GIF.
-fn draw_gif(
-    alloc: Global,
-    sign: &Sign,
-    checked: &mut Checked<'_>,
-    moment: Moment,
-    side: u8,
-) -> Result<Vec<u8>, DrawFault>
-    requires sign { checked.old.sign ≡ sign.now }
-    requires short { length checked.old.source.octets < 2 ^ 32 }
-    requires side { side ≤ 16 }
-    ensures drawn { IfOk result (λ file. IsDrawn side sign.now checked.old.source.octets (View.Gif moment) file.items) }
-    ensures fault { IfErr result (IsNoMoment checked.old.source.octets moment) }
-{
-    let shown = match seen_at(checked, moment) {
-        Ok(shown) => shown,
-        Err(fault) => return Err(fault),
-    };
-    match still(alloc, sign, checked, shown, side) {
-        Ok(file) => Ok(file),
-        Err(_) => Err(DrawFault::Memory),
-    }
+    let shown = seen_at(checked, moment)?;
+    let colours = PageColours::of_shown(alloc, sign, checked, shown)?;
+    let mut file = Vec::new(alloc);
+    colours.push_scaled_ppm(&mut file, sign.classic(), side)?;
+    Ok(file)
 }
 
 /// A string as it plays, as a file in GIF.
@@ -162,7 +128,10 @@ pub fn draw_message(
 {
     match view {
         View::Ppm { moment } => draw_ppm(alloc, sign, checked, moment, side),
-        View::Gif { moment } => draw_gif(alloc, sign, checked, moment, side),
+        View::Gif { moment } => {
+            let shown = seen_at(checked, moment)?;
+            Ok(still(alloc, sign, checked, shown, side)?)
+        }
         View::Film { seconds } => draw_film(alloc, sign, checked, octets, seconds, side),
     }
 }

@@ -1,4 +1,4 @@
-use Rattle.std.proofs.Common.{◌≡◌, ◌+◌, ◌-◌, ◌≤◌, ◌∷◌, drop, ap, subst, arith}
+use Rattle.std.proofs.Common.{◌≡◌, ◌+◌, ◌-◌, ◌∷◌, drop, ap, subst, arith}
 use Rattle.multi_token.specs.Counted.{Counted}
 use Rattle.multi_token.proofs.ReadingLemmas.{spelling_some}
 use Rattle.multi_token.proofs.StepLemmas.{rises_then}

@@ -1,4 +1,4 @@
-use Rattle.std.proofs.Common.{◌≡◌, sym, ap, ◌∙◌}
+use Rattle.std.proofs.Common.{ap, ◌∙◌}
 use Rattle.multi_token.specs.Tokens.{body_of}
 use Rattle.multi_tag.proofs.TagOfLemmas.{tag_of-read}
 use Rattle.multi_layout.specs.Meaning.{meaning_of_tag}

@@ -1,4 +1,4 @@
-use Rattle.std.proofs.Common.{◌≡◌, ◌%◌, ◌<◌, sym, ap, subst, ◌∙◌, arith}
+use Rattle.std.proofs.Common.{◌≡◌, ◌%◌, ◌<◌, sym, ap, subst, ◌∙◌}
 use Rattle.multi_layout.specs.Meaning.{meanings}
 use Rattle.multi_layout.specs.Times.{cycle, page_times}
 use Rattle.multi_layout.specs.Verdict.{Accepted, IsCycle, IsVerdict}

@@ -1,9 +1,7 @@
-use Rattle.std.proofs.Common.{◌≡◌, ◌+◌, ◌-◌, ◌*◌, drop, length, None, refl, sym, ap, ◌∙◌, arith}
+use Rattle.std.proofs.Common.{◌+◌, drop, refl, sym, ap, ◌∙◌, arith}
 use Rattle.multi_token.specs.Counted.{Counted}
 use Rattle.multi_token.proofs.StepLemmas.{charged-zero}
-use Rattle.sign_font.specs.declared.parts.Defaults.{Defaults}
 use Rattle.multi_layout.specs.Meaning.{meanings}
-use Rattle.message_change.specs.declared.walk.Walk.{Walk}
 use Rattle.message_change.proofs.NextItemLemmas
 use Rattle.message_change.proofs.PassedLemmas
 use Rattle.message_change.proofs.WalkLemmas
@@ -29,18 +27,10 @@ returns-then-begins_page-clause-change c = λ sign same.
 pub returns-then-begins_page-clause-steps : goal.returns-then-begins_page-clause-steps
 returns-then-begins_page-clause-steps c =
     let l = c.loop-said in
-    let i = l.invariant in
-    let n = (rw i.octets at c.in-Some.ensures.next) in
-    let within = n.within in
-    PassedLemmas.one_more c.args.source.now l.source c.next_said.new.source l.at c.in-Some.said.len _ i.steps c.in-Some.ensures.steps n.some (omega (arith, within))
+    PassedLemmas.the_last c.args.source.now l.source c.next_said.new.source l.at c.in-Some.said l.invariant.octets l.invariant.steps c.in-Some.ensures.next c.in-Some.ensures.steps
 
 pub overflow_add-at : goal.overflow_add-at
-overflow_add-at c =
-    let i = c.loop-said.invariant in
-    let n = (rw i.octets at c.in-Some.ensures.next) in
-    let within = n.within in
-    let room = n.room in
-    omega (arith, within, room)
+overflow_add-at c = let room = PassedLemmas.has_room c.loop-said.source.octets c.loop-said.at c.in-Some.said c.in-Some.ensures.next in omega (arith, room)
 
 pub loop-said-preserved : goal.loop-said-preserved
 loop-said-preserved c =
@@ -55,7 +45,7 @@ loop-said-preserved c =
       within = n.within;
       walk = λ sign same. WalkLemmas.first_more sign octets l.at (l.at + len) c.args.clock n.item l.walk c.pass.new.self (i.walk sign same) n.next page
           (λ here is. c.pass.ensures.in_force sign here n.item same n.is is) (c.pass.ensures.soonest n.item n.is);
-      steps = PassedLemmas.one_more c.args.source.now l.source c.next_said.new.source l.at len _ i.steps c.in-Some.ensures.steps n.some (omega arith);
+      steps = PassedLemmas.one_more c.args.source.now l.source c.next_said.new.source l.at c.in-Some.said i.steps c.in-Some.ensures.next c.in-Some.ensures.steps;
     }
 
 pub returns-clause-change : goal.returns-clause-change
@@ -67,6 +57,4 @@ returns-clause-change c = λ sign same.
 pub returns-clause-steps : goal.returns-clause-steps
 returns-clause-steps c =
     let l = c.loop-said in
-    let i = l.invariant in
-    let long = ap length i.octets in
-    PassedLemmas.no_more c.args.source.now l.source c.next_said.new.source l.at (length l.source.octets) _ i.steps c.in_default.ensures.end_steps i.within (omega (arith, long))
+    PassedLemmas.no_more c.args.source.now l.source c.next_said.new.source l.at l.invariant.octets l.invariant.within l.invariant.steps c.in_default.ensures.end_steps

@@ -1,4 +1,4 @@
-use Rattle.std.proofs.Common.{◌≡◌, ◌+◌, ◌-◌, ◌*◌, ◌≤◌, drop, length, None, refl, sym, ap, subst, ◌∙◌, arith}
+use Rattle.std.proofs.Common.{◌+◌, ◌-◌, drop, refl, sym, ap, subst, ◌∙◌, arith}
 use Rattle.multi_token.specs.Counted.{Counted}
 use Rattle.multi_token.proofs.StepLemmas.{charged-zero}
 use Rattle.multi_layout.specs.Meaning.{meanings}
@@ -35,25 +35,17 @@ returns-in-Some-left-clause-change c = λ sign same within.
 pub returns-in-Some-left-clause-steps : goal.returns-in-Some-left-clause-steps
 returns-in-Some-left-clause-steps c =
     let l = c.loop-said in
-    let i = l.invariant in
-    let n = (rw i.octets at c.in-Some.ensures.next) in
-    let within = n.within in
-    PassedLemmas.one_more c.args.source.now l.source c.next_said.new.source l.at c.in-Some.said.len _ i.steps c.in-Some.ensures.steps n.some (omega (arith, within))
+    PassedLemmas.the_last c.args.source.now l.source c.next_said.new.source l.at c.in-Some.said l.invariant.octets l.invariant.steps c.in-Some.ensures.next c.in-Some.ensures.steps
 
 pub overflow_add-at : goal.overflow_add-at
-overflow_add-at c =
-    let i = c.loop-said.invariant in
-    let n = (rw i.octets at c.in-Some.ensures.next) in
-    let within = n.within in
-    let room = n.room in
-    omega (arith, within, room)
+overflow_add-at c = let room = PassedLemmas.has_room c.loop-said.source.octets c.loop-said.at c.in-Some.said c.in-Some.ensures.next in omega (arith, room)
 
 pub loop-said-preserved : goal.loop-said-preserved
 loop-said-preserved c =
+    let time = c.args.time in
     let octets = c.args.source.now.octets in
     let l = c.loop-said in
     let i = l.invariant in
-    let time = c.args.time in
     let early = i.early in
     let n = (rw i.octets at c.in-Some.ensures.next) in
     let len = c.in-Some.said.len in
@@ -78,7 +70,7 @@ loop-said-preserved c =
             (WalkLemmas.turn_more sign octets l.at (l.at + len) time n.item l.walk w.pass.new.self (i.walk sign same) n.next (said ∙ w.if-begins_page.false)
             (λ here is. w.pass.ensures.in_force sign here n.item same n.is is) (w.pass.ensures.soonest n.item n.is) w.pass.ensures.begin)
       ];
-      steps = PassedLemmas.one_more c.args.source.now l.source c.next_said.new.source l.at len _ i.steps c.in-Some.ensures.steps n.some (omega arith);
+      steps = PassedLemmas.one_more c.args.source.now l.source c.next_said.new.source l.at c.in-Some.said i.steps c.in-Some.ensures.next c.in-Some.ensures.steps;
     }
 
 pub returns-clause-change : goal.returns-clause-change
@@ -90,6 +82,4 @@ returns-clause-change c = λ sign same within.
 pub returns-clause-steps : goal.returns-clause-steps
 returns-clause-steps c =
     let l = c.loop-said in
-    let i = l.invariant in
-    let long = ap length i.octets in
-    PassedLemmas.no_more c.args.source.now l.source c.next_said.new.source l.at (length l.source.octets) _ i.steps c.in_default.ensures.end_steps i.within (omega (arith, long))
+    PassedLemmas.no_more c.args.source.now l.source c.next_said.new.source l.at l.invariant.octets l.invariant.within l.invariant.steps c.in_default.ensures.end_steps
