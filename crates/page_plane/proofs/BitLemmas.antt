@@ -63,7 +63,7 @@ painted_with octet part false i small h =
     ]
 
 -- the low bits of a number, and of one that is moved to the left
-low_bit : (a j i : ℕ) → i < j → bit_at (a % 2 ^ j) i ≡ bit_at a i
+pub low_bit : (a j i : ℕ) → i < j → bit_at (a % 2 ^ j) i ≡ bit_at a i
 low_bit a j i h = sym (bit_at_cat_low (a / 2 ^ j) j (a % 2 ^ j) i h) ∙ ap (λ n. bit_at n i) (shr_split a j)
 
 shifted : (a k w : ℕ) → k ≤ w → a * 2 ^ k % 2 ^ w ≡ a % 2 ^ (w - k) * 2 ^ k + 0
@@ -145,7 +145,7 @@ strip_bit x width start j h left right =
     ]
 
 -- a bit that isn't 1
-clear_bit : (n i : ℕ) → (bit_at n i == 1) ≡ false → bit_at n i ≡ 0
+pub clear_bit : (n i : ℕ) → (bit_at n i == 1) ≡ false → bit_at n i ≡ 0
 clear_bit n i e =
     let small = bit_at-lt n i in
     elim (cases_eq (bit_at n i) 1) [

@@ -4,3 +4,4 @@ mod OctetLemmas
 pub mod PlaneLemmas
 pub mod PutLemmas
 mod StoredLemmas
+mod WordLemmas

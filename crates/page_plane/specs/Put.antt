@@ -35,3 +35,7 @@ abbrev pub IsStripPutAt : List ℕ → List ℕ → ℕ → ℕ → ℕ → ℕ 
 IsStripPutAt old new columns strip x y width rows count on = (column row : ℕ) → column < 8 * row_octets columns
     → is_bit_set new (bit_place columns column row)
     ≡ (if (column / 8 == strip) && is_first_put x y width rows count column row then on else is_bit_set old (bit_place columns column row))
+
+-- the bit at this place is set in a word over the eight octets from octet `at` on, whose highest bit is for their first place (own)
+abbrev pub is_in_word : ℕ → ℕ → ℕ → Bool
+is_in_word at part place = nat_le (8 * at) place && (nat_lt place (8 * at + 64) && (bit_at part (63 - (place - 8 * at)) == 1))

@@ -11,6 +11,7 @@ mod laws;
 mod memory;
 mod octets;
 mod plane;
+mod words;
 
 pub use laws::a_plane_is_its_pixels;
 pub use memory::Memory;

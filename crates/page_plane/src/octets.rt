@@ -5,6 +5,8 @@ ghost use Rattle.std.specs.Int.{bit_at};
 ghost use Rattle.page_plane.specs.Octets.{row_octets, is_bit_set, bit_place};
 ghost use Rattle.page_plane.specs.Put.{IsBlockPutAt, IsStripPutAt};
 
+use crate::words::put_words;
+
 /// The octets of a row of this width in pixels.
 pub(crate) fn row_len(width: u16) -> usize
     ensures { result ≡ row_octets width }
@@ -60,7 +62,8 @@ fn end_rows(octets: &mut [u8], width: u16, height: u16)
     }
 }
 
-/// Puts rows one under the other, the first at column `x` of row `y` of octets of this many columns.
+/// Puts rows one under the other, the first at column `x` of row `y` of octets of this many columns: a whole row at once where each
+/// stands in eight octets, as those of characters do, and else one octet of each after the other.
 pub(crate) fn put_rows(
     octets: &mut [u8],
     columns: u16,
@@ -70,6 +73,23 @@ pub(crate) fn put_rows(
     rows: &[u64],
     on: bool,
 )
+    requires width { width ≤ 64 }
+    requires column { x + width ≤ columns }
+    requires room { row_octets columns * (y + length rows.now) ≤ length octets.old }
+    ensures pixels { IsBlockPutAt octets.old octets.new columns x y width rows.now (length rows.now) on }
+    ensures len { length octets.new ≡ length octets.old }
+{
+    let len = row_len(columns);
+    let behind = (usize::from(y) + rows.len()) * len + usize::from(x) / 8;
+    if width > 0 && u32::from(x) % 8 + u32::from(width) <= 64 && behind + 8 <= octets.len() + len {
+        put_words(octets, columns, x, y, width, rows, on);
+    } else {
+        put_strips(octets, columns, x, y, width, rows, on);
+    }
+}
+
+/// Puts the rows one octet of each row of octets after the other.
+fn put_strips(octets: &mut [u8], columns: u16, x: u16, y: u16, width: u8, rows: &[u64], on: bool)
     requires width { width ≤ 64 }
     requires column { x + width ≤ columns }
     requires room { row_octets columns * (y + length rows.now) ≤ length octets.old }

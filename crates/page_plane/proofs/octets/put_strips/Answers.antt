@@ -1,6 +1,6 @@
 use Rattle.std.proofs.Common.{arith, ◌*◌, refl, ◌∙◌}
 use Rattle.page_plane.proofs.OctetLemmas.{left_none, left_more, left_all}
-use Rattle.page_plane.proofs.octets.put_rows.Goals as goal
+use Rattle.page_plane.proofs.octets.put_strips.Goals as goal
 
 pub loop-strip-init : goal.loop-strip-init
 loop-strip-init c = record {

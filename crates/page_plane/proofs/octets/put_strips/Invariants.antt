@@ -1,6 +1,6 @@
 use Rattle.std.proofs.Common.{◌≡◌, ◌*◌, length}
 use Rattle.page_plane.proofs.OctetLemmas.{IsPutLeftOf}
-use Rattle.page_plane.proofs.octets.put_rows.Given as goal
+use Rattle.page_plane.proofs.octets.put_strips.Given as goal
 
 abbrev pub invariant-loop-strip : goal.invariant-loop-strip
 invariant-loop-strip l = record {
