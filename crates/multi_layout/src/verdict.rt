@@ -1,6 +1,6 @@
 //! The verdict on a string, in one reading from the left with running sums.
 
-ghost use Rattle.std.specs.Prelude.{◌≡◌, ℕ, ◌+◌, ◌^◌, ◌<◌, ◌≤◌, ◌*◌, ◌-◌, ◌⊎◌, [], length, IfOk, IfErr, OnOk, None, Some};
+ghost use Rattle.std.specs.Prelude.{◌≡◌, ◌≢◌, ℕ, ◌+◌, ◌^◌, ◌<◌, ◌≤◌, ◌*◌, ◌-◌, ◌⊎◌, [], length, IfOk, IfErr, OnOk, None, Some};
 ghost use Rattle.sign_font.specs.Defaults.{default_fault, under};
 ghost use Rattle.sign_font.specs.Sign.{SignData};
 ghost use Rattle.multi_layout.specs.Codes.{code_of};
@@ -225,6 +225,25 @@ fn judge_from<const WORDS: bool>(
     if first == b'[' || first == b']' {
         return judge_bracket::<WORDS>(sign, pass, source, at, first);
     }
+    judge_plain::<WORDS>(sign, pass, source, at, first)
+}
+
+/// Judges a character at an offset, an octet that was read and is no bracket, and those behind it that only lengthen its line. It gives
+/// the offset behind, and the octet read there. It isn't put into its caller's code, where what a tag needs would be at hand before each.
+#[inline(never)]
+fn judge_plain<const WORDS: bool>(
+    sign: &Terms<'_>,
+    pass: &mut Pass,
+    source: &mut Source<'_>,
+    at: usize,
+    first: u8,
+) -> Result<(usize, Option<u8>), Offence>
+    requires plain { (first ≢ 91) × (first ≢ 93) }
+    requires short { length source.old.octets < 2 ^ 32 }
+    requires at { IsAt sign.now source.old.octets at (Some first) (IsPassOf WORDS sign.now pass.old) source.old }
+    ensures at { IfOk result (λ to. (at < to.0) × IsAt sign.now source.old.octets to.0 to.1 (IsPassOf WORDS sign.now pass.new) source.new) }
+    ensures refused { IfErr result (λ offence. IsRefused sign.now source.old.octets offence source.new) }
+{
     match pass.judge_character::<WORDS>(sign, source, u16::from(first)) {
         Ok(()) => Ok(judge_run::<WORDS>(sign, pass, source, at + 1)),
         Err(error) => Err(Offence { error, at }),

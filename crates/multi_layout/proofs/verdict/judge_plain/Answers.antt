@@ -3,7 +3,7 @@ use Rattle.multi_layout.specs.Meaning.{meaning}
 use Rattle.multi_layout.specs.kept.PassState.{IsPassOf}
 use Rattle.multi_layout.proofs.AtLemmas.{octet_behind, octet_offends}
 use Rattle.multi_layout.proofs.PassLemmas.{pass_ready_here}
-use Rattle.multi_layout.proofs.verdict.judge_from.Goals as goal
+use Rattle.multi_layout.proofs.verdict.judge_plain.Goals as goal
 
 pub judge_character-requires : goal.judge_character-requires
 judge_character-requires g c =
@@ -17,7 +17,7 @@ judge_run-requires-clause-behind g c =
     let octet : c.from.result ≤ 255 = omega (arith, c.from.ensures) in
     let (fine, of) = rw c.from.ensures at (c.in-Ok.ensures.judged (map meaning r.items) r.is) in
     octet_behind sign c.args.source.now.octets c.args.at c.args.first (IsPassOf words sign c.args.pass.now) c.args.source.now c.requires.at c.requires.short
-    (λ e. omega arith, λ e. omega arith) c.judge_character.new.source (c.judge_character.ensures.step octet) (IsPassOf words sign c.judge_character.new.self) fine of
+    c.requires.plain c.judge_character.new.source (c.judge_character.ensures.step octet) (IsPassOf words sign c.judge_character.new.self) fine of
 
 pub returns-in-Err-clause-refused : goal.returns-in-Err-clause-refused
 returns-in-Err-clause-refused g c =
@@ -27,4 +27,4 @@ returns-in-Err-clause-refused g c =
     let octet : c.from.result ≤ 255 = omega (arith, c.from.ensures) in
     let offends = rw c.from.ensures at (c.in-Err.ensures.judged (map meaning r.items) r.is) in
     octet_offends sign c.args.source.now.octets c.args.at c.args.first (IsPassOf words sign c.args.pass.now) c.args.source.now c.requires.at c.requires.short
-    (λ e. omega arith, λ e. omega arith) c.judge_character.new.source (c.judge_character.ensures.step octet) c.in-Err.error offends
+    c.requires.plain c.judge_character.new.source (c.judge_character.ensures.step octet) c.in-Err.error offends
