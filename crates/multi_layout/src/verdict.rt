@@ -7,7 +7,6 @@ ghost use Rattle.multi_layout.specs.Codes.{code_of};
 ghost use Rattle.multi_layout.specs.Limits.{check_limit};
 ghost use Rattle.multi_layout.specs.kept.Judging.{IsAt, IsRefused, IsTold};
 ghost use Rattle.multi_layout.specs.kept.PassState.{IsPassOf, fill_of};
-ghost use Rattle.multi_layout.specs.kept.State.{IsStateOf};
 ghost use Rattle.multi_layout.specs.Verdict.{Accepted, IsVerdict, Refused};
 
 use crate::bracket::read_spelled;
@@ -88,7 +87,7 @@ pub fn check_with<'a>(
 {
     let terms = Terms::new(sign, defaults);
     let mut source = source;
-    match judge_string(&terms, State::new(&terms), &mut source) {
+    match judge_string(&terms, &mut source) {
         Ok(told) => Ok(Checked {
             pages: told.pages,
             cycle: told.cycle,
@@ -137,42 +136,36 @@ impl<'a> Judge<'a> {
         ensures fault_steps { IfErr result (λ offence. offence.at + 1 ≤ source.new.steps) }
         ensures most { source.new.steps ≤ check_limit (length source.old.octets) }
     {
-        match judge_string(&self.terms, State::new(&self.terms), source) {
+        match judge_string(&self.terms, source) {
             Ok(told) => Ok(told.pages),
             Err(offence) => Err(offence),
         }
     }
 }
 
-/// Judges the items of a string from the left, up to the first that offends, from the state before the first.
+/// Judges the items of a string from the left, up to the first that offends.
 #[inline(always)]
-fn judge_string(sign: &Terms<'_>, start: State, source: &mut Source<'_>) -> Result<Told, Offence>
-    requires start { IsStateOf sign.now [] start }
+fn judge_string(sign: &Terms<'_>, source: &mut Source<'_>) -> Result<Told, Offence>
     requires fresh { source.old.steps ≡ 0 }
     requires short { length source.old.octets < 2 ^ 32 }
     ensures told { IfOk result (λ told. IsTold sign.now source.old.octets told.pages told.cycle source.new) }
     ensures refused { IfErr result (λ offence. IsRefused sign.now source.old.octets offence source.new) }
 {
     match sign.line_fill() {
-        LineFill::Off => judge_all::<false>(sign, start, source),
-        LineFill::Words => judge_all::<true>(sign, start, source),
+        LineFill::Off => judge_all::<false>(sign, source),
+        LineFill::Words => judge_all::<true>(sign, source),
     }
 }
 
 /// The same for lines of one kind: filled or not. What is kept is made here, so that no more of it is than that kind reads.
-fn judge_all<const WORDS: bool>(
-    sign: &Terms<'_>,
-    start: State,
-    source: &mut Source<'_>,
-) -> Result<Told, Offence>
+fn judge_all<const WORDS: bool>(sign: &Terms<'_>, source: &mut Source<'_>) -> Result<Told, Offence>
     requires kind { sign.now.line_fill ≡ fill_of WORDS }
-    requires start { IsStateOf sign.now [] start }
     requires fresh { source.old.steps ≡ 0 }
     requires short { length source.old.octets < 2 ^ 32 }
     ensures told { IfOk result (λ told. IsTold sign.now source.old.octets told.pages told.cycle source.new) }
     ensures refused { IfErr result (λ offence. IsRefused sign.now source.old.octets offence source.new) }
 {
-    let mut pass = Pass::new(start);
+    let mut pass = Pass::new(State::new(sign));
     judge_items::<WORDS>(sign, &mut pass, source)?;
     Ok(Told {
         pages: pass.state.pages,
