@@ -99,6 +99,7 @@ pub mod StateLemmas
 pub mod TableLemmas
 pub mod TagLemmas
 pub mod TextLemmas
+mod TextSkipLemmas
 pub mod TimesLemmas
 pub mod UnfilledLemmas
 pub mod VerdictExamples

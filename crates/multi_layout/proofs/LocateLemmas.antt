@@ -19,7 +19,7 @@ use Rattle.multi_layout.specs.Meaning.{Meaning, Does, is_new_page, meaning, mean
 use Rattle.multi_layout.specs.kept.State.{attributes_of}
 use Rattle.multi_layout.specs.Times.{Times, cycle, ended_times, page_times, shown, shown_within, times_at}
 use Rattle.multi_layout.specs.Verdict.{Accepted, IsCycle, IsVerdict, pages_of}
-use Rattle.multi_layout.specs.kept.Cursors.{IsPassing, IsFirst, IsItemRead}
+use Rattle.multi_layout.specs.kept.Cursors.{IsPassing, IsFirst, IsItemRead, IsTextPassed}
 use Rattle.multi_layout.proofs.AcceptedLemmas.{accepted_is, cycle_is}
 use Rattle.multi_layout.proofs.JudgedLemmas.{cycle-stays, cycle-grows}
 use Rattle.multi_layout.proofs.SkipLemmas.{same_unplaced}
@@ -113,6 +113,16 @@ module _ {sign : SignData} {octets : List ℕ} {time : ℕ} {cursor : Cursor} (s
       let st = clock_of s.between in
       let all = ap cycle (times_end end) ∙ cycle_push (ended_times sign passed) (times_at (standing sign passed)) in
       omega (arith, all, st.times, on_is sign passed cursor.state st time s.began, off_is sign passed cursor.state st time s.began)
+
+  -- the search goes on behind text
+  pub searched_text : (new : Cursor) → new.state ≡ cursor.state → IsTextPassed sign octets s.before s.behind new → Searched sign octets time new
+  searched_text new same t = record {
+    before = s.before ++ t.text;
+    behind = t.rest;
+    between = t.between;
+    whole = s.whole ∙ ap (λ l. s.before ++ l) t.split ∙ sym (append_assoc s.before t.text t.rest);
+    began = omega (arith, s.began, ap (λ (x : State). x.cycle) same);
+  }
 
   -- an item stands behind the cursor, of which this was read
   module _ (item : Item) (rest : List Item) (is : s.behind ≡ item ∷ rest) (next : NextItem) (read : IsItemRead item next) where

@@ -20,6 +20,7 @@ use Rattle.sign_font.specs.Sound.{IsSound, IsSoundFont}
 use Rattle.multi_layout.specs.LaidItems.{laid_out}
 use Rattle.multi_layout.specs.declared.cursor.Cursor.{Cursor}
 use Rattle.multi_layout.specs.declared.item.NextItem.{NextItem}
+use Rattle.multi_layout.specs.declared.state.State.{State}
 use Rattle.multi_layout.specs.Drawn as drawn
 use Rattle.multi_layout.specs.Limits.{drawing_limit, plane_limit, plane_octets, reading_limit}
 use Rattle.multi_layout.specs.Meaning.{BeginsPage, Does, Meaning, is_new_page, meaning, meanings}
@@ -27,7 +28,7 @@ use Rattle.multi_layout.specs.Pages.{IsTurned}
 use Rattle.multi_layout.specs.kept.PageDrawing.{IsFilledFew, IsPagePassed, IsReadTwice}
 use Rattle.multi_layout.specs.Picture.{in_plane, picture}
 use Rattle.multi_layout.specs.Verdict.{pages_of}
-use Rattle.multi_layout.specs.kept.Cursors.{IsAccepted, IsBetween, IsFirst, IsItemRead, IsPassing, IsPlaced, items_of, laid_meanings, meant, LaidItem}
+use Rattle.multi_layout.specs.kept.Cursors.{IsAccepted, IsBetween, IsFirst, IsItemRead, IsPassing, IsPlaced, IsTextPassed, items_of, laid_meanings, meant, LaidItem}
 use Rattle.multi_layout.proofs.SkipLemmas.{same_unplaced}
 use Rattle.multi_layout.proofs.PieceLemmas.{laid_pages}
 use Rattle.multi_layout.proofs.WalkLemmas.{room, within_between}
@@ -138,9 +139,18 @@ module _ (sign : SignData) (octets : List ℕ) (page : ℕ) where
   pub not_the_end : (before : List Item) (cursor : Cursor) → IsPassing sign octets before [] cursor → cursor.state.pages ≤ page → page < pages_of (meanings octets) → ⊥
   not_the_end before cursor b few more = omega (arith, few, more, pages_before sign octets before [] cursor b.placed (passed_pages sign before cursor b))
 
+-- behind text the page still hasn't begun
+pub way_text : {sign : SignData} {octets : List ℕ} {page : ℕ} {old : Cursor} (w : IsOnTheWay sign octets page old) (new : Cursor) → new.state ≡ old.state → old.state.pages ≤ page → IsTextPassed sign octets w.before w.behind new → IsOnTheWay sign octets page new
+way_text w new same few t = record {
+  before = w.before ++ t.text;
+  behind = t.rest;
+  between = t.between;
+  begins = λ more. absurd (omega (arith, few, more, ap (λ (s : State). s.pages) same));
+}
+
 -- ---- one step of the way: an item is read, and the cursor passes it
 
-module _ (sign : SignData) (page : ℕ) (start source read passed : Counted) (old new : Cursor) (next : NextItem) (steps : RisesBetween start source 0 (9 * old.at)) (reads : RisesBetween source read 0 (9 * next.len - 8)) (at : new.at ≡ old.at + next.len) where
+module _ (sign : SignData) (page : ℕ) (start source read passed : Counted) (old new : Cursor) (next : NextItem) (steps : RisesBetween start source 0 (9 * old.at + 3)) (reads : RisesBetween source read 0 (9 * next.len - 8)) (at : new.at ≡ old.at + next.len) where
   source_same : source.octets ≡ start.octets
   source_same = ap (λ (s : Counted). s.octets) steps.3
 
@@ -150,7 +160,7 @@ module _ (sign : SignData) (page : ℕ) (start source read passed : Counted) (ol
   pub steps_further : 1 ≤ next.len → RisesBetween read passed 0 1 → RisesBetween start passed 0 (9 * new.at)
   steps_further some judges =
       let both = rises_then source read passed 0 (9 * next.len - 8) 0 1 reads judges in
-      let all = rises_then start source passed 0 (9 * old.at) 0 (9 * next.len - 8 + 1) steps both in
+      let all = rises_then start source passed 0 (9 * old.at + 3) 0 (9 * next.len - 8 + 1) steps both in
       rises_more start passed 0 _ _ (omega (arith, at, some)) all
 
   module _ (w : IsOnTheWay sign start.octets page old) (first : IsFirst w.behind (Some next)) where

@@ -10,11 +10,12 @@ ghost use Rattle.multi_layout.specs.kept.KnownItem.{IsKnownItem, meant_by};
 ghost use Rattle.multi_layout.specs.Meaning.{Meaning, has_place};
 ghost use Rattle.multi_layout.specs.Offence.{unsized_offence};
 ghost use Rattle.multi_layout.specs.kept.State.{IsReady, IsStateOf};
-ghost use Rattle.multi_layout.specs.kept.Cursors.{GoesBehind, IsAccepted, IsBefore, IsBetween, IsFirst, IsOrderly, IsPassing, IsPassingBefore, IsPlaced, IsRead, IsWithin, laid_meanings, PassesOn, LaidItem, pieces_of};
+ghost use Rattle.multi_layout.specs.kept.Cursors.{GoesBehind, IsAccepted, IsBefore, IsBetween, IsFirst, IsOrderly, IsPassing, IsPassingBefore, IsPlaced, IsRead, IsTextPassed, IsWithin, laid_meanings, PassesOn, LaidItem, pieces_of};
 
 use crate::bracket::read_spelled;
 use crate::item::{KnownItem, NextItem};
 use crate::judge::judge_tag;
+use crate::run::Run;
 use crate::state::State;
 use crate::terms::Terms;
 use multi_tag::Tag;
@@ -109,6 +110,23 @@ impl Cursor {
         }
         self.skip_tag(sign, source, next.item);
         self.at += next.len;
+    }
+
+    /// Goes behind octets from here on that stand for themselves, as many as one reading takes, and lays nothing out.
+    pub(crate) fn skip_text(&mut self, sign: &Terms<'_>, source: &mut Source<'_>)
+        requires { (before behind : List spelled.Item) × IsPassing sign.now source.old.octets before behind self.old }
+        ensures passed { (before behind : List spelled.Item) → IsPassing sign.now source.old.octets before behind self.old
+            → IsTextPassed sign.now source.old.octets before behind self.new }
+        ensures on { self.old.at ≤ self.new.at }
+        ensures state { self.new.state ≡ self.old.state }
+        ensures steps { RisesBetween source.old source.new 0 (2 * (self.new.at - self.old.at) + 3) }
+    {
+        let font = self.state.attributes.font.number;
+        let all = Run {
+            gap: 0,
+            left: u64::MAX,
+        };
+        self.at += sign.read_run(source, self.at, font, all, false).len;
     }
 
     /// Puts what a tag says into force that places nothing, as the next item does. It isn't put into its callers' code, since

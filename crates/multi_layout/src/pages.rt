@@ -155,6 +155,7 @@ fn page_start(sign: &Terms<'_>, source: &mut Source<'_>, page: u8) -> Cursor
 {
     let mut cursor = Cursor::new(sign);
     while cursor.state.pages <= page {
+        cursor.skip_text(sign, source);
         // The string has more pages than these.
         let Some(next) = cursor.next_item(source) else {
             unreachable!();

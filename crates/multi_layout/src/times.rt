@@ -59,6 +59,7 @@ fn find_page(sign: &Terms<'_>, source: &mut Source<'_>, time: u64) -> Shown
             }
         }
         cursor.skip(sign, source, next);
+        cursor.skip_text(sign, source);
     }
     match shown_in(&cursor.state, time) {
         Some(shown) => shown,

@@ -78,6 +78,13 @@ pub record IsPassing (sign : SignData) (octets : List ℕ) (before behind : List
   pub placed : IsPlaced sign octets before behind cursor.at
   pub state_is : IsStateOf sign (unplaced (map meaning before)) cursor.state
 
+-- the cursor has passed some of the items behind, and nothing was laid out (own)
+pub record IsTextPassed (sign : SignData) (octets : List ℕ) (before behind : List Item) (cursor : Cursor) : Type 0 where
+  pub text : List Item
+  pub rest : List Item
+  pub split : behind ≡ text ++ rest
+  pub between : IsPassing sign octets (before ++ text) rest cursor
+
 -- the offset is between two items of an accepted string (own)
 abbrev pub IsWithin : SignData → List ℕ → ℕ → Type 0
 IsWithin sign octets at = (before behind : List Item) × IsPlaced sign octets before behind at

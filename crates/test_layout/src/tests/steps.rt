@@ -73,21 +73,63 @@ impl Walk {
         }
     }
 
-    /// Goes to the start of a page, or to the end of the string, and looks up no cell.
+    /// Goes behind the octets that stand for themselves: their font is looked up, each of them is read and looked at, and so is the octet
+    /// behind them; the end is read.
+    fn pass_text(&mut self, source: &mut Source<'_>) {
+        source.charge(1);
+        for _ in 0..=source.len() {
+            let at = self.at.min(source.len());
+            let Some(octet) = source.read(at) else {
+                return;
+            };
+            source.charge(1);
+            if octet == b'[' || octet == b']' {
+                return;
+            }
+            self.at = at.saturating_add(1);
+        }
+    }
+
+    /// Puts an item into force that was read on the way to a page, and looks up no cell.
+    fn pass_by(&mut self, sign: &Sign, source: &mut Source<'_>, item: Tag) {
+        if let Tag::Font(_) = item {
+            self.look(sign, source, item);
+        }
+    }
+
+    /// Goes to the start of a page, and looks up no cell.
     fn reach(&mut self, sign: &Sign, source: &mut Source<'_>, page: u8) {
         let mut passed = 0;
         for _ in 0..=source.len() {
             if passed >= page {
                 return;
             }
+            self.pass_text(source);
             let Some(item) = self.read(source) else {
                 return;
             };
-            match item {
-                Tag::NewPage => passed += 1,
-                Tag::Font(_) => self.look(sign, source, item),
-                _ => {}
+            if let Tag::NewPage = item {
+                passed += 1;
             }
+            self.pass_by(sign, source, item);
+        }
+    }
+
+    /// Goes to the end of a page, where the tag is read that begins the next one, or to the end of the string.
+    fn leave(&mut self, sign: &Sign, source: &mut Source<'_>, page: u8) {
+        let mut passed = 0;
+        for _ in 0..=source.len() {
+            let Some(item) = self.read(source) else {
+                return;
+            };
+            if let Tag::NewPage = item {
+                if passed >= page {
+                    return;
+                }
+                passed += 1;
+            }
+            self.pass_by(sign, source, item);
+            self.pass_text(source);
         }
     }
 
@@ -107,6 +149,33 @@ impl Walk {
                 return;
             }
             self.look(sign, source, item);
+        }
+    }
+
+    /// Goes over the items of an area for the first time. Where lines aren't filled, a run begins behind each character that is an octet: it
+    /// looks up its font, and looks at the octet that ends it.
+    fn pass_lines(&mut self, sign: &Sign, source: &mut Source<'_>, octets: &[u8]) {
+        let mut in_run = false;
+        for _ in 0..=source.len() {
+            let here = self.at;
+            let Some(item) = self.read(source) else {
+                return;
+            };
+            let alone = self.at.saturating_sub(here) == 1;
+            if let Tag::NewPage | Tag::Rect { .. } = item {
+                self.at = here;
+                return;
+            }
+            self.look(sign, source, item);
+            let begins = matches!(item, Tag::HexChar(number) if number < 256) && !(in_run && alone);
+            in_run = begins || (in_run && alone);
+            if begins && sign.line_fill() == LineFill::Off {
+                let plain = octets
+                    .iter()
+                    .skip(self.at)
+                    .all(|octet| *octet != b'[' && *octet != b']');
+                source.charge(1 + u64::from(!plain));
+            }
         }
     }
 }
@@ -129,7 +198,7 @@ fn judged(sign: &Sign, octets: &[u8]) -> u64 {
 /// The steps of finding this page by the clock: the items are read up to its end.
 fn found(sign: &Sign, octets: &[u8], page: u8) -> u64 {
     let mut source = Source::new(octets);
-    Walk::new(sign).reach(sign, &mut source, page.saturating_add(1));
+    Walk::new(sign).leave(sign, &mut source, page);
     source.steps()
 }
 
@@ -141,7 +210,7 @@ fn drawn(sign: &Sign, octets: &[u8], page: u8) -> u64 {
     walk.reach(sign, &mut source, page);
     for _ in 0..=octets.len() {
         let mut first = walk;
-        first.pass_area(sign, &mut source, usize::MAX);
+        first.pass_lines(sign, &mut source, octets);
         walk.pass_area(sign, &mut source, first.at);
         match walk.read(&mut source) {
             None | Some(Tag::NewPage) => break,
