@@ -15,7 +15,8 @@ use Rattle.multi_layout.specs.declared.table.LineTable.{LineTable}
 use Rattle.multi_layout.specs.Address.{spots, standing, in_area}
 use Rattle.multi_layout.specs.Limits.{plane_octets}
 use Rattle.multi_layout.specs.Meaning.{begins_area}
-use Rattle.multi_layout.specs.kept.AreaDrawing.{AreaSoFar, DrawsOn, HasCounted, IsDrawnTo, IsFilledBy, IsNextDrawn, IsReadBehind, BeginsNoArea, octets_read, whole_area}
+use Rattle.multi_layout.specs.kept.AreaDrawing.{DrawsOn, HasCounted, IsDrawnTo, IsFilledBy, BeginsNoArea, whole_area}
+use Rattle.multi_layout.specs.kept.RunDrawing.{AreaSoFar, IsNextDrawn, IsReadBehind, octets_read}
 use Rattle.multi_layout.specs.kept.Cursors.{IsBetween, IsPieceFirst, IsRead, meant, LaidItem, spell_of}
 use Rattle.multi_layout.proofs.StateLemmas.{same_area}
 use Rattle.multi_layout.proofs.WalkLemmas.{spell_of-append}
@@ -154,11 +155,9 @@ next_drawn sign octets before area rest read layer cursor old new s ends before_
       more,
       is,
       record {
-        between = here;
-        read_is = one;
+        here = record { between = here; read_is = one; counted = counted };
         plain = subst BeginsNoArea is s.plain;
         ends = left_ends sign octets before area rest read.lines layer old cursor new s read.end ends ∙ ap (λ l. cursor.at + length (spell_of l)) is;
-        counted = counted;
       },
     )
 
@@ -181,7 +180,7 @@ area_first {sign} {octets} {before} {area} {rest} {item} {next} {read} {cursor} 
   split = refl;
   plain = All-tail (λ x. begins_area (meant x) ≡ false) item area n.plain;
   between = between;
-  counted = counted_more sign before (area ++ rest) item read.lines (All-head (λ x. begins_area (meant x) ≡ false) item area n.plain) n.counted;
+  counted = counted_more sign before (area ++ rest) item read.lines (All-head (λ x. begins_area (meant x) ≡ false) item area n.plain) n.here.counted;
   drawn = drawn;
 }
 

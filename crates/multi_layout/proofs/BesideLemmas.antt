@@ -27,7 +27,8 @@ use Rattle.multi_layout.specs.Line.{char_gap, glyph_width, height_of, width_of}
 use Rattle.multi_layout.specs.Meaning.{Meaning, Shows, begins_area}
 use Rattle.multi_layout.specs.Offence.{unsized_offence}
 use Rattle.multi_layout.specs.Place.{place_of, spread, start}
-use Rattle.multi_layout.specs.kept.AreaDrawing.{AreaSoFar, BeginsNoArea, DrawsGlyph, HasCounted, NextStandsAt, StandsAt, whole_area}
+use Rattle.multi_layout.specs.kept.AreaDrawing.{BeginsNoArea, DrawsGlyph, HasCounted, whole_area}
+use Rattle.multi_layout.specs.kept.RunDrawing.{AreaSoFar, NextStandsAt, StandsAt}
 use Rattle.multi_layout.specs.kept.Cursors.{IsBetween, IsRead, LaidItem, items_of, meant, spell_of}
 use Rattle.multi_layout.specs.kept.Run.{IsBehindCharacter, lengthened, line_in_force}
 use Rattle.multi_layout.specs.kept.State.{IsStateOf}

@@ -19,7 +19,8 @@ use Rattle.multi_layout.specs.Address.{standing, Glyph, Spot, spots, area_of, gr
 use Rattle.multi_layout.specs.Drawn.{has_colour}
 use Rattle.multi_layout.specs.Line.{glyph_width}
 use Rattle.multi_layout.specs.Meaning.{Meaning, Shows}
-use Rattle.multi_layout.specs.kept.AreaDrawing.{HasCounted, IsDrawnTo, StandsAt}
+use Rattle.multi_layout.specs.kept.AreaDrawing.{HasCounted, IsDrawnTo}
+use Rattle.multi_layout.specs.kept.RunDrawing.{StandsAt}
 use Rattle.multi_layout.specs.Picture.{is_lit_at, shown_colour}
 use Rattle.multi_layout.specs.Place.{place_of}
 use Rattle.multi_layout.specs.kept.State.{IsStateOf, attributes_of}

@@ -12,6 +12,7 @@ pub mod KnownItem
 pub mod PageDrawing
 pub mod PassState
 pub mod Run
+pub mod RunDrawing
 pub mod State
 pub mod Sums
 pub mod Table

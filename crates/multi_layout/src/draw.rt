@@ -9,7 +9,8 @@ ghost use Rattle.multi_layout.specs.Drawn.{Lights};
 ghost use Rattle.multi_layout.specs.Meaning.{begins_area};
 ghost use Rattle.multi_layout.specs.Pages.{IsSized};
 ghost use Rattle.multi_layout.specs.kept.PageDrawing.{IsFilledFew, IsPagePassed, IsPageStart, IsReadTwice};
-ghost use Rattle.multi_layout.specs.kept.AreaDrawing.{AreaSoFar, DrawsOn, HasCounted, IsFilledBy, IsNextDrawn, IsReadBehind, NextStandsAt, OverArea, IsLow, BeginsNoArea, IsQuiet, octets_read, whole_area};
+ghost use Rattle.multi_layout.specs.kept.AreaDrawing.{DrawsOn, HasCounted, IsFilledBy, OverArea, IsLow, BeginsNoArea, IsQuiet, whole_area};
+ghost use Rattle.multi_layout.specs.kept.RunDrawing.{AreaSoFar, IsItemHere, IsNextDrawn, IsReadBehind, PlacesNext, octets_read};
 ghost use Rattle.multi_layout.specs.Limits.{plane_octets};
 ghost use Rattle.multi_layout.specs.Picture.{in_plane, shown_colour};
 ghost use Rattle.multi_layout.specs.kept.Table.{IsOrdered};
@@ -199,24 +200,18 @@ fn draw_item(
 ) -> Option<Place>
     requires sound { IsSound sign.now }
     requires known { (before rest : List LaidItem) × (item : LaidItem)
-        × IsBetween sign.now source.old.octets before (item ∷ rest) cursor.old
-        × IsRead item next × HasCounted (whole_area sign.now before (item ∷ rest)) lines.now }
+        × IsItemHere sign.now source.old.octets before rest item next lines.now cursor.old }
     requires low { IsLow lines.now }
     requires ordered { IsOrdered lines.now }
     requires size { IsSized plane.old sign.now }
     ensures passed { GoesBehind sign.now source.old.octets next cursor.old cursor.new }
-    ensures drawn { (before rest : List LaidItem) (item : LaidItem) → IsBetween sign.now source.old.octets before (item ∷ rest) cursor.old
-        → IsRead item next → begins_area (meant item) ≡ false → HasCounted (whole_area sign.now before (item ∷ rest)) lines.now
+    ensures drawn { (before rest : List LaidItem) (item : LaidItem)
+        → IsItemHere sign.now source.old.octets before rest item next lines.now cursor.old → begins_area (meant item) ≡ false
         → DrawsOn sign.now layer before (item ∷ []) rest plane.old plane.new }
     ensures at { cursor.new.at ≡ cursor.old.at + next.len }
     ensures steps { RisesBetween source.old source.new 0 8 }
     ensures fills { IsFilledBy sign.now plane.old plane.new next.len }
-    ensures beside { IfSome result (λ place. (before rest : List LaidItem) (item : LaidItem)
-        → IsBetween sign.now source.old.octets before (item ∷ rest) cursor.old → IsRead item next
-        → HasCounted (whole_area sign.now before (item ∷ rest)) lines.now
-        → NextStandsAt sign.now (map meant (before ++ item ∷ [])) (map meant (before ++ item ∷ rest)) place) }
-    ensures apart { IfSome result (λ place. cursor.new.state.attributes.line_just ≢ 5) }
-    ensures wide { IfSome result (λ place. place.column ≤ 2 ^ 63) }
+    ensures beside { IfSome result (PlacesNext sign.now source.old.octets next lines.now cursor.old cursor.new) }
 {
     match next.item {
         KnownItem::Char(number) => {
@@ -244,11 +239,10 @@ fn draw_item(
 /// full line it is none of these.
 fn beside(attributes: &Attributes, place: Place, width: u8) -> Option<Place>
     requires low { place.column ≤ 2 ^ 62 }
-    ensures beside { IfSome result (λ next. (attributes.now.line_just ≢ 5) × (next ≡ record {
+    ensures { IfSome result (λ next. (attributes.now.line_just ≢ 5) × (next.column ≤ 2 ^ 63) × (next ≡ record {
       column = place.column + (width + unwrap_or attributes.now.spacing attributes.now.font.char_spacing);
       row = place.row;
     })) }
-    ensures low { IfSome result (λ next. next.column ≤ 2 ^ 63) }
 {
     if attributes.line_just == 5 {
         return None;

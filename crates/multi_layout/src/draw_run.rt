@@ -1,14 +1,13 @@
 //! Characters behind one that was drawn, with the same attributes: each stands beside the one before it.
 
-ghost use Rattle.std.specs.Prelude.{◌≡◌, ◌≢◌, ℕ, ◌+◌, ◌-◌, ◌*◌, ◌^◌, ◌<◌, ◌≤◌, ◌++◌, List, length, map};
+ghost use Rattle.std.specs.Prelude.{◌≡◌, ◌≢◌, ◌+◌, ◌-◌, ◌*◌, ◌^◌, ◌<◌, ◌≤◌, List};
 ghost use Rattle.multi_token.specs.Counted.{RisesBetween};
 ghost use Rattle.multi_token.specs.Spelling.{is_bracket};
 ghost use Rattle.sign_font.specs.declared.parts.LineFill.TheVariants.{Off};
-ghost use Rattle.sign_font.specs.Sound.{IsSound};
-ghost use Rattle.multi_layout.specs.declared.cursor.Cursor.{Cursor};
-ghost use Rattle.multi_layout.specs.kept.AreaDrawing.{AreaSoFar, BeginsNoArea, HasCounted, IsFilledBy, IsReadBehind, NextStandsAt, octets_read, whole_area};
-ghost use Rattle.multi_layout.specs.kept.Cursors.{IsBetween, LaidItem, meant, spell_of};
-ghost use Rattle.multi_layout.specs.kept.Run.{IsBehindCharacter, lengthened, line_in_force};
+ghost use Rattle.multi_layout.specs.kept.AreaDrawing.{IsFilledBy};
+ghost use Rattle.multi_layout.specs.kept.Cursors.{LaidItem};
+ghost use Rattle.multi_layout.specs.kept.Run.{IsBehindCharacter};
+ghost use Rattle.multi_layout.specs.kept.RunDrawing.{AreaSoFar, IsReadBehind, IsRunHere, cursor_behind, octets_read};
 ghost use Rattle.multi_layout.specs.Pages.{IsSized};
 
 use crate::cursor::Cursor;
@@ -19,17 +18,6 @@ use crate::terms::Terms;
 use multi_token::Source;
 use page_plane::Plane;
 use sign_font::LineFill;
-
-/// How far characters beside each other were drawn.
-#[derive(Clone, Copy)]
-struct Drawn {
-    /// The offset behind them.
-    at: usize,
-    /// The column of one more.
-    column: u64,
-    /// The octet behind them, if it was read.
-    next: Option<u8>,
-}
 
 /// Draws the characters of an area from the cursor on that stand beside one that was drawn, the first at this place, and goes behind
 /// them. It gives the octet there, if it was read.
@@ -42,18 +30,11 @@ pub(crate) fn draw_run(
     layer: Layer,
     plane: &mut Plane,
 ) -> Option<u8>
-    requires sound { IsSound sign.now }
     requires apart { cursor.old.state.attributes.line_just ≢ 5 }
     requires low { place.column ≤ 2 ^ 63 }
-    requires known { (before area rest : List LaidItem) × IsBetween sign.now source.old.octets before (area ++ rest) cursor.old
-        × BeginsNoArea area × (read.now.end ≡ cursor.old.at + length (spell_of area))
-        × HasCounted (whole_area sign.now before (area ++ rest)) read.now.lines
-        × NextStandsAt sign.now (map meant before) (map meant (before ++ (area ++ rest))) place }
+    requires known { (before area rest : List LaidItem) × IsRunHere sign.now source.old.octets before area rest read.now place cursor.old }
     requires size { IsSized plane.old sign.now }
-    ensures so_far { (before area rest : List LaidItem) → IsBetween sign.now source.old.octets before (area ++ rest) cursor.old
-        → BeginsNoArea area → read.now.end ≡ cursor.old.at + length (spell_of area)
-        → HasCounted (whole_area sign.now before (area ++ rest)) read.now.lines
-        → NextStandsAt sign.now (map meant before) (map meant (before ++ (area ++ rest))) place
+    ensures so_far { (before area rest : List LaidItem) → IsRunHere sign.now source.old.octets before area rest read.now place cursor.old
         → AreaSoFar sign.now source.old.octets before area rest read.now.lines layer cursor.new plane.old plane.new }
     ensures next { IsReadBehind source.old.octets cursor.new.at read.now.end result }
     ensures steps { RisesBetween source.old source.new 0 (9 * (cursor.new.at - cursor.old.at) + octets_read result) }
@@ -63,17 +44,19 @@ pub(crate) fn draw_run(
     if !cursor.state.is_behind_character() {
         return None;
     }
-    let drawn = match sign.line_fill() {
+    let (at, column, next) = match sign.line_fill() {
         LineFill::Off => draw_beside(sign, source, cursor, place, read, layer, plane),
         LineFill::Words => return None,
     };
-    let pixels = drawn.column - place.column;
-    cursor.state.lengthen(pixels, (drawn.at - cursor.at) as u64);
-    cursor.at = drawn.at;
-    drawn.next
+    cursor
+        .state
+        .lengthen(column - place.column, (at - cursor.at) as u64);
+    cursor.at = at;
+    next
 }
 
-/// The same where lines aren't filled; the cursor stays.
+/// Draws them where lines aren't filled, and leaves the cursor: the offset behind them, the column of one more, and the octet there, if it
+/// was read.
 fn draw_beside(
     sign: &Terms<'_>,
     source: &mut Source<'_>,
@@ -82,32 +65,20 @@ fn draw_beside(
     read: &AreaLines,
     layer: Layer,
     plane: &mut Plane,
-) -> Drawn
-    requires sound { IsSound sign.now }
+) -> (usize, u64, Option<u8>)
     requires off { sign.now.line_fill ≡ Off }
     requires behind { IsBehindCharacter cursor.now.state }
-    requires apart { cursor.now.state.attributes.line_just ≢ 5 }
-    requires low { place.column ≤ 2 ^ 63 }
-    requires known { (before area rest : List LaidItem) × IsBetween sign.now source.old.octets before (area ++ rest) cursor.now
-        × BeginsNoArea area × (read.now.end ≡ cursor.now.at + length (spell_of area))
-        × HasCounted (whole_area sign.now before (area ++ rest)) read.now.lines
-        × NextStandsAt sign.now (map meant before) (map meant (before ++ (area ++ rest))) place }
+    requires place { (cursor.now.state.attributes.line_just ≢ 5) × (place.column ≤ 2 ^ 63) }
+    requires known { (before area rest : List LaidItem) × IsRunHere sign.now source.old.octets before area rest read.now place cursor.now }
     requires size { IsSized plane.old sign.now }
-    ensures so_far { (before area rest : List LaidItem) → IsBetween sign.now source.old.octets before (area ++ rest) cursor.now
-        → BeginsNoArea area → read.now.end ≡ cursor.now.at + length (spell_of area)
-        → HasCounted (whole_area sign.now before (area ++ rest)) read.now.lines
-        → NextStandsAt sign.now (map meant before) (map meant (before ++ (area ++ rest))) place
+    ensures so_far { (before area rest : List LaidItem) → IsRunHere sign.now source.old.octets before area rest read.now place cursor.now
         → AreaSoFar sign.now source.old.octets before area rest read.now.lines layer
-        (record {
-          at = result.at;
-          state = lengthened ((line_in_force cursor.now.state).part.width + (result.column - place.column))
-              ((line_in_force cursor.now.state).part.count + (result.at - cursor.now.at)) cursor.now.state;
-        }) plane.old plane.new }
-    ensures next { IsReadBehind source.old.octets result.at read.now.end result.next }
-    ensures steps { RisesBetween source.old source.new 0 (9 * (result.at - cursor.now.at) + octets_read result.next) }
-    ensures fills { IsFilledBy sign.now plane.old plane.new (result.at - cursor.now.at) }
-    ensures forward { (cursor.now.at ≤ result.at) × (result.at < 2 ^ 32) }
-    ensures wide { (place.column ≤ result.column) × (result.column ≤ place.column + 319 * (result.at - cursor.now.at)) }
+        (cursor_behind cursor.now place.column result.1 result.0) plane.old plane.new }
+    ensures next { IsReadBehind source.old.octets result.0 read.now.end result.2 }
+    ensures steps { RisesBetween source.old source.new 0 (9 * (result.0 - cursor.now.at) + octets_read result.2) }
+    ensures fills { IsFilledBy sign.now plane.old plane.new (result.0 - cursor.now.at) }
+    ensures forward { (cursor.now.at ≤ result.0) × (result.0 < 2 ^ 32) × (place.column ≤ result.1)
+        × (result.1 ≤ place.column + 319 * (result.0 - cursor.now.at)) }
 {
     let attributes = &cursor.state.attributes;
     let font = attributes.font.number;
@@ -120,11 +91,7 @@ fn draw_beside(
             unreachable!();
         };
         if is_bracket(octet) {
-            return Drawn {
-                at,
-                column,
-                next: Some(octet),
-            };
+            return (at, column, Some(octet));
         }
         let Some(cell) = sign.cell(source, font, u16::from(octet)) else {
             // Each character of an accepted string has a cell.
@@ -138,11 +105,7 @@ fn draw_beside(
         column += u64::from(cell.width()) + gap;
         at += 1;
     }
-    Drawn {
-        at,
-        column,
-        next: None,
-    }
+    (at, column, None)
 }
 
 /// Whether an octet is a bracket.

@@ -3,9 +3,10 @@
 ghost use Rattle.std.specs.Prelude.{◌≡◌, ℕ, ◌+◌, ◌^◌, ◌≤◌, ◌==◌, [], ◌∷◌, ◌++◌, List, Some};
 ghost use Rattle.sign_font.specs.Sign.{cell_in};
 ghost use Rattle.sign_font.specs.Sound.{IsSound, IsSoundSize};
-ghost use Rattle.multi_layout.specs.Meaning.{Meaning, Shows};
+ghost use Rattle.multi_layout.specs.Meaning.{Meaning};
 ghost use Rattle.multi_layout.specs.declared.state.State.{State};
-ghost use Rattle.multi_layout.specs.kept.AreaDrawing.{DrawsGlyph, StandsAt};
+ghost use Rattle.multi_layout.specs.kept.AreaDrawing.{DrawsGlyph};
+ghost use Rattle.multi_layout.specs.kept.RunDrawing.{StandsAt};
 ghost use Rattle.multi_layout.specs.Picture.{is_lit_at, shown_colour};
 ghost use Rattle.multi_layout.specs.kept.State.{IsStateOf};
 

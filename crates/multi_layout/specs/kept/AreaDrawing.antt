@@ -1,27 +1,24 @@
 -- The two readings of an area: one for the table of its lines, one to put its cells.
-use Rattle.std.specs.Prelude.{◌≡◌, ℕ, ◌+◌, ◌-◌, ◌*◌, ◌^◌, ◌≤◌, Bool, true, false, nat_lt, ◌<◌, List, [], ◌∷◌, ◌++◌, map, length, Option, None, Some, IfSome, slice_get, if◌then◌else◌}
+use Rattle.std.specs.Prelude.{◌≡◌, ℕ, ◌+◌, ◌-◌, ◌*◌, ◌^◌, ◌≤◌, Bool, true, false, nat_lt, List, [], ◌∷◌, ◌++◌, map, length, if◌then◌else◌}
 use Rattle.std.specs.List.{All}
 use Rattle.multi_token.specs.Counted.{Counted, RisesBetween}
 use Rattle.multi_token.specs.Spelling.{Item, spelling}
 use Rattle.multi_tag.specs.declared.tag.Tag.{Tag}
 use Rattle.multi_tag.specs.declared.tag.Tag.TheVariants.{Back, NewLine}
 use Rattle.page_plane.specs.Plane.{BitPlane}
-use Rattle.sign_font.specs.Sign.{SignData, CellData, cell_numbered, tallest}
+use Rattle.sign_font.specs.Sign.{SignData, tallest}
 use Rattle.multi_layout.specs.declared.cursor.Cursor.{Cursor}
-use Rattle.multi_layout.specs.declared.item.NextItem.{NextItem}
 use Rattle.multi_layout.specs.declared.paint.Layer.{Layer}
-use Rattle.multi_layout.specs.declared.place.Place.{Place}
 use Rattle.multi_layout.specs.declared.read.AreaLines.{AreaLines}
 use Rattle.multi_layout.specs.declared.state.State.{State}
 use Rattle.multi_layout.specs.declared.table.LineTable.{LineTable}
-use Rattle.multi_layout.specs.Address.{Glyph, Spot, is_glyph, spots, standing, in_group, lines_of, in_area}
+use Rattle.multi_layout.specs.Address.{Spot, spots, standing, in_group, lines_of, in_area}
 use Rattle.multi_layout.specs.Drawn.{Lights, has_colour}
 use Rattle.multi_layout.specs.Limits.{plane_octets}
 use Rattle.multi_layout.specs.Meaning.{Meaning, Does, Shows, EndsArea, begins_area, has_place}
-use Rattle.multi_layout.specs.Place.{place_of}
 use Rattle.multi_layout.specs.kept.State.{present_area}
 use Rattle.multi_layout.specs.kept.Sums.{ended_lines}
-use Rattle.multi_layout.specs.kept.Cursors.{IsBetween, IsRead, items_of, meant, LaidItem, spell_of}
+use Rattle.multi_layout.specs.kept.Cursors.{IsBetween, items_of, meant, LaidItem, spell_of}
 use Rattle.multi_layout.specs.kept.Table.{IsOrdered, group_lines, table_of}
 
 -- the item ends a line (NTCIP 1203 v03, MULTI tag 'nl')
@@ -111,48 +108,6 @@ abbrev pub DrawsGlyph : SignData → Layer → List Meaning → ℕ → List Mea
 DrawsGlyph sign layer before number rest old new =
     IsDrawnTo sign layer (before ++ Shows number ∷ rest) before old
     → IsDrawnTo sign layer (before ++ Shows number ∷ rest) (before ++ Shows number ∷ []) new
-
--- these of an area's items are drawn, and those are left (own)
-pub record AreaSoFar (sign : SignData) (octets : List ℕ) (before area rest : List LaidItem) (lines : LineTable) (layer : Layer) (cursor : Cursor)
-    (old new : BitPlane) : Type 0 where
-  pub done : List LaidItem
-  pub left : List LaidItem
-  pub split : area ≡ done ++ left
-  pub plain : BeginsNoArea left
-  pub between : IsBetween sign octets (before ++ done) (left ++ rest) cursor
-  pub counted : HasCounted (whole_area sign (before ++ done) (left ++ rest)) lines
-  pub drawn : IsDrawnTo sign layer (map meant (before ++ (area ++ rest))) (map meant before) old
-      → IsDrawnTo sign layer (map meant (before ++ (area ++ rest))) (map meant (before ++ done)) new
-
--- the next item of a string, if it is a character, stands at this place (own)
-abbrev pub NextStandsAt : SignData → List Meaning → List Meaning → Place → Type 0
-NextStandsAt sign before all place =
-    (spot : Spot) → is_glyph spot ≡ true → spot.at ≡ standing sign before → place_of (spots sign before) (spots sign all) spot ≡ place
-
--- a character behind some items stands at this place, whatever of the string is behind it (own)
-abbrev pub StandsAt : SignData → List Meaning → ℕ → List Meaning → Place → Type 0
-StandsAt sign before number rest place =
-    (cell : CellData) → cell_numbered (standing sign before).font number ≡ Some cell
-    → place ≡ place_of (spots sign before) (spots sign (before ++ Shows number ∷ rest)) (record { at = standing sign before; put = Glyph cell })
-
--- the octets that were read behind the cursor (own)
-abbrev pub octets_read : Option ℕ → ℕ
-octets_read None = 0
-octets_read (Some octet) = 1
-
--- the octet at an offset, if it was read; it is before this end (own)
-abbrev pub IsReadBehind : List ℕ → ℕ → ℕ → Option ℕ → Type 0
-IsReadBehind octets at end read = IfSome read (λ octet. (slice_get octets at ≡ Some octet) × (at < end))
-
--- the cursor stands before an item of an area that was read, of which this is read: those items are behind it in the area, and then these
--- (own)
-pub record IsNextDrawn (sign : SignData) (octets : List ℕ) (before area rest : List LaidItem) (item : LaidItem) (next : NextItem)
-    (read : AreaLines) (cursor : Cursor) : Type 0 where
-  pub between : IsBetween sign octets before (item ∷ (area ++ rest)) cursor
-  pub read_is : IsRead item next
-  pub plain : BeginsNoArea (item ∷ area)
-  pub ends : read.end ≡ cursor.at + length (spell_of (item ∷ area))
-  pub counted : HasCounted (whole_area sign before (item ∷ (area ++ rest))) read.lines
 
 -- so it is wherever the cursor stands before the items of an area that was read, and other items (own)
 abbrev pub OverArea : SignData → List ℕ → Cursor → AreaLines → (List LaidItem → List LaidItem → List LaidItem → Type 0) → Type 0

@@ -152,8 +152,8 @@ impl Walk {
         }
     }
 
-    /// Goes over the items of an area for the first time. Where lines aren't filled, a run begins behind each character that is an octet: it
-    /// looks up its font, and looks at the octet that ends it.
+    /// Goes over the items of an area for the first time. Where lines aren't filled, a run begins behind each character that is an octet:
+    /// it looks up its font, and looks at the octet that ends it.
     fn pass_lines(&mut self, sign: &Sign, source: &mut Source<'_>, octets: &[u8]) {
         let mut in_run = false;
         for _ in 0..=source.len() {

@@ -1,6 +1,7 @@
 use Rattle.std.proofs.Common.{◌≡◌, ◌+◌, ◌-◌, ◌*◌, ◌≤◌, List, ◌++◌, length}
 use Rattle.multi_token.specs.Counted.{RisesBetween}
-use Rattle.multi_layout.specs.kept.AreaDrawing.{AreaSoFar, HasCounted, IsFilledBy, IsReadBehind, BeginsNoArea, octets_read, whole_area}
+use Rattle.multi_layout.specs.kept.AreaDrawing.{HasCounted, IsFilledBy, BeginsNoArea, whole_area}
+use Rattle.multi_layout.specs.kept.RunDrawing.{AreaSoFar, IsReadBehind, octets_read}
 use Rattle.multi_layout.specs.kept.Cursors.{IsBetween, LaidItem, spell_of}
 use Rattle.multi_layout.proofs.draw.draw_area.Given as goal
 

@@ -12,7 +12,8 @@ use Rattle.multi_layout.specs.Address.{Glyph, spots, standing, in_area}
 use Rattle.multi_layout.specs.kept.KnownItem.{meant_by}
 use Rattle.multi_layout.specs.Meaning.{begins_area, Does, has_place, Meaning, Shows}
 use Rattle.multi_layout.specs.Offence.{unsized_offence}
-use Rattle.multi_layout.specs.kept.AreaDrawing.{HasCounted, IsDrawnTo, NextStandsAt}
+use Rattle.multi_layout.specs.kept.AreaDrawing.{HasCounted, IsDrawnTo}
+use Rattle.multi_layout.specs.kept.RunDrawing.{NextStandsAt}
 use Rattle.multi_layout.proofs.BesideLemmas.{beside_stands, same_standing}
 use Rattle.multi_layout.proofs.DrawLemmas.{low_between, cell_height, glyph_drawn, map_split, four_octets, tag_drawn, rows_few, tag_filled}
 use Rattle.multi_layout.proofs.BoundLemmas.{below_more}
@@ -25,7 +26,9 @@ use Rattle.multi_layout.proofs.draw.draw_item.Goals as goal
 pub unreachable-requires : goal.unreachable-requires
 unreachable-requires c =
     let sign = c.args.sign.now in
-    let (before, rest, item, b, read, counted) = c.requires.known in
+    let (before, rest, item, h) = c.requires.known in
+    let b = h.between in
+    let read = h.read_is in
     let shows : meant item ≡ Shows c.in-Char.number = read.meant ∙ ap meant_by c.in-Char.is in
     let none : cell_in sign c.args.cursor.now.state.attributes.font.number c.in-Char.number ≡ None = sym c.cell.ensures.cell ∙ c.in_default.is in
     let offends = unsized-undefined sign (map meant before) c.args.cursor.now.state b.state_is c.in-Char.number none in
@@ -35,7 +38,9 @@ unreachable-requires c =
 
 pub place_at-place-requires-clause-below : goal.place_at-place-requires-clause-below
 place_at-place-requires-clause-below c =
-    let (before, rest, item, b, read, counted) = c.requires.known in
+    let (before, rest, item, h) = c.requires.known in
+    let b = h.between in
+    let read = h.read_is in
     below_more (2 ^ 42) (2 ^ 43) c.args.cursor.now.state.area (omega arith) (low_between c.args.sign.now c.args.source.now.octets before (item ∷ rest) c.args.cursor.now b)
 
 pub returns-in-Some-clause-passed : goal.returns-in-Some-clause-passed
@@ -45,7 +50,10 @@ returns-in-Some-clause-passed c = λ before rest item b read.
     c.pass_character.ensures.passed sign c.args.source.now.octets before rest item c.in-Some.cell b (record { meant = read.meant ∙ ap meant_by c.in-Char.is; known = tt; len = read.len }) found c.width-width.ensures
 
 pub returns-in-Some-clause-drawn : goal.returns-in-Some-clause-drawn
-returns-in-Some-clause-drawn c = λ before rest item b read plain counted.
+returns-in-Some-clause-drawn c = λ before rest item h plain.
+    let b = h.between in
+    let read = h.read_is in
+    let counted = h.counted in
     let sign = c.args.sign.now in
     let state = c.args.cursor.now.state in
     let number = c.in-Char.number in
@@ -61,50 +69,55 @@ returns-in-Some-clause-drawn c = λ before rest item b read plain counted.
 
 pub returns-in-Some-clause-beside : goal.returns-in-Some-clause-beside
 returns-in-Some-clause-beside c =
-    IfSome_then c.beside.result c.beside.ensures.beside
-    (λ next is before rest item b read counted.
     let sign = c.args.sign.now in
     let state = c.args.cursor.now.state in
     let number = c.in-Char.number in
-    let items = map meant before in
-    let shows : meant item ≡ Shows number = read.meant ∙ ap meant_by c.in-Char.is in
     let found : cell_in sign state.attributes.font.number number ≡ Some c.in-Some.cell = sym c.cell.ensures.cell ∙ c.in-Some.is in
-    let all = map_split before rest item (Shows number) shows in
-    let fine = ap (unsized_offence sign items) (sym shows) ∙ never_offends sign c.args.source.now.octets before rest item c.args.cursor.now b in
-    let lines = subst (λ (ms : List Meaning). HasCounted (in_area (standing sign items).area (spots sign ms)) c.args.lines.now) all counted in
-    let stands = stands_at sign items state b.state_is number c.in-Some.cell found (map meant rest) c.args.lines.now lines c.place_at-place.result
-    (λ earlier all spot glyph attributes wide area group there apart order. c.place_at-place.ensures.place earlier all spot glyph attributes (wide ∙ sym c.width-width.ensures) area (c.group-lines.ensures.lines ∙ group) there apart order) fine in
-    let behind = beside_stands sign items state b.state_is number c.in-Some.cell found (map meant (before ++ item ∷ rest)) c.place_at-place.result _ is.0 refl
-    (λ cell numbered. stands cell numbered ∙ ap (λ ms. place_of (spots sign items) (spots sign ms) (record { at = standing sign items; put = Glyph cell })) (sym all)) in
-    let here : Place = record { column = c.place_at-place.result.column + (c.in-Some.cell.width + unwrap_or state.attributes.spacing state.attributes.font.char_spacing); row = c.place_at-place.result.row } in
-    let wide = ap (λ n. let p : Place = record { column = c.place_at-place.result.column + (n + unwrap_or state.attributes.spacing state.attributes.font.char_spacing); row = c.place_at-place.result.row } in p) (sym c.width-width.ensures) in
-    subst (NextStandsAt sign (map meant (before ++ item ∷ [])) (map meant (before ++ item ∷ rest))) (wide ∙ sym is.1)
-    (subst (λ ms. NextStandsAt sign ms (map meant (before ++ item ∷ rest)) here) (sym (map_split before [] item (Shows number) shows)) behind))
-
-pub returns-in-Some-clause-apart : goal.returns-in-Some-clause-apart
-returns-in-Some-clause-apart c =
-    let sign = c.args.sign.now in
-    let state = c.args.cursor.now.state in
-    let number = c.in-Char.number in
-    let (before, rest, item, b, read, counted) = c.requires.known in
+    let (before, rest, item, h) = c.requires.known in
+    let b = h.between in
+    let read = h.read_is in
     let shows : meant item ≡ Shows number = read.meant ∙ ap meant_by c.in-Char.is in
-    let found : cell_in sign state.attributes.font.number number ≡ Some c.in-Some.cell = sym c.cell.ensures.cell ∙ c.in-Some.is in
     let new = c.pass_character.ensures.passed sign c.args.source.now.octets before rest item c.in-Some.cell b (record { meant = shows; known = tt; len = read.len }) found c.width-width.ensures in
     let same : c.pass_character.new.self.state.attributes ≡ state.attributes =
     new.state_is.attributes ∙ ap (λ ms. attributes_of (standing sign ms)) (map_split before [] item (Shows number) shows) ∙ ap attributes_of (same_standing sign (map meant before) number) ∙ sym b.state_is.attributes in
-    IfSome_then c.beside.result c.beside.ensures.beside (λ next is five. is.0 (ap (λ (a : Attributes). a.line_just) (sym same) ∙ five))
+    IfSome_then c.beside.result c.beside.ensures
+    (λ next is. record {
+      stands = λ before rest item h.
+          let b = h.between in
+          let read = h.read_is in
+          let counted = h.counted in
+          let items = map meant before in
+          let shows : meant item ≡ Shows number = read.meant ∙ ap meant_by c.in-Char.is in
+          let all = map_split before rest item (Shows number) shows in
+          let fine = ap (unsized_offence sign items) (sym shows) ∙ never_offends sign c.args.source.now.octets before rest item c.args.cursor.now b in
+          let lines = subst (λ (ms : List Meaning). HasCounted (in_area (standing sign items).area (spots sign ms)) c.args.lines.now) all counted in
+          let stands = stands_at sign items state b.state_is number c.in-Some.cell found (map meant rest) c.args.lines.now lines c.place_at-place.result
+          (λ earlier all spot glyph attributes wide area group there apart order. c.place_at-place.ensures.place earlier all spot glyph attributes (wide ∙ sym c.width-width.ensures) area (c.group-lines.ensures.lines ∙ group) there apart order) fine in
+          let behind = beside_stands sign items state b.state_is number c.in-Some.cell found (map meant (before ++ item ∷ rest)) c.place_at-place.result _ is.0 refl
+          (λ cell numbered. stands cell numbered ∙ ap (λ ms. place_of (spots sign items) (spots sign ms) (record { at = standing sign items; put = Glyph cell })) (sym all)) in
+          let here : Place = record { column = c.place_at-place.result.column + (c.in-Some.cell.width + unwrap_or state.attributes.spacing state.attributes.font.char_spacing); row = c.place_at-place.result.row } in
+          let wide = ap (λ n. let p : Place = record { column = c.place_at-place.result.column + (n + unwrap_or state.attributes.spacing state.attributes.font.char_spacing); row = c.place_at-place.result.row } in p) (sym c.width-width.ensures) in
+          subst (NextStandsAt sign (map meant (before ++ item ∷ [])) (map meant (before ++ item ∷ rest))) (wide ∙ sym is.2)
+          (subst (λ ms. NextStandsAt sign ms (map meant (before ++ item ∷ rest)) here) (sym (map_split before [] item (Shows number) shows)) behind);
+      apart = λ five. is.0 (ap (λ (a : Attributes). a.line_just) (sym same) ∙ five);
+      low = is.1;
+    })
 
 pub returns-in-Some-clause-fills : goal.returns-in-Some-clause-fills
 returns-in-Some-clause-fills c =
     let sign = c.args.sign.now in
-    let (before, rest, item, b, read, counted) = c.requires.known in
+    let (before, rest, item, h) = c.requires.known in
+    let b = h.between in
+    let read = h.read_is in
     let found : cell_in sign c.args.cursor.now.state.attributes.font.number c.in-Char.number ≡ Some c.in-Some.cell = sym c.cell.ensures.cell ∙ c.in-Some.is in
     let tall = (cell_height sign (map meant before) c.args.cursor.now.state b.state_is c.in-Char.number c.in-Some.cell found).1 in
     rows_few sign c.args.plane.now c.put_character.new.plane c.args.next.len c.in-Some.cell.height (omega (arith, read.len, spelling_some item.item)) tall
     c.put_character.ensures.counted c.put_character.ensures.steps c.put_character.ensures.width c.put_character.ensures.height
 
 pub returns-in-Tag-clause-drawn : goal.returns-in-Tag-clause-drawn
-returns-in-Tag-clause-drawn c = λ before rest item b read plain counted drawn.
+returns-in-Tag-clause-drawn c = λ before rest item h plain drawn.
+    let b = h.between in
+    let read = h.read_is in
     let sign = c.args.sign.now in
     let does : meant item ≡ Does c.in-Tag.tag = read.meant ∙ ap meant_by c.in-Tag.is in
     let all = map_split before rest item (Does c.in-Tag.tag) does in
@@ -117,7 +130,9 @@ returns-in-Tag-clause-drawn c = λ before rest item b read plain counted drawn.
 pub returns-in-Tag-clause-fills : goal.returns-in-Tag-clause-fills
 returns-in-Tag-clause-fills c =
     let sign = c.args.sign.now in
-    let (before, rest, item, b, read, counted) = c.requires.known in
+    let (before, rest, item, h) = c.requires.known in
+    let b = h.between in
+    let read = h.read_is in
     let does : meant item ≡ Does c.in-Tag.tag = read.meant ∙ ap meant_by c.in-Tag.is in
     tag_filled sign c.args.plane.now c.draw_tag.new.plane c.args.next.len c.in-Tag.tag
     (λ given is. let raw = (itself b (ap has_place (does ∙ ap Does is))).1 in omega (arith, read.len, four_octets item.item c.in-Tag.tag (raw ∙ does)))

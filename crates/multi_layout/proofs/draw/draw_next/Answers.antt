@@ -5,7 +5,8 @@ use Rattle.multi_token.specs.Counted.{Counted}
 use Rattle.multi_token.specs.Spelling.{spelling}
 use Rattle.multi_token.proofs.StepLemmas.{rises_more, rises_then}
 use Rattle.multi_layout.specs.Meaning.{begins_area}
-use Rattle.multi_layout.specs.kept.AreaDrawing.{AreaSoFar, IsFilledBy, NextStandsAt, octets_read}
+use Rattle.multi_layout.specs.kept.AreaDrawing.{IsFilledBy}
+use Rattle.multi_layout.specs.kept.RunDrawing.{AreaSoFar, NextStandsAt, octets_read}
 use Rattle.multi_layout.specs.kept.Cursors.{IsBetween, LaidItem, meant, spell_of}
 use Rattle.multi_layout.proofs.AreaDrawLemmas.{area_first, area_then, counted_more, filled_then}
 use Rattle.multi_layout.proofs.draw.draw_next.Goals as goal
@@ -13,8 +14,8 @@ use Rattle.multi_layout.proofs.draw.draw_next.Goals as goal
 pub returns-in_err-place-clause-so_far : goal.returns-in_err-place-clause-so_far
 returns-in_err-place-clause-so_far c = λ before area rest item n.
     let d = c.draw_item.ensures in
-    area_first n c.args.layer c.draw_item.new.cursor c.args.plane.now c.draw_item.new.plane (d.passed before (area ++ rest) item n.between n.read_is)
-    (d.drawn before (area ++ rest) item n.between n.read_is (All-head (λ (x : LaidItem). begins_area (meant x) ≡ false) item area n.plain) n.counted)
+    area_first n c.args.layer c.draw_item.new.cursor c.args.plane.now c.draw_item.new.plane (d.passed before (area ++ rest) item n.here.between n.here.read_is)
+    (d.drawn before (area ++ rest) item n.here (All-head (λ (x : LaidItem). begins_area (meant x) ≡ false) item area n.plain))
 
 pub draw_run-requires-clause-known : goal.draw_run-requires-clause-known
 draw_run-requires-clause-known c =
@@ -23,16 +24,18 @@ draw_run-requires-clause-known c =
     let d = c.draw_item.ensures in
     let same : c.draw_item.new.source.octets ≡ c.args.source.now.octets = ap (λ (s : Counted). s.octets) d.steps.3 in
     let plain = All-head (λ (x : LaidItem). begins_area (meant x) ≡ false) item area n.plain in
-    let stands = c.in_ok-place.ensures.beside before (area ++ rest) item n.between n.read_is n.counted in
-    let end : c.args.read.now.end ≡ c.draw_item.new.cursor.at + length (spell_of area) = omega (arith, n.ends, d.at, n.read_is.len, length-append (spelling item.item) (spell_of area)) in (
+    let stands = c.in_ok-place.ensures.beside.stands before (area ++ rest) item n.here in
+    let end : c.args.read.now.end ≡ c.draw_item.new.cursor.at + length (spell_of area) = omega (arith, n.ends, d.at, n.here.read_is.len, length-append (spelling item.item) (spell_of area)) in (
       before ++ item ∷ [],
       area,
       rest,
-      subst (λ o. IsBetween sign o (before ++ item ∷ []) (area ++ rest) c.draw_item.new.cursor) (sym same) (d.passed before (area ++ rest) item n.between n.read_is),
-      All-tail (λ (x : LaidItem). begins_area (meant x) ≡ false) item area n.plain,
-      end,
-      counted_more sign before (area ++ rest) item c.args.read.now.lines plain n.counted,
-      subst (λ l. NextStandsAt sign (map meant (before ++ item ∷ [])) (map meant l) c.in_ok-place.place) (sym (append_assoc before (item ∷ []) (area ++ rest))) stands,
+      record {
+        between = subst (λ o. IsBetween sign o (before ++ item ∷ []) (area ++ rest) c.draw_item.new.cursor) (sym same) (d.passed before (area ++ rest) item n.here.between n.here.read_is);
+        plain = All-tail (λ (x : LaidItem). begins_area (meant x) ≡ false) item area n.plain;
+        ends = end;
+        counted = counted_more sign before (area ++ rest) item c.args.read.now.lines plain n.here.counted;
+        stands = subst (λ l. NextStandsAt sign (map meant (before ++ item ∷ [])) (map meant l) c.in_ok-place.place) (sym (append_assoc before (item ∷ []) (area ++ rest))) stands;
+      },
     )
 
 pub returns-clause-so_far : goal.returns-clause-so_far
@@ -43,13 +46,17 @@ returns-clause-so_far c = λ before area rest item n.
     let d = c.draw_item.ensures in
     let same : c.draw_item.new.source.octets ≡ octets = ap (λ (s : Counted). s.octets) d.steps.3 in
     let plain = All-head (λ (x : LaidItem). begins_area (meant x) ≡ false) item area n.plain in
-    let between = d.passed before (area ++ rest) item n.between n.read_is in
-    let first = area_first n c.args.layer c.draw_item.new.cursor c.args.plane.now c.draw_item.new.plane between (d.drawn before (area ++ rest) item n.between n.read_is plain n.counted) in
-    let stands = c.in_ok-place.ensures.beside before (area ++ rest) item n.between n.read_is n.counted in
-    let end : c.args.read.now.end ≡ c.draw_item.new.cursor.at + length (spell_of area) = omega (arith, n.ends, d.at, n.read_is.len, length-append (spelling item.item) (spell_of area)) in
-    let others = c.draw_run.ensures.so_far (before ++ item ∷ []) area rest (subst (λ o. IsBetween sign o (before ++ item ∷ []) (area ++ rest) c.draw_item.new.cursor) (sym same) between)
-    (All-tail (λ (x : LaidItem). begins_area (meant x) ≡ false) item area n.plain) end (counted_more sign before (area ++ rest) item lines plain n.counted)
-    (subst (λ l. NextStandsAt sign (map meant (before ++ item ∷ [])) (map meant l) c.in_ok-place.place) (sym (append_assoc before (item ∷ []) (area ++ rest))) stands) in
+    let between = d.passed before (area ++ rest) item n.here.between n.here.read_is in
+    let first = area_first n c.args.layer c.draw_item.new.cursor c.args.plane.now c.draw_item.new.plane between (d.drawn before (area ++ rest) item n.here plain) in
+    let stands = c.in_ok-place.ensures.beside.stands before (area ++ rest) item n.here in
+    let end : c.args.read.now.end ≡ c.draw_item.new.cursor.at + length (spell_of area) = omega (arith, n.ends, d.at, n.here.read_is.len, length-append (spelling item.item) (spell_of area)) in
+    let others = c.draw_run.ensures.so_far (before ++ item ∷ []) area rest (record {
+      between = (subst (λ o. IsBetween sign o (before ++ item ∷ []) (area ++ rest) c.draw_item.new.cursor) (sym same) between);
+      plain = (All-tail (λ (x : LaidItem). begins_area (meant x) ≡ false) item area n.plain);
+      ends = end;
+      counted = (counted_more sign before (area ++ rest) item lines plain n.here.counted);
+      stands = (subst (λ l. NextStandsAt sign (map meant (before ++ item ∷ [])) (map meant l) c.in_ok-place.place) (sym (append_assoc before (item ∷ []) (area ++ rest))) stands);
+    }) in
     area_then sign octets before (item ∷ area) rest lines c.args.layer c.draw_item.new.cursor c.draw_run.new.cursor c.args.plane.now c.draw_item.new.plane c.draw_run.new.plane first
     (subst (λ o. AreaSoFar sign o (before ++ item ∷ []) area rest lines c.args.layer c.draw_run.new.cursor c.draw_item.new.plane c.draw_run.new.plane) same others)
 

@@ -21,10 +21,10 @@ loop-at-init c =
     let w : (line_in_force cursor.state).part.width + (c.args.place.column - c.args.place.column) ≡ (line_in_force cursor.state).part.width = omega arith in
     let k : (line_in_force cursor.state).part.count + (cursor.at - cursor.at) ≡ (line_in_force cursor.state).part.count = omega arith in
     record {
-      so_far = λ before area rest b plain ends counted stands.
+      so_far = λ before area rest h.
           subst (λ (x : Cursor). RunSoFar c.args.sign.now c.args.source.now.octets before area rest c.args.read.now.lines c.args.layer x c.args.place c.args.plane.now c.args.plane.now)
           (λ i. record { at = cursor.at; state = lengthened (sym w i) (sym k i) cursor.state })
-          (run_begins c.args.sign.now c.args.source.now.octets before area rest c.args.read.now.lines c.args.layer cursor c.args.place c.args.plane.now b plain counted stands);
+          (run_begins c.args.sign.now c.args.source.now.octets before area rest c.args.read.now.lines c.args.layer cursor c.args.place c.args.plane.now h.between h.plain h.counted h.stands);
       forward = omega arith;
       least = omega arith;
       most = omega arith;
@@ -35,15 +35,15 @@ loop-at-init c =
 pub unreachable-requires : goal.unreachable-requires
 unreachable-requires c =
     let i = c.loop-at.invariant in
-    let (before, area, rest, b, plain, ends, counted, stands) = c.requires.known in
-    let r = i.so_far before area rest b plain ends counted stands in
+    let (before, area, rest, h) = c.requires.known in
+    let r = i.so_far before area rest h in
     let same : c.loop-at.source.octets ≡ c.args.source.now.octets = ap (λ (s : Counted). s.octets) i.steps.3 in
-    let end : c.args.read.now.end ≡ length (spell_of before) + length (spell_of area) = omega (arith, ends, b.placed.place) in
+    let end : c.args.read.now.end ≡ length (spell_of before) + length (spell_of area) = omega (arith, h.ends, h.between.placed.place) in
     octet_stands c.args.sign.now c.args.source.now.octets before area rest c.args.read.now.lines c.args.layer _ c.args.plane.now c.loop-at.plane r.so_far c.args.read.now.end end c.loop-at-test.true
     (ap (λ o. slice_get o c.loop-at.at) (sym same) ∙ sym c.read.ensures.octet ∙ c.in_default.is)
 
 pub returns-then-is_bracket-clause-so_far : goal.returns-then-is_bracket-clause-so_far
-returns-then-is_bracket-clause-so_far c = λ before area rest b plain ends counted stands. (c.loop-at.invariant.so_far before area rest b plain ends counted stands).so_far
+returns-then-is_bracket-clause-so_far c = λ before area rest h. (c.loop-at.invariant.so_far before area rest h).so_far
 
 pub returns-then-is_bracket-clause-next : goal.returns-then-is_bracket-clause-next
 returns-then-is_bracket-clause-next c =
@@ -59,13 +59,13 @@ unreachable-requires-in_default-cell c =
     let i = c.loop-at.invariant in
     let sign = c.args.sign.now in
     let octets = c.args.source.now.octets in
-    let (before, area, rest, b, plain, ends, counted, stands) = c.requires.known in
-    let r = i.so_far before area rest b plain ends counted stands in
+    let (before, area, rest, h) = c.requires.known in
+    let r = i.so_far before area rest h in
     let same : c.loop-at.source.octets ≡ octets = ap (λ (s : Counted). s.octets) i.steps.3 in
-    let end : c.args.read.now.end ≡ length (spell_of before) + length (spell_of area) = omega (arith, ends, b.placed.place) in
+    let end : c.args.read.now.end ≡ length (spell_of before) + length (spell_of area) = omega (arith, h.ends, h.between.placed.place) in
     let here : slice_get octets c.loop-at.at ≡ Some c.in-Some.octet = ap (λ o. slice_get o c.loop-at.at) (sym same) ∙ sym c.read.ensures.octet ∙ c.in-Some.is in
     has_cell sign octets before area rest c.args.read.now.lines c.args.layer _ _ c.args.plane.now c.loop-at.plane r c.args.read.now.end end c.loop-at-test.true c.requires.off c.in-Some.octet
-    (omega (arith, b.placed.accepted.short)) here (no_bracket c.in-Some.octet (sym c.is_bracket.ensures ∙ c.if-is_bracket.false))
+    (omega (arith, h.between.placed.accepted.short)) here (no_bracket c.in-Some.octet (sym c.is_bracket.ensures ∙ c.if-is_bracket.false))
     (ap (cell_in sign c.args.cursor.now.state.attributes.font.number) (sym c.from.ensures) ∙ sym c.cell.ensures.cell ∙ c.in_default-cell.is)
 
 pub loop-at-preserved : goal.loop-at-preserved
@@ -81,19 +81,19 @@ loop-at-preserved c =
     let size = c.in-Some-cell.ensures.size in
     let gap_is : c.from-gap.result ≡ unwrap_or state.attributes.spacing state.attributes.font.char_spacing = c.from-gap.ensures ∙ c.gap.ensures in
     let narrow : c.from-gap.result ≤ 255 = omega (arith, c.from-gap.ensures, c.gap.type_inv) in
-    let (before', area', rest', b', plain', ends', counted', stands') = c.requires.known in
-    let r' = i.so_far before' area' rest' b' plain' ends' counted' stands' in
+    let (before', area', rest', h') = c.requires.known in
+    let r' = i.so_far before' area' rest' h' in
     let tall = (cell_height sign (map meant (before' ++ r'.so_far.done)) _ r'.so_far.between.state_is c.in-Some.octet c.in-Some-cell.cell found).1 in
     let on : (c.loop-at.at - c.args.cursor.now.at) + 1 ≡ c.loop-at.at + 1 - c.args.cursor.now.at = omega (arith, i.forward) in
     let read = rises_then c.args.source.now c.loop-at.source c.read.new.self 0 (9 * (c.loop-at.at - c.args.cursor.now.at)) 0 1 i.steps (1, omega arith, omega arith, c.read.ensures.step) in
     let cell_steps = c.cell.ensures.steps in
     let all = rises_then c.args.source.now c.read.new.self c.cell.new.source 0 (9 * (c.loop-at.at - c.args.cursor.now.at) + 1) 0 8 read (cell_steps.0, omega arith, cell_steps.2, cell_steps.3) in
     record {
-      so_far = λ before area rest b plain ends counted stands.
-          let r = i.so_far before area rest b plain ends counted stands in
-          let end : c.args.read.now.end ≡ length (spell_of before) + length (spell_of area) = omega (arith, ends, b.placed.place) in
+      so_far = λ before area rest h.
+          let r = i.so_far before area rest h in
+          let end : c.args.read.now.end ≡ length (spell_of before) + length (spell_of area) = omega (arith, h.ends, h.between.placed.place) in
           let more = run_more sign octets before area rest c.args.read.now.lines c.args.layer _ _ c.args.plane.now c.loop-at.plane r c.args.read.now.end end c.loop-at-test.true c.requires.off c.in-Some.octet
-          (omega (arith, b.placed.accepted.short)) here (no_bracket c.in-Some.octet (sym c.is_bracket.ensures ∙ c.if-is_bracket.false)) (behind_stays state _ _ c.requires.behind) c.requires.apart c.from-gap.result gap_is narrow
+          (omega (arith, h.between.placed.accepted.short)) here (no_bracket c.in-Some.octet (sym c.is_bracket.ensures ∙ c.if-is_bracket.false)) (behind_stays state _ _ c.requires.behind) c.requires.place.0 c.from-gap.result gap_is narrow
           c.in-Some-cell.cell found size.0.1 c.put_character.new.plane c.put_character.ensures.drawn in
           let w : (line_in_force state).part.width + (c.loop-at.column - c.args.place.column) + (c.from-gap.result + c.in-Some-cell.cell.width) ≡ (line_in_force state).part.width + (c.loop-at.column + (c.from-in-loop-at.result + c.from-gap.result) - c.args.place.column) =
           omega (arith, wide, i.least) in
@@ -110,9 +110,18 @@ loop-at-preserved c =
           (rows_few sign c.loop-at.plane c.put_character.new.plane 1 c.in-Some-cell.cell.height (omega arith) tall c.put_character.ensures.counted c.put_character.ensures.steps c.put_character.ensures.width c.put_character.ensures.height));
     }
 
+pub returns-then-is_bracket-clause-forward : goal.returns-then-is_bracket-clause-forward
+returns-then-is_bracket-clause-forward c =
+    let i = c.loop-at.invariant in
+    let (before, area, rest, h) = c.requires.known in
+    let r = i.so_far before area rest h in
+    let within = within_between c.args.sign.now c.args.source.now.octets (before ++ r.so_far.done) (r.so_far.left ++ rest) _ r.so_far.between in
+    (i.forward, omega (arith, within, h.between.placed.accepted.short), i.least, i.most)
+
 pub returns-clause-forward : goal.returns-clause-forward
 returns-clause-forward c =
     let i = c.loop-at.invariant in
-    let (before, area, rest, b, plain, ends, counted, stands) = c.requires.known in
-    let r = i.so_far before area rest b plain ends counted stands in
-    (i.forward, omega (arith, within_between c.args.sign.now c.args.source.now.octets (before ++ r.so_far.done) (r.so_far.left ++ rest) _ r.so_far.between, b.placed.accepted.short))
+    let (before, area, rest, h) = c.requires.known in
+    let r = i.so_far before area rest h in
+    let within = within_between c.args.sign.now c.args.source.now.octets (before ++ r.so_far.done) (r.so_far.left ++ rest) _ r.so_far.between in
+    (i.forward, omega (arith, within, h.between.placed.accepted.short), i.least, i.most)

@@ -1,18 +1,16 @@
-use Rattle.std.proofs.Common.{◌≡◌, ◌+◌, ◌-◌, ◌*◌, ◌≤◌, List, ◌++◌, length, map}
+use Rattle.std.proofs.Common.{◌+◌, ◌-◌, ◌*◌, ◌≤◌, List}
 use Rattle.multi_token.specs.Counted.{RisesBetween}
-use Rattle.multi_layout.specs.kept.AreaDrawing.{BeginsNoArea, HasCounted, IsFilledBy, NextStandsAt, whole_area}
-use Rattle.multi_layout.specs.kept.Cursors.{IsBetween, LaidItem, meant, spell_of}
-use Rattle.multi_layout.specs.kept.Run.{lengthened, line_in_force}
+use Rattle.multi_layout.specs.kept.AreaDrawing.{IsFilledBy}
+use Rattle.multi_layout.specs.kept.Cursors.{LaidItem}
+use Rattle.multi_layout.specs.kept.RunDrawing.{IsRunHere, cursor_behind}
 use Rattle.multi_layout.proofs.BesideLemmas.{RunSoFar}
 use Rattle.multi_layout.proofs.draw_run.draw_beside.Given as goal
 
 -- the characters so far are drawn, each beside the one before it
 abbrev pub invariant-loop-at : goal.invariant-loop-at
 invariant-loop-at l = record {
-  so_far : (before area rest : List LaidItem) → IsBetween l.sign l.initial.source.octets before (area ++ rest) l.cursor → BeginsNoArea area → l.read.end ≡ l.cursor.at + length (spell_of area)
-      → HasCounted (whole_area l.sign before (area ++ rest)) l.read.lines → NextStandsAt l.sign (map meant before) (map meant (before ++ (area ++ rest))) l.place
-      → RunSoFar l.sign l.initial.source.octets before area rest l.read.lines l.layer
-      (record { at = l.at; state = lengthened ((line_in_force l.cursor.state).part.width + (l.column - l.place.column)) ((line_in_force l.cursor.state).part.count + (l.at - l.cursor.at)) l.cursor.state })
+  so_far : (before area rest : List LaidItem) → IsRunHere l.sign l.initial.source.octets before area rest l.read l.place l.cursor
+      → RunSoFar l.sign l.initial.source.octets before area rest l.read.lines l.layer (cursor_behind l.cursor l.place.column l.column l.at)
       (record { column = l.column; row = l.place.row }) l.initial.plane l.plane;
   forward : l.cursor.at ≤ l.at;
   least : l.place.column ≤ l.column;
