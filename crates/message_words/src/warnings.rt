@@ -1,4 +1,7 @@
 //! What the writer of an accepted message can't have meant.
+ghost use Rattle.std.specs.Prelude.{◌≡◌, ◌∷◌, [], ◌++◌, ◌<◌, IfOk, OnOk, length};
+ghost use Rattle.std.specs.List.{Contains};
+ghost use Rattle.message_words.specs.Places.{places};
 
 use crate::sight::Sight;
 use crate::standing::{Piece, Times, piece_at, times_of};
@@ -51,12 +54,16 @@ struct Reading<'a> {
 
 impl<'a> Reading<'a> {
     /// Adds a warning.
-    fn warn(&mut self, at: usize, words: String) -> Result<(), AllocError> {
+    fn warn(&mut self, at: usize, words: String) -> Result<(), AllocError>
+        ensures { OnOk result (places self.new.found.items ≡ places self.old.found.items ++ at ∷ []) }
+    {
         Ok(self.found.push(Warning { at, words })?)
     }
 
     /// Adds a warning in these words.
-    fn say(&mut self, at: usize, words: &str) -> Result<(), AllocError> {
+    fn say(&mut self, at: usize, words: &str) -> Result<(), AllocError>
+        ensures { OnOk result (places self.new.found.items ≡ places self.old.found.items ++ at ∷ []) }
+    {
         let words = String::from_str(self.alloc, words)?;
         self.warn(at, words)
     }
@@ -202,15 +209,21 @@ impl<'a> Reading<'a> {
         Ok(())
     }
 
-    /// Warns of a message that the message table doesn't take, and of an off time that no page has.
-    fn look_at_whole(&mut self, max_string: u16, is_one: bool) -> Result<(), AllocError> {
+    /// Warns of a message of so many octets that the message table doesn't take it, and of an off time that no page has.
+    fn look_at_whole(
+        &mut self,
+        octets: usize,
+        max_string: u16,
+        is_one: bool,
+    ) -> Result<(), AllocError>
+        ensures { OnOk result (max_string < octets → Contains (places self.new.found.items) max_string) }
+    {
         let most = usize::from(max_string);
-        if self.message.len() > most {
+        if octets > most {
             let mut words = String::new(self.alloc);
             write!(
                 words,
-                "the message has {} octets, and the sign's message table takes texts of at most {most}",
-                self.message.len()
+                "the message has {octets} octets, and the sign's message table takes texts of at most {most}"
             )?;
             self.warn(most, words)?;
         }
@@ -227,14 +240,17 @@ impl<'a> Reading<'a> {
 
 /// The warnings on a message that a sign accepts (own): a text longer than the message table takes, an off time with one page, a page that
 /// is shown for less than half a second or on which nothing is lit, a space at the end of a line that moves it, a font whose version isn't
-/// asked for, and text that can't be seen. What the sign made of the message is handed in. The error says that memory was refused.
+/// asked for, and text that can't be seen. What the sign made of the message is handed in. The warning on a text that is too long for the
+/// message table stands at the first octet too many. The error says that memory was refused.
 pub fn warnings_on(
     alloc: Global,
     sign: &Sign,
     message: &[u8],
     checked: &Checked<'_>,
     max_string: u16,
-) -> Result<Vec<Warning>, AllocError> {
+) -> Result<Vec<Warning>, AllocError>
+    ensures { IfOk result (λ warnings. max_string < length message.now → Contains (places warnings.items) max_string) }
+{
     let is_one = checked.pages() == 1;
     let cycle = checked.cycle();
     let sight = Sight::new(alloc, sign, message)?;
@@ -253,7 +269,7 @@ pub fn warnings_on(
     };
     reading.read(&sight, cycle, is_one)?;
     reading.look_at_text(&sight)?;
-    reading.look_at_whole(max_string, is_one)?;
+    reading.look_at_whole(message.len(), max_string, is_one)?;
     let Reading { found, .. } = reading;
     Ok(found)
 }

@@ -67,7 +67,7 @@ fn draw_beside(
     plane: &mut Plane,
 ) -> (usize, u64, Option<u8>)
     requires off { sign.now.line_fill ≡ Off }
-    requires behind { IsBehindCharacter cursor.now.state }
+    requires on { IsBehindCharacter cursor.now.state }
     requires place { (cursor.now.state.attributes.line_just ≢ 5) × (place.column ≤ 2 ^ 63) }
     requires known { (before area rest : List LaidItem) × IsRunHere sign.now source.old.octets before area rest read.now place cursor.now }
     requires size { IsSized plane.old sign.now }

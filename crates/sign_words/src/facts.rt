@@ -85,16 +85,27 @@ struct FileFacts<'a> {
 
 /// The defaults.
 fn default_facts(defaults: Defaults) -> DefaultFacts {
+    let Defaults {
+        font,
+        line,
+        page,
+        page_on,
+        page_off,
+        flash_on,
+        flash_off,
+        fore,
+        back,
+    } = defaults;
     DefaultFacts {
-        font: defaults.font,
-        line: defaults.line,
-        page: defaults.page,
-        page_on: defaults.page_on,
-        page_off: defaults.page_off,
-        flash_on: defaults.flash_on,
-        flash_off: defaults.flash_off,
-        fore: defaults.fore,
-        back: defaults.back,
+        font,
+        line,
+        page,
+        page_on,
+        page_off,
+        flash_on,
+        flash_off,
+        fore,
+        back,
     }
 }
 

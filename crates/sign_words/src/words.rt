@@ -1,4 +1,7 @@
 //! The words on a sign file.
+ghost use Rattle.std.specs.Prelude.{◌≡◌, [], true, false, IfOk, OnOk};
+ghost use Rattle.sign_file.specs.Nesting.{is_shallow};
+ghost use Rattle.sign_words.specs.Document.{IsDocument};
 
 use crate::describe::{Setup, describe};
 use crate::facts::json_of;
@@ -27,7 +30,11 @@ fn line_of(text: &[u8], offset: usize) -> usize {
 }
 
 /// Tells what no line of a sign file may be if it stands before a mark.
-fn look_at_lines(found: &mut Findings, octets: &[u8]) -> Result<(), AllocError> {
+fn look_at_lines(
+    alloc: Global,
+    warnings: &mut Vec<String>,
+    octets: &[u8],
+) -> Result<(), AllocError> {
     for (place, line) in octets.split(|octet| *octet == b'\n').enumerate() {
         let line = line.strip_suffix(b"\r").unwrap_or(line);
         let what = if line == b"%%".as_slice() {
@@ -38,14 +45,17 @@ fn look_at_lines(found: &mut Findings, octets: &[u8]) -> Result<(), AllocError> 
             continue;
         };
         let number = place.saturating_add(1);
-        let told = format!(in found.alloc; "line {number}: {what}")?;
-        found.warnings.push(told)?;
+        let told = format!(in alloc; "line {number}: {what}")?;
+        warnings.push(told)?;
     }
     Ok(())
 }
 
 /// Tells where a text nests too deep, if it does, and whether it does.
-fn look_at_nesting(found: &mut Findings, text: &str) -> Result<bool, AllocError> {
+fn look_at_nesting(found: &mut Findings, text: &str) -> Result<bool, AllocError>
+    ensures deep { IfOk result (λ is_deep. is_deep ≡ true → ¬ (found.new.faults.items ≡ [])) }
+    ensures shallow { IfOk result (λ is_deep. is_deep ≡ false → is_shallow text.now ≡ true) }
+{
     let at = match deep_at(found.alloc, text) {
         Ok(Some(at)) => at,
         Ok(None) => return Ok(false),
@@ -58,7 +68,9 @@ fn look_at_nesting(found: &mut Findings, text: &str) -> Result<bool, AllocError>
 }
 
 /// Tells each fault that is found in a text, and what its maker may not have meant.
-fn look_at_text(found: &mut Findings, text: &str) -> Result<(), AllocError> {
+fn look_at_text(found: &mut Findings, text: &str) -> Result<(), AllocError>
+    ensures { OnOk result (found.new.faults.items ≡ [] → IsDocument text.now) }
+{
     if look_at_nesting(found, text)? {
         return Ok(());
     }
@@ -78,8 +90,11 @@ fn look_at_text(found: &mut Findings, text: &str) -> Result<(), AllocError> {
     Ok(())
 }
 
-/// What is found in the octets of a sign file. The error says that memory was refused.
-pub fn find_in(alloc: Global, octets: &[u8]) -> Result<Findings, AllocError> {
+/// What is found in the octets of a sign file. Where no fault is found, they are a document that can be a sign file. The error says that
+/// memory was refused.
+pub fn find_in(alloc: Global, octets: &[u8]) -> Result<Findings, AllocError>
+    ensures { IfOk result (λ found. found.faults.items ≡ [] → IsDocument octets.now) }
+{
     let mut found = Findings {
         alloc,
         faults: Vec::new(alloc),
@@ -93,7 +108,7 @@ pub fn find_in(alloc: Global, octets: &[u8]) -> Result<Findings, AllocError> {
             found.faults.push(line)?;
         }
     }
-    look_at_lines(&mut found, octets)?;
+    look_at_lines(alloc, &mut found.warnings, octets)?;
     Ok(found)
 }
 

@@ -93,7 +93,7 @@ loop-at-preserved c =
           let r = i.so_far before area rest h in
           let end : c.args.read.now.end ≡ length (spell_of before) + length (spell_of area) = omega (arith, h.ends, h.between.placed.place) in
           let more = run_more sign octets before area rest c.args.read.now.lines c.args.layer _ _ c.args.plane.now c.loop-at.plane r c.args.read.now.end end c.loop-at-test.true c.requires.off c.in-Some.octet
-          (omega (arith, h.between.placed.accepted.short)) here (no_bracket c.in-Some.octet (sym c.is_bracket.ensures ∙ c.if-is_bracket.false)) (behind_stays state _ _ c.requires.behind) c.requires.place.0 c.from-gap.result gap_is narrow
+          (omega (arith, h.between.placed.accepted.short)) here (no_bracket c.in-Some.octet (sym c.is_bracket.ensures ∙ c.if-is_bracket.false)) (behind_stays state _ _ c.requires.on) c.requires.place.0 c.from-gap.result gap_is narrow
           c.in-Some-cell.cell found size.0.1 c.put_character.new.plane c.put_character.ensures.drawn in
           let w : (line_in_force state).part.width + (c.loop-at.column - c.args.place.column) + (c.from-gap.result + c.in-Some-cell.cell.width) ≡ (line_in_force state).part.width + (c.loop-at.column + (c.from-in-loop-at.result + c.from-gap.result) - c.args.place.column) =
           omega (arith, wide, i.least) in

@@ -1,9 +1,10 @@
 -- `into_parts` moves two fields, and what the slot owns goes with them.
-use Rattle.held_controller.proofs.Steps.{refl, List, [], ◌∷◌, ◌++◌, proved_at, Goes-blank, D, word, box_typed, box_in, box_out, Val, SProp, id⊢, ftrue, WpFn, tables, fact, ‵, raw, ◌⊛◌, prop, ◌$◌, ◌∵◌, !, qed, drop, move, use1, split, join, fsplit, fjoin, rewrite, regoal, suffices, done, whole, sub, agg, stop, fld, of_opd, no_more, and_then, returns, enter, alloc_all, pass_all, free_all, look_at, get, get_in, sets, nothing, heard, says, Stays, stay_dropped, walk_of, ends_at}
+use Rattle.held_controller.proofs.Steps.{refl, [], ◌∷◌, proved_at, Goes-blank, D, Val, SProp, id⊢, ftrue, tables, fact, ‵, raw, ◌⊛◌, ◌$◌, ◌∵◌, !, qed, drop, move, use1, split, join, fsplit, fjoin, rewrite, suffices, done, nothing, heard, says, Stays, stay_dropped, walk_of, ends_at}
 use Rattle.std.specs.Prelude.{Option, IsSome}
 use base.Fml.{fsep}
 use Rattle.sign_control.specs.State.{ControllerData}
 use Rattle.held_controller.proofs.Boxed.{boxed, in_slot, some_of}
+use Rattle.held_controller.proofs.Moves.{moved}
 use Rattle.held_controller.specs.contracts.slot.Slot as slot
 use Rattle.held_controller.specs.contracts.slot.Slot.into_parts as f
 use Rattle.held_controller.proofs.slot.Slot.into_parts.Statement.{statement}
@@ -26,14 +27,6 @@ into_parts_spec 𝓤 𝓛 𝓜 𝓡 wired =
     let Parts = type_at f.signature.result tt in
     let made : Parts.Denot = record { at = s.at; alloc = s.alloc; value = held.0 } in
     rewrite ! 0 (λ (h : Option ControllerData). ‵ (Own (record { at = s.at; alloc = s.alloc; held = h }) vs)) held.1 refl $
-    box_out boxed ! box vs (λ b o handle at is fits. box_in boxed ! box b o box.value at refl $
-    let w = word boxed handle b o in let typed = box_typed boxed handle b o fits in
-    regoal ! (λ (us : List Val). prop (WpFn 𝓤 𝓛.H 𝓣.C 𝓣.Λ code.function us Post)) (λ i. is i ++ []) refl $
-    enter ! 𝓣.C 𝓣.Λ code.function (w ∷ []) Post $ alloc_all ! (λ l. pass_all ! refl (typed, tt) $
-    sets ! (of_opd ! (get_in ! (fld ! refl (stop !)) (sub ! 0 refl (whole !)))) refl (tt, tt) $
-    sets ! (of_opd ! (get_in ! (fld ! refl (stop !)) (sub ! 1 refl (whole !)))) refl fits $
-    sets ! (of_opd ! (get ! refl)) refl (tt, tt) $
-    sets ! (agg ! (and_then ! (get ! refl) (and_then ! (get ! refl) (no_more !)))) refl typed $ returns ! (look_at ! 0 refl) $ free_all ! refl $
-    use1 𝓛 (‵ (Parts.own_val made (w ∷ []))) (id⊢ 𝓤 _) $
+    moved 𝓤 𝓛 𝓣.C 𝓣.Λ _ _ box vs Post (λ w. use1 𝓛 (‵ (Parts.own_val made (w ∷ []))) (id⊢ 𝓤 _) $
     suffices ! _ (ends_at 𝓛 f.ended stayed c z w made (tt, tt) (tt, tt)) $ says ! held.1 $
-    nothing ! $ nothing ! $ fjoin ! $ join ! $ nothing ! $ join ! $ done !))))
+    nothing ! $ nothing ! $ fjoin ! $ join ! $ nothing ! $ join ! $ done !)))

@@ -1,7 +1,8 @@
 -- `of_parts` moves two fields, and what the parts own goes with them.
-use Rattle.held_controller.proofs.Steps.{refl, List, [], ◌∷◌, ◌++◌, proved_at, Goes-blank, D, word, box_typed, box_in, box_out, Val, SProp, id⊢, ftrue, WpFn, tables, ‵, ◌⊛◌, prop, ◌$◌, ◌∵◌, !, qed, move, drop, use1, split, join, fsplit, fjoin, regoal, suffices, done, whole, sub, agg, stop, fld, of_opd, no_more, and_then, returns, enter, alloc_all, pass_all, free_all, look_at, get, get_in, sets, owns, types_at, nothing, says, Stays, stay_dropped, walk_of, ends_at}
+use Rattle.held_controller.proofs.Steps.{refl, [], ◌∷◌, proved_at, Goes-blank, D, Val, SProp, id⊢, ftrue, tables, ‵, ◌⊛◌, ◌$◌, ◌∵◌, !, qed, move, drop, use1, split, join, fsplit, fjoin, suffices, done, owns, types_at, nothing, says, Stays, stay_dropped, walk_of, ends_at}
 use Rattle.std.specs.Prelude.{Some}
 use Rattle.held_controller.proofs.Boxed.{boxed, in_parts}
+use Rattle.held_controller.proofs.Moves.{moved}
 use Rattle.held_controller.specs.contracts.slot.Slot as slot
 use Rattle.held_controller.specs.contracts.slot.Slot.of_parts as f
 use Rattle.held_controller.proofs.slot.Slot.of_parts.Statement.{statement}
@@ -19,14 +20,6 @@ of_parts_spec 𝓤 𝓛 𝓜 𝓡 wired =
     let box : D boxed = record { ptr = parts.at; alloc = parts.alloc; value = parts.value } in
     let made : (slot.the_row).Denot = record { at = parts.at; alloc = parts.alloc; held = Some parts.value } in
     qed 𝓛 ((‵ ftrue ⊛ ‵ (owns (types_at f.signature.params z.0.0) z.0.3 z.0.4)) ∷ ‵ ftrue ∷ []) ∵ split ! $ drop ! $ fsplit ! $ move ! (1 ∷ 2 ∷ []) $ drop ! $ drop ! $
-    box_out boxed ! box vs (λ b o handle at is fits. box_in boxed ! box b o box.value at refl $
-    let w = word boxed handle b o in let typed = box_typed boxed handle b o fits in
-    regoal ! (λ (us : List Val). prop (WpFn 𝓤 𝓛.H 𝓣.C 𝓣.Λ code.function us Post)) (λ i. is i ++ []) refl $
-    enter ! 𝓣.C 𝓣.Λ code.function (w ∷ []) Post $ alloc_all ! (λ l. pass_all ! refl (typed, tt) $
-    sets ! (of_opd ! (get_in ! (fld ! refl (stop !)) (sub ! 0 refl (whole !)))) refl (tt, tt) $
-    sets ! (of_opd ! (get_in ! (fld ! refl (stop !)) (sub ! 1 refl (whole !)))) refl fits $
-    sets ! (of_opd ! (get ! refl)) refl (tt, tt) $
-    sets ! (agg ! (and_then ! (get ! refl) (and_then ! (get ! refl) (no_more !)))) refl typed $ returns ! (look_at ! 0 refl) $ free_all ! refl $
-    use1 𝓛 (‵ ((slot.the_row).own_val made (w ∷ []))) (id⊢ 𝓤 _) $
+    moved 𝓤 𝓛 𝓣.C 𝓣.Λ _ _ box vs Post (λ w. use1 𝓛 (‵ ((slot.the_row).own_val made (w ∷ []))) (id⊢ 𝓤 _) $
     suffices ! _ (ends_at 𝓛 f.ended stayed c z w made (tt, tt) (tt, tt)) $ says ! refl $
-    nothing ! $ nothing ! $ fjoin ! $ join ! $ nothing ! $ join ! $ done !)))
+    nothing ! $ nothing ! $ fjoin ! $ join ! $ nothing ! $ join ! $ done !))
