@@ -1,11 +1,16 @@
 -- Texts in one pool of octets.
-use Rattle.std.specs.Prelude.{◌≡◌, ℕ, ◌+◌, ◌-◌, ◌<◌, ◌≤◌, ◌⊎◌, nat_le, if◌then◌else◌, List, take, drop, length, slice_index_or}
+use Rattle.std.specs.Prelude.{◌≡◌, ℕ, ◌+◌, ◌-◌, ◌<◌, ◌≤◌, ◌⊎◌, nat_le, if◌then◌else◌, List, [], ◌∷◌, take, drop, length, slice_index_or}
 use Rattle.std.specs.List.{sum_by}
-use Rattle.message_store.specs.declared.texts.Span.{Span}
+use Rattle.message_store.specs.declared.places.Span.{Span}
 
 -- the texts, and how many octets they may have together (own)
 pub record Pool : Type 0 where
   pub texts : List (List ℕ)
+  pub room : ℕ
+
+-- octets in memory that is reserved once, and how many it has room for (own)
+pub record Reserve : Type 0 where
+  pub octets : List ℕ
   pub room : ℕ
 
 -- the octets of all texts (own)
@@ -23,6 +28,12 @@ no_span = record { start = 0; len = 0 }
 -- the place of the text of an index (own)
 abbrev pub span_at : List Span → ℕ → Span
 span_at spans i = slice_index_or spans i no_span
+
+-- the places whose beginnings and lengths are kept apart (own)
+abbrev pub spans_of : List ℕ → List ℕ → List Span
+spans_of [] lens = []
+spans_of (start ∷ starts) [] = []
+spans_of (start ∷ starts) (len ∷ lens) = record { start = start; len = len } ∷ spans_of starts lens
 
 -- where a text begins once a gap of `len` octets before `end` is closed: what stands after the gap moves up (own)
 abbrev pub moved_start : ℕ → ℕ → ℕ → ℕ
