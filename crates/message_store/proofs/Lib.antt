@@ -4,6 +4,7 @@ mod LimitExamples
 pub mod LimitsLemmas
 pub mod PlaceLemmas
 pub mod PoolLemmas
+pub mod RegisterLemmas
 pub mod ReservedLemmas
 mod RowExamples
 pub mod ShortLemmas

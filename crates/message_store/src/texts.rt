@@ -1,8 +1,10 @@
 //! Texts that stand one after the other in one pool of octets, which is reserved once.
 
 ghost use Rattle.std.specs.Prelude.{◌≡◌, ◌+◌, ◌<◌, ◌≤◌, ◌^◌, ◌++◌, [], map, take, drop, length, replicate, slice_set, slice_index_or, IfOk};
+ghost use Rattle.message_store.specs.Crc.{register_behind};
 ghost use Rattle.message_store.specs.kept.Pool.{ArePlaced, Pool, moved, span_at, text_in, used};
 
+use crate::crc::text_register;
 use crate::places::{Places, Span};
 use crate::reserved::Reserved;
 use std::alloc::{AllocError, Global};
@@ -13,17 +15,19 @@ use std::marker::Model;
 pub(crate) struct Texts {
     places: Places,
     pool: Reserved,
+    /// The register of the CRC behind each text, where it is kept.
+    registers: Vec<Option<u16>>,
 }
 
 impl Model for Texts {
-    ghost use Rattle.std.specs.Prelude.{◌≤◌, ◌<◌, ◌^◌, length, map};
-    ghost use Rattle.message_store.specs.kept.Pool.{ArePlaced, Pool, text_in};
+    ghost use Rattle.std.specs.Prelude.{map};
+    ghost use Rattle.message_store.specs.kept.Pool.{AreTexts, Pool, text_in};
 
     ghost Value = { Pool };
 
     ghost view = { λ t. record { texts = map (text_in t.pool.octets) t.places; room = t.pool.room } };
 
-    ghost invariant = { λ t. ArePlaced t.places (length t.pool.octets) × (length t.pool.octets ≤ t.pool.room) × (t.pool.room < 2 ^ 32) };
+    ghost invariant = { λ t. AreTexts t.places t.pool t.registers.items };
 }
 
 /// Takes a text out of the pool, and closes its gap.
@@ -101,6 +105,7 @@ impl Texts {
         Ok(Texts {
             places: Places::new(alloc, count)?,
             pool: Reserved::new(alloc, room)?,
+            registers: Vec::from_elem(alloc, None, count)?,
         })
     }
 
@@ -121,12 +126,33 @@ impl Texts {
         self.pool.part(start, len)
     }
 
+    /// The register of the CRC behind a text.
+    pub(crate) fn register(&self, index: usize) -> u16
+        requires { index < length self.now.texts }
+        ensures { result ≡ register_behind (slice_index_or self.now.texts index []) }
+    {
+        match self.registers[index] {
+            Some(register) => register,
+            None => text_register(self.get(index)),
+        }
+    }
+
+    /// Keeps the register of the CRC behind a text until the text is replaced.
+    pub(crate) fn keep_register(&mut self, index: usize)
+        requires { index < length self.old.texts }
+        ensures { self.new ≡ self.old }
+    {
+        let register = self.register(index);
+        self.registers[index] = Some(register);
+    }
+
     /// Makes every text empty.
     pub(crate) fn clear(&mut self)
         ensures { self.new ≡ record self.old { texts = replicate (length self.old.texts) [] } }
     {
         self.places.clear();
         self.pool.clear();
+        self.registers.fill(None);
     }
 
     /// Replaces a text. Every other one is kept.
@@ -135,6 +161,7 @@ impl Texts {
         requires room { used self.old + length text.now ≤ self.old.room + length (slice_index_or self.old.texts index []) }
         ensures { self.new ≡ record self.old { texts = slice_set self.old.texts index text.now } }
     {
+        self.registers[index] = None;
         replace_at(&mut self.places, &mut self.pool, index, text);
     }
 }
