@@ -41,8 +41,19 @@ fn close_from_front(memory: &mut Vec<u8>, front: usize, start: usize, len: usize
     ensures capacity { vec_capacity memory.new ≡ vec_capacity memory.old }
 {
     memory
-        .slice_mut(front..front + start + len)
-        .rotate_right(len);
+        .as_mut_slice()
+        .copy_within(front..front + start, front + len);
+}
+
+/// Takes out the `len` octets from `start` on. What stands behind them moves up.
+fn close_gap(octets: &mut Vec<u8>, start: usize, len: usize)
+    requires within { start + len ≤ length octets.old.items }
+    ensures items { octets.new.items ≡ take start octets.old.items ++ drop (start + len) octets.old.items }
+    ensures capacity { vec_capacity octets.new ≡ vec_capacity octets.old }
+{
+    let behind = start + len;
+    octets.as_mut_slice().copy_within(behind.., start);
+    octets.truncate(octets.len() - len);
 }
 
 /// Closes a gap of `len` octets, `start` octets after the front: what stands behind it moves up.
@@ -53,9 +64,7 @@ fn close_from_back(memory: &mut Vec<u8>, front: usize, start: usize, len: usize)
     ensures count { length memory.new.items + len ≡ length memory.old.items }
     ensures capacity { vec_capacity memory.new ≡ vec_capacity memory.old }
 {
-    // Not by `copy_within`, for speed: this moves long runs at once.
-    memory.slice_mut(front + start..).rotate_left(len);
-    memory.truncate(memory.len() - len);
+    close_gap(memory, front + start, len);
 }
 
 /// Moves the octets from `front` on to the beginning.
