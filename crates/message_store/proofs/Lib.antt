@@ -2,7 +2,10 @@ mod CodeExamples
 pub mod CrcLemmas
 mod LimitExamples
 pub mod LimitsLemmas
+pub mod PlaceLemmas
 pub mod PoolLemmas
+pub mod RegisterLemmas
+pub mod ReservedLemmas
 mod RowExamples
 pub mod ShortLemmas
 pub mod StoreRows

@@ -3,10 +3,10 @@ use Rattle.std.proofs.Common.{◌≡◌, ℕ, zero, suc, ◌+◌, ◌-◌, ◌<�
 use Rattle.std.specs.List.{sum_by}
 use Rattle.std.proofs.lemmas.Bool.{cases_order}
 use Rattle.std.proofs.lemmas.Bool.Decides.{leb_tells}
-use Rattle.std.proofs.lemmas.List.{ext_get_or, get_or-map, get_or-set_same, get_or-set_other, length-map, length-take-le, map-append, drop_more, get_or-append_right, set_at, take_more, take_at, take_all, drop_at, drop-drop, drop-append-le, take-append-le, take-append-drop}
+use Rattle.std.proofs.lemmas.List.{ext_get_or, get_or-map, get_or-set_same, get_or-set_other, length-map, length-take-le, take_at, take_all, drop_at, drop-drop, drop-append-le, take-append-le, take-append-drop}
 use Rattle.std.proofs.lemmas.List.Sums.{sum_by-cons, sum_by-set}
 use Rattle.std.proofs.Math.Seq.{drop-append-add}
-use Rattle.message_store.specs.declared.texts.Span.{Span}
+use Rattle.message_store.specs.declared.places.Span.{Span}
 use Rattle.message_store.specs.kept.Pool.{ArePlaced, AreApart, Pool, moved, moved_start, no_span, span_at, text_in, used}
 
 -- ---- a part of a list
@@ -54,22 +54,6 @@ none-moved end len (span ∷ spans) none =
     let start : moved_start end len span.start ≡ span.start = elim (leb_tells end span.start) [ inl (is, behind) ↦ rw is (omega (arith, none)) | inr (is, before) ↦ rw is refl ] in
     ap (λ n. let s : Span = record { start = n; len = span.len } in s ∷ map (moved end len) spans) start
     ∙ ap (λ l. span ∷ l) (none-moved end len spans none)
-
--- one more place has moved
-pub one-moved : (f : Span → Span) (spans now : List Span) (k : ℕ) (d span : Span) → k < length spans → now ≡ map f (take k spans) ++ drop k spans → span ≡ f (slice_index_or now k d)
-    → slice_set now k span ≡ map f (take (k + 1) spans) ++ drop (k + 1) spans
-one-moved f spans now k d span below so_far is =
-    let here = slice_index_or spans k d in
-    let front = map f (take k spans) in
-    let count : length front ≡ k = length-map (take k spans) f ∙ length-take-le k spans (omega (arith, below)) in
-    let parts : now ≡ front ++ here ∷ drop (k + 1) spans = so_far ∙ ap (λ l. front ++ l) (drop_more spans k d below) in
-    let read : slice_index_or now k d ≡ here = ap (λ l. slice_index_or l k d) parts ∙ get_or-append_right front (here ∷ drop (k + 1) spans) k k d count (omega arith)
-    ∙ ap (λ n. slice_index_or (here ∷ drop (k + 1) spans) n d) (let none : k - k ≡ 0 = omega arith in none) in
-    ap (λ l. slice_set l k span) parts
-    ∙ set_at front here (drop (k + 1) spans) span k count
-    ∙ ap (λ x. front ++ x ∷ drop (k + 1) spans) (is ∙ ap f read)
-    ∙ sym (append_assoc front (f here ∷ []) (drop (k + 1) spans))
-    ∙ ap (λ l. l ++ drop (k + 1) spans) (sym (ap (map f) (take_more spans k d below) ∙ map-append f (take k spans) (here ∷ [])))
 
 -- ---- the sums of the lengths
 

@@ -14,6 +14,8 @@ mod judge;
 mod limits;
 mod message;
 mod parts;
+mod places;
+mod reserved;
 mod row;
 mod slot;
 mod store;

@@ -4,9 +4,10 @@ ghost use Rattle.std.specs.Prelude.{◌≡◌, ◌+◌, ◌<◌, ◌≤◌, leng
 ghost use Rattle.message_store.specs.Limits.{IsKept};
 ghost use Rattle.message_store.specs.Slot.{empty_slot, is_validating, slot_at, used_bytes};
 ghost use Rattle.message_store.specs.Step.{cleared, with_slot};
-ghost use Rattle.message_store.specs.kept.Stored.{slot_of};
+ghost use Rattle.message_store.specs.kept.Stored.{crc_of, slot_of};
 ghost use Rattle.message_store.specs.Work.{waiting};
 
+use crate::crc::crc_behind;
 use crate::slot::{EMPTY, Slot, Status};
 use crate::store::Store;
 
@@ -57,6 +58,23 @@ impl Store {
         ensures short { length result.now ≤ 127 }
     {
         self.texts.get(2 * index + 1)
+    }
+
+    /// The CRC of a slot's message.
+    pub(crate) fn crc(&self, index: usize) -> u16
+        requires { index < length self.now.slots }
+        ensures { result ≡ crc_of (slot_at self.now index) }
+    {
+        let slot = self.slot(index);
+        crc_behind(self.texts.register(2 * index), slot.beacon, slot.pixel)
+    }
+
+    /// Keeps what makes a slot's CRC until its text is replaced, for speed.
+    pub(crate) fn keep_crc(&mut self, index: usize)
+        requires { index < length self.old.slots }
+        ensures { self.new ≡ self.old }
+    {
+        self.texts.keep_register(2 * index);
     }
 
     /// Replaces a slot's MULTI text.

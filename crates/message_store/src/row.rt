@@ -62,7 +62,7 @@ impl Store {
             priority: slot.priority,
             beacon: slot.beacon,
             pixel: slot.pixel,
-            crc: message_crc(multi, slot.beacon, slot.pixel),
+            crc: self.crc(index),
         }
     }
 

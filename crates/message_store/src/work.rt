@@ -142,6 +142,7 @@ impl Store {
         let slot = self.slot(index);
         let judged = judge(sign, defaults, slot, self.multi(index));
         let status = judged.error.status();
+        self.keep_crc(index);
         self.put_status(index, status);
         Some(Judged {
             number: index as u16 + 1,

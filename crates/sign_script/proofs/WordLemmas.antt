@@ -1,5 +1,5 @@
 -- The words of verbs and the names of defaults.
-use Rattle.std.proofs.Common.{◌≡◌, ℕ, true, List, ◌++◌, Option, None, Some, inl, inr, refl, ap, ◌∙◌}
+use Rattle.std.proofs.Common.{◌≡◌, ℕ, ◌<◌, true, false, List, [], ◌∷◌, ◌++◌, length, slice_index_or, Option, None, Some, inl, inr, refl, sym, ap, ◌∙◌, arith}
 use Rattle.std.specs.Prelude.{cond}
 use Rattle.std.specs.Str.{bytes_eq}
 use Rattle.std.proofs.lemmas.Bool.{cases_Bool}
@@ -10,6 +10,7 @@ use Rattle.sign_script.specs.declared.verb.Verb.{Verb}
 use Rattle.sign_script.specs.declared.verb.Verb.TheVariants as verb
 use Rattle.sign_script.specs.Asks.{ask_of, ask_of_line}
 use Rattle.sign_script.specs.Verbs.{field_of, name, verb_of, word}
+use Rattle.sign_script.specs.kept.Likely.{likely}
 use Rattle.sign_script.proofs.PartsLemmas.{has_no_space}
 
 -- a test for one word in a chain of tests
@@ -49,6 +50,56 @@ verb_of-word verb.Row = refl
 verb_of-word verb.Report = refl
 verb_of-word verb.Default = refl
 verb_of-word verb.Defaults = refl
+
+-- the verb that a text can only be
+abbrev likely_in : List ℕ → Option Verb
+likely_in w = likely (slice_index_or w 0 0) (length w)
+
+likely_in-word : (v : Verb) → likely_in (word v) ≡ Some v
+likely_in-word verb.Request = refl
+likely_in-word verb.Multi = refl
+likely_in-word verb.MultiHex = refl
+likely_in-word verb.Owner = refl
+likely_in-word verb.Priority = refl
+likely_in-word verb.Beacon = refl
+likely_in-word verb.Pixel = refl
+likely_in-word verb.Clear = refl
+likely_in-word verb.Work = refl
+likely_in-word verb.Activate = refl
+likely_in-word verb.End = refl
+likely_in-word verb.Tick = refl
+likely_in-word verb.Frame = refl
+likely_in-word verb.Row = refl
+likely_in-word verb.Report = refl
+likely_in-word verb.Default = refl
+likely_in-word verb.Defaults = refl
+
+unlikely : (w : List ℕ) (found : Option Verb) → verb_of w ≡ found → likely_in w ≡ None → None ≡ found
+unlikely w None is none = refl
+unlikely w (Some u) is none = let e = ap likely_in (verb_word w u is) ∙ likely_in-word u in cc
+
+unspelled : (w : List ℕ) (v : Verb) (found : Option Verb) → verb_of w ≡ found → likely_in w ≡ Some v → bytes_eq w (word v) ≡ false → None ≡ found
+unspelled w v None is likely differs = refl
+unspelled w v (Some u) is likely differs =
+    let e : likely_in w ≡ Some u = ap likely_in (verb_word w u is) ∙ likely_in-word u in
+    let same : u ≡ v = cc in
+    let spelled = (bytes_eq-Decides w (word v)).1 (verb_word w u is ∙ ap word same) in
+    cc
+
+-- a text that is likely no verb is none
+pub no_verb : (w : List ℕ) → likely (slice_index_or w 0 0) (length w) ≡ None → None ≡ verb_of w
+no_verb w none = unlikely w (verb_of w) refl none
+
+pub empty_no_verb : (w : List ℕ) → length w < 1 → None ≡ verb_of w
+empty_no_verb [] short = no_verb [] refl
+empty_no_verb (c ∷ w) short = absurd (omega (arith, short))
+
+-- a text that isn't the word of its likely verb is none
+pub other_verb : (w : List ℕ) (v : Verb) → likely (slice_index_or w 0 0) (length w) ≡ Some v → bytes_eq w (word v) ≡ false → None ≡ verb_of w
+other_verb w v likely differs = unspelled w v (verb_of w) refl likely differs
+
+pub spelled_verb : (w : List ℕ) (v : Verb) → bytes_eq w (word v) ≡ true → Some v ≡ verb_of w
+spelled_verb w v is = sym (ap verb_of ((bytes_eq-Decides w (word v)).0 is) ∙ verb_of-word v)
 
 -- a line that begins with a word isn't passed over, and its word has no space
 pub record BeginsLine (w : List ℕ) : Type 0 where

@@ -4,6 +4,7 @@ ghost use Rattle.std.specs.Prelude.{◌≡◌};
 ghost use Rattle.std.specs.List.{find};
 ghost use Rattle.std.specs.Str.{bytes_eq};
 ghost use Rattle.sign_script.specs.Verbs.{field_of, name, verb_of, word};
+ghost use Rattle.sign_script.specs.kept.Likely.{likely};
 
 use sign_control::DefaultField;
 
@@ -28,26 +29,6 @@ pub(crate) enum Verb {
     Default,
     Defaults,
 }
-
-const VERBS: [Verb; 17] = [
-    Verb::Request,
-    Verb::Multi,
-    Verb::MultiHex,
-    Verb::Owner,
-    Verb::Priority,
-    Verb::Beacon,
-    Verb::Pixel,
-    Verb::Clear,
-    Verb::Work,
-    Verb::Activate,
-    Verb::End,
-    Verb::Tick,
-    Verb::Frame,
-    Verb::Row,
-    Verb::Report,
-    Verb::Default,
-    Verb::Defaults,
-];
 
 /// The word of a verb.
 fn word(verb: Verb) -> &'static [u8]
@@ -74,20 +55,44 @@ fn word(verb: Verb) -> &'static [u8]
     }
 }
 
-/// The first of these verbs that has this word.
-fn first_spelled(verbs: &[Verb], text: &[u8]) -> Option<Verb>
-    ensures { result ≡ find (λ verb. bytes_eq text.now (word verb)) verbs.now }
+/// The one verb whose word may begin with this octet and have this many.
+fn likely(first: u8, len: usize) -> Option<Verb>
+    ensures { result ≡ likely first len }
 {
-    verbs.iter().copied().find(|verb| text == word(*verb))
+    match (first, len) {
+        (b'r', 7) => Some(Verb::Request),
+        (b'm', 5) => Some(Verb::Multi),
+        (b'm', 6) => Some(Verb::MultiHex),
+        (b'o', 5) => Some(Verb::Owner),
+        (b'p', 8) => Some(Verb::Priority),
+        (b'b', 6) => Some(Verb::Beacon),
+        (b'p', 5) => Some(Verb::Pixel),
+        (b'c', 5) => Some(Verb::Clear),
+        (b'w', 4) => Some(Verb::Work),
+        (b'a', 8) => Some(Verb::Activate),
+        (b'e', 3) => Some(Verb::End),
+        (b't', 4) => Some(Verb::Tick),
+        (b'f', 5) => Some(Verb::Frame),
+        (b'r', 3) => Some(Verb::Row),
+        (b'r', 6) => Some(Verb::Report),
+        (b'd', 7) => Some(Verb::Default),
+        (b'd', 8) => Some(Verb::Defaults),
+        _ => None,
+    }
 }
 
 impl Verb {
-    /// The verb of a word.
-    #[tactic(auto, unfolding(crate::specs::Verbs::verb_of))]
+    /// The verb of a word. One word is looked at in full, for speed.
     pub(crate) fn of(text: &[u8]) -> Option<Verb>
         ensures { result ≡ verb_of text.now }
     {
-        first_spelled(&VERBS, text)
+        let [first, ..] = text else {
+            return None;
+        };
+        let Some(verb) = likely(*first, text.len()) else {
+            return None;
+        };
+        if text == word(verb) { Some(verb) } else { None }
     }
 }
 

@@ -4,6 +4,7 @@ use Rattle.std.specs.List.{All}
 use Rattle.message_store.specs.declared.limits.StoreLimits.{StoreLimits}
 use Rattle.message_store.specs.declared.message.Permanent.{Permanent}
 use Rattle.message_store.specs.declared.slot.Slot.{Slot}
+use Rattle.message_store.specs.Crc.{message_crc}
 use Rattle.message_store.specs.Limits.{AreLimits, ArePermanent, IsShort}
 use Rattle.message_store.specs.kept.Pool.{Pool, used}
 use Rattle.message_store.specs.Slot.{SlotData, StoreData, permanent_of}
@@ -12,6 +13,10 @@ use Rattle.message_store.specs.Slot.{SlotData, StoreData, permanent_of}
 abbrev pub slot_of : Slot → List ℕ → List ℕ → SlotData
 slot_of slot multi owner =
     record { status = slot.status; multi = multi; owner = owner; priority = slot.priority; beacon = slot.beacon; pixel = slot.pixel }
+
+-- the CRC of a slot's message (NTCIP 1203 v03, dmsMessageCRC)
+abbrev pub crc_of : SlotData → ℕ
+crc_of slot = message_crc slot.multi slot.beacon slot.pixel
 
 -- the slots with their texts: the MULTI text and then the owner of each (own)
 abbrev pub whole : List Slot → List (List ℕ) → List SlotData
