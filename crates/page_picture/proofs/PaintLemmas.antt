@@ -168,3 +168,132 @@ pub painted_row : (width height colour row : ℕ) (lit : ℕ → ℕ → Bool) (
 painted_row width height colour row lit old mid new =
     painted_more width height colour (λ x y. nat_lt y row && lit x y) (λ x y. (y == row) && lit x y) (λ x y. nat_lt y (row + 1) && lit x y) old mid new
     (λ x y. row_more y row (lit x y))
+
+-- EIGHT COLUMNS AFTER THE OTHER
+
+-- an octet of 0 has no lit pixel
+pub octet_dark : (width height colour row place octet : ℕ) (bits : List ℕ) (lit : ℕ → ℕ → Bool) (old : List ℕ) → octet ≡ get_or bits place 0 → octet ≡ 0
+    → ((x : ℕ) → x < width → is_bit_set bits x ≡ lit x row) → IsPainted width height colour (λ x y. (y == row) && ((x / 8 == place) && lit x y)) old old
+unfolding is_bit_set
+octet_dark width height colour row place octet bits lit old read none same =
+    painted_same width height colour (λ x y. false) (λ x y. (y == row) && ((x / 8 == place) && lit x y)) old old
+    (λ x y left above. elim (cases_eq y row) [
+      | inl is ↦ elim (cases_eq (x / 8) place) [
+        | inl at ↦
+            let zero' : get_or bits (x / 8) 0 ≡ 0 = ap (λ n. get_or bits n 0) at ∙ sym read ∙ none in
+            let off = bit_at-zero (7 - x % 8) in
+            let dark : (bit_at (get_or bits (x / 8) 0) (7 - x % 8) == 1) ≡ false = rw zero' (ne_eqb (bit_at 0 (7 - x % 8)) 1 (λ one. absurd (omega (arith, off, one)))) in
+            let unlit : lit x y ≡ false = ap (lit x) is ∙ sym (same x left) ∙ dark in
+            rw (unlit, and_right (x / 8 == place) false refl, and_right (y == row) false refl) refl
+        | inr off ↦ rw (ne_eqb (x / 8) place off, and_right (y == row) false refl) refl
+      ]
+      | inr other ↦ ap (λ b. b && ((x / 8 == place) && lit x y)) (ne_eqb y row other)
+    ])
+    (painted_none width height colour (λ x y. false) old (λ x y. refl))
+
+-- the first columns of an octet
+abbrev pub has_first : (lit : ℕ → ℕ → Bool) → ℕ → ℕ → ℕ → ℕ → ℕ → Bool
+has_first lit row place end x y = (y == row) && ((x / 8 == place) && (nat_lt x end && lit x y))
+
+pub first_columns_none : (width height colour row place : ℕ) (lit : ℕ → ℕ → Bool) (old : List ℕ)
+    → IsPainted width height colour (has_first lit row place (8 * place)) old old
+first_columns_none width height colour row place lit old =
+    painted_none width height colour (has_first lit row place (8 * place)) old
+    (λ x y. elim (cases_eq (x / 8) place) [
+      | inl at ↦ rw (le-ltb x (8 * place) (omega (arith, at)), and_right (x / 8 == place) false refl) (and_right (y == row) false refl)
+      | inr off ↦ rw (ne_eqb (x / 8) place off) (and_right (y == row) false refl)
+    ])
+
+first_columns_more : (lit : ℕ → ℕ → Bool) (row place column x y : ℕ) → column / 8 ≡ place
+    → has_first lit row place (column + 1) x y ≡ (has_first lit row place column x y || ((y == row) && ((x == column) && lit x y)))
+first_columns_more lit row place column x y inside = elim (cases_eq y row) [
+  | inr other ↦ rw (ne_eqb y row other) refl
+  | inl is ↦ elim (cases_eq x column) [
+    | inl same ↦
+        let at : x / 8 ≡ place = ap (λ n. n / 8) same ∙ inside in
+        rw (eq-eqb y row is, eq-eqb (x / 8) place at, eq-eqb x column same, lt-ltb x (column + 1) (omega (arith, same)), le-ltb x column (omega (arith, same))) refl
+    | inr other ↦ elim (cases_lt x column) [
+      | inl less ↦
+          rw (eq-eqb y row is, ne_eqb x column other, lt-ltb x (column + 1) (omega (arith, less)), lt-ltb x column less) (or_none ((x / 8 == place) && lit x y))
+      | inr most ↦
+          let more : column + 1 ≤ x = elim (cases_eq x column) [ inl e ↦ absurd (other e) | inr n ↦ omega (arith, most) ] in
+          rw (eq-eqb y row is, ne_eqb x column other, le-ltb x (column + 1) more, le-ltb x column most) (or_none ((x / 8 == place) && false))
+    ]
+  ]
+]
+  where
+    or_none : (b : Bool) → b ≡ (b || false)
+    or_none true = refl
+    or_none false = refl
+
+pub first_columns_next : (width height colour row place column at octet : ℕ) (shows : Bool) (bits : List ℕ) (lit : ℕ → ℕ → Bool) (old mid new : List ℕ)
+    → column < width → row < height → width * height ≤ length old → column / 8 ≡ place → at ≡ width * row + column → octet ≡ get_or bits place 0
+    → ((x : ℕ) → x < width → is_bit_set bits x ≡ lit x row) → shows ≡ (bit_at octet (7 - column % 8) == 1)
+    → new ≡ set mid at (if shows then colour else get_or mid at 0)
+    → IsPainted width height colour (has_first lit row place column) old mid → IsPainted width height colour (has_first lit row place (column + 1)) old new
+unfolding is_bit_set
+first_columns_next width height colour row place column at octet shows bits lit old mid new left above whole inside is_at read same is_lit is_new before =
+    let count = before.count in
+    let bit : shows ≡ lit column row =
+    is_lit ∙ ap (λ n. bit_at n (7 - column % 8) == 1) (read ∙ ap (λ n. get_or bits n 0) (sym inside)) ∙ same column left in
+    let one = painted_one width height colour column row lit mid left above (omega (arith, whole, count)) in
+    let list : set mid (width * row + column) (if lit column row then colour else get_or mid (width * row + column) 0) ≡ new =
+    ap (λ n. set mid n (if lit column row then colour else get_or mid n 0)) (sym is_at) ∙ ap (λ b. set mid at (if b then colour else get_or mid at 0)) (sym bit) ∙ sym is_new in
+    painted_more width height colour (has_first lit row place column) (λ x y. (y == row) && ((x == column) && lit x y)) (has_first lit row place (column + 1)) old mid new
+    (λ x y. first_columns_more lit row place column x y inside) before
+    (subst (λ l. IsPainted width height colour (λ x y. (y == row) && ((x == column) && lit x y)) mid l) list one)
+
+-- all columns of an octet that stand on the page
+pub first_columns_all : (width height colour row place end : ℕ) (lit : ℕ → ℕ → Bool) (old new : List ℕ) → ((x : ℕ) → x < width → x / 8 ≡ place → x < end)
+    → IsPainted width height colour (has_first lit row place end) old new
+    → IsPainted width height colour (λ x y. (y == row) && ((x / 8 == place) && lit x y)) old new
+first_columns_all width height colour row place end lit old new all =
+    painted_same width height colour (has_first lit row place end) (λ x y. (y == row) && ((x / 8 == place) && lit x y)) old new
+    (λ x y left above. elim (cases_eq (x / 8) place) [
+      | inl at ↦ rw (lt-ltb x end (all x left at)) refl
+      | inr off ↦ rw (ne_eqb (x / 8) place off) refl
+    ])
+
+-- the first octets of a row
+abbrev pub has_octets : (lit : ℕ → ℕ → Bool) → ℕ → ℕ → ℕ → ℕ → Bool
+has_octets lit row place x y = (y == row) && (nat_lt x (8 * place) && lit x y)
+
+pub octets_none : (width height colour row : ℕ) (lit : ℕ → ℕ → Bool) (old : List ℕ) → IsPainted width height colour (has_octets lit row 0) old old
+octets_none width height colour row lit old =
+    painted_none width height colour (has_octets lit row 0) old (λ x y. rw (le-ltb x (8 * 0) (omega arith)) (and_right (y == row) false refl))
+
+octet_more : (lit : ℕ → ℕ → Bool) (row place x y : ℕ)
+    → has_octets lit row (place + 1) x y ≡ (has_octets lit row place x y || ((y == row) && ((x / 8 == place) && lit x y)))
+octet_more lit row place x y = elim (cases_eq y row) [
+  | inr other ↦ rw (ne_eqb y row other) refl
+  | inl is ↦ elim (cases_lt x (8 * place)) [
+    | inl less ↦
+        let off : x / 8 ≡ place → ⊥ = λ e. absurd (omega (arith, less, e)) in
+        rw (eq-eqb y row is, lt-ltb x (8 * place) less, lt-ltb x (8 * (place + 1)) (omega (arith, less)), ne_eqb (x / 8) place off) (or_none (lit x y))
+    | inr least ↦ elim (cases_lt x (8 * (place + 1))) [
+      | inl less ↦
+          let at : x / 8 ≡ place = omega (arith, less, least) in
+          rw (eq-eqb y row is, le-ltb x (8 * place) least, lt-ltb x (8 * (place + 1)) less, eq-eqb (x / 8) place at) refl
+      | inr most ↦
+          let off : x / 8 ≡ place → ⊥ = λ e. absurd (omega (arith, most, e)) in
+          rw (eq-eqb y row is, le-ltb x (8 * place) least, le-ltb x (8 * (place + 1)) most, ne_eqb (x / 8) place off) refl
+    ]
+  ]
+]
+  where
+    or_none : (b : Bool) → b ≡ (b || false)
+    or_none true = refl
+    or_none false = refl
+
+pub octets_next : (width height colour row place : ℕ) (lit : ℕ → ℕ → Bool) (old mid new : List ℕ) → IsPainted width height colour (has_octets lit row place) old mid
+    → IsPainted width height colour (λ x y. (y == row) && ((x / 8 == place) && lit x y)) mid new
+    → IsPainted width height colour (has_octets lit row (place + 1)) old new
+octets_next width height colour row place lit old mid new =
+    painted_more width height colour (has_octets lit row place) (λ x y. (y == row) && ((x / 8 == place) && lit x y)) (has_octets lit row (place + 1)) old mid new
+    (octet_more lit row place)
+
+pub octets_all : (width height colour row count : ℕ) (lit : ℕ → ℕ → Bool) (old new : List ℕ) → width ≤ 8 * count
+    → IsPainted width height colour (has_octets lit row count) old new → IsPainted width height colour (λ x y. (y == row) && lit x y) old new
+octets_all width height colour row count lit old new all =
+    painted_same width height colour (has_octets lit row count) (λ x y. (y == row) && lit x y) old new
+    (λ x y left above. rw (lt-ltb x (8 * count) (omega (arith, left, all))) refl)

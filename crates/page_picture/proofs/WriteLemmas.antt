@@ -1,23 +1,21 @@
 -- The colours of a page, written one after the other from the last on, and the list that they make.
-use Rattle.std.proofs.Common.{◌≡◌, ℕ, zero, suc, ◌+◌, ◌-◌, ◌*◌, ◌<◌, ◌≤◌, Bool, List, [], ◌∷◌, ◌++◌, length, take, drop, get_or, replicate, refl, sym, ap, subst, ◌∙◌, arith, append_assoc, append-nil, if◌then◌else◌, inl, inr}
+use Rattle.std.proofs.Common.{◌≡◌, ℕ, zero, suc, ◌+◌, ◌-◌, ◌*◌, ◌<◌, ◌≤◌, min, Bool, false, ◌==◌, List, [], ◌∷◌, ◌++◌, length, take, drop, get_or, replicate, refl, sym, ap, subst, ◌∙◌, arith, append_assoc, append-nil, if◌then◌else◌, inl, inr}
 use Rattle.std.proofs.Math.ListN.{get_or-append}
-use Rattle.std.proofs.lemmas.Bool.{cases_Bool}
+use Rattle.std.proofs.lemmas.Bool.{cases_Bool, ne_eqb}
 use Rattle.std.proofs.lemmas.Slice.{drop-append-drop}
 use Rattle.std.proofs.lemmas.List.{drop_all, get_or-replicate, length-append, length-replicate, take-append-drop, take_all, take_at, take_more}
 use Rattle.std.specs.List.{find, range_with_len}
 use Rattle.std.specs.Option.{option_map_or}
 use Rattle.multi_token.specs.Counted.{Counted, RisesBetween}
 use Rattle.multi_token.proofs.StepLemmas.{rises_more, rises_then}
-use Rattle.page_plane.specs.Plane.{BitPlane, is_lit}
 use Rattle.sign_font.specs.Sign.{SignData}
-use Rattle.multi_layout.specs.Drawn.{Lights}
-use Rattle.multi_layout.specs.Picture.{picture}
+use Rattle.multi_layout.specs.Picture.{in_plane, picture}
 use Rattle.multi_layout.specs.declared.times.Shown.TheVariants.{Page}
 use Rattle.page_picture.specs.Shown.{colours}
 use Rattle.page_picture.specs.Colours.{page_colour, row_values, values}
 use Rattle.page_picture.specs.Dots.{value_at}
 use Rattle.page_picture.specs.Painted.{HaveValues, IsPainted}
-use Rattle.page_picture.proofs.ColourLemmas.{lights_by, row_more, values_more, values_none}
+use Rattle.page_picture.proofs.ColourLemmas.{row_more, values_more, values_none}
 use Rattle.page_picture.proofs.CountLemmas.{row_inside}
 
 -- COLOURS
@@ -116,14 +114,30 @@ pub on_page : (width height wide high colour : ℕ) (lit : ℕ → ℕ → Bool)
 on_page width height wide high colour lit old new same_width same_height is =
     subst (λ w. IsPainted w height colour lit old new) same_width (subst (λ h. IsPainted wide h colour lit old new) same_height is)
 
+-- what is painted on a page of a sign is painted on that of the same one
+pub painted_on : (sign other : SignData) (text letters : List ℕ) (page phase colour : ℕ) (old new : List ℕ) → other ≡ sign → letters ≡ text
+    → IsPainted other.width other.height colour (picture other letters page phase colour) old new
+    → IsPainted sign.width sign.height colour (picture sign text page phase colour) old new
+painted_on sign other text letters page phase colour old new same_sign same_text is =
+    subst (λ (s : SignData). IsPainted s.width s.height colour (picture s text page phase colour) old new) same_sign
+    (subst (λ l. IsPainted other.width other.height colour (picture other l page phase colour) old new) same_text is)
+
 -- one colour more of a page
-pub page_more : (sign other : SignData) (text letters : List ℕ) (page phase done colour : ℕ) (plane : BitPlane) (old new : List ℕ) → done < 9 → colour ≡ 9 - done
-    → other ≡ sign → letters ≡ text → plane.width ≡ sign.width → plane.height ≡ sign.height → Lights plane (picture other letters page phase colour)
-    → HaveLast sign.width sign.height (picture sign text page phase) done old → IsPainted sign.width sign.height colour (is_lit plane) old new
+pub page_more : (sign : SignData) (text : List ℕ) (page phase done colour : ℕ) (old new : List ℕ) → done < 9 → colour ≡ 9 - done
+    → HaveLast sign.width sign.height (picture sign text page phase) done old
+    → IsPainted sign.width sign.height colour (picture sign text page phase colour) old new
     → HaveLast sign.width sign.height (picture sign text page phase) (done + 1) new
-page_more sign other text letters page phase done colour plane old new few is same_sign same_text wide high shows =
-    last_more sign.width sign.height (picture sign text page phase) (is_lit plane) done colour old new few is
-    (λ column row left above. lights_by sign other text letters page phase colour plane same_sign same_text shows column row (omega (arith, left, wide)) (omega (arith, above, high)))
+page_more sign text page phase done colour old new few is =
+    last_more sign.width sign.height (picture sign text page phase) (picture sign text page phase colour) done colour old new few is (λ column row left above. refl)
+
+-- a monochrome sign shows no colour beyond the first
+one_colour : (classic : Bool) (value colour : ℕ) → classic ≡ false → 1 < colour → ((if classic then value else min value 1) == colour) ≡ false
+one_colour classic value colour plain more = rw plain (ne_eqb (min value 1) colour (λ e. absurd (omega (arith, e, more))))
+
+pub monochrome_dark : (sign : SignData) (text : List ℕ) (page phase colour column row : ℕ) → sign.classic ≡ false → 1 < colour
+    → picture sign text page phase colour column row ≡ false
+unfolding in_plane
+monochrome_dark sign text page phase colour column row plain more = one_colour sign.classic _ colour plain more
 
 -- and the steps that it takes over the plane
 pub drawn_again : (old now new limit done : ℕ) → now ≤ old + done * limit → new ≤ now + limit → new ≤ old + (done + 1) * limit

@@ -1,5 +1,6 @@
 //! The colours of the pixels of what is shown of a text.
-ghost use Rattle.std.specs.Prelude.{◌≡◌, ◌<◌, ◌≤◌, IfOk};
+ghost use Rattle.std.specs.Prelude.{◌≡◌, ℕ, ◌<◌, ◌≤◌, IfOk, length, slice_index};
+ghost use Rattle.std.specs.List.{All};
 ghost use Rattle.multi_layout.specs.Pages.{page_count};
 ghost use Rattle.page_picture.specs.Colours.{IsPage, colour_at, values};
 ghost use Rattle.page_picture.specs.Shown.{AreShown, IsThere};
@@ -91,6 +92,18 @@ impl PageColours {
         ensures range { result ≤ 9 }
     {
         self.colours[usize::from(self.width) * usize::from(row) + usize::from(column)]
+    }
+
+    /// The colours of the pixels of a row, 0 to 9, from the left. The row must be one of the page.
+    pub fn row(&self, row: u16) -> &[u8]
+        requires { row < self.now.height }
+        ensures count { length result.now ≡ self.now.width }
+        ensures colours { (column : ℕ) → column < self.now.width → slice_index result.now column ≡ colour_at self.now column row }
+        ensures range { All (λ colour. colour ≤ 9) result.now }
+    {
+        let width = usize::from(self.width);
+        let start = width * usize::from(row);
+        &self.colours[start..start + width]
     }
 
     /// The colours of all pixels, an octet each, row by row from the top, and each row from the left. The error says that memory was

@@ -29,7 +29,7 @@ pub fn draw_colours(
     };
     let count = usize::from(sign.width()) * usize::from(sign.height());
     let mut octets = Vec::from_elem(alloc, 0u8, count)?;
-    if !write_colours(checked, shown, &mut plane, &mut octets) {
+    if !write_colours(checked, sign.classic(), shown, &mut plane, &mut octets) {
         // There is an octet for each pixel.
         unreachable!();
     }

@@ -43,7 +43,7 @@ fn write_shown(
     let mut checked = accepted_text(sign, defaults, text);
     let before = plane.steps();
     let shown = checked.locate(clock);
-    let told = if write_colours(&mut checked, shown, plane, octets) {
+    let told = if write_colours(&mut checked, sign.classic(), shown, plane, octets) {
         Some(shown)
     } else {
         None
@@ -79,7 +79,7 @@ fn write_text(
         page: at.page,
         phase: at.phase,
     };
-    let written = write_colours(&mut checked, shown, plane, octets);
+    let written = write_colours(&mut checked, sign.classic(), shown, plane, octets);
     (Ok(written), raised(checked.steps(), plane.steps() - before))
 }
 

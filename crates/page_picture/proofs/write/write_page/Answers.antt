@@ -1,6 +1,5 @@
 use Rattle.std.proofs.Common.{◌-◌, ◌<◌, ◌+◌, ◌≤◌, length, refl, ap, ◌∙◌, subst, arith, ◌≡◌}
 use Rattle.multi_token.specs.Counted.{Counted, RisesBetween}
-use Rattle.page_plane.specs.Plane.{is_lit}
 use Rattle.multi_layout.specs.Limits.{plane_limit, reading_limit}
 use Rattle.multi_layout.specs.Picture.{picture}
 use Rattle.page_picture.proofs.WriteLemmas
@@ -11,25 +10,23 @@ loop-done-preserved c =
     let sign = c.args.checked.now.sign in
     let source = c.args.checked.now.source in
     let l = c.loop-done in
-    let plane = c.draw.new.plane in
+    let plane = c.paint_colour.new.plane in
+    let new = c.paint_colour.new.octets in
     let colour = 9 - l.done in
-    let wide = c.draw.ensures.size.0 ∙ l.invariant.width ∙ c.requires.size.0 in
-    let high = c.draw.ensures.size.1 ∙ l.invariant.height ∙ c.requires.size.1 in
-    let painted = WriteLemmas.on_page sign.width sign.height plane.width plane.height colour (is_lit plane) l.octets c.paint_lit.new.octets wide high c.paint_lit.ensures in
     let octets = ap (λ (s : Counted). s.octets) l.invariant.steps.3 in
-    let most = subst (λ n. plane.steps ≤ l.plane.steps + n) (ap (λ s. plane_limit s (length l.checked.source.octets)) l.invariant.sign ∙ ap (λ o. plane_limit sign (length o)) octets) c.draw.ensures.plane_steps.1 in
-    let least = c.draw.ensures.plane_steps.0 in
+    let painted = WriteLemmas.painted_on sign l.checked.sign source.octets l.checked.source.octets c.args.page c.args.phase colour l.octets new l.invariant.sign octets c.paint_colour.ensures.painted in
+    let most = subst (λ n. plane.steps ≤ l.plane.steps + n) (ap (λ s. plane_limit s (length l.checked.source.octets)) l.invariant.sign ∙ ap (λ o. plane_limit sign (length o)) octets) c.paint_colour.ensures.plane_steps.1 in
+    let least = c.paint_colour.ensures.plane_steps.0 in
     let before = l.invariant.drawn_least in
     record {
-      have = WriteLemmas.page_more sign l.checked.sign source.octets l.checked.source.octets c.args.page c.args.phase l.done colour plane l.octets c.paint_lit.new.octets
-          (let few : l.done < 9 = omega arith in few) refl l.invariant.sign octets wide high (c.draw.ensures.drawn c.if-not-draw.false) l.invariant.have painted;
+      have = WriteLemmas.page_more sign source.octets c.args.page c.args.phase l.done colour l.octets new (let few : l.done < 9 = omega arith in few) refl l.invariant.have painted;
       count = painted.count ∙ l.invariant.count;
       behind = painted.behind ∙ l.invariant.behind;
-      sign = c.draw.ensures.kept ∙ l.invariant.sign;
-      width = c.draw.ensures.size.0 ∙ l.invariant.width;
-      height = c.draw.ensures.size.1 ∙ l.invariant.height;
-      steps = WriteLemmas.rises_again source l.checked.source c.draw.new.self.source (reading_limit (length source.octets)) l.done l.invariant.steps
-          (subst (λ o. RisesBetween l.checked.source c.draw.new.self.source 0 (reading_limit (length o))) octets c.draw.ensures.steps);
+      sign = c.paint_colour.ensures.kept ∙ l.invariant.sign;
+      width = c.paint_colour.ensures.size.0 ∙ l.invariant.width;
+      height = c.paint_colour.ensures.size.1 ∙ l.invariant.height;
+      steps = WriteLemmas.rises_again source l.checked.source c.paint_colour.new.checked.source (reading_limit (length source.octets)) l.done l.invariant.steps
+          (subst (λ o. RisesBetween l.checked.source c.paint_colour.new.checked.source 0 (reading_limit (length o))) octets c.paint_colour.ensures.steps);
       drawn_least = omega (arith, before, least);
       drawn_most = WriteLemmas.drawn_again c.args.plane.now.steps l.plane.steps plane.steps (plane_limit sign (length source.octets)) l.done l.invariant.drawn_most most;
     }
