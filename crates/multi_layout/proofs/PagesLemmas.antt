@@ -140,13 +140,19 @@ module _ (sign : SignData) (octets : List ℕ) (page : ℕ) where
   not_the_end before cursor b few more = omega (arith, few, more, pages_before sign octets before [] cursor b.placed (passed_pages sign before cursor b))
 
 -- behind text the page still hasn't begun
-pub way_text : {sign : SignData} {octets : List ℕ} {page : ℕ} {old : Cursor} (w : IsOnTheWay sign octets page old) (new : Cursor) → new.state ≡ old.state → old.state.pages ≤ page → IsTextPassed sign octets w.before w.behind new → IsOnTheWay sign octets page new
-way_text w new same few t = record {
-  before = w.before ++ t.text;
-  behind = t.rest;
-  between = t.between;
-  begins = λ more. absurd (omega (arith, few, more, ap (λ (s : State). s.pages) same));
-}
+pub text_way : (sign : SignData) (page : ℕ) (start source text : Counted) (old new : Cursor) → IsOnTheWay sign start.octets page old → old.state.pages ≤ page → RisesBetween start source 0 (9 * old.at)
+    → RisesBetween source text 0 (2 * (new.at - old.at) + 3) → old.at ≤ new.at → new.state ≡ old.state
+    → ((before behind : List Item) → IsPassing sign source.octets before behind old → IsTextPassed sign source.octets before behind new)
+    → IsOnTheWay sign start.octets page new × (new.state.pages ≤ page) × (text.octets ≡ start.octets) × RisesBetween start text 0 (9 * new.at + 3)
+text_way sign page start source text old new w few earlier reads on same passes =
+    let octets : source.octets ≡ start.octets = ap (λ (s : Counted). s.octets) earlier.3 in
+    let t = subst (λ o. IsTextPassed sign o w.before w.behind new) octets (passes w.before w.behind (subst (λ o. IsPassing sign o w.before w.behind old) (sym octets) w.between)) in
+    let still : new.state.pages ≤ page = omega (arith, few, ap (λ (s : State). s.pages) same) in (
+      record { before = w.before ++ t.text; behind = t.rest; between = t.between; begins = λ more. absurd (omega (arith, still, more)) },
+      still,
+      ap (λ (s : Counted). s.octets) reads.3 ∙ octets,
+      rises_more start text 0 _ _ (omega (arith, on)) (rises_then start source text 0 (9 * old.at) 0 (2 * (new.at - old.at) + 3) earlier reads),
+    )
 
 -- ---- one step of the way: an item is read, and the cursor passes it
 

@@ -1,11 +1,9 @@
-use Rattle.std.proofs.Common.{◌≡◌, ◌++◌, List, ◌∙◌, ◌-◌, ◌*◌, ◌+◌, ◌≤◌, ◌∷◌, sym, ap, subst, arith}
+use Rattle.std.proofs.Common.{◌≡◌, ◌++◌, List, ◌∙◌, ◌∷◌, sym, ap, subst, arith}
 use Rattle.multi_token.specs.Counted.{Counted}
-use Rattle.multi_token.proofs.StepLemmas.{rises_more, rises_then}
 use Rattle.multi_token.specs.Spelling.{Item}
-use Rattle.multi_layout.specs.declared.state.State.{State}
 use Rattle.multi_layout.specs.LaidItems.{laid_out}
-use Rattle.multi_layout.specs.kept.Cursors.{IsOrderly, IsPassing, IsTextPassed}
-use Rattle.multi_layout.proofs.PagesLemmas.{not_the_end, same_meanings, some_read, steps_further, way_further, way_text, within_further}
+use Rattle.multi_layout.specs.kept.Cursors.{IsOrderly, IsPassing, IsPlaced}
+use Rattle.multi_layout.proofs.PagesLemmas.{not_the_end, same_meanings, some_read, steps_further, text_way, way_further, within_further}
 use Rattle.multi_layout.proofs.PieceLemmas.{begins_page, pieces_before, pieces_behind, starts_between}
 use Rattle.multi_layout.proofs.pages.page_start.Goals as goal
 
@@ -19,14 +17,11 @@ pub unreachable-requires : goal.unreachable-requires
 unreachable-requires c =
     let sign = c.args.sign.now in
     let start = c.args.source.now in
-    let i = c.loop-cursor.invariant in
-    let same : c.loop-cursor.source.octets ≡ start.octets = ap (λ (s : Counted). s.octets) i.steps.3 in
-    let text_same : c.skip_text.new.source.octets ≡ start.octets = ap (λ (s : Counted). s.octets) c.skip_text.ensures.steps.3 ∙ same in
     let old = c.skip_text.new.self in
-    let few : old.state.pages ≤ c.args.page = omega (arith, c.loop-cursor-test.true, ap (λ (s : State). s.pages) c.skip_text.ensures.state) in
-    let w = way_text i.way old c.skip_text.ensures.state c.loop-cursor-test.true (subst (λ o. IsTextPassed sign o i.way.before i.way.behind old) same
-    (c.skip_text.ensures.passed i.way.before i.way.behind (subst (λ o. IsPassing sign o i.way.before i.way.behind c.loop-cursor.cursor) (sym same) i.way.between))) in
-    let none = c.in_default.ensures.first sign w.before w.behind (rw text_same w.between.placed) in
+    let i = c.loop-cursor.invariant in
+    let text = c.skip_text.ensures in
+    let (w, few, same, steps) = text_way sign c.args.page start c.loop-cursor.source c.skip_text.new.source c.loop-cursor.cursor old i.way c.loop-cursor-test.true i.steps text.steps text.on text.state text.passed in
+    let none = c.in_default.ensures.first sign w.before w.behind (subst (λ o. IsPlaced sign o w.before w.behind old.at) (sym same) w.between.placed) in
     let all = subst (λ (l : List Item). IsPassing sign start.octets w.before l old) none w.between in
     not_the_end sign start.octets c.args.page w.before old all few c.requires.page
 
@@ -34,66 +29,47 @@ pub next_item-requires : goal.next_item-requires
 next_item-requires c =
     let sign = c.args.sign.now in
     let start = c.args.source.now in
-    let i = c.loop-cursor.invariant in
-    let same : c.loop-cursor.source.octets ≡ start.octets = ap (λ (s : Counted). s.octets) i.steps.3 in
-    let text_same : c.skip_text.new.source.octets ≡ start.octets = ap (λ (s : Counted). s.octets) c.skip_text.ensures.steps.3 ∙ same in
     let old = c.skip_text.new.self in
-    let few : old.state.pages ≤ c.args.page = omega (arith, c.loop-cursor-test.true, ap (λ (s : State). s.pages) c.skip_text.ensures.state) in
-    let w = way_text i.way old c.skip_text.ensures.state c.loop-cursor-test.true (subst (λ o. IsTextPassed sign o i.way.before i.way.behind old) same
-    (c.skip_text.ensures.passed i.way.before i.way.behind (subst (λ o. IsPassing sign o i.way.before i.way.behind c.loop-cursor.cursor) (sym same) i.way.between))) in
-    (sign, (w.before, w.behind, rw text_same w.between.placed))
+    let i = c.loop-cursor.invariant in
+    let text = c.skip_text.ensures in
+    let (w, few, same, steps) = text_way sign c.args.page start c.loop-cursor.source c.skip_text.new.source c.loop-cursor.cursor old i.way c.loop-cursor-test.true i.steps text.steps text.on text.state text.passed in
+    (sign, (w.before, w.behind, subst (λ o. IsPlaced sign o w.before w.behind old.at) (sym same) w.between.placed))
 
 pub skip-requires : goal.skip-requires
 skip-requires c =
     let sign = c.args.sign.now in
     let start = c.args.source.now in
-    let i = c.loop-cursor.invariant in
-    let same : c.loop-cursor.source.octets ≡ start.octets = ap (λ (s : Counted). s.octets) i.steps.3 in
-    let text_same : c.skip_text.new.source.octets ≡ start.octets = ap (λ (s : Counted). s.octets) c.skip_text.ensures.steps.3 ∙ same in
     let old = c.skip_text.new.self in
-    let few : old.state.pages ≤ c.args.page = omega (arith, c.loop-cursor-test.true, ap (λ (s : State). s.pages) c.skip_text.ensures.state) in
-    let w = way_text i.way old c.skip_text.ensures.state c.loop-cursor-test.true (subst (λ o. IsTextPassed sign o i.way.before i.way.behind old) same
-    (c.skip_text.ensures.passed i.way.before i.way.behind (subst (λ o. IsPassing sign o i.way.before i.way.behind c.loop-cursor.cursor) (sym same) i.way.between))) in
-    let first = c.in-Some.ensures.first sign w.before w.behind (rw text_same w.between.placed) in
-    let read_same : c.next_item.new.source.octets ≡ start.octets = ap (λ (s : Counted). s.octets) c.in-Some.ensures.steps.3 ∙ text_same in
+    let i = c.loop-cursor.invariant in
+    let text = c.skip_text.ensures in
+    let (w, few, same, steps) = text_way sign c.args.page start c.loop-cursor.source c.skip_text.new.source c.loop-cursor.cursor old i.way c.loop-cursor-test.true i.steps text.steps text.on text.state text.passed in
+    let first = c.in-Some.ensures.first sign w.before w.behind (subst (λ o. IsPlaced sign o w.before w.behind old.at) (sym same) w.between.placed) in
+    let read_same : c.next_item.new.source.octets ≡ start.octets = ap (λ (s : Counted). s.octets) c.in-Some.ensures.steps.3 ∙ same in
     (w.before, first.1, first.0, subst (λ o. IsPassing sign o w.before (first.0 ∷ first.1) old) (sym read_same) (subst (λ (l : List Item). IsPassing sign start.octets w.before l old) first.2 w.between), first.3)
 
 pub loop-cursor-smaller : goal.loop-cursor-smaller
 loop-cursor-smaller c =
     let sign = c.args.sign.now in
     let start = c.args.source.now in
-    let i = c.loop-cursor.invariant in
-    let same : c.loop-cursor.source.octets ≡ start.octets = ap (λ (s : Counted). s.octets) i.steps.3 in
-    let text_same : c.skip_text.new.source.octets ≡ start.octets = ap (λ (s : Counted). s.octets) c.skip_text.ensures.steps.3 ∙ same in
     let old = c.skip_text.new.self in
-    let few : old.state.pages ≤ c.args.page = omega (arith, c.loop-cursor-test.true, ap (λ (s : State). s.pages) c.skip_text.ensures.state) in
-    let w = way_text i.way old c.skip_text.ensures.state c.loop-cursor-test.true (subst (λ o. IsTextPassed sign o i.way.before i.way.behind old) same
-    (c.skip_text.ensures.passed i.way.before i.way.behind (subst (λ o. IsPassing sign o i.way.before i.way.behind c.loop-cursor.cursor) (sym same) i.way.between))) in
-    let text = rises_then start c.loop-cursor.source c.skip_text.new.source 0 (9 * c.loop-cursor.cursor.at) 0 (2 * (old.at - c.loop-cursor.cursor.at) + 3) i.steps c.skip_text.ensures.steps in
-    let steps = rises_more start c.skip_text.new.source 0 _ (9 * old.at + 3) (omega (arith, c.skip_text.ensures.on)) text in
-    let first = c.in-Some.ensures.first sign w.before w.behind (rw text_same w.between.placed) in
-    let some = some_read sign c.args.page start c.skip_text.new.source c.next_item.new.source c.skip.new.source old c.skip.new.self c.in-Some.next steps c.in-Some.ensures.steps c.skip.ensures.at w first in
-    let within = within_further sign c.args.page start c.skip_text.new.source c.next_item.new.source c.skip.new.source old c.skip.new.self c.in-Some.next steps c.in-Some.ensures.steps c.skip.ensures.at w first in
-    omega (arith, c.skip.ensures.at, some, within, c.skip_text.ensures.on)
+    let i = c.loop-cursor.invariant in
+    let text = c.skip_text.ensures in
+    let (w, few, same, steps) = text_way sign c.args.page start c.loop-cursor.source c.skip_text.new.source c.loop-cursor.cursor old i.way c.loop-cursor-test.true i.steps text.steps text.on text.state text.passed in
+    let first = c.in-Some.ensures.first sign w.before w.behind (subst (λ o. IsPlaced sign o w.before w.behind old.at) (sym same) w.between.placed) in
+    omega (arith, c.skip.ensures.at, some_read sign c.args.page start c.skip_text.new.source c.next_item.new.source c.skip.new.source old c.skip.new.self c.in-Some.next steps c.in-Some.ensures.steps c.skip.ensures.at w first, within_further sign c.args.page start c.skip_text.new.source c.next_item.new.source c.skip.new.source old c.skip.new.self c.in-Some.next steps c.in-Some.ensures.steps c.skip.ensures.at w first, text.on)
 
 pub loop-cursor-preserved : goal.loop-cursor-preserved
 loop-cursor-preserved c =
     let sign = c.args.sign.now in
     let start = c.args.source.now in
-    let i = c.loop-cursor.invariant in
-    let same : c.loop-cursor.source.octets ≡ start.octets = ap (λ (s : Counted). s.octets) i.steps.3 in
-    let text_same : c.skip_text.new.source.octets ≡ start.octets = ap (λ (s : Counted). s.octets) c.skip_text.ensures.steps.3 ∙ same in
     let old = c.skip_text.new.self in
-    let few : old.state.pages ≤ c.args.page = omega (arith, c.loop-cursor-test.true, ap (λ (s : State). s.pages) c.skip_text.ensures.state) in
-    let w = way_text i.way old c.skip_text.ensures.state c.loop-cursor-test.true (subst (λ o. IsTextPassed sign o i.way.before i.way.behind old) same
-    (c.skip_text.ensures.passed i.way.before i.way.behind (subst (λ o. IsPassing sign o i.way.before i.way.behind c.loop-cursor.cursor) (sym same) i.way.between))) in
-    let text = rises_then start c.loop-cursor.source c.skip_text.new.source 0 (9 * c.loop-cursor.cursor.at) 0 (2 * (old.at - c.loop-cursor.cursor.at) + 3) i.steps c.skip_text.ensures.steps in
-    let steps = rises_more start c.skip_text.new.source 0 _ (9 * old.at + 3) (omega (arith, c.skip_text.ensures.on)) text in
-    let first = c.in-Some.ensures.first sign w.before w.behind (rw text_same w.between.placed) in
-    let some = some_read sign c.args.page start c.skip_text.new.source c.next_item.new.source c.skip.new.source old c.skip.new.self c.in-Some.next steps c.in-Some.ensures.steps c.skip.ensures.at w first in
+    let i = c.loop-cursor.invariant in
+    let text = c.skip_text.ensures in
+    let (w, few, same, steps) = text_way sign c.args.page start c.loop-cursor.source c.skip_text.new.source c.loop-cursor.cursor old i.way c.loop-cursor-test.true i.steps text.steps text.on text.state text.passed in
+    let first = c.in-Some.ensures.first sign w.before w.behind (subst (λ o. IsPlaced sign o w.before w.behind old.at) (sym same) w.between.placed) in
     record {
       way = way_further sign c.args.page start c.skip_text.new.source c.next_item.new.source c.skip.new.source old c.skip.new.self c.in-Some.next steps c.in-Some.ensures.steps c.skip.ensures.at w first few c.skip.ensures.passed;
-      steps = steps_further sign c.args.page start c.skip_text.new.source c.next_item.new.source c.skip.new.source old c.skip.new.self c.in-Some.next steps c.in-Some.ensures.steps c.skip.ensures.at some c.skip.ensures.steps;
+      steps = steps_further sign c.args.page start c.skip_text.new.source c.next_item.new.source c.skip.new.source old c.skip.new.self c.in-Some.next steps c.in-Some.ensures.steps c.skip.ensures.at (some_read sign c.args.page start c.skip_text.new.source c.next_item.new.source c.skip.new.source old c.skip.new.self c.in-Some.next steps c.in-Some.ensures.steps c.skip.ensures.at w first) c.skip.ensures.steps;
     }
 
 pub returns-clause-begins : goal.returns-clause-begins
