@@ -6,7 +6,7 @@ use Rattle.sign_font.specs.Sign.{SignData}
 use Rattle.octet_text.proofs.TextLemmas.{flat_map_more, flat_map_same}
 use Rattle.page_picture.specs.Colours.{ColourData, IsPage, colour_at, page_colour}
 use Rattle.page_picture.specs.Palette.{palette}
-use Rattle.message_report.specs.Blocks.{back_at, back_text, block_text, blocks_text, colour_within, coloured_text, fore_at, fore_text, goes_on, half_block, lines_text, reset_text, two_rows}
+use Rattle.message_report.specs.Blocks.{background, block_text, blocks_text, change_text, colour_text, colour_within, coloured_text, foreground, goes_on, half_block, lines_text, reset_text, two_rows}
 
 -- one more number of a range
 more : (f : ℕ → List ℕ) (n : ℕ) → flat_map f (range_with_len 0 (n + 1)) ≡ flat_map f (range_with_len 0 n) ++ f n
@@ -41,22 +41,18 @@ goes_same row other width column same left =
     ∙ ap (λ c. nat_lt 0 column && (other (column - 1) == c)) (same column left)
 
 -- and has the same escapes
-fore_same : (shares : List ℕ) (row other : ℕ → ℕ) (width column : ℕ) → ((k : ℕ) → k < width → row k ≡ other k) → column < width → fore_at shares row column ≡ fore_at shares other column
-fore_same shares row other width column same left =
-    ap (λ b. if b then [] else fore_text shares (row column)) (goes_same row other width column same left)
-    ∙ ap (λ c. if goes_on other column then [] else fore_text shares c) (same column left)
-
-back_same : (shares : List ℕ) (row other : ℕ → ℕ) (width column : ℕ) → ((k : ℕ) → k < width → row k ≡ other k) → column < width → back_at shares row column ≡ back_at shares other column
-back_same shares row other width column same left =
-    ap (λ b. if b then [] else back_text shares (row column)) (goes_same row other width column same left)
-    ∙ ap (λ c. if goes_on other column then [] else back_text shares c) (same column left)
+change_same : (shares : List ℕ) (rendition : ℕ) (row other : ℕ → ℕ) (width column : ℕ) → ((k : ℕ) → k < width → row k ≡ other k) → column < width
+    → change_text shares rendition row column ≡ change_text shares rendition other column
+change_same shares rendition row other width column same left =
+    ap (λ b. if b then [] else colour_text shares rendition (row column)) (goes_same row other width column same left)
+    ∙ ap (λ c. if goes_on other column then [] else colour_text shares rendition c) (same column left)
 
 block_same : (shares : List ℕ) (upper lower above below : ℕ → ℕ) (width column : ℕ) → ((k : ℕ) → k < width → upper k ≡ above k) → ((k : ℕ) → k < width → lower k ≡ below k) → column < width
     → block_text shares upper lower column ≡ block_text shares above below column
 unfolding block_text
 block_same shares upper lower above below width column first second left =
-    ap (λ l. l ++ back_at shares lower column ++ half_block) (fore_same shares upper above width column first left)
-    ∙ ap (λ l. fore_at shares above column ++ l ++ half_block) (back_same shares lower below width column second left)
+    ap (λ l. l ++ change_text shares background lower column ++ half_block) (change_same shares foreground upper above width column first left)
+    ∙ ap (λ l. change_text shares foreground above column ++ l ++ half_block) (change_same shares background lower below width column second left)
 
 blocks_same : (shares : List ℕ) (upper lower above below : ℕ → ℕ) (width : ℕ) → ((k : ℕ) → k < width → upper k ≡ above k) → ((k : ℕ) → k < width → lower k ≡ below k)
     → blocks_text shares upper lower width ≡ blocks_text shares above below width

@@ -20,13 +20,17 @@ three_text shares first =
 unfoldable pub rgb_text : List ℕ → ℕ → List ℕ
 rgb_text shares colour = three_text shares (3 * (colour + 1))
 
--- an escape gives what follows it a colour, as its foreground (ISO/IEC 8613-6, select graphic rendition 38, direct colour)
-unfoldable pub fore_text : List ℕ → ℕ → List ℕ
-fore_text shares colour = 27 ∷ codes "[38;2;" ++ rgb_text shares colour ++ codes "m"
+-- the number by which an escape gives a colour to the foreground (ISO/IEC 8613-6, select graphic rendition)
+abbrev pub foreground : ℕ
+foreground = 38
 
--- or as its background (ISO/IEC 8613-6, select graphic rendition 48, direct colour)
-unfoldable pub back_text : List ℕ → ℕ → List ℕ
-back_text shares colour = 27 ∷ codes "[48;2;" ++ rgb_text shares colour ++ codes "m"
+-- and that by which it gives one to the background (ISO/IEC 8613-6, select graphic rendition)
+abbrev pub background : ℕ
+background = 48
+
+-- an escape gives what follows it a colour, as its foreground or as its background (ISO/IEC 8613-6, direct colour)
+unfoldable pub colour_text : List ℕ → ℕ → ℕ → List ℕ
+colour_text shares rendition colour = 27 ∷ codes "[" ++ decimal rendition ++ codes ";2;" ++ rgb_text shares colour ++ codes "m"
 
 -- and one takes back both (ISO/IEC 8613-6, select graphic rendition 0)
 abbrev pub reset_text : List ℕ
@@ -42,17 +46,14 @@ half_block = 226 ∷ 150 ∷ 128 ∷ []
 abbrev pub goes_on : (ℕ → ℕ) → ℕ → Bool
 goes_on row column = nat_lt 0 column && (row (column - 1) == row column)
 
--- the escape for the foreground of a column, unless it is that of the column to the left (own)
-abbrev pub fore_at : List ℕ → (ℕ → ℕ) → ℕ → List ℕ
-fore_at shares row column = if goes_on row column then [] else fore_text shares (row column)
-
--- the same for the background (own)
-abbrev pub back_at : List ℕ → (ℕ → ℕ) → ℕ → List ℕ
-back_at shares row column = if goes_on row column then [] else back_text shares (row column)
+-- the escape for the colour of a column, unless it is that of the column to the left (own)
+abbrev pub change_text : List ℕ → ℕ → (ℕ → ℕ) → ℕ → List ℕ
+change_text shares rendition row column = if goes_on row column then [] else colour_text shares rendition (row column)
 
 -- two pixels, one above the other: their colours, and a half block (own)
 unfoldable pub block_text : List ℕ → (ℕ → ℕ) → (ℕ → ℕ) → ℕ → List ℕ
-block_text shares upper lower column = fore_at shares upper column ++ back_at shares lower column ++ half_block
+block_text shares upper lower column =
+    change_text shares foreground upper column ++ change_text shares background lower column ++ half_block
 
 -- the first pixels of two rows, from the left (own)
 unfoldable pub blocks_text : List ℕ → (ℕ → ℕ) → (ℕ → ℕ) → ℕ → List ℕ

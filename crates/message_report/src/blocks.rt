@@ -1,7 +1,7 @@
 //! A page in the sign's colours, by half blocks: two rows of pixels a line.
 ghost use Rattle.std.specs.Prelude.{◌≡◌, ◌++◌, ◌+◌, ◌*◌, ◌/◌, ◌<◌, ◌≤◌, ◌^◌, length, OnOk};
 ghost use Rattle.page_picture.specs.Colours.{colour_at};
-ghost use Rattle.message_report.specs.Blocks.{back_at, back_text, block_text, blocks_text, colour_within, fore_at, fore_text, goes_on, lines_text, rgb_text, two_rows};
+ghost use Rattle.message_report.specs.Blocks.{block_text, blocks_text, change_text, colour_text, colour_within, goes_on, lines_text, rgb_text, two_rows};
 
 use octet_text::{push_number, push_octets};
 use page_picture::PageColours;
@@ -9,6 +9,12 @@ use std::alloc::AllocError;
 
 /// What takes back the colours at the end of a line.
 const RESET: &[u8] = b"\x1b[0m\n";
+
+/// The number by which an escape gives a colour to the foreground (ISO/IEC 8613-6, select graphic rendition).
+const FOREGROUND: u8 = 38;
+
+/// The number by which it gives one to the background.
+const BACKGROUND: u8 = 48;
 
 /// The upper half block in UTF-8.
 const HALF_BLOCK: &[u8] = &[0xe2, 0x96, 0x80];
@@ -28,26 +34,21 @@ fn push_rgb(text: &mut Vec<u8>, shares: &[u8], colour: u8) -> Result<(), AllocEr
     push_number(text, u64::from(shares[red + 2]))
 }
 
-/// Appends the escape for the foreground.
-#[tactic(auto, unfolding(crate::specs::Blocks::fore_text))]
-fn push_fore(text: &mut Vec<u8>, shares: &[u8], colour: u8) -> Result<(), AllocError>
+/// Appends the escape for a colour, as the foreground or as the background.
+#[tactic(auto, unfolding(crate::specs::Blocks::colour_text))]
+fn push_colour(
+    text: &mut Vec<u8>,
+    shares: &[u8],
+    rendition: u8,
+    colour: u8,
+) -> Result<(), AllocError>
     requires shares { length shares.now ≡ 48 }
     requires colour { colour ≤ 9 }
-    ensures { OnOk result (text.new.items ≡ text.old.items ++ fore_text shares.now colour) }
+    ensures { OnOk result (text.new.items ≡ text.old.items ++ colour_text shares.now rendition colour) }
 {
-    push_octets(text, b"\x1b[38;2;")?;
-    push_rgb(text, shares, colour)?;
-    push_octets(text, b"m")
-}
-
-/// Appends the escape for the background.
-#[tactic(auto, unfolding(crate::specs::Blocks::back_text))]
-fn push_back(text: &mut Vec<u8>, shares: &[u8], colour: u8) -> Result<(), AllocError>
-    requires shares { length shares.now ≡ 48 }
-    requires colour { colour ≤ 9 }
-    ensures { OnOk result (text.new.items ≡ text.old.items ++ back_text shares.now colour) }
-{
-    push_octets(text, b"\x1b[48;2;")?;
+    push_octets(text, b"\x1b[")?;
+    push_number(text, u64::from(rendition))?;
+    push_octets(text, b";2;")?;
     push_rgb(text, shares, colour)?;
     push_octets(text, b"m")
 }
@@ -73,42 +74,24 @@ fn goes_on(colours: &PageColours, row: u16, column: u16) -> bool
     column > 0 && colour_within(colours, row, column - 1) == colour_within(colours, row, column)
 }
 
-/// Appends the escape for the pixel of the upper row, unless its colour is that of the column to the left.
-fn push_upper(
+/// Appends the escape for a pixel's colour, unless that is the colour of the column to the left.
+fn push_change(
     text: &mut Vec<u8>,
     shares: &[u8],
     colours: &PageColours,
+    rendition: u8,
     row: u16,
     column: u16,
 ) -> Result<(), AllocError>
     requires shares { length shares.now ≡ 48 }
     requires column { column < colours.now.width }
     ensures { OnOk result (text.new.items ≡ text.old.items
-        ++ fore_at shares.now (colour_within (colour_at colours.now) colours.now.height row) column) }
+        ++ change_text shares.now rendition (colour_within (colour_at colours.now) colours.now.height row) column) }
 {
     if goes_on(colours, row, column) {
         return Ok(());
     }
-    push_fore(text, shares, colour_within(colours, row, column))
-}
-
-/// Appends the escape for the pixel of the lower row, unless its colour is that of the column to the left.
-fn push_lower(
-    text: &mut Vec<u8>,
-    shares: &[u8],
-    colours: &PageColours,
-    row: u16,
-    column: u16,
-) -> Result<(), AllocError>
-    requires shares { length shares.now ≡ 48 }
-    requires column { column < colours.now.width }
-    ensures { OnOk result (text.new.items ≡ text.old.items
-        ++ back_at shares.now (colour_within (colour_at colours.now) colours.now.height row) column) }
-{
-    if goes_on(colours, row, column) {
-        return Ok(());
-    }
-    push_back(text, shares, colour_within(colours, row, column))
+    push_colour(text, shares, rendition, colour_within(colours, row, column))
 }
 
 /// Appends two pixels, one above the other.
@@ -127,8 +110,8 @@ fn push_block(
         ++ block_text shares.now (colour_within (colour_at colours.now) colours.now.height row)
         (colour_within (colour_at colours.now) colours.now.height (row + 1)) column) }
 {
-    push_upper(text, shares, colours, row, column)?;
-    push_lower(text, shares, colours, row + 1, column)?;
+    push_change(text, shares, colours, FOREGROUND, row, column)?;
+    push_change(text, shares, colours, BACKGROUND, row + 1, column)?;
     push_octets(text, HALF_BLOCK)
 }
 
