@@ -2,9 +2,8 @@
 use Rattle.std.proofs.Common.{◌≡◌, ◌<◌, ◌^◌, ◌⊎◌, ℕ, zero, suc, List, [], ◌∷◌, map, length, replicate, slice_set, slice_index_or, Option, None, Some, IfSome, inl, inr, refl, sym, ap, ◌∙◌, subst, arith}
 use Rattle.std.proofs.lemmas.Bool.{cases_order}
 use Rattle.std.proofs.lemmas.List.{get_or-set_same, get_or-set_other, length-replicate}
-use Rattle.message_store.specs.Crc.{register_behind}
 use Rattle.message_store.specs.declared.places.Span.{Span}
-use Rattle.message_store.specs.kept.Pool.{AreRegisters, AreTexts, Reserve, no_span, text_in}
+use Rattle.message_store.specs.kept.Pool.{AreRegisters, AreTexts, Reserve, no_span, register_behind, text_in}
 use Rattle.message_store.proofs.PoolLemmas.{none-placed}
 
 none_at : (count i : ℕ) → ◌≡◌ {A = Option ℕ} (slice_index_or (replicate count None) i None) None

@@ -1,8 +1,7 @@
 //! Texts that stand one after the other in one pool of octets, which is reserved once.
 
 ghost use Rattle.std.specs.Prelude.{◌≡◌, ◌+◌, ◌<◌, ◌≤◌, ◌^◌, ◌++◌, [], map, take, drop, length, replicate, slice_set, slice_index_or, IfOk};
-ghost use Rattle.message_store.specs.Crc.{register_behind};
-ghost use Rattle.message_store.specs.kept.Pool.{ArePlaced, Pool, moved, span_at, text_in, used};
+ghost use Rattle.message_store.specs.kept.Pool.{ArePlaced, Pool, moved, register_behind, span_at, text_in, used};
 
 use crate::crc::text_register;
 use crate::places::{Places, Span};

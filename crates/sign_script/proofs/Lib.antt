@@ -2,6 +2,7 @@ pub mod AskLemmas
 pub mod Asked
 pub mod FieldsFound
 pub mod FieldsRead
+pub mod HexadecimalLemmas
 pub mod LengthLemmas
 pub mod NumberLemmas
 pub mod PartedLemmas

@@ -1,2 +1,3 @@
 -- What the code keeps on its way, which no reader of the public contracts needs.
 pub mod Likely
+pub mod Hexadecimal

@@ -2,9 +2,8 @@
 
 ghost use Rattle.std.specs.Prelude.{◌≡◌, ◌==◌, ◌≤◌, IfSome, position};
 ghost use Rattle.std.specs.Option.{option_copied};
-ghost use Rattle.sign_script.specs.Fields.{at_end, last_message, last_number, last_octets, message_value, next_message, next_number, number_of, parted, seen, text_of};
+ghost use Rattle.sign_script.specs.Fields.{at_end, last_message, last_number, message_value, next_message, next_number, number_of, parted, seen, text_of};
 
-use hex::FromHex;
 use message_store::MsgRef;
 use octet_text::digits_number;
 
@@ -115,11 +114,4 @@ pub(crate) fn text_of(rest: Option<&[u8]>) -> &[u8]
         None => &[],
         Some(text) => text,
     }
-}
-
-/// The `N` octets, in hexadecimal, that are all that is left of a line.
-pub(crate) fn last_octets<const N: usize>(rest: Option<&[u8]>) -> Option<[u8; N]>
-    ensures { result ≡ last_octets N (option_copied rest.entry) }
-{
-    <[u8; N]>::from_hex(rest?).ok()
 }

@@ -36,6 +36,7 @@
 
 mod ask;
 mod fields;
+mod hexadecimal;
 mod laws;
 mod question;
 mod read;

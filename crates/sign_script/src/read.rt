@@ -9,9 +9,9 @@ ghost use Rattle.sign_script.specs.declared.ask.Ask.{Ask};
 
 use crate::ask::{Ask, LineFault};
 use crate::fields::{
-    at_end, last_message, last_number, last_octet, last_octets, message_value, next_message,
-    parted, text_of,
+    at_end, last_message, last_number, last_octet, message_value, next_message, parted, text_of,
 };
+use crate::hexadecimal::last_octets;
 use crate::verb::{Verb, field_of};
 use message_store::MsgRef;
 use sign_control::Command;

@@ -1,8 +1,8 @@
 -- Texts in one pool of octets.
-use Rattle.std.specs.Prelude.{◌≡◌, ℕ, ◌+◌, ◌-◌, ◌<◌, ◌≤◌, ◌⊎◌, ◌^◌, nat_le, if◌then◌else◌, List, [], ◌∷◌, map, take, drop, length, slice_index_or, Option, None, IfSome}
+use Rattle.std.specs.Prelude.{◌≡◌, ℕ, ◌+◌, ◌-◌, ◌<◌, ◌≤◌, ◌⊎◌, ◌^◌, nat_le, if◌then◌else◌, List, [], ◌∷◌, fold, map, take, drop, length, slice_index_or, Option, None, IfSome}
 use Rattle.std.specs.List.{sum_by}
 use Rattle.message_store.specs.declared.places.Span.{Span}
-use Rattle.message_store.specs.Crc.{register_behind}
+use Rattle.message_store.specs.Crc.{octet_step}
 
 -- the texts, and how many octets they may have together (own)
 pub record Pool : Type 0 where
@@ -53,6 +53,10 @@ pub record ArePlaced (spans : List Span) (size : ℕ) : Type 0 where
   pub all : sum_by (λ span. span.len) spans ≡ size
   pub within : (i : ℕ) → i < length spans → (span_at spans i).start + (span_at spans i).len ≤ size
   pub apart : (i j : ℕ) → i < length spans → j < length spans → (i ≡ j → ⊥) → AreApart (span_at spans i) (span_at spans j)
+
+-- the register of the CRC behind a text (ISO/IEC 3309)
+abbrev pub register_behind : List ℕ → ℕ
+register_behind text = fold octet_step 0xFFFF text
 
 -- the registers of the CRC that are kept are those behind their texts (own)
 abbrev pub AreRegisters : List (Option ℕ) → List (List ℕ) → Type 0

@@ -1,5 +1,5 @@
 use Rattle.std.proofs.Common.{ap, ◌∙◌, sym, arith}
-use Rattle.message_store.specs.Crc.{register_behind}
+use Rattle.message_store.specs.kept.Pool.{register_behind}
 use Rattle.message_store.specs.Slot.{slot_at}
 use Rattle.message_store.specs.kept.Stored.{crc_of}
 use Rattle.message_store.proofs.StoredLemmas.{seen}
