@@ -1,10 +1,9 @@
 -- The rows of a frame, one after the other.
-use Rattle.std.proofs.Common.{◌≡◌, ℕ, zero, suc, ◌+◌, ◌-◌, ◌*◌, ◌/◌, ◌%◌, ◌<◌, ◌≤◌, ◌==◌, Bool, List, [], ◌∷◌, ◌++◌, get_or, length, map, take, drop, slice_set, refl, sym, ap, ◌∙◌, arith, append_assoc, append-nil}
+use Rattle.std.proofs.Common.{◌≡◌, ℕ, zero, suc, ◌+◌, ◌-◌, ◌*◌, ◌/◌, ◌%◌, ◌<◌, ◌≤◌, ◌==◌, Bool, List, [], ◌∷◌, ◌++◌, get_or, length, map, take, refl, sym, ap, ◌∙◌, arith, append_assoc}
 use Rattle.std.specs.Int.{bit_at}
 use Rattle.std.specs.List.{flat_map, range_with_len}
-use Rattle.std.proofs.lemmas.Grind.{flat_map-append}
-use Rattle.std.proofs.lemmas.List.{take_more_set, take-append-drop, take-append-le}
-use Rattle.std.proofs.lemmas.List.FromFn.{length-map-range_with_len, take-map-range_with_len}
+use Rattle.std.proofs.lemmas.List.{take-take}
+use Rattle.std.proofs.lemmas.List.FromFn.{take-map-range_with_len}
 use Rattle.octet_text.proofs.TextLemmas.{flat_map_more, flat_map_same, map_same}
 use Rattle.page_plane.specs.Octets.{is_bit_set}
 use Rattle.page_plane.specs.Plane.{BitPlane, is_lit}
@@ -57,29 +56,22 @@ bits_more octets k octet is =
     ap pixel_text (bit_of octets k octet i j (omega arith) (omega arith) is)))
 
 -- an octet has eight more pixels, which are written behind those of the octets before it
-pub pixels_more : (rows : List (List ℕ)) (octets eight : List ℕ) (k octet : ℕ) → k < length rows → octet ≡ get_or octets k 0
-    → eight ≡ map (λ j. pixel_text (bit_at octet (7 - j) == 1)) (range_with_len 0 8)
-    → flat_map (λ x. x) (take k rows) ≡ bits_text octets (8 * k)
-    → flat_map (λ x. x) (take (k + 1) (slice_set rows k eight)) ≡ bits_text octets (8 * (k + 1))
-pixels_more rows octets eight k octet below at is so_far =
-    ap (flat_map (λ x. x)) (take_more_set rows k eight below)
-    ∙ flat_map-append (λ x. x) (take k rows) (eight ∷ [])
-    ∙ ap (λ l. l ++ (eight ++ [])) so_far
-    ∙ ap (λ l. bits_text octets (8 * k) ++ l) (append-nil eight ∙ is)
-    ∙ sym (bits_more octets k octet at)
+pub pixels_next : (octets before eight : List ℕ) (k octet : ℕ) → octet ≡ get_or octets k 0
+    → eight ≡ map (λ j. pixel_text (bit_at octet (7 - j) == 1)) (range_with_len 0 8) → before ≡ bits_text octets (8 * k)
+    → before ++ eight ≡ bits_text octets (8 * (k + 1))
+pixels_next octets before eight k octet at is so_far =
+    ap (λ l. l ++ eight) so_far ∙ ap (λ l. bits_text octets (8 * k) ++ l) is ∙ sym (bits_more octets k octet at)
 
--- the octets of a row begin with its pixels
-pub row_of_pixels : (lit : ℕ → ℕ → Bool) (rows : List (List ℕ)) (octets all : List ℕ) (width row n : ℕ) → n ≡ (width + 7) / 8
-    → ((x : ℕ) → x < width → is_bit_set octets x ≡ lit x row) → all ≡ flat_map (λ x. x) rows
-    → flat_map (λ x. x) (take n rows) ≡ bits_text octets (8 * n) → take width all ≡ pixels_text lit row width
-row_of_pixels lit rows octets all width row n count same is written =
-    let f : ℕ → ℕ = λ place. pixel_text (is_bit_set octets place) in
-    let size : length (bits_text octets (8 * n)) ≡ 8 * n = length-map-range_with_len f 0 (8 * n) in
-    ap (take width) (is ∙ ap (flat_map (λ x. x)) (sym (take-append-drop n rows)) ∙ flat_map-append (λ x. x) (take n rows) (drop n rows)
-    ∙ ap (λ l. l ++ flat_map (λ x. x) (drop n rows)) written)
-    ∙ take-append-le width (bits_text octets (8 * n)) (flat_map (λ x. x) (drop n rows)) (omega (arith, size, count))
-    ∙ take-map-range_with_len f 0 (8 * n) width (omega (arith, count))
-    ∙ map_same f (λ column. pixel_text (lit column row)) 0 width (λ x below. ap pixel_text (same x (omega arith)))
+-- as many pixels of the octets of a row as the row is wide are the row's
+pub row_of_bits : (lit : ℕ → ℕ → Bool) (octets : List ℕ) (width row : ℕ) → ((x : ℕ) → x < width → is_bit_set octets x ≡ lit x row)
+    → bits_text octets width ≡ pixels_text lit row width
+row_of_bits lit octets width row same =
+    map_same (λ place. pixel_text (is_bit_set octets place)) (λ column. pixel_text (lit column row)) 0 width (λ x below. ap pixel_text (same x (omega arith)))
+
+-- fewer pixels are the first of them
+pub bits_fewer : (octets text : List ℕ) (width count : ℕ) → width ≤ count → take count text ≡ bits_text octets count → take width text ≡ bits_text octets width
+bits_fewer octets text width count few written =
+    sym (take-take width count text few) ∙ ap (take width) written ∙ take-map-range_with_len (λ place. pixel_text (is_bit_set octets place)) 0 count width few
 
 -- no row is written at first
 pub rows_none : (lit : ℕ → ℕ → Bool) (width : ℕ) → rows_text lit width 0 ≡ []
@@ -92,6 +84,12 @@ unfolding rows_text
 rows_more lit width row =
     let next : row + 1 ≡ suc row = omega arith in
     ap (λ n. flat_map (row_text lit width) (range_with_len 0 n)) next ∙ flat_map_more (row_text lit width) 0 row row (omega arith)
+
+-- the line of a row comes behind the rows above it
+pub row_next : (lit : ℕ → ℕ → Bool) (octets before line : List ℕ) (width row : ℕ) → ((x : ℕ) → x < width → is_bit_set octets x ≡ lit x row)
+    → line ≡ bits_text octets width ++ 10 ∷ [] → before ≡ rows_text lit width row → before ++ line ≡ rows_text lit width (row + 1)
+row_next lit octets before line width row same is so_far =
+    ap (λ l. l ++ line) so_far ∙ ap (λ l. rows_text lit width row ++ l) (is ∙ ap (λ l. l ++ 10 ∷ []) (row_of_bits lit octets width row same)) ∙ sym (rows_more lit width row)
 
 -- what lights the same pixels has the same rows
 rows_same : (lit other : ℕ → ℕ → Bool) (width height : ℕ) → ((column row : ℕ) → column < width → row < height → lit column row ≡ other column row)

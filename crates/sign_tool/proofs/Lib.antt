@@ -17,3 +17,4 @@ pub mod ServingLemmas
 pub mod ServingSteps
 pub mod StartLemmas
 pub mod ToolLemmas
+mod WrittenLemmas

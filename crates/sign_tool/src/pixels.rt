@@ -1,9 +1,12 @@
-//! How the pixels of a row are written.
-ghost use Rattle.std.specs.Prelude.{◌≡◌, ◌*◌, ◌-◌, ◌≤◌, ◌==◌, length, map, take};
+//! How the pixels of rows are written.
+ghost use Rattle.std.specs.Prelude.{◌≡◌, ◌+◌, ◌*◌, ◌-◌, ◌<◌, ◌≤◌, ◌==◌, ◌++◌, ◌∷◌, [], length, map, take};
 ghost use Rattle.std.specs.Int.{bit_at};
-ghost use Rattle.std.specs.List.{flat_map, range_with_len};
+ghost use Rattle.std.specs.List.{range_with_len};
 ghost use Rattle.page_plane.specs.Octets.{is_bit_set};
-ghost use Rattle.sign_tool.specs.Frame.{pixel_text};
+ghost use Rattle.page_plane.specs.Plane.{is_lit};
+ghost use Rattle.sign_tool.specs.Frame.{pixel_text, rows_text};
+
+use page_plane::Plane;
 
 /// How the eight pixels of each octet are written, from its highest bit on.
 const OCTET_PIXELS: &[[u8; 8]; 256] = &[
@@ -272,28 +275,57 @@ fn octet_pixels(octet: u8) -> [u8; 8]
     OCTET_PIXELS[usize::from(octet)]
 }
 
+/// Writes eight octets over the first ones.
+fn put_eight(octets: &mut [u8], eight: &[u8; 8])
+    requires { 8 ≤ length octets.old }
+    ensures written { take 8 octets.new ≡ eight.now }
+    ensures len { length octets.new ≡ length octets.old }
+{
+    let Some(first) = octets.first_chunk_mut::<8>() else {
+        // There are eight octets.
+        unreachable!();
+    };
+    *first = *eight;
+}
+
 /// Writes the pixels of the octets of a row, eight after eight.
-fn write_pixels(pixels: &mut [[u8; 8]], octets: &[u8])
-    requires room { length octets.now ≤ length pixels.old }
-    ensures len { length pixels.new ≡ length pixels.old }
-    ensures written { flat_map (λ x. x) (take (length octets.now) pixels.new)
+fn write_pixels(text: &mut [u8], octets: &[u8])
+    requires room { 8 * length octets.now ≤ length text.old }
+    ensures len { length text.new ≡ length text.old }
+    ensures written { take (8 * length octets.now) text.new
         ≡ map (λ place. pixel_text (is_bit_set octets.now place)) (range_with_len 0 (8 * length octets.now)) }
 {
-    for (place, octet) in octets.iter().enumerate() {
-        pixels[place] = octet_pixels(*octet);
+    let mut at = 0;
+    for octet in octets {
+        put_eight(&mut text[at..], &octet_pixels(*octet));
+        at += 8;
     }
 }
 
-/// Writes the pixels of the octets of a row over those of the row before, which stay where both rows are alike.
-pub(crate) fn write_changed(pixels: &mut [[u8; 8]], before: &[u8], octets: &[u8])
-    requires room { length octets.now ≤ length pixels.old }
-    requires before { flat_map (λ x. x) (take (length before.now) pixels.old)
-        ≡ map (λ place. pixel_text (is_bit_set before.now place)) (range_with_len 0 (8 * length before.now)) }
-    ensures len { length pixels.new ≡ length pixels.old }
-    ensures written { flat_map (λ x. x) (take (length octets.now) pixels.new)
-        ≡ map (λ place. pixel_text (is_bit_set octets.now place)) (range_with_len 0 (8 * length octets.now)) }
+/// Writes the first pixels of a row, as many as this width, and the line feed after them.
+fn write_row(text: &mut [u8], octets: &[u8], width: usize)
+    requires room { 8 * length octets.now < length text.old }
+    requires width { width ≤ 8 * length octets.now }
+    ensures len { length text.new ≡ length text.old }
+    ensures written { take (width + 1) text.new
+        ≡ map (λ place. pixel_text (is_bit_set octets.now place)) (range_with_len 0 width) ++ 10 ∷ [] }
 {
-    if octets != before {
-        write_pixels(pixels, octets);
+    write_pixels(text, octets);
+    text[width] = b'\n';
+}
+
+/// Writes the pixel rows from the top. Each is written over what the row above it has written too much, so that there must be room for
+/// eight octets more.
+pub(crate) fn write_rows(text: &mut [u8], plane: &Plane)
+    requires room { (plane.now.width + 1) * plane.now.height + 8 ≤ length text.old }
+    ensures len { length text.new ≡ length text.old }
+    ensures written { take ((plane.now.width + 1) * plane.now.height) text.new
+        ≡ rows_text (is_lit plane.now) plane.now.width plane.now.height }
+{
+    let width = usize::from(plane.width());
+    let mut at = 0;
+    for row in 0..plane.height() {
+        write_row(&mut text[at..], plane.row(row), width);
+        at += width + 1;
     }
 }

@@ -1,18 +1,25 @@
 //! Answers that wait to be written.
-ghost use Rattle.std.specs.Prelude.{◌≡◌, ◌++◌, ◌∷◌, [], IfOk, OnOk, decimal};
+ghost use Rattle.std.specs.Prelude.{◌≡◌, ◌≤◌, ◌++◌, ◌∷◌, [], IfOk, OnOk, decimal, length, take};
 
 use itoa::Buffer;
 use std::alloc::{AllocError, Global};
 use std::marker::Model;
 
+/// How many octets of room are made beyond what is asked for (own).
+const SPARE: usize = 4_096;
+
 /// The answers to whole lines that aren't written yet, and what there is of the answer to the line after them (own).
 ///
-/// If memory is refused for an answer, the answers to the lines before it are still there.
+/// If memory is refused for an answer, the answers to the lines before it are still there. Room that was made once stays, so that an answer
+/// is put into it with nothing moved.
 #[derive(Drop)]
 pub(crate) struct Ready {
-    octets: Vec<u8>,
+    /// All of these answers, and room behind them.
+    pub(crate) octets: Vec<u8>,
     /// Where the answers to whole lines end.
     end: usize,
+    /// Where the answer that was begun ends.
+    pub(crate) len: usize,
 }
 
 impl Model for Ready {
@@ -21,9 +28,9 @@ impl Model for Ready {
 
     ghost Value = { ReadyData };
 
-    ghost view = { λ r. record { whole = take r.end r.octets.items; begun = drop r.end r.octets.items } };
+    ghost view = { λ r. record { whole = take r.end (take r.len r.octets.items); begun = drop r.end (take r.len r.octets.items) } };
 
-    ghost invariant = { λ r. r.end ≤ length r.octets.items };
+    ghost invariant = { λ r. (r.end ≤ r.len) × (r.len ≤ length r.octets.items) };
 }
 
 impl Ready {
@@ -34,6 +41,7 @@ impl Ready {
         Ready {
             octets: Vec::new(alloc),
             end: 0,
+            len: 0,
         }
     }
 
@@ -41,8 +49,12 @@ impl Ready {
     pub(crate) fn with_room(alloc: Global, room: usize) -> Result<Ready, AllocError>
         ensures { IfOk result (λ ready. ready ≡ record { whole = []; begun = [] }) }
     {
-        let octets = Vec::with_capacity(alloc, room)?;
-        Ok(Ready { octets, end: 0 })
+        let octets = Vec::with_capacity(alloc, room.saturating_add(2 * SPARE))?;
+        Ok(Ready {
+            octets,
+            end: 0,
+            len: 0,
+        })
     }
 
     /// The answers to whole lines.
@@ -56,16 +68,28 @@ impl Ready {
     pub(crate) fn end_answer(&mut self)
         ensures { self.new ≡ record { whole = self.old.whole ++ self.old.begun; begun = [] } }
     {
-        self.end = self.octets.len();
+        self.end = self.len;
     }
 
     /// Forgets all.
     pub(crate) fn clear(&mut self)
         ensures { self.new ≡ record { whole = []; begun = [] } }
     {
-        self.octets.clear();
         self.end = 0;
+        self.len = 0;
     }
+}
+
+/// Makes sure that there are this many octets. Those that there are stay. The error says that memory was refused.
+pub(crate) fn make_room(octets: &mut Vec<u8>, count: usize) -> Result<(), AllocError>
+    ensures room { OnOk result (count ≤ length octets.new.items) }
+    ensures len { length octets.old.items ≤ length octets.new.items }
+    ensures kept { take (length octets.old.items) octets.new.items ≡ octets.old.items }
+{
+    if count > octets.len() {
+        octets.resize(count.saturating_add(SPARE), 0)?;
+    }
+    Ok(())
 }
 
 /// Appends an octet to the answer that was begun. The error says that memory was refused.
@@ -73,7 +97,10 @@ pub(crate) fn push_octet(text: &mut Ready, octet: u8) -> Result<(), AllocError>
     ensures text { OnOk result (text.new.begun ≡ text.old.begun ++ octet ∷ []) }
     ensures whole { text.new.whole ≡ text.old.whole }
 {
-    Ok(text.octets.push(octet)?)
+    make_room(&mut text.octets, text.len + 1)?;
+    text.octets[text.len] = octet;
+    text.len += 1;
+    Ok(())
 }
 
 /// Appends octets to the answer that was begun. The error says that memory was refused.
@@ -81,7 +108,11 @@ pub(crate) fn push_octets(text: &mut Ready, octets: &[u8]) -> Result<(), AllocEr
     ensures text { OnOk result (text.new.begun ≡ text.old.begun ++ octets.now) }
     ensures whole { text.new.whole ≡ text.old.whole }
 {
-    text.octets.extend_from_slice(octets)
+    let end = text.len + octets.len();
+    make_room(&mut text.octets, end)?;
+    text.octets[text.len..end].copy_from_slice(octets);
+    text.len = end;
+    Ok(())
 }
 
 /// Appends a number in decimal to the answer that was begun. The error says that memory was refused.

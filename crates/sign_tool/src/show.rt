@@ -9,8 +9,8 @@ ghost use Rattle.multi_layout.specs.Times.{shown};
 ghost use Rattle.sign_tool.specs.Frame.{frame_text, head_text, rows_text, show_answer};
 
 use crate::answer::{Answer, LineAnswer};
-use crate::pixels::write_changed;
-use crate::ready::{Ready, push_number, push_octet, push_octets};
+use crate::pixels::write_rows;
+use crate::ready::{Ready, make_room, push_number, push_octets};
 use crate::reply::{push_refused, push_too_long};
 use multi_layout::{Checked, Shown, check};
 use multi_token::Source;
@@ -66,24 +66,15 @@ impl Shower {
     }
 }
 
-/// The most octets of a row of pixels.
-const MAX_ROW: usize = 128;
-
-/// Appends the pixel rows from the top. Many rows are like the one above, whose pixels stay as they are written.
+/// Appends the pixel rows from the top.
 pub(crate) fn push_rows(text: &mut Ready, plane: &Plane) -> Result<(), AllocError>
     ensures text { OnOk result (text.new.begun ≡ text.old.begun ++ rows_text (is_lit plane.now) plane.now.width plane.now.height) }
     ensures whole { text.new.whole ≡ text.old.whole }
 {
-    let width = usize::from(plane.width());
-    let mut pixels = [[0; 8]; MAX_ROW];
-    let mut before: &[u8] = &[];
-    for row in 0..plane.height() {
-        let octets = plane.row(row);
-        write_changed(&mut pixels, before, octets);
-        push_octets(text, &pixels.as_flattened()[..width])?;
-        push_octet(text, b'\n')?;
-        before = octets;
-    }
+    let end = text.len + (usize::from(plane.width()) + 1) * usize::from(plane.height());
+    make_room(&mut text.octets, end + 8)?;
+    write_rows(&mut text.octets[text.len..], plane);
+    text.len = end;
     Ok(())
 }
 

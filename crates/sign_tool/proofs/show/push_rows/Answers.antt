@@ -1,26 +1,26 @@
-use Rattle.std.proofs.Common.{◌≡◌, ◌++◌, ◌∷◌, [], refl, sym, ap, ◌∙◌, append-nil, append_assoc, take}
+use Rattle.std.proofs.Common.{◌≡◌, ◌+◌, ◌*◌, ◌∙◌, length, take, ap, sym, arith}
 use Rattle.page_plane.specs.Plane.{is_lit}
-use Rattle.sign_tool.specs.Frame.{pixels_text}
-use Rattle.octet_text.proofs.TextLemmas
-use Rattle.sign_tool.proofs.FrameLemmas
+use Rattle.sign_tool.specs.Frame.{rows_text}
+use Rattle.sign_tool.specs.kept.Ready.{ReadyData}
+use Rattle.sign_tool.proofs.WrittenLemmas.{grown, lent_length}
 use Rattle.sign_tool.proofs.show.push_rows.Goals as goal
 
-pub loop-row-init : goal.loop-row-init
-loop-row-init c =
-    let old = c.args.text.now.begun in
-    (sym (append-nil old) ∙ ap (λ l. old ++ l) (sym (FrameLemmas.rows_none (is_lit c.args.plane.now) c.args.plane.now.width)), refl, refl)
-
-pub write_changed-requires-clause-before : goal.write_changed-requires-clause-before
-write_changed-requires-clause-before c = c.loop-row.invariant.1
-
-pub loop-row-preserved : goal.loop-row-preserved
-loop-row-preserved c =
-    let lit = is_lit c.args.plane.now in
-    let width = c.args.plane.now.width in
-    let row = c.loop-row.row in
-    let old = c.loop-row.text.begun in
-    let pixels = FrameLemmas.row_of_pixels lit c.write_changed.new.pixels c.row-octets.result.now c.as_flattened.result.now width row _ c.row-octets.ensures.count c.row-octets.ensures.pixels c.as_flattened.ensures.value c.write_changed.ensures.written in
-    let written : c.push_octets.new.text.begun ≡ old ++ pixels_text lit row width =
-    c.in_ok-push_octets.ensures.text ∙ ap (λ n. old ++ take n c.as_flattened.result.now) (c.from-width.ensures ∙ c.width.ensures.value) ∙ ap (λ l. old ++ l) pixels in
-    let line = c.in_ok-push_octet.ensures.text ∙ ap (λ l. l ++ 10 ∷ []) written ∙ append_assoc old (pixels_text lit row width) (10 ∷ []) in
-    (TextLemmas.grown _ _ _ _ _ _ c.loop-row.invariant.0 line (FrameLemmas.rows_more lit width row), c.write_changed.ensures.written, c.in_ok-push_octet.ensures.whole ∙ c.in_ok-push_octets.ensures.whole ∙ c.loop-row.invariant.2)
+pub returns-clause-text : goal.returns-clause-text
+returns-clause-text c =
+    let d = c.deref_mut.ensures in
+    let a = c.text.inside in
+    let plane = c.args.plane.now in
+    let room = c.in_ok-make_room.ensures in
+    let lent = c.deref_mut.result.now in
+    let new = c.write_rows.new.text in
+    let all : c.make_room.new.octets.len ≡ length lent = sym d.len in
+    let value = ap length d.value in
+    let begun = sym (ap (λ (r : ReadyData). r.begun) c.text.view_is) in
+    let size : (c.from.result + 1) * c.from-2.result ≡ (plane.width + 1) * plane.height =
+    ap (λ w. (w + 1) * c.from-2.result) (c.from.ensures ∙ c.width.ensures.value) ∙ ap (λ h. (plane.width + 1) * h) (c.from-2.ensures ∙ c.height.ensures.value) in
+    let there = c.text.invariant.1 in
+    let rest = lent_length a.len lent (omega (arith, value, room.room)) in
+    let long = c.write_rows.ensures.len in
+    grown a.octets.items c.make_room.new.octets.items lent new _ _ c.args.text.now.begun (rows_text (is_lit plane) plane.width plane.height) a.end a.len ((c.from.result + 1) * c.from-2.result) c.make_room.new.octets.len
+    c.text.invariant.0 there room.kept d.value all (omega (arith, value, room.room)) (omega (arith, value, room.room, rest, long)) begun
+    (ap (λ n. take n new) size ∙ c.write_rows.ensures.written)

@@ -1,0 +1,45 @@
+-- What is written at the front of octets that have room behind it.
+use Rattle.std.proofs.Common.{◌≡◌, ℕ, ◌+◌, ◌-◌, ◌≤◌, List, ◌++◌, length, take, drop, sym, ap, ◌∙◌, arith}
+use Rattle.std.proofs.Math.Seq.{take-append-add}
+use Rattle.std.proofs.lemmas.List.{drop-append-le, length-take-le, take-append-le, take-take, length-drop, length-append}
+
+-- room that is made keeps what is written
+pub room_kept : (old new : List ℕ) (len : ℕ) → len ≤ length old → take (length old) new ≡ old → take len new ≡ take len old
+room_kept old new len within kept = sym (take-take len (length old) new within) ∙ ap (take len) kept
+
+-- more is written behind what is written
+pub part_written : (at n : ℕ) (old new rest : List ℕ) → at ≤ length old → n ≤ length new
+    → take (at + n) (take at old ++ (new ++ rest)) ≡ take at old ++ take n new
+part_written at n old new rest within enough =
+    ap (λ k. take (k + n) (take at old ++ (new ++ rest))) (sym (length-take-le at old within))
+    ∙ take-append-add (take at old) (new ++ rest) n
+    ∙ ap (λ l. take at old ++ l) (take-append-le n new rest enough)
+
+-- and then what was begun has that at its end
+pub begun_more : (old new more : List ℕ) (end : ℕ) → end ≤ length old → new ≡ old ++ more → drop end new ≡ drop end old ++ more
+begun_more old new more end within is = ap (drop end) is ∙ drop-append-le end old more within
+
+pub whole_kept : (old new more : List ℕ) (end : ℕ) → end ≤ length old → new ≡ old ++ more → take end new ≡ take end old
+whole_kept old new more end within is = ap (take end) is ∙ take-append-le end old more within
+
+-- the length of what is lent from a place on
+pub lent_length : (at : ℕ) (old : List ℕ) → at ≤ length old → length (take (length old - at) (drop at old)) ≡ length old - at
+lent_length at old within = length-take-le (length old - at) (drop at old) (let rest = length-drop at old in omega (arith, rest))
+
+-- what is written behind what there is of an answer comes to its end, where room was made for it
+pub grown : (items kept lent new rest behind begun more : List ℕ) (end len n count : ℕ) → end ≤ len → len ≤ length items
+    → take (length items) kept ≡ items → lent ≡ kept → count ≡ length lent → len + n ≤ length lent → n ≤ length new
+    → begun ≡ drop end (take len items) → take n new ≡ more
+    → drop end (take (len + n) (take count (take len lent ++ (new ++ rest) ++ behind))) ≡ begun ++ more
+grown items kept lent new rest behind begun more end len n count in_order within room is_lent all long enough is_begun is_more =
+    let written = take len lent ++ (new ++ rest) in
+    let front = length-take-le len lent (omega (arith, long)) in
+    let both = length-append (take len lent) (new ++ rest) in
+    let two = length-append new rest in
+    let there = length-take-le len items within in
+    let same : take len lent ≡ take len items = ap (take len) is_lent ∙ room_kept items kept len within room in
+    ap (drop end) (take-take (len + n) count (written ++ behind) (omega (arith, all, long))
+    ∙ take-append-le (len + n) written behind (omega (arith, front, both, two, enough))
+    ∙ part_written len n lent new rest (omega (arith, long)) enough
+    ∙ ap (λ l. l ++ take n new) same ∙ ap (λ l. take len items ++ l) is_more)
+    ∙ drop-append-le end (take len items) more (omega (arith, there, in_order)) ∙ ap (λ l. l ++ more) (sym is_begun)
