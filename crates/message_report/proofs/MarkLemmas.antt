@@ -1,7 +1,7 @@
 -- Marks that are written into a line.
-use Rattle.std.proofs.Common.{◌≡◌, ℕ, zero, suc, ◌+◌, ◌-◌, ◌<◌, ◌≤◌, List, [], ◌∷◌, ◌++◌, length, map, take, drop, get_or, set, replicate, refl, sym, ap, ◌∙◌, arith, append-nil}
+use Rattle.std.proofs.Common.{◌≡◌, ℕ, zero, suc, ◌+◌, ◌-◌, ◌<◌, List, [], ◌∷◌, ◌++◌, length, map, take, drop, get_or, set, replicate, refl, sym, ap, ◌∙◌, arith, append-nil}
 use Rattle.std.specs.List.{range_with_len}
-use Rattle.std.proofs.lemmas.List.{drop_all, drop_at, drop-drop, drop-set-lt, length-append, length-drop, length-replicate, map-append, take-append-drop, take_all, take_at, take_more, take_more_set}
+use Rattle.std.proofs.lemmas.List.{drop_all, drop_at, drop-drop, drop-set-lt, length-append, length-replicate, map-append, take-append-drop, take_all, take_at, take_more, take_more_set}
 use Rattle.message_report.specs.Pictures.{mark}
 
 -- one more mark is written

@@ -2,7 +2,7 @@ use Rattle.std.proofs.Common.{rules, ◌≡◌, ◌+◌, ◌∙◌, ◌++◌, �
 use Rattle.std.specs.List.{range_with_len}
 use Rattle.std.specs.Vec.{vec_len}
 use Rattle.page_picture.specs.Colours.{colour_at}
-use Rattle.message_report.specs.Pictures.{mark, mark_at, row_text}
+use Rattle.message_report.specs.Pictures.{mark, mark_at}
 use Rattle.message_report.proofs.MarkLemmas
 use Rattle.message_report.proofs.marks.push_row.Goals as goal
 

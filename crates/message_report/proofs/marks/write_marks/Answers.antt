@@ -1,5 +1,4 @@
-use Rattle.std.proofs.Common.{◌∙◌, ap, arith, length-set}
-use Rattle.std.proofs.lemmas.List.{take_all}
+use Rattle.std.proofs.Common.{◌∙◌, arith, length-set}
 use Rattle.message_report.proofs.MarkLemmas
 use Rattle.message_report.proofs.marks.write_marks.Goals as goal
 
