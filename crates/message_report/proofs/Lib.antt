@@ -1,4 +1,5 @@
 pub mod BlockLemmas
 pub mod ExplanationLemmas
+pub mod MarkLemmas
 pub mod PageLemmas
 pub mod RecordLemmas

@@ -1,8 +1,8 @@
 //! A page drawn by marks, in all its colours at once.
-ghost use Rattle.std.specs.Prelude.{◌≡◌, ◌++◌, ◌<◌, ◌≤◌, OnOk};
+ghost use Rattle.std.specs.Prelude.{◌≡◌, ◌++◌, ◌<◌, ◌≤◌, OnOk, drop, length, map, take};
+ghost use Rattle.std.specs.List.{All};
 ghost use Rattle.message_report.specs.Pictures.{mark, mark_at, row_text, rows_text};
 
-use octet_text::push_octet;
 use page_picture::PageColours;
 use std::alloc::AllocError;
 
@@ -14,15 +14,29 @@ fn mark(colour: u8) -> u8
     if colour == 0 { b'.' } else { b'0' + colour }
 }
 
-/// Appends a row of pixels.
+/// Writes the marks of colours at the front of a line.
+fn write_marks(line: &mut [u8], colours: &[u8])
+    requires room { length colours.now ≤ length line.old }
+    requires small { All (λ colour. colour ≤ 9) colours.now }
+    ensures len { length line.new ≡ length line.old }
+    ensures written { take (length colours.now) line.new ≡ map mark colours.now }
+    ensures behind { drop (length colours.now) line.new ≡ drop (length colours.now) line.old }
+{
+    for (place, colour) in colours.iter().enumerate() {
+        line[place] = mark(*colour);
+    }
+}
+
+/// Appends a row of pixels. The line is made first, so that its pixels are written with no look at the room.
 fn push_row(text: &mut Vec<u8>, colours: &PageColours, row: u16) -> Result<(), AllocError>
     requires { row < colours.now.height }
     ensures { OnOk result (text.new.items ≡ text.old.items ++ row_text (mark_at colours.now) colours.now.width row) }
 {
-    for column in 0..colours.width() {
-        push_octet(text, mark(colours.colour(column, row)))?;
-    }
-    push_octet(text, b'\n')
+    let colours = colours.row(row);
+    let start = text.len();
+    text.resize(start + colours.len() + 1, b'\n')?;
+    write_marks(&mut text[start..], colours);
+    Ok(())
 }
 
 /// Appends the rows of pixels from the top.

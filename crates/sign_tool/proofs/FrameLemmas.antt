@@ -1,8 +1,9 @@
 -- The rows of a frame, one after the other.
-use Rattle.std.proofs.Common.{◌≡◌, ℕ, zero, suc, ◌+◌, ◌-◌, ◌*◌, ◌/◌, ◌%◌, ◌<◌, ◌≤◌, ◌==◌, Bool, List, [], ◌∷◌, ◌++◌, get_or, length, map, take, refl, sym, ap, ◌∙◌, arith, append_assoc}
-use Rattle.std.specs.Int.{bit_at}
+use Rattle.std.proofs.Common.{◌≡◌, ℕ, zero, suc, ◌+◌, ◌-◌, ◌*◌, ◌/◌, ◌%◌, ◌<◌, ◌≤◌, ◌==◌, Bool, List, [], ◌∷◌, ◌++◌, get_or, length, map, replicate, take, drop, subst, refl, sym, ap, ◌∙◌, arith, append_assoc}
+use Rattle.std.specs.Int.{bit_at, from_le_bytes, to_le_bytes, w64}
+use Rattle.std.proofs.lemmas.Nat.{le_bytes_8}
 use Rattle.std.specs.List.{flat_map, range_with_len}
-use Rattle.std.proofs.lemmas.List.{take-take}
+use Rattle.std.proofs.lemmas.List.{get_or-drop, get_or-take, take-take, take_all}
 use Rattle.std.proofs.lemmas.List.FromFn.{take-map-range_with_len}
 use Rattle.octet_text.proofs.TextLemmas.{flat_map_more, flat_map_same, map_same}
 use Rattle.page_plane.specs.Octets.{is_bit_set}
@@ -61,6 +62,40 @@ pub pixels_next : (octets before eight : List ℕ) (k octet : ℕ) → octet ≡
     → before ++ eight ≡ bits_text octets (8 * (k + 1))
 pixels_next octets before eight k octet at is so_far =
     ap (λ l. l ++ eight) so_far ∙ ap (λ l. bits_text octets (8 * k) ++ l) is ∙ sym (bits_more octets k octet at)
+
+-- the bit at a place of a part is that of the whole
+part_bit : (octets : List ℕ) (from n place : ℕ) → place < 8 * n → is_bit_set (take n (drop from octets)) place ≡ is_bit_set octets (8 * from + place)
+unfolding is_bit_set
+part_bit octets from n place below =
+    let at : (8 * from + place) / 8 ≡ from + place / 8 = omega arith in
+    let rest : (8 * from + place) % 8 ≡ place % 8 = omega arith in
+    rw (at, rest, get_or-take n (drop from octets) (place / 8) 0 (omega (arith, below)), get_or-drop from octets (place / 8) 0) refl
+
+-- the pixels of a part of the octets come behind those of the octets before it
+pub bits_part : (octets part before text : List ℕ) (from n size : ℕ) → part ≡ take n (drop from octets) → before ≡ bits_text octets (8 * from) → text ≡ bits_text part (8 * n)
+    → size ≡ 8 * from + 8 * n → before ++ text ≡ bits_text octets size
+bits_part octets part before text from n size is_part is_before is_text is_size =
+    let f : ℕ → ℕ = λ place. pixel_text (is_bit_set octets place) in
+    let g : ℕ → ℕ = λ place. pixel_text (is_bit_set (take n (drop from octets)) place) in
+    ap (λ l. l ++ text) is_before ∙ ap (λ l. bits_text octets (8 * from) ++ l) (is_text ∙ ap (λ l. bits_text l (8 * n)) is_part)
+    ∙ ap (λ l. bits_text octets (8 * from) ++ l) (sym (map_moved f g (8 * from) 0 (8 * n) (λ i j k below at to.
+    let here : 8 * from + j ≡ i = omega (arith, at, to) in
+    ap pixel_text (ap (is_bit_set octets) (sym here) ∙ sym (part_bit octets from n j (omega (arith, to, below)))))))
+    ∙ sym (map_parts f 0 (8 * from) (8 * from) (8 * n) (omega arith))
+    ∙ ap (bits_text octets) (sym is_size)
+
+-- eight octets that are 0 as a word
+pub dark_word : (octets eight : List ℕ) (word : ℕ) → length octets ≡ 8 → ((i : ℕ) → get_or octets i 0 < 256) → eight ≡ take 8 octets
+    → word ≡ from_le_bytes w64 eight → word ≡ 0 → octets ≡ replicate 8 0
+dark_word octets eight word whole small is_eight is_word none =
+    let all : eight ≡ octets = is_eight ∙ take_all 8 octets (omega (arith, whole)) in
+    let zero : to_le_bytes w64 0 ≡ replicate {A = ℕ} 8 0 = refl in
+    sym all ∙ sym (le_bytes_8 eight word (ap length all ∙ whole) (λ i. subst (λ l. get_or l i 0 < 256) (sym all) (small i)) is_word) ∙ ap (to_le_bytes w64) none ∙ zero
+
+-- have no pixel
+pub dark_text : bits_text (replicate {A = ℕ} 8 0) 64 ≡ replicate {A = ℕ} 64 46
+unfolding is_bit_set
+dark_text = refl
 
 -- as many pixels of the octets of a row as the row is wide are the row's
 pub row_of_bits : (lit : ℕ → ℕ → Bool) (octets : List ℕ) (width row : ℕ) → ((x : ℕ) → x < width → is_bit_set octets x ≡ lit x row)

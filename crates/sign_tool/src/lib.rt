@@ -9,6 +9,7 @@ mod answer;
 mod answers;
 mod block;
 mod check;
+mod eight;
 mod fault;
 mod first;
 mod laws;

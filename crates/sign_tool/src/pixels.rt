@@ -1,11 +1,12 @@
 //! How the pixels of rows are written.
-ghost use Rattle.std.specs.Prelude.{◌≡◌, ◌+◌, ◌*◌, ◌-◌, ◌<◌, ◌≤◌, ◌==◌, ◌++◌, ◌∷◌, [], length, map, take};
+ghost use Rattle.std.specs.Prelude.{◌≡◌, ◌+◌, ◌*◌, ◌-◌, ◌<◌, ◌≤◌, ◌==◌, ◌++◌, ◌∷◌, [], true, length, map, replicate, take};
 ghost use Rattle.std.specs.Int.{bit_at};
 ghost use Rattle.std.specs.List.{range_with_len};
 ghost use Rattle.page_plane.specs.Octets.{is_bit_set};
 ghost use Rattle.page_plane.specs.Plane.{is_lit};
 ghost use Rattle.sign_tool.specs.Frame.{pixel_text, rows_text};
 
+use crate::eight::put_eight;
 use page_plane::Plane;
 
 /// How the eight pixels of each octet are written, from its highest bit on.
@@ -275,21 +276,8 @@ fn octet_pixels(octet: u8) -> [u8; 8]
     OCTET_PIXELS[usize::from(octet)]
 }
 
-/// Writes eight octets over the first ones.
-fn put_eight(octets: &mut [u8], eight: &[u8; 8])
-    requires { 8 ≤ length octets.old }
-    ensures written { take 8 octets.new ≡ eight.now }
-    ensures len { length octets.new ≡ length octets.old }
-{
-    let Some(first) = octets.first_chunk_mut::<8>() else {
-        // There are eight octets.
-        unreachable!();
-    };
-    *first = *eight;
-}
-
-/// Writes the pixels of the octets of a row, eight after eight.
-fn write_pixels(text: &mut [u8], octets: &[u8])
+/// Writes the pixels of octets, eight after eight.
+fn write_octets(text: &mut [u8], octets: &[u8])
     requires room { 8 * length octets.now ≤ length text.old }
     ensures len { length text.new ≡ length text.old }
     ensures written { take (8 * length octets.now) text.new
@@ -300,6 +288,59 @@ fn write_pixels(text: &mut [u8], octets: &[u8])
         put_eight(&mut text[at..], &octet_pixels(*octet));
         at += 8;
     }
+}
+
+/// Whether eight octets have no pixel.
+fn is_dark(octets: &[u8]) -> bool
+    requires { length octets.now ≡ 8 }
+    ensures { result ≡ true → octets.now ≡ replicate 8 0 }
+{
+    let Some((eight, _)) = octets.split_first_chunk::<8>() else {
+        // There are eight octets.
+        unreachable!();
+    };
+    u64::from_le_bytes(*eight) == 0
+}
+
+/// Writes 64 dark pixels over the first octets.
+fn put_dark(text: &mut [u8])
+    requires { 64 ≤ length text.old }
+    ensures written { take 64 text.new ≡ replicate 64 46 }
+    ensures len { length text.new ≡ length text.old }
+{
+    let Some(first) = text.first_chunk_mut::<64>() else {
+        // There are 64 octets.
+        unreachable!();
+    };
+    *first = [b'.'; 64];
+}
+
+/// Writes the pixels of eight octets. Most of a page is dark.
+fn write_eight(text: &mut [u8], octets: &[u8])
+    requires eight { length octets.now ≡ 8 }
+    requires room { 64 ≤ length text.old }
+    ensures len { length text.new ≡ length text.old }
+    ensures written { take 64 text.new ≡ map (λ place. pixel_text (is_bit_set octets.now place)) (range_with_len 0 64) }
+{
+    if is_dark(octets) {
+        put_dark(text);
+    } else {
+        write_octets(text, octets);
+    }
+}
+
+/// Writes the pixels of the octets of a row, as many octets at once as a word has.
+fn write_pixels(text: &mut [u8], octets: &[u8])
+    requires room { 8 * length octets.now ≤ length text.old }
+    ensures len { length text.new ≡ length text.old }
+    ensures written { take (8 * length octets.now) text.new
+        ≡ map (λ place. pixel_text (is_bit_set octets.now place)) (range_with_len 0 (8 * length octets.now)) }
+{
+    let words = octets.len() / 8;
+    for word in 0..words {
+        write_eight(&mut text[64 * word..], &octets[8 * word..8 * word + 8]);
+    }
+    write_octets(&mut text[64 * words..], &octets[8 * words..]);
 }
 
 /// Writes the first pixels of a row, as many as this width, and the line feed after them.

@@ -1,6 +1,7 @@
 //! Answers that wait to be written.
 ghost use Rattle.std.specs.Prelude.{◌≡◌, ◌≤◌, ◌++◌, ◌∷◌, [], IfOk, OnOk, decimal, length, take};
 
+use crate::eight::put_eight;
 use itoa::Buffer;
 use std::alloc::{AllocError, Global};
 use std::marker::Model;
@@ -112,6 +113,19 @@ pub(crate) fn push_octets(text: &mut Ready, octets: &[u8]) -> Result<(), AllocEr
     make_room(&mut text.octets, end)?;
     text.octets[text.len..end].copy_from_slice(octets);
     text.len = end;
+    Ok(())
+}
+
+/// Appends the first `count` of eight octets to the answer that was begun. The others are written behind it, where nothing counts yet, so
+/// that a short text takes one look at the room and one write. The error says that memory was refused.
+pub(crate) fn push_short(text: &mut Ready, octets: &[u8; 8], count: usize) -> Result<(), AllocError>
+    requires { count ≤ 8 }
+    ensures text { OnOk result (text.new.begun ≡ text.old.begun ++ take count octets.now) }
+    ensures whole { text.new.whole ≡ text.old.whole }
+{
+    make_room(&mut text.octets, text.len + 8)?;
+    put_eight(&mut text.octets[text.len..], octets);
+    text.len += count;
     Ok(())
 }
 

@@ -2,7 +2,7 @@
 ghost use Rattle.std.specs.Prelude.{◌≡◌, ◌++◌, OnOk};
 ghost use Rattle.sign_tool.specs.Reply.{pages_text, refused_text, too_long_text};
 
-use crate::ready::{Ready, push_number, push_octets};
+use crate::ready::{Ready, push_number, push_octets, push_short};
 use std::alloc::AllocError;
 
 /// Appends how many pages an accepted string has.
@@ -11,7 +11,7 @@ pub(crate) fn push_pages(text: &mut Ready, pages: u8) -> Result<(), AllocError>
     ensures whole { text.new.whole ≡ text.old.whole }
 {
     if pages < 10 {
-        return push_octets(text, &[b'o', b'k', b' ', b'0' + pages, b'\n']);
+        return push_short(text, &[b'o', b'k', b' ', b'0' + pages, b'\n', 0, 0, 0], 5);
     }
     push_octets(text, b"ok ")?;
     push_number(text, u64::from(pages))?;

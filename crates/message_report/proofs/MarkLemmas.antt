@@ -1,0 +1,63 @@
+-- Marks that are written into a line.
+use Rattle.std.proofs.Common.{◌≡◌, ℕ, zero, suc, ◌+◌, ◌-◌, ◌<◌, List, [], ◌∷◌, ◌++◌, length, map, take, drop, get_or, set, replicate, refl, sym, ap, ◌∙◌, arith, append-nil}
+use Rattle.std.specs.List.{range_with_len}
+use Rattle.std.proofs.lemmas.List.{drop_all, drop_at, drop-drop, drop-set-lt, length-append, length-replicate, map-append, take-append-drop, take_all, take_at, take_more, take_more_set}
+use Rattle.message_report.specs.Pictures.{mark}
+
+-- one more mark is written
+pub mark_written : (line colours : List ℕ) (place colour : ℕ) → place < length line → place < length colours → colour ≡ mark (get_or colours place 0)
+    → take place line ≡ map mark (take place colours) → take (place + 1) (set line place colour) ≡ map mark (take (place + 1) colours)
+mark_written line colours place colour room there is so_far =
+    take_more_set line place colour room
+    ∙ ap (λ l. l ++ colour ∷ []) so_far
+    ∙ ap (λ c. map mark (take place colours) ++ c ∷ []) is
+    ∙ sym (map-append mark (take place colours) (get_or colours place 0 ∷ []))
+    ∙ ap (map mark) (sym (take_more colours place 0 there))
+
+-- and the octets behind it stay
+pub mark_behind : (line old : List ℕ) (place colour : ℕ) → drop place line ≡ drop place old → drop (place + 1) (set line place colour) ≡ drop (place + 1) old
+mark_behind line old place colour same =
+    drop-set-lt (place + 1) line place colour (omega arith) ∙ sym (drop-drop 1 place line) ∙ ap (drop 1) same ∙ drop-drop 1 place old
+
+-- the marks of a list of colours are those of its places
+pub marks_by_place : (colour_at : ℕ → ℕ) (from : ℕ) (colours : List ℕ) → ((k : ℕ) → k < length colours → get_or colours k 0 ≡ colour_at (from + k))
+    → map mark colours ≡ map (λ k. mark (colour_at k)) (range_with_len from (length colours))
+marks_by_place colour_at from [] same = refl
+marks_by_place colour_at from (colour ∷ colours) same =
+    let first : from + 0 ≡ from = omega arith in
+    ap (λ c. mark c ∷ map mark colours) (same 0 (omega arith) ∙ ap colour_at first)
+    ∙ ap (λ l. mark (colour_at from) ∷ l) (marks_by_place colour_at (from + 1) colours (λ k below.
+    let next : from + (k + 1) ≡ from + 1 + k = omega arith in
+    let more : k + 1 ≡ suc k = omega arith in
+    ap (λ n. get_or (colour ∷ colours) n 0) (sym more) ∙ same (k + 1) (omega arith) ∙ ap colour_at next))
+
+-- a line that was made behind a text, and whose marks are written
+pub line_added : (old items lent new rest behind marks : List ℕ) (start total count all : ℕ) → start ≡ length old → total ≡ length old
+    → items ≡ take (start + count + 1) old ++ replicate (start + count + 1 - total) 10 → lent ≡ items → all ≡ length lent
+    → length new ≡ length (take (length lent - start) (drop start lent))
+    → take count new ≡ marks → drop count new ≡ drop count (take (length lent - start) (drop start lent)) → rest ≡ drop (length lent - start) (drop start lent)
+    → take all (take start lent ++ (new ++ rest) ++ behind) ≡ old ++ (marks ++ 10 ∷ [])
+line_added old items lent new rest behind marks start total count all is_start is_total made is_lent is_all long written kept is_rest =
+    let ends : List ℕ = replicate (count + 1) 10 in
+    let room : start + count + 1 - total ≡ count + 1 = omega (arith, is_start, is_total) in
+    let line : lent ≡ old ++ ends =
+    is_lent ∙ made ∙ ap (λ l. l ++ replicate (start + count + 1 - total) 10) (take_all (start + count + 1) old (omega (arith, is_start))) ∙ ap (λ n. old ++ replicate n 10) room in
+    let ten : length ends ≡ count + 1 = length-replicate {A = ℕ} (count + 1) 10 in
+    let size : length lent ≡ length old + (count + 1) = ap length line ∙ length-append old ends ∙ ap (λ n. length old + n) ten in
+    let part : drop start lent ≡ ends = ap (drop start) line ∙ drop_at old ends start (sym is_start) in
+    let whole : take (length lent - start) (drop start lent) ≡ ends = ap (take (length lent - start)) part ∙ take_all (length lent - start) ends (omega (arith, size, ten, is_start)) in
+    let none : rest ≡ [] = is_rest ∙ ap (drop (length lent - start)) part ∙ drop_all (length lent - start) ends (omega (arith, size, ten, is_start)) in
+    let front : take start lent ≡ old = ap (take start) line ∙ take_at old ends start (sym is_start) in
+    let text : new ≡ marks ++ 10 ∷ [] =
+    sym (take-append-drop count new) ∙ ap (λ l. l ++ drop count new) written ∙ ap (λ l. marks ++ l) (kept ∙ ap (drop count) whole ∙ last_left count) in
+    let filled : length new ≡ count + 1 = long ∙ ap length whole ∙ ten in
+    let first : length (take start lent) ≡ length old = ap length front in
+    let nothing : length rest ≡ 0 = ap length none in
+    let two = length-append new rest in
+    let both = length-append (take start lent) (new ++ rest) in
+    take_at (take start lent ++ (new ++ rest)) behind all (omega (arith, is_all, size, filled, first, nothing, two, both))
+    ∙ ap (λ l. l ++ (new ++ rest)) front ∙ ap (λ l. old ++ (new ++ l)) none ∙ ap (λ l. old ++ l) (append-nil new ∙ text)
+  where
+    last_left : (count : ℕ) → drop count (replicate {A = ℕ} (count + 1) 10) ≡ 10 ∷ []
+    last_left zero = refl
+    last_left (suc count) = let next : suc count + 1 ≡ suc (count + 1) = omega arith in ap (λ n. drop (suc count) (replicate {A = ℕ} n 10)) next ∙ last_left count
