@@ -60,7 +60,8 @@ register_behind text = fold octet_step 0xFFFF text
 
 -- the registers of the CRC that are kept are those behind their texts (own)
 abbrev pub AreRegisters : List (Option ℕ) → List (List ℕ) → Type 0
-AreRegisters registers texts = (i : ℕ) → IfSome (slice_index_or registers i None) (λ register. register ≡ register_behind (slice_index_or texts i []))
+AreRegisters registers texts =
+    (i : ℕ) → IfSome (slice_index_or registers i None) (λ register. register ≡ register_behind (slice_index_or texts i []))
 
 -- the places, the octets and the registers of texts belong together (own)
 pub record AreTexts (spans : List Span) (held : Reserve) (registers : List (Option ℕ)) : Type 0 where
