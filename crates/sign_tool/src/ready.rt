@@ -2,6 +2,7 @@
 ghost use Rattle.std.specs.Prelude.{◌≡◌, ◌≤◌, ◌++◌, ◌∷◌, [], IfOk, OnOk, decimal, length, take};
 
 use crate::eight::put_eight;
+use crate::output::MAX_READY;
 use itoa::Buffer;
 use std::alloc::{AllocError, Global};
 use std::marker::Model;
@@ -88,7 +89,11 @@ pub(crate) fn make_room(octets: &mut Vec<u8>, count: usize) -> Result<(), AllocE
     ensures kept { take (length octets.old.items) octets.new.items ≡ octets.old.items }
 {
     if count > octets.len() {
-        octets.resize(count.saturating_add(SPARE), 0)?;
+        let wanted = count.saturating_add(SPARE);
+        if wanted > octets.capacity() {
+            octets.reserve(MAX_READY)?;
+        }
+        octets.resize(wanted, 0)?;
     }
     Ok(())
 }
