@@ -222,8 +222,8 @@ fn judge_from<const WORDS: bool>(
 }
 
 /// Judges a character at an offset, an octet that was read and is no bracket, and those behind it that only lengthen its line. It gives
-/// the offset behind, and the octet read there. It isn't put into its caller's code, where what a tag needs would be at hand before each.
-#[inline(never)]
+/// the offset behind, and the octet read there.
+#[inline(always)]
 fn judge_plain<const WORDS: bool>(
     sign: &Terms<'_>,
     pass: &mut Pass,
