@@ -1,5 +1,5 @@
 //! Answers that wait to be written.
-ghost use Rattle.std.specs.Prelude.{◌≡◌, ◌≤◌, ◌++◌, ◌∷◌, [], IfOk, OnOk, decimal, length, take};
+ghost use Rattle.std.specs.Prelude.{◌≡◌, ◌<◌, ◌≤◌, ◌++◌, ◌∷◌, [], IfOk, OnOk, decimal, length, take};
 
 use crate::eight::put_eight;
 use crate::output::MAX_READY;
@@ -82,6 +82,23 @@ impl Ready {
     }
 }
 
+/// Adds octets until there are this many, and some to spare. It is a function of its own, so that the calls which find enough octets save
+/// nothing for it. The error says that memory was refused.
+#[inline(never)]
+fn add_room(octets: &mut Vec<u8>, count: usize) -> Result<(), AllocError>
+    requires { length octets.old.items < count }
+    ensures room { OnOk result (count ≤ length octets.new.items) }
+    ensures len { length octets.old.items ≤ length octets.new.items }
+    ensures kept { take (length octets.old.items) octets.new.items ≡ octets.old.items }
+{
+    let wanted = count.saturating_add(SPARE);
+    if wanted > octets.capacity() {
+        octets.reserve(MAX_READY)?;
+    }
+    octets.resize(wanted, 0)?;
+    Ok(())
+}
+
 /// Makes sure that there are this many octets. Those that there are stay. The error says that memory was refused.
 pub(crate) fn make_room(octets: &mut Vec<u8>, count: usize) -> Result<(), AllocError>
     ensures room { OnOk result (count ≤ length octets.new.items) }
@@ -89,11 +106,7 @@ pub(crate) fn make_room(octets: &mut Vec<u8>, count: usize) -> Result<(), AllocE
     ensures kept { take (length octets.old.items) octets.new.items ≡ octets.old.items }
 {
     if count > octets.len() {
-        let wanted = count.saturating_add(SPARE);
-        if wanted > octets.capacity() {
-            octets.reserve(MAX_READY)?;
-        }
-        octets.resize(wanted, 0)?;
+        add_room(octets, count)?;
     }
     Ok(())
 }
