@@ -32,6 +32,8 @@ use Rattle.multi_layout.proofs.AreaReadLemmas.{laid_plain}
 use Rattle.multi_layout.proofs.FilledStartLemmas.{area_empty, laid_empty, state_begins}
 use Rattle.multi_layout.proofs.KnownLinesLemmas.{known_none}
 use Rattle.multi_layout.proofs.LaidItemLemmas.{are_laid}
+use Rattle.multi_layout.specs.kept.Sums.{area_sum}
+use Rattle.multi_layout.proofs.LimitLemmas.{limited_none}
 use Rattle.multi_layout.proofs.PieceLemmas.{ends_laid, first_piece, laid_front, plain_laid}
 use Rattle.multi_layout.proofs.SpotsLemmas.{area_ends}
 use Rattle.multi_layout.proofs.StandingLemmas.{standing_push}
@@ -106,7 +108,8 @@ module _ (words : Bool) {sign : SignData} (kind : sign.line_fill ≡ fill_of wor
       → (by : Bool) → sign.line_fill ≡ fill_of by → IsStateOf sign (laid_items (fill_of by) sign ms ms) cursor.state → IsPassOf by sign kept ms
   made_of kept same made fine true is st = record { words = is; of = made st no_items }
   made_of kept same made fine false is st =
-      record { off = is; fine = fine_items sign is (items_of before) fine; state_is = subst (IsStateOf sign ms) (sym same) (subst (λ l. IsStateOf sign l cursor.state) (laid_plain sign ms) st) }
+      let st' = subst (IsStateOf sign ms) (sym same) (subst (λ l. IsStateOf sign l cursor.state) (laid_plain sign ms) st) in
+      record { off = is; fine = fine_items sign is (items_of before) fine; state_is = st'; limited = limited_none kept.state (st'.area ∙ ap area_sum no_items) }
 
   pub nothing_read : (kept : Pass) → kept.state ≡ cursor.state
       → ((sign : SignData) (items : List Meaning) → IsStateOf sign (laid_items Words sign items items) cursor.state → present_area sign items ≡ [] → IsFilledOf sign items kept)

@@ -23,7 +23,7 @@ use Rattle.multi_layout.specs.Offence.{offence, unsized_offence}
 use Rattle.multi_layout.specs.kept.AreaDrawing.{HasKnown, HasRoom, IsLow, next_group}
 use Rattle.multi_layout.specs.kept.PassState.{IsPassOf, IsPassReady, fill_of}
 use Rattle.multi_layout.specs.kept.Run.{kept_height}
-use Rattle.multi_layout.specs.kept.State.{IsStateOf, IsUnfilledOf, present_area}
+use Rattle.multi_layout.specs.kept.State.{IsLimited, IsStateOf, IsUnfilledOf, present_area}
 use Rattle.multi_layout.specs.Verdict.{offences}
 use Rattle.multi_layout.specs.kept.Sums.{IsBelow, IsPlacing, area_sum, ended_lines}
 use Rattle.multi_layout.specs.kept.Table.{IsNarrowArea, IsOrdered}
@@ -91,14 +91,14 @@ module _ (sign : SignData) (sound : IsSound sign) (items : List Item) (none : of
 
 -- a character joins the group in force where lines aren't filled
 pub plain_passed : (sign : SignData) (items : List Meaning) (old new : Pass) → IsUnfilledOf sign old.state items → (number : ℕ) → offence sign.line_fill sign items (Shows number) ≡ None
-    → IsStateOf sign (items ++ Shows number ∷ []) new.state → IsCharacterPassed false sign items number old new None
-plain_passed sign items old new of number fine st =
+    → IsStateOf sign (items ++ Shows number ∷ []) new.state → IsLimited new.state → IsCharacterPassed false sign items number old new None
+plain_passed sign items old new of number fine st limited =
     let fine' = subst (λ setting. offence setting sign items (Shows number) ≡ None) of.off fine in
     let (present, order, others, own) = steps.glyph_joins sign items old.state of.state_is number (unsized_if Off sign items (Shows number) fine' true refl) new.state st in
     let same = laid_plain sign items in
     let same' = laid_plain sign (items ++ Shows number ∷ []) in
     record {
-      of = record { off = of.off; fine = none_more (offence Off sign) items (Shows number) of.fine fine'; state_is = st };
+      of = record { off = of.off; fine = none_more (offence Off sign) items (Shows number) of.fine fine'; state_is = st; limited = limited };
       present = present;
       order = order;
       others = λ just other. ap (λ l. in_group just (present_area sign l)) same' ∙ others just other ∙ ap (λ l. in_group just (present_area sign l)) (sym same);

@@ -165,6 +165,13 @@ conflicts_character before s page_just present clash g page e c =
     ∙ ap (λ n. goes || list_any (clashes s) (after_last is_break (in_group n (area_of s before)))) (sym page)
     ∙ ap (λ b. goes || (b && list_any (clashes s) (line_before before s))) (sym g)
 
+-- the test of a character in the present group, and in another one
+pub conflicts_here : (a b : ℕ) (clash : Bool) → a ≡ b → clash ≡ (nat_lt a b || ((a == b) && clash))
+conflicts_here a b clash here = rw (here, eq-eqb b b refl, le-ltb b b (omega arith)) refl
+
+pub conflicts_elsewhere : (a b : ℕ) (clash : Bool) → (a ≡ b → ⊥) → nat_lt a b ≡ (nat_lt a b || ((a == b) && clash))
+conflicts_elsewhere a b clash there = rw (ne_eqb a b there) (sym (or-false (nat_lt a b)))
+
 -- an item that doesn't conflict isn't before the present group
 pub no_back : (before : List Spot) (s : Spot) (page_just present : ℕ) → s.at.page_just ≡ page_just → present ≡ largest (λ t. t.at.page_just) (area_of s before) → conflicts before s ≡ false → present ≤ page_just
 no_back before s page_just present page e none = elim (cases_lt page_just present) [

@@ -16,7 +16,7 @@ use Rattle.multi_layout.specs.Fit.{FitsWithout, area_fits, fit, line_fits, room_
 use Rattle.multi_layout.specs.Line.{height_of, width_of}
 use Rattle.multi_layout.specs.Meaning.{Meaning}
 use Rattle.multi_layout.specs.Offence.{offence}
-use Rattle.multi_layout.specs.kept.State.{IsUnfilledOf, present_area}
+use Rattle.multi_layout.specs.kept.State.{IsUnfilledOf, group_room, present_area}
 use Rattle.multi_layout.specs.Words.{some_after}
 use Rattle.multi_layout.specs.kept.Run.{Fits, line_in_force, FitsBefore, GroupsFitBefore, kept_before, kept_fits, kept_fits_height, kept_group_height, kept_height, kept_width, lengthened_line}
 use Rattle.multi_layout.specs.kept.Sums.{IsPlacing, area_sum, line_sum}
@@ -110,8 +110,8 @@ module _ (area : List Spot) (a : Area) (e : a ≡ area_sum area) (height : ℕ) 
       (λ is low before. absurd (omega (arith, low)))
       just low' high' is'
 
-  pub group_room : 2 ≤ a.present → a.present ≤ 4 → GroupsFitBefore height a → nat_le (kept_height a.group) (room_for a.present a.top a.middle height) ≡ kept_fits_height height a
-  group_room low high = group_by a.present refl low (omega (arith, high)) high
+  pub group_room_fits : 2 ≤ a.present → a.present ≤ 4 → GroupsFitBefore height a → nat_le (kept_height a.group) (group_room a height) ≡ kept_fits_height height a
+  group_room_fits low high = group_by a.present refl low (omega (arith, high)) high
 
 -- ---- behind items of which none offends
 

@@ -17,6 +17,7 @@ use Rattle.sign_font.specs.Sound.{IsSound}
 use Rattle.multi_layout.specs.Attributes.{default_font, whole_sign}
 use Rattle.multi_layout.specs.declared.area.Area.{Area}
 use Rattle.multi_layout.specs.declared.attributes.Attributes.{Attributes}
+use Rattle.multi_layout.specs.declared.state.Limits.{Limits}
 use Rattle.multi_layout.specs.declared.state.State.{State}
 use Rattle.multi_layout.specs.Address.{Break, Cover, Glyph, Spot, Standing, put_at, spots, standing}
 use Rattle.multi_layout.specs.Meaning.{Meaning, Shows, Does, begins_area, is_new_page}
@@ -123,6 +124,21 @@ pub state-attribute : (sign : SignData) (items : List Meaning) (state : State) (
 state-attribute sign items state attributes x st page area put is font line just below =
     state-same_page sign items state (record state { attributes = attributes }) x st page refl refl is
     (st.area ∙ ap area_sum (sym (present_area-nothing sign items x area put))) font line just below
+
+-- what the items so far make of a state doesn't hang on its limits
+pub state-limits : (sign : SignData) (items : List Meaning) (state new : State) → new ≡ record state { area = new.area; limits = new.limits } → IsStateOf sign items (record state { area = new.area }) → IsStateOf sign items new
+state-limits sign items state new same st =
+    subst (IsStateOf sign items) (sym same) (record {
+      pages = st.pages;
+      times = st.times;
+      attributes = st.attributes;
+      area = st.area;
+      font = st.font;
+      line_just = st.line_just;
+      page_just = st.page_just;
+      below = st.below;
+      short = st.short;
+    })
 
 -- ---- placing items
 
@@ -256,7 +272,7 @@ font_of_info None info e = cc
 font_of_info (Some font) info e = (font, refl, sym (same_Some (info_of font) info e))
 
 -- the state before the first item
-pub state-start : (sign : SignData) (info : FontInfo) (area : Area) → IsSound sign → option_map info_of (font_numbered sign sign.defaults.font) ≡ Some info → area ≡ area_sum [] → IsBelow 0 area
+pub state-start : (sign : SignData) (info : FontInfo) (area : Area) (limits : Limits) → IsSound sign → option_map info_of (font_numbered sign sign.defaults.font) ≡ Some info → area ≡ area_sum [] → IsBelow 0 area
     → IsStateOf sign [] (record {
       pages = 1;
       cycle = 0;
@@ -273,9 +289,10 @@ pub state-start : (sign : SignData) (info : FontInfo) (area : Area) → IsSound 
         rectangle = whole_sign sign;
       };
       area = area;
+      limits = limits;
     })
 unfolding standing spots
-state-start sign info area sound is sum below =
+state-start sign info area limits sound is sum below =
     let (font, found, same) = font_of_info (font_numbered sign sign.defaults.font) info is in
     let none : FontData = record { number = 0; version = 0; height = 0; char_spacing = 0; line_spacing = 0; cells = [] } in
     let default : default_font sign ≡ font = ap (λ o. unwrap_or o none) found in

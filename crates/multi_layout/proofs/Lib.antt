@@ -64,6 +64,7 @@ pub mod LaidSpotLemmas
 pub mod LaidTagLemmas
 pub mod LayoutLemmas
 pub mod LineSumLemmas
+pub mod LimitLemmas
 pub mod LocateLemmas
 pub mod MeaningLemmas
 pub mod NarrowLemmas

@@ -15,7 +15,7 @@ use Rattle.multi_layout.specs.Meaning.{Meaning, Shows}
 use Rattle.multi_layout.specs.Offence.{offence}
 use Rattle.multi_layout.specs.kept.PassState.{IsItemJudged, IsPassOf, IsPassReady, fill_of}
 use Rattle.multi_layout.specs.kept.Judging.{IsAt, IsTold, ReadSoFar}
-use Rattle.multi_layout.specs.kept.State.{IsJudged, IsStateOf, present_area, whole_times}
+use Rattle.multi_layout.specs.kept.State.{IsJudged, IsLimited, IsStateOf, present_area, whole_times}
 use Rattle.multi_layout.specs.Words.{some_after}
 use Rattle.multi_layout.proofs.FilledJudgedLemmas.{filled_undefined}
 use Rattle.multi_layout.proofs.FilledReadLemmas.{filled_ready_here, filled_told}
@@ -38,18 +38,19 @@ judged_filled sign items item (Ok done) pass words (fine, of) =
 judged_filled sign items item (Err error) pass words offends = subst (λ (setting : LineFill). offence setting sign items item ≡ Some (code_of error)) (sym words) offends
 
 -- and where they aren't
-pub judged_unfilled : (sign : SignData) (items : List Meaning) (item : Meaning) (result : Result (Unit {0}) SyntaxError) (pass : Pass) → sign.line_fill ≡ Off → some_after (offence Off sign) items ≡ [] → IsJudged sign items item result pass.state
+pub judged_unfilled : (sign : SignData) (items : List Meaning) (item : Meaning) (result : Result (Unit {0}) SyntaxError) (pass : Pass) → sign.line_fill ≡ Off → some_after (offence Off sign) items ≡ [] → IsLimited pass.state
+    → IsJudged sign items item result pass.state
     → IsItemJudged false sign items item result pass
-judged_unfilled sign items item (Ok done) pass off none (fine, st) =
-    (subst (λ (setting : LineFill). offence setting sign items item ≡ None) (sym off) fine, record { off = off; fine = none_more (offence Off sign) items item none fine; state_is = st })
-judged_unfilled sign items item (Err error) pass off none offends = subst (λ (setting : LineFill). offence setting sign items item ≡ Some (code_of error)) (sym off) offends
+judged_unfilled sign items item (Ok done) pass off none limited (fine, st) =
+    (subst (λ (setting : LineFill). offence setting sign items item ≡ None) (sym off) fine, record { off = off; fine = none_more (offence Off sign) items item none fine; state_is = st; limited = limited })
+judged_unfilled sign items item (Err error) pass off none limited offends = subst (λ (setting : LineFill). offence setting sign items item ≡ Some (code_of error)) (sym off) offends
 
 -- before the first item
-pub pass_start : (sign : SignData) (pass : Pass) (words : Bool) → sign.line_fill ≡ fill_of words → IsStateOf sign [] pass.state
+pub pass_start : (sign : SignData) (pass : Pass) (words : Bool) → sign.line_fill ≡ fill_of words → IsStateOf sign [] pass.state → IsLimited pass.state
     → (IsStateOf sign (laid_items Words sign [] []) pass.state → present_area sign [] ≡ [] → IsFilledOf sign [] pass) → IsPassOf words sign pass []
 unfolding spots
-pass_start sign pass true is st filled = record { words = is; of = filled st refl }
-pass_start sign pass false is st filled = record { off = is; fine = refl; state_is = st }
+pass_start sign pass true is st limited filled = record { words = is; of = filled st refl }
+pass_start sign pass false is st limited filled = record { off = is; fine = refl; state_is = st; limited = limited }
 
 -- a character without a cell
 pub pass_undefined : (sign : SignData) (items : List Meaning) (pass : Pass) (words : Bool) → IsPassOf words sign pass items → (number : ℕ) → cell_in sign pass.state.attributes.font.number number ≡ None
@@ -74,3 +75,8 @@ module _ (sign : SignData) (octets : List ℕ) (at : ℕ) (pass : Pass) where
 pub pass_small : (sign : SignData) (pass : Pass) (words : Bool) (items : List Meaning) → IsPassOf words sign pass items → pass.state.cycle ≤ 510 * pass.state.pages
 pass_small sign pass true items is = is.of.state_is.short
 pass_small sign pass false items is = is.state_is.short
+
+-- where lines aren't filled the limits are known
+pub limited_of : (words : Bool) → words ≡ false → (sign : SignData) (pass : Pass) (items : List Meaning) → IsPassOf words sign pass items → IsLimited pass.state
+limited_of true off sign pass items is = absurd cc
+limited_of false off sign pass items is = is.limited

@@ -20,7 +20,7 @@ use Rattle.multi_layout.specs.Address.{standing}
 use Rattle.multi_layout.specs.Meaning.{Meaning, meaning}
 use Rattle.multi_layout.specs.Offence.{offence}
 use Rattle.multi_layout.specs.kept.Judging.{IsAt, IsTold, ReadSoFar}
-use Rattle.multi_layout.specs.kept.State.{IsReady, IsStateOf, IsUnfilledOf, attributes_of, whole_times}
+use Rattle.multi_layout.specs.kept.State.{IsLimited, IsReady, IsStateOf, IsUnfilledOf, attributes_of, whole_times}
 use Rattle.multi_layout.specs.Times.{Times, cycle, ended_times, page_times, times_at}
 use Rattle.multi_layout.specs.Verdict.{Accepted, IsCycle, IsVerdict, Refused, broken, of_first, pages_of, verdict, verdict_on}
 use Rattle.multi_layout.proofs.JudgedLemmas.{ready}
@@ -121,12 +121,12 @@ module _ (sign : SignData) (octets : List ℕ) (at : ℕ) (state : State) (r : R
   ready_here short = ready sign (map meaning r.items) state r.is.state_is (few_here sign octets at (IsUnfilledOf sign state) r short)
 
   module _ (t : Token) (here : t.at ≡ at) (stands : IsTokenOf octets t) where
-    pub unfilled_more : (new : State) → offence Off sign (map meaning r.items) (meaning (item_of octets t)) ≡ None → IsStateOf sign (map meaning r.items ++ meaning (item_of octets t) ∷ []) new
+    pub unfilled_more : (new : State) → offence Off sign (map meaning r.items) (meaning (item_of octets t)) ≡ None → IsStateOf sign (map meaning r.items ++ meaning (item_of octets t) ∷ []) new → IsLimited new
         → ReadSoFar sign octets (at + t.len) (IsUnfilledOf sign new)
-    unfilled_more new fine st =
+    unfilled_more new fine st limited =
         read_more sign octets at (IsUnfilledOf sign state) r t here stands (IsUnfilledOf sign new)
         (subst (λ setting. offence setting sign (map meaning r.items) (meaning (item_of octets t)) ≡ None) (sym r.is.off) fine)
-        (record { off = r.is.off; fine = none_more (offence Off sign) (map meaning r.items) (meaning (item_of octets t)) r.is.fine fine; state_is = st })
+        (record { off = r.is.off; fine = none_more (offence Off sign) (map meaning r.items) (meaning (item_of octets t)) r.is.fine fine; state_is = st; limited = limited })
 
 -- what is told of a string where all its items are read
 pub unfilled_told : (sign : SignData) (octets : List ℕ) (at : ℕ) (state : State) (source : Counted) → IsAt sign octets at None (IsUnfilledOf sign state) source → IsTold sign octets state.pages (whole_times state) source

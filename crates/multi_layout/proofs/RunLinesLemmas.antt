@@ -1,8 +1,8 @@
 -- A run of characters in the first reading of an area: no line is ended, and the table stays.
-use Rattle.std.proofs.Common.{◌≡◌, ℕ, suc, ◌+◌, ◌-◌, ◌*◌, ◌^◌, ◌<◌, ◌≤◌, Bool, true, false, inl, inr, List, [], ◌∷◌, ◌++◌, length, map, drop, take, slice_get, Option, Some, None, refl, sym, ap, ◌∙◌, subst, arith}
+use Rattle.std.proofs.Common.{◌≡◌, ℕ, suc, ◌+◌, ◌-◌, ◌^◌, ◌<◌, ◌≤◌, Bool, true, false, inl, inr, List, [], ◌∷◌, ◌++◌, length, map, drop, slice_get, Some, refl, sym, ap, ◌∙◌, subst, arith}
 use Rattle.std.specs.Prelude.{slice_range}
 use Rattle.std.specs.List.{All, sum_by}
-use Rattle.std.specs.Option.{option_map, unwrap_or}
+use Rattle.std.specs.Option.{unwrap_or}
 use Rattle.std.proofs.lemmas.List.{length-drop, length-take-le, take-append-drop}
 use Rattle.std.proofs.lemmas.List.Elements.{All-head, All-tail}
 use Rattle.std.proofs.lemmas.List.Sums.{sum_by-append}
@@ -10,7 +10,6 @@ use Rattle.multi_token.specs.Spelling.{IsPlain}
 use Rattle.multi_token.specs.declared.token.Token.{Token}
 use Rattle.multi_token.specs.declared.token.Kind.TheVariants as kinds
 use Rattle.multi_token.proofs.PlaceLemmas.{drop_read, read_drop, single_token}
-use Rattle.sign_font.specs.Cell.{SizedCell}
 use Rattle.sign_font.specs.Sign.{SignData, cell_in}
 use Rattle.sign_font.specs.Sound.{IsSound, IsWithin}
 use Rattle.sign_font.specs.Text.{width_in}
@@ -60,7 +59,7 @@ module _ {sign : SignData} (sound : IsSound sign) {octets : List ℕ} (short : l
       let st = state_beside (lengthened width count kept.state) behind' gap gap_is cell sign items of.state_is octet found narrow (omega (arith, is, small)) (unsized_if sign.line_fill sign items (Shows octet) fine _ refl) in
       let wide = ap (λ n. lengthened (width + (gap + n)) (count + 1) kept.state) (sym is) in
       let new = longer kept (width + (gap + cell.width)) (count + 1) in
-      let passed = plain_passed sign items (longer kept width count) new of octet fine st in
+      let passed = plain_passed sign items (longer kept width count) new of octet fine st (record { width = of.limited.width; height = of.limited.height }) in
       let r = subst (λ p. IsReadOf false sign (items_of (before ++ so.pieces)) p (longer kept width count) lines) b.group so.read in
       let read = shown_stays sound r it passed refl in
       subst (λ s. SoFar false sign octets before behind (at + 1) (in_state kept s) lines) wide (read_on so n (at + 1) refl refl new lines read)

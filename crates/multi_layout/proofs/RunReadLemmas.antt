@@ -51,7 +51,8 @@ module _ (sign : SignData) (octets : List ℕ) (at : ℕ) (state : State) (r : R
         longer_below (1024 * length (map meaning r.items)) ((line_in_force state).part.width + (gap + cell.width)) ((line_in_force state).part.count + 1) state.area st.below
         (omega (arith, st.below.group.line.part.width, run.narrow, narrow, is)) (omega (arith, st.below.group.line.part.count)) in
         let behind = run_goes_on sign (map meaning r.items) state st gap room run octet cell found (omega (arith, some, is)) (fits_without sign (map meaning r.items) r.is.fine) (omega (arith, fits, is)) below in
-        let longer = unfilled_more sign octets at state r token refl stands (lengthened ((line_in_force state).part.width + (gap + cell.width)) ((line_in_force state).part.count + 1) state) behind.0 behind.1 in
+        let longer = unfilled_more sign octets at state r token refl stands (lengthened ((line_in_force state).part.width + (gap + cell.width)) ((line_in_force state).part.count + 1) state) behind.0 behind.1
+        (record { width = r.is.limited.width; height = r.is.limited.height }) in
         rw is longer
 
 -- the same, where the run began in a state whose segment has been lengthened since

@@ -1,15 +1,16 @@
 //! The running sums of an area's groups.
 
-ghost use Rattle.std.specs.Prelude.{◌≡◌, ℕ, ◌+◌, ◌^◌, ◌≤◌, true, false, not, List, [], ◌∷◌, ◌++◌};
+ghost use Rattle.std.specs.Prelude.{◌≡◌, ℕ, ◌+◌, ◌^◌, ◌≤◌, ◌&&◌, true, false, nat_le, not, List, [], ◌∷◌, ◌++◌};
 ghost use Rattle.std.specs.List.{All, after_last, list_any};
 ghost use Rattle.std.specs.Option.{option_map_or, unwrap_or};
 ghost use Rattle.sign_font.specs.declared.parts.LineFill.TheVariants.{Off};
 ghost use Rattle.multi_layout.specs.Address.{Spot, is_glyph, is_break, area_of, in_group, lines_of};
-ghost use Rattle.multi_layout.specs.Fit.{FitsWithout, area_fits, fit};
+ghost use Rattle.multi_layout.specs.Fit.{area_fits, fit};
 ghost use Rattle.multi_layout.specs.Laid.{too_big};
 ghost use Rattle.multi_layout.specs.Line.{average, height_of};
 ghost use Rattle.multi_layout.specs.Offence.{clashes, conflicts};
-ghost use Rattle.multi_layout.specs.kept.Run.{GroupsFitBefore, IsBehindOne, IsOpen, IsOpenArea, kept_fits_height, kept_group_height, kept_height, lengthened_area};
+ghost use Rattle.multi_layout.specs.kept.Run.{IsBehindOne, IsOpen, IsOpenArea, IsSameAbove, IsSameBefore, kept_fits_height, kept_group_height, kept_height, lengthened_area};
+ghost use Rattle.multi_layout.specs.kept.State.{group_room};
 ghost use Rattle.multi_layout.specs.kept.Sums.{group_sum, area_sum, area_sum_in, IsPlacing, IsCharacter, IsBreak, IsGroupBelow, IsBelow};
 
 use crate::line::{Character, Line, gap_or_average, parts_fit, room_for};
@@ -74,6 +75,7 @@ impl Group {
             → self.new ≡ group_sum (in_group just (area ++ s ∷ [])) }
         ensures grows { (k : ℕ) → IsGroupBelow k self.old → IsGroupBelow (k + 1024) self.new }
         ensures behind { IsOpen character.now.just self.old.line → IsBehindOne character.now.just character.now.font self.new.line }
+        ensures same { self.old.line.any ≡ true → character.now.just ≡ self.old.line.present → IsSameBefore self.old.line self.new.line }
     {
         self.line.add(character);
     }
@@ -85,6 +87,7 @@ impl Group {
         ensures sum { (group : List Spot) (s : Spot) → All IsPlacing group → self.old ≡ group_sum group → IsBreak s gap font.now
             → self.new ≡ group_sum (group ++ s ∷ []) }
         ensures grows { (k : ℕ) → IsGroupBelow k self.old → IsGroupBelow (k + 1024) self.new }
+        ensures none { self.new.line.any ≡ false }
     {
         let height = self.line.ended_height(font);
         let spacing = self.line.ended_spacing(font);
@@ -147,6 +150,9 @@ impl Area {
         ensures grows { (k : ℕ) → IsBelow k self.old → IsBelow (k + 1024) self.new }
         ensures behind { IsOpenArea page_just character.now.just self.old
             → (self.new.present ≡ page_just) × IsBehindOne character.now.just character.now.font self.new.group.line }
+        ensures above { page_just ≡ self.old.present → IsSameAbove self.old self.new }
+        ensures before { page_just ≡ self.old.present → self.old.group.line.any ≡ true → character.now.just ≡ self.old.group.line.present
+            → IsSameBefore self.old.group.line self.new.group.line }
     {
         self.go_on(page_just);
         self.group.add_character(character);
@@ -160,6 +166,8 @@ impl Area {
         ensures sum { (area : List Spot) (s : Spot) → All IsPlacing area → self.old ≡ area_sum area
             → IsBreak s gap font.now → s.at.page_just ≡ page_just → self.old.present ≤ page_just → self.new ≡ area_sum (area ++ s ∷ []) }
         ensures grows { (k : ℕ) → IsBelow k self.old → IsBelow (k + 1024) self.new }
+        ensures above { page_just ≡ self.old.present → IsSameAbove self.old self.new }
+        ensures none { self.new.group.line.any ≡ false }
     {
         self.go_on(page_just);
         self.group.add_break(gap, font);
@@ -176,6 +184,7 @@ impl Area {
             → (self.new.top ≤ k + 1024) × (self.new.middle ≤ k + 1024) × IsGroupBelow k self.new.group × (2 ≤ self.new.present)
             × (self.new.present ≤ 4) }
         ensures may { (just : ℕ) → IsOpenArea page_just just self.old → (self.new.present ≡ page_just) × IsOpen just self.new.group.line }
+        ensures same { page_just ≡ self.old.present → self.new ≡ self.old }
     {
         if page_just <= self.present {
             return;
@@ -229,7 +238,11 @@ impl Area {
         ensures conflicts { (before : List Spot) (s : Spot) → self.now ≡ area_sum (area_of s before) → is_glyph s ≡ true
             → s.at.page_just ≡ page_just → s.at.line_just ≡ just → result ≡ conflicts before s }
     {
-        (page_just < self.present) | ((page_just == self.present) & self.group.line.clashes(just))
+        if page_just == self.present {
+            self.group.line.clashes(just)
+        } else {
+            page_just < self.present
+        }
     }
 
     /// Whether an `nl` with this page justification conflicts with the items before it.
@@ -240,28 +253,21 @@ impl Area {
         page_just < self.present
     }
 
-    /// Whether the area fits a rectangle of this width and height in pixels, as it does without its last item: a character.
-    #[inline(always)]
-    pub(crate) fn fits_with_character(&self, width: u16, height: u16) -> bool
+    /// The most pixels that the present group may have within a height, into which those before it fit.
+    pub(crate) fn room(&self, height: u16) -> u64
         requires below { IsBelow (2 ^ 62 + 1024) self.now }
-        requires page_just { (2 ≤ self.now.present) × (self.now.present ≤ 4) }
-        requires line_just { (2 ≤ self.now.group.line.present) × (self.now.group.line.present ≤ 5) }
-        ensures { (before : List Spot) (s : Spot) → is_glyph s ≡ true → self.now ≡ area_sum (area_of s before ++ s ∷ [])
-            → self.now.present ≡ s.at.page_just → self.now.group.line.present ≡ s.at.line_just → s.at.rectangle.width ≡ width
-            → s.at.rectangle.height ≡ height → FitsWithout before s → result ≡ not (too_big Off before s) }
+        ensures { result ≡ group_room self.now height }
     {
-        self.group.line.still_fits(width) & self.still_fits(height)
+        room_for(self.present, self.top, self.middle, height)
     }
 
-    /// Whether the area fits a height in pixels, into which its groups before the present one fit.
+    /// Whether the present segment has at most this width, and the present group at most this height, in pixels.
     #[inline(always)]
-    fn still_fits(&self, height: u16) -> bool
+    pub(crate) fn is_within(&self, width: u64, height: u64) -> bool
         requires below { IsBelow (2 ^ 62 + 1024) self.now }
-        requires page_just { (2 ≤ self.now.present) × (self.now.present ≤ 4) }
-        ensures { (area : List Spot) → self.now ≡ area_sum area → GroupsFitBefore height self.now
-            → result ≡ kept_fits_height height self.now }
+        ensures { result ≡ nat_le self.now.group.line.part.width width && nat_le (kept_height self.now.group) height }
     {
-        self.group.height() <= room_for(self.present, self.top, self.middle, height)
+        (self.group.line.part.width <= width) & (self.group.height() <= height)
     }
 
     /// Whether the area fits a rectangle of this height in pixels, as far as its last item goes: an `nl`.

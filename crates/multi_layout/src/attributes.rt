@@ -92,8 +92,9 @@ impl Attributes {
 
     /// Puts the values in force behind a tag that begins nothing, places nothing and asks for no font.
     pub(crate) fn set(&mut self, defaults: Defaults, tag: Tag)
-        ensures { (sign : SignData) (at : Standing) → sign.defaults ≡ defaults → self.old ≡ attributes_of at → IsSimple tag
+        ensures set { (sign : SignData) (at : Standing) → sign.defaults ≡ defaults → self.old ≡ attributes_of at → IsSimple tag
             → self.new ≡ attributes_of (standing_behind sign at (Does tag)) }
+        ensures rectangle { self.new.rectangle ≡ self.old.rectangle }
     {
         match tag {
             Tag::LineJust(just) => self.line_just = just.unwrap_or(defaults.line),

@@ -107,7 +107,9 @@ fn take_text(
     ensures further { at ≤ result.0 }
     ensures at { IsAt sign.now source.old.octets result.0 result.1 (IsFilledFor sign.now pass.new) source.new }
 {
-    let mut run = pass.state.run();
+    let Attributes { rectangle, .. } = pass.state.attributes;
+    let most = pass.state.area.group.line.room(rectangle.width);
+    let mut run = pass.state.run(most);
     let mut at = at;
     loop {
         match take_word(sign, pass, source, &mut run, at) {

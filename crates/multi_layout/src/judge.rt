@@ -7,12 +7,12 @@ ghost use Rattle.sign_font.specs.Cell.{SizedCell};
 ghost use Rattle.sign_font.specs.Sign.{SignData, cell_in};
 ghost use Rattle.multi_layout.specs.Meaning.{Does, Meaning, Shows};
 ghost use Rattle.multi_layout.specs.kept.Run.{IsBehindCharacter};
-ghost use Rattle.multi_layout.specs.kept.State.{IsJudged, IsKnown, IsReady, IsUnfilledOf, Judges};
+ghost use Rattle.multi_layout.specs.kept.State.{IsJudged, IsKnown, IsLimited, IsReady, IsUnfilledOf, Judges};
 
 use crate::area::Area;
-use crate::attributes::{Rectangle, whole_sign};
+use crate::attributes::{Attributes, Rectangle, whole_sign};
 use crate::fault::SyntaxError;
-use crate::state::State;
+use crate::state::{Limits, State};
 use crate::terms::Terms;
 use multi_tag::{FontPick, Tag};
 use multi_token::Source;
@@ -28,6 +28,7 @@ pub(crate) fn judge_tag(
     requires ready { IsReady state.old }
     requires known { IsKnown tag }
     ensures judged { Judges sign.now state.old (Does tag) result state.new }
+    ensures limited { IsLimited state.old → IsLimited state.new }
     ensures steps { RisesBetween source.old source.new 0 1 }
 {
     match tag {
@@ -49,6 +50,7 @@ pub(crate) fn judge_cell(state: &mut State, number: u16, width: u8) -> Result<()
     ensures judged { (sign : SignData) (items : List Meaning) (cell : SizedCell) → IsUnfilledOf sign state.old items
         → cell_in sign state.old.attributes.font.number number ≡ Some cell → width ≡ cell.width
         → IsJudged sign items (Shows number) result state.new }
+    ensures limited { IsLimited state.old → IsLimited state.new }
     ensures behind { OnOk result (IsBehindCharacter state.new) }
 {
     let page_just = state.attributes.page_just;
@@ -59,9 +61,9 @@ pub(crate) fn judge_cell(state: &mut State, number: u16, width: u8) -> Result<()
         return Err(SyntaxError::TagConflict);
     }
     let character = state.attributes.character(width);
-    state.area.add_character(page_just, &character);
-    let Rectangle { width, height, .. } = state.attributes.rectangle;
-    if state.area.fits_with_character(width, height) {
+    state.add_character(&character);
+    let Limits { width, height } = state.limits;
+    if state.area.is_within(width, height) {
         Ok(())
     } else {
         Err(SyntaxError::TextTooBig)
@@ -73,16 +75,18 @@ pub(crate) fn judge_cell(state: &mut State, number: u16, width: u8) -> Result<()
 fn judge_break(state: &mut State, gap: Option<u8>) -> Result<(), SyntaxError>
     requires { IsReady state.old }
     ensures judged { (sign : SignData) → Judges sign state.old (Does (Tag.NewLine gap)) result state.new }
+    ensures limited { IsLimited state.old → IsLimited state.new }
 {
-    let page_just = state.attributes.page_just;
+    let Attributes {
+        page_just,
+        rectangle,
+        ..
+    } = state.attributes;
     if state.area.conflicts_with_break(page_just) {
         return Err(SyntaxError::TagConflict);
     }
-    state.area.add_break(page_just, gap, &state.attributes.font);
-    if state
-        .area
-        .fits_with_break(state.attributes.rectangle.height)
-    {
+    state.add_break(gap);
+    if state.area.fits_with_break(rectangle.height) {
         Ok(())
     } else {
         Err(SyntaxError::TextTooBig)
@@ -93,6 +97,7 @@ fn judge_break(state: &mut State, gap: Option<u8>) -> Result<(), SyntaxError>
 fn judge_page(sign: &Terms<'_>, state: &mut State) -> Result<(), SyntaxError>
     requires { IsReady state.old }
     ensures judged { Judges sign.now state.old (Does Tag.NewPage) result state.new }
+    ensures limited { IsLimited state.old → IsLimited state.new }
 {
     if state.pages >= sign.max_pages() {
         return Err(SyntaxError::TooManyPages);
@@ -113,6 +118,7 @@ fn judge_font(
 ) -> Result<(), SyntaxError>
     requires { IsReady state.old }
     ensures judged { Judges sign.now state.old (Does (Tag.Font pick)) result state.new }
+    ensures limited { IsLimited state.old → IsLimited state.new }
     ensures steps { RisesBetween source.old source.new 0 1 }
 {
     let Some(pick) = pick else {
@@ -151,6 +157,7 @@ fn judge_rectangle(
 ) -> Result<(), SyntaxError>
     requires { IsReady state.old }
     ensures judged { Judges sign.now state.old (Does (Tag.Rect x y w h)) result state.new }
+    ensures limited { IsLimited state.old → IsLimited state.new }
 {
     let Some((left, width)) = part_of(sign.width(), x, w) else {
         return Err(SyntaxError::UnsupportedTagValue);

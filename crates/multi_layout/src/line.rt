@@ -1,13 +1,14 @@
 //! The running sums of a line's characters.
 
-ghost use Rattle.std.specs.Prelude.{◌≡◌, ℕ, ◌+◌, ◌^◌, ◌≤◌, true, false, nat_le, if◌then◌else◌, length, Some, List, [], ◌∷◌, ◌++◌};
+ghost use Rattle.std.specs.Prelude.{◌≡◌, ℕ, ◌+◌, ◌^◌, ◌<◌, ◌≤◌, true, false, nat_le, if◌then◌else◌, length, Some, List, [], ◌∷◌, ◌++◌};
 ghost use Rattle.std.specs.List.{AllPass, list_any};
 ghost use Rattle.std.specs.Option.{option_map_or, unwrap_or};
 ghost use Rattle.multi_layout.specs.Address.{Spot, is_glyph, segment};
 ghost use Rattle.multi_layout.specs.Fit.{fit, line_fits, room_for};
 ghost use Rattle.multi_layout.specs.Line.{average, width_of};
 ghost use Rattle.multi_layout.specs.Offence.{clashes};
-ghost use Rattle.multi_layout.specs.kept.Run.{FitsBefore, IsBehindOne, IsOpen, kept_fits, kept_width, lengthened_line};
+ghost use Rattle.multi_layout.specs.kept.Run.{IsBehindOne, IsOpen, IsSameBefore, kept_fits, kept_width, lengthened_line};
+ghost use Rattle.multi_layout.specs.kept.State.{segment_room};
 ghost use Rattle.multi_layout.specs.kept.Sums.{segment_sum, line_sum, line_sum_in, IsCharacter, IsSegmentBelow, IsLineBelow};
 
 use sign_font::FontInfo;
@@ -154,6 +155,7 @@ impl Line {
             → list_any (clashes s) line ≡ false → self.new ≡ line_sum (line ++ s ∷ []) }
         ensures grows { (k : ℕ) → IsLineBelow k self.old → IsLineBelow (k + 1024) self.new }
         ensures behind { IsOpen character.now.just self.old → IsBehindOne character.now.just character.now.font self.new }
+        ensures same { self.old.any ≡ true → character.now.just ≡ self.old.present → IsSameBefore self.old self.new }
     {
         if !self.any {
             *self = Line::of(character);
@@ -175,6 +177,7 @@ impl Line {
         ensures others { (self.new.has_parts ≡ self.old.has_parts) × (self.new.height ≡ self.old.height)
             × (self.new.spacing ≡ self.old.spacing) }
         ensures present { self.old.present ≤ just → self.new.present ≡ just }
+        ensures same { just ≡ self.old.present → self.new ≡ self.old }
         ensures grows { (k : ℕ) → IsLineBelow k self.old → IsLineBelow k self.new }
     {
         if just <= self.present {
@@ -237,23 +240,11 @@ impl Line {
     /// The most pixels that the present segment may have within a width, into which those before it fit.
     #[inline(always)]
     pub(crate) fn room(&self, width: u16) -> u64
-        requires known { (2 ≤ self.now.present) × (self.now.present ≤ 5) }
         requires below { IsLineBelow (2 ^ 62 + 1024) self.now }
-        ensures room { (line : List Spot) (pixels count : ℕ) → self.now ≡ line_sum line → FitsBefore width self.now
-            → kept_fits width (lengthened_line pixels count self.now) ≡ nat_le pixels result }
-        ensures most { result ≤ width }
+        ensures room { result ≡ segment_room self.now width }
+        ensures most { result < 2 ^ 16 }
     {
         room_for(self.present, self.left, self.centre, width)
-    }
-
-    /// Whether the line fits a width in pixels, into which its segments before the present one fit.
-    #[inline(always)]
-    pub(crate) fn still_fits(&self, width: u16) -> bool
-        requires known { (2 ≤ self.now.present) × (self.now.present ≤ 5) }
-        requires below { IsLineBelow (2 ^ 62 + 1024) self.now }
-        ensures { (line : List Spot) → self.now ≡ line_sum line → FitsBefore width self.now → result ≡ kept_fits width self.now }
-    {
-        self.part.width <= self.room(width)
     }
 
     /// Gives the present segment this width and number of characters.

@@ -15,7 +15,7 @@ ghost use Rattle.multi_layout.specs.kept.KnownItem.{IsOctet, meant_by};
 ghost use Rattle.multi_layout.specs.Meaning.{begins_area, Does, EndsArea, has_place, meaning};
 ghost use Rattle.multi_layout.specs.kept.PassState.{fill_of};
 ghost use Rattle.multi_layout.specs.kept.AreaDrawing.{HasKnown, HasRoom, IsAreaRead, IsLow, first_steps, next_group};
-ghost use Rattle.multi_layout.specs.kept.State.{IsReady, present_area};
+ghost use Rattle.multi_layout.specs.kept.State.{IsLimited, IsReady, present_area};
 ghost use Rattle.multi_layout.specs.kept.Sums.{IsBelow, IsPlacing, area_sum};
 ghost use Rattle.multi_layout.specs.kept.Table.{IsNarrowArea, IsOrdered, group_lines};
 ghost use Rattle.multi_layout.specs.kept.Cursors.{IsBetween, IsFirst, IsPlaced, IsWithin, meant, LaidItem};
@@ -130,6 +130,7 @@ fn go_on<const WORDS: bool>(
     octet: bool,
 ) -> (usize, Option<u8>)
     requires small { (IsReady kept.old.state) × (length source.old.octets < 2 ^ 32) }
+    requires limited { WORDS ≡ false → IsLimited kept.old.state }
     requires within { at ≤ length source.old.octets }
     ensures gone { GoesOn WORDS sign.now source.old.octets at kept.old result.0 kept.new }
     ensures next { result.1 ≡ slice_get source.old.octets result.0 }

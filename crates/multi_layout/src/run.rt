@@ -7,7 +7,7 @@ ghost use Rattle.multi_layout.specs.Meaning.{Meaning};
 ghost use Rattle.multi_layout.specs.kept.PassState.{IsPassBehind, IsPassOf};
 ghost use Rattle.multi_layout.specs.kept.Judging.{IsAt, IsBehind};
 ghost use Rattle.multi_layout.specs.kept.Run.{Fits, IsBehindCharacter, IsRun, IsRunPassed, lengthened, line_in_force};
-ghost use Rattle.multi_layout.specs.kept.State.{IsReady, IsStateOf, IsUnfilledOf};
+ghost use Rattle.multi_layout.specs.kept.State.{IsLimited, IsReady, IsStateOf, IsUnfilledOf, segment_room};
 
 use crate::fill_run::judge_text;
 use crate::pass::Pass;
@@ -25,21 +25,17 @@ pub(crate) struct Run {
 }
 
 impl State {
-    /// The run that goes on behind the last character.
-    pub(crate) fn run(&self) -> Run
+    /// The run that goes on behind the last character, whose segment may have so many pixels.
+    pub(crate) fn run(&self, most: u64) -> Run
         requires behind { IsBehindCharacter self.now }
-        requires ready { IsReady self.now }
+        requires most { most ≡ segment_room (line_in_force self.now) self.now.attributes.rectangle.width }
         ensures run { (items : List Meaning) (sign : SignData) → IsStateOf sign items self.now → Fits self.now
             → IsRun self.now result.gap ((line_in_force self.now).part.width + result.left) }
-        ensures left { result.left < 2 ^ 16 }
+        ensures left { result.left ≤ most }
     {
-        let attributes = &self.attributes;
-        let line = &self.area.group.line;
         Run {
-            gap: attributes.spacing.unwrap_or(attributes.font.char_spacing),
-            left: line
-                .room(attributes.rectangle.width)
-                .saturating_sub(line.part.width),
+            gap: self.attributes.gap(),
+            left: most.saturating_sub(self.area.group.line.part.width),
         }
     }
 
@@ -114,13 +110,14 @@ pub(crate) fn go_along(
     at: usize,
 ) -> (usize, Option<u8>)
     requires character { IsBehindCharacter state.old }
+    requires limited { IsLimited state.old }
     requires small { (IsReady state.old) × (length source.old.octets < 2 ^ 32) }
     requires within { at ≤ length source.old.octets }
     ensures run { IsRunPassed sign.now source.old.octets at state.old result.0 state.new }
     ensures next { result.1 ≡ slice_get source.old.octets result.0 }
     ensures steps { RisesBetween source.old source.new (2 * (result.0 - at) + 1) (2 * (result.0 - at) + 3) }
 {
-    let run = state.run();
+    let run = state.run(state.limits.width);
     let font = state.attributes.font.number;
     let front = sign.read_run(source, at, font, run, false);
     state.lengthen(u64::from(front.width), front.len as u64);

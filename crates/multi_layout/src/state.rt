@@ -1,10 +1,11 @@
 //! What is kept of the items that were read.
 
-ghost use Rattle.std.specs.Prelude.{◌≡◌, ℕ, ◌+◌, ◌*◌, ◌≤◌, []};
+ghost use Rattle.std.specs.Prelude.{◌≡◌, ℕ, ◌+◌, ◌*◌, ◌^◌, ◌≤◌, if◌then◌else◌, []};
 ghost use Rattle.sign_font.specs.Sound.{IsSound};
 
 use crate::area::Area;
-use crate::attributes::{Attributes, whole_sign};
+use crate::attributes::{Attributes, Rectangle, whole_sign};
+use crate::line::Character;
 use crate::terms::Terms;
 use multi_tag::Tag;
 
@@ -17,6 +18,15 @@ pub(crate) struct State {
     pub(crate) cycle: u32,
     pub(crate) attributes: Attributes,
     pub(crate) area: Area,
+    /// What may stand in that area, where lines aren't filled.
+    pub(crate) limits: Limits,
+}
+
+/// The most that the present segment of a line and the present group of an area may have, in pixels.
+#[derive(Clone, Copy)]
+pub(crate) struct Limits {
+    pub(crate) width: u64,
+    pub(crate) height: u64,
 }
 
 impl State {
@@ -25,11 +35,14 @@ impl State {
     ghost use Rattle.sign_font.specs.Sign.{SignData, cell_in};
     ghost use Rattle.multi_layout.specs.Meaning.{Does, Meaning, Shows};
     ghost use Rattle.multi_layout.specs.Offence.{unsized_offence};
-    ghost use Rattle.multi_layout.specs.kept.State.{IsReady, IsStateOf, whole_times};
+    ghost use Rattle.multi_layout.specs.kept.Run.{AddsBreak, AddsCharacter};
+    ghost use Rattle.multi_layout.specs.kept.Sums.{IsBelow};
+    ghost use Rattle.multi_layout.specs.kept.State.{IsLimited, IsReady, IsStateOf, group_room, segment_room, whole_times};
 
     /// The state before the first item.
     pub(crate) fn new(sign: &Terms<'_>) -> State
         ensures start { IsStateOf sign.now [] result }
+        ensures limited { IsLimited result }
         ensures sound { IsSound sign.now }
     {
         let defaults = sign.defaults();
@@ -49,6 +62,58 @@ impl State {
                 rectangle: whole_sign(sign),
             },
             area: Area::new(),
+            // known where there is a character, and where there is a group
+            limits: Limits {
+                width: 0,
+                height: 0,
+            },
+        }
+    }
+
+    /// Adds a character, which doesn't conflict with the items before it.
+    #[inline(always)]
+    pub(crate) fn add_character(&mut self, character: &Character)
+        requires ready { IsReady self.old }
+        requires just { character.now.just ≤ 5 }
+        ensures added { AddsCharacter self.old character.now self.new }
+    {
+        let page_just = self.attributes.page_just;
+        let stays = self.area.present == page_just;
+        let line = &self.area.group.line;
+        let lengthens = stays & line.any & (line.present == character.just);
+        self.area.add_character(page_just, character);
+        self.limit(stays, lengthens);
+    }
+
+    /// Adds an `nl` with the gap that it gives, which doesn't conflict with the items before it.
+    #[inline(always)]
+    pub(crate) fn add_break(&mut self, gap: Option<u8>)
+        requires ready { IsReady self.old }
+        ensures added { AddsBreak self.old gap self.new }
+    {
+        let page_just = self.attributes.page_just;
+        let stays = self.area.present == page_just;
+        self.area.add_break(page_just, gap, &self.attributes.font);
+        self.limit(stays, true);
+    }
+
+    /// Works out the limits anew, but for that of a group or a segment that is the present one still.
+    #[inline(always)]
+    fn limit(&mut self, group_stays: bool, segment_stays: bool)
+        requires below { IsBelow (2 ^ 62 + 1024) self.old.area }
+        ensures { self.new ≡ record self.old {
+          limits = record {
+            width = if segment_stays then self.old.limits.width else segment_room self.old.area.group.line self.old.attributes.rectangle.width;
+            height = if group_stays then self.old.limits.height else group_room self.old.area self.old.attributes.rectangle.height;
+          };
+        } }
+    {
+        let Rectangle { width, height, .. } = self.attributes.rectangle;
+        if !segment_stays {
+            self.limits.width = self.area.group.line.room(width);
+        }
+        if !group_stays {
+            self.limits.height = self.area.room(height);
         }
     }
 
@@ -58,8 +123,7 @@ impl State {
         ensures passed { (sign : SignData) (items : List Meaning) → IsStateOf sign items self.old
             → unsized_offence sign items (Does (Tag.NewLine gap)) ≡ None → IsStateOf sign (items ++ Does (Tag.NewLine gap) ∷ []) self.new }
     {
-        let page_just = self.attributes.page_just;
-        self.area.add_break(page_just, gap, &self.attributes.font);
+        self.add_break(gap);
     }
 
     /// Goes behind a character of an accepted string, whose cell has this width in pixels.
@@ -69,10 +133,10 @@ impl State {
             → cell_in sign self.old.attributes.font.number number ≡ Some cell → width ≡ cell.width
             → unsized_offence sign items (Shows number) ≡ None
             → IsStateOf sign (items ++ Shows number ∷ []) self.new }
+        ensures limited { IsLimited self.old → IsLimited self.new }
     {
         let character = self.attributes.character(width);
-        let page_just = self.attributes.page_just;
-        self.area.add_character(page_just, &character);
+        self.add_character(&character);
     }
 
     /// The times of all pages of a string that ends here, in tenths of a second.

@@ -1,5 +1,5 @@
 -- What is kept of the items that were read (own).
-use Rattle.std.specs.Prelude.{◌≡◌, ℕ, ◌+◌, ◌*◌, ◌^◌, ◌≤◌, List, [], ◌∷◌, ◌++◌, length, Some, None, Result, Ok, Err, if◌then◌else◌}
+use Rattle.std.specs.Prelude.{◌≡◌, ℕ, ◌+◌, ◌*◌, ◌^◌, ◌≤◌, true, List, [], ◌∷◌, ◌++◌, length, Some, None, Result, Ok, Err, if◌then◌else◌}
 use Rattle.std.specs.Option.{unwrap_or}
 use Rattle.multi_tag.specs.declared.tag.Tag.{Tag}
 use Rattle.multi_tag.specs.declared.tag.Tag.TheVariants.{NewPage, NewLine, LineJust, PageJust, Font, Rect}
@@ -9,10 +9,13 @@ use Rattle.multi_layout.specs.declared.attributes.Attributes.{Attributes}
 use Rattle.multi_layout.specs.declared.fault.SyntaxError.{SyntaxError}
 use Rattle.multi_layout.specs.declared.state.State.{State}
 use Rattle.multi_layout.specs.Codes.{code_of}
+use Rattle.multi_layout.specs.Fit.{room_for}
 use Rattle.multi_layout.specs.Attributes.{given_font, given_line_just, given_page_just, given_spacing, given_fore, given_back, given_on, given_off, given_flash, given_rectangle}
 use Rattle.multi_layout.specs.Meaning.{Meaning, begins_area, is_new_page}
 use Rattle.multi_layout.specs.Address.{Spot, Standing, in_area, spots, standing}
 use Rattle.multi_layout.specs.Offence.{offence}
+use Rattle.multi_layout.specs.declared.area.Area.{Area}
+use Rattle.multi_layout.specs.declared.line.Line.{Line}
 use Rattle.multi_layout.specs.kept.Sums.{IsBelow, area_sum}
 use Rattle.multi_layout.specs.Times.{cycle, ended_times}
 use Rattle.multi_layout.specs.Verdict.{pages_of}
@@ -71,11 +74,27 @@ pub record IsStateOf (sign : SignData) (items : List Meaning) (state : State) : 
 abbrev pub whole_times : State → ℕ
 whole_times state = state.cycle + state.attributes.on + state.attributes.off
 
--- lines aren't filled, the state is that of these items, and none of them offends (own)
+-- the most that the present segment of a line may have within a width, by what is kept of the line (own)
+abbrev pub segment_room : Line → ℕ → ℕ
+segment_room line width = room_for line.present line.left line.centre width
+
+-- the most that the present group of an area may have within a height, by what is kept of the area (own)
+abbrev pub group_room : Area → ℕ → ℕ
+group_room area height = room_for area.present area.top area.middle height
+
+-- the limits are what the present segment, if the line in force has a character, and the present group, if there is one, may have in the
+-- rectangle in force (own)
+pub record IsLimited (state : State) : Type 0 where
+  pub width : state.area.group.line.any ≡ true
+      → state.limits.width ≡ segment_room state.area.group.line state.attributes.rectangle.width
+  pub height : 2 ≤ state.area.present → state.limits.height ≡ group_room state.area state.attributes.rectangle.height
+
+-- lines aren't filled, the state is that of these items with their limits, and none of them offends (own)
 pub record IsUnfilledOf (sign : SignData) (state : State) (items : List Meaning) : Type 0 where
   pub off : sign.line_fill ≡ Off
   pub fine : some_after (offence Off sign) items ≡ []
   pub state_is : IsStateOf sign items state
+  pub limited : IsLimited state
 
 -- the state is small enough that no sum overflows, and its justifications are known ones (own)
 pub record IsReady (state : State) : Type 0 where

@@ -1,10 +1,10 @@
-use Rattle.std.proofs.Common.{◌≡◌, ◌+◌, ◌-◌, ◌*◌, ◌≤◌, List, ◌∷◌, ◌++◌, Some, length, map, slice_get, sym, ap, ◌∙◌, subst, arith}
+use Rattle.std.proofs.Common.{◌≡◌, ◌+◌, ◌-◌, ◌*◌, ◌≤◌, ◌∷◌, ◌++◌, length, map, slice_get, sym, ap, ◌∙◌, subst, arith}
 use Rattle.std.proofs.lemmas.Option.{IfSome_then}
-use Rattle.multi_token.specs.Counted.{Counted, RisesBetween}
+use Rattle.multi_token.specs.Counted.{Counted}
 use Rattle.multi_token.proofs.StepLemmas.{charged-zero, rises_more, rises_then}
-use Rattle.multi_layout.specs.kept.AreaDrawing.{HasCounted, IsDrawnTo, IsFilledBy, whole_area}
+use Rattle.multi_layout.specs.kept.AreaDrawing.{IsDrawnTo, IsFilledBy}
 use Rattle.multi_layout.specs.kept.RunDrawing.{AreaSoFar, IsNextDrawn, octets_read}
-use Rattle.multi_layout.specs.kept.Cursors.{IsBetween, IsPlaced, items_of, meant, LaidItem, spell_of}
+use Rattle.multi_layout.specs.kept.Cursors.{IsBetween, IsPlaced, items_of, meant, spell_of}
 use Rattle.multi_layout.proofs.AreaDrawLemmas.{area_begins, area_ended, area_here, area_then, at_end, filled_none, filled_then, next_drawn, none_read, read_one}
 use Rattle.multi_layout.proofs.BesideLemmas.{octet_stands}
 use Rattle.multi_layout.proofs.PieceLemmas.{laid_first}

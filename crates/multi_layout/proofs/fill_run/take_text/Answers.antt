@@ -1,15 +1,18 @@
-use Rattle.std.proofs.Common.{ℕ, List, length, map, ap, subst, arith}
+use Rattle.std.proofs.Common.{ℕ, ◌+◌, ◌^◌, List, length, map, ap, subst, arith}
 use Rattle.sign_font.specs.declared.parts.LineFill.TheVariants.{Words}
 use Rattle.multi_layout.specs.kept.FilledState.{IsFilledFor}
 use Rattle.multi_layout.specs.LaidItems.{laid_items}
 use Rattle.multi_layout.specs.Meaning.{meaning}
 use Rattle.multi_layout.specs.kept.Judging.{IsAt}
 use Rattle.multi_layout.specs.kept.Text.{IsInText}
+use Rattle.multi_layout.proofs.BoundLemmas.{below_more}
 use Rattle.multi_layout.proofs.FilledReadLemmas.{filled_ready_here}
 use Rattle.multi_layout.proofs.fill_run.take_text.Goals as goal
 
-pub run-run-requires-clause-ready : goal.run-run-requires-clause-ready
-run-run-requires-clause-ready c = (filled_ready_here c.args.sign.now c.args.source.now.octets c.args.at c.args.pass.now c.requires.behind.so_far c.requires.short).state
+pub room-most-requires : goal.room-most-requires
+room-most-requires c =
+    let ready = (filled_ready_here c.args.sign.now c.args.source.now.octets c.args.at c.args.pass.now c.requires.behind.so_far c.requires.short).state in
+    record { below = (below_more (2 ^ 62) (2 ^ 62 + 1024) c.args.pass.now.state.area (omega arith) ready.below).group.line }
 
 pub loop-behind-init : goal.loop-behind-init
 loop-behind-init c =
@@ -19,7 +22,7 @@ loop-behind-init c =
         behind = c.requires.behind;
         fits = c.requires.run;
         runs = c.run-run.ensures.run (laid_items Words c.args.sign.now items items) c.args.sign.now r.is.of.state_is c.requires.run.fits;
-        left = c.run-run.ensures.left;
+        left = omega (arith, c.run-run.ensures.left, c.room-most.ensures.most);
       },
       omega arith,
     )

@@ -1,6 +1,9 @@
-use Rattle.std.proofs.Common.{◌*◌, ◌^◌, ◌≤◌, length, ap, sym, subst, ◌∙◌}
+use Rattle.std.proofs.Common.{◌*◌, ◌^◌, ◌++◌, ◌∷◌, [], length, ap, ◌∙◌}
 use Rattle.multi_layout.specs.declared.line.Character.{Character}
+use Rattle.multi_layout.specs.Meaning.{Shows}
 use Rattle.multi_layout.proofs.BeforeLemmas.{fits_without}
+use Rattle.multi_layout.proofs.JudgedLemmas.{state-limits}
+use Rattle.multi_layout.proofs.LimitLemmas.{added_fits, behind_added}
 use Rattle.multi_layout.proofs.PlacingLemmas.{character-exit-conflict, character-exit-too_big, character-exit-fits}
 use Rattle.multi_layout.proofs.judge.judge_cell.Goals as goal
 
@@ -8,38 +11,40 @@ pub returns-then-conflicts_with_character-clause-judged : goal.returns-then-conf
 returns-then-conflicts_with_character-clause-judged c = λ sign items cell of some wide.
     character-exit-conflict sign items c.args.state.now of.state_is c.args.number cell some c.conflicts_with_character.result c.conflicts_with_character.ensures.conflicts c.if-conflicts_with_character.true
 
-pub fits_with_character-requires : goal.fits_with_character-requires
-fits_with_character-requires c =
-    let (present, line) = c.add_character.ensures.behind (rw (ap (λ (k : Character). k.just) c.character-character.ensures) (c.conflicts_with_character.ensures.may c.if-conflicts_with_character.false)) in
-    let just = ap (λ (k : Character). k.just) c.character-character.ensures in
-    let line_just = c.requires.line_just in
-    record {
-      below = c.add_character.ensures.grows (2 ^ 62) c.requires.below;
-      page_just = subst (λ n. (2 ≤ n) × (n ≤ 4)) (sym present) c.requires.page_just;
-      line_just = subst (λ n. (2 ≤ n) × (n ≤ 5)) (sym (line.segment ∙ just)) c.requires.line_just;
-    }
+pub is_within-requires : goal.is_within-requires
+is_within-requires c = record { below = c.add_character.ensures.added.grows (2 ^ 62) c.requires.below }
 
-pub returns-then-fits_with_character-clause-judged : goal.returns-then-fits_with_character-clause-judged
-returns-then-fits_with_character-clause-judged c = λ sign items cell of some wide.
-    let just = ap (λ (k : Character). k.just) c.character-character.ensures in
-    let (present, line) = c.add_character.ensures.behind (rw just (c.conflicts_with_character.ensures.may c.if-conflicts_with_character.false)) in
-    character-exit-fits sign items c.args.state.now of.state_is c.args.number cell some c.conflicts_with_character.result c.conflicts_with_character.ensures.conflicts
-    c.character-character.result c.add_character.new.self just (ap (λ (k : Character). k.spacing) c.character-character.ensures)
-    (ap (λ (k : Character). k.width) c.character-character.ensures ∙ wide) (ap (λ (k : Character). k.font) c.character-character.ensures) c.add_character.ensures.sum c.fits_with_character.result
-    (λ before s glyph sum on own w h without. c.fits_with_character.ensures before s glyph sum on (line.segment ∙ just ∙ sym own) w h without) (fits_without sign items of.fine)
-    c.if-conflicts_with_character.false c.if-fits_with_character.true (c.add_character.ensures.grows (1024 * length items) of.state_is.below)
+pub returns-then-is_within-clause-judged : goal.returns-then-is_within-clause-judged
+returns-then-is_within-clause-judged c = λ sign items cell of some wide.
+    let state = c.args.state.now in
+    let new = c.add_character.new.self in
+    let is = c.character-character.ensures in
+    let just = ap (λ (k : Character). k.just) is in
+    let added = c.add_character.ensures.added in
+    let may = c.conflicts_with_character.ensures.may c.if-conflicts_with_character.false in
+    let fits = added_fits state new c.character-character.result added just may of.limited c.requires.line_just c.requires.page_just in
+    let (fine, st) = character-exit-fits sign items state of.state_is c.args.number cell some c.conflicts_with_character.result c.conflicts_with_character.ensures.conflicts
+    c.character-character.result new.area just (ap (λ (k : Character). k.spacing) is) (ap (λ (k : Character). k.width) is ∙ wide) (ap (λ (k : Character). k.font) is) added.sum c.is_within.result
+    (λ before s glyph sum on own w h without. c.is_within.ensures ∙ fits before s glyph sum on own w h without) (fits_without sign items of.fine)
+    c.if-conflicts_with_character.false c.if-is_within.true (added.grows (1024 * length items) of.state_is.below) in
+    (fine, state-limits sign (items ++ Shows c.args.number ∷ []) state new added.same st)
 
-pub returns-else-fits_with_character-clause-judged : goal.returns-else-fits_with_character-clause-judged
-returns-else-fits_with_character-clause-judged c = λ sign items cell of some wide.
-    let just = ap (λ (k : Character). k.just) c.character-character.ensures in
-    let (present, line) = c.add_character.ensures.behind (rw just (c.conflicts_with_character.ensures.may c.if-conflicts_with_character.false)) in
-    character-exit-too_big sign items c.args.state.now of.state_is c.args.number cell some c.conflicts_with_character.result c.conflicts_with_character.ensures.conflicts
-    c.character-character.result c.add_character.new.self just (ap (λ (k : Character). k.spacing) c.character-character.ensures)
-    (ap (λ (k : Character). k.width) c.character-character.ensures ∙ wide) (ap (λ (k : Character). k.font) c.character-character.ensures) c.add_character.ensures.sum c.fits_with_character.result
-    (λ before s glyph sum on own w h without. c.fits_with_character.ensures before s glyph sum on (line.segment ∙ just ∙ sym own) w h without) (fits_without sign items of.fine)
-    c.if-conflicts_with_character.false c.if-fits_with_character.false
+pub returns-else-is_within-clause-judged : goal.returns-else-is_within-clause-judged
+returns-else-is_within-clause-judged c = λ sign items cell of some wide.
+    let state = c.args.state.now in
+    let new = c.add_character.new.self in
+    let is = c.character-character.ensures in
+    let just = ap (λ (k : Character). k.just) is in
+    let added = c.add_character.ensures.added in
+    let may = c.conflicts_with_character.ensures.may c.if-conflicts_with_character.false in
+    let fits = added_fits state new c.character-character.result added just may of.limited c.requires.line_just c.requires.page_just in
+    character-exit-too_big sign items state of.state_is c.args.number cell some c.conflicts_with_character.result c.conflicts_with_character.ensures.conflicts
+    c.character-character.result new.area just (ap (λ (k : Character). k.spacing) is) (ap (λ (k : Character). k.width) is ∙ wide) (ap (λ (k : Character). k.font) is) added.sum c.is_within.result
+    (λ before s glyph sum on own w h without. c.is_within.ensures ∙ fits before s glyph sum on own w h without) (fits_without sign items of.fine)
+    c.if-conflicts_with_character.false c.if-is_within.false
 
-pub returns-then-fits_with_character-clause-behind : goal.returns-then-fits_with_character-clause-behind
-returns-then-fits_with_character-clause-behind c =
-    let (present, line) = c.add_character.ensures.behind (rw (ap (λ (k : Character). k.just) c.character-character.ensures) (c.conflicts_with_character.ensures.may c.if-conflicts_with_character.false)) in
-    record { group = present; line = rw c.character-character.ensures at line }
+pub returns-then-is_within-clause-behind : goal.returns-then-is_within-clause-behind
+returns-then-is_within-clause-behind c =
+    let is = c.character-character.ensures in
+    behind_added c.args.state.now c.add_character.new.self c.character-character.result c.add_character.ensures.added (ap (λ (k : Character). k.just) is)
+    (c.conflicts_with_character.ensures.may c.if-conflicts_with_character.false) (ap (λ (k : Character). k.font) is)

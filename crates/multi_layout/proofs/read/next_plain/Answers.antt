@@ -1,9 +1,7 @@
-use Rattle.std.proofs.Common.{◌≡◌, ◌-◌, None, [], List, map, inl, slice_get, refl, sym, ◌∙◌, subst, arith}
-use Rattle.multi_token.specs.Counted.{RisesBetween}
+use Rattle.std.proofs.Common.{◌≡◌, None, [], List, map, inl, slice_get, refl, sym, ◌∙◌, subst, arith}
 use Rattle.multi_token.specs.Spelling as spelled
 use Rattle.multi_token.proofs.StepLemmas.{charged-zero}
 use Rattle.multi_layout.specs.Meaning.{EndsArea, meaning}
-use Rattle.multi_layout.specs.kept.AreaDrawing.{first_steps}
 use Rattle.multi_layout.proofs.ReadLemmas.{at_end}
 use Rattle.multi_layout.proofs.WalkLemmas.{none_at_end, within}
 use Rattle.multi_layout.proofs.read.next_plain.Goals as goal

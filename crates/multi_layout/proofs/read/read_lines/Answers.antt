@@ -1,4 +1,4 @@
-use Rattle.std.proofs.Common.{◌==◌, not, ◌≡◌, ◌+◌, ◌-◌, ◌*◌, ◌<◌, ◌^◌, ◌++◌, map, length, refl, sym, ap, subst, ◌∙◌, arith}
+use Rattle.std.proofs.Common.{◌==◌, not, ◌≡◌, ◌+◌, ◌-◌, ◌*◌, ◌++◌, map, length, refl, sym, ap, subst, ◌∙◌, arith}
 use Rattle.std.specs.Prelude.{slice_get}
 use Rattle.multi_token.specs.Counted.{Counted}
 use Rattle.multi_token.proofs.StepLemmas.{charged-zero, rises_more, rises_then}
@@ -13,6 +13,7 @@ use Rattle.multi_layout.proofs.AreaLinesLemmas.{area_read, nothing_read, read_on
 use Rattle.multi_layout.proofs.AreaReadLemmas.{present_placing, read_below, read_lines, read_ready, read_state}
 use Rattle.multi_layout.proofs.KnownLinesLemmas.{counted_at_end}
 use Rattle.multi_layout.proofs.PageLoopLemmas.{stands_in}
+use Rattle.multi_layout.proofs.PassLemmas.{limited_of}
 use Rattle.multi_layout.proofs.RunLinesLemmas.{gone_forward, gone_within, ready_state, went_on}
 use Rattle.multi_layout.proofs.read.read_lines.Goals as goal
 
@@ -72,6 +73,18 @@ go_on-requires-clause-small g c =
     let r = c.pass_item.ensures.known (items_of (before ++ so.pieces)) n.piece.item so.read (so_next so n) in
     let octets : c.pass_item.new.source.octets ≡ c.args.source.now.octets = ap (λ (s : Counted). s.octets) c.pass_item.ensures.steps.3 ∙ ap (λ (s : Counted). s.octets) c.in-Some.ensures.steps.3 ∙ same ∙ ap (λ (s : Counted). s.octets) c.read-first.ensures.step in
     (ready_state (not (g.row.WORDS == 0)) c.pass_item.new.kept (read_ready c.requires.sound r), omega (arith, ap length octets, b.placed.accepted.short))
+
+pub go_on-requires-clause-limited : goal.go_on-requires-clause-limited
+go_on-requires-clause-limited g c = λ off.
+    let sign = c.args.sign.now in
+    let i = c.loop-next.invariant in
+    let (before, behind, b, begins) = c.requires.begins in
+    let so = i.so_far before behind (stands_in (ap (λ (s : Counted). s.octets) c.read-first.ensures.step) b) begins in
+    let same = ap (λ (s : Counted). s.octets) i.steps.3 in
+    let placed = subst (λ o. IsPlaced sign o (items_of (before ++ so.pieces)) (items_of so.left) c.loop-next.cursor.at) (sym same) so.placed in
+    let n = so_first so c.in-Some.next (c.in-Some.ensures.first sign (items_of (before ++ so.pieces)) (items_of so.left) placed) in
+    let r = c.pass_item.ensures.known (items_of (before ++ so.pieces)) n.piece.item so.read (so_next so n) in
+    limited_of (not (g.row.WORDS == 0)) off sign c.pass_item.new.kept _ r.of
 
 pub go_on-requires-clause-within : goal.go_on-requires-clause-within
 go_on-requires-clause-within g c =

@@ -1,4 +1,4 @@
-use Rattle.std.proofs.Common.{◌==◌, not, ◌≡◌, ◌≤◌, ◌-◌, ◌*◌, List, [], map, length, ◌+◌, slice_get}
+use Rattle.std.proofs.Common.{◌==◌, not, ◌≡◌, ◌≤◌, ◌-◌, ◌*◌, List, [], map, length, slice_get}
 use Rattle.multi_token.specs.Counted.{RisesBetween}
 use Rattle.multi_layout.specs.kept.State.{present_area}
 use Rattle.multi_layout.specs.kept.Cursors.{IsBetween, meant, LaidItem}

@@ -1,6 +1,6 @@
 use Rattle.std.proofs.Common.{ℕ, ◌==◌, [], not, subst, sym}
 use Rattle.multi_layout.specs.kept.Judging.{IsTold}
-use Rattle.multi_layout.specs.kept.State.{IsStateOf}
+use Rattle.multi_layout.specs.kept.State.{IsLimited, IsStateOf}
 use Rattle.multi_layout.proofs.PassLemmas.{pass_start, pass_told}
 use Rattle.multi_layout.proofs.verdict.judge_all.Goals as goal
 
@@ -9,6 +9,7 @@ judge_items-requires-clause-start g c =
     let sign = c.args.sign.now in
     let pass = c.new-pass.result in
     pass_start sign pass (not (g.row.WORDS == 0)) c.requires.kind (subst (IsStateOf sign []) (sym c.new-pass.ensures.state) c.new.ensures.start)
+    (subst IsLimited (sym c.new-pass.ensures.state) c.new.ensures.limited)
     (λ st none. c.new-pass.ensures.filled sign [] (subst (IsStateOf sign _) c.new-pass.ensures.state st) none)
 
 pub returns-clause-told : goal.returns-clause-told

@@ -1,4 +1,4 @@
-use Rattle.std.proofs.Common.{◌≡◌, ◌+◌, ◌-◌, ◌<◌, ◌^◌, drop, length, take, subst, sym, arith}
+use Rattle.std.proofs.Common.{◌≡◌, ◌+◌, drop, length, take, subst, sym, arith}
 use Rattle.std.proofs.lemmas.List.{length-drop, length-take-le, take-append-drop}
 use Rattle.multi_layout.specs.kept.Cursors.{IsTextPassed}
 use Rattle.multi_layout.proofs.TextSkipLemmas.{moved, text_skipped}

@@ -18,4 +18,4 @@ returns-else-this-ne0-clause-judged g c = λ sign items cell of found wide.
     let new : Pass = record { state = c.judge_cell.new.state; split = c.args.self.now.split; order = c.args.self.now.order } in
     let kept = subst (λ w. IsPassOf w sign c.args.self.now items) words of in
     subst (λ w. IsItemJudged w sign items (Shows c.args.number) c.judge_cell.result new) (sym words)
-    (judged_unfilled sign items (Shows c.args.number) c.judge_cell.result new kept.off kept.fine (c.judge_cell.ensures.judged sign items cell kept found wide))
+    (judged_unfilled sign items (Shows c.args.number) c.judge_cell.result new kept.off kept.fine (c.judge_cell.ensures.limited kept.limited) (c.judge_cell.ensures.judged sign items cell kept found wide))

@@ -25,4 +25,5 @@ returns-else-this-ne0-clause-passed g c = λ sign items cell of found wide fine.
     let new : Pass = record { state = c.pass_character.new.self; split = c.args.self.now.split; order = c.args.self.now.order } in
     let unsized = unsized_if sign.line_fill sign items (Shows c.args.number) fine true refl in
     subst (λ w. IsCharacterPassed w sign items c.args.number c.args.self.now new None) (sym words)
-    (plain_passed sign items c.args.self.now new kept c.args.number fine (c.pass_character.ensures.passed sign items c.args.number cell kept.state_is found wide unsized))
+    (plain_passed sign items c.args.self.now new kept c.args.number fine (c.pass_character.ensures.passed sign items c.args.number cell kept.state_is found wide unsized)
+    (c.pass_character.ensures.limited kept.limited))
