@@ -187,16 +187,16 @@ fn run_front(octets: &[u8], table: &[u16; 256], gap: u32, before: u32, room: u32
     ensures octets { (at : ℕ) → slice_index octets.now at < 2 ^ 8 }
 {
     let mut len = 0;
-    let mut width = before;
+    let mut left = room - before;
     while len < octets.len() {
-        let wide = width + gap + u32::from(table[usize::from(octets[len])]);
-        if wide > room {
-            return (len, width);
+        let advance = gap + u32::from(table[usize::from(octets[len])]);
+        if advance > left {
+            break;
         }
-        width = wide;
+        left -= advance;
         len += 1;
     }
-    (len, width)
+    (len, room - left)
 }
 
 /// Whether an octet is a bracket.

@@ -5,9 +5,8 @@ use Rattle.multi_token.proofs.source.run_front.Given as goal
 abbrev pub invariant-loop-len : goal.invariant-loop-len
 invariant-loop-len l = record {
   within : l.len ≤ length l.octets;
-  fits : l.width ≤ l.room;
   small : l.gap + l.room < 2 ^ 31;
-  width : l.width ≡ l.before + taken l.table l.gap (take l.len l.octets);
+  left : l.before + taken l.table l.gap (take l.len l.octets) + l.left ≡ l.room;
 }
 
 abbrev pub decreases-loop-len : goal.decreases-loop-len
