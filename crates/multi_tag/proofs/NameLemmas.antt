@@ -3,7 +3,7 @@ use Rattle.std.proofs.Common.{◌≡◌, ◌≢◌, ℕ, ◌<◌, ◌≤◌, ◌
 use Rattle.std.specs.Char.{to_ascii_lowercase}
 use Rattle.std.specs.Str.{str_to_ascii_lowercase}
 use Rattle.std.proofs.lemmas.List.{take_rest}
-use Rattle.std.proofs.lemmas.Bool.{ne_eqb}
+use Rattle.std.proofs.lemmas.Bool.Decides.{nat_tests}
 use Rattle.std.proofs.lemmas.Option.{none-some, same_Some}
 use Rattle.multi_tag.specs.declared.name.Name.{Name}
 use Rattle.multi_tag.specs.declared.name.Name.TheVariants.{NewPage, NewLine, LineJust, PageJust, Font, CharSpacing, CharSpacingEnd, PageTime, Flash, FlashEnd, Fore, Back, Rect, HexChar}
@@ -75,11 +75,16 @@ no_name_of (a ∷ b ∷ rest) first second some e f none =
 pub one_name : (a b : Name) (x y : List ℕ) → (table a).name ++ x ≡ (table b).name ++ y → a ≡ b
 one_name a b x y e = same_Some a b (sym (named a x) ∙ (ap name_at e ∙ named b y))
 
--- no name of three letters without its third
-pub no_third : (octets : List ℕ) → ((rest : List ℕ) → octets ≢ 99 ∷ rest) → ending 115 octets ≡ None
-no_third [] none = refl
-no_third (third ∷ rest) none = rw (ne_eqb third 99 (λ e. none rest (ap (λ c. c ∷ rest) e))) refl
+-- no name of three letters with another second, in either case
+pub no_second : (second : ℕ) (rest : List ℕ) → second ≢ 115 → second ≢ 83 → second ≢ 102 → second ≢ 70 → ending (to_ascii_lowercase second) rest ≡ None
+no_second second [] s s2 f f2 = refl
+no_second second (third ∷ rest) s s2 f f2 = grind (arith, nat_tests)
 
-pub no_third_l : (octets : List ℕ) → ((rest : List ℕ) → octets ≢ 108 ∷ rest) → ending 102 octets ≡ None
+-- no name of three letters without its third, in either case
+pub no_third : (octets : List ℕ) → (1 ≤ length octets → (get_or octets 0 0 ≢ 99) × (get_or octets 0 0 ≢ 67)) → ending 115 (str_to_ascii_lowercase octets) ≡ None
+no_third [] none = refl
+no_third (third ∷ rest) none = let (c, c2) = none (omega arith) in grind (arith, nat_tests)
+
+pub no_third_l : (octets : List ℕ) → (1 ≤ length octets → (get_or octets 0 0 ≢ 108) × (get_or octets 0 0 ≢ 76)) → ending 102 (str_to_ascii_lowercase octets) ≡ None
 no_third_l [] none = refl
-no_third_l (third ∷ rest) none = rw (ne_eqb third 108 (λ e. none rest (ap (λ c. c ∷ rest) e))) refl
+no_third_l (third ∷ rest) none = let (l, l2) = none (omega arith) in grind (arith, nat_tests)

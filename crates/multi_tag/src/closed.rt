@@ -1,6 +1,6 @@
 //! Tags in octets behind an opening bracket, in one reading.
 
-ghost use Rattle.std.specs.Prelude.{◌≡◌, ◌≢◌, ◌≤◌, ℕ, ◌∷◌, IfSome, IfNone, Some, None};
+ghost use Rattle.std.specs.Prelude.{◌≡◌, ◌≢◌, ◌≤◌, ℕ, List, ◌∷◌, IfSome, IfNone, Some, None};
 ghost use Rattle.std.specs.Str.{str_to_ascii_lowercase};
 ghost use Rattle.multi_tag.specs.declared.name.Name.TheVariants as names;
 ghost use Rattle.multi_tag.specs.Body.{table};
@@ -9,7 +9,7 @@ ghost use Rattle.multi_tag.specs.Form.{d, d?, h};
 ghost use Rattle.multi_tag.specs.Number.{IsDigit};
 ghost use Rattle.multi_tag.specs.Part.{HasNoPartBefore, IsPartBefore, times};
 
-use crate::name::{Name, after_letter, read_name};
+use crate::name::{Name, read_name};
 use crate::number::{in_range, read_numeral};
 use crate::rect::read_before_comma;
 use crate::tag::{FontPick, Tag};
@@ -33,7 +33,7 @@ fn read_rest(octets: &[u8], name: Name) -> Option<(Tag, &[u8])>
     ensures none { IfNone result (HasNoPartBefore 93 (table name).rest (str_to_ascii_lowercase octets.now)) }
 {
     match name {
-        Name::NewPage => Some((Tag::NewPage, after_letter(octets, b']')?)),
+        Name::NewPage => Some((Tag::NewPage, after_bracket(octets)?)),
         Name::NewLine => {
             let (value, behind) = read_optional(octets, 0, 255)?;
             Some((Tag::NewLine(value), behind))
@@ -51,13 +51,13 @@ fn read_rest(octets: &[u8], name: Name) -> Option<(Tag, &[u8])>
             let (value, behind) = read_optional(octets, 0, 255)?;
             Some((Tag::CharSpacing(value?), behind))
         }
-        Name::CharSpacingEnd => Some((Tag::CharSpacingEnd, after_letter(octets, b']')?)),
+        Name::CharSpacingEnd => Some((Tag::CharSpacingEnd, after_bracket(octets)?)),
         Name::PageTime => {
             let (on, off, behind) = read_times(octets, b'o')?;
             Some((Tag::PageTime { on, off }, behind))
         }
         Name::Flash => read_flash(octets),
-        Name::FlashEnd => Some((Tag::FlashEnd, after_letter(octets, b']')?)),
+        Name::FlashEnd => Some((Tag::FlashEnd, after_bracket(octets)?)),
         Name::Fore => {
             let (value, behind) = read_optional(octets, 0, 9)?;
             Some((Tag::Fore(value), behind))
@@ -74,6 +74,18 @@ fn read_rest(octets: &[u8], name: Name) -> Option<(Tag, &[u8])>
     }
 }
 
+/// The octets behind a closing bracket, or `None` where they don't begin with it.
+#[inline(always)]
+fn after_bracket(octets: &[u8]) -> Option<&[u8]>
+    ensures some { IfSome result (λ rest. str_to_ascii_lowercase octets.now ≡ 93 ∷ str_to_ascii_lowercase rest.now) }
+    ensures none { IfNone result ((rest : List ℕ) → str_to_ascii_lowercase octets.now ≢ 93 ∷ rest) }
+{
+    match octets {
+        [b']', rest @ ..] => Some(rest),
+        _ => None,
+    }
+}
+
 /// A number from `low` to `high`, or none, before a bracket.
 #[inline(always)]
 fn read_optional(octets: &[u8], low: u8, high: u8) -> Option<(Option<u8>, &[u8])>
@@ -83,7 +95,7 @@ fn read_optional(octets: &[u8], low: u8, high: u8) -> Option<(Option<u8>, &[u8])
 {
     let (value, rest) = read_numeral(octets, 10, 5);
     let value = in_range(value, low, high)?;
-    Some((value, after_letter(rest, b']')?))
+    Some((value, after_bracket(rest)?))
 }
 
 /// A hexadecimal number of one to four digits, from `low` to 65,535, before a bracket.
@@ -95,7 +107,7 @@ fn read_hexadecimal(octets: &[u8], low: u16) -> Option<(u16, &[u8])>
 {
     let (value, rest) = read_numeral(octets, 16, 4);
     let value = value?;
-    let behind = after_letter(rest, b']')?;
+    let behind = after_bracket(rest)?;
     if value < u32::from(low) {
         return None;
     }
@@ -111,7 +123,7 @@ fn read_coordinate(octets: &[u8]) -> Option<(u32, &[u8])>
 {
     let (value, rest) = read_numeral(octets, 10, 5);
     let value = value?;
-    Some((value, after_letter(rest, b']')?))
+    Some((value, after_bracket(rest)?))
 }
 
 /// One time, or two times with this letter between them, before a bracket. The letter is given as a small one.
@@ -128,11 +140,10 @@ fn read_times(octets: &[u8], letter: u8) -> Option<(Option<u8>, Option<u8>, &[u8
     let [stop, rest @ ..] = rest else {
         return None;
     };
-    let stop = stop.to_ascii_lowercase();
-    if stop == b']' {
+    if *stop == b']' {
         return Some((first, None, rest));
     }
-    if stop != letter {
+    if stop.to_ascii_lowercase() != letter {
         return None;
     }
     let (second, behind) = read_optional(rest, 0, 255)?;
@@ -149,7 +160,7 @@ fn read_flash(octets: &[u8]) -> Option<(Tag, &[u8])>
     let [first, rest @ ..] = octets else {
         return None;
     };
-    match first.to_ascii_lowercase() {
+    match *first {
         b']' => {
             let tag = Tag::Flash {
                 off_first: false,
@@ -158,7 +169,7 @@ fn read_flash(octets: &[u8]) -> Option<(Tag, &[u8])>
             };
             Some((tag, rest))
         }
-        b't' => {
+        b't' | b'T' => {
             let (on, off, behind) = read_times(rest, b'o')?;
             let tag = Tag::Flash {
                 off_first: false,
@@ -167,7 +178,7 @@ fn read_flash(octets: &[u8]) -> Option<(Tag, &[u8])>
             };
             Some((tag, behind))
         }
-        b'o' => {
+        b'o' | b'O' => {
             let (off, on, behind) = read_times(rest, b't')?;
             let tag = Tag::Flash {
                 off_first: true,

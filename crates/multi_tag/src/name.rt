@@ -1,6 +1,6 @@
 //! The names of tags.
 
-ghost use Rattle.std.specs.Prelude.{◌≡◌, ◌≢◌, ℕ, List, ◌∷◌, ◌++◌, IfSome, IfNone};
+ghost use Rattle.std.specs.Prelude.{◌≡◌, ◌≢◌, ℕ, List, ◌++◌, IfSome, IfNone};
 ghost use Rattle.std.specs.Str.{str_to_ascii_lowercase};
 ghost use Rattle.multi_tag.specs.Body.{HasNameAtFront, table};
 
@@ -33,37 +33,22 @@ pub fn read_name(body: &[u8]) -> Option<(Name, &[u8])>
     let [first, second, rest @ ..] = body else {
         return None;
     };
-    match &[first.to_ascii_lowercase(), second.to_ascii_lowercase()] {
-        b"nl" => Some((Name::NewLine, rest)),
-        b"np" => Some((Name::NewPage, rest)),
-        b"jl" => Some((Name::LineJust, rest)),
-        b"jp" => Some((Name::PageJust, rest)),
-        b"fo" => Some((Name::Font, rest)),
-        b"sc" => Some((Name::CharSpacing, rest)),
-        b"pt" => Some((Name::PageTime, rest)),
-        b"fl" => Some((Name::Flash, rest)),
-        b"cf" => Some((Name::Fore, rest)),
-        b"pb" => Some((Name::Back, rest)),
-        b"tr" => Some((Name::Rect, rest)),
-        b"hc" => Some((Name::HexChar, rest)),
-        b"/s" => Some((Name::CharSpacingEnd, after_letter(rest, b'c')?)),
-        b"/f" => Some((Name::FlashEnd, after_letter(rest, b'l')?)),
+    // each letter in both cases, without a call: names are many
+    match (*first, *second, rest) {
+        (b'n' | b'N', b'l' | b'L', _) => Some((Name::NewLine, rest)),
+        (b'n' | b'N', b'p' | b'P', _) => Some((Name::NewPage, rest)),
+        (b'j' | b'J', b'l' | b'L', _) => Some((Name::LineJust, rest)),
+        (b'j' | b'J', b'p' | b'P', _) => Some((Name::PageJust, rest)),
+        (b'f' | b'F', b'o' | b'O', _) => Some((Name::Font, rest)),
+        (b's' | b'S', b'c' | b'C', _) => Some((Name::CharSpacing, rest)),
+        (b'p' | b'P', b't' | b'T', _) => Some((Name::PageTime, rest)),
+        (b'f' | b'F', b'l' | b'L', _) => Some((Name::Flash, rest)),
+        (b'c' | b'C', b'f' | b'F', _) => Some((Name::Fore, rest)),
+        (b'p' | b'P', b'b' | b'B', _) => Some((Name::Back, rest)),
+        (b't' | b'T', b'r' | b'R', _) => Some((Name::Rect, rest)),
+        (b'h' | b'H', b'c' | b'C', _) => Some((Name::HexChar, rest)),
+        (b'/', b's' | b'S', [b'c' | b'C', rest @ ..]) => Some((Name::CharSpacingEnd, rest)),
+        (b'/', b'f' | b'F', [b'l' | b'L', rest @ ..]) => Some((Name::FlashEnd, rest)),
         _ => None,
-    }
-}
-
-/// The octets behind a letter, or `None` where they don't begin with it. The letter is given as a small one.
-#[inline(always)]
-pub fn after_letter(octets: &[u8], letter: u8) -> Option<&[u8]>
-    ensures some { IfSome result (λ rest. str_to_ascii_lowercase octets.now ≡ letter ∷ str_to_ascii_lowercase rest.now) }
-    ensures none { IfNone result ((rest : List ℕ) → str_to_ascii_lowercase octets.now ≢ letter ∷ rest) }
-{
-    let [first, rest @ ..] = octets else {
-        return None;
-    };
-    if first.to_ascii_lowercase() == letter {
-        Some(rest)
-    } else {
-        None
     }
 }

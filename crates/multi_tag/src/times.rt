@@ -41,8 +41,8 @@ pub fn read_flash(octets: &[u8]) -> Option<Tag>
             off: None,
         });
     };
-    match first.to_ascii_lowercase() {
-        b't' => {
+    match *first {
+        b't' | b'T' => {
             let (on, off) = read_times(rest, b'o')?;
             Some(Tag::Flash {
                 off_first: false,
@@ -50,7 +50,7 @@ pub fn read_flash(octets: &[u8]) -> Option<Tag>
                 off,
             })
         }
-        b'o' => {
+        b'o' | b'O' => {
             let (off, on) = read_times(rest, b't')?;
             Some(Tag::Flash {
                 off_first: true,

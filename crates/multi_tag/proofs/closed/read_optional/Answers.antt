@@ -7,6 +7,6 @@ pub returns-in_err-value-clause-none : goal.returns-in_err-value-clause-none
 returns-in_err-value-clause-none c =
     rw c.from_residual.ensures (optional_no_part _ _ _ _ _ c.read_numeral-value.ensures (λ o behind e f. none-some o (sym (sym c.in_range.ensures ∙ c.in_err-value.was) ∙ e)))
 
-pub returns-in_err-after_letter-clause-none : goal.returns-in_err-after_letter-clause-none
-returns-in_err-after_letter-clause-none c =
-    rw c.from_residual-in_err-after_letter.ensures (optional_no_part _ _ _ _ _ c.read_numeral-value.ensures (λ o behind e f. c.in_err-after_letter.ensures.none behind f))
+pub returns-in_err-after_bracket-clause-none : goal.returns-in_err-after_bracket-clause-none
+returns-in_err-after_bracket-clause-none c =
+    rw c.from_residual-in_err-after_bracket.ensures (optional_no_part _ _ _ _ _ c.read_numeral-value.ensures (λ o behind e f. c.in_err-after_bracket.ensures.none behind f))

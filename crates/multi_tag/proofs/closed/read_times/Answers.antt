@@ -3,7 +3,7 @@ use Rattle.std.specs.Char.{to_ascii_lowercase}
 use Rattle.std.proofs.lemmas.Option.{none-some}
 use Rattle.multi_tag.specs.Form.{d?}
 use Rattle.multi_tag.specs.Part.{HasNoPartBefore}
-use Rattle.multi_tag.proofs.CutLemmas.{small_front, small_empty, empty_or_not, first_of}
+use Rattle.multi_tag.proofs.CutLemmas.{small_front, small_empty, small_bracket, bracket_alone, empty_or_not, first_of}
 use Rattle.multi_tag.proofs.FormLemmas.{before_is}
 use Rattle.multi_tag.proofs.ClosedLemmas.{times_no_part, one_time_part, two_times_part, rest_of}
 use Rattle.multi_tag.proofs.closed.read_times.Goals as goal
@@ -20,20 +20,19 @@ returns-in_default-clause-none c =
 
 pub returns-then-stop-eq93-clause-some : goal.returns-then-stop-eq93-clause-some
 returns-then-stop-eq93-clause-some c =
-    let small : to_ascii_lowercase (get_or c.read_numeral-value.result.1.now 0 0) ≡ 93 = cc in
-    let cut = rw (small_front c.read_numeral-value.result.1.now c.in-len1-up.len_at_least, small) at c.read_numeral-value.ensures in
+    let cut = rw (small_bracket c.read_numeral-value.result.1.now c.in-len1-up.len_at_least c.if-stop-eq93.true) at c.read_numeral-value.ensures in
     one_time_part _ _ _ _ (before_is 0 255 93 _ _ _ c.in_ok-first.first cut (sym c.in_range.ensures ∙ c.in_ok-first.was))
 
-pub returns-then-stop-letter-clause-none : goal.returns-then-stop-letter-clause-none
-returns-then-stop-letter-clause-none c =
+pub returns-then-to_ascii_lowercase-letter-clause-none : goal.returns-then-to_ascii_lowercase-letter-clause-none
+returns-then-to_ascii_lowercase-letter-clause-none c =
     let front = small_front c.read_numeral-value.result.1.now c.in-len1-up.len_at_least in
-    times_no_part _ _ _ _ c.read_numeral-value.ensures c.requires.letter (λ o behind e f. c.if-stop-eq93.false (c.to_ascii_lowercase-stop.ensures.value ∙ first_of (sym front ∙ f)))
-    (λ o behind e f. absurd (c.if-stop-letter.true (c.to_ascii_lowercase-stop.ensures.value ∙ first_of (sym front ∙ f))))
+    times_no_part _ _ _ _ c.read_numeral-value.ensures c.requires.letter (λ o behind e f. c.if-stop-eq93.false (bracket_alone _ (first_of (sym front ∙ f))))
+    (λ o behind e f. absurd (c.if-to_ascii_lowercase-letter.true (c.to_ascii_lowercase.ensures.value ∙ first_of (sym front ∙ f))))
 
 pub returns-in_err-second-clause-none : goal.returns-in_err-second-clause-none
 returns-in_err-second-clause-none c =
     let front = small_front c.read_numeral-value.result.1.now c.in-len1-up.len_at_least in
-    rw c.from_residual-in_err-second.ensures (times_no_part _ _ _ _ c.read_numeral-value.ensures c.requires.letter (λ o behind e f. c.if-stop-eq93.false (c.to_ascii_lowercase-stop.ensures.value ∙ first_of (sym front ∙ f)))
+    rw c.from_residual-in_err-second.ensures (times_no_part _ _ _ _ c.read_numeral-value.ensures c.requires.letter (λ o behind e f. c.if-stop-eq93.false (bracket_alone _ (first_of (sym front ∙ f))))
     (λ o behind e f. subst (HasNoPartBefore 93 (d? 0 255)) (rest_of (sym front ∙ f)) c.in_err-second.ensures.none))
 
 pub returns-clause-some : goal.returns-clause-some
