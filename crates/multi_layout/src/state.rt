@@ -80,7 +80,7 @@ impl State {
         let page_just = self.attributes.page_just;
         let stays = self.area.present == page_just;
         let line = &self.area.group.line;
-        let lengthens = stays & line.any & (line.present == character.just);
+        let lengthens = stays && line.any && line.present == character.just;
         self.area.add_character(page_just, character);
         self.limit(stays, lengthens);
     }
