@@ -1,8 +1,8 @@
 //! The texts of answers.
-ghost use Rattle.std.specs.Prelude.{◌≡◌, ◌++◌, OnOk};
+ghost use Rattle.std.specs.Prelude.{◌≡◌, ◌++◌, OnOk, codes, decimal};
 ghost use Rattle.sign_tool.specs.Reply.{pages_text, refused_text, too_long_text};
 
-use crate::ready::{Ready, push_number, push_octets, push_short};
+use crate::ready::{Ready, push_number, push_octet, push_octets, push_short};
 use std::alloc::AllocError;
 
 /// Appends how many pages an accepted string has.
@@ -23,11 +23,26 @@ pub(crate) fn push_refused(text: &mut Ready, code: u8, at: usize) -> Result<(), 
     ensures text { OnOk result (text.new.begun ≡ text.old.begun ++ refused_text code at) }
     ensures whole { text.new.whole ≡ text.old.whole }
 {
+    push_error(text, code)?;
+    push_number(text, at as u64)?;
+    push_octet(text, b'\n')
+}
+
+/// Appends the error code of a refused string, and a space.
+fn push_error(text: &mut Ready, code: u8) -> Result<(), AllocError>
+    ensures text { OnOk result (text.new.begun ≡ text.old.begun ++ (codes "error " ++ decimal code ++ codes " ")) }
+    ensures whole { text.new.whole ≡ text.old.whole }
+{
+    if code < 10 {
+        return push_short(
+            text,
+            &[b'e', b'r', b'r', b'o', b'r', b' ', b'0' + code, b' '],
+            8,
+        );
+    }
     push_octets(text, b"error ")?;
     push_number(text, u64::from(code))?;
-    push_octets(text, b" ")?;
-    push_number(text, at as u64)?;
-    push_octets(text, b"\n")
+    push_octet(text, b' ')
 }
 
 /// Appends the answer to a string with too many octets.
