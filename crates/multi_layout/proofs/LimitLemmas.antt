@@ -13,7 +13,8 @@ use Rattle.multi_layout.specs.declared.state.State.{State}
 use Rattle.multi_layout.specs.Address.{Spot, area_of, is_glyph, line_before}
 use Rattle.multi_layout.specs.Fit.{FitsWithout, fit, line_fits, room_for}
 use Rattle.multi_layout.specs.Laid.{too_big}
-use Rattle.multi_layout.specs.kept.Run.{AddsCharacter, FitsBefore, IsBehindCharacter, IsBehindOne, IsOpenArea, IsSameAbove, IsSameBefore, kept_fits, kept_height, lengthened_line}
+use Rattle.multi_layout.specs.kept.Adding.{limited_anew, AddsCharacter, IsSameAbove, IsSameBefore}
+use Rattle.multi_layout.specs.kept.Run.{FitsBefore, IsBehindCharacter, IsBehindOne, IsOpenArea, kept_fits, kept_height, lengthened_line}
 use Rattle.multi_layout.specs.kept.State.{IsLimited, group_room, segment_room}
 use Rattle.multi_layout.specs.kept.Sums.{area_sum, line_sum}
 use Rattle.multi_layout.proofs.AreaSumLemmas.{fits_character, group_of_own, placing_character, present_line}
@@ -25,19 +26,9 @@ use Rattle.multi_layout.proofs.RunLemmas.{kept_area_fits, kept_fits_is}
 -- ---- the limits where the present area is another
 
 module _ (state : State) (area : Area) (group_stays segment_stays : Bool) where
-  -- the limit of a group and of a segment that stays is kept, and else it is worked out anew
-  abbrev pub limited_anew : State
-  limited_anew = record state {
-    area = area;
-    limits = record {
-      width = if segment_stays then state.limits.width else segment_room area.group.line state.attributes.rectangle.width;
-      height = if group_stays then state.limits.height else group_room area state.attributes.rectangle.height;
-    };
-  }
-
   pub limited_again : (group_stays ≡ true → IsSameAbove state.area area)
       → (segment_stays ≡ true → area.group.line.any ≡ true → (state.area.group.line.any ≡ true) × IsSameBefore state.area.group.line area.group.line)
-      → IsLimited state → IsLimited limited_anew
+      → IsLimited state → IsLimited (limited_anew state area group_stays segment_stays)
   limited_again above before limited = record {
     width = λ any. elim (cases_Bool segment_stays) [
       | inl stays ↦

@@ -9,7 +9,8 @@ ghost use Rattle.multi_layout.specs.Fit.{area_fits, fit};
 ghost use Rattle.multi_layout.specs.Laid.{too_big};
 ghost use Rattle.multi_layout.specs.Line.{average, height_of};
 ghost use Rattle.multi_layout.specs.Offence.{clashes, conflicts};
-ghost use Rattle.multi_layout.specs.kept.Run.{IsBehindOne, IsOpen, IsOpenArea, IsSameAbove, IsSameBefore, kept_fits_height, kept_group_height, kept_height, lengthened_area};
+ghost use Rattle.multi_layout.specs.kept.Adding.{IsSameAbove, IsSameBefore};
+ghost use Rattle.multi_layout.specs.kept.Run.{IsBehindOne, IsOpen, IsOpenArea, kept_fits_height, kept_group_height, kept_height, lengthened_area};
 ghost use Rattle.multi_layout.specs.kept.State.{group_room};
 ghost use Rattle.multi_layout.specs.kept.Sums.{group_sum, area_sum, area_sum_in, IsPlacing, IsCharacter, IsBreak, IsGroupBelow, IsBelow};
 

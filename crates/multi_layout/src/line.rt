@@ -1,13 +1,14 @@
 //! The running sums of a line's characters.
 
-ghost use Rattle.std.specs.Prelude.{◌≡◌, ℕ, ◌+◌, ◌^◌, ◌<◌, ◌≤◌, true, false, nat_le, if◌then◌else◌, length, Some, List, [], ◌∷◌, ◌++◌};
+ghost use Rattle.std.specs.Prelude.{◌≡◌, ℕ, ◌+◌, ◌^◌, ◌<◌, ◌≤◌, true, false, if◌then◌else◌, length, Some, List, [], ◌∷◌, ◌++◌};
 ghost use Rattle.std.specs.List.{AllPass, list_any};
 ghost use Rattle.std.specs.Option.{option_map_or, unwrap_or};
 ghost use Rattle.multi_layout.specs.Address.{Spot, is_glyph, segment};
 ghost use Rattle.multi_layout.specs.Fit.{fit, line_fits, room_for};
 ghost use Rattle.multi_layout.specs.Line.{average, width_of};
 ghost use Rattle.multi_layout.specs.Offence.{clashes};
-ghost use Rattle.multi_layout.specs.kept.Run.{IsBehindOne, IsOpen, IsSameBefore, kept_fits, kept_width, lengthened_line};
+ghost use Rattle.multi_layout.specs.kept.Adding.{IsSameBefore};
+ghost use Rattle.multi_layout.specs.kept.Run.{IsBehindOne, IsOpen, kept_fits, kept_width, lengthened_line};
 ghost use Rattle.multi_layout.specs.kept.State.{segment_room};
 ghost use Rattle.multi_layout.specs.kept.Sums.{segment_sum, line_sum, line_sum_in, IsCharacter, IsSegmentBelow, IsLineBelow};
 

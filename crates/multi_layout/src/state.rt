@@ -1,6 +1,6 @@
 //! What is kept of the items that were read.
 
-ghost use Rattle.std.specs.Prelude.{◌≡◌, ℕ, ◌+◌, ◌*◌, ◌^◌, ◌≤◌, if◌then◌else◌, []};
+ghost use Rattle.std.specs.Prelude.{◌≡◌, ℕ, ◌+◌, ◌*◌, ◌^◌, ◌≤◌, []};
 ghost use Rattle.sign_font.specs.Sound.{IsSound};
 
 use crate::area::Area;
@@ -35,9 +35,9 @@ impl State {
     ghost use Rattle.sign_font.specs.Sign.{SignData, cell_in};
     ghost use Rattle.multi_layout.specs.Meaning.{Does, Meaning, Shows};
     ghost use Rattle.multi_layout.specs.Offence.{unsized_offence};
-    ghost use Rattle.multi_layout.specs.kept.Run.{AddsBreak, AddsCharacter};
+    ghost use Rattle.multi_layout.specs.kept.Adding.{AddsBreak, AddsCharacter, limited_anew};
     ghost use Rattle.multi_layout.specs.kept.Sums.{IsBelow};
-    ghost use Rattle.multi_layout.specs.kept.State.{IsLimited, IsReady, IsStateOf, group_room, segment_room, whole_times};
+    ghost use Rattle.multi_layout.specs.kept.State.{IsLimited, IsReady, IsStateOf, whole_times};
 
     /// The state before the first item.
     pub(crate) fn new(sign: &Terms<'_>) -> State
@@ -101,12 +101,7 @@ impl State {
     #[inline(always)]
     fn limit(&mut self, group_stays: bool, segment_stays: bool)
         requires below { IsBelow (2 ^ 62 + 1024) self.old.area }
-        ensures { self.new ≡ record self.old {
-          limits = record {
-            width = if segment_stays then self.old.limits.width else segment_room self.old.area.group.line self.old.attributes.rectangle.width;
-            height = if group_stays then self.old.limits.height else group_room self.old.area self.old.attributes.rectangle.height;
-          };
-        } }
+        ensures { self.new ≡ limited_anew self.old self.old.area group_stays segment_stays }
     {
         let Rectangle { width, height, .. } = self.attributes.rectangle;
         if !segment_stays {

@@ -23,6 +23,7 @@ pub(crate) enum FirstLine {
 }
 
 /// Where the first line feed is, if there is one. The first `seen` octets have none.
+#[inline(always)]
 pub(crate) fn line_end(octets: &[u8], seen: usize) -> Option<usize>
     requires seen { seen ≤ length octets.now }
     requires none { IsOneLine (take seen octets.now) }
@@ -36,6 +37,7 @@ pub(crate) fn line_end(octets: &[u8], seen: usize) -> Option<usize>
 }
 
 /// Answers the first line if it ends here, and adds its answer to those that are ready. The first `seen` octets have no line feed.
+#[inline(always)]
 pub(crate) fn answer_first<A: Answer>(
     answer: &mut A,
     octets: &[u8],

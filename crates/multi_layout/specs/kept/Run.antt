@@ -1,6 +1,6 @@
 -- A run: characters behind one with the same attributes, which only lengthen their segment.
-use Rattle.std.specs.Prelude.{◌≡◌, ℕ, ◌+◌, ◌-◌, ◌≤◌, Bool, true, false, ◌&&◌, ◌==◌, nat_le, nat_lt, List, [], ◌∷◌, ◌++◌, Option, Some, length, slice_range, if◌then◌else◌}
-use Rattle.std.specs.List.{All, after_last, list_any}
+use Rattle.std.specs.Prelude.{◌≡◌, ℕ, ◌+◌, ◌-◌, ◌≤◌, Bool, true, false, ◌&&◌, ◌==◌, nat_le, nat_lt, List, Some, length, slice_range, if◌then◌else◌}
+use Rattle.std.specs.List.{All}
 use Rattle.std.specs.Option.{option_map_or, unwrap_or}
 use Rattle.multi_token.specs.Spelling.{IsPlain}
 use Rattle.sign_font.specs.declared.font.FontInfo.{FontInfo}
@@ -8,16 +8,12 @@ use Rattle.sign_font.specs.Sign.{SignData}
 use Rattle.sign_font.specs.Text.{HasWidth, width_in}
 use Rattle.multi_layout.specs.declared.area.Area.{Area}
 use Rattle.multi_layout.specs.declared.area.Group.{Group}
-use Rattle.multi_layout.specs.declared.line.Character.{Character}
 use Rattle.multi_layout.specs.declared.line.Line.{Line}
 use Rattle.multi_layout.specs.declared.state.State.{State}
-use Rattle.multi_layout.specs.Address.{Spot, in_group, is_break}
 use Rattle.multi_layout.specs.Fit.{fit}
 use Rattle.multi_layout.specs.Line.{average}
 use Rattle.multi_layout.specs.Meaning.{Meaning}
-use Rattle.multi_layout.specs.Offence.{clashes}
-use Rattle.multi_layout.specs.kept.State.{IsLimited, IsStateOf}
-use Rattle.multi_layout.specs.kept.Sums.{IsBelow, IsBreak, IsCharacter, IsPlacing, area_sum}
+use Rattle.multi_layout.specs.kept.State.{IsStateOf}
 
 -- the width of the characters with a line justification, by what is kept of the line: left 2, centre 3, right 4, full 5 (own)
 abbrev pub kept_width : ℕ → Line → ℕ
@@ -70,18 +66,6 @@ IsOpen just line = (line.present ≤ just) × (just ≡ 5 → line.has_parts ≡
 abbrev pub IsOpenArea : ℕ → ℕ → Area → Type 0
 IsOpenArea page_just just area = (area.present ≤ page_just) × (area.present ≡ page_just → IsOpen just area.group.line)
 
--- a line has the present segment of another, and the same segments before it (own)
-pub record IsSameBefore (old new : Line) : Type 0 where
-  pub present : new.present ≡ old.present
-  pub left : new.left ≡ old.left
-  pub centre : new.centre ≡ old.centre
-
--- an area has the present group of another, and the same groups before it (own)
-pub record IsSameAbove (old new : Area) : Type 0 where
-  pub present : new.present ≡ old.present
-  pub top : new.top ≡ old.top
-  pub middle : new.middle ≡ old.middle
-
 -- the last character of a line has this line justification and font (own)
 pub record IsBehindOne (just : ℕ) (font : FontInfo) (line : Line) : Type 0 where
   pub segment : line.present ≡ just
@@ -90,27 +74,6 @@ pub record IsBehindOne (just : ℕ) (font : FontInfo) (line : Line) : Type 0 whe
   pub height : font.height ≤ line.height
   pub spacing : font.line_spacing ≤ line.spacing
   pub last : line.part.last ≡ Some font.char_spacing
-
--- the new state is the old one with one more character, and its limits are known where they were; no number grows by more than 1,024, and
--- where the character doesn't conflict it is the last one then (own)
-pub record AddsCharacter (old : State) (character : Character) (new : State) : Type 0 where
-  pub sum : (area : List Spot) (s : Spot) → All IsPlacing area → old.area ≡ area_sum area → IsCharacter s character
-      → s.at.page_just ≡ old.attributes.page_just → old.area.present ≤ old.attributes.page_just
-      → list_any (clashes s) (after_last is_break (in_group old.attributes.page_just area)) ≡ false → new.area ≡ area_sum (area ++ s ∷ [])
-  pub grows : (k : ℕ) → IsBelow k old.area → IsBelow (k + 1024) new.area
-  pub behind : IsOpenArea old.attributes.page_just character.just old.area
-      → (new.area.present ≡ old.attributes.page_just) × IsBehindOne character.just character.font new.area.group.line
-  pub same : new ≡ record old { area = new.area; limits = new.limits }
-  pub limited : IsLimited old → IsLimited new
-
--- the new state is the old one with one more end of a line, which gave this gap, and its limits are known where they were; no number grows
--- by more than 1,024 (own)
-pub record AddsBreak (old : State) (gap : Option ℕ) (new : State) : Type 0 where
-  pub sum : (area : List Spot) (s : Spot) → All IsPlacing area → old.area ≡ area_sum area → IsBreak s gap old.attributes.font
-      → s.at.page_just ≡ old.attributes.page_just → old.area.present ≤ old.attributes.page_just → new.area ≡ area_sum (area ++ s ∷ [])
-  pub grows : (k : ℕ) → IsBelow k old.area → IsBelow (k + 1024) new.area
-  pub same : new ≡ record old { area = new.area; limits = new.limits }
-  pub limited : IsLimited old → IsLimited new
 
 -- a group whose present segment has this width and number of characters (own)
 abbrev pub lengthened_group : ℕ → ℕ → Group → Group

@@ -1,6 +1,6 @@
 use Rattle.std.proofs.Common.{◌^◌, ◌==◌, true, refl, subst, sym, ◌∙◌}
 use Rattle.std.proofs.lemmas.Bool.{eqb-true, false≢true}
-use Rattle.multi_layout.specs.kept.Run.{AddsBreak}
+use Rattle.multi_layout.specs.kept.Adding.{AddsBreak}
 use Rattle.multi_layout.proofs.LimitLemmas.{limited_again}
 use Rattle.multi_layout.proofs.state.State.add_break.Goals as goal
 

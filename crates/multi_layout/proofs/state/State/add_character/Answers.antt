@@ -1,6 +1,6 @@
 use Rattle.std.proofs.Common.{◌≡◌, ◌^◌, ◌==◌, true, refl, subst, sym, ◌∙◌}
 use Rattle.std.proofs.lemmas.Bool.{eqb-true, false≢true}
-use Rattle.multi_layout.specs.kept.Run.{AddsCharacter, IsSameBefore}
+use Rattle.multi_layout.specs.kept.Adding.{AddsCharacter, IsSameBefore}
 use Rattle.multi_layout.proofs.LimitLemmas.{limited_again}
 use Rattle.multi_layout.proofs.state.State.add_character.Goals as goal
 use Rattle.multi_layout.proofs.state.State.add_character.Goals.{else-line, else-stays, then-line, then-stays}
