@@ -2,6 +2,7 @@ mod CodeExamples
 pub mod CrcLemmas
 mod LimitExamples
 pub mod LimitsLemmas
+pub mod MoveLemmas
 pub mod PlaceLemmas
 pub mod PoolLemmas
 pub mod RegisterLemmas

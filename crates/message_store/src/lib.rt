@@ -13,6 +13,7 @@ mod fault;
 mod judge;
 mod limits;
 mod message;
+mod moves;
 mod parts;
 mod places;
 mod reserved;

@@ -4,6 +4,7 @@ ghost use Rattle.std.specs.Prelude.{◌≡◌, ◌+◌, ◌-◌, ◌≤◌, ◌+
 ghost use Rattle.std.specs.Vec.{vec_capacity};
 ghost use Rattle.message_store.specs.kept.Pool.{Reserve};
 
+use crate::moves::{move_back, move_up};
 use std::alloc::{AllocError, Global};
 use std::marker::Model;
 
@@ -40,9 +41,7 @@ fn close_from_front(memory: &mut Vec<u8>, front: usize, start: usize, len: usize
     ensures count { length memory.new.items ≡ length memory.old.items }
     ensures capacity { vec_capacity memory.new ≡ vec_capacity memory.old }
 {
-    memory
-        .as_mut_slice()
-        .copy_within(front..front + start, front + len);
+    move_back(memory.as_mut_slice(), front, front + len, start);
 }
 
 /// Takes out the `len` octets from `start` on. What stands behind them moves up.
@@ -52,8 +51,9 @@ fn close_gap(octets: &mut Vec<u8>, start: usize, len: usize)
     ensures capacity { vec_capacity octets.new ≡ vec_capacity octets.old }
 {
     let behind = start + len;
-    octets.as_mut_slice().copy_within(behind.., start);
-    octets.truncate(octets.len() - len);
+    let count = octets.len() - behind;
+    move_up(octets.as_mut_slice(), behind, start, count);
+    octets.truncate(start + count);
 }
 
 /// Closes a gap of `len` octets, `start` octets after the front: what stands behind it moves up.
@@ -73,8 +73,9 @@ fn settle(memory: &mut Vec<u8>, front: usize)
     ensures octets { memory.new.items ≡ drop front memory.old.items }
     ensures capacity { vec_capacity memory.new ≡ vec_capacity memory.old }
 {
-    memory.as_mut_slice().copy_within(front.., 0);
-    memory.truncate(memory.len() - front);
+    let count = memory.len() - front;
+    move_up(memory.as_mut_slice(), front, 0, count);
+    memory.truncate(count);
 }
 
 /// Appends a text, within the memory that is there.
