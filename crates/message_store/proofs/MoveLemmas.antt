@@ -1,8 +1,8 @@
 -- Octets that are copied within memory, part by part.
-use Rattle.std.proofs.Common.{◌≡◌, ℕ, ◌+◌, ◌-◌, ◌≤◌, List, ◌++◌, take, drop, length, sym, ap, ◌∙◌, arith, length-append, length-drop, append_assoc}
+use Rattle.std.proofs.Common.{◌≡◌, ℕ, ◌+◌, ◌-◌, ◌≤◌, List, ◌++◌, take, drop, length, sym, ap, ◌∙◌, arith, length-drop, append_assoc}
 use Rattle.std.specs.List.{copy_within}
 use Rattle.std.proofs.Math.Seq.{paste, take-add}
-use Rattle.std.proofs.lemmas.List.{drop-append-le, drop-drop, drop_at, length-take-le, take-append-le, take-take, take_at, drop-take}
+use Rattle.std.proofs.lemmas.List.{drop-drop, drop_at, length-take-le, take-append-le, take-take, drop-take}
 use Rattle.std.proofs.lemmas.List.Edits.{drop-paste, take-paste}
 
 -- the same octets of a list and of what stands before others

@@ -59,23 +59,6 @@ fn put_in(pool: &mut Reserved, text: &[u8]) -> Span
     }
 }
 
-/// Replaces a text that is empty or has another length.
-fn replace_whole(places: &mut Places, pool: &mut Reserved, index: usize, text: &[u8])
-    requires index { index < length places.old }
-    requires placed { ArePlaced places.old (length pool.old.octets) }
-    requires held { (length pool.old.octets ≤ pool.old.room) × (pool.old.room < 2 ^ 32) }
-    requires room { length pool.old.octets + length text.now ≤ pool.old.room + (span_at places.old index).len }
-    ensures texts { map (text_in pool.new.octets) places.new ≡ slice_set (map (text_in pool.old.octets) places.old) index text.now }
-    ensures placed { ArePlaced places.new (length pool.new.octets) }
-    ensures count { length pool.new.octets + (span_at places.old index).len ≡ length pool.old.octets + length text.now }
-    ensures room { pool.new.room ≡ pool.old.room }
-{
-    let span = places.get(index);
-    take_out(places, pool, span);
-    let span = put_in(pool, text);
-    places.put(index, span);
-}
-
 /// Replaces the text of an index.
 fn replace_at(places: &mut Places, pool: &mut Reserved, index: usize, text: &[u8])
     requires index { index < length places.old }
@@ -87,12 +70,14 @@ fn replace_at(places: &mut Places, pool: &mut Reserved, index: usize, text: &[u8
     ensures count { length pool.new.octets + (span_at places.old index).len ≡ length pool.old.octets + length text.now }
     ensures room { pool.new.room ≡ pool.old.room }
 {
-    let Span { start, len } = places.get(index);
-    if len == text.len() {
-        pool.put_over(start, text);
-    } else {
-        replace_whole(places, pool, index, text);
+    let span = places.get(index);
+    if span.len == text.len() {
+        pool.put_over(span.start, text);
+        return;
     }
+    take_out(places, pool, span);
+    let span = put_in(pool, text);
+    places.put(index, span);
 }
 
 impl Texts {

@@ -1,4 +1,4 @@
-use Rattle.std.proofs.Common.{◌≡◌, ◌+◌, ◌-◌, ◌≤◌, length, arith}
+use Rattle.std.proofs.Common.{◌+◌, ◌-◌, ◌≤◌, length, arith}
 use Rattle.message_store.proofs.MoveLemmas.{moved-up}
 use Rattle.message_store.proofs.moves.move_up.Goals as goal
 
@@ -7,8 +7,7 @@ loop-moved-preserved c =
     let loop = c.loop-moved in
     let all = loop.moved + 4096 in
     let below : all ≤ c.args.len = omega (arith, c.loop-moved-test.true, loop.invariant.0) in
-    let within : c.args.from + all ≤ length c.args.memory.now = omega (arith, c.requires.within, below) in
-    (
+    let within : c.args.from + all ≤ length c.args.memory.now = omega (arith, c.requires.within, below) in (
       below,
       moved-up c.args.memory.now loop.memory c.move_part.new.memory c.args.from c.args.to loop.moved 4096 all c.requires.before within (omega arith) loop.invariant.1 c.move_part.ensures,
     )
