@@ -1,8 +1,9 @@
 //! Octets in hexadecimal.
 
-ghost use Rattle.std.specs.Prelude.{◌≡◌};
+ghost use Rattle.std.specs.Prelude.{◌≡◌, if◌then◌else◌, Some, None, length};
 ghost use Rattle.std.specs.Option.{option_copied};
-ghost use Rattle.sign_script.specs.Fields.{last_octets};
+ghost use Rattle.hex.specs.Hex.{decode_sized};
+ghost use Rattle.sign_script.specs.Fields.{if_decoded, last_octets};
 ghost use Rattle.sign_script.specs.kept.Hexadecimal.{digit_value, pair_of};
 
 /// What each octet writes as a digit, in either case, and 16 where it is none.
@@ -40,22 +41,30 @@ fn pair_of(high: u8, low: u8) -> Option<u8>
     }
 }
 
+/// Reads as many octets as there is room for, where the digits write just these. It answers whether they do.
+pub(crate) fn read_octets(digits: &[u8], octets: &mut [u8]) -> bool
+    ensures { if_decoded (decode_sized digits.now (length octets.old)) ≡ (if result then Some octets.new else None) }
+{
+    if digits.len() / 2 != octets.len() || digits.len() % 2 == 1 {
+        return false;
+    }
+    for index in 0..octets.len() {
+        let Some(octet) = pair_of(digits[2 * index], digits[2 * index + 1]) else {
+            return false;
+        };
+        octets[index] = octet;
+    }
+    true
+}
+
 /// The `N` octets, in hexadecimal, that are all that is left of a line.
 pub(crate) fn last_octets<const N: usize>(rest: Option<&[u8]>) -> Option<[u8; N]>
     ensures { result ≡ last_octets N (option_copied rest.entry) }
 {
-    let Some(digits) = rest else {
-        return None;
-    };
-    if digits.len() / 2 != N || digits.len() % 2 == 1 {
-        return None;
-    }
     let mut octets = [0; N];
-    for index in 0..N {
-        let Some(octet) = pair_of(digits[2 * index], digits[2 * index + 1]) else {
-            return None;
-        };
-        octets[index] = octet;
+    if read_octets(rest?, &mut octets) {
+        Some(octets)
+    } else {
+        None
     }
-    Some(octets)
 }

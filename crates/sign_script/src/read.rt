@@ -11,7 +11,7 @@ use crate::ask::{Ask, LineFault};
 use crate::fields::{
     at_end, last_message, last_number, last_octet, message_value, next_message, parted, text_of,
 };
-use crate::hexadecimal::last_octets;
+use crate::hexadecimal::{last_octets, read_octets};
 use crate::verb::{Verb, field_of};
 use message_store::MsgRef;
 use sign_control::Command;
@@ -21,13 +21,13 @@ fn octets_of<'a>(digits: &[u8], octets: &'a mut Vec<u8>) -> Result<&'a [u8], Lin
     ensures read { Gives (λ read. read.now) result (octets_of digits.now) }
     ensures memory { result ≡ Err LineFault.Memory → 2 * vec_capacity octets.old < length digits.now }
 {
-    if octets.resize_with(digits.len() / 2, || 0).is_err() {
+    if octets.resize(digits.len() / 2, 0).is_err() {
         return Err(LineFault::Memory);
     }
-    match hex::decode_to_slice(digits, octets) {
-        Ok(()) => Ok(octets),
-        Err(_) => Err(LineFault::Bad),
+    if !read_octets(digits, octets) {
+        return Err(LineFault::Bad);
     }
+    Ok(octets)
 }
 
 /// The message that the next two fields name, and the octets that the rest of the line writes in hexadecimal.
