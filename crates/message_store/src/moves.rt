@@ -3,11 +3,12 @@
 ghost use Rattle.std.specs.Prelude.{◌≡◌, ◌+◌, ◌≤◌, length};
 ghost use Rattle.std.specs.List.{copy_within};
 
-/// The octets that are moved at once, at most.
+/// The octets that are moved at once, at most: a longer `memmove` to the front can go octet by octet.
 const PART: usize = 4096;
 
-/// Copies a part to another place, which it may overlap. By an array, as the compiler makes one call of it, which moves
-/// more octets at once than a loop does.
+/// Copies a part to another place, which it may overlap.
+///
+/// It goes through an array that the compiler leaves out: both copies become one `memmove`, for speed.
 fn move_part(memory: &mut [u8], from: usize, to: usize, len: usize)
     requires short { len ≤ 4096 }
     requires within { (from + len ≤ length memory.old) × (to + len ≤ length memory.old) }
