@@ -1,7 +1,8 @@
 -- The octets of a block, and its first line.
 use Rattle.std.proofs.Common.{◌≡◌, ◌≢◌, ℕ, zero, suc, Bool, slice_index, ⊎_elim, ◌+◌, ◌-◌, ◌<◌, ◌≤◌, ◌==◌, List, [], ◌∷◌, ◌++◌, Option, None, Some, Ok, Err, length, take, drop, get_or, slice_range, refl, sym, ap, ◌∙◌, subst, arith, append_assoc, append-nil, take-append-drop}
 use Rattle.std.proofs.lemmas.Bool.{cases_Bool, cases_eq, cond-false, cond-true, eqb-true, false≢true}
-use Rattle.std.proofs.lemmas.List.{drop-append-le, drop-drop, drop-take, drop_more, get_or-drop, get_or-take, length-append, length-drop, length-take, take-append-le, take_all, take_at}
+use Rattle.std.specs.List.{copy_within}
+use Rattle.std.proofs.lemmas.List.{drop-append-le, drop-drop, drop-take, drop_more, get_or-drop, get_or-take, length-append, length-drop, length-take, length-take-le, take-append-le, take-take, take_all}
 use Rattle.std.proofs.lemmas.List.Elements.{All-append, All-from_get_or}
 use Rattle.std.proofs.Math.Seq.{take-add, take-append-add}
 use Rattle.std.specs.Io.KnownBytes.{Consumes, IsAtEnd, Keeps, prepend_known}
@@ -43,13 +44,14 @@ added octets read rest start end count ordered fits few =
     ∙ ap (λ l. held ++ l) (take-append-le count read rest few)
 
 -- what waits up to the end of the block stands at its front once that is moved there
-pub moved : (octets : List ℕ) (start end : ℕ) → start ≤ end → end ≡ length octets → slice_range (drop start octets ++ take start octets) 0 (end - start) ≡ slice_range octets start end
+pub moved : (octets : List ℕ) (start end : ℕ) → start ≤ end → end ≤ length octets → slice_range (copy_within octets start (length octets) 0) 0 (end - start) ≡ slice_range octets start end
 moved octets start end ordered all =
-    let none : end - start - 0 ≡ end - start = omega arith in
-    let size : length (drop start octets) ≡ end - start = omega (arith, length-drop start octets) in
-    ap (λ n. take n (drop start octets ++ take start octets)) none
-    ∙ take_at (drop start octets) (take start octets) (end - start) size
-    ∙ sym (take_all (end - start) (drop start octets) (omega (arith, size)))
+    let count = length octets - start in
+    let waiting = drop start octets in
+    let size : length (take count waiting) ≡ count = length-take-le count waiting (omega (arith, length-drop start octets)) in
+    ap (λ n. take n (copy_within octets start (length octets) 0)) (let none : end - start - 0 ≡ end - start = omega arith in none)
+    ∙ take-append-le (end - start) (take count waiting) (drop (0 + count) octets) (omega (arith, size, ordered, all))
+    ∙ take-take (end - start) count waiting (omega (arith, all))
 
 -- ---- the first line feed
 

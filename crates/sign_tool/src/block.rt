@@ -84,7 +84,7 @@ impl Block {
     {
         if self.end == BLOCK {
             // There is no room after the octets that wait, so they move to the front.
-            self.octets.rotate_left(self.start);
+            self.octets.copy_within(self.start.., 0);
             self.end -= self.start;
             self.start = 0;
         }

@@ -5,25 +5,23 @@ ghost use Rattle.hex.specs.Hex.{encode_lower};
 ghost use Rattle.message_store.specs.Row.{data_of, row_result};
 ghost use Rattle.sign_tool.specs.Replies.{asked_text, crc_text, defaults_text, errors_text, fault_text, fields_text, numbers_text, octets_text, reply_text, report_text, row_reply, shown_text, table_text};
 
-use crate::ready::{Ready, push_number, push_octets};
+use crate::ready::{Ready, make_room, push_number, push_octets};
 use message_store::{MsgRef, Row, StoreFault};
 use sign_control::{Reply, Report};
 use sign_font::Defaults;
 use std::alloc::AllocError;
 
 /// Appends octets in hexadecimal.
-#[tactic(auto, unfolding(hex::specs::Hex::encode_with))]
 pub(crate) fn push_hex(text: &mut Ready, octets: &[u8]) -> Result<(), AllocError>
     ensures text { OnOk result (text.new.begun ≡ text.old.begun ++ encode_lower octets.now) }
     ensures whole { text.new.whole ≡ text.old.whole }
 {
-    for octet in octets {
-        let mut pair = [0; 2];
-        let Ok(()) = hex::encode_to_slice([*octet], &mut pair) else {
-            unreachable!();
-        };
-        push_octets(text, &pair)?;
-    }
+    let end = text.len.saturating_add(2 * octets.len());
+    make_room(&mut text.octets, end)?;
+    let Ok(()) = hex::encode_to_slice(octets, &mut text.octets[text.len..end]) else {
+        unreachable!();
+    };
+    text.len = end;
     Ok(())
 }
 

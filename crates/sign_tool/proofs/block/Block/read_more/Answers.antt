@@ -9,7 +9,7 @@ returns-in-Ok g c =
     let old = c.self.inside in
     let held : slice_range c.if-self-eq-BLOCK.self-inside.octets c.if-self-eq-BLOCK.self-inside.start c.if-self-eq-BLOCK.self-inside.end ≡ c.args.self.now = elim c.if-self-eq-BLOCK.branch [
       | then-self-eq-BLOCK w ↦ rw w.self-inside-is
-          (ap (λ l. slice_range l 0 (old.end - old.start)) w.rotate_left.ensures.after ∙ BlockLemmas.moved old.octets old.start old.end (omega arith) (omega arith) ∙ c.self.view_is)
+          (ap (λ l. slice_range l 0 (old.end - old.start)) w.copy_within.ensures.after ∙ BlockLemmas.moved old.octets old.start old.end (omega arith) (omega arith) ∙ c.self.view_is)
       | else-self-eq-BLOCK w ↦ rw w.self-inside-is c.self.view_is
     ] in
     let ordered : c.if-self-eq-BLOCK.self-inside.start ≤ c.if-self-eq-BLOCK.self-inside.end = elim c.if-self-eq-BLOCK.branch [
