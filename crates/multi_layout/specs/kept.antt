@@ -12,6 +12,7 @@ pub mod Judging
 pub mod KnownItem
 pub mod PageDrawing
 pub mod PassState
+pub mod Placing
 pub mod Run
 pub mod RunDrawing
 pub mod State

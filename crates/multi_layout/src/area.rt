@@ -12,7 +12,7 @@ ghost use Rattle.multi_layout.specs.Offence.{clashes, conflicts};
 ghost use Rattle.multi_layout.specs.kept.Adding.{IsSameAbove, IsSameBefore};
 ghost use Rattle.multi_layout.specs.kept.Run.{IsBehindOne, IsOpen, IsOpenArea, kept_fits_height, kept_group_height, kept_height, lengthened_area};
 ghost use Rattle.multi_layout.specs.kept.State.{group_room};
-ghost use Rattle.multi_layout.specs.kept.Sums.{group_sum, area_sum, area_sum_in, IsPlacing, IsCharacter, IsBreak, IsGroupBelow, IsBelow};
+ghost use Rattle.multi_layout.specs.kept.Sums.{clashes_in, group_sum, area_sum, area_sum_in, IsPlacing, IsCharacter, IsBreak, IsGroupBelow, IsBelow};
 
 use crate::line::{Character, Line, gap_or_average, parts_fit, room_for};
 use sign_font::FontInfo;
@@ -72,7 +72,7 @@ impl Group {
         requires known { character.now.just ≤ 5 }
         requires below { IsGroupBelow (2 ^ 62) self.old }
         ensures sum { (just : ℕ) (area : List Spot) (s : Spot) → All IsPlacing area → self.old ≡ group_sum (in_group just area)
-            → IsCharacter s character.now → s.at.page_just ≡ just → list_any (clashes s) (after_last is_break (in_group just area)) ≡ false
+            → IsCharacter s character.now → s.at.page_just ≡ just → clashes_in just area s ≡ false
             → self.new ≡ group_sum (in_group just (area ++ s ∷ [])) }
         ensures grows { (k : ℕ) → IsGroupBelow k self.old → IsGroupBelow (k + 1024) self.new }
         ensures behind { IsOpen character.now.just self.old.line → IsBehindOne character.now.just character.now.font self.new.line }
@@ -147,7 +147,7 @@ impl Area {
         requires below { IsBelow (2 ^ 62) self.old }
         ensures sum { (area : List Spot) (s : Spot) → All IsPlacing area → self.old ≡ area_sum area
             → IsCharacter s character.now → s.at.page_just ≡ page_just → self.old.present ≤ page_just
-            → list_any (clashes s) (after_last is_break (in_group page_just area)) ≡ false → self.new ≡ area_sum (area ++ s ∷ []) }
+            → clashes_in page_just area s ≡ false → self.new ≡ area_sum (area ++ s ∷ []) }
         ensures grows { (k : ℕ) → IsBelow k self.old → IsBelow (k + 1024) self.new }
         ensures behind { IsOpenArea page_just character.now.just self.old
             → (self.new.present ≡ page_just) × IsBehindOne character.now.just character.now.font self.new.group.line }

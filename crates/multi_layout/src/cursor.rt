@@ -3,9 +3,9 @@
 ghost use Rattle.std.specs.Prelude.{◌≡◌, false, None, ℕ, ◌+◌, ◌-◌, ◌*◌, ◌<◌, ◌≤◌, ◌⊎◌, ◌^◌, [], ◌∷◌, ◌++◌, List, Some, IfSome, IfNone, length, slice_get};
 ghost use Rattle.multi_token.specs.Counted.{RisesBetween};
 ghost use Rattle.multi_token.specs.Spelling as spelled;
-ghost use Rattle.sign_font.specs.Cell.{SizedCell};
-ghost use Rattle.sign_font.specs.Sign.{SignData, cell_in};
+ghost use Rattle.sign_font.specs.Sign.{SignData};
 ghost use Rattle.sign_font.specs.Sound.{IsSound};
+ghost use Rattle.sign_font.specs.Text.{width_in};
 ghost use Rattle.multi_layout.specs.kept.KnownItem.{IsKnownItem, meant_by};
 ghost use Rattle.multi_layout.specs.Meaning.{Meaning, has_place};
 ghost use Rattle.multi_layout.specs.Offence.{unsized_offence};
@@ -187,10 +187,8 @@ impl Cursor {
     pub(crate) fn pass_character(&mut self, number: u16, width: u8, len: usize)
         requires { (sign : SignData) × (octets : List ℕ)
             × IsBefore sign octets (record { item = KnownItem.Char number; len = len }) self.old }
-        ensures passed { (sign : SignData) (octets : List ℕ) (before rest : List LaidItem) (item : LaidItem) (cell : SizedCell)
-            → IsBetween sign octets before (item ∷ rest) self.old → IsRead item (record { item = KnownItem.Char number; len = len })
-            → cell_in sign self.old.state.attributes.font.number number ≡ Some cell → width ≡ cell.width
-            → IsBetween sign octets (before ++ item ∷ []) rest self.new }
+        ensures passed { (sign : SignData) (octets : List ℕ) → width_in sign self.old.state.attributes.font.number number ≡ Some width
+            → GoesBehind sign octets (record { item = KnownItem.Char number; len = len }) self.old self.new }
         ensures at { self.new.at ≡ self.old.at + len }
     {
         self.state.pass_character(width);

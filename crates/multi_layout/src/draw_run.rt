@@ -7,7 +7,7 @@ ghost use Rattle.sign_font.specs.declared.parts.LineFill.TheVariants.{Off};
 ghost use Rattle.multi_layout.specs.kept.AreaDrawing.{IsFilledBy};
 ghost use Rattle.multi_layout.specs.kept.Cursors.{LaidItem};
 ghost use Rattle.multi_layout.specs.kept.Run.{IsBehindCharacter};
-ghost use Rattle.multi_layout.specs.kept.RunDrawing.{AreaSoFar, IsReadBehind, IsRunHere, cursor_behind, octets_read};
+ghost use Rattle.multi_layout.specs.kept.RunDrawing.{DrawsRun, IsReadBehind, IsRunHere, cursor_behind, octets_read};
 ghost use Rattle.multi_layout.specs.Pages.{IsSized};
 
 use crate::cursor::Cursor;
@@ -34,8 +34,7 @@ pub(crate) fn draw_run(
     requires low { place.column ≤ 2 ^ 63 }
     requires known { (before area rest : List LaidItem) × IsRunHere sign.now source.old.octets before area rest read.now place cursor.old }
     requires size { IsSized plane.old sign.now }
-    ensures so_far { (before area rest : List LaidItem) → IsRunHere sign.now source.old.octets before area rest read.now place cursor.old
-        → AreaSoFar sign.now source.old.octets before area rest read.now.lines layer cursor.new plane.old plane.new }
+    ensures so_far { DrawsRun sign.now source.old.octets read.now place layer cursor.old cursor.new plane.old plane.new }
     ensures next { IsReadBehind source.old.octets cursor.new.at read.now.end result }
     ensures steps { RisesBetween source.old source.new 0 (9 * (cursor.new.at - cursor.old.at) + octets_read result) }
     ensures fills { IsFilledBy sign.now plane.old plane.new (cursor.new.at - cursor.old.at) }
@@ -71,8 +70,7 @@ fn draw_beside(
     requires place { (cursor.now.state.attributes.line_just ≢ 5) × (place.column ≤ 2 ^ 63) }
     requires known { (before area rest : List LaidItem) × IsRunHere sign.now source.old.octets before area rest read.now place cursor.now }
     requires size { IsSized plane.old sign.now }
-    ensures so_far { (before area rest : List LaidItem) → IsRunHere sign.now source.old.octets before area rest read.now place cursor.now
-        → AreaSoFar sign.now source.old.octets before area rest read.now.lines layer
+    ensures so_far { DrawsRun sign.now source.old.octets read.now place layer cursor.now
         (cursor_behind cursor.now place.column result.1 result.0) plane.old plane.new }
     ensures next { IsReadBehind source.old.octets result.0 read.now.end result.2 }
     ensures steps { RisesBetween source.old source.new 0 (9 * (result.0 - cursor.now.at) + octets_read result.2) }

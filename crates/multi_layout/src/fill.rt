@@ -1,15 +1,14 @@
 //! Lines that are filled by words: the open line is broken at its last space, which is dropped.
 
 ghost use Rattle.std.specs.Prelude.{◌≡◌, ℕ, ◌+◌, ◌^◌, ◌≤◌, true, false, List, [], ◌∷◌, ◌++◌, Some, IfSome};
-ghost use Rattle.std.specs.List.{All, AllPass, after_last, list_any};
-ghost use Rattle.sign_font.specs.Sign.{info_of};
-ghost use Rattle.multi_layout.specs.Address.{Spot, is_break, is_glyph};
+ghost use Rattle.std.specs.List.{AllPass, list_any};
+ghost use Rattle.multi_layout.specs.Address.{Spot, is_glyph};
 ghost use Rattle.multi_layout.specs.Fit.{line_fits};
-ghost use Rattle.multi_layout.specs.kept.FillSums.{FillsArea, FillsGroup, IsSplitBelow, split_sum};
-ghost use Rattle.multi_layout.specs.Filling.{dropped, is_space};
+ghost use Rattle.multi_layout.specs.kept.FillSums.{BreaksGroup, FillsArea, FillsGroup, IsSplitBelow, split_sum};
+ghost use Rattle.multi_layout.specs.Filling.{is_space};
 ghost use Rattle.multi_layout.specs.Offence.{clashes};
 ghost use Rattle.multi_layout.specs.kept.Run.{kept_fits};
-ghost use Rattle.multi_layout.specs.kept.Sums.{IsBelow, IsCharacter, IsGroupBelow, IsLineBelow, IsPlacing, group_sum, line_sum};
+ghost use Rattle.multi_layout.specs.kept.Sums.{IsBelow, IsCharacter, IsGroupBelow, IsLineBelow, line_sum};
 
 use crate::area::{Area, Group};
 use crate::line::{Character, Line};
@@ -40,11 +39,7 @@ impl Group {
     pub(crate) fn break_at(&mut self, split: &Split)
         requires below { IsGroupBelow (2 ^ 62) self.old }
         requires before { IsLineBelow (2 ^ 62) split.now.before }
-        ensures sum { (front before behind : List Spot) (space : Spot) → All IsPlacing (front ++ before) → after_last is_break front ≡ []
-            → AllPass is_glyph before → AllPass is_glyph behind → is_glyph space ≡ true
-            → self.old ≡ group_sum (front ++ (before ++ space ∷ behind))
-            → split.now.before ≡ line_sum before → split.now.font ≡ info_of space.at.font → split.now.behind ≡ line_sum behind
-            → self.new ≡ group_sum (((front ++ before) ++ dropped space ∷ []) ++ behind) }
+        ensures sum { BreaksGroup self.old split.now self.new }
         ensures grows { (k : ℕ) → IsGroupBelow k self.old → IsLineBelow k split.now.before → IsLineBelow k split.now.behind
             → IsGroupBelow (k + 1024) self.new }
         ensures line { self.new.line ≡ split.now.behind }

@@ -3,8 +3,8 @@
 ghost use Rattle.std.specs.Prelude.{◌≡◌, ◌+◌, ◌-◌, ◌^◌, ◌<◌, ◌≤◌, ◌*◌, ◌==◌, if◌then◌else◌, [], length, List, IfSome, IfNone, OnOk, None, Some, true};
 ghost use Rattle.std.specs.Option.{option_map_or};
 ghost use Rattle.multi_token.specs.Counted.{RisesBetween};
-ghost use Rattle.sign_font.specs.Cell.{SizedCell};
-ghost use Rattle.sign_font.specs.Sign.{SignData, cell_in};
+ghost use Rattle.sign_font.specs.Sign.{SignData};
+ghost use Rattle.sign_font.specs.Text.{width_in};
 ghost use Rattle.multi_layout.specs.Meaning.{Does, Meaning, Shows};
 ghost use Rattle.multi_layout.specs.kept.Run.{IsBehindCharacter};
 ghost use Rattle.multi_layout.specs.kept.State.{IsJudged, IsKnown, IsLimited, IsReady, IsUnfilledOf, Judges};
@@ -47,9 +47,8 @@ pub(crate) fn judge_tag(
 #[inline(always)]
 pub(crate) fn judge_cell(state: &mut State, number: u16, width: u8) -> Result<(), SyntaxError>
     requires { IsReady state.old }
-    ensures judged { (sign : SignData) (items : List Meaning) (cell : SizedCell) → IsUnfilledOf sign state.old items
-        → cell_in sign state.old.attributes.font.number number ≡ Some cell → width ≡ cell.width
-        → IsJudged sign items (Shows number) result state.new }
+    ensures judged { (sign : SignData) (items : List Meaning) → IsUnfilledOf sign state.old items
+        → width_in sign state.old.attributes.font.number number ≡ Some width → IsJudged sign items (Shows number) result state.new }
     ensures limited { IsLimited state.old → IsLimited state.new }
     ensures behind { OnOk result (IsBehindCharacter state.new) }
 {

@@ -4,16 +4,16 @@ ghost use Rattle.std.specs.Prelude.{◌≡◌, ◌+◌, ◌^◌, ◌≤◌, true
 ghost use Rattle.std.specs.List.{list_any};
 ghost use Rattle.multi_token.specs.Counted.{RisesBetween, charged};
 ghost use Rattle.sign_font.specs.declared.parts.LineFill.TheVariants.{Words};
-ghost use Rattle.sign_font.specs.Cell.{SizedCell};
-ghost use Rattle.sign_font.specs.Sign.{SignData, cell_in};
+ghost use Rattle.sign_font.specs.Sign.{SignData};
+ghost use Rattle.sign_font.specs.Text.{width_in};
 ghost use Rattle.multi_layout.specs.Address.{Spot};
-ghost use Rattle.multi_layout.specs.kept.AreaReading.{IsCharacterPassed};
+ghost use Rattle.multi_layout.specs.kept.AreaReading.{PassesCharacter};
 ghost use Rattle.multi_layout.specs.kept.FilledState.{IsFilledJudged, IsFilledOf, IsFilledReady, JudgesFilled, begins_line};
 ghost use Rattle.multi_layout.specs.kept.FillSums.{order_sum};
 ghost use Rattle.multi_layout.specs.LaidItems.{laid_items};
 ghost use Rattle.multi_layout.specs.kept.KnownItem.{IsKnownItem, meant_by};
 ghost use Rattle.multi_layout.specs.Meaning.{Does, Meaning, Shows};
-ghost use Rattle.multi_layout.specs.Offence.{clashes, offence};
+ghost use Rattle.multi_layout.specs.Offence.{clashes};
 ghost use Rattle.multi_layout.specs.kept.Run.{Fits};
 ghost use Rattle.multi_layout.specs.kept.PassState.{IsItemJudged, IsPassBehind, IsPassOf, IsPassReady, JudgesItem};
 ghost use Rattle.multi_layout.specs.kept.State.{IsKnown, IsStateOf, present_area};
@@ -141,8 +141,8 @@ impl Pass {
     #[inline(always)]
     fn judge_cell<const WORDS: bool>(&mut self, number: u16, width: u8) -> Result<(), SyntaxError>
         requires ready { IsPassReady WORDS self.old }
-        ensures judged { (sign : SignData) (items : List Meaning) (cell : SizedCell) → IsPassOf WORDS sign self.old items
-            → cell_in sign self.old.state.attributes.font.number number ≡ Some cell → width ≡ cell.width
+        ensures judged { (sign : SignData) (items : List Meaning) → IsPassOf WORDS sign self.old items
+            → width_in sign self.old.state.attributes.font.number number ≡ Some width
             → IsItemJudged WORDS sign items (Shows number) result self.new }
         ensures behind { OnOk result (IsPassBehind WORDS self.new) }
     {
@@ -196,8 +196,8 @@ impl Pass {
     /// Judges a character whose cell has this width in pixels, where lines are filled.
     fn fill_cell(&mut self, number: u16, width: u8) -> Result<(), SyntaxError>
         requires ready { IsFilledReady self.old }
-        ensures judged { (sign : SignData) (items : List Meaning) (cell : SizedCell) → IsFilledOf sign items self.old
-            → cell_in sign self.old.state.attributes.font.number number ≡ Some cell → width ≡ cell.width
+        ensures judged { (sign : SignData) (items : List Meaning) → IsFilledOf sign items self.old
+            → width_in sign self.old.state.attributes.font.number number ≡ Some width
             → IsFilledJudged sign items (Shows number) result self.new }
         ensures fits { OnOk result (Fits self.new.state) }
     {
@@ -230,9 +230,7 @@ impl Pass {
     /// it did.
     pub(crate) fn pass_cell<const WORDS: bool>(&mut self, number: u16, width: u8) -> Option<Line>
         requires ready { IsPassReady WORDS self.old }
-        ensures passed { (sign : SignData) (items : List Meaning) (cell : SizedCell) → IsPassOf WORDS sign self.old items
-            → cell_in sign self.old.state.attributes.font.number number ≡ Some cell → width ≡ cell.width
-            → offence sign.line_fill sign items (Shows number) ≡ None → IsCharacterPassed WORDS sign items number self.old self.new result }
+        ensures passed { PassesCharacter WORDS number width self.old self.new result }
         ensures small { IfSome result (IsLineBelow (2 ^ 62)) }
     {
         if WORDS {
@@ -246,9 +244,7 @@ impl Pass {
     /// The same where lines are filled.
     fn pass_filled(&mut self, number: u16, width: u8) -> Option<Line>
         requires ready { IsFilledReady self.old }
-        ensures passed { (sign : SignData) (items : List Meaning) (cell : SizedCell) → IsPassOf true sign self.old items
-            → cell_in sign self.old.state.attributes.font.number number ≡ Some cell → width ≡ cell.width
-            → offence Words sign items (Shows number) ≡ None → IsCharacterPassed true sign items number self.old self.new result }
+        ensures passed { PassesCharacter true number width self.old self.new result }
         ensures small { IfSome result (IsLineBelow (2 ^ 62)) }
     {
         let attributes = self.state.attributes;

@@ -1,14 +1,15 @@
 //! Where each character of an accepted string stands (NTCIP 1203 v03, MULTI tags 'jl' and 'jp').
 
 ghost use Rattle.std.specs.Prelude.{◌≡◌, ℕ, ◌+◌, ◌-◌, ◌^◌, ◌<◌, ◌≤◌, ◌==◌, true, false, if◌then◌else◌, length, List, [], ◌∷◌, ◌++◌, Some, slice_get};
-ghost use Rattle.std.specs.List.{All, count_by, list_any};
+ghost use Rattle.std.specs.List.{All, list_any};
 ghost use Rattle.multi_layout.specs.declared.table.CountedLine.{CountedLine};
-ghost use Rattle.multi_layout.specs.Address.{Spot, is_glyph, is_break, area_of, group_of, in_group, line_before, lines_of, segment};
+ghost use Rattle.multi_layout.specs.Address.{Spot, is_glyph, segment};
 ghost use Rattle.multi_layout.specs.Line.{glyph_width, width_of, height_of};
 ghost use Rattle.multi_layout.specs.Offence.{clashes};
-ghost use Rattle.multi_layout.specs.Place.{start, spread, place_of};
+ghost use Rattle.multi_layout.specs.Place.{start, spread};
 ghost use Rattle.multi_layout.specs.kept.State.{attributes_of};
-ghost use Rattle.multi_layout.specs.kept.Sums.{segment_sum, line_sum, area_sum, IsSegmentBelow, IsLineBelow, IsBelow, IsPlacing};
+ghost use Rattle.multi_layout.specs.kept.Placing.{PlacesCharacter, TellsEnd};
+ghost use Rattle.multi_layout.specs.kept.Sums.{segment_sum, line_sum, IsSegmentBelow, IsLineBelow, IsBelow};
 ghost use Rattle.multi_layout.specs.kept.Table.{table_of, column_in};
 
 use crate::area::Area;
@@ -35,11 +36,7 @@ pub(crate) fn place_at(
     requires page_just { (2 ≤ attributes.now.page_just) × (attributes.now.page_just ≤ 4) }
     requires below { IsBelow (2 ^ 43) area.now }
     requires low { All (λ line. line.bottom ≤ 2 ^ 43) lines.now }
-    ensures place { (before all : List Spot) (spot : Spot) → is_glyph spot ≡ true → attributes.now ≡ attributes_of spot.at
-        → glyph_width spot ≡ width → area.now ≡ area_sum (area_of spot before) → lines.now ≡ table_of (lines_of (group_of spot all))
-        → count_by is_break (group_of spot before) < length (lines_of (group_of spot all))
-        → list_any (clashes spot) (line_before before spot) ≡ false
-        → area.now.present ≤ attributes.now.page_just → result ≡ place_of before all spot }
+    ensures place { PlacesCharacter attributes.now area.now lines.now width result }
     ensures low { (result.column ≤ 2 ^ 62) × (result.row ≤ 2 ^ 62) }
 {
     let group = area.group_for(attributes.page_just);
@@ -55,9 +52,7 @@ pub(crate) fn place_at(
 pub(crate) fn is_full(attributes: &Attributes, area: &Area, lines: &[CountedLine]) -> bool
     requires line_just { (2 ≤ attributes.now.line_just) × (attributes.now.line_just ≤ 5) }
     requires below { IsBelow (2 ^ 43) area.now }
-    ensures full { (front back spots : List Spot) (y : Spot) → area.now ≡ area_sum spots → area.now.present ≤ attributes.now.page_just
-        → in_group attributes.now.page_just spots ≡ front → lines.now ≡ table_of (lines_of (front ++ y ∷ back)) → IsPlacing y
-        → (is_glyph y ≡ true → (y.at.line_just ≡ attributes.now.line_just) × (1 ≤ glyph_width y)) → result ≡ is_break y }
+    ensures full { TellsEnd attributes.now area.now lines.now result }
 {
     let just = attributes.line_just;
     let group = area.group_for(attributes.page_just);

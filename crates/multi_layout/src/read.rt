@@ -10,7 +10,7 @@ ghost use Rattle.sign_font.specs.Sound.{IsSound};
 ghost use Rattle.multi_layout.specs.Address.{Spot};
 ghost use Rattle.multi_layout.specs.declared.item.KnownItem.TheVariants as items;
 ghost use Rattle.multi_layout.specs.declared.item.KnownItem.TheVariants.{Char};
-ghost use Rattle.multi_layout.specs.kept.AreaReading.{GoesOn, IsNextRead, IsReadOf};
+ghost use Rattle.multi_layout.specs.kept.AreaReading.{GoesOn, IsNextRead, IsReadOf, ReadsOn};
 ghost use Rattle.multi_layout.specs.kept.KnownItem.{IsOctet, meant_by};
 ghost use Rattle.multi_layout.specs.Meaning.{begins_area, Does, EndsArea, has_place, meaning};
 ghost use Rattle.multi_layout.specs.kept.PassState.{fill_of};
@@ -157,10 +157,7 @@ fn pass_item<const WORDS: bool>(
         × IsReadOf WORDS sign.now before kept.old.state.area.present kept.old lines.old
         × IsNextRead sign.now before next item }
     requires plain { begins_area (meant_by item) ≡ false }
-    ensures known { (before : List spelled.Item) (next : spelled.Item)
-        → IsReadOf WORDS sign.now before kept.old.state.area.present kept.old lines.old
-        → IsNextRead sign.now before next item
-        → IsReadOf WORDS sign.now (before ++ next ∷ []) kept.new.state.area.present kept.new lines.new }
+    ensures known { ReadsOn WORDS sign.now kept.old.state.area.present item kept.old lines.old kept.new lines.new }
     ensures octet { IsOctet item → source.new ≡ charged source.old 1 }
     ensures steps { RisesBetween source.old source.new 0 8 }
 {
@@ -183,10 +180,7 @@ fn pass_shown<const WORDS: bool>(
     requires known { (before : List spelled.Item) × (next : spelled.Item)
         × IsReadOf WORDS sign.now before kept.old.state.attributes.page_just kept.old lines.old
         × IsNextRead sign.now before next (Char number) }
-    ensures known { (before : List spelled.Item) (next : spelled.Item)
-        → IsReadOf WORDS sign.now before kept.old.state.attributes.page_just kept.old lines.old
-        → IsNextRead sign.now before next (Char number)
-        → IsReadOf WORDS sign.now (before ++ next ∷ []) kept.new.state.area.present kept.new lines.new }
+    ensures known { ReadsOn WORDS sign.now kept.old.state.attributes.page_just (Char number) kept.old lines.old kept.new lines.new }
     ensures step { number ≤ 255 → source.new ≡ charged source.old 1 }
     ensures steps { RisesBetween source.old source.new 0 8 }
 {
@@ -213,10 +207,7 @@ fn pass_tag<const WORDS: bool>(
         × IsReadOf WORDS sign.now before (next_group kept.old.state (Does tag)) kept.old lines.old
         × IsNextRead sign.now before next (items.Tag tag) }
     requires plain { begins_area (Does tag) ≡ false }
-    ensures known { (before : List spelled.Item) (next : spelled.Item)
-        → IsReadOf WORDS sign.now before (next_group kept.old.state (Does tag)) kept.old lines.old
-        → IsNextRead sign.now before next (items.Tag tag)
-        → IsReadOf WORDS sign.now (before ++ next ∷ []) kept.new.state.area.present kept.new lines.new }
+    ensures known { ReadsOn WORDS sign.now (next_group kept.old.state (Does tag)) (items.Tag tag) kept.old lines.old kept.new lines.new }
     ensures steps { RisesBetween source.old source.new 0 8 }
 {
     let group = kept.state.area.group_for(kept.state.attributes.page_just);

@@ -31,8 +31,8 @@ pub(crate) struct Limits {
 
 impl State {
     ghost use Rattle.std.specs.Prelude.{List, ◌∷◌, ◌++◌, Some, None};
-    ghost use Rattle.sign_font.specs.Cell.{SizedCell};
-    ghost use Rattle.sign_font.specs.Sign.{SignData, cell_in};
+    ghost use Rattle.sign_font.specs.Sign.{SignData};
+    ghost use Rattle.sign_font.specs.Text.{width_in};
     ghost use Rattle.multi_layout.specs.Meaning.{Does, Meaning, Shows};
     ghost use Rattle.multi_layout.specs.Offence.{unsized_offence};
     ghost use Rattle.multi_layout.specs.kept.Adding.{AddsBreak, AddsCharacter, limited_anew};
@@ -124,9 +124,8 @@ impl State {
     /// Goes behind a character of an accepted string, whose cell has this width in pixels.
     pub(crate) fn pass_character(&mut self, width: u8)
         requires ready { IsReady self.old }
-        ensures passed { (sign : SignData) (items : List Meaning) (number : ℕ) (cell : SizedCell) → IsStateOf sign items self.old
-            → cell_in sign self.old.attributes.font.number number ≡ Some cell → width ≡ cell.width
-            → unsized_offence sign items (Shows number) ≡ None
+        ensures passed { (sign : SignData) (items : List Meaning) (number : ℕ) → IsStateOf sign items self.old
+            → width_in sign self.old.attributes.font.number number ≡ Some width → unsized_offence sign items (Shows number) ≡ None
             → IsStateOf sign (items ++ Shows number ∷ []) self.new }
         ensures limited { IsLimited self.old → IsLimited self.new }
     {

@@ -164,7 +164,7 @@ impl<'a> Terms<'a> {
     /// The width in pixels of the cell of a number in the font of a number, if both are defined. Either way an octet is one step,
     /// and a wider number one to eight.
     pub(crate) fn cell_width(&self, source: &mut Source<'_>, font: u8, number: u16) -> Option<u8>
-        ensures width { result ≡ option_map (λ cell. cell.width) (cell_in self.now font number) }
+        ensures width { result ≡ width_in self.now font number }
         ensures size { IfSome result (IsWithin 1 64) }
         ensures step { number ≤ 255 → source.new ≡ charged source.old 1 }
         ensures steps { RisesBetween source.old source.new 1 8 }

@@ -1,7 +1,8 @@
 -- The first reading of an area, for the table of its lines (own).
-use Rattle.std.specs.Prelude.{◌≡◌, ℕ, ◌^◌, ◌≤◌, Bool, false, ◌⊎◌, List, [], ◌∷◌, ◌++◌, Option, map, length}
+use Rattle.std.specs.Prelude.{◌≡◌, ℕ, ◌^◌, ◌≤◌, Bool, false, ◌⊎◌, List, [], ◌∷◌, ◌++◌, Option, Some, None, map, length}
 use Rattle.multi_token.specs.Spelling.{Item}
 use Rattle.sign_font.specs.Sign.{SignData}
+use Rattle.sign_font.specs.Text.{width_in}
 use Rattle.multi_layout.specs.declared.pass.Pass.{Pass}
 use Rattle.multi_layout.specs.declared.item.KnownItem.{KnownItem}
 use Rattle.multi_layout.specs.declared.line.Line.{Line}
@@ -17,6 +18,7 @@ use Rattle.multi_layout.specs.kept.PassState.{IsPassOf, fill_of}
 use Rattle.multi_layout.specs.kept.Run.{IsBehindCharacter, IsRunPassed}
 use Rattle.multi_layout.specs.kept.State.{present_area}
 use Rattle.multi_layout.specs.kept.Table.{IsOrdered}
+use Rattle.multi_layout.specs.Offence.{offence}
 use Rattle.multi_layout.specs.Verdict.{offences}
 
 -- some items of which none offends, and which a string can have (own)
@@ -43,6 +45,12 @@ pub record IsNextRead (sign : SignData) (items : List Item) (item : Item) (read 
   pub known : IsKnownItem read
   pub fine : AreFine sign (items ++ item ∷ [])
 
+-- with one more item, of which this is read, these become of what is kept when items go on in this group (own)
+abbrev pub ReadsOn : Bool → SignData → ℕ → KnownItem → Pass → LineTable → Pass → LineTable → Type 0
+ReadsOn words sign present item kept lines kept' lines' =
+    (before : List Item) (next : Item) → IsReadOf words sign before present kept lines → IsNextRead sign before next item
+    → IsReadOf words sign (before ++ next ∷ []) kept'.state.area.present kept' lines'
+
 -- one more character is passed that doesn't offend: this is then what is kept of the items with it, its group is the present one,
 -- the other groups stay as they are laid out, and its own has the lines that it had, or one more (own)
 pub record IsCharacterPassed (words : Bool) (sign : SignData) (items : List Meaning) (number : ℕ) (old new : Pass) (ended : Option Line) :
@@ -54,6 +62,13 @@ pub record IsCharacterPassed (words : Bool) (sign : SignData) (items : List Mean
       → in_group just (laid_area words sign (items ++ Shows number ∷ [])) ≡ in_group just (laid_area words sign items)
   pub own : EndsLine (in_group old.state.attributes.page_just (laid_area words sign items))
       (in_group old.state.attributes.page_just (laid_area words sign (items ++ Shows number ∷ []))) ended
+
+-- one more character, whose cell has this width, makes this of what is kept of items with which it doesn't offend (own)
+abbrev pub PassesCharacter : Bool → ℕ → ℕ → Pass → Pass → Option Line → Type 0
+PassesCharacter words number width old new ended =
+    (sign : SignData) (items : List Meaning) → IsPassOf words sign old items
+    → width_in sign old.state.attributes.font.number number ≡ Some width → offence sign.line_fill sign items (Shows number) ≡ None
+    → IsCharacterPassed words sign items number old new ended
 
 -- the new is the old one at the same offset, or, where lines aren't filled, with the characters up to a later offset, which lengthen the
 -- line of the one before them (own)

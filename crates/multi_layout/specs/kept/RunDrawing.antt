@@ -63,6 +63,12 @@ pub record IsRunHere (sign : SignData) (octets : List ℕ) (before area rest : L
   pub counted : HasCounted (whole_area sign before (area ++ rest)) read.lines
   pub stands : NextStandsAt sign (map meant before) (map meant (before ++ (area ++ rest))) place
 
+-- the items are drawn up to the new cursor, where the old one stands before a run of them whose first stands at this place (own)
+abbrev pub DrawsRun : SignData → List ℕ → AreaLines → Place → Layer → Cursor → Cursor → BitPlane → BitPlane → Type 0
+DrawsRun sign octets read place layer cursor cursor' plane plane' =
+    (before area rest : List LaidItem) → IsRunHere sign octets before area rest read place cursor
+    → AreaSoFar sign octets before area rest read.lines layer cursor' plane plane'
+
 -- the cursor behind characters up to an offset that lengthen its line from one column to another (own)
 abbrev pub cursor_behind : Cursor → ℕ → ℕ → ℕ → Cursor
 cursor_behind cursor from column at = record {

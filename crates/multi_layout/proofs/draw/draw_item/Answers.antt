@@ -1,7 +1,8 @@
 use Rattle.std.proofs.Common.{◌≡◌, ℕ, ◌+◌, ◌^◌, List, [], ◌∷◌, ◌++◌, map, Option, Some, None, refl, sym, ap, ◌∙◌, subst, arith}
-use Rattle.std.specs.Option.{unwrap_or}
+use Rattle.std.specs.Option.{option_map, unwrap_or}
 use Rattle.std.proofs.lemmas.Option.{IfSome_then}
 use Rattle.multi_token.proofs.ReadingLemmas.{spelling_some}
+use Rattle.sign_font.specs.Cell.{SizedCell}
 use Rattle.sign_font.specs.Sign.{cell_in}
 use Rattle.multi_layout.specs.declared.attributes.Attributes.{Attributes}
 use Rattle.multi_layout.specs.declared.place.Place.{Place}
@@ -47,7 +48,7 @@ pub returns-in-Some-clause-passed : goal.returns-in-Some-clause-passed
 returns-in-Some-clause-passed c = λ before rest item b read.
     let sign = c.args.sign.now in
     let found : cell_in sign c.args.cursor.now.state.attributes.font.number c.in-Char.number ≡ Some c.in-Some.cell = sym c.cell.ensures.cell ∙ c.in-Some.is in
-    c.pass_character.ensures.passed sign c.args.source.now.octets before rest item c.in-Some.cell b (record { meant = read.meant ∙ ap meant_by c.in-Char.is; known = tt; len = read.len }) found c.width-width.ensures
+    c.pass_character.ensures.passed sign c.args.source.now.octets (ap (option_map (λ (c : SizedCell). c.width)) found ∙ ap Some (sym c.width-width.ensures)) before rest item b (record { meant = read.meant ∙ ap meant_by c.in-Char.is; known = tt; len = read.len })
 
 pub returns-in-Some-clause-drawn : goal.returns-in-Some-clause-drawn
 returns-in-Some-clause-drawn c = λ before rest item h plain.
@@ -77,7 +78,7 @@ returns-in-Some-clause-beside c =
     let b = h.between in
     let read = h.read_is in
     let shows : meant item ≡ Shows number = read.meant ∙ ap meant_by c.in-Char.is in
-    let new = c.pass_character.ensures.passed sign c.args.source.now.octets before rest item c.in-Some.cell b (record { meant = shows; known = tt; len = read.len }) found c.width-width.ensures in
+    let new = c.pass_character.ensures.passed sign c.args.source.now.octets (ap (option_map (λ (c : SizedCell). c.width)) found ∙ ap Some (sym c.width-width.ensures)) before rest item b (record { meant = shows; known = tt; len = read.len }) in
     let same : c.pass_character.new.self.state.attributes ≡ state.attributes =
     new.state_is.attributes ∙ ap (λ ms. attributes_of (standing sign ms)) (map_split before [] item (Shows number) shows) ∙ ap attributes_of (same_standing sign (map meant before) number) ∙ sym b.state_is.attributes in
     IfSome_then c.beside.result c.beside.ensures

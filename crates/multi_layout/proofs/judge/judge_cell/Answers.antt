@@ -1,21 +1,25 @@
-use Rattle.std.proofs.Common.{◌*◌, ◌^◌, ◌++◌, ◌∷◌, [], length, ap, ◌∙◌}
+use Rattle.std.proofs.Common.{◌*◌, ◌^◌, ◌++◌, ◌∷◌, [], length, ap, sym, ◌∙◌}
+use Rattle.sign_font.specs.Sign.{cell_in}
 use Rattle.multi_layout.specs.declared.line.Character.{Character}
 use Rattle.multi_layout.specs.Meaning.{Shows}
 use Rattle.multi_layout.proofs.BeforeLemmas.{fits_without}
 use Rattle.multi_layout.proofs.JudgedLemmas.{state-limits}
 use Rattle.multi_layout.proofs.LimitLemmas.{added_fits, behind_added}
 use Rattle.multi_layout.proofs.PlacingLemmas.{character-exit-conflict, character-exit-too_big, character-exit-fits}
+use Rattle.multi_layout.proofs.RunReadLemmas.{cell_of_width}
 use Rattle.multi_layout.proofs.judge.judge_cell.Goals as goal
 
 pub returns-then-conflicts_with_character-clause-judged : goal.returns-then-conflicts_with_character-clause-judged
-returns-then-conflicts_with_character-clause-judged c = λ sign items cell of some wide.
+returns-then-conflicts_with_character-clause-judged c = λ sign items of own.
+    let (cell, some, wide) = cell_of_width (cell_in sign c.args.state.now.attributes.font.number c.args.number) c.args.width (sym own) in
     character-exit-conflict sign items c.args.state.now of.state_is c.args.number cell some c.conflicts_with_character.result c.conflicts_with_character.ensures.conflicts c.if-conflicts_with_character.true
 
 pub is_within-requires : goal.is_within-requires
 is_within-requires c = record { below = c.add_character.ensures.added.grows (2 ^ 62) c.requires.below }
 
 pub returns-then-is_within-clause-judged : goal.returns-then-is_within-clause-judged
-returns-then-is_within-clause-judged c = λ sign items cell of some wide.
+returns-then-is_within-clause-judged c = λ sign items of own.
+    let (cell, some, wide) = cell_of_width (cell_in sign c.args.state.now.attributes.font.number c.args.number) c.args.width (sym own) in
     let state = c.args.state.now in
     let new = c.add_character.new.self in
     let is = c.character-character.ensures in
@@ -30,7 +34,8 @@ returns-then-is_within-clause-judged c = λ sign items cell of some wide.
     (fine, state-limits sign (items ++ Shows c.args.number ∷ []) state new added.same st)
 
 pub returns-else-is_within-clause-judged : goal.returns-else-is_within-clause-judged
-returns-else-is_within-clause-judged c = λ sign items cell of some wide.
+returns-else-is_within-clause-judged c = λ sign items of own.
+    let (cell, some, wide) = cell_of_width (cell_in sign c.args.state.now.attributes.font.number c.args.number) c.args.width (sym own) in
     let state = c.args.state.now in
     let new = c.add_character.new.self in
     let is = c.character-character.ensures in

@@ -7,7 +7,7 @@ use Rattle.multi_layout.specs.Meaning.{Does, Meaning, Shows, has_place}
 use Rattle.multi_layout.specs.Offence.{unsized_offence}
 use Rattle.multi_layout.specs.kept.State.{IsStateOf}
 use Rattle.multi_layout.proofs.JudgedLemmas.{unsized-undefined}
-use Rattle.multi_layout.proofs.RunReadLemmas.{cell_of_width, no_cell}
+use Rattle.multi_layout.proofs.RunReadLemmas.{no_cell}
 use Rattle.multi_layout.proofs.SkipLemmas.{tag_unplaced}
 use Rattle.multi_layout.proofs.WalkLemmas.{between_more, never_offends, ready_between}
 use Rattle.multi_layout.proofs.cursor.Cursor.pass.Goals as goal
@@ -28,8 +28,7 @@ pub returns-in-Some-clause-passed : goal.returns-in-Some-clause-passed
 returns-in-Some-clause-passed c = λ before rest item b read.
     let sign = c.args.sign.now in
     let octets = c.args.source.now.octets in
-    let (cell, found, is) = cell_of_width (cell_in sign c.args.self.now.state.attributes.font.number c.in-Char.number) c.in-Some.width (sym c.in-Some.is ∙ c.cell_width.ensures.width) in
-    c.pass_character.ensures.passed sign octets before rest item cell b (record { meant = read.meant ∙ ap meant_by c.in-Char.is; known = tt; len = read.len }) found is
+    c.pass_character.ensures.passed sign octets (sym c.cell_width.ensures.width ∙ c.in-Some.is) before rest item b (record { meant = read.meant ∙ ap meant_by c.in-Char.is; known = tt; len = read.len })
 
 pub pass_break-requires : goal.pass_break-requires
 pass_break-requires c =

@@ -13,9 +13,9 @@ pass_character-requires c =
     record { ready = ready_between sign octets before (item ∷ rest) c.args.self.now b }
 
 pub returns-clause-passed : goal.returns-clause-passed
-returns-clause-passed c = λ sign octets before rest item cell b read found width.
+returns-clause-passed c = λ sign octets own before rest item b read.
     let fine : unsized_offence sign (map meant before) (Shows c.args.number) ≡ None =
     ap (unsized_offence sign (map meant before)) (sym read.meant) ∙ never_offends sign octets before rest item c.args.self.now b in
-    let st = c.pass_character.ensures.passed sign (map meant before) c.args.number cell b.state_is found width fine in
+    let st = c.pass_character.ensures.passed sign (map meant before) c.args.number b.state_is own fine in
     between_more sign octets before rest item c.args.self.now b _ (ap (λ n. c.args.self.now.at + n) read.len)
     (subst (λ (m : Meaning). IsStateOf sign (map meant before ++ m ∷ []) c.pass_character.new.self) (sym read.meant) st)

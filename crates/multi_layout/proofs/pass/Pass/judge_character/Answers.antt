@@ -1,13 +1,12 @@
+use Rattle.std.proofs.Common.{sym}
 use Rattle.sign_font.specs.Sign.{cell_in}
 use Rattle.multi_layout.proofs.PassLemmas.{pass_undefined}
-use Rattle.multi_layout.proofs.RunReadLemmas.{cell_of_width, no_cell}
+use Rattle.multi_layout.proofs.RunReadLemmas.{no_cell}
 use Rattle.multi_layout.proofs.pass.Pass.judge_character.Goals as goal
 
 pub returns-in-Some-clause-judged : goal.returns-in-Some-clause-judged
 returns-in-Some-clause-judged g c = λ items of.
-    let sign = c.args.sign.now in
-    let (cell, found, is) = cell_of_width (cell_in sign c.args.self.now.state.attributes.font.number c.args.number) c.in-Some.width c.in-Some.ensures.width in
-    c.judge_cell.ensures.judged sign items cell of found is
+    c.judge_cell.ensures.judged c.args.sign.now items of (sym c.in-Some.ensures.width)
 
 pub returns-in-None-clause-judged : goal.returns-in-None-clause-judged
 returns-in-None-clause-judged g c = λ items of.
