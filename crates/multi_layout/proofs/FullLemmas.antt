@@ -19,8 +19,9 @@ use Rattle.multi_layout.specs.Line.{glyph_width}
 use Rattle.multi_layout.specs.Meaning.{Does, Meaning, begins_area, Shows, has_place, meaning}
 use Rattle.multi_layout.specs.Offence.{never_big, unsized_offence}
 use Rattle.multi_layout.specs.kept.AreaDrawing.{HasCounted, whole_area}
+use Rattle.multi_layout.specs.kept.Placing.{TellsEnd}
 use Rattle.multi_layout.specs.kept.State.{present_area}
-use Rattle.multi_layout.specs.kept.Sums.{IsPlacing, area_sum}
+use Rattle.multi_layout.specs.kept.Sums.{IsPlacing}
 use Rattle.multi_layout.specs.kept.Table.{group_lines, table_of}
 use Rattle.multi_layout.specs.kept.Cursors.{IsBetween, LaidItem, items_of, meant}
 use Rattle.multi_layout.proofs.GroupLaidLemmas.{laid_as}
@@ -59,15 +60,8 @@ module _ {sign : SignData} {octets : List ℕ} {before rest : List LaidItem} {pi
       let is = laid_here sign before rest piece b.laid ∙ ap (laid_item sign.line_fill sign all some) shows in
       subst (λ m. (m ≡ Shows number) ⊎ (m ≡ Does (NewLine None))) (sym is) (laid_character sign.line_fill sign all some (map meaning (items_of rest)) number split (cell_numbered (standing sign some).font number) refl)
 
-  -- what is known of a full line
-  abbrev Full : LineTable → Bool → Type 0
-  Full lines r =
-      (front back area : List Spot) (y : Spot) → cursor.state.area ≡ area_sum area → cursor.state.area.present ≤ cursor.state.attributes.page_just
-      → in_group cursor.state.attributes.page_just area ≡ front → group_lines cursor.state.attributes.page_just lines ≡ table_of (lines_of (front ++ y ∷ back)) → IsPlacing y
-      → (is_glyph y ≡ true → (y.at.line_just ≡ cursor.state.attributes.line_just) × (1 ≤ glyph_width y)) → r ≡ is_break y
-
   -- a piece that puts this
-  module _ (sound : IsSound sign) (lines : LineTable) (counted : HasCounted (whole_area sign before (piece ∷ rest)) lines) (r : Bool) (full : Full lines r) (x : Meaning) (is : meant piece ≡ x) (put : Put)
+  module _ (sound : IsSound sign) (lines : LineTable) (counted : HasCounted (whole_area sign before (piece ∷ rest)) lines) (r : Bool) (full : TellsEnd cursor.state.attributes cursor.state.area (group_lines cursor.state.attributes.page_just lines) r) (x : Meaning) (is : meant piece ≡ x) (put : Put)
       (puts : put_at sign.defaults (standing sign (map meant before)) x ≡ Some put) (place : has_place x ≡ true) where
     abbrev y : Spot
     y = record { at = standing sign ms; put = put }
@@ -97,7 +91,7 @@ module _ {sign : SignData} {octets : List ℕ} {before rest : List LaidItem} {pi
         (counted just st.page_just.0 st.page_just.1 ∙ ap (λ g. table_of (lines_of g)) group) kind
         (λ glyph. (sym (ap (λ (a : Attributes). a.line_just) st.attributes), wide glyph))
 
-  module _ (sound : IsSound sign) (lines : LineTable) (counted : HasCounted (whole_area sign before (piece ∷ rest)) lines) (r : Bool) (full : Full lines r) (number : ℕ) (shows : meaning piece.item ≡ Shows number) where
+  module _ (sound : IsSound sign) (lines : LineTable) (counted : HasCounted (whole_area sign before (piece ∷ rest)) lines) (r : Bool) (full : TellsEnd cursor.state.attributes cursor.state.area (group_lines cursor.state.attributes.page_just lines) r) (number : ℕ) (shows : meaning piece.item ≡ Shows number) where
     stands_if : meant piece ≡ Shows number → (o : Option CellData) → cell_numbered (standing sign (map meant before)).font number ≡ o → r ≡ false
     stands_if is None e =
         let fine = ap (unsized_offence sign ms) (sym is) ∙ never_offends sign octets before rest piece cursor b in

@@ -1,7 +1,7 @@
 -- A character that is put on a plane.
-use Rattle.std.proofs.Common.{◌≡◌, ℕ, ◌+◌, ◌-◌, ◌<◌, ◌≤◌, Bool, true, false, cond, ◌&&◌, ◌==◌, List, [], ◌∷◌, ◌++◌, length, Option, Some, None, refl, sym, ap, subst, ◌∙◌, arith}
+use Rattle.std.proofs.Common.{◌≡◌, ℕ, ◌+◌, ◌-◌, ◌<◌, Bool, true, false, cond, ◌&&◌, ◌==◌, List, [], ◌∷◌, ◌++◌, length, Option, Some, None, refl, sym, ap, subst, ◌∙◌, arith}
 use Rattle.std.specs.Prelude.{nat_le, nat_lt}
-use Rattle.std.specs.List.{count_by, filter, list_any}
+use Rattle.std.specs.List.{count_by, filter}
 use Rattle.std.specs.Option.{option_map}
 use Rattle.std.proofs.lemmas.Bool.{eq-eqb}
 use Rattle.std.proofs.lemmas.Option.{same_Some}
@@ -15,20 +15,19 @@ use Rattle.multi_layout.specs.declared.paint.Layer.{Layer}
 use Rattle.multi_layout.specs.declared.place.Place.{Place}
 use Rattle.multi_layout.specs.declared.state.State.{State}
 use Rattle.multi_layout.specs.declared.table.LineTable.{LineTable}
-use Rattle.multi_layout.specs.Address.{standing, Glyph, Spot, spots, area_of, group_of, in_group, line_before, lines_of, is_glyph, is_break, in_area}
+use Rattle.multi_layout.specs.Address.{standing, Glyph, Spot, spots, group_of, in_group, lines_of, is_break, in_area}
 use Rattle.multi_layout.specs.Drawn.{has_colour}
-use Rattle.multi_layout.specs.Line.{glyph_width}
 use Rattle.multi_layout.specs.Meaning.{Meaning, Shows}
 use Rattle.multi_layout.specs.kept.AreaDrawing.{HasCounted, IsDrawnTo}
 use Rattle.multi_layout.specs.kept.RunDrawing.{StandsAt}
 use Rattle.multi_layout.specs.Picture.{is_lit_at, shown_colour}
 use Rattle.multi_layout.specs.Place.{place_of}
-use Rattle.multi_layout.specs.kept.State.{IsStateOf, attributes_of}
-use Rattle.multi_layout.specs.kept.Sums.{area_sum}
+use Rattle.multi_layout.specs.kept.Placing.{PlacesCharacter}
+use Rattle.multi_layout.specs.kept.State.{IsStateOf}
 use Rattle.multi_layout.specs.kept.Table.{group_lines, table_of}
 use Rattle.multi_layout.proofs.CellLemmas.{covers}
 use Rattle.multi_layout.proofs.DrawnLemmas.{covered_glyph}
-use Rattle.multi_layout.specs.Offence.{clashes, unsized_offence}
+use Rattle.multi_layout.specs.Offence.{unsized_offence}
 use Rattle.multi_layout.proofs.AreaSumLemmas.{no_back, no_clash}
 use Rattle.multi_layout.proofs.JudgedLemmas.{cell_of_font, no_conflict}
 use Rattle.multi_layout.proofs.PlaceLemmas.{line_is_there}
@@ -54,9 +53,7 @@ module _ (sign : SignData) (before : List Meaning) (state : State) (st : IsState
   -- the place of a character, by the lines of its area
   module _ (rest : List Meaning) (lines : LineTable) (counted : HasCounted (in_area (standing sign before).area (spots sign (before ++ Shows number ∷ rest))) lines)
       (place : Place)
-      (placed : (earlier all : List Spot) (spot : Spot) → is_glyph spot ≡ true → state.attributes ≡ attributes_of spot.at → glyph_width spot ≡ c.width → state.area ≡ area_sum (area_of spot earlier)
-      → group_lines state.attributes.page_just lines ≡ table_of (lines_of (group_of spot all)) → count_by is_break (group_of spot earlier) < length (lines_of (group_of spot all)) → list_any (clashes spot) (line_before earlier spot) ≡ false
-      → state.area.present ≤ state.attributes.page_just → place ≡ place_of earlier all spot)
+      (placed : PlacesCharacter state.attributes state.area (group_lines state.attributes.page_just lines) c.width place)
       (fine : unsized_offence sign before (Shows number) ≡ None) where
     pub stands_at : StandsAt sign before number rest place
     stands_at cell numbered =

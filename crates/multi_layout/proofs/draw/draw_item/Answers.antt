@@ -10,6 +10,7 @@ use Rattle.multi_layout.specs.kept.Cursors.{meant}
 use Rattle.multi_layout.specs.kept.State.{attributes_of}
 use Rattle.multi_layout.specs.Place.{place_of}
 use Rattle.multi_layout.specs.Address.{Glyph, spots, standing, in_area}
+use Rattle.multi_layout.specs.kept.Placing.{PlacesCharacter}
 use Rattle.multi_layout.specs.kept.KnownItem.{meant_by}
 use Rattle.multi_layout.specs.Meaning.{begins_area, Does, has_place, Meaning, Shows}
 use Rattle.multi_layout.specs.Offence.{unsized_offence}
@@ -63,8 +64,10 @@ returns-in-Some-clause-drawn c = λ before rest item h plain.
     let k = (standing sign (map meant before)).area in
     let fine = ap (unsized_offence sign (map meant before)) (sym shows) ∙ never_offends sign c.args.source.now.octets before rest item c.args.cursor.now b in
     let lines = subst (λ (ms : List Meaning). HasCounted (in_area k (spots sign ms)) c.args.lines.now) (map_split before rest item (Shows number) shows) counted in
+    let placed = subst (λ lines. PlacesCharacter state.attributes state.area lines c.in-Some.cell.width c.place_at-place.result) c.group-lines.ensures.lines
+    (subst (λ n. PlacesCharacter state.attributes state.area c.group-lines.result.now n c.place_at-place.result) c.width-width.ensures c.place_at-place.ensures.place) in
     let stands = stands_at sign (map meant before) state b.state_is number c.in-Some.cell found (map meant rest) c.args.lines.now lines c.place_at-place.result
-    (λ earlier all spot glyph attributes wide area group there apart order. c.place_at-place.ensures.place earlier all spot glyph attributes (wide ∙ sym c.width-width.ensures) area (c.group-lines.ensures.lines ∙ group) there apart order) fine in
+    placed fine in
     glyph_drawn sign c.args.layer before rest item number shows c.args.plane.now c.put_character.new.plane
     (c.put_character.ensures.drawn (map meant before) (map meant rest) state number b.state_is refl found stands)
 
@@ -92,8 +95,10 @@ returns-in-Some-clause-beside c =
           let all = map_split before rest item (Shows number) shows in
           let fine = ap (unsized_offence sign items) (sym shows) ∙ never_offends sign c.args.source.now.octets before rest item c.args.cursor.now b in
           let lines = subst (λ (ms : List Meaning). HasCounted (in_area (standing sign items).area (spots sign ms)) c.args.lines.now) all counted in
+          let placed = subst (λ lines. PlacesCharacter state.attributes state.area lines c.in-Some.cell.width c.place_at-place.result) c.group-lines.ensures.lines
+          (subst (λ n. PlacesCharacter state.attributes state.area c.group-lines.result.now n c.place_at-place.result) c.width-width.ensures c.place_at-place.ensures.place) in
           let stands = stands_at sign items state b.state_is number c.in-Some.cell found (map meant rest) c.args.lines.now lines c.place_at-place.result
-          (λ earlier all spot glyph attributes wide area group there apart order. c.place_at-place.ensures.place earlier all spot glyph attributes (wide ∙ sym c.width-width.ensures) area (c.group-lines.ensures.lines ∙ group) there apart order) fine in
+          placed fine in
           let behind = beside_stands sign items state b.state_is number c.in-Some.cell found (map meant (before ++ item ∷ rest)) c.place_at-place.result _ is.0 refl
           (λ cell numbered. stands cell numbered ∙ ap (λ ms. place_of (spots sign items) (spots sign ms) (record { at = standing sign items; put = Glyph cell })) (sym all)) in
           let here : Place = record { column = c.place_at-place.result.column + (c.in-Some.cell.width + unwrap_or state.attributes.spacing state.attributes.font.char_spacing); row = c.place_at-place.result.row } in
