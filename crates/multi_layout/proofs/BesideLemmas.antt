@@ -26,8 +26,8 @@ use Rattle.multi_layout.specs.Line.{char_gap, glyph_width, height_of, width_of}
 use Rattle.multi_layout.specs.Meaning.{Meaning, Shows, begins_area}
 use Rattle.multi_layout.specs.Offence.{unsized_offence}
 use Rattle.multi_layout.specs.Place.{place_of, spread, start}
-use Rattle.multi_layout.specs.kept.AreaDrawing.{BeginsNoArea, DrawsGlyph, HasCounted, whole_area}
-use Rattle.multi_layout.specs.kept.RunDrawing.{AreaSoFar, NextStandsAt, StandsAt}
+use Rattle.multi_layout.specs.kept.AreaDrawing.{BeginsNoArea, HasCounted, whole_area}
+use Rattle.multi_layout.specs.kept.RunDrawing.{DrawsCharacter, AreaSoFar, NextStandsAt}
 use Rattle.multi_layout.specs.kept.Cursors.{IsBetween, IsRead, LaidItem, items_of, meant, spell_of}
 use Rattle.multi_layout.specs.kept.Run.{IsBehindCharacter, lengthened, line_in_force}
 use Rattle.multi_layout.specs.kept.State.{IsStateOf}
@@ -226,7 +226,7 @@ module _ (sign : SignData) (octets : List ℕ) (before area rest : List LaidItem
 
   module _ (behind : IsBehindCharacter cursor.state) (apart : cursor.state.attributes.line_just ≡ 5 → ⊥) (gap : ℕ) (gap_is : gap ≡ unwrap_or cursor.state.attributes.spacing cursor.state.attributes.font.char_spacing) (narrow : gap ≤ 255)
       (cell : SizedCell) (found : cell_in sign cursor.state.attributes.font.number octet ≡ Some cell) (small : cell.width ≤ 64) (new' : BitPlane)
-      (put : (earlier later : List Meaning) (state : State) (number : ℕ) → IsStateOf sign earlier state → state.attributes ≡ cursor.state.attributes → cell_in sign cursor.state.attributes.font.number number ≡ Some cell → StandsAt sign earlier number later place → DrawsGlyph sign layer earlier number later new new') where
+      (put : DrawsCharacter sign layer cursor.state.attributes cell place new new') where
     abbrev behind_it : Cursor
     behind_it = record {
       at = cursor.at + 1;

@@ -1,11 +1,11 @@
 //! The running sums of an area's groups.
 
 ghost use Rattle.std.specs.Prelude.{◌≡◌, ℕ, ◌+◌, ◌^◌, ◌≤◌, ◌&&◌, true, false, nat_le, not, List, [], ◌∷◌, ◌++◌};
-ghost use Rattle.std.specs.List.{All, after_last, list_any};
+ghost use Rattle.std.specs.List.{All};
 ghost use Rattle.std.specs.Option.{option_map_or, unwrap_or};
 ghost use Rattle.sign_font.specs.declared.parts.LineFill.TheVariants.{Off};
 ghost use Rattle.multi_layout.specs.Address.{Spot, is_glyph, is_break, area_of, in_group, lines_of};
-ghost use Rattle.multi_layout.specs.Fit.{area_fits, fit};
+ghost use Rattle.multi_layout.specs.Fit.{area_fits};
 ghost use Rattle.multi_layout.specs.Laid.{too_big};
 ghost use Rattle.multi_layout.specs.Line.{average, height_of};
 ghost use Rattle.multi_layout.specs.Offence.{clashes, conflicts};

@@ -10,7 +10,7 @@ ghost use Rattle.multi_layout.specs.kept.KnownItem.{IsKnownItem, meant_by};
 ghost use Rattle.multi_layout.specs.Meaning.{Meaning, has_place};
 ghost use Rattle.multi_layout.specs.Offence.{unsized_offence};
 ghost use Rattle.multi_layout.specs.kept.State.{IsReady, IsStateOf};
-ghost use Rattle.multi_layout.specs.kept.Cursors.{GoesBehind, IsAccepted, IsBefore, IsBetween, IsFirst, IsOrderly, IsPassing, IsPassingBefore, IsPlaced, IsRead, IsTextPassed, IsWithin, laid_meanings, PassesOn, LaidItem, pieces_of};
+ghost use Rattle.multi_layout.specs.kept.Cursors.{GoesBehind, IsAccepted, IsBefore, IsBetween, IsFirst, IsOrderly, IsPassing, IsPassingBefore, IsPlaced, IsTextPassed, IsWithin, laid_meanings, PassesOn, pieces_of};
 
 use crate::bracket::read_spelled;
 use crate::item::{KnownItem, NextItem};

@@ -1,14 +1,9 @@
 //! What a plane shows of a page: the pixels of one colour at one phase.
 
-ghost use Rattle.std.specs.Prelude.{◌≡◌, ℕ, ◌+◌, ◌^◌, ◌≤◌, ◌==◌, [], ◌∷◌, ◌++◌, List, Some};
-ghost use Rattle.sign_font.specs.Sign.{cell_in};
+ghost use Rattle.std.specs.Prelude.{◌≡◌, ◌+◌, ◌≤◌, ◌==◌, Some};
 ghost use Rattle.sign_font.specs.Sound.{IsSound, IsSoundSize};
-ghost use Rattle.multi_layout.specs.Meaning.{Meaning};
-ghost use Rattle.multi_layout.specs.declared.state.State.{State};
-ghost use Rattle.multi_layout.specs.kept.AreaDrawing.{DrawsGlyph};
-ghost use Rattle.multi_layout.specs.kept.RunDrawing.{StandsAt};
+ghost use Rattle.multi_layout.specs.kept.RunDrawing.{DrawsCharacter};
 ghost use Rattle.multi_layout.specs.Picture.{is_lit_at, shown_colour};
-ghost use Rattle.multi_layout.specs.kept.State.{IsStateOf};
 
 use crate::attributes::{Attributes, FlashTimes};
 use crate::cell::put_cell;
@@ -68,9 +63,7 @@ pub(crate) fn put_character(
     plane: &mut Plane,
 )
     requires size { IsSoundSize cell.now }
-    ensures drawn { (before rest : List Meaning) (state : State) (number : ℕ) → IsStateOf sign.now before state
-        → state.attributes ≡ attributes.now → cell_in sign.now attributes.now.font.number number ≡ Some cell.now
-        → StandsAt sign.now before number rest place → DrawsGlyph sign.now layer before number rest plane.old plane.new }
+    ensures drawn { DrawsCharacter sign.now layer attributes.now cell.now place plane.old plane.new }
     ensures counted { plane.old.steps ≤ plane.new.steps }
     ensures steps { plane.new.steps ≤ plane.old.steps + cell.now.height }
     ensures width { plane.new.width ≡ plane.old.width }

@@ -2,19 +2,23 @@
 use Rattle.std.specs.Prelude.{◌≡◌, ◌≢◌, ℕ, ◌+◌, ◌-◌, ◌^◌, ◌<◌, ◌≤◌, true, List, [], ◌∷◌, ◌++◌, map, length, Option, None, Some, IfSome}
 use Rattle.std.specs.Prelude.{slice_get}
 use Rattle.page_plane.specs.Plane.{BitPlane}
-use Rattle.sign_font.specs.Sign.{SignData, CellData, cell_numbered}
+use Rattle.sign_font.specs.Cell.{SizedCell}
+use Rattle.sign_font.specs.Sign.{SignData, CellData, cell_in, cell_numbered}
+use Rattle.multi_layout.specs.declared.attributes.Attributes.{Attributes}
 use Rattle.multi_layout.specs.declared.cursor.Cursor.{Cursor}
 use Rattle.multi_layout.specs.declared.item.NextItem.{NextItem}
 use Rattle.multi_layout.specs.declared.paint.Layer.{Layer}
 use Rattle.multi_layout.specs.declared.place.Place.{Place}
 use Rattle.multi_layout.specs.declared.read.AreaLines.{AreaLines}
+use Rattle.multi_layout.specs.declared.state.State.{State}
 use Rattle.multi_layout.specs.declared.table.LineTable.{LineTable}
 use Rattle.multi_layout.specs.Address.{Glyph, Spot, is_glyph, spots, standing}
 use Rattle.multi_layout.specs.Meaning.{Meaning, Shows}
 use Rattle.multi_layout.specs.Place.{place_of}
-use Rattle.multi_layout.specs.kept.AreaDrawing.{BeginsNoArea, HasCounted, IsDrawnTo, whole_area}
+use Rattle.multi_layout.specs.kept.AreaDrawing.{BeginsNoArea, DrawsGlyph, HasCounted, IsDrawnTo, whole_area}
 use Rattle.multi_layout.specs.kept.Cursors.{IsBetween, IsRead, LaidItem, meant, spell_of}
 use Rattle.multi_layout.specs.kept.Run.{lengthened, line_in_force}
+use Rattle.multi_layout.specs.kept.State.{IsStateOf}
 
 -- these of an area's items are drawn, and those are left (own)
 pub record AreaSoFar (sign : SignData) (octets : List ℕ) (before area rest : List LaidItem) (lines : LineTable) (layer : Layer)
@@ -53,6 +57,13 @@ StandsAt sign before number rest place =
     (cell : CellData) → cell_numbered (standing sign before).font number ≡ Some cell
     → let spot : Spot = record { at = standing sign before; put = Glyph cell } in
     place ≡ place_of (spots sign before) (spots sign (before ++ Shows number ∷ rest)) spot
+
+-- a character that stands at this place is drawn, where these are in force and this is its cell (own)
+abbrev pub DrawsCharacter : SignData → Layer → Attributes → SizedCell → Place → BitPlane → BitPlane → Type 0
+DrawsCharacter sign layer attributes cell place old new =
+    (before rest : List Meaning) (state : State) (number : ℕ) → IsStateOf sign before state → state.attributes ≡ attributes
+    → cell_in sign attributes.font.number number ≡ Some cell → StandsAt sign before number rest place
+    → DrawsGlyph sign layer before number rest old new
 
 -- the cursor stands before these items of an area that was read, the first of which stands at this place if it is a character (own)
 pub record IsRunHere (sign : SignData) (octets : List ℕ) (before area rest : List LaidItem) (read : AreaLines) (place : Place)
