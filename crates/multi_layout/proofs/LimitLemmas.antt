@@ -1,5 +1,5 @@
 -- What the present segment and the present group may have: the limits that are kept, and what fits them.
-use Rattle.std.proofs.Common.{◌≡◌, ℕ, ◌≤◌, Bool, true, false, ◌&&◌, not, inl, inr, [], ◌∷◌, ◌++◌, List, refl, sym, ap, subst, ◌∙◌, arith}
+use Rattle.std.proofs.Common.{◌≡◌, ℕ, ◌≤◌, Bool, true, false, ◌&&◌, not, inl, inr, [], ◌∷◌, ◌++◌, List, Option, refl, sym, ap, subst, ◌∙◌, arith}
 use Rattle.std.specs.Prelude.{nat_le}
 use Rattle.std.proofs.lemmas.Bool.{cases_Bool, false≢true, le-leb}
 use Rattle.std.proofs.lemmas.Bool.Decides.{nat_tests}
@@ -10,15 +10,18 @@ use Rattle.multi_layout.specs.declared.line.Character.{Character}
 use Rattle.multi_layout.specs.declared.area.Group.{Group}
 use Rattle.multi_layout.specs.declared.line.Line.{Line}
 use Rattle.multi_layout.specs.declared.state.State.{State}
-use Rattle.multi_layout.specs.Address.{Spot, area_of, is_glyph, line_before}
+use Rattle.multi_layout.specs.Address.{Spot, area_of, is_break, is_glyph, line_before, spots, standing}
+use Rattle.multi_layout.specs.Meaning.{Meaning}
+use Rattle.multi_layout.specs.declared.attributes.Attributes.{Attributes}
+use Rattle.sign_font.specs.Sign.{SignData}
 use Rattle.multi_layout.specs.Fit.{FitsWithout, fit, line_fits, room_for}
 use Rattle.multi_layout.specs.Laid.{too_big}
-use Rattle.multi_layout.specs.kept.Adding.{limited_anew, AddsCharacter, IsSameAbove, IsSameBefore}
+use Rattle.multi_layout.specs.kept.Adding.{limited_anew, AddsBreak, AddsCharacter, IsSameAbove, IsSameBefore}
 use Rattle.multi_layout.specs.kept.Run.{FitsBefore, IsBehindCharacter, IsBehindOne, IsOpenArea, kept_fits, kept_height, lengthened_line}
-use Rattle.multi_layout.specs.kept.State.{IsLimited, group_room, segment_room}
+use Rattle.multi_layout.specs.kept.State.{IsLimited, IsStateOf, IsUnfilledOf, attributes_of, group_room, segment_room}
 use Rattle.multi_layout.specs.kept.Sums.{area_sum, line_sum}
-use Rattle.multi_layout.proofs.AreaSumLemmas.{fits_character, group_of_own, placing_character, present_line}
-use Rattle.multi_layout.proofs.BeforeLemmas.{group_room_fits, groups_fit_before, segments_fit_before}
+use Rattle.multi_layout.proofs.AreaSumLemmas.{fits_break, fits_character, group_of_own, placing_break, placing_character, present_line}
+use Rattle.multi_layout.proofs.BeforeLemmas.{fits_without, group_room_fits, groups_fit_before, segments_fit_before}
 use Rattle.multi_layout.proofs.FitLemmas.{room_end, room_middle, room_start}
 use Rattle.multi_layout.proofs.PlaceLemmas.{each_just}
 use Rattle.multi_layout.proofs.RunLemmas.{kept_area_fits, kept_fits_is}
@@ -138,6 +141,41 @@ module _ (state new : State) (character : Character) (added : AddsCharacter stat
         let h : new.limits.height ≡ group_room new.area s.at.rectangle.height =
         now.height page.0 ∙ ap (λ (r : Rectangle). group_room new.area r.height) rectangle ∙ ap (group_room new.area) (sym high) in
         within_limits before s glyph new.area is present (behind.1.segment ∙ just ∙ sym own) page line without new.limits.width new.limits.height w h
+
+-- one more end of a line, behind which no group is before that of the items so far
+module _ (state new : State) (gap : Option ℕ) (added : AddsBreak state gap new) (limited : IsLimited state) (page_known : (2 ≤ state.attributes.page_just) × (state.attributes.page_just ≤ 4)) where
+  pub break_fits : (before : List Spot) (s : Spot) → is_break s ≡ true → state.area.present ≤ state.attributes.page_just → s.at.page_just ≡ state.attributes.page_just
+      → s.at.rectangle.height ≡ state.attributes.rectangle.height → new.area ≡ area_sum (area_of s before ++ s ∷ []) → FitsWithout before s → nat_le new.area.group.closed new.limits.height ≡ not (too_big Off before s)
+  break_fits before s ends order page high is without =
+      let on = added.present order in
+      let low : 2 ≤ new.area.present = omega (arith, page_known.0, on) in
+      let top : new.area.present ≤ 4 = omega (arith, page_known.1, on) in
+      let placing = placing_break before s ends in
+      let more = area_of s before ++ s ∷ [] in
+      let height = s.at.rectangle.height in
+      let rectangle : new.attributes.rectangle ≡ state.attributes.rectangle = ap (λ (t : State). t.attributes.rectangle) added.same in
+      let h : new.limits.height ≡ group_room new.area height =
+      (added.limited limited).height low ∙ ap (λ (r : Rectangle). group_room new.area r.height) rectangle ∙ ap (group_room new.area) (sym high) in
+      let above = groups_fit_before height (area_of s before) s new.area is placing (on ∙ sym page) top without.1 in
+      let closed : kept_height new.area.group ≡ new.area.group.closed = rw added.none refl in
+      fits_break before s height _ ends refl
+      (ap (λ n. nat_le n new.limits.height) (sym closed) ∙ ap (nat_le (kept_height new.area.group)) h
+      ∙ group_room_fits more new.area is height low top above ∙ kept_area_fits more new.area height placing is top)
+
+-- the answer whether it fits: by the limits behind items that fit, and else by the sums
+module _ (sign : SignData) (items : List Meaning) (state new : State) (st : IsStateOf sign items state) (gap : Option ℕ) (added : AddsBreak state gap new) (page_known : (2 ≤ state.attributes.page_just) × (state.attributes.page_just ≤ 4)) (words r : Bool)
+    (sums : words ≡ true → (before : List Spot) (s : Spot) → is_break s ≡ true → new.area ≡ area_sum (area_of s before ++ s ∷ []) → s.at.rectangle.height ≡ new.attributes.rectangle.height → r ≡ not (too_big Off before s))
+    (limits : words ≡ false → r ≡ nat_le new.area.group.closed new.limits.height) (unfilled : words ≡ false → IsUnfilledOf sign state items) where
+  pub break_told : (s : Spot) → s.at ≡ standing sign items → is_break s ≡ true → state.area.present ≤ state.attributes.page_just → new.area ≡ area_sum (area_of s (spots sign items) ++ s ∷ []) → r ≡ not (too_big Off (spots sign items) s)
+  break_told s at ends order grown =
+      let own : attributes_of s.at ≡ state.attributes = ap attributes_of at ∙ sym st.attributes in
+      let high = ap (λ (a : Attributes). a.rectangle.height) own in
+      elim (cases_Bool words) [
+        | inl filled ↦ sums filled (spots sign items) s ends grown (high ∙ ap (λ (t : State). t.attributes.rectangle.height) (sym added.same))
+        | inr plain ↦
+            let of = unfilled plain in
+            limits plain ∙ break_fits state new gap added of.limited page_known (spots sign items) s ends order (ap (λ (a : Attributes). a.page_just) own) high grown (fits_without sign items of.fine s at)
+      ]
 
 -- an area of no item has no limits yet
 pub limited_none : (state : State) → state.area ≡ area_sum [] → IsLimited state

@@ -148,7 +148,7 @@ module _ (sign : SignData) (items : List Meaning) (state : State) (st : IsStateO
     module _ (area : Area)
         (sum : (xs : List Spot) (s : Spot) → All IsPlacing xs → state.area ≡ area_sum xs → IsBreak s gap state.attributes.font → s.at.page_just ≡ state.attributes.page_just → state.area.present ≤ state.attributes.page_just → area ≡ area_sum (xs ++ s ∷ []))
         (f : Bool)
-        (fits : (before : List Spot) (s : Spot) → is_break s ≡ true → area ≡ area_sum (area_of s before ++ s ∷ []) → s.at.rectangle.height ≡ state.attributes.rectangle.height → f ≡ not (too_big Off before s)) where
+        (fits : (s : Spot) → s.at ≡ standing sign items → is_break s ≡ true → state.area.present ≤ state.attributes.page_just → area ≡ area_sum (area_of s (spots sign items) ++ s ∷ []) → f ≡ not (too_big Off (spots sign items) s)) where
       pub break-exit-too_big : r ≡ false → f ≡ false → offence Off sign items (Does (NewLine gap)) ≡ Some 5
       break-exit-too_big is big =
           let s : Spot = record { at = standing sign items; put = Break gap } in
@@ -157,7 +157,7 @@ module _ (sign : SignData) (items : List Meaning) (state : State) (st : IsStateO
           let order = no_back before s state.attributes.page_just state.area.present page_is (ap (λ (a : Area). a.present) st.area) (sym (answer before s st.area refl page_is) ∙ is) in
           let grown = sum (present_area sign items) s placing st.area ends page_is order in
           break-too_big sign items state st gap (sym (answer before s st.area refl page_is) ∙ is)
-          (not_false f (too_big Off before s) (fits before s refl grown height_is) big)
+          (not_false f (too_big Off before s) (fits s refl refl order grown) big)
 
       pub break-exit-fits : r ≡ false → f ≡ true → IsBelow (1024 * length items + 1024) area
           → (offence Off sign items (Does (NewLine gap)) ≡ None) × IsStateOf sign (items ++ Does (NewLine gap) ∷ []) (record state { area = area })
@@ -168,6 +168,6 @@ module _ (sign : SignData) (items : List Meaning) (state : State) (st : IsStateO
           let order = no_back before s state.attributes.page_just state.area.present page_is (ap (λ (a : Area). a.present) st.area) (sym (answer before s st.area refl page_is) ∙ is) in
           let grown = sum (present_area sign items) s placing st.area ends page_is order in (
             break-fits sign items state st gap (sym (answer before s st.area refl page_is) ∙ is)
-                (not_true f (too_big Off before s) (fits before s refl grown height_is) fine),
+                (not_true f (too_big Off before s) (fits s refl refl order grown) fine),
             state-break sign items state st gap area grown below,
           )

@@ -168,6 +168,7 @@ impl Area {
             → IsBreak s gap font.now → s.at.page_just ≡ page_just → self.old.present ≤ page_just → self.new ≡ area_sum (area ++ s ∷ []) }
         ensures grows { (k : ℕ) → IsBelow k self.old → IsBelow (k + 1024) self.new }
         ensures above { page_just ≡ self.old.present → IsSameAbove self.old self.new }
+        ensures present { self.old.present ≤ page_just → self.new.present ≡ page_just }
         ensures none { self.new.group.line.any ≡ false }
     {
         self.go_on(page_just);
@@ -186,6 +187,7 @@ impl Area {
             × (self.new.present ≤ 4) }
         ensures may { (just : ℕ) → IsOpenArea page_just just self.old → (self.new.present ≡ page_just) × IsOpen just self.new.group.line }
         ensures same { page_just ≡ self.old.present → self.new ≡ self.old }
+        ensures present { self.old.present ≤ page_just → self.new.present ≡ page_just }
     {
         if page_just <= self.present {
             return;

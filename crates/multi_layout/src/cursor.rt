@@ -147,7 +147,7 @@ impl Cursor {
             // A character is placed.
             unreachable!();
         };
-        match judge_tag(sign, &mut self.state, source, tag) {
+        match judge_tag::<true>(sign, &mut self.state, source, tag) {
             Ok(()) => {}
             // No item of an accepted string offends.
             Err(_) => unreachable!(),

@@ -1,25 +1,29 @@
 //! The verdict on a string, in one reading from the left with running sums.
 
-ghost use Rattle.std.specs.Prelude.{◌≡◌, ◌+◌, ◌-◌, ◌<◌, ◌≤◌, ◌==◌, if◌then◌else◌, length, List, IfSome, IfNone, OnOk, None, Some, true};
+ghost use Rattle.std.specs.Prelude.{◌≡◌, ◌+◌, ◌-◌, ◌<◌, ◌≤◌, ◌==◌, if◌then◌else◌, length, List, IfSome, IfNone, OnOk, None, Some, true, false, not, nat_le, [], ◌∷◌, ◌++◌, ◌^◌};
 ghost use Rattle.std.specs.Option.{option_map_or};
 ghost use Rattle.multi_token.specs.Counted.{RisesBetween};
 ghost use Rattle.sign_font.specs.Sign.{SignData};
 ghost use Rattle.sign_font.specs.Text.{width_in};
+ghost use Rattle.sign_font.specs.declared.parts.LineFill.TheVariants.{Off};
+ghost use Rattle.multi_layout.specs.Address.{Spot, area_of, is_break};
+ghost use Rattle.multi_layout.specs.Laid.{too_big};
 ghost use Rattle.multi_layout.specs.Meaning.{Does, Meaning, Shows};
 ghost use Rattle.multi_layout.specs.kept.Run.{IsBehindCharacter};
-ghost use Rattle.multi_layout.specs.kept.State.{IsJudged, IsKnown, IsLimited, IsReady, IsUnfilledOf, Judges};
+ghost use Rattle.multi_layout.specs.kept.Sums.{IsBelow, area_sum};
+ghost use Rattle.multi_layout.specs.kept.State.{IsJudged, JudgesTag, IsKnown, IsLimited, IsReady, IsUnfilledOf, Judges};
 
 use crate::area::Area;
-use crate::attributes::{Attributes, Rectangle, whole_sign};
+use crate::attributes::{Rectangle, whole_sign};
 use crate::fault::SyntaxError;
 use crate::state::{Limits, State};
 use crate::terms::Terms;
 use multi_tag::{FontPick, Tag};
 use multi_token::Source;
 
-/// Judges what a tag says.
+/// Judges what a tag says. `WORDS` says whether lines are filled, where the limits aren't known.
 #[inline(always)]
-pub(crate) fn judge_tag(
+pub(crate) fn judge_tag<const WORDS: bool>(
     sign: &Terms<'_>,
     state: &mut State,
     source: &mut Source<'_>,
@@ -27,13 +31,13 @@ pub(crate) fn judge_tag(
 ) -> Result<(), SyntaxError>
     requires ready { IsReady state.old }
     requires known { IsKnown tag }
-    ensures judged { Judges sign.now state.old (Does tag) result state.new }
+    ensures judged { JudgesTag WORDS sign.now state.old (Does tag) result state.new }
     ensures limited { IsLimited state.old → IsLimited state.new }
     ensures steps { RisesBetween source.old source.new 0 1 }
 {
     match tag {
         Tag::NewPage => judge_page(sign, state),
-        Tag::NewLine(gap) => judge_break(state, gap),
+        Tag::NewLine(gap) => judge_break::<WORDS>(state, gap),
         Tag::Font(pick) => judge_font(sign, state, source, pick),
         Tag::Rect { x, y, w, h } => judge_rectangle(sign, state, x, y, w, h),
         _ => {
@@ -71,24 +75,36 @@ pub(crate) fn judge_cell(state: &mut State, number: u16, width: u8) -> Result<()
 
 /// Judges the end of a line.
 #[inline(always)]
-fn judge_break(state: &mut State, gap: Option<u8>) -> Result<(), SyntaxError>
+fn judge_break<const WORDS: bool>(state: &mut State, gap: Option<u8>) -> Result<(), SyntaxError>
     requires { IsReady state.old }
-    ensures judged { (sign : SignData) → Judges sign state.old (Does (Tag.NewLine gap)) result state.new }
+    ensures judged { (sign : SignData) → JudgesTag WORDS sign state.old (Does (Tag.NewLine gap)) result state.new }
     ensures limited { IsLimited state.old → IsLimited state.new }
 {
-    let Attributes {
-        page_just,
-        rectangle,
-        ..
-    } = state.attributes;
-    if state.area.conflicts_with_break(page_just) {
+    if state.area.conflicts_with_break(state.attributes.page_just) {
         return Err(SyntaxError::TagConflict);
     }
     state.add_break(gap);
-    if state.area.fits_with_break(rectangle.height) {
+    if fits_with_break::<WORDS>(state) {
         Ok(())
     } else {
         Err(SyntaxError::TextTooBig)
+    }
+}
+
+/// Whether the area fits as far as its last item goes, an `nl`: by the limit, or where lines are filled by the sums.
+#[inline(always)]
+fn fits_with_break<const WORDS: bool>(state: &State) -> bool
+    requires below { IsBelow (2 ^ 62 + 1024) state.now.area }
+    ensures sums { WORDS ≡ true → (before : List Spot) (s : Spot) → is_break s ≡ true → state.now.area ≡ area_sum (area_of s before ++ s ∷ [])
+        → s.at.rectangle.height ≡ state.now.attributes.rectangle.height → result ≡ not (too_big Off before s) }
+    ensures limits { WORDS ≡ false → result ≡ nat_le state.now.area.group.closed state.now.limits.height }
+{
+    if WORDS {
+        state
+            .area
+            .fits_with_break(state.attributes.rectangle.height)
+    } else {
+        state.area.group.closed <= state.limits.height
     }
 }
 

@@ -169,7 +169,7 @@ impl Pass {
         if WORDS {
             self.fill_tag(sign, source, tag)
         } else {
-            judge_tag(sign, &mut self.state, source, tag)
+            judge_tag::<false>(sign, &mut self.state, source, tag)
         }
     }
 
@@ -185,7 +185,7 @@ impl Pass {
         ensures judged { JudgesFilled sign.now self.old (Does tag) result self.new }
         ensures steps { RisesBetween source.old source.new 0 1 }
     {
-        let judged = judge_tag(sign, &mut self.state, source, tag);
+        let judged = judge_tag::<true>(sign, &mut self.state, source, tag);
         if begins_line(tag) {
             self.split = None;
             self.order = Order::new();

@@ -46,10 +46,12 @@ pub record AddsCharacter (old : State) (character : Character) (new : State) : T
   pub limited : IsLimited old → IsLimited new
 
 -- the new state is the old one with one more end of a line, which gave this gap, and its limits are known where they were; no number grows
--- by more than 1,024 (own)
+-- by more than 1,024, the line in force has no character, and the group in force is the present one where none is behind it (own)
 pub record AddsBreak (old : State) (gap : Option ℕ) (new : State) : Type 0 where
   pub sum : (area : List Spot) (s : Spot) → All IsPlacing area → old.area ≡ area_sum area → IsBreak s gap old.attributes.font
       → s.at.page_just ≡ old.attributes.page_just → old.area.present ≤ old.attributes.page_just → new.area ≡ area_sum (area ++ s ∷ [])
   pub grows : (k : ℕ) → IsBelow k old.area → IsBelow (k + 1024) new.area
+  pub present : old.area.present ≤ old.attributes.page_just → new.area.present ≡ old.attributes.page_just
+  pub none : new.area.group.line.any ≡ false
   pub same : new ≡ record old { area = new.area; limits = new.limits }
   pub limited : IsLimited old → IsLimited new

@@ -1,5 +1,5 @@
 -- What is kept of the items that were read (own).
-use Rattle.std.specs.Prelude.{◌≡◌, ℕ, ◌+◌, ◌*◌, ◌^◌, ◌≤◌, true, List, [], ◌∷◌, ◌++◌, length, Some, None, Result, Ok, Err, if◌then◌else◌}
+use Rattle.std.specs.Prelude.{◌≡◌, ℕ, ◌+◌, ◌*◌, ◌^◌, ◌≤◌, true, List, [], ◌∷◌, ◌++◌, length, Some, None, Result, Ok, Err, if◌then◌else◌, Bool, false}
 use Rattle.std.specs.Option.{unwrap_or}
 use Rattle.multi_tag.specs.declared.tag.Tag.{Tag}
 use Rattle.multi_tag.specs.declared.tag.Tag.TheVariants.{NewPage, NewLine, LineJust, PageJust, Font, Rect}
@@ -112,6 +112,11 @@ IsJudged sign items item (Err error) state = offence Off sign items item ≡ Som
 -- whatever the items before are, if the old state is theirs, the item is judged behind them, and the new state is the one then (own)
 abbrev pub Judges : SignData → State → Meaning → Result (Unit {0}) SyntaxError → State → Type 0
 Judges sign old item result new = (items : List Meaning) → IsStateOf sign items old → IsJudged sign items item result new
+
+-- the same behind items of which none offends, where lines aren't filled, and else behind any (own)
+abbrev pub JudgesTag : Bool → SignData → State → Meaning → Result (Unit {0}) SyntaxError → State → Type 0
+JudgesTag words sign old item result new =
+    (items : List Meaning) → IsStateOf sign items old → (words ≡ false → IsUnfilledOf sign old items) → IsJudged sign items item result new
 
 -- a tag that the layout of the sign has no part in: it begins nothing, places nothing, and asks for no font (own)
 abbrev pub IsSimple : Tag → Type 0

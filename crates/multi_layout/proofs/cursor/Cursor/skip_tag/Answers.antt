@@ -11,7 +11,7 @@ pub unreachable-requires-in-Err : goal.unreachable-requires-in-Err
 unreachable-requires-in-Err c =
     let sign = c.args.sign.now in
     let (items, st, fine) = c.requires.fine in
-    let offends = c.in-Err.ensures.judged items st in
+    let offends = c.in-Err.ensures.judged items st (λ off. absurd cc) in
     let is = ap meant_by c.in-Tag.is in
     let plain = sized Off sign items (Does c.in-Tag.tag) (ap has_place (sym is) ∙ c.requires.unplaced) in
     let wrong : Some (code_of c.in-Err.field-0) ≡ None = sym offends ∙ plain ∙ ap (unsized_offence sign items) (sym is) ∙ fine in

@@ -20,4 +20,4 @@ returns-else-this-ne0-clause-judged g c = λ items of.
     let new : Pass = record { state = c.judge_tag.new.state; split = c.args.self.now.split; order = c.args.self.now.order } in
     let kept = subst (λ w. IsPassOf w sign c.args.self.now items) words of in
     subst (λ w. IsItemJudged w sign items (Does c.args.tag) c.judge_tag.result new) (sym words)
-    (judged_unfilled sign items (Does c.args.tag) c.judge_tag.result new kept.off kept.fine (c.judge_tag.ensures.limited kept.limited) (c.judge_tag.ensures.judged items kept.state_is))
+    (judged_unfilled sign items (Does c.args.tag) c.judge_tag.result new kept.off kept.fine (c.judge_tag.ensures.limited kept.limited) (c.judge_tag.ensures.judged items kept.state_is (λ off. kept)))

@@ -12,6 +12,8 @@ returns c = record {
   added = subst (AddsBreak c.args.self.now c.args.gap) (sym c.limit.ensures) (record {
     sum = c.add_break.ensures.sum;
     grows = c.add_break.ensures.grows;
+    present = c.add_break.ensures.present;
+    none = c.add_break.ensures.none;
     same = refl;
     limited = limited_again c.args.self.now c.add_break.new.self (c.args.self.now.area.present == c.args.self.now.attributes.page_just) true
         (λ stays. c.add_break.ensures.above (sym (eqb-true c.args.self.now.area.present c.args.self.now.attributes.page_just stays)))
