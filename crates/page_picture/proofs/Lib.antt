@@ -3,5 +3,7 @@ pub mod DotLemmas
 pub mod CountLemmas
 pub mod PaintLemmas
 pub mod PaletteLemmas
+pub mod PartLemmas
+pub mod RowLemmas
 pub mod ShownLemmas
 pub mod WriteLemmas

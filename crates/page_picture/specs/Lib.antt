@@ -3,4 +3,5 @@ pub mod Dots
 pub mod Palette
 pub mod Ppm
 pub mod Painted
+pub mod Rows
 pub mod Shown

@@ -1,19 +1,11 @@
 -- What is written at the front of octets that have room behind it.
-use Rattle.std.proofs.Common.{◌≡◌, ℕ, ◌+◌, ◌-◌, ◌≤◌, List, ◌++◌, length, take, drop, sym, ap, ◌∙◌, arith}
-use Rattle.std.proofs.Math.Seq.{take-append-add}
-use Rattle.std.proofs.lemmas.List.{drop-append-le, length-take-le, take-append-le, take-take, length-drop, length-append}
+use Rattle.std.proofs.Common.{◌≡◌, ℕ, ◌+◌, ◌≤◌, List, ◌++◌, length, take, drop, sym, ap, ◌∙◌, arith}
+use Rattle.page_picture.proofs.PartLemmas.{part_written}
+use Rattle.std.proofs.lemmas.List.{drop-append-le, length-take-le, take-append-le, take-take, length-append}
 
 -- room that is made keeps what is written
 pub room_kept : (old new : List ℕ) (len : ℕ) → len ≤ length old → take (length old) new ≡ old → take len new ≡ take len old
 room_kept old new len within kept = sym (take-take len (length old) new within) ∙ ap (take len) kept
-
--- more is written behind what is written
-pub part_written : (at n : ℕ) (old new rest : List ℕ) → at ≤ length old → n ≤ length new
-    → take (at + n) (take at old ++ (new ++ rest)) ≡ take at old ++ take n new
-part_written at n old new rest within enough =
-    ap (λ k. take (k + n) (take at old ++ (new ++ rest))) (sym (length-take-le at old within))
-    ∙ take-append-add (take at old) (new ++ rest) n
-    ∙ ap (λ l. take at old ++ l) (take-append-le n new rest enough)
 
 -- and then what was begun has that at its end
 pub begun_more : (old new more : List ℕ) (end : ℕ) → end ≤ length old → new ≡ old ++ more → drop end new ≡ drop end old ++ more
@@ -21,10 +13,6 @@ begun_more old new more end within is = ap (drop end) is ∙ drop-append-le end 
 
 pub whole_kept : (old new more : List ℕ) (end : ℕ) → end ≤ length old → new ≡ old ++ more → take end new ≡ take end old
 whole_kept old new more end within is = ap (take end) is ∙ take-append-le end old more within
-
--- the length of what is lent from a place on
-pub lent_length : (at : ℕ) (old : List ℕ) → at ≤ length old → length (take (length old - at) (drop at old)) ≡ length old - at
-lent_length at old within = length-take-le (length old - at) (drop at old) (let rest = length-drop at old in omega (arith, rest))
 
 -- what is written behind what there is of an answer comes to its end, where room was made for it
 pub grown : (items kept lent new rest behind begun more : List ℕ) (end len n count : ℕ) → end ≤ len → len ≤ length items

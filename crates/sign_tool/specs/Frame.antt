@@ -1,30 +1,18 @@
 -- The texts of frames, which show pages.
-use Rattle.std.specs.Prelude.{ℕ, Bool, true, false, List, [], ◌∷◌, ◌++◌, map, codes, decimal}
-use Rattle.std.specs.List.{flat_map, range_with_len}
+use Rattle.std.specs.Prelude.{ℕ, Bool, List, ◌++◌, codes, decimal}
 use Rattle.sign_font.specs.Sign.{SignData}
 use Rattle.multi_layout.specs.declared.times.Shown.{Shown}
 use Rattle.multi_layout.specs.declared.times.Shown.TheVariants.{Page, Off}
 use Rattle.multi_layout.specs.Meaning.{meanings}
 use Rattle.multi_layout.specs.Picture.{pixel_at}
 use Rattle.multi_layout.specs.Times.{shown}
+use Rattle.page_picture.specs.Rows.{marked_rows}
 use Rattle.sign_tool.specs.Reply.{answer_to}
 
--- A pixel that is lit is `#`, octet 35, and another is `.`, octet 46 (own).
-abbrev pub pixel_text : Bool → ℕ
-pixel_text true = 35
-pixel_text false = 46
-
--- The first pixels of a row, from the left (own).
-abbrev pub pixels_text : (ℕ → ℕ → Bool) → ℕ → ℕ → List ℕ
-pixels_text lit row count = map (λ column. pixel_text (lit column row)) (range_with_len 0 count)
-
--- A pixel row is a line, which ends with a line feed, octet 10 (own).
-abbrev pub row_text : (ℕ → ℕ → Bool) → ℕ → ℕ → List ℕ
-row_text lit width row = pixels_text lit row width ++ 10 ∷ []
-
--- The pixel rows, from the top, of what a test of column and row says is lit (own).
-unfoldable pub rows_text : (ℕ → ℕ → Bool) → ℕ → ℕ → List ℕ
-rows_text lit width height = flat_map (row_text lit width) (range_with_len 0 height)
+-- The pixel rows, from the top, of what a test of column and row says is lit: a pixel that is lit is `#`, octet 35, and another is `.`,
+-- octet 46 (own).
+abbrev pub frame_rows : (ℕ → ℕ → Bool) → ℕ → ℕ → List ℕ
+frame_rows lit width height = marked_rows 35 lit width height
 
 -- The first line of a frame has the page and its phase, or says that none is shown (own).
 abbrev pub head_text : Shown → List ℕ
@@ -33,7 +21,7 @@ head_text Off = codes "off\n"
 
 -- The frame of a colour for what is shown of a string, by the sign's own defaults (own).
 abbrev pub frame_text : SignData → List ℕ → ℕ → Shown → List ℕ
-frame_text sign line colour shown = head_text shown ++ rows_text (pixel_at sign (meanings line) shown colour) sign.width sign.height
+frame_text sign line colour shown = head_text shown ++ frame_rows (pixel_at sign (meanings line) shown colour) sign.width sign.height
 
 -- An accepted string is answered by its frame of this colour at this clock, in tenths of a second, and another as the
 -- check does (own).

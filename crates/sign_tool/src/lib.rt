@@ -14,7 +14,6 @@ mod fault;
 mod first;
 mod laws;
 mod output;
-mod pixels;
 mod ready;
 mod refill;
 mod replies;

@@ -3,7 +3,7 @@ ghost use Rattle.std.specs.Prelude.{◌≡◌, ◌++◌, OnOk, IfOk, ◌⊎◌};
 ghost use Rattle.page_plane.specs.Plane.{is_lit};
 ghost use Rattle.sign_control.specs.State.{started};
 ghost use Rattle.sign_script.specs.Asks.{ask_of};
-ghost use Rattle.sign_tool.specs.Frame.{head_text, rows_text};
+ghost use Rattle.sign_tool.specs.Frame.{frame_rows, head_text};
 ghost use Rattle.sign_tool.specs.Script.{AnswersAsk, display_text, replies, told};
 
 use crate::answer::{Answer, LineAnswer};
@@ -43,7 +43,7 @@ impl Operator {
 /// Appends a frame.
 fn push_lent(text: &mut Ready, frame: Frame<'_>) -> Result<(), AllocError>
     ensures text { OnOk result (text.new.begun ≡ text.old.begun ++ (head_text frame.entry.shown
-        ++ rows_text (is_lit frame.entry.plane.now) frame.entry.plane.now.width frame.entry.plane.now.height)) }
+        ++ frame_rows (is_lit frame.entry.plane.now) frame.entry.plane.now.width frame.entry.plane.now.height)) }
     ensures whole { text.new.whole ≡ text.old.whole }
 {
     push_head(text, frame.shown)?;

@@ -6,15 +6,14 @@ ghost use Rattle.multi_layout.specs.Meaning.{meanings};
 ghost use Rattle.multi_layout.specs.Pages.{IsSized};
 ghost use Rattle.multi_layout.specs.Picture.{pixel_at};
 ghost use Rattle.multi_layout.specs.Times.{shown};
-ghost use Rattle.sign_tool.specs.Frame.{frame_text, head_text, rows_text, show_answer};
+ghost use Rattle.sign_tool.specs.Frame.{frame_rows, frame_text, head_text, show_answer};
 
 use crate::answer::{Answer, LineAnswer};
-use crate::pixels::write_rows;
 use crate::ready::{Ready, make_room, push_number, push_octets};
 use crate::reply::{push_refused, push_too_long};
 use multi_layout::{Checked, Shown, check};
 use multi_token::Source;
-use page_picture::show;
+use page_picture::{Mark, show, write_rows};
 use page_plane::Plane;
 use sign_font::Sign;
 use std::alloc::{AllocError, Global};
@@ -68,12 +67,12 @@ impl Shower {
 
 /// Appends the pixel rows from the top.
 pub(crate) fn push_rows(text: &mut Ready, plane: &Plane) -> Result<(), AllocError>
-    ensures text { OnOk result (text.new.begun ≡ text.old.begun ++ rows_text (is_lit plane.now) plane.now.width plane.now.height) }
+    ensures text { OnOk result (text.new.begun ≡ text.old.begun ++ frame_rows (is_lit plane.now) plane.now.width plane.now.height) }
     ensures whole { text.new.whole ≡ text.old.whole }
 {
     let end = text.len + (usize::from(plane.width()) + 1) * usize::from(plane.height());
     make_room(&mut text.octets, end + 8)?;
-    write_rows(&mut text.octets[text.len..], plane);
+    write_rows(&mut text.octets[text.len..], plane, Mark::Hash);
     text.len = end;
     Ok(())
 }

@@ -1,7 +1,8 @@
 use Rattle.std.proofs.Common.{◌≡◌, ◌∙◌, length, take, ap, sym, arith}
 use Rattle.std.proofs.lemmas.List.{take-take}
 use Rattle.sign_tool.specs.kept.Ready.{ReadyData}
-use Rattle.sign_tool.proofs.WrittenLemmas.{grown, lent_length}
+use Rattle.sign_tool.proofs.WrittenLemmas.{grown}
+use Rattle.page_picture.proofs.PartLemmas.{lent_length}
 use Rattle.sign_tool.proofs.ready.push_short.Goals as goal
 
 pub returns-clause-text : goal.returns-clause-text

@@ -1,8 +1,9 @@
 use Rattle.std.proofs.Common.{◌≡◌, ◌+◌, ◌*◌, ◌∙◌, length, take, ap, sym, arith}
 use Rattle.page_plane.specs.Plane.{is_lit}
-use Rattle.sign_tool.specs.Frame.{rows_text}
+use Rattle.sign_tool.specs.Frame.{frame_rows}
 use Rattle.sign_tool.specs.kept.Ready.{ReadyData}
-use Rattle.sign_tool.proofs.WrittenLemmas.{grown, lent_length}
+use Rattle.sign_tool.proofs.WrittenLemmas.{grown}
+use Rattle.page_picture.proofs.PartLemmas.{lent_length}
 use Rattle.sign_tool.proofs.show.push_rows.Goals as goal
 
 pub returns-clause-text : goal.returns-clause-text
@@ -21,6 +22,6 @@ returns-clause-text c =
     let there = c.text.invariant.1 in
     let rest = lent_length a.len lent (omega (arith, value, room.room)) in
     let long = c.write_rows.ensures.len in
-    grown a.octets.items c.make_room.new.octets.items lent new _ _ c.args.text.now.begun (rows_text (is_lit plane) plane.width plane.height) a.end a.len ((c.from.result + 1) * c.from-2.result) c.make_room.new.octets.len
+    grown a.octets.items c.make_room.new.octets.items lent new _ _ c.args.text.now.begun (frame_rows (is_lit plane) plane.width plane.height) a.end a.len ((c.from.result + 1) * c.from-2.result) c.make_room.new.octets.len
     c.text.invariant.0 there room.kept d.value all (omega (arith, value, room.room)) (omega (arith, value, room.room, rest, long)) begun
     (ap (λ n. take n new) size ∙ c.write_rows.ensures.written)

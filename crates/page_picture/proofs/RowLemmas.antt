@@ -1,0 +1,130 @@
+-- The rows of a plane as text, one after the other.
+use Rattle.std.proofs.Common.{◌≡◌, ℕ, zero, suc, ◌+◌, ◌-◌, ◌*◌, ◌/◌, ◌%◌, ◌<◌, ◌≤◌, ◌==◌, Bool, List, [], ◌∷◌, ◌++◌, get_or, length, map, replicate, take, drop, refl, sym, ap, ◌∙◌, arith}
+use Rattle.std.specs.Int.{bit_at}
+use Rattle.std.specs.List.{flat_map, range_with_len}
+use Rattle.std.proofs.lemmas.List.{get_or-drop, get_or-take, length-append, take-append-le}
+use Rattle.std.proofs.lemmas.List.FromFn.{length-map-range_with_len, take-map-range_with_len}
+use Rattle.octet_text.proofs.TextLemmas.{flat_map_more, flat_map_same, map_same}
+use Rattle.page_plane.specs.Octets.{is_bit_set}
+use Rattle.page_picture.specs.Rows.{mark_of, marked_rows, octet_marks, row_text, rows_text}
+
+-- OCTETS
+
+-- functions that agree on two ranges have the same values there
+map_moved : (f g : ℕ → ℕ) (a b n : ℕ) → ((i j k : ℕ) → k < n → i ≡ a + k → j ≡ b + k → f i ≡ g j) → map f (range_with_len a n) ≡ map g (range_with_len b n)
+map_moved f g a b zero same = refl
+map_moved f g a b (suc n) same =
+    ap (λ x. x ∷ map f (range_with_len (a + 1) n)) (same a b 0 (omega arith) (omega arith) (omega arith))
+    ∙ ap (λ l. g b ∷ l) (map_moved f g (a + 1) (b + 1) n (λ i j k below at to. same i j (k + 1) (omega arith) (omega arith) (omega arith)))
+
+-- the values on a range are those on its front and those behind it
+map_parts : (f : ℕ → ℕ) (a b n m : ℕ) → b ≡ a + n → map f (range_with_len a (n + m)) ≡ map f (range_with_len a n) ++ map f (range_with_len b m)
+map_parts f a b zero m is =
+    ap (λ k. map f (range_with_len a k)) (let none : 0 + m ≡ m = omega arith in none)
+    ∙ ap (λ i. map f (range_with_len i m)) (let same : a ≡ b = omega (arith, is) in same)
+map_parts f a b (suc n) m is =
+    ap (λ k. map f (range_with_len a k)) (let next : suc n + m ≡ suc (n + m) = omega arith in next)
+    ∙ ap (λ l. f a ∷ l) (map_parts f (a + 1) b n m (omega (arith, is)))
+
+-- as many marks as pixels
+pub marks_count : (mark : ℕ) (octets : List ℕ) (count : ℕ) → length (octet_marks mark octets count) ≡ count
+marks_count mark octets count = length-map-range_with_len (λ place. mark_of mark (is_bit_set octets place)) 0 count
+
+-- the bit at a place is one of the octet that stands there
+bit_of : (octets : List ℕ) (k octet place j : ℕ) → place / 8 ≡ k → place % 8 ≡ j → octet ≡ get_or octets k 0 → is_bit_set octets place ≡ (bit_at octet (7 - j) == 1)
+unfolding is_bit_set
+bit_of octets k octet place j at rest is = rw (at, rest, is) refl
+
+-- an octet has eight more pixels
+pub marks_more : (mark : ℕ) (octets eight : List ℕ) (k octet : ℕ) → octet ≡ get_or octets k 0
+    → eight ≡ map (λ j. mark_of mark (bit_at octet (7 - j) == 1)) (range_with_len 0 8) → octet_marks mark octets (8 * k) ++ eight ≡ octet_marks mark octets (8 * (k + 1))
+marks_more mark octets eight k octet at is =
+    let f : ℕ → ℕ = λ place. mark_of mark (is_bit_set octets place) in
+    let next : 8 * k + 8 ≡ 8 * (k + 1) = omega arith in
+    ap (λ l. octet_marks mark octets (8 * k) ++ l) (is ∙ sym (map_moved f (λ j. mark_of mark (bit_at octet (7 - j) == 1)) (8 * k) 0 8 (λ i j n below from to.
+    ap (mark_of mark) (bit_of octets k octet i j (omega arith) (omega arith) at))))
+    ∙ sym (map_parts f 0 (8 * k) (8 * k) 8 (omega arith)) ∙ ap (octet_marks mark octets) next
+
+-- the bit at a place of a part is that of the whole
+part_bit : (octets : List ℕ) (from n place : ℕ) → place < 8 * n → is_bit_set (take n (drop from octets)) place ≡ is_bit_set octets (8 * from + place)
+unfolding is_bit_set
+part_bit octets from n place below =
+    let at : (8 * from + place) / 8 ≡ from + place / 8 = omega arith in
+    let rest : (8 * from + place) % 8 ≡ place % 8 = omega arith in
+    rw (at, rest, get_or-take n (drop from octets) (place / 8) 0 (omega (arith, below)), get_or-drop from octets (place / 8) 0) refl
+
+-- the marks of a part of octets come behind those of the octets before it
+pub marks_part : (mark : ℕ) (octets part : List ℕ) (from n front size : ℕ) → part ≡ take n (drop from octets) → front ≡ 8 * from → size ≡ 8 * from + 8 * n
+    → octet_marks mark octets front ++ octet_marks mark part (8 * n) ≡ octet_marks mark octets size
+marks_part mark octets part from n front size is_part is_front is_size =
+    let f : ℕ → ℕ = λ place. mark_of mark (is_bit_set octets place) in
+    let g : ℕ → ℕ = λ place. mark_of mark (is_bit_set (take n (drop from octets)) place) in
+    ap (λ k. octet_marks mark octets k ++ octet_marks mark part (8 * n)) is_front
+    ∙ ap (λ l. octet_marks mark octets (8 * from) ++ octet_marks mark l (8 * n)) is_part
+    ∙ ap (λ l. octet_marks mark octets (8 * from) ++ l) (sym (map_moved f g (8 * from) 0 (8 * n) (λ i j k below at to.
+    let here : 8 * from + j ≡ i = omega (arith, at, to) in
+    ap (mark_of mark) (ap (is_bit_set octets) (sym here) ∙ sym (part_bit octets from n j (omega (arith, to, below)))))))
+    ∙ sym (map_parts f 0 (8 * from) (8 * from) (8 * n) (omega arith))
+    ∙ ap (octet_marks mark octets) (sym is_size)
+
+-- eight octets that are 0 have 64 points
+pub dark_marks : (mark : ℕ) → octet_marks mark (replicate {A = ℕ} 8 0) 64 ≡ replicate {A = ℕ} 64 46
+unfolding is_bit_set
+dark_marks mark = refl
+
+-- fewer marks are the first of them
+pub marks_fewer : (mark : ℕ) (octets text rest : List ℕ) (width count : ℕ) → width ≤ count → text ≡ octet_marks mark octets count ++ rest
+    → take width text ≡ octet_marks mark octets width
+marks_fewer mark octets text rest width count few is =
+    let size = marks_count mark octets count in
+    ap (take width) is ∙ take-append-le width (octet_marks mark octets count) rest (omega (arith, size, few))
+    ∙ take-map-range_with_len (λ place. mark_of mark (is_bit_set octets place)) 0 count width few
+
+-- ROWS
+
+-- no row is written at first
+pub rows_none : (at : ℕ → ℕ → ℕ) (width : ℕ) → rows_text at width 0 ≡ []
+unfolding rows_text
+rows_none at width = refl
+
+-- one more row comes behind those above it
+pub rows_more : (at : ℕ → ℕ → ℕ) (width row : ℕ) → rows_text at width (row + 1) ≡ rows_text at width row ++ row_text at width row
+unfolding rows_text
+rows_more at width row =
+    let next : row + 1 ≡ suc row = omega arith in
+    ap (λ n. flat_map (row_text at width) (range_with_len 0 n)) next ∙ flat_map_more (row_text at width) 0 row row (omega arith)
+
+-- what has the same pixels has the same rows
+pub rows_same : (at other : ℕ → ℕ → ℕ) (width height : ℕ) → ((column row : ℕ) → column < width → row < height → at column row ≡ other column row)
+    → rows_text at width height ≡ rows_text other width height
+unfolding rows_text
+rows_same at other width height same =
+    flat_map_same (row_text at width) (row_text other width) 0 height (λ row above.
+    ap (λ l. l ++ 10 ∷ []) (map_same (λ k. at k row) (λ k. other k row) 0 width (λ column left. same column row (omega arith) (omega arith))))
+
+-- what lights the same pixels has the same rows
+pub marked_same : (mark : ℕ) (lit other : ℕ → ℕ → Bool) (width height : ℕ) → ((column row : ℕ) → column < width → row < height → lit column row ≡ other column row)
+    → marked_rows mark lit width height ≡ marked_rows mark other width height
+marked_same mark lit other width height same =
+    rows_same (λ column row. mark_of mark (lit column row)) (λ column row. mark_of mark (other column row)) width height
+    (λ column row left above. ap (mark_of mark) (same column row left above))
+
+-- the line of a row comes behind the rows above it
+pub row_next : (mark : ℕ) (lit : ℕ → ℕ → Bool) (octets : List ℕ) (width row : ℕ) → ((x : ℕ) → x < width → is_bit_set octets x ≡ lit x row)
+    → marked_rows mark lit width row ++ (octet_marks mark octets width ++ 10 ∷ []) ≡ marked_rows mark lit width (row + 1)
+row_next mark lit octets width row same =
+    ap (λ l. marked_rows mark lit width row ++ (l ++ 10 ∷ [])) (map_same (λ place. mark_of mark (is_bit_set octets place)) (λ column. mark_of mark (lit column row)) 0 width
+    (λ x below. ap (mark_of mark) (same x (omega (arith, below)))))
+    ∙ sym (rows_more (λ column row. mark_of mark (lit column row)) width row)
+
+-- the octets of rows
+pub rows_count : (at : ℕ → ℕ → ℕ) (width height : ℕ) → length (rows_text at width height) ≡ (width + 1) * height
+rows_count at width zero = ap length (rows_none at width) ∙ (let none : 0 ≡ (width + 1) * 0 = omega arith in none)
+rows_count at width (suc row) =
+    let marks = map (λ column. at column row) (range_with_len 0 width) in
+    let next : suc row ≡ row + 1 = omega arith in
+    let above = rows_count at width row in
+    let line = length-append marks (10 ∷ []) in
+    let size : length marks ≡ width = length-map-range_with_len (λ column. at column row) 0 width in
+    let both = length-append (rows_text at width row) (row_text at width row) in
+    ap (λ n. length (rows_text at width n)) next ∙ ap length (rows_more at width row) ∙ omega (arith, above, line, size, both)
