@@ -1,7 +1,8 @@
 -- Marks that are written into a line.
 use Rattle.std.proofs.Common.{◌≡◌, ℕ, zero, suc, ◌+◌, ◌-◌, ◌<◌, List, [], ◌∷◌, ◌++◌, length, map, take, drop, get_or, set, replicate, refl, sym, ap, ◌∙◌, arith, append-nil}
 use Rattle.std.specs.List.{range_with_len}
-use Rattle.std.proofs.lemmas.List.{drop_all, drop_at, drop-drop, drop-set-lt, length-append, length-replicate, map-append, take-append-drop, take_all, take_at, take_more, take_more_set}
+use Rattle.std.proofs.lemmas.List.{drop_all, drop_at, drop-drop, drop-set-lt, length-append, length-replicate, map-append, take-append-drop, take-append-le, take-take, take_all, take_at, take_more, take_more_set}
+use Rattle.page_picture.proofs.PartLemmas.{lent_length, part_written}
 use Rattle.message_report.specs.Pictures.{mark}
 
 -- one more mark is written
@@ -61,3 +62,28 @@ line_added old items lent new rest behind marks start total count all is_start i
     last_left : (count : ℕ) → drop count (replicate {A = ℕ} (count + 1) 10) ≡ 10 ∷ []
     last_left zero = refl
     last_left (suc count) = let next : suc count + 1 ≡ suc (count + 1) = omega arith in ap (λ n. drop (suc count) (replicate {A = ℕ} n 10)) next ∙ last_left count
+
+-- lines that are written where a text was made longer, by eight points more than they have
+pub lines_added : (old items lent new rest behind lines : List ℕ) (start total n count len : ℕ) → start ≡ length old → total ≡ length old
+    → items ≡ take (start + n + 8) old ++ replicate (start + n + 8 - total) 46 → lent ≡ items → len ≡ length lent
+    → length new ≡ length (take (length lent - start) (drop start lent)) → n ≡ count → take count new ≡ lines
+    → take (start + n) (take len (take start lent ++ (new ++ rest) ++ behind)) ≡ old ++ lines
+lines_added old items lent new rest behind lines start total n count len is_start is_total made is_lent is_len long is_count written =
+    let points : List ℕ = replicate (n + 8) 46 in
+    let room : start + n + 8 - total ≡ n + 8 = omega (arith, is_start, is_total) in
+    let whole : lent ≡ old ++ points =
+    is_lent ∙ made ∙ ap (λ l. l ++ replicate (start + n + 8 - total) 46) (take_all (start + n + 8) old (omega (arith, is_start))) ∙ ap (λ k. old ++ replicate k 46) room in
+    let count_of : length points ≡ n + 8 = length-replicate {A = ℕ} (n + 8) 46 in
+    let size : length lent ≡ length old + (n + 8) = ap length whole ∙ length-append old points ∙ ap (λ k. length old + k) count_of in
+    let front : take start lent ≡ old = ap (take start) whole ∙ take_at old points start (sym is_start) in
+    let first : length (take start lent) ≡ length old = ap length front in
+    let lent_is = lent_length start lent (omega (arith, size, is_start)) in
+    let part = take start lent ++ (new ++ rest) in
+    let two = length-append new rest in
+    let both = length-append (take start lent) (new ++ rest) in
+    take-take (start + n) len (part ++ behind) (omega (arith, is_len, size, is_start))
+    ∙ take-append-le (start + n) part behind (omega (arith, first, both, two, long, lent_is, size, is_start))
+    ∙ part_written start n lent new rest (omega (arith, size, is_start)) (omega (arith, long, lent_is, size, is_start))
+    ∙ ap (λ l. l ++ take n new) front
+    ∙ ap (λ k. old ++ take k new) is_count
+    ∙ ap (λ l. old ++ l) written

@@ -1,36 +1,16 @@
 -- The rows of a page's marks.
-use Rattle.std.proofs.Common.{◌≡◌, ℕ, suc, ◌+◌, ◌<◌, List, [], ◌∷◌, ◌++◌, map, refl, ap, ◌∙◌, arith}
-use Rattle.std.specs.List.{flat_map, range_with_len}
+use Rattle.std.proofs.Common.{◌≡◌, ℕ, ◌<◌, Bool, false, List, ap, ◌∙◌, arith, inl, inr, refl}
+use Rattle.std.proofs.lemmas.Bool.{cases_Bool}
+use Rattle.page_plane.specs.Plane.{BitPlane, is_lit}
 use Rattle.sign_font.specs.Sign.{SignData}
-use Rattle.octet_text.proofs.TextLemmas.{flat_map_more, flat_map_same, map_more, map_same}
-use Rattle.page_picture.specs.Colours.{ColourData, IsPage, page_colour}
-use Rattle.message_report.specs.Pictures.{mark, mark_at, marks, page_text, row_text, rows_text}
-
--- no row is written at first
-pub rows_none : (at : ℕ → ℕ → ℕ) (width : ℕ) → rows_text at width 0 ≡ []
-unfolding rows_text
-rows_none at width = refl
-
--- one more row comes behind those above it
-pub rows_more : (at : ℕ → ℕ → ℕ) (width row : ℕ) → rows_text at width (row + 1) ≡ rows_text at width row ++ row_text at width row
-unfolding rows_text
-rows_more at width row =
-    let next : row + 1 ≡ suc row = omega arith in
-    ap (λ n. flat_map (row_text at width) (range_with_len 0 n)) next ∙ flat_map_more (row_text at width) 0 row row (omega arith)
-
--- one more mark comes behind those to the left of it
-pub marks_more : (at : ℕ → ℕ → ℕ) (row column : ℕ) → marks at row (column + 1) ≡ marks at row column ++ at column row ∷ []
-marks_more at row column =
-    let next : column + 1 ≡ suc column = omega arith in
-    ap (λ n. map (λ k. at k row) (range_with_len 0 n)) next ∙ map_more (λ k. at k row) 0 column column (omega arith)
-
--- what has the same marks has the same rows
-rows_same : (at other : ℕ → ℕ → ℕ) (width height : ℕ) → ((column row : ℕ) → column < width → row < height → at column row ≡ other column row)
-    → rows_text at width height ≡ rows_text other width height
-unfolding rows_text
-rows_same at other width height same =
-    flat_map_same (row_text at width) (row_text other width) 0 height (λ row above.
-    ap (λ l. l ++ 10 ∷ []) (map_same (λ k. at k row) (λ k. other k row) 0 width (λ column left. same column row (omega arith) (omega arith))))
+use Rattle.multi_layout.specs.Drawn.{Lights}
+use Rattle.multi_layout.specs.Pages.{IsSized}
+use Rattle.multi_layout.specs.Picture.{picture}
+use Rattle.page_picture.specs.Colours.{ColourData, IsPage, colour_by, page_colour}
+use Rattle.page_picture.specs.Rows.{mark_of, marked_rows, rows_text}
+use Rattle.page_picture.proofs.RowLemmas.{rows_same}
+use Rattle.page_picture.proofs.WriteLemmas.{monochrome_dark}
+use Rattle.message_report.specs.Pictures.{mark, mark_at, page_text}
 
 -- the marks of a page's colours are its picture
 pub pictured : (sign : SignData) (octets : List ℕ) (page phase : ℕ) (colours : ColourData) → IsPage sign octets page phase colours
@@ -40,3 +20,22 @@ pictured sign octets page phase colours is =
     ∙ ap (rows_text (mark_at colours) sign.width) is.height
     ∙ rows_same (mark_at colours) (λ column row. mark (page_colour sign octets page phase column row)) sign.width sign.height (λ column row left above.
     ap mark (is.pixels column row left above))
+
+-- a pixel that has no colour above 1 has the mark of colour 1 or that of black
+one_mark : (has : ℕ → Bool) → ((colour : ℕ) → 1 < colour → has colour ≡ false) → mark_of 49 (has 1) ≡ mark (colour_by has)
+one_mark has none = elim (cases_Bool (has 1)) [
+  | inl on ↦ rw on refl
+  | inr off ↦ rw (off, none 2 (omega arith), none 3 (omega arith), none 4 (omega arith), none 5 (omega arith), none 6 (omega arith), none 7 (omega arith), none 8 (omega arith), none 9 (omega arith)) refl
+]
+
+-- the plane of colour 1 of a monochrome sign's page is its picture
+pub monochrome_pictured : (sign : SignData) (octets : List ℕ) (page phase : ℕ) (plane : BitPlane) → sign.classic ≡ false
+    → Lights plane (picture sign octets page phase 1) → IsSized plane sign
+    → marked_rows 49 (is_lit plane) plane.width plane.height ≡ page_text sign octets page phase
+monochrome_pictured sign octets page phase plane plain shows sized =
+    let marks : ℕ → ℕ → ℕ = λ column row. mark (page_colour sign octets page phase column row) in
+    rows_same (λ column row. mark_of 49 (is_lit plane column row)) marks plane.width plane.height (λ column row left above.
+    ap (mark_of 49) (shows column row left above)
+    ∙ one_mark (λ colour. picture sign octets page phase colour column row) (λ colour more. monochrome_dark sign octets page phase colour column row plain more))
+    ∙ ap (λ w. rows_text marks w plane.height) sized.0
+    ∙ ap (rows_text marks sign.width) sized.1

@@ -1,9 +1,12 @@
-//! A page drawn by marks, in all its colours at once.
+//! A page drawn by marks: in all its colours at once, or in the one that a monochrome sign has.
 ghost use Rattle.std.specs.Prelude.{◌≡◌, ◌++◌, ◌<◌, ◌≤◌, OnOk, drop, length, map, take};
 ghost use Rattle.std.specs.List.{All};
-ghost use Rattle.message_report.specs.Pictures.{mark, mark_at, row_text, rows_text};
+ghost use Rattle.page_plane.specs.Plane.{is_lit};
+ghost use Rattle.page_picture.specs.Rows.{marked_rows, row_text, rows_text};
+ghost use Rattle.message_report.specs.Pictures.{mark, mark_at};
 
-use page_picture::PageColours;
+use page_picture::{Mark, PageColours, write_rows};
+use page_plane::Plane;
 use std::alloc::AllocError;
 
 /// The mark of a colour: its digit, or a point for black.
@@ -46,5 +49,17 @@ pub(crate) fn push_rows(text: &mut Vec<u8>, colours: &PageColours) -> Result<(),
     for row in 0..colours.height() {
         push_row(text, colours, row)?;
     }
+    Ok(())
+}
+
+/// Appends the rows of pixels of a plane from the top, with the mark of colour 1 for a lit pixel and that of black for another.
+pub(crate) fn push_lit(text: &mut Vec<u8>, plane: &Plane) -> Result<(), AllocError>
+    ensures { OnOk result (text.new.items ≡ text.old.items ++ marked_rows 49 (is_lit plane.now) plane.now.width plane.now.height) }
+{
+    let start = text.len();
+    let end = start + (usize::from(plane.width()) + 1) * usize::from(plane.height());
+    text.resize(end + 8, b'.')?;
+    write_rows(&mut text[start..], plane, Mark::One);
+    text.truncate(end);
     Ok(())
 }

@@ -1,5 +1,6 @@
 use Rattle.std.proofs.Common.{◌≡◌, ◌++◌}
-use Rattle.message_report.specs.Pictures.{mark_at, rows_text}
+use Rattle.page_picture.specs.Rows.{rows_text}
+use Rattle.message_report.specs.Pictures.{mark_at}
 use Rattle.message_report.proofs.marks.push_rows.Given as goal
 
 abbrev pub invariant-loop-row : goal.invariant-loop-row

@@ -3,7 +3,7 @@ use Rattle.page_picture.specs.Palette.{palette}
 use Rattle.message_report.specs.Explanation.{picture_text}
 use Rattle.message_report.proofs.BlockLemmas
 use Rattle.message_report.proofs.PageLemmas
-use Rattle.message_report.proofs.picture.push_picture.Goals as goal
+use Rattle.message_report.proofs.picture.push_coloured.Goals as goal
 
 pub returns-in-Marks-clause-ok : goal.returns-in-Marks-clause-ok
 returns-in-Marks-clause-ok c =
