@@ -1,8 +1,12 @@
 -- The rows of a plane as text, one after the other.
-use Rattle.std.proofs.Common.{◌≡◌, ℕ, zero, suc, ◌+◌, ◌-◌, ◌*◌, ◌/◌, ◌%◌, ◌<◌, ◌≤◌, ◌==◌, Bool, List, [], ◌∷◌, ◌++◌, get_or, length, map, replicate, take, drop, refl, sym, ap, ◌∙◌, arith}
-use Rattle.std.specs.Int.{bit_at}
-use Rattle.std.specs.List.{flat_map, range_with_len}
-use Rattle.std.proofs.lemmas.List.{get_or-drop, get_or-take, length-append, take-append-le}
+use Rattle.std.proofs.Common.{◌≡◌, ℕ, zero, suc, ◌+◌, ◌-◌, ◌*◌, ◌/◌, ◌%◌, ◌<◌, ◌≤◌, ◌==◌, ◌&&◌, Bool, true, List, [], ◌∷◌, ◌++◌, get_or, length, map, replicate, subst, take, drop, refl, sym, ap, ◌∙◌, arith, inl, inr}
+use Rattle.std.specs.Int.{bit_at, from_le_bytes, to_le_bytes, w64}
+use Rattle.std.specs.List.{flat_map, list_all, range_with_len}
+use Rattle.std.proofs.Math.Seq.{take-add}
+use Rattle.std.proofs.lemmas.Bool.{and_parts, cases_Bool, eqb-true}
+use Rattle.std.proofs.lemmas.List.Folds.{list_all-append}
+use Rattle.std.proofs.lemmas.Nat.{le_bytes_8}
+use Rattle.std.proofs.lemmas.List.{get_or-drop, get_or-take, length-append, take-append-le, take_all}
 use Rattle.std.proofs.lemmas.List.FromFn.{length-map-range_with_len, take-map-range_with_len}
 use Rattle.octet_text.proofs.TextLemmas.{flat_map_more, flat_map_same, map_same}
 use Rattle.page_plane.specs.Octets.{is_bit_set}
@@ -128,3 +132,41 @@ rows_count at width (suc row) =
     let size : length marks ≡ width = length-map-range_with_len (λ column. at column row) 0 width in
     let both = length-append (rows_text at width row) (row_text at width row) in
     ap (λ n. length (rows_text at width n)) next ∙ ap length (rows_more at width row) ∙ omega (arith, above, line, size, both)
+
+-- DARK OCTETS
+
+-- octets that are all 0
+pub all_zero : (l : List ℕ) → list_all (λ octet. octet == 0) l ≡ true → l ≡ replicate (length l) 0
+all_zero [] all = refl
+all_zero (octet ∷ l) all =
+    let parts = and_parts (octet == 0) (list_all (λ octet. octet == 0) l) all in
+    ap (λ x. x ∷ l) (eqb-true octet 0 parts.0) ∙ ap (λ r. 0 ∷ r) (all_zero l parts.1)
+
+-- eight octets are all 0 exactly if they are 0 as a word
+pub dark_word : (octets eight : List ℕ) (word : ℕ) → length octets ≡ 8 → ((i : ℕ) → get_or octets i 0 < 256) → eight ≡ take 8 octets
+    → word ≡ from_le_bytes w64 eight → (word == 0) ≡ list_all (λ octet. octet == 0) octets
+dark_word octets eight word whole small is_eight is_word =
+    let all : eight ≡ octets = is_eight ∙ take_all 8 octets (omega (arith, whole)) in
+    elim (cases_Bool (list_all (λ octet. octet == 0) octets)) [
+      | inl dark ↦
+          let zeros : octets ≡ replicate 8 0 = all_zero octets dark ∙ ap (λ n. replicate n 0) whole in
+          let none : word ≡ 0 = is_word ∙ ap (from_le_bytes w64) (all ∙ zeros) in
+          ap (λ n. n == 0) none ∙ sym dark
+      | inr lit ↦ elim (cases_Bool (word == 0)) [
+        | inl none ↦
+            let back : to_le_bytes w64 0 ≡ replicate {A = ℕ} 8 0 = refl in
+            let zeros : octets ≡ replicate 8 0 =
+            sym all ∙ sym (le_bytes_8 eight word (ap length all ∙ whole) (λ i. subst (λ l. get_or l i 0 < 256) (sym all) (small i)) is_word)
+            ∙ ap (to_le_bytes w64) (eqb-true word 0 none) ∙ back in
+            none ∙ sym (ap (list_all (λ octet. octet == 0)) zeros)
+        | inr some ↦ some ∙ sym lit
+      ]
+    ]
+
+-- octets are all 0 if those of their front and of the part behind it are
+pub dark_more : (octets part : List ℕ) (front n size : ℕ) → size ≡ front + n → part ≡ take n (drop front octets)
+    → list_all (λ octet. octet == 0) (take size octets) ≡ (list_all (λ octet. octet == 0) (take front octets) && list_all (λ octet. octet == 0) part)
+dark_more octets part front n size is_size is_part =
+    ap (λ k. list_all (λ octet. octet == 0) (take k octets)) is_size ∙ ap (list_all (λ octet. octet == 0)) (take-add front n octets)
+    ∙ list_all-append (λ octet. octet == 0) (take front octets) (take n (drop front octets))
+    ∙ ap (λ l. list_all (λ octet. octet == 0) (take front octets) && list_all (λ octet. octet == 0) l) (sym is_part)

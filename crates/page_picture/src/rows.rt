@@ -1,7 +1,7 @@
 //! The rows of a plane as lines of text.
-ghost use Rattle.std.specs.Prelude.{◌≡◌, ◌+◌, ◌-◌, ◌*◌, ◌<◌, ◌≤◌, ◌==◌, [], ◌++◌, ◌∷◌, true, drop, length, map, replicate, take};
+ghost use Rattle.std.specs.Prelude.{◌≡◌, ◌+◌, ◌-◌, ◌*◌, ◌<◌, ◌≤◌, ◌==◌, [], ◌++◌, ◌∷◌, drop, length, map, replicate, take};
 ghost use Rattle.std.specs.Int.{bit_at};
-ghost use Rattle.std.specs.List.{range_with_len};
+ghost use Rattle.std.specs.List.{list_all, range_with_len};
 ghost use Rattle.page_plane.specs.Plane.{is_lit};
 ghost use Rattle.page_picture.specs.Rows.{mark_of, marked_rows, octet_marks, octet_of};
 
@@ -52,9 +52,9 @@ fn mark_octets(text: &mut [u8], octets: &[u8], mark: Mark)
 }
 
 /// Whether eight octets have no pixel.
-fn is_dark_word(octets: &[u8]) -> bool
+pub(crate) fn is_dark_word(octets: &[u8]) -> bool
     requires { length octets.now ≡ 8 }
-    ensures { result ≡ true → octets.now ≡ replicate 8 0 }
+    ensures { result ≡ list_all (λ octet. octet == 0) octets.now }
 {
     let Some((eight, _)) = octets.split_first_chunk::<8>() else {
         // There are eight octets.

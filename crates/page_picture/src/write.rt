@@ -11,6 +11,7 @@ ghost use Rattle.page_picture.specs.Colours.{page_colour};
 ghost use Rattle.page_picture.specs.Painted.{HaveValues, IsPainted, TakesSteps, pixel_count};
 ghost use Rattle.page_picture.specs.Shown.{IsThere, colours};
 
+use crate::rows::is_dark_word;
 use multi_layout::{Checked, Shown};
 use page_plane::Plane;
 
@@ -28,10 +29,23 @@ fn paint(octets: &mut [u8], place: usize, lit: bool, colour: u8)
 }
 
 /// Whether no bit of octets is set.
-fn is_dark(octets: &[u8]) -> bool
+fn has_no_bit(octets: &[u8]) -> bool
     ensures { result ≡ list_all (λ octet. octet == 0) octets.now }
 {
     octets.iter().all(|octet| *octet == 0)
+}
+
+/// Whether the octets of a row have no pixel, as many at once as a word has.
+fn is_dark(octets: &[u8]) -> bool
+    ensures { result ≡ list_all (λ octet. octet == 0) octets.now }
+{
+    let words = octets.len() / 8;
+    for word in 0..words {
+        if !is_dark_word(&octets[8 * word..8 * word + 8]) {
+            return false;
+        }
+    }
+    has_no_bit(&octets[8 * words..])
 }
 
 /// Whether the bit of a column is set in the octet in which it stands.
