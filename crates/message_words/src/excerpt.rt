@@ -26,10 +26,20 @@ fn shown_at(message: &[u8], at: usize) -> (char, usize) {
     }
 }
 
+/// The characters of ASCII at the front that are shown as themselves, at most as many as are shown in all.
+fn plain_front(message: &[u8]) -> &str {
+    let is_shown = |octet: &&u8| **octet >= b' ' && **octet <= b'~';
+    let count = message.iter().take(MOST).take_while(is_shown).count();
+    let front = message.get(..count).unwrap_or(b"");
+    str::from_utf8(front).unwrap_or("")
+}
+
 /// Writes the first characters of a message.
 pub(crate) fn write_message<W: Write>(f: &mut Formatter<W>, message: &[u8]) -> fmt::Result {
-    let mut at = 0;
-    for _ in 0..MOST {
+    let front = plain_front(message);
+    f.write_str(front)?;
+    let mut at = front.len();
+    for _ in front.len()..MOST {
         if at >= message.len() {
             return Ok(());
         }
