@@ -9,6 +9,7 @@ mod characters;
 mod excerpt;
 mod forms;
 mod names;
+mod piece;
 mod plain;
 mod reason;
 mod room;

@@ -3,8 +3,9 @@
 use crate::characters::FontCharacters;
 use crate::forms::{form_of, left_out, nearest};
 use crate::names::{known_of, meant};
+use crate::piece::{Item, item_at};
 use crate::room::{Lack, Trial};
-use crate::standing::{Piece, Standing, piece_at, standing_at};
+use crate::standing::{Standing, standing_behind};
 use crate::utf8::{Encoded, encoded_around, is_shown};
 use multi_tag::{Tag, read_body};
 use multi_token::Source;
@@ -137,8 +138,8 @@ fn write_encoded(
 impl Place<'_> {
     /// The body of the tag that stands at the place.
     fn body(&self) -> Option<&[u8]> {
-        match piece_at(self.message, self.at) {
-            Some((Piece::Tag(body), _)) => Some(body),
+        match item_at(self.message, self.at) {
+            Some((Item::Tag(body), _)) => Some(body),
             _ => None,
         }
     }
@@ -211,7 +212,7 @@ impl Place<'_> {
 
     /// Says how much room lacks.
     fn write_size(&self, text: &mut String, standing: &Standing) -> Result<(), AllocError> {
-        let (Some(large), Some((_, end))) = (self.large, piece_at(self.message, self.at)) else {
+        let (Some(large), Some((_, end))) = (self.large, item_at(self.message, self.at)) else {
             return text.push_str("the line or the area no longer fits");
         };
         let trial = Trial {
@@ -252,9 +253,9 @@ impl Place<'_> {
 
     /// The number of the character at the place.
     fn number(&self) -> u16 {
-        match (piece_at(self.message, self.at), self.tag()) {
+        match (item_at(self.message, self.at), self.tag()) {
             (_, Some(Tag::HexChar(number))) => number,
-            (Some((Piece::Char(octet), _)), _) => u16::from(octet),
+            (Some((Item::Char(octet), _)), _) => u16::from(octet),
             _ => 0,
         }
     }
@@ -346,7 +347,8 @@ impl Place<'_> {
 
     /// Says why a message is refused at the place with the error of this number.
     pub(crate) fn write_reason(&self, text: &mut String, code: u8) -> Result<(), AllocError> {
-        let standing = standing_at(self.sign, self.message, self.at, u32::MAX);
+        let front = self.message.get(..self.at).unwrap_or(self.message);
+        let standing = standing_behind(self.sign, front, u32::MAX);
         match code {
             3 => self.write_unsupported(text),
             4 => self.write_value(text),

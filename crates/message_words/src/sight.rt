@@ -1,9 +1,9 @@
 //! Whether text on the pages of an accepted message is seen.
 
+use crate::piece::{Piece, piece_at};
 use crate::plain::Plain;
-use crate::standing::{Piece, piece_at};
 use multi_layout::check;
-use multi_tag::{Tag, read_body};
+use multi_tag::Tag;
 use multi_token::Source;
 use page_picture::PageColours;
 use sign_font::Sign;
@@ -156,24 +156,42 @@ impl<'a> Sight<'a> {
                 return Ok(());
             };
             match piece {
-                Piece::Char(octet) => self.pass(look, u16::from(octet), at, end)?,
-                Piece::Tag(body) => match read_body(body) {
-                    Ok(Tag::HexChar(number)) => self.pass(look, number, at, end)?,
-                    Ok(tag) => {
-                        self.plain.see(self.sign, tag);
-                        look = look.behind(self.sign, tag);
-                    }
-                    Err(_) => {}
-                },
+                Piece::Text(text) => self.pass_text(look, text, at, end)?,
+                Piece::Tag(Tag::HexChar(number)) => {
+                    self.pass(look, (number != SPACE).then_some(at), at, end)?;
+                }
+                Piece::Tag(tag) => {
+                    self.plain.see(self.sign, tag);
+                    look = look.behind(self.sign, tag);
+                }
+                Piece::Unknown => {}
             }
             at = end;
         }
         Ok(())
     }
 
-    /// Adds a character.
-    fn pass(&mut self, look: Look, number: u16, at: usize, end: usize) -> Result<(), AllocError> {
-        if number != SPACE {
+    /// Adds characters that aren't written by their numbers.
+    fn pass_text(
+        &mut self,
+        look: Look,
+        text: &[u8],
+        at: usize,
+        end: usize,
+    ) -> Result<(), AllocError> {
+        let first = text.iter().position(|octet| *octet != b' ');
+        self.pass(look, first.map(|first| at.saturating_add(first)), at, end)
+    }
+
+    /// Adds characters that stand from one offset to another, with the offset of the first that is no space.
+    fn pass(
+        &mut self,
+        look: Look,
+        first: Option<usize>,
+        at: usize,
+        end: usize,
+    ) -> Result<(), AllocError> {
+        if first.is_some() {
             self.plain.pass(look.fore)?;
         }
         if let Some(last) = self.runs.last_mut() {
@@ -182,14 +200,10 @@ impl<'a> Sight<'a> {
                 return Ok(());
             }
         }
-        if number != SPACE && self.runs.len() < RUNS {
-            self.runs.push(Run {
-                from: at,
-                end,
-                look,
-            })?;
+        match first {
+            Some(from) if self.runs.len() < RUNS => Ok(self.runs.push(Run { from, end, look })?),
+            _ => Ok(()),
         }
-        Ok(())
     }
 
     /// The colours of a page of a message with added tags at a moment, or `None` if there are none.

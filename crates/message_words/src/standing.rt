@@ -1,7 +1,7 @@
 //! What is in force behind some items of a message, as far as words tell it.
 
-use multi_tag::{Tag, read_body};
-use multi_token::{Kind, Source, next_token};
+use crate::piece::{Piece, piece_at};
+use multi_tag::Tag;
 use sign_font::Sign;
 
 /// What is in force behind some items.
@@ -35,40 +35,6 @@ pub(crate) struct Standing {
 
 /// The number of the space.
 const SPACE: u16 = 32;
-
-/// An item as it is spelled.
-#[derive(Clone, Copy)]
-pub(crate) enum Piece<'a> {
-    /// A character of this number.
-    Char(u8),
-    /// A tag with this body.
-    Tag(&'a [u8]),
-}
-
-/// The item at an offset and the offset behind it, if one is spelled there.
-pub(crate) fn piece_at(message: &[u8], at: usize) -> Option<(Piece<'_>, usize)> {
-    if at >= message.len() {
-        return None;
-    }
-    let mut source = Source::new(message);
-    let Ok(Some(token)) = next_token(&mut source, at) else {
-        return None;
-    };
-    let behind = at.saturating_add(token.len);
-    let piece = match token.kind {
-        Kind::Char(octet) => Piece::Char(octet),
-        Kind::Tag => Piece::Tag(message.get(at.saturating_add(1)..behind.saturating_sub(1))?),
-    };
-    Some((piece, behind))
-}
-
-/// What an item means, if it means anything. A character is what the tag 'hc' with its number is.
-fn meaning(piece: Piece<'_>) -> Option<Tag> {
-    match piece {
-        Piece::Char(octet) => Some(Tag::HexChar(u16::from(octet))),
-        Piece::Tag(body) => read_body(body).ok(),
-    }
-}
 
 /// The pixels of a rectangle's side of a tag: its length, or all that remains.
 fn side(whole: u16, first: u32, length: u32) -> u32 {
@@ -116,19 +82,22 @@ impl Standing {
         self.group = 0;
     }
 
-    /// Goes behind the character of this number at an offset.
-    fn pass_character(&mut self, number: u16, at: usize, behind: usize) {
+    /// Goes behind characters that begin at an offset, with the offset behind the last space of them.
+    fn pass_characters(&mut self, at: usize, word: Option<usize>) {
         if self.page_just > self.group {
             self.begin_line(at);
         }
         self.group = self.page_just;
         self.segment = self.line_just;
-        if number == SPACE {
-            self.word = behind;
-        }
-        if self.is_flashing {
-            self.flashes = true;
-        }
+        self.word = word.unwrap_or(self.word);
+        self.flashes = self.flashes || self.is_flashing;
+    }
+
+    /// Goes behind characters that aren't written by their numbers.
+    fn pass_text(&mut self, text: &[u8], at: usize) {
+        let space = text.iter().rposition(|octet| *octet == b' ');
+        let word = space.map(|space| at.saturating_add(space).saturating_add(1));
+        self.pass_characters(at, word);
     }
 
     /// Goes behind the end of a line.
@@ -137,8 +106,8 @@ impl Standing {
         self.group = self.page_just;
     }
 
-    /// Goes behind an item that stands from one offset to another.
-    fn pass(&mut self, sign: &Sign, tag: Tag, at: usize, behind: usize) {
+    /// Goes behind a tag that stands from one offset to another.
+    fn pass_tag(&mut self, sign: &Sign, tag: Tag, at: usize, behind: usize) {
         match tag {
             Tag::NewPage => {
                 self.begin_area(behind);
@@ -152,7 +121,7 @@ impl Standing {
                 self.height = side(sign.height(), y, h);
             }
             Tag::NewLine(_) => self.pass_break(behind),
-            Tag::HexChar(number) => self.pass_character(number, at, behind),
+            Tag::HexChar(number) => self.pass_characters(at, (number == SPACE).then_some(behind)),
             _ => self.set(sign, tag),
         }
     }
@@ -186,22 +155,19 @@ impl Standing {
     }
 }
 
-/// What is in force behind the items of a message before an offset, or before the end of a page, counted from 0, if that comes
-/// first.
-pub(crate) fn standing_at(sign: &Sign, message: &[u8], to: usize, page: u32) -> Standing {
+/// What is in force behind the items of a message, or of its front, or before the end of a page, counted from 0, if that comes first.
+pub(crate) fn standing_behind(sign: &Sign, message: &[u8], page: u32) -> Standing {
     let mut standing = Standing::new(sign);
     let mut at = 0;
     for _ in 0..message.len() {
-        if at >= to {
-            return standing;
-        }
         let Some((piece, behind)) = piece_at(message, at) else {
             return standing;
         };
-        match meaning(piece) {
-            Some(Tag::NewPage) if standing.pages > page => return standing,
-            Some(tag) => standing.pass(sign, tag, at, behind),
-            None => {}
+        match piece {
+            Piece::Text(text) => standing.pass_text(text, at),
+            Piece::Tag(Tag::NewPage) if standing.pages > page => return standing,
+            Piece::Tag(tag) => standing.pass_tag(sign, tag, at, behind),
+            Piece::Unknown => {}
         }
         at = behind;
     }
@@ -219,7 +185,7 @@ pub struct Times {
 
 /// The times of a page, counted from 0, of a message that a sign accepts (NTCIP 1203 v03, MULTI tag 'pt').
 pub fn times_of(sign: &Sign, message: &[u8], page: u8) -> Times {
-    let standing = standing_at(sign, message, message.len(), u32::from(page));
+    let standing = standing_behind(sign, message, u32::from(page));
     Times {
         on: standing.on,
         off: standing.off,
@@ -250,6 +216,19 @@ impl Part {
         }
     }
 
+    /// Where it ends among characters that begin at an offset, which are in its group or not, if it does.
+    fn end_in(self, text: &[u8], at: usize, is_in_group: bool) -> Option<usize> {
+        match self {
+            Part::Area => None,
+            _ if !is_in_group => Some(at),
+            Part::Line => None,
+            Part::Word => {
+                let space = text.iter().position(|octet| *octet == b' ')?;
+                Some(at.saturating_add(space))
+            }
+        }
+    }
+
     /// Where it ends if it goes on at an offset, where the page justification of its group is in force; `None` if a broken bracket
     /// comes first.
     pub(crate) fn end(self, sign: &Sign, message: &[u8], from: usize, group: u8) -> Option<usize> {
@@ -260,9 +239,16 @@ impl Part {
                 return Some(at);
             }
             let (piece, behind) = piece_at(message, at)?;
-            match meaning(piece) {
-                Some(tag) if self.ends_before(tag, page_just == group) => return Some(at),
-                Some(Tag::PageJust(just)) => page_just = just.unwrap_or(sign.defaults().page),
+            match piece {
+                Piece::Text(text) => {
+                    if let Some(end) = self.end_in(text, at, page_just == group) {
+                        return Some(end);
+                    }
+                }
+                Piece::Tag(tag) if self.ends_before(tag, page_just == group) => return Some(at),
+                Piece::Tag(Tag::PageJust(just)) => {
+                    page_just = just.unwrap_or(sign.defaults().page);
+                }
                 _ => {}
             }
             at = behind;

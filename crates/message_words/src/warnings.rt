@@ -3,10 +3,10 @@ ghost use Rattle.std.specs.Prelude.{◌≡◌, ◌∷◌, [], ◌++◌, ◌<◌,
 ghost use Rattle.std.specs.List.{Contains};
 ghost use Rattle.message_words.specs.Places.{places};
 
+use crate::piece::{Piece, piece_at};
 use crate::sight::Sight;
-use crate::standing::{Piece, Times, piece_at, times_of};
 use multi_layout::Checked;
-use multi_tag::{FontPick, Tag, read_body};
+use multi_tag::{FontPick, Tag};
 use multi_token::Source;
 use sign_font::Sign;
 use std::alloc::{AllocError, Global};
@@ -41,8 +41,10 @@ struct Reading<'a> {
     /// The page, counted from 0, and the octet where it begins.
     page: u8,
     begin: usize,
-    /// The octet of the last tag that set page times.
+    /// The octet of the last tag that set page times, and the times in force, in tenths of a second.
     times: usize,
+    on: u8,
+    off: u8,
     line_just: u8,
     /// The octet of the space that is the last character of the line so far, if it is one, behind another character.
     space: Option<usize>,
@@ -85,7 +87,7 @@ impl<'a> Reading<'a> {
 
     /// Ends a page of a message of more than one.
     fn end_page(&mut self, cycle: u32) -> Result<(), AllocError> {
-        let Times { on, .. } = times_of(self.sign, self.message, self.page);
+        let on = self.on;
         if on >= LEAST || cycle == 0 {
             return Ok(());
         }
@@ -107,6 +109,27 @@ impl<'a> Reading<'a> {
         } else if self.is_begun && self.space.is_none() {
             self.space = Some(at);
         }
+    }
+
+    /// Passes characters that aren't written by their numbers.
+    fn pass_text(&mut self, text: &[u8], at: usize) {
+        let last = text.iter().rposition(|octet| *octet != b' ');
+        let end = last.map_or(0, |last| last.saturating_add(1));
+        if end > 0 {
+            self.is_begun = true;
+            self.space = None;
+        }
+        if end < text.len() && self.is_begun && self.space.is_none() {
+            self.space = Some(at.saturating_add(end));
+        }
+    }
+
+    /// Passes page times.
+    fn pass_times(&mut self, on: Option<u8>, off: Option<u8>, at: usize) {
+        let defaults = self.sign.defaults();
+        self.times = at;
+        self.on = on.unwrap_or(defaults.page_on);
+        self.off = off.unwrap_or(defaults.page_off);
     }
 
     /// Passes a font that is asked for.
@@ -139,7 +162,7 @@ impl<'a> Reading<'a> {
             }
             Tag::NewLine(_) | Tag::Rect { .. } => self.end_line()?,
             Tag::LineJust(just) => self.line_just = just.unwrap_or(self.sign.defaults().line),
-            Tag::PageTime { .. } => self.times = at,
+            Tag::PageTime { on, off } => self.pass_times(on, off, at),
             Tag::Font(Some(pick)) => self.pass_font(pick, at)?,
             Tag::HexChar(number) => self.pass_character(number, at),
             _ => {}
@@ -175,15 +198,14 @@ impl<'a> Reading<'a> {
                 break;
             };
             match piece {
-                Piece::Char(octet) => self.pass_character(u16::from(octet), at),
-                Piece::Tag(body) => {
-                    if let Ok(tag) = read_body(body) {
-                        if tag == Tag::NewPage {
-                            self.look_back(sight, cycle, is_one)?;
-                        }
-                        self.pass_tag(tag, at, behind)?;
+                Piece::Text(text) => self.pass_text(text, at),
+                Piece::Tag(tag) => {
+                    if tag == Tag::NewPage {
+                        self.look_back(sight, cycle, is_one)?;
                     }
+                    self.pass_tag(tag, at, behind)?;
                 }
+                Piece::Unknown => {}
             }
             at = behind;
         }
@@ -227,7 +249,7 @@ impl<'a> Reading<'a> {
             )?;
             self.warn(most, words)?;
         }
-        let Times { off, .. } = times_of(self.sign, self.message, 0);
+        let off = self.off;
         if is_one && off > 0 && off != self.sign.defaults().page_off {
             self.say(
                 self.times,
@@ -254,6 +276,7 @@ pub fn warnings_on(
     let is_one = checked.pages() == 1;
     let cycle = checked.cycle();
     let sight = Sight::new(alloc, sign, message)?;
+    let defaults = sign.defaults();
     let mut reading = Reading {
         alloc,
         sign,
@@ -262,7 +285,9 @@ pub fn warnings_on(
         page: 0,
         begin: 0,
         times: 0,
-        line_just: sign.defaults().line,
+        on: defaults.page_on,
+        off: defaults.page_off,
+        line_just: defaults.line,
         space: None,
         is_begun: false,
         is_asked: false,

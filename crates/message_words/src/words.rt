@@ -3,7 +3,7 @@
 use crate::characters::FontCharacters;
 use crate::excerpt::{write_excerpt, write_message};
 use crate::reason::Place;
-use crate::standing::standing_at;
+use crate::standing::standing_behind;
 use sign_font::Sign;
 use std::alloc::{AllocError, Global};
 use std::fmt;
@@ -109,12 +109,7 @@ impl Display for PageTimes<'_> {
         if self.pages == 1 {
             return f.write_str("shown all the time:");
         }
-        let standing = standing_at(
-            self.sign,
-            self.message,
-            self.message.len(),
-            u32::from(self.page),
-        );
+        let standing = standing_behind(self.sign, self.message, u32::from(self.page));
         write!(f, "shown for {}", Seconds(standing.on))?;
         if standing.off > 0 {
             write!(f, ", then dark for {}", Seconds(standing.off))?;
@@ -154,7 +149,7 @@ impl Legend<'_> {
 
 impl Display for Legend<'_> {
     fn fmt<W: Write>(&self, f: &mut Formatter<W>) -> fmt::Result {
-        let standing = standing_at(self.sign, self.message, self.message.len(), u32::MAX);
+        let standing = standing_behind(self.sign, self.message, u32::MAX);
         f.write_str(self.marks())?;
         if standing.pages > 1 && self.cycle == 0 {
             f.write_str("all times are 0, so page 1 is shown all the time\n")?;
