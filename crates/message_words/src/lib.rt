@@ -15,12 +15,13 @@ mod reason;
 mod room;
 mod sight;
 mod standing;
+mod times;
 mod utf8;
 mod warnings;
 mod words;
 
 pub use characters::{CharacterRun, FontCharacters};
 pub use room::{LARGE_COLUMNS, LARGE_ROWS};
-pub use standing::{Times, times_of};
+pub use times::{Times, times_of};
 pub use warnings::{Warning, WarningLines, warnings_on};
 pub use words::{Legend, MessageLine, PageTimes, Refusal};

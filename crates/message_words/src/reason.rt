@@ -348,7 +348,7 @@ impl Place<'_> {
     /// Says why a message is refused at the place with the error of this number.
     pub(crate) fn write_reason(&self, text: &mut String, code: u8) -> Result<(), AllocError> {
         let front = self.message.get(..self.at).unwrap_or(self.message);
-        let standing = standing_behind(self.sign, front, u32::MAX);
+        let standing = standing_behind(self.sign, front);
         match code {
             3 => self.write_unsupported(text),
             4 => self.write_value(text),

@@ -22,15 +22,9 @@ pub(crate) struct Standing {
     /// characters of the line; 0 where there is none.
     pub(crate) group: u8,
     pub(crate) segment: u8,
-    /// The times of the page, in tenths of a second.
-    pub(crate) on: u8,
-    pub(crate) off: u8,
     /// The columns and rows of the rectangle.
     pub(crate) width: u32,
     pub(crate) height: u32,
-    /// Whether a flash is in force that has an off time, and whether a character had such a flash.
-    pub(crate) is_flashing: bool,
-    pub(crate) flashes: bool,
 }
 
 /// The number of the space.
@@ -59,12 +53,8 @@ impl Standing {
             page_just: defaults.page,
             group: 0,
             segment: 0,
-            on: defaults.page_on,
-            off: defaults.page_off,
             width: u32::from(sign.width()),
             height: u32::from(sign.height()),
-            is_flashing: false,
-            flashes: false,
         }
     }
 
@@ -90,7 +80,6 @@ impl Standing {
         self.group = self.page_just;
         self.segment = self.line_just;
         self.word = word.unwrap_or(self.word);
-        self.flashes = self.flashes || self.is_flashing;
     }
 
     /// Goes behind characters that aren't written by their numbers.
@@ -133,12 +122,6 @@ impl Standing {
             Tag::LineJust(just) => self.line_just = just.unwrap_or(defaults.line),
             Tag::PageJust(just) => self.page_just = just.unwrap_or(defaults.page),
             Tag::Font(pick) => self.font = pick.map_or(defaults.font, |pick| pick.number),
-            Tag::PageTime { on, off } => {
-                self.on = on.unwrap_or(defaults.page_on);
-                self.off = off.unwrap_or(defaults.page_off);
-            }
-            Tag::Flash { off, .. } => self.is_flashing = off.unwrap_or(defaults.flash_off) > 0,
-            Tag::FlashEnd => self.is_flashing = false,
             _ => {}
         }
     }
@@ -155,8 +138,8 @@ impl Standing {
     }
 }
 
-/// What is in force behind the items of a message, or of its front, or before the end of a page, counted from 0, if that comes first.
-pub(crate) fn standing_behind(sign: &Sign, message: &[u8], page: u32) -> Standing {
+/// What is in force behind the items of a message, or of its front.
+pub(crate) fn standing_behind(sign: &Sign, message: &[u8]) -> Standing {
     let mut standing = Standing::new(sign);
     let mut at = 0;
     for _ in 0..message.len() {
@@ -165,31 +148,12 @@ pub(crate) fn standing_behind(sign: &Sign, message: &[u8], page: u32) -> Standin
         };
         match piece {
             Piece::Text(text) => standing.pass_text(text, at),
-            Piece::Tag(Tag::NewPage) if standing.pages > page => return standing,
             Piece::Tag(tag) => standing.pass_tag(sign, tag, at, behind),
             Piece::Unknown => {}
         }
         at = behind;
     }
     standing
-}
-
-/// The times of a page, in tenths of a second (own).
-#[derive(Clone, Copy)]
-pub struct Times {
-    /// How long it is shown.
-    pub on: u8,
-    /// How long the sign is dark after it.
-    pub off: u8,
-}
-
-/// The times of a page, counted from 0, of a message that a sign accepts (NTCIP 1203 v03, MULTI tag 'pt').
-pub fn times_of(sign: &Sign, message: &[u8], page: u8) -> Times {
-    let standing = standing_behind(sign, message, u32::from(page));
-    Times {
-        on: standing.on,
-        off: standing.off,
-    }
 }
 
 /// A part of a message.

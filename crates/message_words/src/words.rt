@@ -4,6 +4,7 @@ use crate::characters::FontCharacters;
 use crate::excerpt::{write_excerpt, write_message};
 use crate::reason::Place;
 use crate::standing::standing_behind;
+use crate::times::{flashes, times_of};
 use sign_font::Sign;
 use std::alloc::{AllocError, Global};
 use std::fmt;
@@ -81,14 +82,12 @@ impl Display for Refusal<'_> {
     }
 }
 
-/// A time in seconds.
-#[derive(Clone, Copy)]
-struct Seconds(u8);
-
-impl Display for Seconds {
-    fn fmt<W: Write>(&self, f: &mut Formatter<W>) -> fmt::Result {
-        write!(f, "{}.{} seconds", self.0 / 10, self.0 % 10)
-    }
+/// Writes a time, which is given in tenths of a second, in seconds.
+fn write_seconds<W: Write>(f: &mut Formatter<W>, tenths: u8) -> fmt::Result {
+    f.write_str(itoa::Buffer::new().format(tenths / 10))?;
+    f.write_str(".")?;
+    f.write_str(itoa::Buffer::new().format(tenths % 10))?;
+    f.write_str(" seconds")
 }
 
 /// How long a page is shown, and how long the sign is dark after it, for the end of a line (own). Written by `Display`.
@@ -109,10 +108,12 @@ impl Display for PageTimes<'_> {
         if self.pages == 1 {
             return f.write_str("shown all the time:");
         }
-        let standing = standing_behind(self.sign, self.message, u32::from(self.page));
-        write!(f, "shown for {}", Seconds(standing.on))?;
-        if standing.off > 0 {
-            write!(f, ", then dark for {}", Seconds(standing.off))?;
+        let times = times_of(self.sign, self.message, self.page);
+        f.write_str("shown for ")?;
+        write_seconds(f, times.on)?;
+        if times.off > 0 {
+            f.write_str(", then dark for ")?;
+            write_seconds(f, times.off)?;
         }
         f.write_str(":")
     }
@@ -149,12 +150,11 @@ impl Legend<'_> {
 
 impl Display for Legend<'_> {
     fn fmt<W: Write>(&self, f: &mut Formatter<W>) -> fmt::Result {
-        let standing = standing_behind(self.sign, self.message, u32::MAX);
         f.write_str(self.marks())?;
-        if standing.pages > 1 && self.cycle == 0 {
+        if self.cycle == 0 && standing_behind(self.sign, self.message).pages > 1 {
             f.write_str("all times are 0, so page 1 is shown all the time\n")?;
         }
-        if standing.flashes {
+        if flashes(self.sign, self.message) {
             let phase = self.phase;
             writeln!(
                 f,
