@@ -57,7 +57,7 @@ impl Area {
 #[derive(Drop)]
 pub(crate) struct Plain {
     is_classic: bool,
-    /// The areas of the page in which text stands, and the present one.
+    /// The areas of the page in which text stands, before the present one, and that one.
     areas: Vec<Area>,
     area: Area,
     /// Whether text stands in the present one.
@@ -94,24 +94,32 @@ impl Plain {
         1u16.checked_shl(u32::from(shown)).unwrap_or(0)
     }
 
-    /// Begins an area.
-    fn begin(&mut self, area: Area) {
+    /// Begins an area behind another one on its page.
+    fn begin(&mut self, area: Area) -> Result<(), AllocError> {
+        if self.is_begun {
+            self.areas.push(self.area)?;
+        }
         self.area = area;
+        self.is_begun = false;
+        Ok(())
+    }
+
+    /// Begins a page.
+    fn begin_page(&mut self, sign: &Sign) {
+        self.areas.clear();
+        self.area = Area::whole(sign);
         self.is_begun = false;
     }
 
     /// Sees a tag. A background covers what stands on its page before it.
-    pub(crate) fn see(&mut self, sign: &Sign, tag: Tag) {
+    pub(crate) fn see(&mut self, sign: &Sign, tag: Tag) -> Result<(), AllocError> {
         let defaults = sign.defaults();
         match tag {
-            Tag::NewPage => {
-                self.areas.clear();
-                self.begin(Area::whole(sign));
-            }
-            Tag::Rect { x, y, w, h } => self.begin(Area::of_tag(sign, x, y, w, h)),
+            Tag::NewPage => self.begin_page(sign),
+            Tag::Rect { x, y, w, h } => self.begin(Area::of_tag(sign, x, y, w, h))?,
             Tag::Back(colour) => {
                 self.backs |= self.bit(colour.unwrap_or(defaults.back));
-                self.is_open = self.is_open && self.areas.is_empty();
+                self.is_open = self.is_open && !self.is_begun && self.areas.is_empty();
             }
             Tag::Flash { on, off, .. } => {
                 let is_dark = on.unwrap_or(defaults.flash_on) == 0
@@ -120,20 +128,17 @@ impl Plain {
             }
             _ => {}
         }
+        Ok(())
     }
 
     /// Sees a character that is no space, in this colour.
-    pub(crate) fn pass(&mut self, fore: u8) -> Result<(), AllocError> {
+    pub(crate) fn pass(&mut self, fore: u8) {
         self.fores |= self.bit(fore);
-        if self.is_begun {
-            return Ok(());
-        }
-        self.is_begun = true;
         let area = self.area;
-        if self.areas.iter().any(|other| other.meets(area)) {
+        if !self.is_begun && self.areas.iter().any(|other| other.meets(area)) {
             self.is_open = false;
         }
-        Ok(self.areas.push(area)?)
+        self.is_begun = true;
     }
 
     /// Whether all text of the message is seen.

@@ -1,6 +1,6 @@
 //! Whether text on the pages of an accepted message is seen.
 
-use crate::piece::{Piece, piece_at};
+use crate::piece::Piece;
 use crate::plain::Plain;
 use multi_layout::check;
 use multi_tag::Tag;
@@ -123,6 +123,8 @@ pub(crate) struct Sight<'a> {
     alloc: Global,
     sign: &'a Sign,
     message: &'a [u8],
+    /// What is in force behind the items so far.
+    look: Look,
     /// The first runs of its characters.
     pub(crate) runs: Vec<Run>,
     /// What its tags tell, so that pages are drawn only where text can be hidden.
@@ -130,69 +132,49 @@ pub(crate) struct Sight<'a> {
 }
 
 impl<'a> Sight<'a> {
-    /// A message that a sign accepts. The error says that memory was refused.
-    pub(crate) fn new(
-        alloc: Global,
-        sign: &'a Sign,
-        message: &'a [u8],
-    ) -> Result<Sight<'a>, AllocError> {
-        let mut sight = Sight {
+    /// A message that a sign accepts, before its first item.
+    pub(crate) fn new(alloc: Global, sign: &'a Sign, message: &'a [u8]) -> Sight<'a> {
+        Sight {
             alloc,
             sign,
             message,
+            look: first_look(sign),
             runs: Vec::new(alloc),
             plain: Plain::new(alloc, sign),
-        };
-        sight.read()?;
-        Ok(sight)
+        }
     }
 
-    /// Reads the items.
-    fn read(&mut self) -> Result<(), AllocError> {
-        let mut look = first_look(self.sign);
-        let mut at = 0;
-        for _ in 0..self.message.len() {
-            let Some((piece, end)) = piece_at(self.message, at) else {
-                return Ok(());
-            };
-            match piece {
-                Piece::Text(text) => self.pass_text(look, text, at, end)?,
-                Piece::Tag(Tag::HexChar(number)) => {
-                    self.pass(look, (number != SPACE).then_some(at), at, end)?;
-                }
-                Piece::Tag(tag) => {
-                    self.plain.see(self.sign, tag);
-                    look = look.behind(self.sign, tag);
-                }
-                Piece::Unknown => {}
+    /// Passes what stands from one offset to another.
+    pub(crate) fn see(
+        &mut self,
+        piece: Piece<'_>,
+        at: usize,
+        end: usize,
+    ) -> Result<(), AllocError> {
+        match piece {
+            Piece::Text(text) => self.pass_text(text, at, end),
+            Piece::Tag(Tag::HexChar(number)) => {
+                self.pass((number != SPACE).then_some(at), at, end)
             }
-            at = end;
+            Piece::Tag(tag) => {
+                self.look = self.look.behind(self.sign, tag);
+                self.plain.see(self.sign, tag)
+            }
+            Piece::Unknown => Ok(()),
         }
-        Ok(())
     }
 
     /// Adds characters that aren't written by their numbers.
-    fn pass_text(
-        &mut self,
-        look: Look,
-        text: &[u8],
-        at: usize,
-        end: usize,
-    ) -> Result<(), AllocError> {
+    fn pass_text(&mut self, text: &[u8], at: usize, end: usize) -> Result<(), AllocError> {
         let first = text.iter().position(|octet| *octet != b' ');
-        self.pass(look, first.map(|first| at.saturating_add(first)), at, end)
+        self.pass(first.map(|first| at.saturating_add(first)), at, end)
     }
 
     /// Adds characters that stand from one offset to another, with the offset of the first that is no space.
-    fn pass(
-        &mut self,
-        look: Look,
-        first: Option<usize>,
-        at: usize,
-        end: usize,
-    ) -> Result<(), AllocError> {
+    fn pass(&mut self, first: Option<usize>, at: usize, end: usize) -> Result<(), AllocError> {
+        let look = self.look;
         if first.is_some() {
-            self.plain.pass(look.fore)?;
+            self.plain.pass(look.fore);
         }
         if let Some(last) = self.runs.last_mut() {
             if last.end == at {
@@ -296,8 +278,19 @@ impl<'a> Sight<'a> {
         self.are_alike(&dark, &lit, run.look.page)
     }
 
+    /// The pages among so many first ones, counted from 0, on which nothing is lit.
+    pub(crate) fn dark_pages(&self, pages: u8) -> Result<Vec<u8>, AllocError> {
+        let mut dark = Vec::new(self.alloc);
+        for page in 0..pages {
+            if !self.is_lit(page)? {
+                dark.push(page)?;
+            }
+        }
+        Ok(dark)
+    }
+
     /// Whether a pixel of a page is lit at one of its moments.
-    pub(crate) fn is_lit(&self, page: u8) -> Result<bool, AllocError> {
+    fn is_lit(&self, page: u8) -> Result<bool, AllocError> {
         let has_text = self.runs.len() >= RUNS || self.runs.iter().any(|run| run.look.page == page);
         if self.plain.shows_text() && (has_text || self.plain.is_dark_without_text()) {
             return Ok(has_text);

@@ -5,6 +5,7 @@ ghost use Rattle.message_words.specs.Places.{places};
 
 use crate::piece::{Piece, piece_at};
 use crate::sight::Sight;
+use crate::times::Times;
 use multi_layout::Checked;
 use multi_tag::{FontPick, Tag};
 use multi_token::Source;
@@ -37,14 +38,18 @@ struct Reading<'a> {
     alloc: Global,
     sign: &'a Sign,
     message: &'a [u8],
+    /// The sum of the times of its pages, and whether it has one page.
+    cycle: u32,
+    is_one: bool,
+    /// The pages, counted from 0, on which nothing is lit.
+    dark: Vec<u8>,
     found: Vec<Warning>,
     /// The page, counted from 0, and the octet where it begins.
     page: u8,
     begin: usize,
-    /// The octet of the last tag that set page times, and the times in force, in tenths of a second.
-    times: usize,
-    on: u8,
-    off: u8,
+    /// The octet of the last tag that set page times, and the times in force.
+    times_at: usize,
+    times: Times,
     line_just: u8,
     /// The octet of the space that is the last character of the line so far, if it is one, behind another character.
     space: Option<usize>,
@@ -55,6 +60,33 @@ struct Reading<'a> {
 }
 
 impl<'a> Reading<'a> {
+    /// A message before its first item, of which these pages are dark.
+    fn new(
+        alloc: Global,
+        sign: &'a Sign,
+        message: &'a [u8],
+        checked: &Checked<'_>,
+        dark: Vec<u8>,
+    ) -> Reading<'a> {
+        Reading {
+            alloc,
+            sign,
+            message,
+            cycle: checked.cycle(),
+            is_one: checked.pages() == 1,
+            dark,
+            found: Vec::new(alloc),
+            page: 0,
+            begin: 0,
+            times_at: 0,
+            times: Times::of_tag(sign, None, None),
+            line_just: sign.defaults().line,
+            space: None,
+            is_begun: false,
+            is_asked: false,
+        }
+    }
+
     /// Adds a warning.
     fn warn(&mut self, at: usize, words: String) -> Result<(), AllocError>
         ensures { OnOk result (places self.new.found.items ≡ places self.old.found.items ++ at ∷ []) }
@@ -86,9 +118,9 @@ impl<'a> Reading<'a> {
     }
 
     /// Ends a page of a message of more than one.
-    fn end_page(&mut self, cycle: u32) -> Result<(), AllocError> {
-        let on = self.on;
-        if on >= LEAST || cycle == 0 {
+    fn end_page(&mut self) -> Result<(), AllocError> {
+        let Times { on, .. } = self.times;
+        if on >= LEAST || self.cycle == 0 {
             return Ok(());
         }
         let page = u32::from(self.page).saturating_add(1);
@@ -98,7 +130,7 @@ impl<'a> Reading<'a> {
         } else {
             write!(words, "page {page} is shown for 0.{on} seconds only")?;
         }
-        self.warn(self.times, words)
+        self.warn(self.times_at, words)
     }
 
     /// Passes a character.
@@ -122,14 +154,6 @@ impl<'a> Reading<'a> {
         if end < text.len() && self.is_begun && self.space.is_none() {
             self.space = Some(at.saturating_add(end));
         }
-    }
-
-    /// Passes page times.
-    fn pass_times(&mut self, on: Option<u8>, off: Option<u8>, at: usize) {
-        let defaults = self.sign.defaults();
-        self.times = at;
-        self.on = on.unwrap_or(defaults.page_on);
-        self.off = off.unwrap_or(defaults.page_off);
     }
 
     /// Passes a font that is asked for.
@@ -162,7 +186,10 @@ impl<'a> Reading<'a> {
             }
             Tag::NewLine(_) | Tag::Rect { .. } => self.end_line()?,
             Tag::LineJust(just) => self.line_just = just.unwrap_or(self.sign.defaults().line),
-            Tag::PageTime { on, off } => self.pass_times(on, off, at),
+            Tag::PageTime { on, off } => {
+                self.times_at = at;
+                self.times = Times::of_tag(self.sign, on, off);
+            }
             Tag::Font(Some(pick)) => self.pass_font(pick, at)?,
             Tag::HexChar(number) => self.pass_character(number, at),
             _ => {}
@@ -171,8 +198,8 @@ impl<'a> Reading<'a> {
     }
 
     /// Warns of a page on which nothing is lit.
-    fn look_at_page(&mut self, sight: &Sight<'a>) -> Result<(), AllocError> {
-        if sight.is_lit(self.page)? {
+    fn look_at_page(&mut self) -> Result<(), AllocError> {
+        if !self.dark.contains(&self.page) {
             return Ok(());
         }
         let mut words = String::new(self.alloc);
@@ -185,32 +212,39 @@ impl<'a> Reading<'a> {
     }
 
     /// Warns at the end of a page.
-    fn look_back(&mut self, sight: &Sight<'a>, cycle: u32, is_one: bool) -> Result<(), AllocError> {
-        self.look_at_page(sight)?;
-        if is_one { Ok(()) } else { self.end_page(cycle) }
+    fn look_back(&mut self) -> Result<(), AllocError> {
+        self.look_at_page()?;
+        if self.is_one { Ok(()) } else { self.end_page() }
     }
 
-    /// Reads the message, item by item.
-    fn read(&mut self, sight: &Sight<'a>, cycle: u32, is_one: bool) -> Result<(), AllocError> {
+    /// Passes what stands from one offset to another.
+    fn pass(&mut self, piece: Piece<'_>, at: usize, behind: usize) -> Result<(), AllocError> {
+        match piece {
+            Piece::Text(text) => self.pass_text(text, at),
+            Piece::Tag(tag) => {
+                if tag == Tag::NewPage {
+                    self.look_back()?;
+                }
+                self.pass_tag(tag, at, behind)?;
+            }
+            Piece::Unknown => {}
+        }
+        Ok(())
+    }
+
+    /// Reads the message, and shows it to its sight.
+    fn read(&mut self, sight: &mut Sight<'a>) -> Result<(), AllocError> {
         let mut at = 0;
         for _ in 0..self.message.len() {
             let Some((piece, behind)) = piece_at(self.message, at) else {
                 break;
             };
-            match piece {
-                Piece::Text(text) => self.pass_text(text, at),
-                Piece::Tag(tag) => {
-                    if tag == Tag::NewPage {
-                        self.look_back(sight, cycle, is_one)?;
-                    }
-                    self.pass_tag(tag, at, behind)?;
-                }
-                Piece::Unknown => {}
-            }
+            sight.see(piece, at, behind)?;
+            self.pass(piece, at, behind)?;
             at = behind;
         }
         self.end_line()?;
-        self.look_back(sight, cycle, is_one)
+        self.look_back()
     }
 
     /// Warns of text that isn't seen.
@@ -232,12 +266,7 @@ impl<'a> Reading<'a> {
     }
 
     /// Warns of a message of so many octets that the message table doesn't take it, and of an off time that no page has.
-    fn look_at_whole(
-        &mut self,
-        octets: usize,
-        max_string: u16,
-        is_one: bool,
-    ) -> Result<(), AllocError>
+    fn look_at_whole(&mut self, octets: usize, max_string: u16) -> Result<(), AllocError>
         ensures { OnOk result (max_string < octets → Contains (places self.new.found.items) max_string) }
     {
         let most = usize::from(max_string);
@@ -249,10 +278,10 @@ impl<'a> Reading<'a> {
             )?;
             self.warn(most, words)?;
         }
-        let off = self.off;
-        if is_one && off > 0 && off != self.sign.defaults().page_off {
+        let Times { off, .. } = self.times;
+        if self.is_one && off > 0 && off != self.sign.defaults().page_off {
             self.say(
-                self.times,
+                self.times_at,
                 "the off time does nothing: a message of one page is shown all the time",
             )?;
         }
@@ -273,28 +302,17 @@ pub fn warnings_on(
 ) -> Result<Vec<Warning>, AllocError>
     ensures { IfOk result (λ warnings. max_string < length message.now → Contains (places warnings.items) max_string) }
 {
-    let is_one = checked.pages() == 1;
-    let cycle = checked.cycle();
-    let sight = Sight::new(alloc, sign, message)?;
-    let defaults = sign.defaults();
-    let mut reading = Reading {
-        alloc,
-        sign,
-        message,
-        found: Vec::new(alloc),
-        page: 0,
-        begin: 0,
-        times: 0,
-        on: defaults.page_on,
-        off: defaults.page_off,
-        line_just: defaults.line,
-        space: None,
-        is_begun: false,
-        is_asked: false,
-    };
-    reading.read(&sight, cycle, is_one)?;
+    let mut reading = Reading::new(alloc, sign, message, checked, Vec::new(alloc));
+    let mut sight = Sight::new(alloc, sign, message);
+    reading.read(&mut sight)?;
+    // few messages have a dark page, and no other is read twice
+    let dark = sight.dark_pages(checked.pages())?;
+    if !dark.is_empty() {
+        reading = Reading::new(alloc, sign, message, checked, dark);
+        reading.read(&mut Sight::new(alloc, sign, message))?;
+    }
     reading.look_at_text(&sight)?;
-    reading.look_at_whole(message.len(), max_string, is_one)?;
+    reading.look_at_whole(message.len(), max_string)?;
     let Reading { found, .. } = reading;
     Ok(found)
 }

@@ -19,8 +19,8 @@ returns-in_ok-say c = λ long. still _ _ c.args.max_string _ c.in_ok-say.ensures
   | else-octets-most w ↦ let few = w.if-octets-most.false in let same = c.from-most.ensures in absurd (omega (arith, long, few, same))
 ])
 
-pub returns-else-is_one : goal.returns-else-is_one
-returns-else-is_one c = λ long. elim c.if-octets-most.branch [
+pub returns-else-self : goal.returns-else-self
+returns-else-self c = λ long. elim c.if-octets-most.branch [
   | then-octets-most+in_ok-write+in_ok-warn w ↦ last _ _ c.args.max_string _ (ap (λ (s : Reading). places s.found.items) w.self-is ∙ w.in_ok-warn.ensures) c.from-most.ensures
   | else-octets-most w ↦ let few = w.if-octets-most.false in let same = c.from-most.ensures in absurd (omega (arith, long, few, same))
 ]
