@@ -72,6 +72,7 @@ pub(crate) fn tag_of(octets: &[u8]) -> Option<(Tag, usize)> {
 }
 
 /// The longest piece at an offset and the offset behind it, if one is spelled there.
+#[inline(always)]
 pub(crate) fn piece_at(message: &[u8], at: usize) -> Option<(Piece<'_>, usize)> {
     let rest = message.get(at..)?;
     let plain = plain_front(rest);
