@@ -28,9 +28,10 @@ fn shown_at(message: &[u8], at: usize) -> (char, usize) {
 
 /// The characters of ASCII at the front that are shown as themselves, at most as many as are shown in all.
 fn plain_front(message: &[u8]) -> &str {
-    let is_shown = |octet: &&u8| **octet >= b' ' && **octet <= b'~';
-    let count = message.iter().take(MOST).take_while(is_shown).count();
-    let front = message.get(..count).unwrap_or(b"");
+    let most = message.get(..MOST).unwrap_or(message);
+    let is_other = |octet: &u8| *octet < b' ' || *octet > b'~';
+    let count = most.iter().position(is_other).unwrap_or(most.len());
+    let front = most.get(..count).unwrap_or(b"");
     str::from_utf8(front).unwrap_or("")
 }
 
