@@ -1,4 +1,4 @@
-//! What the time makes of the pages of a message.
+//! The times of the pages of a message, and whether its text flashes.
 
 use crate::piece::{Piece, named_from, piece_at, tag_of};
 use multi_tag::Tag;
