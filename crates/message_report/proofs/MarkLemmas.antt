@@ -32,6 +32,20 @@ marks_by_place colour_at from (colour ∷ colours) same =
     let more : k + 1 ≡ suc k = omega arith in
     ap (λ n. get_or (colour ∷ colours) n 0) (sym more) ∙ same (k + 1) (omega arith) ∙ ap colour_at next))
 
+-- a text that was made longer by so many octets, all alike
+module _ (old items lent : List ℕ) (start total n octet : ℕ) (is_start : start ≡ length old) (is_total : total ≡ length old)
+    (made : items ≡ take (start + n) old ++ replicate (start + n - total) octet) (is_lent : lent ≡ items) where
+  ends_in : lent ≡ old ++ replicate n octet
+  ends_in =
+      let room : start + n - total ≡ n = omega (arith, is_start, is_total) in
+      is_lent ∙ made ∙ ap (λ l. l ++ replicate (start + n - total) octet) (take_all (start + n) old (omega (arith, is_start))) ∙ ap (λ k. old ++ replicate k octet) room
+
+  long_by : length lent ≡ length old + n
+  long_by = ap length ends_in ∙ length-append old (replicate n octet) ∙ ap (λ k. length old + k) (length-replicate {A = ℕ} n octet)
+
+  begins_as : take start lent ≡ old
+  begins_as = ap (take start) ends_in ∙ take_at old (replicate n octet) start (sym is_start)
+
 -- a line that was made behind a text, and whose marks are written
 pub line_added : (old items lent new rest behind marks : List ℕ) (start total count all : ℕ) → start ≡ length old → total ≡ length old
     → items ≡ take (start + count + 1) old ++ replicate (start + count + 1 - total) 10 → lent ≡ items → all ≡ length lent
@@ -40,15 +54,15 @@ pub line_added : (old items lent new rest behind marks : List ℕ) (start total 
     → take all (take start lent ++ (new ++ rest) ++ behind) ≡ old ++ (marks ++ 10 ∷ [])
 line_added old items lent new rest behind marks start total count all is_start is_total made is_lent is_all long written kept is_rest =
     let ends : List ℕ = replicate (count + 1) 10 in
-    let room : start + count + 1 - total ≡ count + 1 = omega (arith, is_start, is_total) in
-    let line : lent ≡ old ++ ends =
-    is_lent ∙ made ∙ ap (λ l. l ++ replicate (start + count + 1 - total) 10) (take_all (start + count + 1) old (omega (arith, is_start))) ∙ ap (λ n. old ++ replicate n 10) room in
+    let sum : start + count + 1 ≡ start + (count + 1) = omega arith in
+    let longer = made ∙ ap (λ n. take n old ++ replicate (n - total) 10) sum in
+    let line = ends_in old items lent start total (count + 1) 10 is_start is_total longer is_lent in
+    let size = long_by old items lent start total (count + 1) 10 is_start is_total longer is_lent in
+    let front = begins_as old items lent start total (count + 1) 10 is_start is_total longer is_lent in
     let ten : length ends ≡ count + 1 = length-replicate {A = ℕ} (count + 1) 10 in
-    let size : length lent ≡ length old + (count + 1) = ap length line ∙ length-append old ends ∙ ap (λ n. length old + n) ten in
     let part : drop start lent ≡ ends = ap (drop start) line ∙ drop_at old ends start (sym is_start) in
     let whole : take (length lent - start) (drop start lent) ≡ ends = ap (take (length lent - start)) part ∙ take_all (length lent - start) ends (omega (arith, size, ten, is_start)) in
     let none : rest ≡ [] = is_rest ∙ ap (drop (length lent - start)) part ∙ drop_all (length lent - start) ends (omega (arith, size, ten, is_start)) in
-    let front : take start lent ≡ old = ap (take start) line ∙ take_at old ends start (sym is_start) in
     let text : new ≡ marks ++ 10 ∷ [] =
     sym (take-append-drop count new) ∙ ap (λ l. l ++ drop count new) written ∙ ap (λ l. marks ++ l) (kept ∙ ap (drop count) whole ∙ last_left count) in
     let filled : length new ≡ count + 1 = long ∙ ap length whole ∙ ten in
@@ -69,13 +83,10 @@ pub lines_added : (old items lent new rest behind lines : List ℕ) (start total
     → length new ≡ length (take (length lent - start) (drop start lent)) → n ≡ count → take count new ≡ lines
     → take (start + n) (take len (take start lent ++ (new ++ rest) ++ behind)) ≡ old ++ lines
 lines_added old items lent new rest behind lines start total n count len is_start is_total made is_lent is_len long is_count written =
-    let points : List ℕ = replicate (n + 8) 46 in
-    let room : start + n + 8 - total ≡ n + 8 = omega (arith, is_start, is_total) in
-    let whole : lent ≡ old ++ points =
-    is_lent ∙ made ∙ ap (λ l. l ++ replicate (start + n + 8 - total) 46) (take_all (start + n + 8) old (omega (arith, is_start))) ∙ ap (λ k. old ++ replicate k 46) room in
-    let count_of : length points ≡ n + 8 = length-replicate {A = ℕ} (n + 8) 46 in
-    let size : length lent ≡ length old + (n + 8) = ap length whole ∙ length-append old points ∙ ap (λ k. length old + k) count_of in
-    let front : take start lent ≡ old = ap (take start) whole ∙ take_at old points start (sym is_start) in
+    let sum : start + n + 8 ≡ start + (n + 8) = omega arith in
+    let longer = made ∙ ap (λ k. take k old ++ replicate (k - total) 46) sum in
+    let size = long_by old items lent start total (n + 8) 46 is_start is_total longer is_lent in
+    let front = begins_as old items lent start total (n + 8) 46 is_start is_total longer is_lent in
     let first : length (take start lent) ≡ length old = ap length front in
     let lent_is = lent_length start lent (omega (arith, size, is_start)) in
     let part = take start lent ++ (new ++ rest) in

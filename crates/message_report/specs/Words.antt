@@ -13,6 +13,10 @@ GrowsBy Holds old new = (told : List ℕ) × (new ≡ old ++ told) × Holds told
 abbrev pub IsOneLine : List ℕ → Type 0
 IsOneLine words = All (λ c. c ≢ 10) words
 
+-- octets of a line are appended (own)
+abbrev pub GrowsInLine : List ℕ → List ℕ → Type 0
+GrowsInLine old new = (line : List ℕ) × IsOneLine line × (new ≡ old ++ line)
+
 -- a line is appended, with its line feed (own)
 abbrev pub GrowsByLine : List ℕ → List ℕ → Type 0
 GrowsByLine old new = (line : List ℕ) × IsOneLine line × (new ≡ old ++ (line ++ 10 ∷ []))

@@ -30,7 +30,7 @@ pub(crate) fn push_error_line(
     push_octets(text, b"error: ")?;
     push_error(text, code)?;
     push_octets(text, b": ")?;
-    push_line(text, reason)?;
+    push_line(text, reason.as_bytes())?;
     Ok(())
 }
 
@@ -46,7 +46,7 @@ fn push_warning_line(
 {
     push_place(text, name, line, warning.at.min(LAST))?;
     push_octets(text, b"warning: ")?;
-    push_line(text, &warning.words)?;
+    push_line(text, warning.words.as_bytes())?;
     Ok(())
 }
 

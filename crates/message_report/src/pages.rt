@@ -8,6 +8,7 @@ use crate::accepted::AcceptedMessage;
 use crate::picture::{Picture, push_picture};
 use crate::text::{push_legend, push_message, push_times, push_warnings};
 use crate::verdict::{push_accepted, push_head, push_line_head};
+use message_words::PageTimes;
 use multi_layout::Checked;
 use std::alloc::AllocError;
 
@@ -33,9 +34,10 @@ fn push_pages(
         ..
     } = *message;
     let pages = checked.pages();
+    let mut times = PageTimes::new(sign, message.message);
     for page in 0..pages {
         push_head(text, page, pages)?;
-        push_times(text, alloc, sign, message.message, page, pages)?;
+        push_times(text, alloc, &mut times, pages)?;
         push_picture(text, alloc, sign, checked, picture, page, telling.phase)?;
     }
     Ok(())

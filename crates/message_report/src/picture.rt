@@ -43,32 +43,6 @@ fn push_monochrome(
     push_lit(text, &plane)
 }
 
-/// Appends the picture of a page at a phase, by the colours of its pixels.
-fn push_coloured(
-    text: &mut Vec<u8>,
-    alloc: Global,
-    sign: &Sign,
-    checked: &mut Checked<'_>,
-    picture: Picture,
-    page: u8,
-    phase: u64,
-) -> Result<(), AllocError>
-    requires sign { checked.old.sign ≡ sign.now }
-    requires page { page < page_count checked.old }
-    ensures ok { OnOk result
-        (text.new.items ≡ text.old.items ++ picture_text picture sign.now checked.old.source.octets phase page) }
-    ensures kept { (checked.new.sign ≡ checked.old.sign) × (checked.new.source.octets ≡ checked.old.source.octets) }
-{
-    let colours = PageColours::new(alloc, sign, checked, page, phase)?;
-    match picture {
-        Picture::Marks => push_rows(text, &colours),
-        Picture::Blocks => {
-            let shares = palette_of(alloc, sign.classic())?;
-            push_lines(text, &shares, &colours)
-        }
-    }
-}
-
 /// Appends the picture of a page at a phase, in tenths of a second since the page began.
 pub(crate) fn push_picture(
     text: &mut Vec<u8>,
@@ -90,5 +64,12 @@ pub(crate) fn push_picture(
             return push_monochrome(text, alloc, sign, checked, page, phase);
         }
     }
-    push_coloured(text, alloc, sign, checked, picture, page, phase)
+    let colours = PageColours::new(alloc, sign, checked, page, phase)?;
+    match picture {
+        Picture::Marks => push_rows(text, &colours),
+        Picture::Blocks => {
+            let shares = palette_of(alloc, sign.classic())?;
+            push_lines(text, &shares, &colours)
+        }
+    }
 }

@@ -14,7 +14,7 @@ use crate::accepted::AcceptedMessage;
 use crate::format::Telling;
 use crate::picture::{Picture, push_picture};
 use crate::verdict::name_of;
-use message_words::{Warning, times_of};
+use message_words::{PageTimes, Warning};
 use multi_layout::Checked;
 use serde_json::{Value, json};
 use sign_font::Sign;
@@ -202,8 +202,9 @@ fn page_values(
     } = *message;
     let mut list = Vec::new(alloc);
     let pages = checked.pages();
+    let mut walk = PageTimes::new(sign, message.message);
     for page in 0..pages {
-        let times = times_of(sign, message.message, page);
+        let times = walk.next_page();
         let picture = picture_value(alloc, telling, sign, checked, page)?;
         let value = page_value(alloc, page, times.on, times.off, picture)?;
         list.push(value)?;

@@ -1,10 +1,10 @@
 //! Words for people that are appended.
 ghost use Rattle.std.specs.Prelude.{◌≢◌, OnOk};
-ghost use Rattle.message_report.specs.Words.{Grows, GrowsByLine};
+ghost use Rattle.message_report.specs.Words.{Grows, GrowsByLine, GrowsInLine};
 
 use crate::accepted::AcceptedMessage;
 use crate::picture::Picture;
-use message_words::{Legend, MessageLine, PageTimes, WarningLines};
+use message_words::{MessageLine, PageTimes, SHOWN_ALWAYS, Unseen, WarningLines, marks_of};
 use multi_layout::Checked;
 use octet_text::{push_octet, push_octets};
 use sign_font::Sign;
@@ -24,13 +24,24 @@ fn in_line(octet: u8) -> u8
     if octet == b'\n' { b'?' } else { octet }
 }
 
-/// Appends words as one line, with a question mark in place of a line feed.
-pub(crate) fn push_line(text: &mut Vec<u8>, words: &String) -> Result<(), AllocError>
-    ensures { OnOk result (GrowsByLine text.old.items text.new.items) }
+/// Appends octets, with a question mark in place of a line feed. Few have one.
+fn push_in_line(text: &mut Vec<u8>, octets: &[u8]) -> Result<(), AllocError>
+    ensures { OnOk result (GrowsInLine text.old.items text.new.items) }
 {
-    for octet in words.as_bytes() {
+    if !octets.contains(&b'\n') {
+        return push_octets(text, octets);
+    }
+    for octet in octets {
         push_octet(text, in_line(*octet))?;
     }
+    Ok(())
+}
+
+/// Appends words as one line, with a question mark in place of a line feed.
+pub(crate) fn push_line(text: &mut Vec<u8>, words: &[u8]) -> Result<(), AllocError>
+    ensures { OnOk result (GrowsByLine text.old.items text.new.items) }
+{
+    push_in_line(text, words)?;
     push_octet(text, b'\n')
 }
 
@@ -42,32 +53,41 @@ pub(crate) fn push_message(
 ) -> Result<(), AllocError>
     ensures { OnOk result (GrowsByLine text.old.items text.new.items) }
 {
-    let words = MessageLine(message).to_string(alloc)?;
-    push_line(text, &words)
+    let line = MessageLine(message);
+    if let Some(plain) = line.as_plain() {
+        return push_line(text, plain);
+    }
+    let words = line.to_string(alloc)?;
+    push_line(text, words.as_bytes())
 }
 
-/// Appends how long a page is shown, and how long the sign is dark after it, to the end of a line.
+/// Appends how long the next page of so many is shown, and how long the sign is dark after it, to the end of a line.
 pub(crate) fn push_times(
     text: &mut Vec<u8>,
     alloc: Global,
-    sign: &Sign,
-    message: &[u8],
-    page: u8,
+    times: &mut PageTimes<'_>,
     pages: u8,
 ) -> Result<(), AllocError>
     ensures { OnOk result (GrowsByLine text.old.items text.new.items) }
 {
-    let times = PageTimes {
-        sign,
-        message,
-        page,
-        pages,
-    };
-    let words = times.to_string(alloc)?;
-    push_line(text, &words)
+    if pages == 1 {
+        return push_line(text, SHOWN_ALWAYS.as_bytes());
+    }
+    let words = times.next_page().words(alloc)?;
+    push_line(text, words.as_bytes())
 }
 
-/// Appends what the marks of the pictures mean, if they have marks, and what pictures don't show.
+/// Appends what the marks of the pictures mean, if they have marks.
+fn push_marks(text: &mut Vec<u8>, sign: &Sign, picture: Picture) -> Result<(), AllocError>
+    ensures { OnOk result (Grows text.old.items text.new.items) }
+{
+    match picture {
+        Picture::Marks => push_octets(text, marks_of(sign).as_bytes()),
+        Picture::Blocks => Ok(()),
+    }
+}
+
+/// Appends what the marks of the pictures mean, and what pictures don't show.
 pub(crate) fn push_legend(
     text: &mut Vec<u8>,
     message: &AcceptedMessage<'_>,
@@ -76,18 +96,18 @@ pub(crate) fn push_legend(
 ) -> Result<(), AllocError>
     ensures { OnOk result (Grows text.old.items text.new.items) }
 {
-    let legend = Legend {
+    push_marks(text, message.sign, picture)?;
+    let unseen = Unseen {
         sign: message.sign,
         message: message.message,
         cycle: checked.cycle(),
         phase: message.telling.phase,
-        has_marks: matches!(&picture, Picture::Marks),
     };
-    let words = legend.to_string(message.alloc)?;
+    let words = unseen.to_string(message.alloc)?;
     push_words(text, &words)
 }
 
-/// Appends the warnings on a message, and an empty line.
+/// Appends the warnings on a message, and the empty line that stands behind each explanation.
 pub(crate) fn push_warnings(
     text: &mut Vec<u8>,
     message: &AcceptedMessage<'_>,
@@ -95,5 +115,6 @@ pub(crate) fn push_warnings(
     ensures { OnOk result (Grows text.old.items text.new.items) }
 {
     let words = WarningLines(message.warnings).to_string(message.alloc)?;
-    push_words(text, &words)
+    push_words(text, &words)?;
+    push_octet(text, b'\n')
 }

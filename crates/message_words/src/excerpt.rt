@@ -35,6 +35,11 @@ fn plain_front(message: &[u8]) -> &str {
     str::from_utf8(front).unwrap_or("")
 }
 
+/// Whether a message is shown whole, and each of its octets as itself.
+pub(crate) fn is_plain(message: &[u8]) -> bool {
+    message.len() <= MOST && message.iter().all(|octet| b' ' <= *octet && *octet <= b'~')
+}
+
 /// Writes the first characters of a message.
 pub(crate) fn write_message<W: Write>(f: &mut Formatter<W>, message: &[u8]) -> fmt::Result {
     let front = plain_front(message);

@@ -22,6 +22,6 @@ mod words;
 
 pub use characters::{CharacterRun, FontCharacters};
 pub use room::{LARGE_COLUMNS, LARGE_ROWS};
-pub use times::{Times, times_of};
+pub use times::{PageTimes, SHOWN_ALWAYS, Times};
 pub use warnings::{Warning, WarningLines, warnings_on};
-pub use words::{Legend, MessageLine, PageTimes, Refusal};
+pub use words::{MessageLine, Refusal, Unseen, marks_of};

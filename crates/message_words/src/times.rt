@@ -3,6 +3,10 @@
 use crate::piece::{Piece, named_from, piece_at, tag_of};
 use multi_tag::Tag;
 use sign_font::Sign;
+use std::alloc::{AllocError, Global};
+
+/// How long the one page of a message is shown, for the end of a line (own).
+pub const SHOWN_ALWAYS: &str = "shown all the time:";
 
 /// The times of a page, in tenths of a second (own).
 #[derive(Clone, Copy)]
@@ -22,26 +26,69 @@ impl Times {
             off: off.unwrap_or(defaults.page_off),
         }
     }
+
+    /// How long a page is shown, and how long the sign is dark after it, for the end of a line (own). The error says that memory was
+    /// refused.
+    pub fn words(self, alloc: Global) -> Result<String, AllocError> {
+        let mut words = String::with_capacity(alloc, 64)?;
+        words.push_str("shown for ")?;
+        push_seconds(&mut words, self.on)?;
+        if self.off > 0 {
+            words.push_str(", then dark for ")?;
+            push_seconds(&mut words, self.off)?;
+        }
+        words.push_str(":")?;
+        Ok(words)
+    }
 }
 
-/// The times of a page, counted from 0, of a message that a sign accepts (NTCIP 1203 v03, MULTI tag 'pt').
-pub fn times_of(sign: &Sign, message: &[u8], page: u8) -> Times {
-    let mut times = Times::of_tag(sign, None, None);
-    let mut left = page;
-    let mut at = 0;
-    for _ in 0..message.len() {
-        let Some(begin) = named_from(message, at, &[b"np", b"pt"]) else {
-            return times;
-        };
-        match tag_of(message.get(begin..).unwrap_or(b"")) {
-            Some((Tag::NewPage, _)) if left == 0 => return times,
-            Some((Tag::NewPage, _)) => left = left.saturating_sub(1),
-            Some((Tag::PageTime { on, off }, _)) => times = Times::of_tag(sign, on, off),
-            _ => {}
+/// Appends a time, which is given in tenths of a second, in seconds.
+fn push_seconds(words: &mut String, tenths: u8) -> Result<(), AllocError> {
+    words.push_str(itoa::Buffer::new().format(tenths / 10))?;
+    words.push_str(".")?;
+    words.push_str(itoa::Buffer::new().format(tenths % 10))?;
+    words.push_str(" seconds")
+}
+
+/// The times of the pages of a message that a sign accepts, one page after the other (NTCIP 1203 v03, MULTI tag 'pt').
+#[derive(Clone, Copy)]
+pub struct PageTimes<'a> {
+    sign: &'a Sign,
+    /// What stands behind the pages so far.
+    rest: &'a [u8],
+    /// The times in force.
+    times: Times,
+}
+
+impl<'a> PageTimes<'a> {
+    /// Those of a message, before its first page.
+    pub fn new(sign: &'a Sign, message: &'a [u8]) -> PageTimes<'a> {
+        PageTimes {
+            sign,
+            rest: message,
+            times: Times::of_tag(sign, None, None),
         }
-        at = begin.saturating_add(2);
     }
-    times
+
+    /// The times of the next page.
+    pub fn next_page(&mut self) -> Times {
+        for _ in 0..self.rest.len() {
+            let Some(begin) = named_from(self.rest, 0, &[b"np", b"pt"]) else {
+                break;
+            };
+            let tag = tag_of(self.rest.get(begin..).unwrap_or(b""));
+            self.rest = self.rest.get(begin.saturating_add(2)..).unwrap_or(b"");
+            match tag {
+                Some((Tag::NewPage, _)) => return self.times,
+                Some((Tag::PageTime { on, off }, _)) => {
+                    self.times = Times::of_tag(self.sign, on, off);
+                }
+                _ => {}
+            }
+        }
+        self.rest = b"";
+        self.times
+    }
 }
 
 /// Whether a character of a message that a sign accepts has a flash with an off time (NTCIP 1203 v03, MULTI tag 'fl').

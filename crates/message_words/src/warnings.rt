@@ -317,7 +317,7 @@ pub fn warnings_on(
     Ok(found)
 }
 
-/// Warnings as lines (own). An empty line ends them. Written by `Display`.
+/// Warnings as lines (own). Written by `Display`.
 #[derive(Clone, Copy)]
 pub struct WarningLines<'a>(pub &'a [Warning]);
 
@@ -326,7 +326,6 @@ impl Display for WarningLines<'_> {
         for warning in self.0 {
             writeln!(f, "warning at octet {}: {}", warning.at, warning.words)?;
         }
-        // an empty line stands behind each explanation
-        f.write_str("\n")
+        Ok(())
     }
 }

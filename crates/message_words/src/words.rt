@@ -1,10 +1,10 @@
 //! The words on a message, each written by `Display`.
 
 use crate::characters::FontCharacters;
-use crate::excerpt::{write_excerpt, write_message};
+use crate::excerpt::{is_plain, write_excerpt, write_message};
 use crate::reason::Place;
 use crate::standing::standing_behind;
-use crate::times::{flashes, times_of};
+use crate::times::flashes;
 use sign_font::Sign;
 use std::alloc::{AllocError, Global};
 use std::fmt;
@@ -14,6 +14,13 @@ use std::fmt::{Display, Formatter, Write};
 /// `Display`.
 #[derive(Clone, Copy)]
 pub struct MessageLine<'a>(pub &'a [u8]);
+
+impl<'a> MessageLine<'a> {
+    /// The message itself, if all of its octets are shown as they are.
+    pub fn as_plain(&self) -> Option<&'a [u8]> {
+        is_plain(self.0).then_some(self.0)
+    }
+}
 
 impl Display for MessageLine<'_> {
     fn fmt<W: Write>(&self, f: &mut Formatter<W>) -> fmt::Result {
@@ -82,47 +89,18 @@ impl Display for Refusal<'_> {
     }
 }
 
-/// Writes a time, which is given in tenths of a second, in seconds.
-fn write_seconds<W: Write>(f: &mut Formatter<W>, tenths: u8) -> fmt::Result {
-    f.write_str(itoa::Buffer::new().format(tenths / 10))?;
-    f.write_str(".")?;
-    f.write_str(itoa::Buffer::new().format(tenths % 10))?;
-    f.write_str(" seconds")
-}
-
-/// How long a page is shown, and how long the sign is dark after it, for the end of a line (own). Written by `Display`.
-#[derive(Clone, Copy)]
-pub struct PageTimes<'a> {
-    /// The sign.
-    pub sign: &'a Sign,
-    /// The message.
-    pub message: &'a [u8],
-    /// The page, counted from 0.
-    pub page: u8,
-    /// How many pages the message has.
-    pub pages: u8,
-}
-
-impl Display for PageTimes<'_> {
-    fn fmt<W: Write>(&self, f: &mut Formatter<W>) -> fmt::Result {
-        if self.pages == 1 {
-            return f.write_str("shown all the time:");
-        }
-        let times = times_of(self.sign, self.message, self.page);
-        f.write_str("shown for ")?;
-        write_seconds(f, times.on)?;
-        if times.off > 0 {
-            f.write_str(", then dark for ")?;
-            write_seconds(f, times.off)?;
-        }
-        f.write_str(":")
+/// What the marks of the pictures of a sign's pages mean (own): a line.
+pub fn marks_of(sign: &Sign) -> &'static str {
+    if sign.classic() {
+        "colours: 1 red, 2 yellow, 3 green, 4 cyan, 5 blue, 6 magenta, 7 white, 8 orange, 9 amber, . black\n"
+    } else {
+        "pixels: 1 lit, . dark\n"
     }
 }
 
-/// What the marks of the pictures of a message's pages mean, if they have marks, and what pictures don't show: that its pages don't change,
-/// and that text flashes (own). Written by `Display`.
+/// What the pictures of a message's pages don't show: that its pages don't change, and that text flashes (own). It is written by `Display`.
 #[derive(Clone, Copy)]
-pub struct Legend<'a> {
+pub struct Unseen<'a> {
     /// The sign.
     pub sign: &'a Sign,
     /// The message.
@@ -131,26 +109,10 @@ pub struct Legend<'a> {
     pub cycle: u32,
     /// When its pages are drawn, in tenths of a second since each began.
     pub phase: u64,
-    /// Whether the pictures have marks, and not the sign's colours.
-    pub has_marks: bool,
 }
 
-impl Legend<'_> {
-    /// What the marks mean.
-    fn marks(&self) -> &'static str {
-        if !self.has_marks {
-            ""
-        } else if self.sign.classic() {
-            "colours: 1 red, 2 yellow, 3 green, 4 cyan, 5 blue, 6 magenta, 7 white, 8 orange, 9 amber, . black\n"
-        } else {
-            "pixels: 1 lit, . dark\n"
-        }
-    }
-}
-
-impl Display for Legend<'_> {
+impl Display for Unseen<'_> {
     fn fmt<W: Write>(&self, f: &mut Formatter<W>) -> fmt::Result {
-        f.write_str(self.marks())?;
         if self.cycle == 0 && standing_behind(self.sign, self.message).pages > 1 {
             f.write_str("all times are 0, so page 1 is shown all the time\n")?;
         }

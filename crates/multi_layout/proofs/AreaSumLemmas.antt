@@ -139,6 +139,16 @@ module _ (area : List Spot) (a : Area) (e : a ≡ area_sum area) where
 back : (before : List Spot) (s : Spot) (page_just most : ℕ) → s.at.page_just ≡ page_just → most ≡ largest (λ t. t.at.page_just) (area_of s before) → nat_lt page_just most ≡ list_any (goes_back s) (area_of s before)
 back before s page_just most page e = ap (λ n. nat_lt n most) (sym page) ∙ ap (nat_lt s.at.page_just) e ∙ sym (group_goes_back s (area_of s before))
 
+-- a character conflicts if its group is before the present one, or it clashes with one on the present line of its group
+pub conflicts_character : (before : List Spot) (s : Spot) (page_just present : ℕ) → is_glyph s ≡ true → s.at.page_just ≡ page_just → present ≡ largest (λ t. t.at.page_just) (area_of s before)
+    → (nat_lt page_just present || list_any (clashes s) (after_last is_break (in_group page_just (area_of s before)))) ≡ conflicts before s
+conflicts_character before s page_just present g page e =
+    let goes = list_any (goes_back s) (area_of s before) in
+    let clashing = list_any (clashes s) (after_last is_break (in_group page_just (area_of s before))) in
+    ap (λ b. b || clashing) (back before s page_just present page e)
+    ∙ ap (λ n. goes || list_any (clashes s) (after_last is_break (in_group n (area_of s before)))) (sym page)
+    ∙ ap (λ b. goes || (b && list_any (clashes s) (line_before before s))) (sym g)
+
 -- a character on a line with this clash, if its group is the present one
 clash_by : (before : List Spot) (s : Spot) (page_just present : ℕ) (clash : Bool) → present ≡ largest (λ (t : Spot). t.at.page_just) (area_of s before)
     → clash ≡ list_any (clashes s) (after_last is_break (in_group present (area_of s before)))
@@ -155,22 +165,9 @@ clash_by before s page_just present clash e c = elim (cases_eq page_just present
   ]
 ]
 
-pub conflicts_character : (before : List Spot) (s : Spot) (page_just present : ℕ) (clash : Bool) → is_glyph s ≡ true → s.at.page_just ≡ page_just → present ≡ largest (λ t. t.at.page_just) (area_of s before)
+pub conflicts_kept : (before : List Spot) (s : Spot) (page_just present : ℕ) (clash : Bool) → is_glyph s ≡ true → s.at.page_just ≡ page_just → present ≡ largest (λ t. t.at.page_just) (area_of s before)
     → clash ≡ list_any (clashes s) (after_last is_break (in_group present (area_of s before))) → (nat_lt page_just present || ((page_just == present) && clash)) ≡ conflicts before s
-conflicts_character before s page_just present clash g page e c =
-    let goes = list_any (goes_back s) (area_of s before) in
-    let clashing = list_any (clashes s) (after_last is_break (in_group page_just (area_of s before))) in
-    clash_by before s page_just present clash e c
-    ∙ ap (λ b. b || clashing) (back before s page_just present page e)
-    ∙ ap (λ n. goes || list_any (clashes s) (after_last is_break (in_group n (area_of s before)))) (sym page)
-    ∙ ap (λ b. goes || (b && list_any (clashes s) (line_before before s))) (sym g)
-
--- the test of a character in the present group, and in another one
-pub conflicts_here : (a b : ℕ) (clash : Bool) → a ≡ b → clash ≡ (nat_lt a b || ((a == b) && clash))
-conflicts_here a b clash here = rw (here, eq-eqb b b refl, le-ltb b b (omega arith)) refl
-
-pub conflicts_elsewhere : (a b : ℕ) (clash : Bool) → (a ≡ b → ⊥) → nat_lt a b ≡ (nat_lt a b || ((a == b) && clash))
-conflicts_elsewhere a b clash there = rw (ne_eqb a b there) (sym (or-false (nat_lt a b)))
+conflicts_kept before s page_just present clash g page e c = clash_by before s page_just present clash e c ∙ conflicts_character before s page_just present g page e
 
 -- an item that doesn't conflict isn't before the present group
 pub no_back : (before : List Spot) (s : Spot) (page_just present : ℕ) → s.at.page_just ≡ page_just → present ≡ largest (λ t. t.at.page_just) (area_of s before) → conflicts before s ≡ false → present ≤ page_just

@@ -20,7 +20,7 @@ line_more k m line h b = record {
   known = b.known;
 }
 
-group_more : (k m : ℕ) (group : Group) → k ≤ m → IsGroupBelow k group → IsGroupBelow m group
+pub group_more : (k m : ℕ) (group : Group) → k ≤ m → IsGroupBelow k group → IsGroupBelow m group
 group_more k m group h b = record { ended = omega (arith, b.ended); closed = omega (arith, b.closed); line = line_more k m group.line h b.line }
 
 -- what is below a bound is below a larger one

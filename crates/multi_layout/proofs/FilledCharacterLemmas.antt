@@ -15,7 +15,7 @@ use Rattle.multi_layout.specs.Meaning.{Meaning, Shows}
 use Rattle.multi_layout.specs.Offence.{character_cases, clashes, conflicts, first_code, offence, offence_by}
 use Rattle.multi_layout.specs.kept.State.{IsStateOf, present_area}
 use Rattle.multi_layout.specs.Words.{largest}
-use Rattle.multi_layout.proofs.AreaSumLemmas.{conflicts_character, no_back}
+use Rattle.multi_layout.proofs.AreaSumLemmas.{conflicts_kept, no_back}
 use Rattle.multi_layout.proofs.FilledOnLemmas.{filled_on, largest_laid}
 use Rattle.multi_layout.proofs.FilledStateLemmas.{laid_area, laid_area_more}
 use Rattle.multi_layout.proofs.FilledTagLemmas.{same_width}
@@ -54,7 +54,7 @@ module _ (sign : SignData) (items : List Meaning) (number : ℕ) (cell : CellDat
       → (nat_lt shown.at.page_just state.area.present || ((shown.at.page_just == state.area.present) && clash)) ≡ conflicts (spots sign items) shown
   conflicts_by state st clash e =
       let all = spots sign items in
-      conflicts_character all shown shown.at.page_just state.area.present clash refl refl (present_is state st) e
+      conflicts_kept all shown shown.at.page_just state.area.present clash refl refl (present_is state st) e
 
   -- where it doesn't conflict, its group grows by it, and the others stay
   pub goes_behind : conflicts (spots sign items) shown ≡ false

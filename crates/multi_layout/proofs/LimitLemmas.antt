@@ -6,7 +6,6 @@ use Rattle.std.proofs.lemmas.Bool.Decides.{nat_tests}
 use Rattle.sign_font.specs.declared.parts.LineFill.TheVariants.{Off}
 use Rattle.multi_layout.specs.declared.area.Area.{Area}
 use Rattle.multi_layout.specs.declared.attributes.Rectangle.{Rectangle}
-use Rattle.multi_layout.specs.declared.line.Character.{Character}
 use Rattle.multi_layout.specs.declared.area.Group.{Group}
 use Rattle.multi_layout.specs.declared.line.Line.{Line}
 use Rattle.multi_layout.specs.declared.state.State.{State}
@@ -16,8 +15,8 @@ use Rattle.multi_layout.specs.declared.attributes.Attributes.{Attributes}
 use Rattle.sign_font.specs.Sign.{SignData}
 use Rattle.multi_layout.specs.Fit.{FitsWithout, fit, line_fits, room_for}
 use Rattle.multi_layout.specs.Laid.{too_big}
-use Rattle.multi_layout.specs.kept.Adding.{limited_anew, AddsBreak, AddsCharacter, IsSameAbove, IsSameBefore}
-use Rattle.multi_layout.specs.kept.Run.{FitsBefore, IsBehindCharacter, IsBehindOne, IsOpenArea, kept_fits, kept_height, lengthened_line}
+use Rattle.multi_layout.specs.kept.Adding.{AddsBreak, AddsCharacter}
+use Rattle.multi_layout.specs.kept.Run.{FitsBefore, IsBehindCharacter, IsBehindOne, kept_fits, kept_height, lengthened_line}
 use Rattle.multi_layout.specs.kept.State.{IsLimited, IsStateOf, IsUnfilledOf, attributes_of, group_room, segment_room}
 use Rattle.multi_layout.specs.kept.Sums.{area_sum, line_sum}
 use Rattle.multi_layout.proofs.AreaSumLemmas.{fits_break, fits_character, group_of_own, placing_break, placing_character, present_line}
@@ -25,27 +24,6 @@ use Rattle.multi_layout.proofs.BeforeLemmas.{fits_without, group_room_fits, grou
 use Rattle.multi_layout.proofs.FitLemmas.{room_end, room_middle, room_start}
 use Rattle.multi_layout.proofs.PlaceLemmas.{each_just}
 use Rattle.multi_layout.proofs.RunLemmas.{kept_area_fits, kept_fits_is}
-
--- ---- the limits where the present area is another
-
-module _ (state : State) (area : Area) (group_stays segment_stays : Bool) where
-  pub limited_again : (group_stays ≡ true → IsSameAbove state.area area)
-      → (segment_stays ≡ true → area.group.line.any ≡ true → (state.area.group.line.any ≡ true) × IsSameBefore state.area.group.line area.group.line)
-      → IsLimited state → IsLimited (limited_anew state area group_stays segment_stays)
-  limited_again above before limited = record {
-    width = λ any. elim (cases_Bool segment_stays) [
-      | inl stays ↦
-          let (some, same) = before stays any in
-          rw (stays, same.present, same.left, same.centre) (limited.width some)
-      | inr begins ↦ rw begins refl
-    ];
-    height = λ some. elim (cases_Bool group_stays) [
-      | inl stays ↦
-          let same = above stays in
-          rw (stays, same.present, same.top, same.middle) (limited.height (rw (sym same.present) some))
-      | inr begins ↦ rw begins refl
-    ];
-  }
 
 -- ---- what fits them
 
@@ -113,22 +91,19 @@ module _ (before : List Spot) (s : Spot) (glyph : is_glyph s ≡ true) (area : A
       (ap (nat_le (kept_height area.group)) h ∙ group_room_fits more area is high page_known.0 page_known.1 above ∙ kept_area_fits more area high placing is page_known.1)
 
 -- one more character, which doesn't conflict
-module _ (state new : State) (character : Character) (added : AddsCharacter state character new) (just : character.just ≡ state.attributes.line_just)
-    (may : IsOpenArea state.attributes.page_just state.attributes.line_just state.area) where
-  behind : (new.area.present ≡ state.attributes.page_just) × IsBehindOne character.just character.font new.area.group.line
-  behind = added.behind (rw just may)
+module _ (state new : State) (cell_width : ℕ) (added : AddsCharacter state cell_width new) where
+  behind : (new.area.present ≡ state.attributes.page_just) × IsBehindOne state.attributes.line_just state.attributes.font new.area.group.line
+  behind = added.behind
 
-  pub behind_added : character.font ≡ state.attributes.font → IsBehindCharacter new
-  behind_added font =
-      let is : IsBehindOne state.attributes.line_just state.attributes.font new.area.group.line = rw (← just, ← font) behind.1 in
-      subst IsBehindCharacter (sym added.same) (record { group = behind.0; line = is })
+  pub behind_added : IsBehindCharacter new
+  behind_added = subst IsBehindCharacter (sym added.same) (record { group = behind.0; line = behind.1 })
 
   module _ (limited : IsLimited state) (line_known : (2 ≤ state.attributes.line_just) × (state.attributes.line_just ≤ 5)) (page_known : (2 ≤ state.attributes.page_just) × (state.attributes.page_just ≤ 4)) where
     page : (2 ≤ new.area.present) × (new.area.present ≤ 4)
     page = (omega (arith, page_known.0, behind.0), omega (arith, page_known.1, behind.0))
 
     line : (2 ≤ new.area.group.line.present) × (new.area.group.line.present ≤ 5)
-    line = (omega (arith, line_known.0, behind.1.segment, just), omega (arith, line_known.1, behind.1.segment, just))
+    line = (omega (arith, line_known.0, behind.1.segment), omega (arith, line_known.1, behind.1.segment))
 
     pub added_fits : (before : List Spot) (s : Spot) → is_glyph s ≡ true → new.area ≡ area_sum (area_of s before ++ s ∷ []) → new.area.present ≡ s.at.page_just → s.at.line_just ≡ state.attributes.line_just
         → s.at.rectangle.width ≡ state.attributes.rectangle.width → s.at.rectangle.height ≡ state.attributes.rectangle.height → FitsWithout before s
@@ -140,7 +115,7 @@ module _ (state new : State) (character : Character) (added : AddsCharacter stat
         now.width behind.1.any ∙ ap (λ (r : Rectangle). segment_room new.area.group.line r.width) rectangle ∙ ap (segment_room new.area.group.line) (sym wide) in
         let h : new.limits.height ≡ group_room new.area s.at.rectangle.height =
         now.height page.0 ∙ ap (λ (r : Rectangle). group_room new.area r.height) rectangle ∙ ap (group_room new.area) (sym high) in
-        within_limits before s glyph new.area is present (behind.1.segment ∙ just ∙ sym own) page line without new.limits.width new.limits.height w h
+        within_limits before s glyph new.area is present (behind.1.segment ∙ sym own) page line without new.limits.width new.limits.height w h
 
 -- one more end of a line, behind which no group is before that of the items so far
 module _ (state new : State) (gap : Option ℕ) (added : AddsBreak state gap new) (limited : IsLimited state) (page_known : (2 ≤ state.attributes.page_just) × (state.attributes.page_just ≤ 4)) where

@@ -18,7 +18,7 @@ use Rattle.multi_layout.specs.kept.Sums.{segment_sum, width_before, line_sum, li
 use Rattle.multi_layout.proofs.WordLemmas.{largest_most, largest_push, last_or_push, gap_before}
 use Rattle.multi_layout.proofs.AreaLemmas.{filter_none}
 use Rattle.multi_layout.proofs.CheckLemmas.{any_largest}
-use Rattle.multi_layout.proofs.HeightLemmas.{bearers_glyphs}
+use Rattle.multi_layout.proofs.HeightLemmas.{any_glyph, bearers_glyphs}
 use Rattle.multi_layout.proofs.LayoutLemmas.{width_push}
 
 -- an item that passes, put behind a list
@@ -236,3 +236,8 @@ module _ (line : List Spot) (l : Line) (e : l ≡ line_sum line) where
 
   pub part_of_later : (just : ℕ) → l.present < just → (part : Segment) → part ≡ segment_sum just [] → part ≡ segment_sum just line
   part_of_later just later part is = part_begun line just l e later part is
+
+-- a line of no character is that of none
+pub no_character : (line : List Spot) (sums : Line) → AllPass is_glyph line → sums ≡ line_sum line → sums.any ≡ false → line ≡ []
+no_character [] sums glyphs e none = refl
+no_character (s ∷ line) sums glyphs e none = absurd (false≢true (sym none ∙ ap (λ (l : Line). l.any) e ∙ any_glyph s line glyphs))

@@ -82,6 +82,14 @@ module _ (sign : SignData) (items : List Meaning) (state : State) (st : IsStateO
 
   module _ (number : ℕ) (c : SizedCell) (some : cell_in sign state.attributes.font.number number ≡ Some c) (r : Bool)
       (answer : (before : List Spot) (s : Spot) → state.area ≡ area_sum (area_of s before) → is_glyph s ≡ true → s.at.page_just ≡ state.attributes.page_just → s.at.line_just ≡ state.attributes.line_just → r ≡ conflicts before s) where
+    -- it doesn't conflict if it doesn't offend
+    pub character-free : unsized_offence sign items (Shows number) ≡ None → r ≡ false
+    character-free fine =
+        let (cell, found, width) = cell_found sign items state st number c some in
+        let s : Spot = record { at = standing sign items; put = Glyph cell } in
+        answer (spots sign items) s st.area refl page_is line_is
+        ∙ no_conflict (conflicts (spots sign items) s) false (sym (offence-character never_big sign items number cell found) ∙ fine)
+
     pub character-exit-conflict : r ≡ true → offence Off sign items (Shows number) ≡ Some 11
     character-exit-conflict is =
         let (cell, found, width) = cell_found sign items state st number c some in
@@ -138,8 +146,10 @@ module _ (sign : SignData) (items : List Meaning) (state : State) (st : IsStateO
 
   module _ (gap : Option ℕ) (r : Bool)
       (answer : (before : List Spot) (s : Spot) → state.area ≡ area_sum (area_of s before) → is_glyph s ≡ false → s.at.page_just ≡ state.attributes.page_just → r ≡ conflicts before s) where
-    ended : Spot
-    ended = record { at = standing sign items; put = Break gap }
+    pub break-free : unsized_offence sign items (Does (NewLine gap)) ≡ None → r ≡ false
+    break-free fine =
+        let s : Spot = record { at = standing sign items; put = Break gap } in
+        answer (spots sign items) s st.area refl page_is ∙ no_conflict (conflicts (spots sign items) s) false (sym (offence-break never_big sign items gap) ∙ fine)
 
     pub break-exit-conflict : r ≡ true → offence Off sign items (Does (NewLine gap)) ≡ Some 11
     break-exit-conflict is =

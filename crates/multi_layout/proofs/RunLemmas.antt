@@ -19,11 +19,12 @@ use Rattle.multi_layout.specs.Fit.{FitsWithout, area_fits, fit, line_fits}
 use Rattle.multi_layout.specs.Line.{average, height_of, width_of}
 use Rattle.multi_layout.specs.Meaning.{Meaning, Shows}
 use Rattle.multi_layout.specs.Offence.{clashes, conflicts, offence, unsized_offence}
+use Rattle.multi_layout.specs.kept.Adding.{character_of}
 use Rattle.multi_layout.specs.kept.Run.{IsBehindCharacter, IsRun, kept_fits, kept_group_height, kept_height, kept_width, lengthened, lengthened_area, lengthened_line, line_in_force}
 use Rattle.multi_layout.specs.kept.State.{IsStateOf}
 use Rattle.multi_layout.specs.kept.Sums.{IsBelow, IsCharacter, IsPlacing, area_sum, group_sum, height_before, line_sum, segment_sum, width_before}
 use Rattle.multi_layout.specs.Words.{largest}
-use Rattle.multi_layout.proofs.AreaSumLemmas.{area_stays, area_with, conflicts_character, fits_character, group_of_own, other_height, present_height, none_of_later_group, own_line, placing_character}
+use Rattle.multi_layout.proofs.AreaSumLemmas.{area_stays, area_with, conflicts_kept, fits_character, group_of_own, other_height, present_height, none_of_later_group, own_line, placing_character}
 use Rattle.multi_layout.proofs.GroupHeightLemmas.{height_ended, height_present}
 use Rattle.multi_layout.proofs.GroupSumLemmas.{group_character, present_glyphs}
 use Rattle.multi_layout.proofs.LineSumLemmas.{line_clashes, line_with, none_of_later, segment_own, width_other_of, width_present}
@@ -169,10 +170,6 @@ not_full n = elim (cases_eq n 5) [
 abbrev pub longer_by : State → ℕ → SizedCell → Area
 longer_by state gap cell = lengthened_area ((line_in_force state).part.width + (gap + cell.width)) ((line_in_force state).part.count + 1) state.area
 
--- the character
-abbrev pub seen_in : State → SizedCell → Character
-seen_in state cell = record { just = state.attributes.line_just; spacing = state.attributes.spacing; width = cell.width; font = state.attributes.font }
-
 -- what stands behind a character still does when its segment is lengthened
 pub behind_stays : (state : State) (width count : ℕ) → IsBehindCharacter state → IsBehindCharacter (lengthened width count state)
 behind_stays state width count b = record {
@@ -181,12 +178,12 @@ behind_stays state width count b = record {
 }
 
 module _ (state : State) (behind : IsBehindCharacter state) (gap : ℕ) (gap_is : gap ≡ unwrap_or state.attributes.spacing state.attributes.font.char_spacing) (cell : SizedCell) where
-  pub area_beside : (xs : List Spot) (s : Spot) → All IsPlacing xs → state.area ≡ area_sum xs → IsCharacter s (seen_in state cell) → s.at.page_just ≡ state.attributes.page_just → state.area.present ≤ state.attributes.page_just
+  pub area_beside : (xs : List Spot) (s : Spot) → All IsPlacing xs → state.area ≡ area_sum xs → IsCharacter s (character_of state.attributes cell.width) → s.at.page_just ≡ state.attributes.page_just → state.area.present ≤ state.attributes.page_just
       → list_any (clashes s) (after_last is_break (in_group state.attributes.page_just xs)) ≡ false → longer_by state gap cell ≡ area_sum (xs ++ s ∷ [])
   area_beside xs s placing e is page order apart =
       let spots = after_last is_break (in_group state.attributes.page_just xs) in
       let here : line_in_force state ≡ line_sum spots = own_line xs state.area e ∙ ap (λ n. line_sum (after_last is_break (in_group n xs))) behind.group in
-      let grown = line_lengthened spots s (seen_in state cell) (present_glyphs state.attributes.page_just xs placing) is (line_in_force state) here
+      let grown = line_lengthened spots s (character_of state.attributes cell.width) (present_glyphs state.attributes.page_just xs placing) is (line_in_force state) here
       behind.line.segment behind.line.parts behind.line.any behind.line.height behind.line.spacing behind.line.last gap gap_is in
       area_lengthened xs s state.area state.attributes.page_just ((line_in_force state).part.width + (gap + cell.width)) ((line_in_force state).part.count + 1) e is.glyph page behind.group grown
 
@@ -197,7 +194,7 @@ module _ (state : State) (behind : IsBehindCharacter state) (gap : ℕ) (gap_is 
   state_beside sign items st number found narrow small fine =
       let below = longer_below (1024 * length items) ((line_in_force state).part.width + (gap + cell.width)) ((line_in_force state).part.count + 1) state.area st.below
       (omega (arith, st.below.group.line.part.width, narrow, small)) (omega (arith, st.below.group.line.part.count)) in
-      character-accepted sign items state st number cell found (seen_in state cell) refl refl refl refl (longer_by state gap cell) area_beside below fine
+      character-accepted sign items state st number cell found (character_of state.attributes cell.width) refl refl refl refl (longer_by state gap cell) area_beside below fine
 
 -- ---- what a character of the run does
 
@@ -208,7 +205,7 @@ module _ (sign : SignData) (items : List Meaning) (state : State) (st : IsStateO
   longer = longer_by state gap cell
 
   abbrev seen : Character
-  seen = seen_in state cell
+  seen = character_of state.attributes cell.width
 
   -- it doesn't conflict
   agrees : (before : List Spot) (s : Spot) → state.area ≡ area_sum (area_of s before) → is_glyph s ≡ true → s.at.page_just ≡ state.attributes.page_just → s.at.line_just ≡ state.attributes.line_just
@@ -225,7 +222,7 @@ module _ (sign : SignData) (items : List Meaning) (state : State) (st : IsStateO
       ∙ ap (λ b. nat_lt state.attributes.line_just state.attributes.line_just || ((state.attributes.line_just == 5) && b)) parts
       ∙ ap (λ b. b || ((state.attributes.line_just == 5) && nat_lt state.attributes.line_just 5)) (le-ltb state.attributes.line_just state.attributes.line_just (omega arith))
       ∙ not_full state.attributes.line_just in
-      let whole = conflicts_character before s state.attributes.page_just state.area.present false glyph page (ap (λ (a : Area). a.present) sum) (sym clash) in
+      let whole = conflicts_kept before s state.attributes.page_just state.area.present false glyph page (ap (λ (a : Area). a.present) sum) (sym clash) in
       sym (and_none (state.attributes.page_just == state.area.present))
       ∙ ap (λ b. b || ((state.attributes.page_just == state.area.present) && false)) (sym (le-ltb state.attributes.page_just state.area.present (omega (arith, run.group))))
       ∙ whole

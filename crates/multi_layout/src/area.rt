@@ -1,20 +1,19 @@
 //! The running sums of an area's groups.
 
-ghost use Rattle.std.specs.Prelude.{◌≡◌, ℕ, ◌+◌, ◌^◌, ◌≤◌, ◌&&◌, true, false, nat_le, not, List, [], ◌∷◌, ◌++◌};
+ghost use Rattle.std.specs.Prelude.{◌≡◌, ◌≢◌, ℕ, ◌+◌, ◌^◌, ◌<◌, ◌≤◌, ◌&&◌, true, false, nat_le, not, List, [], ◌∷◌, ◌++◌};
 ghost use Rattle.std.specs.List.{All};
 ghost use Rattle.std.specs.Option.{option_map_or, unwrap_or};
 ghost use Rattle.sign_font.specs.declared.parts.LineFill.TheVariants.{Off};
-ghost use Rattle.multi_layout.specs.Address.{Spot, is_glyph, is_break, area_of, in_group, lines_of};
+ghost use Rattle.multi_layout.specs.Address.{Spot, is_break, area_of, in_group, lines_of};
 ghost use Rattle.multi_layout.specs.Fit.{area_fits};
 ghost use Rattle.multi_layout.specs.Laid.{too_big};
 ghost use Rattle.multi_layout.specs.Line.{average, height_of};
-ghost use Rattle.multi_layout.specs.Offence.{clashes, conflicts};
-ghost use Rattle.multi_layout.specs.kept.Adding.{IsSameAbove, IsSameBefore};
-ghost use Rattle.multi_layout.specs.kept.Run.{IsBehindOne, IsOpen, IsOpenArea, kept_fits_height, kept_group_height, kept_height, lengthened_area};
+ghost use Rattle.multi_layout.specs.kept.Adding.{ReachesGroup};
+ghost use Rattle.multi_layout.specs.kept.Run.{kept_fits_height, kept_group_height, kept_height, lengthened_area};
 ghost use Rattle.multi_layout.specs.kept.State.{group_room};
-ghost use Rattle.multi_layout.specs.kept.Sums.{clashes_in, group_sum, area_sum, area_sum_in, IsPlacing, IsCharacter, IsBreak, IsGroupBelow, IsBelow};
+ghost use Rattle.multi_layout.specs.kept.Sums.{group_sum, area_sum, area_sum_in, IsPlacing, IsBreak, IsGroupBelow, IsBelow};
 
-use crate::line::{Character, Line, gap_or_average, parts_fit, room_for};
+use crate::line::{Line, gap_or_average, parts_fit, room_for};
 use sign_font::FontInfo;
 
 /// The last line that an `nl` ended.
@@ -64,21 +63,6 @@ impl Group {
             last: None,
             line: Line::new(),
         }
-    }
-
-    /// Adds a character of this group.
-    #[inline(always)]
-    pub(crate) fn add_character(&mut self, character: &Character)
-        requires known { character.now.just ≤ 5 }
-        requires below { IsGroupBelow (2 ^ 62) self.old }
-        ensures sum { (just : ℕ) (area : List Spot) (s : Spot) → All IsPlacing area → self.old ≡ group_sum (in_group just area)
-            → IsCharacter s character.now → s.at.page_just ≡ just → clashes_in just area s ≡ false
-            → self.new ≡ group_sum (in_group just (area ++ s ∷ [])) }
-        ensures grows { (k : ℕ) → IsGroupBelow k self.old → IsGroupBelow (k + 1024) self.new }
-        ensures behind { IsOpen character.now.just self.old.line → IsBehindOne character.now.just character.now.font self.new.line }
-        ensures same { self.old.line.any ≡ true → character.now.just ≡ self.old.line.present → IsSameBefore self.old.line self.new.line }
-    {
-        self.line.add(character);
     }
 
     /// Adds an `nl` of this group.
@@ -139,42 +123,6 @@ impl Area {
         }
     }
 
-    /// Adds a character, with this page justification in force, which isn't before that of the present group.
-    #[inline(always)]
-    pub(crate) fn add_character(&mut self, page_just: u8, character: &Character)
-        requires page_just { (2 ≤ page_just) × (page_just ≤ 4) }
-        requires known { character.now.just ≤ 5 }
-        requires below { IsBelow (2 ^ 62) self.old }
-        ensures sum { (area : List Spot) (s : Spot) → All IsPlacing area → self.old ≡ area_sum area
-            → IsCharacter s character.now → s.at.page_just ≡ page_just → self.old.present ≤ page_just
-            → clashes_in page_just area s ≡ false → self.new ≡ area_sum (area ++ s ∷ []) }
-        ensures grows { (k : ℕ) → IsBelow k self.old → IsBelow (k + 1024) self.new }
-        ensures behind { IsOpenArea page_just character.now.just self.old
-            → (self.new.present ≡ page_just) × IsBehindOne character.now.just character.now.font self.new.group.line }
-        ensures above { page_just ≡ self.old.present → IsSameAbove self.old self.new }
-        ensures before { page_just ≡ self.old.present → self.old.group.line.any ≡ true → character.now.just ≡ self.old.group.line.present
-            → IsSameBefore self.old.group.line self.new.group.line }
-    {
-        self.go_on(page_just);
-        self.group.add_character(character);
-    }
-
-    /// Adds an `nl`, with this font in force and this page justification, which isn't before that of the present group.
-    #[inline(always)]
-    pub(crate) fn add_break(&mut self, page_just: u8, gap: Option<u8>, font: &FontInfo)
-        requires page_just { (2 ≤ page_just) × (page_just ≤ 4) }
-        requires below { IsBelow (2 ^ 62) self.old }
-        ensures sum { (area : List Spot) (s : Spot) → All IsPlacing area → self.old ≡ area_sum area
-            → IsBreak s gap font.now → s.at.page_just ≡ page_just → self.old.present ≤ page_just → self.new ≡ area_sum (area ++ s ∷ []) }
-        ensures grows { (k : ℕ) → IsBelow k self.old → IsBelow (k + 1024) self.new }
-        ensures above { page_just ≡ self.old.present → IsSameAbove self.old self.new }
-        ensures present { self.old.present ≤ page_just → self.new.present ≡ page_just }
-        ensures none { self.new.group.line.any ≡ false }
-    {
-        self.go_on(page_just);
-        self.group.add_break(gap, font);
-    }
-
     /// Goes on to the group with a page justification, which isn't before that of the present one.
     #[inline(always)]
     pub(crate) fn go_on(&mut self, page_just: u8)
@@ -185,9 +133,8 @@ impl Area {
         ensures grows { (k : ℕ) → IsBelow k self.old
             → (self.new.top ≤ k + 1024) × (self.new.middle ≤ k + 1024) × IsGroupBelow k self.new.group × (2 ≤ self.new.present)
             × (self.new.present ≤ 4) }
-        ensures may { (just : ℕ) → IsOpenArea page_just just self.old → (self.new.present ≡ page_just) × IsOpen just self.new.group.line }
-        ensures same { page_just ≡ self.old.present → self.new ≡ self.old }
         ensures present { self.old.present ≤ page_just → self.new.present ≡ page_just }
+        ensures begins { self.old.present < page_just → self.new.group.line.any ≡ false }
     {
         if page_just <= self.present {
             return;
@@ -200,6 +147,47 @@ impl Area {
             3 => self.middle = height,
             _ => {}
         }
+    }
+
+    /// Goes on to the group with a page justification, unless it is before that of the present one, and works out the most that the group
+    /// may have then within a height in pixels. The answer is whether it isn't before.
+    #[inline(always)]
+    pub(crate) fn reach(&mut self, page_just: u8, height: u16, most: &mut u64) -> bool
+        requires page_just { (2 ≤ page_just) × (page_just ≤ 4) }
+        requires below { IsBelow (2 ^ 62) self.old }
+        ensures reached { ReachesGroup page_just height self.old most.old result self.new most.new }
+    {
+        if page_just == self.present {
+            return true;
+        }
+        if self.present == 0 {
+            self.present = page_just;
+            self.top = 0;
+            self.middle = 0;
+            // its line has no character
+            self.group.ended = 0;
+            self.group.closed = 0;
+            self.group.last = None;
+            *most = u64::from(height);
+            return true;
+        }
+        self.leave(page_just, height, most)
+    }
+
+    /// The same from a group of some items. It isn't put into its callers' code, since areas of several groups are few.
+    #[inline(never)]
+    fn leave(&mut self, page_just: u8, height: u16, most: &mut u64) -> bool
+        requires page_just { (2 ≤ page_just) × (page_just ≤ 4) }
+        requires below { IsBelow (2 ^ 62) self.old }
+        requires other { page_just ≢ self.old.present }
+        ensures reached { ReachesGroup page_just height self.old most.old result self.new most.new }
+    {
+        if page_just < self.present {
+            return false;
+        }
+        self.go_on(page_just);
+        *most = self.room(height);
+        true
     }
 
     /// The group with this page justification, top 2, middle 3 or bottom 4, which isn't before the present one.
@@ -233,27 +221,6 @@ impl Area {
             3 => self.middle,
             _ => 0,
         }
-    }
-
-    /// Whether a character with these justifications conflicts with the items before it.
-    pub(crate) fn conflicts_with_character(&self, page_just: u8, just: u8) -> bool
-        ensures may { result ≡ false → IsOpenArea page_just just self.now }
-        ensures conflicts { (before : List Spot) (s : Spot) → self.now ≡ area_sum (area_of s before) → is_glyph s ≡ true
-            → s.at.page_just ≡ page_just → s.at.line_just ≡ just → result ≡ conflicts before s }
-    {
-        if page_just == self.present {
-            self.group.line.clashes(just)
-        } else {
-            page_just < self.present
-        }
-    }
-
-    /// Whether an `nl` with this page justification conflicts with the items before it.
-    pub(crate) fn conflicts_with_break(&self, page_just: u8) -> bool
-        ensures { (before : List Spot) (s : Spot) → self.now ≡ area_sum (area_of s before) → is_glyph s ≡ false
-            → s.at.page_just ≡ page_just → result ≡ conflicts before s }
-    {
-        page_just < self.present
     }
 
     /// The most pixels that the present group may have within a height, into which those before it fit.

@@ -64,16 +64,12 @@ pub(crate) fn whole_sign(sign: &Terms<'_>) -> Rectangle
 }
 
 impl Attributes {
+    ghost use Rattle.multi_layout.specs.kept.Adding.{character_of};
     ghost use Rattle.multi_layout.specs.kept.State.{IsSimple, attributes_of, standing_behind};
 
     /// A character of this width in pixels, as its line sees it.
     pub(crate) fn character(&self, width: u8) -> Character
-        ensures { result ≡ record {
-          just = self.now.line_just;
-          spacing = self.now.spacing;
-          width = width;
-          font = self.now.font;
-        } }
+        ensures { result ≡ character_of self.now width }
     {
         Character {
             just: self.line_just,

@@ -56,15 +56,9 @@ pub(crate) fn judge_cell(state: &mut State, number: u16, width: u8) -> Result<()
     ensures limited { IsLimited state.old → IsLimited state.new }
     ensures behind { OnOk result (IsBehindCharacter state.new) }
 {
-    let page_just = state.attributes.page_just;
-    if state
-        .area
-        .conflicts_with_character(page_just, state.attributes.line_just)
-    {
+    if !state.put_character(width) {
         return Err(SyntaxError::TagConflict);
     }
-    let character = state.attributes.character(width);
-    state.add_character(&character);
     let Limits { width, height } = state.limits;
     if state.area.is_within(width, height) {
         Ok(())
@@ -80,10 +74,9 @@ fn judge_break<const WORDS: bool>(state: &mut State, gap: Option<u8>) -> Result<
     ensures judged { (sign : SignData) → JudgesTag WORDS sign state.old (Does (Tag.NewLine gap)) result state.new }
     ensures limited { IsLimited state.old → IsLimited state.new }
 {
-    if state.area.conflicts_with_break(state.attributes.page_just) {
+    if !state.put_break(gap) {
         return Err(SyntaxError::TagConflict);
     }
-    state.add_break(gap);
     if fits_with_break::<WORDS>(state) {
         Ok(())
     } else {
@@ -95,7 +88,8 @@ fn judge_break<const WORDS: bool>(state: &mut State, gap: Option<u8>) -> Result<
 #[inline(always)]
 fn fits_with_break<const WORDS: bool>(state: &State) -> bool
     requires below { IsBelow (2 ^ 62 + 1024) state.now.area }
-    ensures sums { WORDS ≡ true → (before : List Spot) (s : Spot) → is_break s ≡ true → state.now.area ≡ area_sum (area_of s before ++ s ∷ [])
+    ensures sums { WORDS ≡ true → (before : List Spot) (s : Spot) → is_break s ≡ true
+        → state.now.area ≡ area_sum (area_of s before ++ s ∷ [])
         → s.at.rectangle.height ≡ state.now.attributes.rectangle.height → result ≡ not (too_big Off before s) }
     ensures limits { WORDS ≡ false → result ≡ nat_le state.now.area.group.closed state.now.limits.height }
 {

@@ -1,13 +1,13 @@
 //! The running sums of a line's characters.
 
-ghost use Rattle.std.specs.Prelude.{◌≡◌, ℕ, ◌+◌, ◌^◌, ◌<◌, ◌≤◌, true, false, if◌then◌else◌, length, Some, List, [], ◌∷◌, ◌++◌};
+ghost use Rattle.std.specs.Prelude.{◌≡◌, ℕ, ◌+◌, ◌^◌, ◌<◌, ◌≤◌, true, false, not, if◌then◌else◌, length, Some, List, [], ◌∷◌, ◌++◌};
 ghost use Rattle.std.specs.List.{AllPass, list_any};
 ghost use Rattle.std.specs.Option.{option_map_or, unwrap_or};
 ghost use Rattle.multi_layout.specs.Address.{Spot, is_glyph, segment};
 ghost use Rattle.multi_layout.specs.Fit.{fit, line_fits, room_for};
 ghost use Rattle.multi_layout.specs.Line.{average, width_of};
 ghost use Rattle.multi_layout.specs.Offence.{clashes};
-ghost use Rattle.multi_layout.specs.kept.Adding.{IsSameBefore};
+ghost use Rattle.multi_layout.specs.kept.Adding.{IsSameBefore, PutsCharacter};
 ghost use Rattle.multi_layout.specs.kept.Run.{IsBehindOne, IsOpen, kept_fits, kept_width, lengthened_line};
 ghost use Rattle.multi_layout.specs.kept.State.{segment_room};
 ghost use Rattle.multi_layout.specs.kept.Sums.{segment_sum, line_sum, line_sum_in, IsCharacter, IsSegmentBelow, IsLineBelow};
@@ -129,6 +129,7 @@ impl Line {
         ensures sum { (s : Spot) → IsCharacter s character.now → result ≡ line_sum (s ∷ []) }
         ensures below { IsLineBelow 1024 result }
         ensures behind { IsBehindOne character.now.just character.now.font result }
+        ensures alone { (result.left ≡ 0) × (result.centre ≡ 0) }
     {
         Line {
             present: character.just,
@@ -168,6 +169,35 @@ impl Line {
         self.height = self.height.max(character.font.height);
         self.spacing = self.spacing.max(character.font.line_spacing);
         self.any = true;
+    }
+
+    /// Puts a character on the line, which has this width in pixels, and works out the most that the present segment may have then. If
+    /// it clashes, nothing changes, and the answer is false.
+    #[inline(always)]
+    pub(crate) fn put(&mut self, character: &Character, width: u16, most: &mut u64) -> bool
+        requires known { character.now.just ≤ 5 }
+        requires below { IsLineBelow (2 ^ 62) self.old }
+        ensures apart { (line : List Spot) (s : Spot) → AllPass is_glyph line → self.old ≡ line_sum line
+            → s.at.line_just ≡ character.now.just → not result ≡ list_any (clashes s) line }
+        ensures put { result ≡ true → PutsCharacter self.old character.now self.new }
+        ensures left { result ≡ false → (self.new ≡ self.old) × (most.new ≡ most.old) }
+        ensures most { (self.old.any ≡ true → most.old ≡ segment_room self.old width) → self.new.any ≡ true
+            → most.new ≡ segment_room self.new width }
+    {
+        if !self.any {
+            *self = Line::of(character);
+            *most = u64::from(width);
+            return true;
+        }
+        if self.clashes(character.just) {
+            return false;
+        }
+        let stays = character.just == self.present;
+        self.add(character);
+        if !stays {
+            *most = self.room(width);
+        }
+        true
     }
 
     /// Goes on to the segment with a line justification, which isn't before that of the present one.

@@ -1,11 +1,10 @@
 //! What is kept of the items that were read.
 
-ghost use Rattle.std.specs.Prelude.{◌≡◌, ℕ, ◌+◌, ◌*◌, ◌^◌, ◌≤◌, []};
+ghost use Rattle.std.specs.Prelude.{◌≡◌, ℕ, ◌+◌, ◌*◌, ◌≤◌, []};
 ghost use Rattle.sign_font.specs.Sound.{IsSound};
 
 use crate::area::Area;
 use crate::attributes::{Attributes, Rectangle, whole_sign};
-use crate::line::Character;
 use crate::terms::Terms;
 use multi_tag::Tag;
 
@@ -30,13 +29,14 @@ pub(crate) struct Limits {
 }
 
 impl State {
-    ghost use Rattle.std.specs.Prelude.{List, ◌∷◌, ◌++◌, Some, None};
+    ghost use Rattle.std.specs.Prelude.{List, ◌∷◌, ◌++◌, Some, None, true, false, not};
     ghost use Rattle.sign_font.specs.Sign.{SignData};
     ghost use Rattle.sign_font.specs.Text.{width_in};
     ghost use Rattle.multi_layout.specs.Meaning.{Does, Meaning, Shows};
-    ghost use Rattle.multi_layout.specs.Offence.{unsized_offence};
-    ghost use Rattle.multi_layout.specs.kept.Adding.{AddsBreak, AddsCharacter, limited_anew};
-    ghost use Rattle.multi_layout.specs.kept.Sums.{IsBelow};
+    ghost use Rattle.multi_layout.specs.Address.{Spot, area_of, is_glyph};
+    ghost use Rattle.multi_layout.specs.Offence.{conflicts, unsized_offence};
+    ghost use Rattle.multi_layout.specs.kept.Adding.{AddsBreak, AddsCharacter};
+    ghost use Rattle.multi_layout.specs.kept.Sums.{area_sum};
     ghost use Rattle.multi_layout.specs.kept.State.{IsLimited, IsReady, IsStateOf, whole_times};
 
     /// The state before the first item.
@@ -70,46 +70,44 @@ impl State {
         }
     }
 
-    /// Adds a character, which doesn't conflict with the items before it.
+    /// Puts a character whose cell has this width in pixels, if it doesn't conflict with the items before it: whether it doesn't.
     #[inline(always)]
-    pub(crate) fn add_character(&mut self, character: &Character)
+    pub(crate) fn put_character(&mut self, cell_width: u8) -> bool
         requires ready { IsReady self.old }
-        requires just { character.now.just ≤ 5 }
-        ensures added { AddsCharacter self.old character.now self.new }
-    {
-        let page_just = self.attributes.page_just;
-        let stays = self.area.present == page_just;
-        let line = &self.area.group.line;
-        let lengthens = stays && line.any && line.present == character.just;
-        self.area.add_character(page_just, character);
-        self.limit(stays, lengthens);
-    }
-
-    /// Adds an `nl` with the gap that it gives, which doesn't conflict with the items before it.
-    #[inline(always)]
-    pub(crate) fn add_break(&mut self, gap: Option<u8>)
-        requires ready { IsReady self.old }
-        ensures added { AddsBreak self.old gap self.new }
-    {
-        let page_just = self.attributes.page_just;
-        let stays = self.area.present == page_just;
-        self.area.add_break(page_just, gap, &self.attributes.font);
-        self.limit(stays, true);
-    }
-
-    /// Works out the limits anew, but for that of a group or a segment that is the present one still.
-    #[inline(always)]
-    fn limit(&mut self, group_stays: bool, segment_stays: bool)
-        requires below { IsBelow (2 ^ 62 + 1024) self.old.area }
-        ensures { self.new ≡ limited_anew self.old self.old.area group_stays segment_stays }
+        ensures conflicts { (before : List Spot) (s : Spot) → self.old.area ≡ area_sum (area_of s before) → is_glyph s ≡ true
+            → s.at.page_just ≡ self.old.attributes.page_just → s.at.line_just ≡ self.old.attributes.line_just
+            → not result ≡ conflicts before s }
+        ensures added { result ≡ true → AddsCharacter self.old cell_width self.new }
+        ensures limited { IsLimited self.old → IsLimited self.new }
     {
         let Rectangle { width, height, .. } = self.attributes.rectangle;
-        if !segment_stays {
-            self.limits.width = self.area.group.line.room(width);
+        let page_just = self.attributes.page_just;
+        if !self.area.reach(page_just, height, &mut self.limits.height) {
+            return false;
         }
-        if !group_stays {
-            self.limits.height = self.area.room(height);
+        let character = self.attributes.character(cell_width);
+        self.area
+            .group
+            .line
+            .put(&character, width, &mut self.limits.width)
+    }
+
+    /// Puts an `nl` with the gap that it gives, if it doesn't conflict with the items before it: whether it doesn't.
+    #[inline(always)]
+    pub(crate) fn put_break(&mut self, gap: Option<u8>) -> bool
+        requires ready { IsReady self.old }
+        ensures conflicts { (before : List Spot) (s : Spot) → self.old.area ≡ area_sum (area_of s before) → is_glyph s ≡ false
+            → s.at.page_just ≡ self.old.attributes.page_just → not result ≡ conflicts before s }
+        ensures added { result ≡ true → AddsBreak self.old gap self.new }
+        ensures limited { IsLimited self.old → IsLimited self.new }
+    {
+        let height = self.attributes.rectangle.height;
+        let page_just = self.attributes.page_just;
+        if !self.area.reach(page_just, height, &mut self.limits.height) {
+            return false;
         }
+        self.area.group.add_break(gap, &self.attributes.font);
+        true
     }
 
     /// Goes behind an `nl` of an accepted string, with the gap that it gives.
@@ -118,7 +116,7 @@ impl State {
         ensures passed { (sign : SignData) (items : List Meaning) → IsStateOf sign items self.old
             → unsized_offence sign items (Does (Tag.NewLine gap)) ≡ None → IsStateOf sign (items ++ Does (Tag.NewLine gap) ∷ []) self.new }
     {
-        self.add_break(gap);
+        self.put_break(gap);
     }
 
     /// Goes behind a character of an accepted string, whose cell has this width in pixels.
@@ -129,8 +127,7 @@ impl State {
             → IsStateOf sign (items ++ Shows number ∷ []) self.new }
         ensures limited { IsLimited self.old → IsLimited self.new }
     {
-        let character = self.attributes.character(width);
-        self.add_character(&character);
+        self.put_character(width);
     }
 
     /// The times of all pages of a string that ends here, in tenths of a second.

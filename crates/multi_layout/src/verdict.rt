@@ -190,30 +190,30 @@ fn judge_items<const WORDS: bool>(
     let mut at = 0;
     let mut next = source.read(at);
     while let Some(first) = next {
-        match judge_from::<WORDS>(sign, pass, source, at, first) {
-            Ok((behind, octet)) => {
-                at = behind;
-                next = octet;
-            }
-            Err(offence) => return Err(offence),
+        let begins = at;
+        match judge_from::<WORDS>(sign, pass, source, &mut at, first) {
+            Ok(octet) => next = octet,
+            Err(error) => return Err(Offence { error, at: begins }),
         }
     }
     Ok(())
 }
 
 /// Judges what begins with this octet at an offset, which was read: an item that begins with a bracket, or a character and those
-/// behind it that only lengthen its line. It gives the offset behind, and the octet read there.
+/// behind it that only lengthen its line. It goes behind them, and gives the octet read there.
+#[inline(always)]
 fn judge_from<const WORDS: bool>(
     sign: &Terms<'_>,
     pass: &mut Pass,
     source: &mut Source<'_>,
-    at: usize,
+    at: &mut usize,
     first: u8,
-) -> Result<(usize, Option<u8>), Offence>
+) -> Result<Option<u8>, SyntaxError>
     requires short { length source.old.octets < 2 ^ 32 }
-    requires at { IsAt sign.now source.old.octets at (Some first) (IsPassOf WORDS sign.now pass.old) source.old }
-    ensures at { IfOk result (λ to. (at < to.0) × IsAt sign.now source.old.octets to.0 to.1 (IsPassOf WORDS sign.now pass.new) source.new) }
-    ensures refused { IfErr result (λ offence. IsRefused sign.now source.old.octets offence source.new) }
+    requires at { IsAt sign.now source.old.octets at.old (Some first) (IsPassOf WORDS sign.now pass.old) source.old }
+    ensures further { OnOk result (at.old < at.new) }
+    ensures at { IfOk result (λ next. IsAt sign.now source.old.octets at.new next (IsPassOf WORDS sign.now pass.new) source.new) }
+    ensures refused { IfErr result (λ error. IsRefused sign.now source.old.octets (record { error = error; at = at.old }) source.new) }
 {
     if first == b'[' || first == b']' {
         return judge_bracket::<WORDS>(sign, pass, source, at, first);
@@ -221,51 +221,58 @@ fn judge_from<const WORDS: bool>(
     judge_plain::<WORDS>(sign, pass, source, at, first)
 }
 
-/// Judges a character at an offset, an octet that was read and is no bracket, and those behind it that only lengthen its line. It gives
-/// the offset behind, and the octet read there.
+/// Judges a character at an offset, an octet that was read and is no bracket, and those behind it that only lengthen its line. It goes
+/// behind them, and gives the octet read there.
 #[inline(always)]
 fn judge_plain<const WORDS: bool>(
     sign: &Terms<'_>,
     pass: &mut Pass,
     source: &mut Source<'_>,
-    at: usize,
+    at: &mut usize,
     first: u8,
-) -> Result<(usize, Option<u8>), Offence>
+) -> Result<Option<u8>, SyntaxError>
     requires plain { (first ≢ 91) × (first ≢ 93) }
     requires short { length source.old.octets < 2 ^ 32 }
-    requires at { IsAt sign.now source.old.octets at (Some first) (IsPassOf WORDS sign.now pass.old) source.old }
-    ensures at { IfOk result (λ to. (at < to.0) × IsAt sign.now source.old.octets to.0 to.1 (IsPassOf WORDS sign.now pass.new) source.new) }
-    ensures refused { IfErr result (λ offence. IsRefused sign.now source.old.octets offence source.new) }
+    requires at { IsAt sign.now source.old.octets at.old (Some first) (IsPassOf WORDS sign.now pass.old) source.old }
+    ensures further { OnOk result (at.old < at.new) }
+    ensures at { IfOk result (λ next. IsAt sign.now source.old.octets at.new next (IsPassOf WORDS sign.now pass.new) source.new) }
+    ensures refused { IfErr result (λ error. IsRefused sign.now source.old.octets (record { error = error; at = at.old }) source.new) }
 {
     match pass.judge_character::<WORDS>(sign, source, u16::from(first)) {
-        Ok(()) => Ok(judge_run::<WORDS>(sign, pass, source, at + 1)),
-        Err(error) => Err(Offence { error, at }),
+        Ok(()) => {
+            let (behind, next) = judge_run::<WORDS>(sign, pass, source, *at + 1);
+            *at = behind;
+            Ok(next)
+        }
+        Err(error) => Err(error),
     }
 }
 
-/// Judges the item that begins with this bracket at an offset, which was read. It gives the offset behind, and the octet read
-/// there.
+/// Judges the item that begins with this bracket at an offset, which was read. It goes behind it, and gives the octet read there.
 #[inline(always)]
 fn judge_bracket<const WORDS: bool>(
     sign: &Terms<'_>,
     pass: &mut Pass,
     source: &mut Source<'_>,
-    at: usize,
+    at: &mut usize,
     first: u8,
-) -> Result<(usize, Option<u8>), Offence>
+) -> Result<Option<u8>, SyntaxError>
     requires bracket { (first ≡ 91) ⊎ (first ≡ 93) }
     requires short { length source.old.octets < 2 ^ 32 }
-    requires at { IsAt sign.now source.old.octets at (Some first) (IsPassOf WORDS sign.now pass.old) source.old }
-    ensures at { IfOk result (λ to. (at < to.0) × IsAt sign.now source.old.octets to.0 to.1 (IsPassOf WORDS sign.now pass.new) source.new) }
-    ensures refused { IfErr result (λ offence. IsRefused sign.now source.old.octets offence source.new) }
+    requires at { IsAt sign.now source.old.octets at.old (Some first) (IsPassOf WORDS sign.now pass.old) source.old }
+    ensures further { OnOk result (at.old < at.new) }
+    ensures at { IfOk result (λ next. IsAt sign.now source.old.octets at.new next (IsPassOf WORDS sign.now pass.new) source.new) }
+    ensures refused { IfErr result (λ error. IsRefused sign.now source.old.octets (record { error = error; at = at.old }) source.new) }
 {
-    let spelled = match read_spelled(source, at, first) {
+    let spelled = match read_spelled(source, *at, first) {
         Ok(spelled) => spelled,
-        Err(error) => return Err(Offence { error, at }),
+        Err(error) => return Err(error),
     };
-    let behind = at + spelled.len;
     match pass.judge_item::<WORDS>(sign, source, spelled.item) {
-        Ok(()) => Ok((behind, source.read(behind))),
-        Err(error) => Err(Offence { error, at }),
+        Ok(()) => {
+            *at += spelled.len;
+            Ok(source.read(*at))
+        }
+        Err(error) => Err(error),
     }
 }

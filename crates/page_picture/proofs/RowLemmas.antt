@@ -6,10 +6,12 @@ use Rattle.std.proofs.Math.Seq.{take-add}
 use Rattle.std.proofs.lemmas.Bool.{and_parts, cases_Bool, eqb-true}
 use Rattle.std.proofs.lemmas.List.Folds.{list_all-append}
 use Rattle.std.proofs.lemmas.Nat.{le_bytes_8}
-use Rattle.std.proofs.lemmas.List.{get_or-drop, get_or-take, length-append, take-append-le, take_all}
+use Rattle.std.proofs.lemmas.List.{drop-drop, get_or-drop, get_or-take, length-append, length-drop, length-take-le, take-append-le, take_all}
 use Rattle.std.proofs.lemmas.List.FromFn.{length-map-range_with_len, take-map-range_with_len}
 use Rattle.octet_text.proofs.TextLemmas.{flat_map_more, flat_map_same, map_same}
+use borrow.Rule.Slice.PartMut.{mid_of, put_mid}
 use Rattle.page_plane.specs.Octets.{is_bit_set}
+use Rattle.page_picture.proofs.PartLemmas.{lent_length, put_more}
 use Rattle.page_picture.specs.Rows.{mark_of, marked_rows, octet_marks, row_text, rows_text}
 
 -- OCTETS
@@ -76,6 +78,11 @@ pub dark_marks : (mark : ℕ) → octet_marks mark (replicate {A = ℕ} 8 0) 64 
 unfolding is_bit_set
 dark_marks mark = refl
 
+-- and sixteen have 128
+pub dark_block_marks : (mark : ℕ) → octet_marks mark (replicate {A = ℕ} 16 0) 128 ≡ replicate {A = ℕ} 128 46
+unfolding is_bit_set
+dark_block_marks mark = refl
+
 -- fewer marks are the first of them
 pub marks_fewer : (mark : ℕ) (octets text rest : List ℕ) (width count : ℕ) → width ≤ count → text ≡ octet_marks mark octets count ++ rest
     → take width text ≡ octet_marks mark octets width
@@ -83,6 +90,30 @@ marks_fewer mark octets text rest width count few is =
     let size = marks_count mark octets count in
     ap (take width) is ∙ take-append-le width (octet_marks mark octets count) rest (omega (arith, size, few))
     ∙ take-map-range_with_len (λ place. mark_of mark (is_bit_set octets place)) 0 count width few
+
+-- the marks of the first octets and those of the others behind them are those of all
+pub marks_joined : (mark a n : ℕ) (octets rest text one inner : List ℕ) → n ≡ 8 * a → a ≤ length octets → 8 * length octets ≤ length text
+    → rest ≡ take (length octets - a) (drop a octets)
+    → one ≡ octet_marks mark (take a octets) (8 * length (take a octets)) ++ drop (8 * length (take a octets)) text
+    → inner ≡ octet_marks mark rest (8 * length rest) ++ drop (8 * length rest) (mid_of n (length one - n) one)
+    → put_mid n (length one - n) one inner ≡ octet_marks mark octets (8 * length octets) ++ drop (8 * length octets) text
+marks_joined mark a n octets rest text one inner is_n few room is_rest is_one is_inner =
+    let first = take a octets in
+    let size : length first ≡ a = length-take-le a octets few in
+    let left : length rest ≡ length octets - a = ap length is_rest ∙ lent_length a octets few in
+    let eight : 8 * length first ≡ n = omega (arith, size, is_n) in
+    let piece = octet_marks mark octets n in
+    let front : octet_marks mark first n ≡ piece = ap (octet_marks mark first) is_n ∙ marks_part mark octets first 0 a 0 n refl refl (omega (arith, is_n)) in
+    let whole : one ≡ piece ++ drop n text =
+    is_one ∙ ap (λ k. octet_marks mark first k ++ drop k text) eight ∙ ap (λ l. l ++ drop n text) front in
+    let long = marks_count mark octets n in
+    let behind = length-drop n text in
+    let both = ap length whole ∙ length-append piece (drop n text) in
+    put_more piece (octet_marks mark rest (8 * length rest)) one inner (drop n text) n (length one - n) (8 * length rest) whole long
+    (marks_count mark rest (8 * length rest)) (omega (arith, left, both, long, behind, room, is_n, few)) (omega (arith, both, long, behind)) is_inner
+    ∙ ap (λ k. (piece ++ octet_marks mark rest (8 * k)) ++ drop (8 * k) (drop n text)) left
+    ∙ ap (λ l. l ++ drop (8 * (length octets - a)) (drop n text)) (marks_part mark octets rest a (length octets - a) n (8 * length octets) is_rest is_n (omega (arith, few)))
+    ∙ ap (λ l. octet_marks mark octets (8 * length octets) ++ l) (drop-drop (8 * (length octets - a)) n text ∙ ap (λ k. drop k text) (let end : n + 8 * (length octets - a) ≡ 8 * length octets = omega (arith, is_n, few) in end))
 
 -- ROWS
 
@@ -141,6 +172,16 @@ all_zero [] all = refl
 all_zero (octet ∷ l) all =
     let parts = and_parts (octet == 0) (list_all (λ octet. octet == 0) l) all in
     ap (λ x. x ∷ l) (eqb-true octet 0 parts.0) ∙ ap (λ r. 0 ∷ r) (all_zero l parts.1)
+
+-- so many of them are written as points
+pub dark_written : (mark n : ℕ) (octets text points : List ℕ) → list_all (λ octet. octet == 0) octets ≡ true → length octets ≡ n → 8 * n ≤ length text
+    → octet_marks mark (replicate {A = ℕ} n 0) (8 * n) ≡ replicate {A = ℕ} (8 * n) 46 → points ≡ replicate (length (take (8 * n) text)) 46
+    → points ++ drop (8 * n) text ≡ octet_marks mark octets (8 * length octets) ++ drop (8 * length octets) text
+dark_written mark n octets text points dark size room marks are =
+    let zeros : octets ≡ replicate n 0 = all_zero octets dark ∙ ap (λ n. replicate n 0) size in
+    ap (λ l. l ++ drop (8 * n) text)
+    (are ∙ ap (λ n. replicate n 46) (length-take-le (8 * n) text room) ∙ sym marks ∙ ap (λ l. octet_marks mark l (8 * n)) (sym zeros))
+    ∙ ap (λ n. octet_marks mark octets (8 * n) ++ drop (8 * n) text) (sym size)
 
 -- eight octets are all 0 exactly if they are 0 as a word
 pub dark_word : (octets eight : List ℕ) (word : ℕ) → length octets ≡ 8 → ((i : ℕ) → get_or octets i 0 < 256) → eight ≡ take 8 octets

@@ -1,9 +1,9 @@
 //! The rows of a plane as lines of text.
-ghost use Rattle.std.specs.Prelude.{◌≡◌, ◌+◌, ◌-◌, ◌*◌, ◌<◌, ◌≤◌, ◌==◌, [], ◌++◌, ◌∷◌, drop, length, map, replicate, take};
-ghost use Rattle.std.specs.Int.{bit_at};
-ghost use Rattle.std.specs.List.{list_all, range_with_len};
+ghost use Rattle.std.specs.Prelude.{◌≡◌, ℕ, ◌+◌, ◌-◌, ◌*◌, ◌<◌, ◌≤◌, ◌==◌, [], ◌++◌, ◌∷◌, drop, length, replicate, take};
+ghost use Rattle.std.specs.List.{list_all};
 ghost use Rattle.page_plane.specs.Plane.{is_lit};
-ghost use Rattle.page_picture.specs.Rows.{mark_of, marked_rows, octet_marks, octet_of};
+ghost use Rattle.page_picture.specs.Rows.{marked_rows, octet_marks, octet_of};
+ghost use Rattle.page_picture.specs.kept.Marks.{IsTable, WritesMarks, eight_marks};
 
 use page_plane::Plane;
 
@@ -31,23 +31,41 @@ const HASHES: &[[u8; 8]; 256] = eights!(b'#' [0 1 2 3 4 5 6 7] []);
 
 const ONES: &[[u8; 8]; 256] = eights!(b'1' [0 1 2 3 4 5 6 7] []);
 
-/// The marks of the eight pixels of an octet, from its highest bit on.
-fn eight_marks(octet: u8, mark: Mark) -> [u8; 8]
-    ensures { result ≡ map (λ j. mark_of (octet_of mark) (bit_at octet (7 - j) == 1)) (range_with_len 0 8) }
+/// What stands for the eight pixels of each octet.
+fn table(mark: Mark) -> &'static [[u8; 8]; 256]
+    ensures { IsTable (octet_of mark) result.now }
 {
     match mark {
-        Mark::Hash => HASHES[usize::from(octet)],
-        Mark::One => ONES[usize::from(octet)],
+        Mark::Hash => HASHES,
+        Mark::One => ONES,
+    }
+}
+
+/// The marks of the eight pixels of an octet, from its highest bit on.
+fn eight_marks(octet: u8, marks: &[[u8; 8]; 256]) -> [u8; 8]
+    ensures { (mark : ℕ) → IsTable mark marks.now → result ≡ eight_marks mark octet }
+{
+    marks[usize::from(octet)]
+}
+
+/// Writes eight marks over the first octets.
+fn put_eight(text: &mut [u8], eight: [u8; 8])
+    requires { 8 ≤ length text.old }
+    ensures { text.new ≡ eight ++ drop 8 text.old }
+{
+    for place in 0..8 {
+        text[place] = eight[place];
     }
 }
 
 /// Writes the marks of the pixels of octets, eight after eight.
-fn mark_octets(text: &mut [u8], octets: &[u8], mark: Mark)
-    requires { 8 * length octets.now ≤ length text.old }
-    ensures { text.new ≡ octet_marks (octet_of mark) octets.now (8 * length octets.now) ++ drop (8 * length octets.now) text.old }
+#[inline(always)]
+fn mark_octets(text: &mut [u8], octets: &[u8], marks: &[[u8; 8]; 256])
+    requires room { 8 * length octets.now ≤ length text.old }
+    ensures { WritesMarks marks.now octets.now text.old text.new }
 {
     for place in 0..octets.len() {
-        text[8 * place..8 * place + 8].copy_from_slice(&eight_marks(octets[place], mark));
+        put_eight(&mut text[8 * place..], eight_marks(octets[place], marks));
     }
 }
 
@@ -71,42 +89,113 @@ fn blank(text: &mut [u8])
 }
 
 /// Writes the marks of the pixels of eight octets. Most of a page is dark.
-fn mark_word(text: &mut [u8], octets: &[u8], mark: Mark)
+#[inline(always)]
+fn mark_word(text: &mut [u8], octets: &[u8], marks: &[[u8; 8]; 256])
     requires eight { length octets.now ≡ 8 }
-    requires room { length text.old ≡ 64 }
-    ensures { text.new ≡ octet_marks (octet_of mark) octets.now 64 }
+    requires room { 8 * length octets.now ≤ length text.old }
+    ensures { WritesMarks marks.now octets.now text.old text.new }
 {
     if is_dark_word(octets) {
-        blank(text);
+        blank(&mut text[..64]);
     } else {
-        mark_octets(text, octets, mark);
+        mark_octets(text, octets, marks);
     }
 }
 
-/// Writes the marks of the pixels of the octets of a row, as many octets at once as a word has.
-fn mark_pixels(text: &mut [u8], octets: &[u8], mark: Mark)
-    requires { 8 * length octets.now ≤ length text.old }
-    ensures { text.new ≡ octet_marks (octet_of mark) octets.now (8 * length octets.now) ++ drop (8 * length octets.now) text.old }
+/// Writes the marks of the pixels of sixteen octets.
+#[inline(always)]
+fn mark_block(text: &mut [u8], octets: &[u8], marks: &[[u8; 8]; 256])
+    requires sixteen { length octets.now ≡ 16 }
+    requires room { 8 * length octets.now ≤ length text.old }
+    ensures { WritesMarks marks.now octets.now text.old text.new }
 {
-    let words = octets.len() / 8;
-    for word in 0..words {
-        mark_word(
-            &mut text[64 * word..64 * word + 64],
-            &octets[8 * word..8 * word + 8],
-            mark,
-        );
+    let dark = is_dark_word(&octets[..8]) & is_dark_word(&octets[8..]);
+    if dark {
+        blank(&mut text[..128]);
+    } else {
+        mark_octets(text, octets, marks);
     }
-    mark_octets(&mut text[64 * words..], &octets[8 * words..], mark);
+}
+
+/// Writes the marks of the pixels of an octet, or of none.
+#[inline(always)]
+fn mark_below_2(text: &mut [u8], octets: &[u8], marks: &[[u8; 8]; 256])
+    requires few { length octets.now < 2 }
+    requires room { 8 * length octets.now ≤ length text.old }
+    ensures { WritesMarks marks.now octets.now text.old text.new }
+{
+    if !octets.is_empty() {
+        mark_octets(text, &octets[..1], marks);
+    }
+}
+
+/// Writes the marks of the pixels of fewer than four octets.
+#[inline(always)]
+fn mark_below_4(text: &mut [u8], octets: &[u8], marks: &[[u8; 8]; 256])
+    requires few { length octets.now < 4 }
+    requires room { 8 * length octets.now ≤ length text.old }
+    ensures { WritesMarks marks.now octets.now text.old text.new }
+{
+    if octets.len() >= 2 {
+        mark_octets(text, &octets[..2], marks);
+        mark_below_2(&mut text[16..], &octets[2..], marks);
+    } else {
+        mark_below_2(text, octets, marks);
+    }
+}
+
+/// Writes the marks of the pixels of fewer than eight octets.
+#[inline(always)]
+fn mark_below_8(text: &mut [u8], octets: &[u8], marks: &[[u8; 8]; 256])
+    requires few { length octets.now < 8 }
+    requires room { 8 * length octets.now ≤ length text.old }
+    ensures { WritesMarks marks.now octets.now text.old text.new }
+{
+    if octets.len() >= 4 {
+        mark_octets(text, &octets[..4], marks);
+        mark_below_4(&mut text[32..], &octets[4..], marks);
+    } else {
+        mark_below_4(text, octets, marks);
+    }
+}
+
+/// Writes the marks of the pixels of fewer than sixteen octets.
+#[inline(always)]
+fn mark_below_16(text: &mut [u8], octets: &[u8], marks: &[[u8; 8]; 256])
+    requires few { length octets.now < 16 }
+    requires room { 8 * length octets.now ≤ length text.old }
+    ensures { WritesMarks marks.now octets.now text.old text.new }
+{
+    if octets.len() >= 8 {
+        mark_word(text, &octets[..8], marks);
+        mark_below_8(&mut text[64..], &octets[8..], marks);
+    } else {
+        mark_below_8(text, octets, marks);
+    }
+}
+
+/// Writes the marks of the pixels of the octets of a row: those of sixteen octets at once, and at the end those of eight, of four, of two
+/// and of one. A loop over these would take more steps than what it writes.
+fn mark_pixels(text: &mut [u8], octets: &[u8], marks: &[[u8; 8]; 256])
+    requires room { 8 * length octets.now ≤ length text.old }
+    ensures { WritesMarks marks.now octets.now text.old text.new }
+{
+    if octets.len() >= 16 {
+        mark_block(text, &octets[..16], marks);
+        mark_pixels(&mut text[128..], &octets[16..], marks);
+    } else {
+        mark_below_16(text, octets, marks);
+    }
 }
 
 /// Writes the first pixels of a row, as many as this width, and the line feed after them.
-fn write_row(text: &mut [u8], octets: &[u8], width: usize, mark: Mark)
+fn write_row(text: &mut [u8], octets: &[u8], width: usize, marks: &[[u8; 8]; 256])
     requires room { 8 * length octets.now < length text.old }
     requires width { width ≤ 8 * length octets.now }
     ensures len { length text.new ≡ length text.old }
-    ensures written { take (width + 1) text.new ≡ octet_marks (octet_of mark) octets.now width ++ 10 ∷ [] }
+    ensures written { (mark : ℕ) → IsTable mark marks.now → take (width + 1) text.new ≡ octet_marks mark octets.now width ++ 10 ∷ [] }
 {
-    mark_pixels(text, octets, mark);
+    mark_pixels(text, octets, marks);
     text[width] = b'\n';
 }
 
@@ -123,10 +212,11 @@ pub fn write_rows(text: &mut [u8], plane: &Plane, mark: Mark)
     ensures behind { drop ((plane.now.width + 1) * plane.now.height + 8) text.new
         ≡ drop ((plane.now.width + 1) * plane.now.height + 8) text.old }
 {
+    let marks = table(mark);
     let width = usize::from(plane.width());
     let mut at = 0;
     for row in 0..plane.height() {
-        write_row(&mut text[at..at + width + 9], plane.row(row), width, mark);
+        write_row(&mut text[at..at + width + 9], plane.row(row), width, marks);
         at += width + 1;
     }
 }

@@ -1,7 +1,7 @@
 //! Answers that wait to be written.
 ghost use Rattle.std.specs.Prelude.{◌≡◌, ◌<◌, ◌≤◌, ◌++◌, ◌∷◌, [], IfOk, OnOk, decimal, length, take};
 
-use crate::eight::put_eight;
+use crate::few::put_few;
 use crate::output::MAX_READY;
 use itoa::Buffer;
 use std::alloc::{AllocError, Global};
@@ -100,6 +100,7 @@ fn add_room(octets: &mut Vec<u8>, count: usize) -> Result<(), AllocError>
 }
 
 /// Makes sure that there are this many octets. Those that there are stay. The error says that memory was refused.
+#[inline(always)]
 pub(crate) fn make_room(octets: &mut Vec<u8>, count: usize) -> Result<(), AllocError>
     ensures room { OnOk result (count ≤ length octets.new.items) }
     ensures len { length octets.old.items ≤ length octets.new.items }
@@ -134,15 +135,20 @@ pub(crate) fn push_octets(text: &mut Ready, octets: &[u8]) -> Result<(), AllocEr
     Ok(())
 }
 
-/// Appends the first `count` of eight octets to the answer that was begun. The others are written behind it, where nothing counts yet, so
+/// Appends the first `count` of a few octets to the answer that was begun. The others are written behind it, where nothing counts yet, so
 /// that a short text takes one look at the room and one write. The error says that memory was refused.
-pub(crate) fn push_short(text: &mut Ready, octets: &[u8; 8], count: usize) -> Result<(), AllocError>
-    requires { count ≤ 8 }
+pub(crate) fn push_short<const N: usize>(
+    text: &mut Ready,
+    octets: &[u8; N],
+    count: usize,
+) -> Result<(), AllocError>
+    requires few { N ≤ 16 }
+    requires count { count ≤ N }
     ensures text { OnOk result (text.new.begun ≡ text.old.begun ++ take count octets.now) }
     ensures whole { text.new.whole ≡ text.old.whole }
 {
-    make_room(&mut text.octets, text.len + 8)?;
-    put_eight(&mut text.octets[text.len..], octets);
+    make_room(&mut text.octets, text.len + N)?;
+    put_few(&mut text.octets[text.len..], octets);
     text.len += count;
     Ok(())
 }

@@ -5,7 +5,7 @@ ghost use Rattle.hex.specs.Hex.{encode_lower};
 ghost use Rattle.message_store.specs.Row.{data_of, row_result};
 ghost use Rattle.sign_tool.specs.Replies.{asked_text, crc_text, defaults_text, errors_text, fault_text, fields_text, numbers_text, octets_text, reply_text, report_text, row_reply, shown_text, table_text};
 
-use crate::ready::{Ready, make_room, push_number, push_octets};
+use crate::ready::{Ready, make_room, push_number, push_octets, push_short};
 use message_store::{MsgRef, Row, StoreFault};
 use sign_control::{Reply, Report};
 use sign_font::Defaults;
@@ -80,9 +80,9 @@ pub(crate) fn push_reply(text: &mut Ready, reply: Reply) -> Result<(), AllocErro
     ensures whole { text.new.whole ≡ text.old.whole }
 {
     match reply {
-        Reply::Done => push_octets(text, b"done\n"),
+        Reply::Done => push_short(text, b"done\n\0\0\0", 5),
         Reply::Refused(fault) => push_fault(text, fault.code()),
-        Reply::Idle => push_octets(text, b"idle\n"),
+        Reply::Idle => push_short(text, b"idle\n\0\0\0", 5),
         Reply::Worked {
             number,
             status,
@@ -103,14 +103,14 @@ pub(crate) fn push_reply(text: &mut Ready, reply: Reply) -> Result<(), AllocErro
             )?;
             push_octets(text, b"\n")
         }
-        Reply::Shown => push_octets(text, b"shown\n"),
+        Reply::Shown => push_short(text, b"shown\n\0\0", 6),
         Reply::NotShown(error) => {
             push_labelled(text, b"not shown ", u64::from(error))?;
             push_octets(text, b"\n")
         }
         Reply::NotSet(fault) => push_fault(text, fault.code()),
-        Reply::Ticked => push_octets(text, b"ticked\n"),
-        Reply::Ended => push_octets(text, b"ended\n"),
+        Reply::Ticked => push_short(text, b"ticked\n\0", 7),
+        Reply::Ended => push_short(text, b"ended\n\0\0", 6),
     }
 }
 

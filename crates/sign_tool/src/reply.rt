@@ -1,5 +1,5 @@
 //! The texts of answers.
-ghost use Rattle.std.specs.Prelude.{◌≡◌, ◌++◌, OnOk, codes, decimal};
+ghost use Rattle.std.specs.Prelude.{◌≡◌, ◌++◌, ◌∷◌, OnOk, codes, decimal, take};
 ghost use Rattle.sign_tool.specs.Reply.{pages_text, refused_text, too_long_text};
 
 use crate::ready::{Ready, push_number, push_octet, push_octets, push_short};
@@ -23,9 +23,21 @@ pub(crate) fn push_refused(text: &mut Ready, code: u8, at: usize) -> Result<(), 
     ensures text { OnOk result (text.new.begun ≡ text.old.begun ++ refused_text code at) }
     ensures whole { text.new.whole ≡ text.old.whole }
 {
+    if code < 10 && at < 10 {
+        return push_short(text, &short_refusal(b'0' + code, b'0' + at as u8), 10);
+    }
     push_error(text, code)?;
     push_number(text, at as u64)?;
     push_octet(text, b'\n')
+}
+
+/// The answer to a refused string by the digits of its error code and offset, and six octets that nothing counts.
+fn short_refusal(code: u8, at: u8) -> [u8; 16]
+    ensures { take 10 result ≡ codes "error " ++ code ∷ codes " " ++ at ∷ codes "\n" }
+{
+    [
+        b'e', b'r', b'r', b'o', b'r', b' ', code, b' ', at, b'\n', 0, 0, 0, 0, 0, 0,
+    ]
 }
 
 /// Appends the error code of a refused string, and a space.

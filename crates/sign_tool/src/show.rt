@@ -1,5 +1,5 @@
 //! The answers that show pages, as rows of characters.
-ghost use Rattle.std.specs.Prelude.{◌≡◌, ◌++◌, OnOk, IfOk, Some, map};
+ghost use Rattle.std.specs.Prelude.{◌≡◌, ◌++◌, ◌∷◌, OnOk, IfOk, Some, codes, decimal, map, take};
 ghost use Rattle.page_plane.specs.Plane.{is_lit};
 ghost use Rattle.multi_layout.specs.Drawn.{Lights};
 ghost use Rattle.multi_layout.specs.Meaning.{meanings};
@@ -9,9 +9,9 @@ ghost use Rattle.multi_layout.specs.Times.{shown};
 ghost use Rattle.sign_tool.specs.Frame.{frame_rows, frame_text, head_text, show_answer};
 
 use crate::answer::{Answer, LineAnswer};
-use crate::ready::{Ready, make_room, push_number, push_octets};
+use crate::ready::{Ready, make_room, push_number, push_octets, push_short};
 use crate::reply::{push_refused, push_too_long};
-use multi_layout::{Checked, Shown, check};
+use multi_layout::{Checked, Shown, check_with};
 use multi_token::Source;
 use page_picture::{Mark, show, write_rows};
 use page_plane::Plane;
@@ -77,7 +77,18 @@ pub(crate) fn push_rows(text: &mut Ready, plane: &Plane) -> Result<(), AllocErro
     Ok(())
 }
 
-/// Appends the first line of a frame.
+/// The first line of a frame by the digits of its page and phase, and an octet that nothing counts.
+fn short_head(page: u8, phase: u8) -> [u8; 16]
+    ensures { take 15 result ≡ codes "page " ++ page ∷ codes " phase " ++ phase ∷ codes "\n" }
+{
+    [
+        b'p', b'a', b'g', b'e', b' ', page, b' ', b'p', b'h', b'a', b's', b'e', b' ', phase, b'\n',
+        0,
+    ]
+}
+
+/// Appends the first line of a frame. Most pages have a number and a phase of one digit.
+#[inline(always)]
 pub(crate) fn push_head(text: &mut Ready, shown: Shown) -> Result<(), AllocError>
     ensures text { OnOk result (text.new.begun ≡ text.old.begun ++ head_text shown) }
     ensures whole { text.new.whole ≡ text.old.whole }
@@ -85,6 +96,19 @@ pub(crate) fn push_head(text: &mut Ready, shown: Shown) -> Result<(), AllocError
     let Shown::Page { page, phase } = shown else {
         return push_octets(text, b"off\n");
     };
+    if page < 10 && phase < 10 {
+        return push_short(text, &short_head(b'0' + page, b'0' + phase as u8), 15);
+    }
+    push_long_head(text, page, phase)
+}
+
+/// Appends the first line of the frame of a page.
+#[inline(never)]
+fn push_long_head(text: &mut Ready, page: u8, phase: u64) -> Result<(), AllocError>
+    ensures text { OnOk result (text.new.begun ≡ text.old.begun
+        ++ (codes "page " ++ decimal page ++ codes " phase " ++ decimal phase ++ codes "\n")) }
+    ensures whole { text.new.whole ≡ text.old.whole }
+{
     push_octets(text, b"page ")?;
     push_number(text, u64::from(page))?;
     push_octets(text, b" phase ")?;
@@ -140,8 +164,8 @@ fn push_shown(
     if line.len() > MAX_STRING {
         return push_too_long(text);
     }
-    match check(sign, Source::new(line)) {
-        Ok(mut checked) => push_frame(text, &mut checked, clock, colour, plane),
+    match &mut check_with(sign, sign.defaults(), Source::new(line)) {
+        Ok(checked) => push_frame(text, checked, clock, colour, plane),
         Err(fault) => push_refused(text, fault.code, fault.at),
     }
 }

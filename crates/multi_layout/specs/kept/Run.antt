@@ -62,10 +62,6 @@ GroupsFitBefore height area = fit (kept_before 2 area) (kept_before 3 area) (kep
 abbrev pub IsOpen : ℕ → Line → Type 0
 IsOpen just line = (line.present ≤ just) × (just ≡ 5 → line.has_parts ≡ false)
 
--- by what is kept of an area, a character with these justifications may stand in it (own)
-abbrev pub IsOpenArea : ℕ → ℕ → Area → Type 0
-IsOpenArea page_just just area = (area.present ≤ page_just) × (area.present ≡ page_just → IsOpen just area.group.line)
-
 -- the last character of a line has this line justification and font (own)
 pub record IsBehindOne (just : ℕ) (font : FontInfo) (line : Line) : Type 0 where
   pub segment : line.present ≡ just

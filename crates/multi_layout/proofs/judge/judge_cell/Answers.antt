@@ -1,7 +1,7 @@
-use Rattle.std.proofs.Common.{◌*◌, ◌^◌, ◌++◌, ◌∷◌, [], length, ap, sym, ◌∙◌}
+use Rattle.std.proofs.Common.{◌*◌, ◌^◌, ◌++◌, ◌∷◌, [], not, length, refl, ap, sym, ◌∙◌}
 use Rattle.sign_font.specs.Sign.{cell_in}
-use Rattle.multi_layout.specs.declared.line.Character.{Character}
 use Rattle.multi_layout.specs.Meaning.{Shows}
+use Rattle.multi_layout.specs.kept.Adding.{character_of}
 use Rattle.multi_layout.proofs.BeforeLemmas.{fits_without}
 use Rattle.multi_layout.proofs.JudgedLemmas.{state-limits}
 use Rattle.multi_layout.proofs.LimitLemmas.{added_fits, behind_added}
@@ -9,47 +9,39 @@ use Rattle.multi_layout.proofs.PlacingLemmas.{character-exit-conflict, character
 use Rattle.multi_layout.proofs.RunReadLemmas.{cell_of_width}
 use Rattle.multi_layout.proofs.judge.judge_cell.Goals as goal
 
-pub returns-then-conflicts_with_character-clause-judged : goal.returns-then-conflicts_with_character-clause-judged
-returns-then-conflicts_with_character-clause-judged c = λ sign items of own.
+pub returns-then-not-put_character-clause-judged : goal.returns-then-not-put_character-clause-judged
+returns-then-not-put_character-clause-judged c = λ sign items of own.
     let (cell, some, wide) = cell_of_width (cell_in sign c.args.state.now.attributes.font.number c.args.number) c.args.width (sym own) in
-    character-exit-conflict sign items c.args.state.now of.state_is c.args.number cell some c.conflicts_with_character.result c.conflicts_with_character.ensures.conflicts c.if-conflicts_with_character.true
+    character-exit-conflict sign items c.args.state.now of.state_is c.args.number cell some (not c.put_character.result) c.put_character.ensures.conflicts
+    (ap not c.if-not-put_character.true)
 
 pub is_within-requires : goal.is_within-requires
-is_within-requires c = record { below = c.add_character.ensures.added.grows (2 ^ 62) c.requires.below }
+is_within-requires c = record { below = (c.put_character.ensures.added c.if-not-put_character.false).grows (2 ^ 62) c.requires.below }
 
 pub returns-then-is_within-clause-judged : goal.returns-then-is_within-clause-judged
 returns-then-is_within-clause-judged c = λ sign items of own.
     let (cell, some, wide) = cell_of_width (cell_in sign c.args.state.now.attributes.font.number c.args.number) c.args.width (sym own) in
     let state = c.args.state.now in
-    let new = c.add_character.new.self in
-    let is = c.character-character.ensures in
-    let just = ap (λ (k : Character). k.just) is in
-    let added = c.add_character.ensures.added in
-    let may = c.conflicts_with_character.ensures.may c.if-conflicts_with_character.false in
-    let fits = added_fits state new c.character-character.result added just may of.limited c.requires.line_just c.requires.page_just in
-    let (fine, st) = character-exit-fits sign items state of.state_is c.args.number cell some c.conflicts_with_character.result c.conflicts_with_character.ensures.conflicts
-    c.character-character.result new.area just (ap (λ (k : Character). k.spacing) is) (ap (λ (k : Character). k.width) is ∙ wide) (ap (λ (k : Character). k.font) is) added.sum c.is_within.result
+    let new = c.put_character.new.self in
+    let added = c.put_character.ensures.added c.if-not-put_character.false in
+    let fits = added_fits state new c.args.width added of.limited c.requires.line_just c.requires.page_just in
+    let (fine, st) = character-exit-fits sign items state of.state_is c.args.number cell some (not c.put_character.result) c.put_character.ensures.conflicts
+    (character_of state.attributes c.args.width) new.area refl refl wide refl added.sum c.is_within.result
     (λ before s glyph sum on own w h without. c.is_within.ensures ∙ fits before s glyph sum on own w h without) (fits_without sign items of.fine)
-    c.if-conflicts_with_character.false c.if-is_within.true (added.grows (1024 * length items) of.state_is.below) in
+    (ap not c.if-not-put_character.false) c.if-is_within.true (added.grows (1024 * length items) of.state_is.below) in
     (fine, state-limits sign (items ++ Shows c.args.number ∷ []) state new added.same st)
 
 pub returns-else-is_within-clause-judged : goal.returns-else-is_within-clause-judged
 returns-else-is_within-clause-judged c = λ sign items of own.
     let (cell, some, wide) = cell_of_width (cell_in sign c.args.state.now.attributes.font.number c.args.number) c.args.width (sym own) in
     let state = c.args.state.now in
-    let new = c.add_character.new.self in
-    let is = c.character-character.ensures in
-    let just = ap (λ (k : Character). k.just) is in
-    let added = c.add_character.ensures.added in
-    let may = c.conflicts_with_character.ensures.may c.if-conflicts_with_character.false in
-    let fits = added_fits state new c.character-character.result added just may of.limited c.requires.line_just c.requires.page_just in
-    character-exit-too_big sign items state of.state_is c.args.number cell some c.conflicts_with_character.result c.conflicts_with_character.ensures.conflicts
-    c.character-character.result new.area just (ap (λ (k : Character). k.spacing) is) (ap (λ (k : Character). k.width) is ∙ wide) (ap (λ (k : Character). k.font) is) added.sum c.is_within.result
+    let new = c.put_character.new.self in
+    let added = c.put_character.ensures.added c.if-not-put_character.false in
+    let fits = added_fits state new c.args.width added of.limited c.requires.line_just c.requires.page_just in
+    character-exit-too_big sign items state of.state_is c.args.number cell some (not c.put_character.result) c.put_character.ensures.conflicts
+    (character_of state.attributes c.args.width) new.area refl refl wide refl added.sum c.is_within.result
     (λ before s glyph sum on own w h without. c.is_within.ensures ∙ fits before s glyph sum on own w h without) (fits_without sign items of.fine)
-    c.if-conflicts_with_character.false c.if-is_within.false
+    (ap not c.if-not-put_character.false) c.if-is_within.false
 
 pub returns-then-is_within-clause-behind : goal.returns-then-is_within-clause-behind
-returns-then-is_within-clause-behind c =
-    let is = c.character-character.ensures in
-    behind_added c.args.state.now c.add_character.new.self c.character-character.result c.add_character.ensures.added (ap (λ (k : Character). k.just) is)
-    (c.conflicts_with_character.ensures.may c.if-conflicts_with_character.false) (ap (λ (k : Character). k.font) is)
+returns-then-is_within-clause-behind c = behind_added c.args.state.now c.put_character.new.self c.args.width (c.put_character.ensures.added c.if-not-put_character.false)

@@ -20,11 +20,11 @@ steps_of old read judged at len means (t, at_is, len_is, token, meant) reads jud
 
 pub judge_item-requires-clause-ready : goal.judge_item-requires-clause-ready
 judge_item-requires-clause-ready g c =
-    pass_ready_here c.args.sign.now c.args.source.now.octets c.args.at c.args.pass.now (not (g.row.WORDS == 0)) c.requires.at.so_far c.requires.short
+    pass_ready_here c.args.sign.now c.args.source.now.octets c.args.at.now c.args.pass.now (not (g.row.WORDS == 0)) c.requires.at.so_far c.requires.short
 
 pub returns-in-Err-clause-refused : goal.returns-in-Err-clause-refused
 returns-in-Err-clause-refused g c =
-    fault_refused c.args.sign.now c.args.source.now.octets c.args.at c.args.first (IsPassOf (not (g.row.WORDS == 0)) c.args.sign.now c.args.pass.now) c.args.source.now c.requires.at c.requires.short
+    fault_refused c.args.sign.now c.args.source.now.octets c.args.at.now c.args.first (IsPassOf (not (g.row.WORDS == 0)) c.args.sign.now c.args.pass.now) c.args.source.now c.requires.at c.requires.short
     c.in-Err.error c.in-Err.ensures.fault c.read_spelled.new.source c.in-Err.ensures.fault_steps
 
 pub returns-in-Ok-judge_item-clause-at : goal.returns-in-Ok-judge_item-clause-at
@@ -34,11 +34,11 @@ returns-in-Ok-judge_item-clause-at g c =
     let words = not (g.row.WORDS == 0) in
     let spelled = c.in-Ok.spelled in
     let (fine, of) = c.in-Ok-judge_item.ensures.judged (map meaning r.items) r.is in
-    item_behind sign c.args.source.now.octets c.args.at c.args.first (IsPassOf words sign c.args.pass.now) c.args.source.now c.requires.at c.requires.short
+    (item_behind sign c.args.source.now.octets c.args.at.now c.args.first (IsPassOf words sign c.args.pass.now) c.args.source.now c.requires.at c.requires.short
     spelled.len (meant_by spelled.item) c.in-Ok.ensures.item c.judge_item.new.source
-    (steps_of c.args.source.now c.read_spelled.new.source c.judge_item.new.source c.args.at spelled.len (meant_by spelled.item) c.in-Ok.ensures.item c.in-Ok.ensures.steps c.judge_item.ensures.steps)
+    (steps_of c.args.source.now c.read_spelled.new.source c.judge_item.new.source c.args.at.now spelled.len (meant_by spelled.item) c.in-Ok.ensures.item c.in-Ok.ensures.steps c.judge_item.ensures.steps)
     (IsPassOf words sign c.judge_item.new.self) fine of
-    c.read.result c.read.new.self c.read.ensures.octet c.read.ensures.step
+    c.read.result c.read.new.self c.read.ensures.octet c.read.ensures.step).1
 
 pub returns-in-Err-judge_item-clause-refused : goal.returns-in-Err-judge_item-clause-refused
 returns-in-Err-judge_item-clause-refused g c =
@@ -46,7 +46,7 @@ returns-in-Err-judge_item-clause-refused g c =
     let sign = c.args.sign.now in
     let words = not (g.row.WORDS == 0) in
     let spelled = c.in-Ok.spelled in
-    item_offends sign c.args.source.now.octets c.args.at c.args.first (IsPassOf words sign c.args.pass.now) c.args.source.now c.requires.at c.requires.short
+    item_offends sign c.args.source.now.octets c.args.at.now c.args.first (IsPassOf words sign c.args.pass.now) c.args.source.now c.requires.at c.requires.short
     spelled.len (meant_by spelled.item) c.in-Ok.ensures.item c.judge_item.new.source
-    (steps_of c.args.source.now c.read_spelled.new.source c.judge_item.new.source c.args.at spelled.len (meant_by spelled.item) c.in-Ok.ensures.item c.in-Ok.ensures.steps c.judge_item.ensures.steps)
+    (steps_of c.args.source.now c.read_spelled.new.source c.judge_item.new.source c.args.at.now spelled.len (meant_by spelled.item) c.in-Ok.ensures.item c.in-Ok.ensures.steps c.judge_item.ensures.steps)
     c.in-Err-judge_item.error (c.in-Err-judge_item.ensures.judged (map meaning r.items) r.is)

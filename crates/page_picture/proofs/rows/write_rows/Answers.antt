@@ -44,7 +44,7 @@ loop-row-preserved c =
       size = same_len_mid l.at k text new same ∙ size;
       at = omega (arith, at, line);
       written = part_written l.at (c.from-width.result + 1) text new _ (omega (arith, size, room, at, rows)) (omega (arith, same, lent, line, part))
-          ∙ ap (λ e. take l.at text ++ e) (c.write_row.ensures.written ∙ ap (λ n. octet_marks mark octets n ++ 10 ∷ []) wide)
+          ∙ ap (λ e. take l.at text ++ e) (c.write_row.ensures.written mark c.table-marks.ensures ∙ ap (λ n. octet_marks mark octets n ++ 10 ∷ []) wide)
           ∙ ap (λ e. e ++ (octet_marks mark octets plane.width ++ 10 ∷ [])) l.invariant.written
           ∙ row_next mark (is_lit plane) octets plane.width l.row c.row.ensures.pixels;
       behind = drop-put_mid l.at k text new (next + 8) (omega (arith, part, line)) (omega (arith, size, room, at, rows)) (same ∙ lent)

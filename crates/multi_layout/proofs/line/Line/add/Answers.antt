@@ -1,16 +1,12 @@
-use Rattle.std.proofs.Common.{◌≡◌, ℕ, ◌≤◌, Bool, true, false, ◌||◌, max, [], ◌∷◌, ap, sym, ◌∙◌, refl, arith}
+use Rattle.std.proofs.Common.{◌≡◌, ℕ, ◌≤◌, Bool, true, false, ◌||◌, max, ap, sym, ◌∙◌, refl, arith}
 use Rattle.std.specs.Prelude.{nat_lt}
 use Rattle.std.proofs.lemmas.Bool.{false≢true, ltb-false}
 use Rattle.multi_layout.specs.declared.line.Line.{Line}
-use Rattle.multi_layout.proofs.HeightLemmas.{any_glyph}
-use Rattle.multi_layout.proofs.LineSumLemmas.{in_order, line_with}
+use Rattle.multi_layout.proofs.LineSumLemmas.{in_order, line_with, no_character}
 use Rattle.multi_layout.proofs.line.Line.add.Goals as goal
 
 pub returns-then-not-self-clause-sum : goal.returns-then-not-self-clause-sum
-returns-then-not-self-clause-sum c [] s glyphs is e none = c.of.ensures.sum s is
-returns-then-not-self-clause-sum c (t ∷ line) s glyphs is e none =
-    let any = ap (λ (l : Line). l.any) e ∙ any_glyph t line glyphs in
-    absurd (false≢true (sym c.if-not-self.true ∙ any))
+returns-then-not-self-clause-sum c line s glyphs is e none = rw (no_character line c.args.self.now glyphs e c.if-not-self.true) (c.of.ensures.sum s is)
 
 pub returns-clause-sum : goal.returns-clause-sum
 returns-clause-sum c line s glyphs is e none =

@@ -1,6 +1,0 @@
-use Rattle.std.proofs.Common.{◌≡◌, ◌++◌, ℕ, List}
-use Rattle.message_report.specs.Words.{IsOneLine}
-use Rattle.message_report.proofs.text.push_line.Given as goal
-
-abbrev pub invariant-loop-octet : goal.invariant-loop-octet
-invariant-loop-octet l = (line : List ℕ) × IsOneLine line × (l.text.items ≡ l.fn.text.items ++ line)
