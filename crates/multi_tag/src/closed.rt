@@ -46,7 +46,7 @@ fn read_rest(octets: &[u8], name: Name) -> Option<(Tag, &[u8])>
             let (value, behind) = read_optional(octets, 2, 4)?;
             Some((Tag::PageJust(value), behind))
         }
-        Name::Font => read_font(octets),
+        Name::Font => font_tag(octets),
         Name::CharSpacing => {
             let (value, behind) = read_optional(octets, 0, 255)?;
             Some((Tag::CharSpacing(value?), behind))
@@ -56,7 +56,7 @@ fn read_rest(octets: &[u8], name: Name) -> Option<(Tag, &[u8])>
             let (on, off, behind) = read_times(octets, b'o')?;
             Some((Tag::PageTime { on, off }, behind))
         }
-        Name::Flash => read_flash(octets),
+        Name::Flash => flash_tag(octets),
         Name::FlashEnd => Some((Tag::FlashEnd, after_bracket(octets)?)),
         Name::Fore => {
             let (value, behind) = read_optional(octets, 0, 9)?;
@@ -66,7 +66,7 @@ fn read_rest(octets: &[u8], name: Name) -> Option<(Tag, &[u8])>
             let (value, behind) = read_optional(octets, 0, 9)?;
             Some((Tag::Back(value), behind))
         }
-        Name::Rect => read_rect(octets),
+        Name::Rect => rect_tag(octets),
         Name::HexChar => {
             let (number, behind) = read_hexadecimal(octets, 1)?;
             Some((Tag::HexChar(number), behind))
@@ -150,6 +150,17 @@ fn read_times(octets: &[u8], letter: u8) -> Option<(Option<u8>, Option<u8>, &[u8
     Some((first, second, behind))
 }
 
+/// The tag of a flash, made anew of what was read, so that tags of shorter forms stand in no memory.
+#[inline(always)]
+fn flash_tag(octets: &[u8]) -> Option<(Tag, &[u8])>
+    ensures some { IfSome result (λ (tag, behind).
+        IsPartBefore 93 (table names.Flash).rest (str_to_ascii_lowercase octets.now) tag (str_to_ascii_lowercase behind.now)) }
+    ensures none { IfNone result (HasNoPartBefore 93 (table names.Flash).rest (str_to_ascii_lowercase octets.now)) }
+{
+    let (tag, behind) = read_flash(octets)?;
+    Some((tag, behind))
+}
+
 /// The times of a flash before a bracket: it is on first if they begin with a 't', and off first if they begin with an 'o'.
 #[inline(never)]
 fn read_flash(octets: &[u8]) -> Option<(Tag, &[u8])>
@@ -191,6 +202,17 @@ fn read_flash(octets: &[u8]) -> Option<(Tag, &[u8])>
     }
 }
 
+/// The tag of a font, made anew of what was read, so that tags of shorter forms stand in no memory.
+#[inline(always)]
+fn font_tag(octets: &[u8]) -> Option<(Tag, &[u8])>
+    ensures some { IfSome result (λ (tag, behind).
+        IsPartBefore 93 (table names.Font).rest (str_to_ascii_lowercase octets.now) tag (str_to_ascii_lowercase behind.now)) }
+    ensures none { IfNone result (HasNoPartBefore 93 (table names.Font).rest (str_to_ascii_lowercase octets.now)) }
+{
+    let (tag, behind) = read_font(octets)?;
+    Some((tag, behind))
+}
+
 /// A font, and its version after a comma, before a bracket.
 #[inline(never)]
 fn read_font(octets: &[u8]) -> Option<(Tag, &[u8])>
@@ -225,6 +247,17 @@ fn read_font(octets: &[u8]) -> Option<(Tag, &[u8])>
         })),
         behind,
     ))
+}
+
+/// The tag of a rectangle, made anew of what was read, so that tags of shorter forms stand in no memory.
+#[inline(always)]
+fn rect_tag(octets: &[u8]) -> Option<(Tag, &[u8])>
+    ensures some { IfSome result (λ (tag, behind).
+        IsPartBefore 93 (table names.Rect).rest (str_to_ascii_lowercase octets.now) tag (str_to_ascii_lowercase behind.now)) }
+    ensures none { IfNone result (HasNoPartBefore 93 (table names.Rect).rest (str_to_ascii_lowercase octets.now)) }
+{
+    let (tag, behind) = read_rect(octets)?;
+    Some((tag, behind))
 }
 
 /// Four numbers with commas between them, before a bracket.

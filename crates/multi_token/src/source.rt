@@ -8,7 +8,6 @@ ghost use Rattle.multi_token.specs.Spelling.{IsEndedBy, IsPlain, is_bracket};
 
 use crate::advances::Advances;
 use std::marker::Model;
-use step_count::raised;
 
 /// The octets of a string, and how many steps were taken over them (own).
 ///
@@ -17,7 +16,8 @@ use step_count::raised;
 #[derive(Drop)]
 pub struct Source<'a> {
     octets: &'a [u8],
-    steps: u64,
+    /// How many steps more can be counted. It goes down, since that stops at 0 by two instructions.
+    left: u64,
 }
 
 /// The longest front of octets that goes into a room.
@@ -32,11 +32,12 @@ pub struct Run {
 }
 
 impl<'a> Model for Source<'a> {
+    ghost use Rattle.std.specs.Prelude.{◌-◌, ◌^◌};
     ghost use Rattle.multi_token.specs.Counted.{Counted};
 
     ghost Value = { Counted };
 
-    ghost view = { λ s. record { octets = s.octets.now; steps = s.steps } };
+    ghost view = { λ s. record { octets = s.octets.now; steps = 2 ^ 64 - 1 - s.left } };
 }
 
 impl<'a> Source<'a> {
@@ -50,7 +51,10 @@ impl<'a> Source<'a> {
     pub fn new(octets: &'a [u8]) -> Source<'a>
         ensures { result ≡ record { octets = octets.now; steps = 0 } }
     {
-        Source { octets, steps: 0 }
+        Source {
+            octets,
+            left: u64::MAX,
+        }
     }
 
     /// The octet at an offset, or `None` at the end and past it. Either way this takes one step.
@@ -61,7 +65,7 @@ impl<'a> Source<'a> {
         ensures room { length self.old.octets < 2 ^ 63 }
     {
         // one step more, without a branch: reads are many
-        self.steps += u64::from(self.steps != u64::MAX);
+        self.left -= u64::from(self.left != 0);
         self.octets.get(at).copied()
     }
 
@@ -152,14 +156,14 @@ impl<'a> Source<'a> {
     pub fn steps(&self) -> u64
         ensures { result ≡ self.now.steps }
     {
-        self.steps
+        u64::MAX - self.left
     }
 
     /// Adds `k` steps that were taken over this string elsewhere.
     pub fn charge(&mut self, k: u64)
         ensures { self.new ≡ charged self.old k }
     {
-        self.steps = raised(self.steps, k);
+        self.left = self.left.saturating_sub(k);
     }
 }
 

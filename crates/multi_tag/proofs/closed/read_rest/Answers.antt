@@ -41,13 +41,13 @@ returns-in_ok-on-in-PageTime-clause-some c =
     rw c.in-PageTime.is (page_time_part _ _ _ _ c.in_ok-on-in-PageTime.ensures.some)
 
 pub returns-in-Font-clause-none : goal.returns-in-Font-clause-none
-returns-in-Font-clause-none c = rw c.in-Font.is c.read_font.ensures.none
+returns-in-Font-clause-none c = rw c.in-Font.is c.font_tag.ensures.none
 
 pub returns-in-Flash-clause-some : goal.returns-in-Flash-clause-some
-returns-in-Flash-clause-some c = rw c.in-Flash.is c.read_flash.ensures.some
+returns-in-Flash-clause-some c = rw c.in-Flash.is c.flash_tag.ensures.some
 
 pub returns-in-Flash-clause-none : goal.returns-in-Flash-clause-none
-returns-in-Flash-clause-none c = rw c.in-Flash.is c.read_flash.ensures.none
+returns-in-Flash-clause-none c = rw c.in-Flash.is c.flash_tag.ensures.none
 
 pub returns-in-Rect-clause-none : goal.returns-in-Rect-clause-none
-returns-in-Rect-clause-none c = rw c.in-Rect.is c.read_rect.ensures.none
+returns-in-Rect-clause-none c = rw c.in-Rect.is c.rect_tag.ensures.none
