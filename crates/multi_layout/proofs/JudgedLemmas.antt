@@ -34,10 +34,10 @@ use Rattle.multi_layout.proofs.WordLemmas.{some_after_push}
 
 -- ---- pages and times
 
-pages_of-push : (items : List Meaning) (x : Meaning) → pages_of (items ++ x ∷ []) ≡ pages_of items + cond (is_new_page x) 1 0
+pub pages_of-push : (items : List Meaning) (x : Meaning) → pages_of (items ++ x ∷ []) ≡ pages_of items + cond (is_new_page x) 1 0
 pages_of-push items x = omega (arith, sum_by_push (λ y. cond (is_new_page y) 1 0) items x)
 
-ended_times-push : (sign : SignData) (items : List Meaning) (x : Meaning)
+pub ended_times-push : (sign : SignData) (items : List Meaning) (x : Meaning)
     → ended_times sign (items ++ x ∷ []) ≡ ended_times sign items ++ cons_option (cond (is_new_page x) (Some (times_at (standing sign items))) None) []
 ended_times-push sign items x = some_after_push (λ before item. cond (is_new_page item) (Some (times_at (standing sign before))) None) items x
 

@@ -1,7 +1,9 @@
--- What is shown at a time of the cycle, from item to item.
-use Rattle.std.proofs.Common.{◌≡◌, ℕ, ◌+◌, ◌-◌, ◌%◌, ◌^◌, ◌<◌, ◌≤◌, true, ◌==◌, List, [], ◌∷◌, ◌++◌, length, map, Option, Some, None, refl, sym, ap, subst, ◌∙◌, inl, inr, eq-eqb, arith, append_assoc, append-nil}
+-- What is shown at a time of the cycle, from page to page.
+use Rattle.std.proofs.Common.{◌≡◌, ℕ, ◌+◌, ◌-◌, ◌%◌, ◌^◌, ◌<◌, ◌≤◌, true, false, cond, ◌==◌, List, [], ◌∷◌, ◌++◌, length, map, Option, Some, None, refl, sym, ap, subst, ◌∙◌, inl, inr, eq-eqb, arith, append_assoc, append-nil}
 use Rattle.std.proofs.lemmas.Bool.{cases_Bool, cases_lt, ne_eqb, or_left, or_right}
 use Rattle.std.proofs.lemmas.List.{map-append}
+use Rattle.std.proofs.lemmas.List.Sums.{sum_by-append}
+use Rattle.std.specs.List.{cons_option}
 use Rattle.multi_token.specs.Reading.{reading}
 use Rattle.multi_token.specs.Spelling.{Item}
 use Rattle.multi_token.proofs.ReadingLemmas.{spelling_some}
@@ -15,26 +17,19 @@ use Rattle.multi_layout.specs.declared.times.Shown.{Shown}
 use Rattle.multi_layout.specs.declared.times.Shown.TheVariants.{Page, Off}
 use Rattle.multi_layout.specs.Address.{standing}
 use Rattle.multi_layout.specs.kept.KnownItem.{meant_by}
-use Rattle.multi_layout.specs.Meaning.{Meaning, Does, is_new_page, meaning, meanings}
+use Rattle.multi_layout.specs.Meaning.{BeginsPage, Meaning, Does, is_new_page, meaning, meanings}
 use Rattle.multi_layout.specs.kept.State.{attributes_of}
 use Rattle.multi_layout.specs.Times.{Times, cycle, ended_times, page_times, shown, shown_within, times_at}
 use Rattle.multi_layout.specs.Verdict.{Accepted, IsCycle, IsVerdict, pages_of}
-use Rattle.multi_layout.specs.kept.Cursors.{IsPassing, IsFirst, IsItemRead, IsTextPassed}
+use Rattle.multi_layout.specs.kept.Cursors.{IsFirst, IsPageSkipped, IsPassing, IsTextPassed}
 use Rattle.multi_layout.proofs.AcceptedLemmas.{accepted_is, cycle_is}
-use Rattle.multi_layout.proofs.JudgedLemmas.{cycle-stays, cycle-grows}
+use Rattle.multi_layout.proofs.JudgedLemmas.{cycle-grows, ended_times-push, pages_of-push}
 use Rattle.multi_layout.proofs.SkipLemmas.{same_unplaced}
 use Rattle.multi_layout.proofs.TimesLemmas.{cycle_push, ended_count, shown_always, shown_modulo, shown_off, shown_on, times_are, times_are_all, times_count}
-use Rattle.multi_layout.proofs.WalkLemmas.{room, within}
+use Rattle.multi_layout.proofs.StandingLemmas.{standing_push}
+use Rattle.multi_layout.proofs.WordLemmas.{push_ind}
 
--- the cursor stands between two items of the string, in a page that began at this time or before it
-pub record Searched (sign : SignData) (octets : List ℕ) (time : ℕ) (cursor : Cursor) : Type 0 where
-  pub before : List Item
-  pub behind : List Item
-  pub between : IsPassing sign octets before behind cursor
-  pub whole : (reading octets).items ≡ before ++ behind
-  pub began : cursor.state.cycle ≤ time
-
--- THE PRESENT PAGE
+-- ---- what is kept where the cursor stands
 
 -- the state has the pages and times of these items, and the values in force behind them
 pub record IsClockOf (sign : SignData) (items : List Meaning) (state : State) : Type 0 where
@@ -42,172 +37,242 @@ pub record IsClockOf (sign : SignData) (items : List Meaning) (state : State) : 
   pub times : state.cycle ≡ cycle (ended_times sign items)
   pub attributes : state.attributes ≡ attributes_of (standing sign items)
 
-clock_of : {sign : SignData} {octets : List ℕ} {before behind : List Item} {cursor : Cursor} → IsPassing sign octets before behind cursor → IsClockOf sign (map meaning before) cursor.state
+pub clock_of : {sign : SignData} {octets : List ℕ} {before behind : List Item} {cursor : Cursor} → IsPassing sign octets before behind cursor → IsClockOf sign (map meaning before) cursor.state
 clock_of {sign} {octets} {before} {behind} {cursor} p =
     let (here, times, pages) = same_unplaced sign (map meaning before) in
     record { pages = p.state_is.pages ∙ pages; times = p.state_is.times ∙ ap cycle times; attributes = p.state_is.attributes ∙ ap attributes_of here }
 
--- the state is that of these items, and the page in which they end began at this time or before it
-module _ (sign : SignData) (items : List Meaning) (state : State) (st : IsClockOf sign items state) (time : ℕ) (began : state.cycle ≤ time) where
-  -- the page's times
-  abbrev here : Times
-  here = times_at (standing sign items)
+-- the times that are in force at the cursor
+abbrev pub times_of : Cursor → Times
+times_of cursor = record { on = cursor.state.attributes.on; off = cursor.state.attributes.off }
 
-  on_is : state.attributes.on ≡ (standing sign items).on
-  on_is = ap (λ (a : Attributes). a.on) st.attributes
+-- ---- the present page
 
-  off_is : state.attributes.off ≡ (standing sign items).off
-  off_is = ap (λ (a : Attributes). a.off) st.attributes
+-- items that begin no page end none
+pub same_ended : (sign : SignData) (earlier more : List Meaning) → pages_of (earlier ++ more) ≡ pages_of earlier → ended_times sign (earlier ++ more) ≡ ended_times sign earlier
+same_ended sign earlier = push_ind (λ more. pages_of (earlier ++ more) ≡ pages_of earlier → ended_times sign (earlier ++ more) ≡ ended_times sign earlier) (λ _. ap (ended_times sign) (append-nil earlier)) step
+  where
+    least : (more : List Meaning) → pages_of earlier ≤ pages_of (earlier ++ more)
+    least more = omega (arith, sum_by-append (λ x. cond (is_new_page x) 1 0) earlier more)
+    step : (more : List Meaning) (x : Meaning) → (pages_of (earlier ++ more) ≡ pages_of earlier → ended_times sign (earlier ++ more) ≡ ended_times sign earlier)
+        → pages_of (earlier ++ (more ++ x ∷ [])) ≡ pages_of earlier → ended_times sign (earlier ++ (more ++ x ∷ [])) ≡ ended_times sign earlier
+    step more x ih same =
+        let is : earlier ++ (more ++ x ∷ []) ≡ (earlier ++ more) ++ x ∷ [] = sym (append_assoc earlier more (x ∷ [])) in
+        let count = pages_of-push (earlier ++ more) x in
+        elim (cases_Bool (is_new_page x)) [
+          | inl e ↦ absurd (omega (arith, same, ap pages_of is, count, ap {B = ℕ} (λ b. cond b 1 0) e, least more))
+          | inr e ↦ ap (ended_times sign) is ∙ ended_times-push sign (earlier ++ more) x
+              ∙ ap (λ b. ended_times sign (earlier ++ more) ++ cons_option (cond b (Some (times_at (standing sign (earlier ++ more)))) None) []) e
+              ∙ append-nil (ended_times sign (earlier ++ more)) ∙ ih (omega (arith, same, ap pages_of is, count, least more))
+        ]
 
-  page_is : length (ended_times sign items) ≡ state.pages - 1
-  page_is = omega (arith, ended_count sign items, st.pages)
-
-  -- in its on time the page is shown
-  on_here : (pages more : List Times) → pages ≡ ended_times sign items ++ here ∷ more → time < state.cycle + state.attributes.on
-      → shown_within pages time ≡ Page (state.pages - 1) (time - state.cycle)
-  on_here pages more is until =
-      shown_on pages (ended_times sign items) more here is time (omega (arith, st.times)) (omega (arith, st.times, on_is))
-      ∙ ap (λ n. Page n (time - cycle (ended_times sign items))) page_is
-      ∙ ap (λ n. Page (state.pages - 1) (time - n)) (sym st.times)
-
-  -- in its off time nothing is shown
-  off_here : (pages more : List Times) → pages ≡ ended_times sign items ++ here ∷ more → state.cycle + state.attributes.on ≤ time
-      → time < state.cycle + state.attributes.on + state.attributes.off → shown_within pages time ≡ Off
-  off_here pages more is from until =
-      shown_off pages (ended_times sign items) more here is time (omega (arith, st.times, on_is)) (omega (arith, st.times, on_is, off_is))
-
-  -- behind one more item the present page began at the time or before it, if the one that a new page ends was over
-  began_more : (x : Meaning) (new : State) → IsClockOf sign (items ++ x ∷ []) new
-      → (is_new_page x ≡ true → state.cycle + state.attributes.on + state.attributes.off ≤ time) → new.cycle ≤ time
-  began_more x new st_new over = elim (cases_Bool (is_new_page x)) [
-    | inl e ↦ omega (arith, over e, st_new.times, st.times, cycle-grows sign items x e, on_is, off_is)
-    | inr e ↦ omega (arith, st_new.times, st.times, cycle-stays sign items x e)
-  ]
-
--- FROM ITEM TO ITEM
+-- the cursor has passed some of the items behind the old one, and is in the same page
+pub record IsInPage (sign : SignData) (octets : List ℕ) (before behind : List Item) (old new : Cursor) : Type 0 where
+  pub passed : IsTextPassed sign octets before behind new
+  pub same : new.state.pages ≡ old.state.pages
 
 new_page_is : (x : Meaning) → is_new_page x ≡ true → x ≡ Does NewPage
 new_page_is (Does NewPage) is = refl
 new_page_is _ is = absurd cc
 
-module _ {sign : SignData} {octets : List ℕ} {time : ℕ} {cursor : Cursor} (s : Searched sign octets time cursor) where
-  abbrev passed : List Meaning
-  passed = map meaning s.before
-
-  -- the times of the pages from the present one on
-  abbrev Times_from : List Times → Type 0
-  Times_from more = page_times sign (meanings octets) ≡ ended_times sign passed ++ times_at (standing sign passed) ∷ more
-
-  pub within_octets : cursor.at ≤ length octets
-  within_octets = within sign octets s.before s.behind cursor.at s.between.placed
-
-  -- at the end the present page is the last
-  times_end : s.behind ≡ [] → Times_from []
-  times_end end =
-      ap (λ l. page_times sign (map meaning l)) (s.whole ∙ ap (λ l. s.before ++ l) end ∙ append-nil s.before)
-      ∙ times_are_all sign passed
-
-  -- and the cycle ends with it
-  cycle_end : s.behind ≡ [] → cycle (page_times sign (meanings octets)) ≡ cursor.state.cycle + cursor.state.attributes.on + cursor.state.attributes.off
-  cycle_end end =
-      let st = clock_of s.between in
-      let all = ap cycle (times_end end) ∙ cycle_push (ended_times sign passed) (times_at (standing sign passed)) in
-      omega (arith, all, st.times, on_is sign passed cursor.state st time s.began, off_is sign passed cursor.state st time s.began)
-
-  -- the search goes on behind text
-  pub searched_text : (new : Cursor) → new.state ≡ cursor.state → IsTextPassed sign octets s.before s.behind new → Searched sign octets time new
-  searched_text new same t = record {
-    before = s.before ++ t.text;
-    behind = t.rest;
-    between = t.between;
-    whole = s.whole ∙ ap (λ l. s.before ++ l) t.split ∙ sym (append_assoc s.before t.text t.rest);
-    began = omega (arith, s.began, ap (λ (x : State). x.cycle) same);
+module _ {sign : SignData} {octets : List ℕ} {before behind : List Item} {old : Cursor} (p : IsPassing sign octets before behind old) where
+  -- at first
+  pub in_page : IsInPage sign octets before behind old old
+  in_page = record {
+    passed = record { text = []; rest = behind; split = refl; between = subst (λ l. IsPassing sign octets l behind old) (sym (append-nil before)) p };
+    same = refl;
   }
 
-  -- an item stands behind the cursor, of which this was read
-  module _ (item : Item) (rest : List Item) (is : s.behind ≡ item ∷ rest) (next : NextItem) (read : IsItemRead item next) where
-    between_read : IsPassing sign octets s.before (item ∷ rest) cursor
-    between_read = subst (λ (l : List Item). IsPassing sign octets s.before l cursor) is s.between
+  module _ {cursor : Cursor} (s : IsInPage sign octets before behind old cursor) where
+    abbrev items : List Item
+    items = before ++ s.passed.text
 
-    split : (reading octets).items ≡ s.before ++ item ∷ rest
-    split = s.whole ∙ ap (λ l. s.before ++ l) is
+    abbrev passed : List Meaning
+    passed = map meaning items
 
-    -- before a new page the present page ends
-    times_page : is_new_page (meant_by next.item) ≡ true → (more : List Times) × Times_from more
-    times_page new =
-        let (more, times) = times_are sign passed (map meaning rest) in
-        let items : meanings octets ≡ passed ++ Does NewPage ∷ map meaning rest =
-        ap (map meaning) split ∙ map-append meaning s.before (item ∷ rest) ∙ ap (λ x. passed ++ x ∷ map meaning rest) (read.meant ∙ new_page_is (meant_by next.item) new) in
-        (more, ap (page_times sign) items ∙ times)
+    -- the items so far have ended the pages that those before have
+    ended_here : ended_times sign passed ≡ ended_times sign (map meaning before)
+    ended_here =
+        let is = map-append meaning before s.passed.text in
+        ap (ended_times sign) is ∙ same_ended sign (map meaning before) (map meaning s.passed.text) (omega (arith, ap pages_of is, (clock_of s.passed.between).pages, (clock_of p).pages, s.same))
 
-    -- the search goes on behind it
-    searched_behind : (new : Cursor) → IsPassing sign octets (s.before ++ item ∷ []) rest new
-        → (is_new_page (meant_by next.item) ≡ true → cursor.state.cycle + cursor.state.attributes.on + cursor.state.attributes.off ≤ time)
-        → Searched sign octets time new
-    searched_behind new b over = record {
-      before = s.before ++ item ∷ [];
-      behind = rest;
-      between = b;
-      whole = split ∙ sym (append_assoc s.before (item ∷ []) rest);
-      began = began_more sign passed cursor.state (clock_of s.between) time s.began (meaning item) new.state
-          (subst (λ ms. IsClockOf sign ms new.state) (map-append meaning s.before (item ∷ [])) (clock_of b)) (λ e. over (ap is_new_page (sym read.meant) ∙ e));
+    -- behind text
+    pub in_page_text : (new : Cursor) → new.state ≡ cursor.state → IsTextPassed sign octets items s.passed.rest new → IsInPage sign octets before behind old new
+    in_page_text new same t = record {
+      passed = record {
+        text = s.passed.text ++ t.text;
+        rest = t.rest;
+        split = s.passed.split ∙ ap (λ l. s.passed.text ++ l) t.split ∙ sym (append_assoc s.passed.text t.text t.rest);
+        between = subst (λ l. IsPassing sign octets l t.rest new) (append_assoc before s.passed.text t.text) t.between;
+      };
+      same = ap (λ (x : State). x.pages) same ∙ s.same;
     }
 
-    fits : (cursor.at + next.len ≤ length octets) × (1 ≤ next.len)
-    fits = (omega (arith, read.len, room sign octets s.before rest item cursor.at between_read.placed), omega (arith, read.len, spelling_some item))
+    -- at the end the page is passed, the last
+    pub passed_last : s.passed.rest ≡ [] → IsPageSkipped sign octets before behind old cursor
+    passed_last none =
+        let all : before ++ behind ≡ items = ap (λ l. before ++ l) (s.passed.split ∙ ap (λ l. s.passed.text ++ l) none ∙ append-nil s.passed.text) in
+        record {
+          page = s.passed.text;
+          rest = s.passed.rest;
+          later = [];
+          split = s.passed.split;
+          between = s.passed.between;
+          times = ap (λ l. page_times sign (map meaning l)) all ∙ times_are_all sign passed ∙ (λ i. ended_here i ++ sym (ap {B = Times} (λ (a : Attributes). record { on = a.on; off = a.off }) (clock_of s.passed.between).attributes) i ∷ []);
+          ends = inl (none, refl, s.same);
+        }
 
-  -- this was read of the next item
-  module _ (next : NextItem) (first : IsFirst s.behind (Some next)) where
-    -- it has an octet, and ends within the octets
-    pub next_fits : (cursor.at + next.len ≤ length octets) × (1 ≤ next.len)
-    next_fits = fits first.0 first.1 first.2 next first.3
+    -- an item stands behind the cursor, of which this was read
+    module _ {next : NextItem} (first : IsFirst s.passed.rest (Some next)) where
+      pub stands : IsPassing sign octets items (first.0 ∷ first.1) cursor
+      stands = subst (λ (l : List Item). IsPassing sign octets items l cursor) first.2 s.passed.between
 
-    -- the search goes on behind it, if the page that it ends was over
-    pub searched_more : (new : Cursor)
-        → ((before rest : List Item) (item : Item) → IsPassing sign octets before (item ∷ rest) cursor → IsItemRead item next → IsPassing sign octets (before ++ item ∷ []) rest new)
-        → (is_new_page (meant_by next.item) ≡ true → cursor.state.cycle + cursor.state.attributes.on + cursor.state.attributes.off ≤ time)
-        → Searched sign octets time new
-    searched_more new passes over =
-        let (item, rest, is, read) = first in
-        searched_behind item rest is next read new (passes s.before rest item (between_read item rest is next read) read) over
+      -- it has an octet
+      pub some : 1 ≤ next.len
+      some = omega (arith, first.3.len, spelling_some first.0)
 
-  -- this is what the present page shows at the time: a page, nothing, or it is over
+      module _ {new : Cursor} (b : IsPassing sign octets (items ++ first.0 ∷ []) first.1 new) where
+        counted : new.state.pages ≡ old.state.pages + cond (is_new_page (meant_by next.item)) 1 0
+        counted =
+            omega (
+              arith,
+              (clock_of b).pages,
+              (clock_of s.passed.between).pages,
+              s.same,
+              ap pages_of (map-append meaning items (first.0 ∷ [])),
+              pages_of-push passed (meaning first.0),
+              ap {B = ℕ} (λ (x : Meaning). cond (is_new_page x) 1 0) first.3.meant,
+            )
+
+        abbrev text_more : IsTextPassed sign octets before behind new
+        text_more = record {
+          text = s.passed.text ++ first.0 ∷ [];
+          rest = first.1;
+          split = s.passed.split ∙ ap (λ l. s.passed.text ++ l) first.2 ∙ sym (append_assoc s.passed.text (first.0 ∷ []) first.1);
+          between = subst (λ l. IsPassing sign octets l first.1 new) (append_assoc before s.passed.text (first.0 ∷ [])) b;
+        }
+
+        -- behind another item than an `np`
+        pub in_page_more : is_new_page (meant_by next.item) ≡ false → IsInPage sign octets before behind old new
+        in_page_more none = record { passed = text_more; same = omega (arith, counted, ap {B = ℕ} (λ p. cond p 1 0) none) }
+
+        -- behind an `np` the page is passed
+        pub passed_page : is_new_page (meant_by next.item) ≡ true → old.at ≤ cursor.at → new.at ≡ cursor.at + next.len → IsPageSkipped sign octets before behind old new
+        passed_page page on at =
+            let is : meaning first.0 ≡ Does NewPage = first.3.meant ∙ new_page_is (meant_by next.item) page in
+            let behind_is : map meaning (items ++ first.0 ∷ []) ≡ passed ++ Does NewPage ∷ [] = map-append meaning items (first.0 ∷ []) ∙ ap (λ x. passed ++ x ∷ []) is in
+            let c = clock_of b in
+            let here = c.attributes ∙ ap (λ ms. attributes_of (standing sign ms)) behind_is ∙ ap attributes_of (standing_push sign passed (Does NewPage)) in
+            let times : times_of new ≡ times_at (standing sign passed) = ap {B = Times} (λ (a : Attributes). record { on = a.on; off = a.off }) here in
+            let (more, page_times_are) = times_are sign passed (map meaning first.1) in
+            let all : map meaning (before ++ behind) ≡ passed ++ Does NewPage ∷ map meaning first.1 =
+            ap (λ l. map meaning (before ++ l)) (s.passed.split ∙ ap (λ l. s.passed.text ++ l) first.2) ∙ ap (map meaning) (sym (append_assoc before s.passed.text (first.0 ∷ first.1)))
+            ∙ map-append meaning items (first.0 ∷ first.1) ∙ ap (λ x. passed ++ x ∷ map meaning first.1) is in
+            record {
+              page = text_more.text;
+              rest = first.1;
+              later = more;
+              split = text_more.split;
+              between = text_more.between;
+              times = ap (page_times sign) all ∙ page_times_are ∙ (λ i. ended_here i ++ sym times i ∷ more);
+              ends = inr (
+                inr (passed, ap (map meaning) (sym (append_assoc before s.passed.text (first.0 ∷ []))) ∙ behind_is),
+                omega (arith, counted, ap {B = ℕ} (λ p. cond p 1 0) page),
+                omega (arith, on, at, some),
+                omega (arith, c.times, ap (λ ms. cycle (ended_times sign ms)) behind_is, cycle-grows sign passed (Does NewPage) refl, ap cycle ended_here, (clock_of p).times, ap (λ (t : Times). t.on + t.off) times),
+              );
+            }
+
+-- ---- a page that is looked at
+
+-- the cursor stands where a page of the string begins, which is at this time or before it
+pub record IsSearched (sign : SignData) (octets : List ℕ) (time : ℕ) (start : Cursor) : Type 0 where
+  pub before : List Item
+  pub behind : List Item
+  pub between : IsPassing sign octets before behind start
+  pub begins : BeginsPage (map meaning before)
+  pub whole : (reading octets).items ≡ before ++ behind
+  pub began : start.state.cycle ≤ time
+
+module _ {sign : SignData} {octets : List ℕ} {time : ℕ} {start : Cursor} (s : IsSearched sign octets time start) {behind : Cursor} (p : IsPageSkipped sign octets s.before s.behind start behind) where
+  abbrev earlier : List Times
+  earlier = ended_times sign (map meaning s.before)
+
+  times_from : page_times sign (meanings octets) ≡ earlier ++ times_of behind ∷ p.later
+  times_from = ap (λ l. page_times sign (map meaning l)) s.whole ∙ p.times
+
+  page_is : length earlier ≡ start.state.pages - 1
+  page_is = omega (arith, ended_count sign (map meaning s.before), (clock_of s.between).pages)
+
+  -- this is what the page shows at the time: the page, nothing, or it is over
   module _ {answer : Option Shown}
-      (on : time < cursor.state.cycle + cursor.state.attributes.on → answer ≡ Some (Page (cursor.state.pages - 1) (time - cursor.state.cycle)))
-      (off : cursor.state.cycle + cursor.state.attributes.on ≤ time → time < cursor.state.cycle + cursor.state.attributes.on + cursor.state.attributes.off → answer ≡ Some Off)
-      (over : cursor.state.cycle + cursor.state.attributes.on + cursor.state.attributes.off ≤ time → answer ≡ None) where
+      (on : time < start.state.cycle + behind.state.attributes.on → answer ≡ Some (Page (start.state.pages - 1) (time - start.state.cycle)))
+      (off : start.state.cycle + behind.state.attributes.on ≤ time → time < start.state.cycle + behind.state.attributes.on + behind.state.attributes.off → answer ≡ Some Off)
+      (over : start.state.cycle + behind.state.attributes.on + behind.state.attributes.off ≤ time → answer ≡ None) where
     -- what it shows the string shows
-    shown_by : (more : List Times) → Times_from more → {shown : Shown} → answer ≡ Some shown → shown ≡ shown_within (page_times sign (meanings octets)) time
-    shown_by more is found = elim (cases_lt time (cursor.state.cycle + cursor.state.attributes.on)) [
-      | inl until ↦ let e = on until in let w = on_here sign passed cursor.state (clock_of s.between) time s.began _ more is until in cc
-      | inr from ↦ elim (cases_lt time (cursor.state.cycle + cursor.state.attributes.on + cursor.state.attributes.off)) [
-        | inl until ↦ let e = off from until in let w = off_here sign passed cursor.state (clock_of s.between) time s.began _ more is from until in cc
+    pub shown_here : {shown : Shown} → answer ≡ Some shown → shown ≡ shown_within (page_times sign (meanings octets)) time
+    shown_here found =
+        let st = (clock_of s.between).times in
+        elim (cases_lt time (start.state.cycle + behind.state.attributes.on)) [
+          | inl until ↦
+              let e = on until in
+              let w = shown_on (page_times sign (meanings octets)) earlier p.later (times_of behind) times_from time (omega (arith, st, s.began)) (omega (arith, st, until))
+                  ∙ ap (λ n. Page n (time - cycle earlier)) page_is ∙ ap (λ n. Page (start.state.pages - 1) (time - n)) (sym st) in
+              cc
+          | inr from ↦ elim (cases_lt time (start.state.cycle + behind.state.attributes.on + behind.state.attributes.off)) [
+            | inl until ↦
+                let e = off from until in
+                let w = shown_off (page_times sign (meanings octets)) earlier p.later (times_of behind) times_from time (omega (arith, st, from)) (omega (arith, st, until)) in
+                cc
+            | inr from ↦ let e = over from in absurd cc
+          ]
+        ]
+
+    -- where it shows the page, that begins there
+    pub page_here : (page phase : ℕ) → answer ≡ Some (Page page phase) → start.state.pages ≡ page + 1
+    page_here page phase found = elim (cases_lt time (start.state.cycle + behind.state.attributes.on)) [
+      | inl until ↦
+          let e = on until in
+          let same : start.state.pages - 1 ≡ page = cc in
+          omega (arith, same, (clock_of s.between).pages)
+      | inr from ↦ elim (cases_lt time (start.state.cycle + behind.state.attributes.on + behind.state.attributes.off)) [
+        | inl until ↦ let e = off from until in absurd cc
         | inr from ↦ let e = over from in absurd cc
       ]
     ]
 
-    pub shown_at_end : s.behind ≡ [] → {shown : Shown} → answer ≡ Some shown → shown ≡ shown_within (page_times sign (meanings octets)) time
-    shown_at_end end found = shown_by [] (times_end end) found
-
-    pub shown_at_page : (next : NextItem) → IsFirst s.behind (Some next) → is_new_page (meant_by next.item) ≡ true
-        → {shown : Shown} → answer ≡ Some shown → shown ≡ shown_within (page_times sign (meanings octets)) time
-    shown_at_page next first new found =
-        let (more, is) = times_page first.0 first.1 first.2 next first.3 new in
-        shown_by more is found
-
-    -- it is over
-    pub over_here : answer ≡ None → cursor.state.cycle + cursor.state.attributes.on + cursor.state.attributes.off ≤ time
-    over_here none = elim (cases_lt time (cursor.state.cycle + cursor.state.attributes.on)) [
+    over_here : answer ≡ None → start.state.cycle + behind.state.attributes.on + behind.state.attributes.off ≤ time
+    over_here none = elim (cases_lt time (start.state.cycle + behind.state.attributes.on)) [
       | inl until ↦ let e = on until in absurd cc
-      | inr from ↦ elim (cases_lt time (cursor.state.cycle + cursor.state.attributes.on + cursor.state.attributes.off)) [
+      | inr from ↦ elim (cases_lt time (start.state.cycle + behind.state.attributes.on + behind.state.attributes.off)) [
         | inl until ↦ let e = off from until in absurd cc
         | inr from ↦ from
       ]
     ]
 
-    -- at the end it isn't
-    pub never_over : s.behind ≡ [] → time < cycle (page_times sign (meanings octets)) → answer ≡ None → ⊥
-    never_over end below none = omega (arith, over_here none, cycle_end end, below)
+    -- else another page begins behind it, at the time or before
+    pub searched_on : answer ≡ None → time < cycle (page_times sign (meanings octets)) → IsSearched sign octets time behind × (start.at < behind.at) × (behind.state.pages ≡ start.state.pages + 1)
+    searched_on none below = elim p.ends [
+      | inl last ↦ absurd (omega (
+        arith,
+        over_here none,
+        below,
+        ap cycle (times_from ∙ ap (λ l. earlier ++ times_of behind ∷ l) last.1) ∙ cycle_push earlier (times_of behind),
+        (clock_of s.between).times,
+      ))
+      | inr more ↦ (
+        record {
+          before = s.before ++ p.page;
+          behind = p.rest;
+          between = p.between;
+          begins = more.0;
+          whole = s.whole ∙ ap (λ l. s.before ++ l) p.split ∙ sym (append_assoc s.before p.page p.rest);
+          began = omega (arith, more.3, over_here none);
+        },
+        more.2,
+        more.1,
+      )
+    ]
 
 -- A WHOLE STRING
 

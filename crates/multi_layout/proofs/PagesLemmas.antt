@@ -2,7 +2,7 @@
 use Rattle.std.proofs.Common.{◌≡◌, ℕ, ◌+◌, ◌-◌, ◌*◌, ◌/◌, ◌^◌, ◌<◌, ◌≤◌, inl, inr, Bool, true, false, cond, List, [], ◌∷◌, ◌++◌, length, map, Some, refl, sym, ap, subst, ◌∙◌, arith, append-nil}
 use Rattle.std.specs.Prelude.{◌==◌}
 use Rattle.std.specs.List.{All, count_by}
-use Rattle.std.proofs.lemmas.Bool.{cases_Bool}
+use Rattle.std.proofs.lemmas.Bool.{ne_eqb}
 use Rattle.std.proofs.lemmas.List.{map-append}
 use Rattle.std.proofs.lemmas.List.Elements.{All-head, All-tail}
 use Rattle.std.proofs.lemmas.List.Sums.{sum_by_push, sum_by-append}
@@ -25,13 +25,15 @@ use Rattle.multi_layout.specs.Drawn as drawn
 use Rattle.multi_layout.specs.Limits.{drawing_limit, plane_limit, plane_octets, reading_limit}
 use Rattle.multi_layout.specs.Meaning.{BeginsPage, Does, Meaning, is_new_page, meaning, meanings}
 use Rattle.multi_layout.specs.Pages.{IsTurned}
-use Rattle.multi_layout.specs.kept.PageDrawing.{IsFilledFew, IsPagePassed, IsReadTwice}
+use Rattle.multi_layout.specs.declared.times.Shown.{Shown}
+use Rattle.multi_layout.specs.declared.times.Shown.TheVariants.{Page, Off}
+use Rattle.multi_layout.specs.kept.PageDrawing.{IsFilledFew, IsPagePassed, IsPageStart, IsReadTwice, IsStartOf}
 use Rattle.multi_layout.specs.Picture.{in_plane, picture}
 use Rattle.multi_layout.specs.Verdict.{pages_of}
-use Rattle.multi_layout.specs.kept.Cursors.{IsAccepted, IsBetween, IsFirst, IsItemRead, IsPassing, IsPlaced, IsTextPassed, items_of, laid_meanings, meant, LaidItem}
-use Rattle.multi_layout.proofs.SkipLemmas.{same_unplaced}
-use Rattle.multi_layout.proofs.PieceLemmas.{laid_pages}
-use Rattle.multi_layout.proofs.WalkLemmas.{room, within_between}
+use Rattle.multi_layout.specs.kept.Cursors.{IsAccepted, IsBetween, IsOrderly, IsPageSkipped, IsPassing, IsPlaced, items_of, laid_meanings, meant, LaidItem}
+use Rattle.multi_layout.proofs.LocateLemmas.{clock_of}
+use Rattle.multi_layout.proofs.PieceLemmas.{begins_page, laid_pages, pieces_before, pieces_behind, starts_between}
+use Rattle.multi_layout.proofs.WalkLemmas.{within, within_between}
 
 -- ---- the items of a string are those of its reading
 
@@ -104,87 +106,60 @@ shows_picture plane sign octets before behind cursor page phase colour b shows =
 
 -- ---- the way to a page
 
--- the cursor hasn't passed the begin of a page, and where it has as many pages it stands there
+-- where a page begins the cursor stands between pieces
+pub page_starts : (sign : SignData) (octets : List ℕ) (before behind : List Item) (cursor : Cursor) → IsPassing sign octets before behind cursor → BeginsPage (map meaning before)
+    → IsOrderly sign (laid_out sign (meanings octets)) → IsPageStart sign octets cursor
+page_starts sign octets before behind cursor p begins all =
+    let items = same_meanings sign octets (before ++ behind) p.placed.accepted in
+    let orderly = subst (λ ms. IsOrderly sign (laid_out sign ms)) (sym items) all in (
+      pieces_before sign octets before behind cursor p begins orderly,
+      pieces_behind sign octets before behind cursor p begins orderly,
+      starts_between sign octets before behind cursor p begins orderly,
+      begins_page sign octets before behind cursor p begins orderly,
+    )
+
+-- the cursor stands where a page begins: a page, counted from 0, or one before it
 pub record IsOnTheWay (sign : SignData) (octets : List ℕ) (page : ℕ) (cursor : Cursor) : Type 0 where
   pub before : List Item
   pub behind : List Item
   pub between : IsPassing sign octets before behind cursor
-  pub begins : page < cursor.state.pages → BeginsPage (map meaning before) × (cursor.state.pages ≡ page + 1)
+  pub begins : BeginsPage (map meaning before)
+  pub few : cursor.state.pages ≤ page + 1
 
-passed_pages : (sign : SignData) {octets : List ℕ} (before : List Item) {behind : List Item} (cursor : Cursor) → IsPassing sign octets before behind cursor → cursor.state.pages ≡ pages_of (map meaning before)
-passed_pages sign before cursor b = b.state_is.pages ∙ (same_unplaced sign (map meaning before)).2
+-- the last page has begun where the items end
+not_the_end : (sign : SignData) (octets : List ℕ) (page : ℕ) (before behind : List Item) (cursor : Cursor) → IsPassing sign octets before behind cursor → behind ≡ [] → cursor.state.pages ≤ page → page < pages_of (meanings octets) → ⊥
+not_the_end sign octets page before behind cursor b none few more =
+    omega (arith, few, more, pages_before sign octets before behind cursor b.placed (clock_of b).pages, ap (λ l. count_by is_new_page (map meaning l)) none)
 
-module _ (sign : SignData) (octets : List ℕ) (page : ℕ) where
-  -- behind one more item
-  module _ (old new : Cursor) (few : old.state.pages ≤ page) (before rest : List Item) (item : Item) (b : IsPassing sign octets before (item ∷ rest) old) (b' : IsPassing sign octets (before ++ item ∷ []) rest new) where
-    counted : new.state.pages ≡ old.state.pages + cond (is_new_page (meaning item)) 1 0
-    counted =
-        omega (arith, passed_pages sign before old b, passed_pages sign (before ++ item ∷ []) new b', ap pages_of (map-append meaning before (item ∷ [])), sum_by_push (λ x. cond (is_new_page x) 1 0) (map meaning before) (meaning item))
+-- behind a page before it the next one begins
+pub way_on : (sign : SignData) (octets : List ℕ) (page : ℕ) (old new : Cursor) (w : IsOnTheWay sign octets page old) → old.state.pages ≤ page → page < pages_of (meanings octets)
+    → IsPageSkipped sign octets w.before w.behind old new → IsOnTheWay sign octets page new × (old.at < new.at) × (new.at ≤ length octets) × (new.state.pages ≡ old.state.pages + 1)
+way_on sign octets page old new w few more p = elim p.ends [
+  | inl last ↦ absurd (not_the_end sign octets page (w.before ++ p.page) p.rest new p.between last.0 (omega (arith, few, last.2)) more)
+  | inr next ↦ (
+    record { before = w.before ++ p.page; behind = p.rest; between = p.between; begins = next.0; few = omega (arith, few, next.1) },
+    next.2,
+    within sign octets (w.before ++ p.page) p.rest new.at p.between.placed,
+    next.1,
+  )
+]
 
-    begins_here : is_new_page (meaning item) ≡ true → BeginsPage (map meaning (before ++ item ∷ []))
-    begins_here new = inr (map meaning before, map-append meaning before (item ∷ []) ∙ ap (λ x. map meaning before ++ x ∷ []) (new_page_is (meaning item) new))
+-- the steps to the end of a page, behind those to its start
+pub passes_page : (start source new : Counted) (at at' pages pages' : ℕ) → at ≤ at' → RisesBetween start source 0 (9 * at) → RisesBetween source new 0 (9 * (at' - at) + cond (pages' == pages) 1 0)
+    → RisesBetween start new 0 (9 * at' + cond (pages' == pages) 1 0)
+passes_page start source new at at' pages pages' on earlier here =
+    rises_more start new 0 _ _ (omega (arith, on)) (rises_then start source new 0 (9 * at) 0 (9 * (at' - at) + cond (pages' == pages) 1 0) earlier here)
 
-    pub one_further : IsOnTheWay sign octets page new
-    one_further = record {
-      before = before ++ item ∷ [];
-      behind = rest;
-      between = b';
-      begins = λ (h : page < new.state.pages). elim (cases_Bool (is_new_page (meaning item))) [
-        | inl starts ↦ (begins_here starts, omega (arith, few, h, counted, ap {B = ℕ} (λ p. cond p 1 0) starts))
-        | inr stays ↦ absurd (omega (arith, few, h, counted, ap {B = ℕ} (λ p. cond p 1 0) stays))
-      ];
-    }
+-- of a page that an `np` ends
+pub passes_whole : (start source new : Counted) (at at' pages pages' : ℕ) → at ≤ at' → pages' ≡ pages + 1 → RisesBetween start source 0 (9 * at) → RisesBetween source new 0 (9 * (at' - at) + cond (pages' == pages) 1 0)
+    → RisesBetween start new 0 (9 * at')
+passes_whole start source new at at' pages pages' on more earlier here =
+    rises_more start new 0 _ _ (omega (arith, ap {B = ℕ} (λ b. cond b 1 0) (ne_eqb pages' pages (λ e. omega (arith, e, more))))) (passes_page start source new at at' pages pages' on earlier here)
 
-  -- the last page has begun where the items end
-  pub not_the_end : (before : List Item) (cursor : Cursor) → IsPassing sign octets before [] cursor → cursor.state.pages ≤ page → page < pages_of (meanings octets) → ⊥
-  not_the_end before cursor b few more = omega (arith, few, more, pages_before sign octets before [] cursor b.placed (passed_pages sign before cursor b))
-
--- behind text the page still hasn't begun
-pub text_way : (sign : SignData) (page : ℕ) (start source text : Counted) (old new : Cursor) → IsOnTheWay sign start.octets page old → old.state.pages ≤ page → RisesBetween start source 0 (9 * old.at)
-    → RisesBetween source text 0 (2 * (new.at - old.at) + 3) → old.at ≤ new.at → new.state ≡ old.state
-    → ((before behind : List Item) → IsPassing sign source.octets before behind old → IsTextPassed sign source.octets before behind new)
-    → IsOnTheWay sign start.octets page new × (new.state.pages ≤ page) × (text.octets ≡ start.octets) × RisesBetween start text 0 (9 * new.at + 3)
-text_way sign page start source text old new w few earlier reads on same passes =
-    let octets : source.octets ≡ start.octets = ap (λ (s : Counted). s.octets) earlier.3 in
-    let t = subst (λ o. IsTextPassed sign o w.before w.behind new) octets (passes w.before w.behind (subst (λ o. IsPassing sign o w.before w.behind old) (sym octets) w.between)) in
-    let still : new.state.pages ≤ page = omega (arith, few, ap (λ (s : State). s.pages) same) in (
-      record { before = w.before ++ t.text; behind = t.rest; between = t.between; begins = λ more. absurd (omega (arith, still, more)) },
-      still,
-      ap (λ (s : Counted). s.octets) reads.3 ∙ octets,
-      rises_more start text 0 _ _ (omega (arith, on)) (rises_then start source text 0 (9 * old.at) 0 (2 * (new.at - old.at) + 3) earlier reads),
-    )
-
--- ---- one step of the way: an item is read, and the cursor passes it
-
-module _ (sign : SignData) (page : ℕ) (start source read passed : Counted) (old new : Cursor) (next : NextItem) (steps : RisesBetween start source 0 (9 * old.at + 3)) (reads : RisesBetween source read 0 (9 * next.len - 8)) (at : new.at ≡ old.at + next.len) where
-  source_same : source.octets ≡ start.octets
-  source_same = ap (λ (s : Counted). s.octets) steps.3
-
-  read_same : read.octets ≡ start.octets
-  read_same = ap (λ (s : Counted). s.octets) reads.3 ∙ source_same
-
-  pub steps_further : 1 ≤ next.len → RisesBetween read passed 0 1 → RisesBetween start passed 0 (9 * new.at)
-  steps_further some judges =
-      let both = rises_then source read passed 0 (9 * next.len - 8) 0 1 reads judges in
-      let all = rises_then start source passed 0 (9 * old.at + 3) 0 (9 * next.len - 8 + 1) steps both in
-      rises_more start passed 0 _ _ (omega (arith, at, some)) all
-
-  module _ (w : IsOnTheWay sign start.octets page old) (first : IsFirst w.behind (Some next)) where
-    stands : IsPassing sign start.octets w.before (first.0 ∷ first.1) old
-    stands = subst (λ (l : List Item). IsPassing sign start.octets w.before l old) first.2 w.between
-
-    pub some_read : 1 ≤ next.len
-    some_read = omega (arith, first.3.len, spelling_some first.0)
-
-    pub within_further : new.at ≤ length start.octets
-    within_further = omega (arith, at, first.3.len, room sign start.octets w.before first.1 first.0 old.at stands.placed)
-
-    pub way_further : old.state.pages ≤ page
-        → ((before rest : List Item) (item : Item) → IsPassing sign read.octets before (item ∷ rest) old → IsItemRead item next → IsPassing sign read.octets (before ++ item ∷ []) rest new)
-        → IsOnTheWay sign start.octets page new
-    way_further few passes =
-        let b' = passes w.before first.1 first.0 (rw read_same stands) first.3 in
-        one_further sign start.octets page old new few w.before first.1 first.0 stands (rw read_same at b')
+-- where a page that is shown begins
+pub starts_shown : (sign : SignData) (octets : List ℕ) (start : Cursor) (shown : Shown) → IsPageStart sign octets start → ((page phase : ℕ) → shown ≡ Page page phase → start.state.pages ≡ page + 1) → IsStartOf sign octets shown start
+starts_shown sign octets start (Page page phase) begins pages = (begins, pages page phase refl)
+starts_shown sign octets start Off begins pages = tt
 
 -- ---- bounds
 

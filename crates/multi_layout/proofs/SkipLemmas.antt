@@ -4,7 +4,6 @@ use Rattle.std.specs.Prelude.{nat_lt}
 use Rattle.std.specs.List.{cons_option, count_by}
 use Rattle.std.proofs.lemmas.List.{length-append, map-append}
 use Rattle.std.proofs.lemmas.List.Elements.{filter-append}
-use Rattle.std.proofs.lemmas.List.Sums.{sum_by_push}
 use Rattle.multi_token.specs.Spelling.{Item}
 use Rattle.multi_tag.specs.declared.tag.Tag.{Tag}
 use Rattle.multi_tag.specs.declared.tag.Tag.TheVariants.{NewPage, NewLine, Font}
@@ -23,11 +22,11 @@ use Rattle.multi_layout.specs.Times.{cycle, ended_times, times_at}
 use Rattle.multi_layout.specs.Verdict.{pages_of}
 use Rattle.multi_layout.specs.kept.Cursors.{IsPassing, IsItemRead, unplaced}
 use Rattle.multi_layout.proofs.BoundLemmas.{below_more}
-use Rattle.multi_layout.proofs.JudgedLemmas.{ready}
+use Rattle.multi_layout.proofs.JudgedLemmas.{ended_times-push, pages_of-push, ready}
 use Rattle.multi_layout.proofs.StandingLemmas.{standing_push}
 use Rattle.multi_layout.proofs.StateLemmas.{present_area-new}
 use Rattle.multi_layout.proofs.WalkLemmas.{few_placed, length-meanings, none_offends, placed_more}
-use Rattle.multi_layout.proofs.WordLemmas.{push_ind, some_after_push}
+use Rattle.multi_layout.proofs.WordLemmas.{push_ind}
 
 -- where the present area is empty, the state is that of all items with these pages, times and values in force
 pub state_moved : (sign : SignData) (one other : List Meaning) (state : State) → standing sign one ≡ standing sign other → ended_times sign one ≡ ended_times sign other → pages_of one ≡ pages_of other
@@ -74,25 +73,19 @@ module _ (sign : SignData) where
   abbrev Same : List Meaning → Type 0
   Same ms = (standing sign (unplaced ms) ≡ standing sign ms) × (ended_times sign (unplaced ms) ≡ ended_times sign ms) × (pages_of (unplaced ms) ≡ pages_of ms)
 
-  times_push : (ms : List Meaning) (x : Meaning) → ended_times sign (ms ++ x ∷ []) ≡ ended_times sign ms ++ cons_option (cond (is_new_page x) (Some (times_at (standing sign ms))) None) []
-  times_push ms x = some_after_push (λ before item. cond (is_new_page item) (Some (times_at (standing sign before))) None) ms x
-
-  pages_push : (ms : List Meaning) (x : Meaning) → pages_of (ms ++ x ∷ []) ≡ pages_of ms + cond (is_new_page x) 1 0
-  pages_push ms x = omega (arith, sum_by_push (λ y. cond (is_new_page y) 1 0) ms x)
-
   same_if : (ms : List Meaning) (x : Meaning) (b : Bool) → has_place x ≡ b → Same ms → Same (ms ++ x ∷ [])
   same_if ms x true e (here, times, pages) =
       let (stays, no_page) = placed_behind sign (standing sign ms) x e in
       let is = unplaced_stays ms x e in (
         ap (standing sign) is ∙ here ∙ sym (standing_push sign ms x ∙ stays),
-        ap (ended_times sign) is ∙ times ∙ sym (times_push ms x ∙ ap (λ b. ended_times sign ms ++ cons_option (cond b (Some (times_at (standing sign ms))) None) []) no_page ∙ append-nil (ended_times sign ms)),
-        omega (arith, ap pages_of is, pages, pages_push ms x, ap {B = ℕ} (λ b. cond b 1 0) no_page),
+        ap (ended_times sign) is ∙ times ∙ sym (ended_times-push sign ms x ∙ ap (λ b. ended_times sign ms ++ cons_option (cond b (Some (times_at (standing sign ms))) None) []) no_page ∙ append-nil (ended_times sign ms)),
+        omega (arith, ap pages_of is, pages, pages_of-push ms x, ap {B = ℕ} (λ b. cond b 1 0) no_page),
       )
   same_if ms x false e (here, times, pages) =
       let is = unplaced_grows ms x e in (
         ap (standing sign) is ∙ standing_push sign (unplaced ms) x ∙ ap (λ s. standing_behind sign s x) here ∙ sym (standing_push sign ms x),
-        ap (ended_times sign) is ∙ times_push (unplaced ms) x ∙ (λ i. times i ++ cons_option (cond (is_new_page x) (Some (times_at (here i))) None) []) ∙ sym (times_push ms x),
-        omega (arith, ap pages_of is, pages_push (unplaced ms) x, pages, pages_push ms x),
+        ap (ended_times sign) is ∙ ended_times-push sign (unplaced ms) x ∙ (λ i. times i ++ cons_option (cond (is_new_page x) (Some (times_at (here i))) None) []) ∙ sym (ended_times-push sign ms x),
+        omega (arith, ap pages_of is, pages_of-push (unplaced ms) x, pages, pages_of-push ms x),
       )
 
   pub same_unplaced : (ms : List Meaning) → Same ms

@@ -1,6 +1,6 @@
 //! The way through an accepted string, from item to item.
 
-ghost use Rattle.std.specs.Prelude.{◌≡◌, false, None, ℕ, ◌+◌, ◌-◌, ◌*◌, ◌<◌, ◌≤◌, ◌⊎◌, ◌^◌, [], ◌∷◌, ◌++◌, List, Some, IfSome, IfNone, length, slice_get};
+ghost use Rattle.std.specs.Prelude.{◌≡◌, false, None, ℕ, ◌+◌, ◌-◌, ◌*◌, ◌<◌, ◌≤◌, ◌==◌, if◌then◌else◌, ◌⊎◌, ◌^◌, [], ◌∷◌, ◌++◌, List, Some, IfSome, IfNone, length, slice_get};
 ghost use Rattle.multi_token.specs.Counted.{RisesBetween};
 ghost use Rattle.multi_token.specs.Spelling as spelled;
 ghost use Rattle.sign_font.specs.Sign.{SignData};
@@ -10,7 +10,7 @@ ghost use Rattle.multi_layout.specs.kept.KnownItem.{IsKnownItem, meant_by};
 ghost use Rattle.multi_layout.specs.Meaning.{Meaning, has_place};
 ghost use Rattle.multi_layout.specs.Offence.{unsized_offence};
 ghost use Rattle.multi_layout.specs.kept.State.{IsReady, IsStateOf};
-ghost use Rattle.multi_layout.specs.kept.Cursors.{GoesBehind, IsAccepted, IsBefore, IsBetween, IsFirst, IsOrderly, IsPassing, IsPassingBefore, IsPlaced, IsTextPassed, IsWithin, laid_meanings, PassesOn, pieces_of};
+ghost use Rattle.multi_layout.specs.kept.Cursors.{GoesBehind, IsAccepted, IsBefore, IsBetween, IsFirst, IsOrderly, IsPageSkipped, IsPassing, IsPassingBefore, IsPlaced, IsTextPassed, IsWithin, laid_meanings, PassesOn, pieces_of};
 
 use crate::bracket::read_spelled;
 use crate::item::{KnownItem, NextItem};
@@ -54,51 +54,32 @@ impl Cursor {
         ensures end_steps { IfNone result (RisesBetween source.old source.new 0 1) }
     {
         let first = source.read(self.at)?;
-        Some(self.item_from(source, first))
+        Some(item_from(source, self.at, first))
     }
 
-    /// Reads the rest of the next item, which begins with this octet that was read.
-    #[inline(always)]
-    pub(crate) fn item_from(&self, source: &mut Source<'_>, first: u8) -> NextItem
-        requires within { (sign : SignData) × IsWithin sign source.old.octets self.now.at }
-        requires stands { slice_get source.old.octets self.now.at ≡ Some first }
-        requires room { length source.old.octets < 2 ^ 63 }
-        ensures first { (sign : SignData) (before behind : List spelled.Item)
-            → IsPlaced sign source.old.octets before behind self.now.at → IsFirst behind (Some result) }
-        ensures some { 1 ≤ result.len }
-        ensures steps { RisesBetween source.old source.new 0 (9 * result.len - 9) }
+    /// Goes behind the page that begins here, and lays nothing out: behind the `np` that ends it, or to the end of the string.
+    pub(crate) fn pass_page(&mut self, sign: &Terms<'_>, source: &mut Source<'_>)
+        requires { (before behind : List spelled.Item) × IsPassing sign.now source.old.octets before behind self.old }
+        ensures passed { (before behind : List spelled.Item) → IsPassing sign.now source.old.octets before behind self.old
+            → IsPageSkipped sign.now source.old.octets before behind self.old self.new }
+        ensures on { self.old.at ≤ self.new.at }
+        ensures steps { RisesBetween source.old source.new 0
+            (9 * (self.new.at - self.old.at) + (if self.new.state.pages == self.old.state.pages then 1 else 0)) }
     {
-        if first != b'[' && first != b']' {
-            return NextItem {
-                item: KnownItem::Char(u16::from(first)),
-                len: 1,
+        loop {
+            let Some(next) = self.next_item(source) else {
+                return;
             };
-        }
-        self.next_spelled(source, first)
-    }
-
-    /// Reads the next item, which begins with this bracket that was read. It isn't put into its callers' code, since octets that stand
-    /// for themselves are many more.
-    #[inline(never)]
-    fn next_spelled(&self, source: &mut Source<'_>, bracket: u8) -> NextItem
-        requires within { (sign : SignData) × IsWithin sign source.old.octets self.now.at }
-        requires bracket { (bracket ≡ 91) ⊎ (bracket ≡ 93) }
-        requires stands { slice_get source.old.octets self.now.at ≡ Some bracket }
-        requires room { length source.old.octets < 2 ^ 63 }
-        ensures first { (sign : SignData) (before behind : List spelled.Item)
-            → IsPlaced sign source.old.octets before behind self.now.at → IsFirst behind (Some result) }
-        ensures some { 1 ≤ result.len }
-        ensures steps { RisesBetween source.old source.new 0 (9 * result.len - 9) }
-    {
-        match read_spelled(source, self.at, bracket) {
-            Ok(next) => next,
-            // An accepted string has neither a broken bracket nor a tag with an error.
-            Err(_) => unreachable!(),
+            self.skip(sign, source, next);
+            if next.item.ends_page() {
+                return;
+            }
+            self.skip_text(sign, source);
         }
     }
 
     /// Goes behind the next item, of which this was read, and lays nothing out.
-    pub(crate) fn skip(&mut self, sign: &Terms<'_>, source: &mut Source<'_>, next: NextItem)
+    fn skip(&mut self, sign: &Terms<'_>, source: &mut Source<'_>, next: NextItem)
         requires { IsPassingBefore sign.now source.old.octets next self.old }
         ensures passed { PassesOn sign.now source.old.octets next self.old self.new }
         ensures at { self.new.at ≡ self.old.at + next.len }
@@ -113,7 +94,7 @@ impl Cursor {
     }
 
     /// Goes behind octets from here on that stand for themselves, as many as one reading takes, and lays nothing out.
-    pub(crate) fn skip_text(&mut self, sign: &Terms<'_>, source: &mut Source<'_>)
+    fn skip_text(&mut self, sign: &Terms<'_>, source: &mut Source<'_>)
         requires { (before behind : List spelled.Item) × IsPassing sign.now source.old.octets before behind self.old }
         ensures passed { (before behind : List spelled.Item) → IsPassing sign.now source.old.octets before behind self.old
             → IsTextPassed sign.now source.old.octets before behind self.new }
@@ -193,5 +174,45 @@ impl Cursor {
     {
         self.state.pass_character(width);
         self.at += len;
+    }
+}
+
+/// Reads the rest of the next item, which begins with this octet that was read.
+#[inline(always)]
+pub(crate) fn item_from(source: &mut Source<'_>, at: usize, first: u8) -> NextItem
+    requires within { (sign : SignData) × IsWithin sign source.old.octets at }
+    requires stands { slice_get source.old.octets at ≡ Some first }
+    requires room { length source.old.octets < 2 ^ 63 }
+    ensures first { (sign : SignData) (before behind : List spelled.Item)
+        → IsPlaced sign source.old.octets before behind at → IsFirst behind (Some result) }
+    ensures some { 1 ≤ result.len }
+    ensures steps { RisesBetween source.old source.new 0 (9 * result.len - 9) }
+{
+    if first != b'[' && first != b']' {
+        return NextItem {
+            item: KnownItem::Char(u16::from(first)),
+            len: 1,
+        };
+    }
+    next_spelled(source, at, first)
+}
+
+/// Reads the next item, which begins with this bracket that was read. It isn't put into its callers' code, since octets that stand
+/// for themselves are many more.
+#[inline(never)]
+fn next_spelled(source: &mut Source<'_>, at: usize, bracket: u8) -> NextItem
+    requires within { (sign : SignData) × IsWithin sign source.old.octets at }
+    requires bracket { (bracket ≡ 91) ⊎ (bracket ≡ 93) }
+    requires stands { slice_get source.old.octets at ≡ Some bracket }
+    requires room { length source.old.octets < 2 ^ 63 }
+    ensures first { (sign : SignData) (before behind : List spelled.Item)
+        → IsPlaced sign source.old.octets before behind at → IsFirst behind (Some result) }
+    ensures some { 1 ≤ result.len }
+    ensures steps { RisesBetween source.old source.new 0 (9 * result.len - 9) }
+{
+    match read_spelled(source, at, bracket) {
+        Ok(next) => next,
+        // An accepted string has neither a broken bracket nor a tag with an error.
+        Err(_) => unreachable!(),
     }
 }

@@ -17,7 +17,7 @@ ghost use Rattle.multi_layout.specs.kept.Table.{IsOrdered};
 ghost use Rattle.multi_layout.specs.kept.Cursors.{GoesBehind, IsBetween, IsItemRead, IsRead, meant, LaidItem, spell_of};
 
 use crate::attributes::Attributes;
-use crate::cursor::Cursor;
+use crate::cursor::{Cursor, item_from};
 use crate::draw_run::draw_run;
 use crate::item::{KnownItem, NextItem};
 use crate::paint::{Layer, put_character};
@@ -30,38 +30,37 @@ use multi_token::Source;
 use page_plane::Plane;
 use sign_font::LineFill;
 
-/// Draws the page that begins at a cursor, and gives the cursor behind it.
+/// Draws the page that begins at a cursor, with room for the lines of its areas, and goes behind it.
 pub(crate) fn draw_page(
     sign: &Terms<'_>,
     source: &mut Source<'_>,
-    cursor: Cursor,
+    cursor: &mut Cursor,
     layer: Layer,
+    read: &mut AreaLines,
     plane: &mut Plane,
-) -> Cursor
-    requires begins { IsPageStart sign.now source.old.octets cursor }
+)
+    requires begins { IsPageStart sign.now source.old.octets cursor.old }
     requires size { IsSized plane.old sign.now }
-    ensures drawn { (before behind : List LaidItem) → IsBetween sign.now source.old.octets before behind cursor
+    ensures drawn { (before behind : List LaidItem) → IsBetween sign.now source.old.octets before behind cursor.old
         → Lights plane.new
-        (λ column row. in_plane sign.now (map meant (before ++ behind)) (cursor.state.pages - 1) layer.phase layer.colour column row) }
-    ensures passed { (before behind : List LaidItem) → IsBetween sign.now source.old.octets before behind cursor
-        → IsPagePassed sign.now source.old.octets before behind cursor result }
+        (λ column row. in_plane sign.now (map meant (before ++ behind)) (cursor.old.state.pages - 1) layer.phase layer.colour column row) }
+    ensures passed { (before behind : List LaidItem) → IsBetween sign.now source.old.octets before behind cursor.old
+        → IsPagePassed sign.now source.old.octets before behind cursor.old cursor.new }
     ensures size { (plane.new.width ≡ plane.old.width) × (plane.new.height ≡ plane.old.height) }
     ensures kept { source.new.octets ≡ source.old.octets }
-    ensures steps { IsReadTwice source.old source.new cursor result }
-    ensures fills { IsFilledFew sign.now plane.old plane.new cursor result }
+    ensures steps { IsReadTwice source.old source.new cursor.old cursor.new }
+    ensures fills { IsFilledFew sign.now plane.old plane.new cursor.old cursor.new }
 {
     plane.fill(layer.has(sign, cursor.state.attributes.back));
-    let mut cursor = cursor;
-    let mut read = AreaLines::new();
     loop {
-        read_area(sign, source, cursor, &mut read);
-        draw_area(sign, source, &mut cursor, &read, layer, plane);
+        read_area(sign, source, cursor, read);
+        draw_area(sign, source, cursor, read, layer, plane);
         let Some(next) = cursor.next_item(source) else {
-            return cursor;
+            return;
         };
         cursor.pass(sign, source, next);
         if next.item.ends_page() {
-            return cursor;
+            return;
         }
     }
 }
@@ -95,7 +94,7 @@ fn draw_area(
             // The area goes on.
             unreachable!();
         };
-        let next = cursor.item_from(source, octet);
+        let next = item_from(source, cursor.at, octet);
         let next = lay(sign, cursor, &read.lines, next);
         first = draw_next(sign, source, cursor, next, read, layer, plane);
     }

@@ -37,5 +37,6 @@ pub use checked::Checked;
 pub use fault::{Fault, SyntaxError};
 pub use laws::{broken_bracket_stands, keeps_breaks, one_verdict, refusal_stands, smaller_fits};
 pub use pages::{PageView, Pages};
+pub use read::AreaLines;
 pub use times::Shown;
 pub use verdict::{Judge, Offence, check, check_with};

@@ -6,11 +6,12 @@ ghost use Rattle.multi_token.specs.Counted.{RisesBetween};
 ghost use Rattle.multi_token.specs.Reading.{reading};
 ghost use Rattle.multi_layout.specs.LaidItems.{laid_out};
 ghost use Rattle.multi_layout.specs.Drawn.{Lights};
-ghost use Rattle.multi_layout.specs.Limits.{drawing_limit, plane_limit, reading_limit};
+ghost use Rattle.multi_layout.specs.Limits.{check_limit, drawing_limit, plane_limit, reading_limit};
 ghost use Rattle.multi_layout.specs.Meaning.{meanings};
 ghost use Rattle.multi_layout.specs.Pages.{IsSized, IsTurned, page_count};
 ghost use Rattle.multi_layout.specs.kept.PageDrawing.{IsFilledFew, IsPageStart, IsReadTwice};
-ghost use Rattle.multi_layout.specs.Picture.{picture};
+ghost use Rattle.multi_layout.specs.Picture.{picture, pixel_at};
+ghost use Rattle.multi_layout.specs.Times.{shown};
 ghost use Rattle.multi_layout.specs.Verdict.{pages_of};
 ghost use Rattle.multi_layout.specs.kept.Cursors.{IsAccepted, IsOrderly};
 
@@ -18,7 +19,9 @@ use crate::checked::Checked;
 use crate::cursor::Cursor;
 use crate::draw::draw_page;
 use crate::paint::Layer;
+use crate::read::AreaLines;
 use crate::terms::Terms;
+use crate::times::Shown;
 use multi_token::Source;
 use page_plane::Plane;
 use std::marker::Model;
@@ -37,6 +40,7 @@ pub struct PageView<'a> {
 pub struct Pages<'a> {
     string: Checked<'a>,
     plane: Plane,
+    lines: AreaLines,
     layer: Layer,
     /// Where the next page begins, or the end of the string.
     cursor: Cursor,
@@ -98,24 +102,66 @@ impl<'a> Checked<'a> {
         if page >= self.pages {
             return false;
         }
-        let cursor = page_start(&self.terms, &mut self.source, page);
-        self.draw_from(cursor, Layer { phase, colour }, plane);
+        let mut cursor = page_start(&self.terms, &mut self.source, page);
+        self.draw_from(
+            &mut cursor,
+            Layer { phase, colour },
+            &mut AreaLines::new(),
+            plane,
+        );
         true
     }
 
-    /// Draws the page that begins at a cursor, and gives the cursor behind it.
-    fn draw_from(&mut self, cursor: Cursor, layer: Layer, plane: &mut Plane) -> Cursor
-        requires begins { IsPageStart self.old.sign self.old.source.octets cursor }
+    /// Draws what the string shows at a clock, and tells it as [`Checked::locate`] does: the plane gets the pixels that have the colour then. In
+    /// an off time all have colour 0. The room for the lines of an area is lent. The plane must have the sign's size.
+    ///
+    /// This takes at most the steps of [`Checked::locate`] and [`Checked::draw`] together.
+    pub fn draw_shown(
+        &mut self,
+        clock: u64,
+        colour: u8,
+        lines: &mut AreaLines,
+        plane: &mut Plane,
+    ) -> Shown
         requires size { IsSized plane.old self.old.sign }
-        ensures drawn { Lights plane.new
-            (picture self.old.sign self.old.source.octets (cursor.state.pages - 1) layer.phase layer.colour) }
-        ensures turned { IsTurned self.old.sign self.old.source.octets cursor result }
+        ensures shown { result ≡ shown self.old.sign self.old.source.octets clock }
+        ensures drawn { Lights plane.new (pixel_at self.old.sign (meanings self.old.source.octets) result colour) }
         ensures kept { self.new.sign ≡ self.old.sign }
         ensures size { (plane.new.width ≡ plane.old.width) × (plane.new.height ≡ plane.old.height) }
-        ensures steps { IsReadTwice self.old.source self.new.source cursor result }
-        ensures fills { IsFilledFew self.old.sign plane.old plane.new cursor result }
+        ensures steps { RisesBetween self.old.source self.new.source 0
+            (check_limit (length self.old.source.octets) + reading_limit (length self.old.source.octets)) }
+        ensures plane_steps { (plane.old.steps ≤ plane.new.steps)
+            × (plane.new.steps ≤ plane.old.steps + plane_limit self.old.sign (length self.old.source.octets)) }
     {
-        draw_page(&self.terms, &mut self.source, cursor, layer, plane)
+        let (shown, mut start) = self.find(clock);
+        match shown {
+            Shown::Page { phase, .. } => {
+                self.draw_from(&mut start, Layer { phase, colour }, lines, plane);
+            }
+            Shown::Off => plane.fill(colour == 0),
+        }
+        shown
+    }
+
+    /// Draws the page that begins at a cursor, and goes behind it.
+    fn draw_from(
+        &mut self,
+        cursor: &mut Cursor,
+        layer: Layer,
+        lines: &mut AreaLines,
+        plane: &mut Plane,
+    )
+        requires begins { IsPageStart self.old.sign self.old.source.octets cursor.old }
+        requires size { IsSized plane.old self.old.sign }
+        ensures drawn { Lights plane.new
+            (picture self.old.sign self.old.source.octets (cursor.old.state.pages - 1) layer.phase layer.colour) }
+        ensures turned { IsTurned self.old.sign self.old.source.octets cursor.old cursor.new }
+        ensures kept { self.new.sign ≡ self.old.sign }
+        ensures size { (plane.new.width ≡ plane.old.width) × (plane.new.height ≡ plane.old.height) }
+        ensures steps { IsReadTwice self.old.source self.new.source cursor.old cursor.new }
+        ensures fills { IsFilledFew self.old.sign plane.old plane.new cursor.old cursor.new }
+    {
+        draw_page(&self.terms, &mut self.source, cursor, layer, lines, plane);
     }
 
     /// Takes the plane, to draw one page after another into it from page 0 on, each at this phase and in this colour as
@@ -135,6 +181,7 @@ impl<'a> Checked<'a> {
         Pages {
             cursor: Cursor::new(&self.terms),
             layer: Layer { phase, colour },
+            lines: AreaLines::new(),
             next: 0,
             string_started: self.source.steps(),
             plane_started: plane.steps(),
@@ -155,12 +202,7 @@ fn page_start(sign: &Terms<'_>, source: &mut Source<'_>, page: u8) -> Cursor
 {
     let mut cursor = Cursor::new(sign);
     while cursor.state.pages <= page {
-        cursor.skip_text(sign, source);
-        // The string has more pages than these.
-        let Some(next) = cursor.next_item(source) else {
-            unreachable!();
-        };
-        cursor.skip(sign, source, next);
+        cursor.pass_page(sign, source);
     }
     cursor
 }
@@ -182,9 +224,12 @@ impl<'a> Pages<'a> {
         if page >= self.string.pages() {
             return None;
         }
-        self.cursor = self
-            .string
-            .draw_from(self.cursor, self.layer, &mut self.plane);
+        self.string.draw_from(
+            &mut self.cursor,
+            self.layer,
+            &mut self.lines,
+            &mut self.plane,
+        );
         self.next = page + 1;
         Some(PageView {
             page,

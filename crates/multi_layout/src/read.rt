@@ -21,7 +21,7 @@ ghost use Rattle.multi_layout.specs.kept.Table.{IsNarrowArea, IsOrdered, group_l
 ghost use Rattle.multi_layout.specs.kept.Cursors.{IsBetween, IsFirst, IsPlaced, IsWithin, meant, LaidItem};
 
 use crate::area::Area;
-use crate::cursor::Cursor;
+use crate::cursor::{Cursor, item_from};
 use crate::item::{KnownItem, NextItem};
 use crate::pass::Pass;
 use crate::run::go_along;
@@ -32,16 +32,17 @@ use multi_tag::Tag;
 use multi_token::Source;
 use sign_font::LineFill;
 
-/// What drawing an area needs: the table of its counted lines, and the offset behind its last item.
+/// Room for what drawing an area needs: the table of its counted lines, and the offset behind its last item. It's lent to one drawing after
+/// the other, since it is large. What it holds from one of them tells the next nothing.
 #[derive(Drop)]
-pub(crate) struct AreaLines {
+pub struct AreaLines {
     pub(crate) lines: LineTable,
     pub(crate) end: usize,
 }
 
 impl AreaLines {
-    /// What is read of no area yet.
-    pub(crate) fn new() -> AreaLines {
+    /// Room that served no drawing yet.
+    pub fn new() -> AreaLines {
         AreaLines {
             lines: LineTable::new(),
             end: 0,
@@ -53,15 +54,15 @@ impl AreaLines {
 pub(crate) fn read_area(
     sign: &Terms<'_>,
     source: &mut Source<'_>,
-    cursor: Cursor,
+    cursor: &Cursor,
     read: &mut AreaLines,
 )
     requires sound { IsSound sign.now }
-    requires begins { (before behind : List LaidItem) × IsBetween sign.now source.old.octets before behind cursor
+    requires begins { (before behind : List LaidItem) × IsBetween sign.now source.old.octets before behind cursor.now
         × (present_area sign.now (map meant before) ≡ []) }
-    ensures read { (before behind : List LaidItem) → IsBetween sign.now source.old.octets before behind cursor
+    ensures read { (before behind : List LaidItem) → IsBetween sign.now source.old.octets before behind cursor.now
         → present_area sign.now (map meant before) ≡ []
-        → IsAreaRead sign.now before behind cursor read.new source.old source.new }
+        → IsAreaRead sign.now before behind cursor.now read.new source.old source.new }
 {
     read.lines.clear();
     match sign.line_fill() {
@@ -74,46 +75,46 @@ pub(crate) fn read_area(
 fn read_lines<const WORDS: bool>(
     sign: &Terms<'_>,
     source: &mut Source<'_>,
-    cursor: Cursor,
+    cursor: &Cursor,
     read: &mut AreaLines,
 )
     requires sound { IsSound sign.now }
     requires kind { sign.now.line_fill ≡ fill_of WORDS }
     requires none { (just : ℕ) → group_lines just read.old.lines ≡ [] }
     requires ordered { IsOrdered read.old.lines }
-    requires begins { (before behind : List LaidItem) × IsBetween sign.now source.old.octets before behind cursor
+    requires begins { (before behind : List LaidItem) × IsBetween sign.now source.old.octets before behind cursor.now
         × (present_area sign.now (map meant before) ≡ []) }
-    ensures read { (before behind : List LaidItem) → IsBetween sign.now source.old.octets before behind cursor
+    ensures read { (before behind : List LaidItem) → IsBetween sign.now source.old.octets before behind cursor.now
         → present_area sign.now (map meant before) ≡ []
-        → IsAreaRead sign.now before behind cursor read.new source.old source.new }
+        → IsAreaRead sign.now before behind cursor.now read.new source.old source.new }
 {
-    let mut cursor = cursor;
+    let mut at = cursor.at;
     let mut kept = Pass::new(cursor.state);
-    let mut first = source.read(cursor.at);
-    while let Some(next) = next_plain(&cursor, source, first) {
+    let mut first = source.read(at);
+    while let Some(next) = next_plain(at, source, first) {
         pass_item::<WORDS>(sign, source, &mut kept, next.item, &mut read.lines);
-        let behind = cursor.at + next.len;
-        (cursor.at, first) = go_on::<WORDS>(sign, source, &mut kept, behind, next.item.is_octet());
+        let behind = at + next.len;
+        (at, first) = go_on::<WORDS>(sign, source, &mut kept, behind, next.item.is_octet());
     }
     end_group(&mut read.lines, &kept.state.area);
-    read.end = cursor.at;
+    read.end = at;
 }
 
 /// The next item, which begins with this octet that was read, or `None` where the area ends.
-fn next_plain(cursor: &Cursor, source: &mut Source<'_>, first: Option<u8>) -> Option<NextItem>
-    requires within { (sign : SignData) × IsWithin sign source.old.octets cursor.now.at }
-    requires stands { first ≡ slice_get source.old.octets cursor.now.at }
+fn next_plain(at: usize, source: &mut Source<'_>, first: Option<u8>) -> Option<NextItem>
+    requires within { (sign : SignData) × IsWithin sign source.old.octets at }
+    requires stands { first ≡ slice_get source.old.octets at }
     requires room { length source.old.octets < 2 ^ 63 }
     ensures first { IfSome result (λ next. (sign : SignData) (before behind : List spelled.Item)
-        → IsPlaced sign source.old.octets before behind cursor.now.at → IsFirst behind (Some next)) }
+        → IsPlaced sign source.old.octets before behind at → IsFirst behind (Some next)) }
     ensures plain { IfSome result (λ next. begins_area (meant_by next.item) ≡ false) }
     ensures some { IfSome result (λ next. 1 ≤ next.len) }
     ensures steps { IfSome result (λ next. RisesBetween source.old source.new 0 (9 * next.len - 9)) }
     ensures ends { IfNone result ((sign : SignData) (before behind : List spelled.Item)
-        → IsPlaced sign source.old.octets before behind cursor.now.at
+        → IsPlaced sign source.old.octets before behind at
         → EndsArea (map meaning behind) × RisesBetween source.old source.new 0 (first_steps behind - 1)) }
 {
-    let next = cursor.item_from(source, first?);
+    let next = item_from(source, at, first?);
     if next.item.begins_area() {
         return None;
     }

@@ -6,8 +6,11 @@ ghost use Rattle.multi_token.specs.Reading.{reading};
 ghost use Rattle.multi_layout.specs.Limits.{check_limit};
 ghost use Rattle.multi_layout.specs.Meaning.{meanings};
 ghost use Rattle.multi_layout.specs.Times.{cycle, page_times, shown, shown_within};
-ghost use Rattle.multi_layout.specs.kept.Cursors.{IsAccepted};
+ghost use Rattle.multi_layout.specs.kept.Cursors.{IsAccepted, IsOrderly};
+ghost use Rattle.multi_layout.specs.kept.PageDrawing.{IsStartOf};
+ghost use Rattle.multi_layout.specs.LaidItems.{laid_out};
 
+use crate::attributes::Attributes;
 use crate::checked::Checked;
 use crate::cursor::Cursor;
 use crate::state::State;
@@ -34,57 +37,62 @@ impl<'a> Checked<'a> {
         ensures kept { self.new.sign ≡ self.old.sign }
         ensures steps { RisesBetween self.old.source self.new.source 0 (check_limit (length self.old.source.octets)) }
     {
+        self.find(clock).0
+    }
+
+    /// What the string shows at a clock, and where a page that it shows begins.
+    pub(crate) fn find(&mut self, clock: u64) -> (Shown, Cursor)
+        ensures shown { result.0 ≡ shown self.old.sign self.old.source.octets clock }
+        ensures begins { IsStartOf self.old.sign self.old.source.octets result.0 result.1 }
+        ensures kept { self.new.sign ≡ self.old.sign }
+        ensures steps { RisesBetween self.old.source self.new.source 0 (check_limit (length self.old.source.octets)) }
+    {
         if self.pages == 1 || self.cycle == 0 {
-            return Shown::Page {
+            let shown = Shown::Page {
                 page: 0,
                 phase: clock,
             };
+            return (shown, Cursor::new(&self.terms));
         }
         find_page(&self.terms, &mut self.source, clock % u64::from(self.cycle))
     }
 }
 
-/// What an accepted string shows at a time of its cycle.
-fn find_page(sign: &Terms<'_>, source: &mut Source<'_>, time: u64) -> Shown
+/// What an accepted string shows at a time of its cycle, and where a page that it shows begins.
+fn find_page(sign: &Terms<'_>, source: &mut Source<'_>, time: u64) -> (Shown, Cursor)
     requires accepted { IsAccepted sign.now source.old.octets (reading source.old.octets).items }
+    requires orderly { IsOrderly sign.now (laid_out sign.now (meanings source.old.octets)) }
     requires within { time < cycle (page_times sign.now (meanings source.old.octets)) }
-    ensures shown { result ≡ shown_within (page_times sign.now (meanings source.old.octets)) time }
+    ensures shown { result.0 ≡ shown_within (page_times sign.now (meanings source.old.octets)) time }
+    ensures begins { IsStartOf sign.now source.old.octets result.0 result.1 }
     ensures steps { RisesBetween source.old source.new 0 (check_limit (length source.old.octets)) }
 {
-    let mut cursor = Cursor::new(sign);
-    while let Some(next) = cursor.next_item(source) {
-        if next.item.ends_page() {
-            if let Some(shown) = shown_in(&cursor.state, time) {
-                return shown;
-            }
+    let mut start = Cursor::new(sign);
+    loop {
+        let mut behind = start;
+        behind.pass_page(sign, source);
+        if let Some(shown) = shown_in(&start.state, &behind.state.attributes, time) {
+            return (shown, start);
         }
-        cursor.skip(sign, source, next);
-        cursor.skip_text(sign, source);
-    }
-    match shown_in(&cursor.state, time) {
-        Some(shown) => shown,
-        // A time of the cycle is within its last page at the latest.
-        None => unreachable!(),
+        start = behind;
     }
 }
 
-/// What the present page shows at a time from its start on, or `None` from its end on.
-fn shown_in(state: &State, time: u64) -> Option<Shown>
-    requires some { 1 ≤ state.now.pages }
-    requires began { state.now.cycle ≤ time }
-    ensures on { time < state.now.cycle + state.now.attributes.on
-        → result ≡ Some (Shown.Page (state.now.pages - 1) (time - state.now.cycle)) }
-    ensures off { state.now.cycle + state.now.attributes.on ≤ time
-        → time < state.now.cycle + state.now.attributes.on + state.now.attributes.off
+/// What a page shows at a time from its start on, or `None` from its end on. It begins at one state, and has the times in force at its end.
+fn shown_in(start: &State, times: &Attributes, time: u64) -> Option<Shown>
+    requires some { 1 ≤ start.now.pages }
+    requires began { start.now.cycle ≤ time }
+    ensures on { time < start.now.cycle + times.now.on → result ≡ Some (Shown.Page (start.now.pages - 1) (time - start.now.cycle)) }
+    ensures off { start.now.cycle + times.now.on ≤ time → time < start.now.cycle + times.now.on + times.now.off
         → result ≡ Some Shown.Off }
-    ensures ended { state.now.cycle + state.now.attributes.on + state.now.attributes.off ≤ time → result ≡ None }
+    ensures ended { start.now.cycle + times.now.on + times.now.off ≤ time → result ≡ None }
 {
-    let phase = time - u64::from(state.cycle);
-    let on = u64::from(state.attributes.on);
-    let off = u64::from(state.attributes.off);
+    let phase = time - u64::from(start.cycle);
+    let on = u64::from(times.on);
+    let off = u64::from(times.off);
     if phase < on {
         Some(Shown::Page {
-            page: state.pages - 1,
+            page: start.pages - 1,
             phase,
         })
     } else if phase < on + off {

@@ -1,5 +1,5 @@
 -- A place between two items of an accepted string.
-use Rattle.std.specs.Prelude.{◌≡◌, ℕ, ◌^◌, ◌<◌, not, List, [], ◌∷◌, ◌++◌, map, length, Option, Some, None}
+use Rattle.std.specs.Prelude.{◌≡◌, ◌⊎◌, ℕ, ◌+◌, ◌^◌, ◌<◌, not, List, [], ◌∷◌, ◌++◌, map, length, Option, Some, None}
 use Rattle.std.specs.List.{All, filter}
 use Rattle.multi_token.specs.Spelling.{Item, IsItem, spelling, spell}
 use Rattle.sign_font.specs.declared.parts.LineFill.TheVariants.{Off}
@@ -8,9 +8,10 @@ use Rattle.multi_layout.specs.LaidItems.{laid_item, laid_out}
 use Rattle.multi_layout.specs.declared.cursor.Cursor.{Cursor}
 use Rattle.multi_layout.specs.declared.item.NextItem.{NextItem}
 use Rattle.multi_layout.specs.kept.KnownItem.{meant_by, IsKnownItem}
-use Rattle.multi_layout.specs.Meaning.{Meaning, has_place, meaning}
+use Rattle.multi_layout.specs.Meaning.{BeginsPage, Meaning, has_place, meaning}
 use Rattle.multi_layout.specs.Offence.{offence, unsized_offence}
 use Rattle.multi_layout.specs.kept.State.{IsStateOf}
+use Rattle.multi_layout.specs.Times.{Times, ended_times, page_times}
 use Rattle.multi_layout.specs.Verdict.{offences}
 use Rattle.multi_layout.specs.Words.{each_after, some_after}
 
@@ -132,3 +133,18 @@ abbrev pub PassesOn : SignData → List ℕ → NextItem → Cursor → Cursor �
 PassesOn sign octets next old new =
     (before rest : List Item) (item : Item) → IsPassing sign octets before (item ∷ rest) old → IsItemRead item next
     → IsPassing sign octets (before ++ item ∷ []) rest new
+
+-- the page that begins at the old cursor is passed, and nothing was laid out: the new one stands behind the `np` that ends it, or at the
+-- end of the string. The page's times are those in force there (own)
+pub record IsPageSkipped (sign : SignData) (octets : List ℕ) (before behind : List Item) (old new : Cursor) : Type 0 where
+  pub page : List Item
+  pub rest : List Item
+  pub later : List Times
+  pub split : behind ≡ page ++ rest
+  pub between : IsPassing sign octets (before ++ page) rest new
+  pub times : page_times sign (map meaning (before ++ behind)) ≡
+      ended_times sign (map meaning before) ++ record { on = new.state.attributes.on; off = new.state.attributes.off } ∷ later
+  pub ends :
+      ((rest ≡ []) × (later ≡ []) × (new.state.pages ≡ old.state.pages))
+      ⊎ (BeginsPage (map meaning (before ++ page)) × (new.state.pages ≡ old.state.pages + 1) × (old.at < new.at)
+      × (new.state.cycle ≡ old.state.cycle + new.state.attributes.on + new.state.attributes.off))

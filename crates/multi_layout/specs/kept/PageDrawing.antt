@@ -1,9 +1,11 @@
 -- The drawing of pages, one after the other.
-use Rattle.std.specs.Prelude.{◌≡◌, ◌⊎◌, ℕ, ◌+◌, ◌-◌, ◌*◌, ◌≤◌, ◌==◌, List, [], ◌++◌, map, if◌then◌else◌}
+use Rattle.std.specs.Prelude.{⊤, ◌≡◌, ◌⊎◌, ℕ, ◌+◌, ◌-◌, ◌*◌, ◌≤◌, ◌==◌, List, [], ◌++◌, map, if◌then◌else◌}
 use Rattle.multi_token.specs.Counted.{Counted, RisesBetween}
 use Rattle.page_plane.specs.Plane.{BitPlane}
 use Rattle.sign_font.specs.Sign.{SignData, tallest}
 use Rattle.multi_layout.specs.declared.cursor.Cursor.{Cursor}
+use Rattle.multi_layout.specs.declared.times.Shown.{Shown}
+use Rattle.multi_layout.specs.declared.times.Shown.TheVariants.{Page, Off}
 use Rattle.multi_layout.specs.Limits.{plane_octets}
 use Rattle.multi_layout.specs.Meaning.{BeginsPage}
 use Rattle.multi_layout.specs.kept.Cursors.{IsBetween, meant, LaidItem}
@@ -12,6 +14,11 @@ use Rattle.multi_layout.specs.kept.Cursors.{IsBetween, meant, LaidItem}
 abbrev pub IsPageStart : SignData → List ℕ → Cursor → Type 0
 IsPageStart sign octets cursor =
     (before behind : List LaidItem) × IsBetween sign octets before behind cursor × BeginsPage (map meant before)
+
+-- where this is shown, the page that is shown begins at the cursor (own)
+abbrev pub IsStartOf : SignData → List ℕ → Shown → Cursor → Type 0
+IsStartOf sign octets (Page page phase) cursor = IsPageStart sign octets cursor × (cursor.state.pages ≡ page + 1)
+IsStartOf sign octets Off cursor = ⊤
 
 -- the page that begins at the old cursor is passed: the new one stands behind the `np` that ends it, or at the end of the string (own)
 pub record IsPagePassed (sign : SignData) (octets : List ℕ) (before behind : List LaidItem) (old new : Cursor) : Type 0 where

@@ -20,8 +20,8 @@ pub loop-next-init : goal.loop-next-init
 loop-next-init c = record {
   so_far = λ before behind b.
       let (before', behind', b', begins) = c.requires.begins in
-      let same = one_place c.args.sign.now c.args.source.now.octets before' behind' before behind c.args.cursor b' b in
-      page_begins c.args.sign.now c.args.source.now.octets before behind c.args.layer c.args.cursor c.fill.new.self c.has.result b (subst (λ l. BeginsPage (map meant l)) same begins) c.has.ensures.colour
+      let same = one_place c.args.sign.now c.args.source.now.octets before' behind' before behind c.args.cursor.now b' b in
+      page_begins c.args.sign.now c.args.source.now.octets before behind c.args.layer c.args.cursor.now c.fill.new.self c.has.result b (subst (λ l. BeginsPage (map meant l)) same begins) c.has.ensures.colour
       (λ x y across down. c.fill.ensures.pixels x y (omega (arith, c.fill.ensures.width, across)) (omega (arith, c.fill.ensures.height, down)));
   on = omega arith;
   steps = (0, omega arith, omega arith, sym (charged-zero c.args.source.now));
@@ -108,7 +108,7 @@ returns-in_default-clause-drawn c = λ before behind b.
     let r = round_in sign octets c.read_area.new.source.octets same1 before behind c.args.layer c.loop-next.cursor c.loop-next.plane s c.read_area.new.read c.loop-next.source c.read_area.new.source a c.draw_area.new.cursor c.draw_area.new.plane c.draw_area.ensures.passed c.draw_area.ensures.drawn in
     let same2 : c.draw_area.new.source.octets ≡ octets = ap (λ (x : Counted). x.octets) c.draw_area.ensures.steps.3 ∙ same1 in
     let none : r.so.left ≡ [] = no_piece r.so.left (c.in_default.ensures.first sign (items_of (before ++ r.so.done)) (items_of r.so.left) (stands_in same2 r.so.between).placed) in
-    page_shown sign octets before behind c.args.layer c.draw_area.new.cursor c.draw_area.new.plane r.so (subst (λ l. EndsPage (map meant l)) (sym none) (inl refl)) c.args.cursor.state.pages b.state_is.pages
+    page_shown sign octets before behind c.args.layer c.draw_area.new.cursor c.draw_area.new.plane r.so (subst (λ l. EndsPage (map meant l)) (sym none) (inl refl)) c.args.cursor.now.state.pages b.state_is.pages
 
 pub returns-in_default-clause-passed : goal.returns-in_default-clause-passed
 returns-in_default-clause-passed c = λ before behind b.
@@ -122,7 +122,7 @@ returns-in_default-clause-passed c = λ before behind b.
     let r = round_in sign octets c.read_area.new.source.octets same1 before behind c.args.layer c.loop-next.cursor c.loop-next.plane s c.read_area.new.read c.loop-next.source c.read_area.new.source a c.draw_area.new.cursor c.draw_area.new.plane c.draw_area.ensures.passed c.draw_area.ensures.drawn in
     let same2 : c.draw_area.new.source.octets ≡ octets = ap (λ (x : Counted). x.octets) c.draw_area.ensures.steps.3 ∙ same1 in
     let none : r.so.left ≡ [] = no_piece r.so.left (c.in_default.ensures.first sign (items_of (before ++ r.so.done)) (items_of r.so.left) (stands_in same2 r.so.between).placed) in
-    last_passed sign octets before behind c.args.layer c.draw_area.new.cursor c.draw_area.new.plane r.so c.args.cursor b.state_is.pages (omega (arith, i.on, r.on, r.at)) none
+    last_passed sign octets before behind c.args.layer c.draw_area.new.cursor c.draw_area.new.plane r.so c.args.cursor.now b.state_is.pages (omega (arith, i.on, r.on, r.at)) none
 
 pub returns-in_default-clause-kept : goal.returns-in_default-clause-kept
 returns-in_default-clause-kept c =
@@ -150,10 +150,10 @@ returns-in_default-clause-steps c =
     let r = round_in sign octets c.read_area.new.source.octets same1 before behind c.args.layer c.loop-next.cursor c.loop-next.plane s c.read_area.new.read c.loop-next.source c.read_area.new.source a c.draw_area.new.cursor c.draw_area.new.plane c.draw_area.ensures.passed c.draw_area.ensures.drawn in
     let same2 : c.draw_area.new.source.octets ≡ octets = ap (λ (x : Counted). x.octets) c.draw_area.ensures.steps.3 ∙ same1 in
     let none : r.so.left ≡ [] = no_piece r.so.left (c.in_default.ensures.first sign (items_of (before ++ r.so.done)) (items_of r.so.left) (stands_in same2 r.so.between).placed) in
-    let pages : c.draw_area.new.cursor.state.pages ≡ c.args.cursor.state.pages = same_pages sign octets before behind c.args.layer c.draw_area.new.cursor c.draw_area.new.plane r.so c.args.cursor.state.pages b.state_is.pages in
-    let all = string_end c.args.source.now c.loop-next.source c.read_area.new.source c.draw_area.new.source c.next_item.new.source c.args.cursor.at c.loop-next.cursor.at c.read_area.new.read.end r.so.left i.on r.on none i.steps r.steps c.draw_area.ensures.steps c.in_default.ensures.end_steps in
-    subst (λ k. RisesBetween c.args.source.now c.next_item.new.source 0 (18 * (c.draw_area.new.cursor.at - c.args.cursor.at) + k)) (sym (if_same c.draw_area.new.cursor.state.pages c.args.cursor.state.pages 2 pages))
-    (subst (λ n. RisesBetween c.args.source.now c.next_item.new.source 0 (18 * (n - c.args.cursor.at) + 2)) (sym r.at) all)
+    let pages : c.draw_area.new.cursor.state.pages ≡ c.args.cursor.now.state.pages = same_pages sign octets before behind c.args.layer c.draw_area.new.cursor c.draw_area.new.plane r.so c.args.cursor.now.state.pages b.state_is.pages in
+    let all = string_end c.args.source.now c.loop-next.source c.read_area.new.source c.draw_area.new.source c.next_item.new.source c.args.cursor.now.at c.loop-next.cursor.at c.read_area.new.read.end r.so.left i.on r.on none i.steps r.steps c.draw_area.ensures.steps c.in_default.ensures.end_steps in
+    subst (λ k. RisesBetween c.args.source.now c.next_item.new.source 0 (18 * (c.draw_area.new.cursor.at - c.args.cursor.now.at) + k)) (sym (if_same c.draw_area.new.cursor.state.pages c.args.cursor.now.state.pages 2 pages))
+    (subst (λ n. RisesBetween c.args.source.now c.next_item.new.source 0 (18 * (n - c.args.cursor.now.at) + 2)) (sym r.at) all)
 
 pub returns-in_default-clause-fills : goal.returns-in_default-clause-fills
 returns-in_default-clause-fills c =
@@ -170,9 +170,9 @@ returns-in_default-clause-fills c =
     let none : r.so.left ≡ [] = no_piece r.so.left (c.in_default.ensures.first sign (items_of (before ++ r.so.done)) (items_of r.so.left) (stands_in same2 r.so.between).placed) in
     let count : octet_count c.args.plane.now ≡ plane_octets sign = ap (λ w. (w + 7) / 8 * c.args.plane.now.height) c.requires.size.0 ∙ ap (λ h. (sign.width + 7) / 8 * h) c.requires.size.1 in
     let first = first_filled sign c.args.plane.now c.fill.new.self (octet_count c.args.plane.now) (omega (arith, c.fill.ensures.steps)) (omega (arith, c.fill.ensures.steps)) count c.fill.ensures.width c.fill.ensures.height in
-    let areas = more_filled sign c.args.plane.now c.fill.new.self c.draw_area.new.plane 0 _ first (filled_then sign c.fill.new.self c.loop-next.plane c.draw_area.new.plane (c.loop-next.cursor.at - c.args.cursor.at) (c.read_area.new.read.end - c.loop-next.cursor.at) i.filled c.draw_area.ensures.fills) in
-    let pages : c.draw_area.new.cursor.state.pages ≡ c.args.cursor.state.pages = same_pages sign octets before behind c.args.layer c.draw_area.new.cursor c.draw_area.new.plane r.so c.args.cursor.state.pages b.state_is.pages in
-    page_filled sign c.args.plane.now c.draw_area.new.plane c.args.cursor c.draw_area.new.cursor _ areas (omega (arith, i.on, r.on, r.at)) (omega (arith, if_same c.draw_area.new.cursor.state.pages c.args.cursor.state.pages 4 pages, i.on, r.on, r.at))
+    let areas = more_filled sign c.args.plane.now c.fill.new.self c.draw_area.new.plane 0 _ first (filled_then sign c.fill.new.self c.loop-next.plane c.draw_area.new.plane (c.loop-next.cursor.at - c.args.cursor.now.at) (c.read_area.new.read.end - c.loop-next.cursor.at) i.filled c.draw_area.ensures.fills) in
+    let pages : c.draw_area.new.cursor.state.pages ≡ c.args.cursor.now.state.pages = same_pages sign octets before behind c.args.layer c.draw_area.new.cursor c.draw_area.new.plane r.so c.args.cursor.now.state.pages b.state_is.pages in
+    page_filled sign c.args.plane.now c.draw_area.new.plane c.args.cursor.now c.draw_area.new.cursor _ areas (omega (arith, i.on, r.on, r.at)) (omega (arith, if_same c.draw_area.new.cursor.state.pages c.args.cursor.now.state.pages 4 pages, i.on, r.on, r.at))
 
 pub pass-requires : goal.pass-requires
 pass-requires c =
@@ -205,7 +205,7 @@ returns-then-ends_page-clause-drawn c = λ before behind b.
     let (item, rest, is, taken) = first_ended (stands_in same2 r.so.between) r.ends c.in-Some.next (c.in-Some.ensures.first sign (items_of (before ++ r.so.done)) (items_of r.so.left) (stands_in same2 r.so.between).placed) in
     let same3 : c.next_item.new.source.octets ≡ octets = ap (λ (x : Counted). x.octets) c.in-Some.ensures.steps.3 ∙ same2 in
     let turns : is_new_page (meant item) ≡ true = ap is_new_page taken.meant ∙ sym c.ends_page.ensures ∙ c.if-ends_page.true in
-    page_shown sign octets before behind c.args.layer c.draw_area.new.cursor c.draw_area.new.plane r.so (subst (λ l. EndsPage (map meant l)) (sym is) (first_ends item rest turns)) c.args.cursor.state.pages b.state_is.pages
+    page_shown sign octets before behind c.args.layer c.draw_area.new.cursor c.draw_area.new.plane r.so (subst (λ l. EndsPage (map meant l)) (sym is) (first_ends item rest turns)) c.args.cursor.now.state.pages b.state_is.pages
 
 pub returns-then-ends_page-clause-passed : goal.returns-then-ends_page-clause-passed
 returns-then-ends_page-clause-passed c = λ before behind b.
@@ -223,7 +223,7 @@ returns-then-ends_page-clause-passed c = λ before behind b.
     let b4 = stands_before same3 is r.so.between in
     let b5 = subst (λ o. IsBetween sign o ((before ++ r.so.done) ++ item ∷ []) rest c.pass.new.self) same3 (c.pass.ensures.passed (before ++ r.so.done) rest item b4 taken) in
     let turns : is_new_page (meant item) ≡ true = ap is_new_page taken.meant ∙ sym c.ends_page.ensures ∙ c.if-ends_page.true in
-    page_passed sign octets before behind c.args.layer c.draw_area.new.cursor c.draw_area.new.plane r.so item rest is c.pass.new.self b5 c.args.cursor b.state_is.pages (omega (arith, i.on, r.on, r.at, c.pass.ensures.at)) (new_page_is (meant item) turns)
+    page_passed sign octets before behind c.args.layer c.draw_area.new.cursor c.draw_area.new.plane r.so item rest is c.pass.new.self b5 c.args.cursor.now b.state_is.pages (omega (arith, i.on, r.on, r.at, c.pass.ensures.at)) (new_page_is (meant item) turns)
 
 pub returns-then-ends_page-clause-kept : goal.returns-then-ends_page-clause-kept
 returns-then-ends_page-clause-kept c =
@@ -252,9 +252,9 @@ returns-then-ends_page-clause-steps c =
     let same2 : c.draw_area.new.source.octets ≡ octets = ap (λ (x : Counted). x.octets) c.draw_area.ensures.steps.3 ∙ same1 in
     let (item, rest, is, taken) = first_ended (stands_in same2 r.so.between) r.ends c.in-Some.next (c.in-Some.ensures.first sign (items_of (before ++ r.so.done)) (items_of r.so.left) (stands_in same2 r.so.between).placed) in
     let same3 : c.next_item.new.source.octets ≡ octets = ap (λ (x : Counted). x.octets) c.in-Some.ensures.steps.3 ∙ same2 in
-    let all = string_more c.args.source.now c.loop-next.source c.read_area.new.source c.draw_area.new.source c.next_item.new.source c.pass.new.source c.args.cursor.at c.loop-next.cursor.at c.read_area.new.read.end c.in-Some.next.len item rest r.so.left i.on r.on is taken.len i.steps r.steps c.draw_area.ensures.steps c.in-Some.ensures.steps c.pass.ensures.steps in
-    let far : c.read_area.new.read.end + c.in-Some.next.len - c.args.cursor.at ≡ c.pass.new.self.at - c.args.cursor.at = omega (arith, r.at, c.pass.ensures.at) in
-    rises_far c.args.source.now c.pass.new.source (c.read_area.new.read.end + c.in-Some.next.len - c.args.cursor.at) (c.pass.new.self.at - c.args.cursor.at) _ far all
+    let all = string_more c.args.source.now c.loop-next.source c.read_area.new.source c.draw_area.new.source c.next_item.new.source c.pass.new.source c.args.cursor.now.at c.loop-next.cursor.at c.read_area.new.read.end c.in-Some.next.len item rest r.so.left i.on r.on is taken.len i.steps r.steps c.draw_area.ensures.steps c.in-Some.ensures.steps c.pass.ensures.steps in
+    let far : c.read_area.new.read.end + c.in-Some.next.len - c.args.cursor.now.at ≡ c.pass.new.self.at - c.args.cursor.now.at = omega (arith, r.at, c.pass.ensures.at) in
+    rises_far c.args.source.now c.pass.new.source (c.read_area.new.read.end + c.in-Some.next.len - c.args.cursor.now.at) (c.pass.new.self.at - c.args.cursor.now.at) _ far all
 
 pub returns-then-ends_page-clause-fills : goal.returns-then-ends_page-clause-fills
 returns-then-ends_page-clause-fills c =
@@ -272,11 +272,11 @@ returns-then-ends_page-clause-fills c =
     let same3 : c.next_item.new.source.octets ≡ octets = ap (λ (x : Counted). x.octets) c.in-Some.ensures.steps.3 ∙ same2 in
     let count : octet_count c.args.plane.now ≡ plane_octets sign = ap (λ w. (w + 7) / 8 * c.args.plane.now.height) c.requires.size.0 ∙ ap (λ h. (sign.width + 7) / 8 * h) c.requires.size.1 in
     let first = first_filled sign c.args.plane.now c.fill.new.self (octet_count c.args.plane.now) (omega (arith, c.fill.ensures.steps)) (omega (arith, c.fill.ensures.steps)) count c.fill.ensures.width c.fill.ensures.height in
-    let areas = more_filled sign c.args.plane.now c.fill.new.self c.draw_area.new.plane 0 _ first (filled_then sign c.fill.new.self c.loop-next.plane c.draw_area.new.plane (c.loop-next.cursor.at - c.args.cursor.at) (c.read_area.new.read.end - c.loop-next.cursor.at) i.filled c.draw_area.ensures.fills) in
+    let areas = more_filled sign c.args.plane.now c.fill.new.self c.draw_area.new.plane 0 _ first (filled_then sign c.fill.new.self c.loop-next.plane c.draw_area.new.plane (c.loop-next.cursor.at - c.args.cursor.now.at) (c.read_area.new.read.end - c.loop-next.cursor.at) i.filled c.draw_area.ensures.fills) in
     let turns : is_new_page (meant item) ≡ true = ap is_new_page taken.meant ∙ sym c.ends_page.ensures ∙ c.if-ends_page.true in
     let raw = (itself (subst (λ l. IsBetween sign c.draw_area.new.source.octets (before ++ r.so.done) l c.draw_area.new.cursor) is (stands_in same2 r.so.between)) (ap has_place (new_page_is (meant item) turns))).1 in
     let four = four_octets item.item _ (raw ∙ new_page_is (meant item) turns) in
-    page_filled sign c.args.plane.now c.draw_area.new.plane c.args.cursor c.pass.new.self _ areas (omega (arith, i.on, r.on, r.at, c.pass.ensures.at)) (no_less _ (c.pass.new.self.at - c.args.cursor.at) _ (omega (arith, i.on, r.on, r.at, c.pass.ensures.at, taken.len, four)))
+    page_filled sign c.args.plane.now c.draw_area.new.plane c.args.cursor.now c.pass.new.self _ areas (omega (arith, i.on, r.on, r.at, c.pass.ensures.at)) (no_less _ (c.pass.new.self.at - c.args.cursor.now.at) _ (omega (arith, i.on, r.on, r.at, c.pass.ensures.at, taken.len, four)))
 
 pub loop-next-smaller : goal.loop-next-smaller
 loop-next-smaller c =
@@ -311,8 +311,8 @@ loop-next-preserved c =
     let (item, rest, is, taken) = first_ended (stands_in same2 r.so.between) r.ends c.in-Some.next (c.in-Some.ensures.first sign (items_of (before ++ r.so.done)) (items_of r.so.left) (stands_in same2 r.so.between).placed) in
     let same3 : c.next_item.new.source.octets ≡ octets = ap (λ (x : Counted). x.octets) c.in-Some.ensures.steps.3 ∙ same2 in
     let b4 = stands_before same3 is r.so.between in
-    let all = string_more c.args.source.now c.loop-next.source c.read_area.new.source c.draw_area.new.source c.next_item.new.source c.pass.new.source c.args.cursor.at c.loop-next.cursor.at c.read_area.new.read.end c.in-Some.next.len item rest r.so.left i.on r.on is taken.len i.steps r.steps c.draw_area.ensures.steps c.in-Some.ensures.steps c.pass.ensures.steps in
-    let far : c.read_area.new.read.end + c.in-Some.next.len - c.args.cursor.at ≡ c.pass.new.self.at - c.args.cursor.at = omega (arith, r.at, c.pass.ensures.at) in
+    let all = string_more c.args.source.now c.loop-next.source c.read_area.new.source c.draw_area.new.source c.next_item.new.source c.pass.new.source c.args.cursor.now.at c.loop-next.cursor.at c.read_area.new.read.end c.in-Some.next.len item rest r.so.left i.on r.on is taken.len i.steps r.steps c.draw_area.ensures.steps c.in-Some.ensures.steps c.pass.ensures.steps in
+    let far : c.read_area.new.read.end + c.in-Some.next.len - c.args.cursor.now.at ≡ c.pass.new.self.at - c.args.cursor.now.at = omega (arith, r.at, c.pass.ensures.at) in
     record {
       so_far = λ before behind b.
           let s = i.so_far before behind b in
@@ -330,6 +330,6 @@ loop-next-preserved c =
           (area_no_page sign.defaults (standing sign (map meant (before ++ r.so.done))) (meant item) starts turns);
       on = omega (arith, i.on, r.on, r.at, c.pass.ensures.at);
       steps = subst (λ n. RisesBetween c.args.source.now c.pass.new.source 0 (18 * n)) far all;
-      filled = filled_longer sign c.fill.new.self c.draw_area.new.plane _ (c.pass.new.self.at - c.args.cursor.at) (omega (arith, i.on, r.on, r.at, c.pass.ensures.at))
-          (filled_then sign c.fill.new.self c.loop-next.plane c.draw_area.new.plane (c.loop-next.cursor.at - c.args.cursor.at) (c.read_area.new.read.end - c.loop-next.cursor.at) i.filled c.draw_area.ensures.fills);
+      filled = filled_longer sign c.fill.new.self c.draw_area.new.plane _ (c.pass.new.self.at - c.args.cursor.now.at) (omega (arith, i.on, r.on, r.at, c.pass.ensures.at))
+          (filled_then sign c.fill.new.self c.loop-next.plane c.draw_area.new.plane (c.loop-next.cursor.at - c.args.cursor.now.at) (c.read_area.new.read.end - c.loop-next.cursor.at) i.filled c.draw_area.ensures.fills);
     }

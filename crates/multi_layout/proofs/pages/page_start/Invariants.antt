@@ -3,7 +3,7 @@ use Rattle.multi_token.specs.Counted.{RisesBetween}
 use Rattle.multi_layout.proofs.PagesLemmas.{IsOnTheWay}
 use Rattle.multi_layout.proofs.pages.page_start.Given as goal
 
--- the page hasn't begun before the cursor, and each octet before it took at most nine steps
+-- a page begins at the cursor, none behind the one that is wanted, and each octet before it took at most nine steps
 abbrev pub invariant-loop-cursor : goal.invariant-loop-cursor
 invariant-loop-cursor l = record {
   way : IsOnTheWay l.sign l.initial.source.octets l.page l.cursor;

@@ -10,7 +10,7 @@ pub returns-in_err-first-clause-ends : goal.returns-in_err-first-clause-ends
 returns-in_err-first-clause-ends c =
     rw c.from_residual.ensures (λ sign before behind b.
     let octets = c.args.source.now.octets in
-    let at = c.args.cursor.now.at in
+    let at = c.args.at in
     let none : slice_get octets at ≡ None = sym c.requires.stands ∙ c.in_err-first.was in
     let empty : behind ≡ [] = none_at_end sign octets before behind at b (sym (at_end octets at (within sign octets before behind at b) none)) in
     (subst (λ (l : List spelled.Item). EndsArea (map meaning l)) (sym empty) (inl refl), (0, omega arith, omega arith, sym (charged-zero c.args.source.now))))

@@ -1,15 +1,14 @@
-use Rattle.std.proofs.Common.{◌≡◌, ◌-◌, ◌*◌, length}
+use Rattle.std.proofs.Common.{◌-◌, ◌*◌, length}
 use Rattle.multi_token.specs.Counted.{RisesBetween}
-use Rattle.multi_layout.proofs.LocateLemmas.{Searched}
+use Rattle.multi_layout.proofs.LocateLemmas.{IsSearched}
 use Rattle.multi_layout.proofs.times.find_page.Given as goal
 
--- no page before the present one has the time, and the octets so far took at most two steps each
-abbrev pub invariant-loop-next : goal.invariant-loop-next
-invariant-loop-next l = record {
-  searched : Searched l.sign l.initial.source.octets l.time l.cursor;
-  octets : l.source.octets ≡ l.initial.source.octets;
-  steps : RisesBetween l.initial.source l.source 0 (9 * l.cursor.at);
+-- no page before this one has the time, and each octet before it took at most nine steps
+abbrev pub invariant-loop-shown : goal.invariant-loop-shown
+invariant-loop-shown l = record {
+  searched : IsSearched l.sign l.initial.source.octets l.time l.start;
+  steps : RisesBetween l.initial.source l.source 0 (9 * l.start.at);
 }
 
-abbrev pub decreases-loop-next : goal.decreases-loop-next
-decreases-loop-next l = length l.initial.source.octets - l.cursor.at
+abbrev pub decreases-loop-shown : goal.decreases-loop-shown
+decreases-loop-shown l = length l.initial.source.octets - l.start.at

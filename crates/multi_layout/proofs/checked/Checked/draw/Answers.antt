@@ -44,7 +44,7 @@ returns-clause-steps c =
     let t = rw same at c.draw_from.ensures.turned in
     let start = c.page_start-cursor.result in
     let way = rises_more s.source c.page_start-cursor.new.source 0 (9 * start.at) (18 * start.at) (omega arith) e.steps in
-    rw (← c.self.view_is) (drawing_reads s.source c.page_start-cursor.new.source c.draw_from.new.self.source start c.draw_from.result (length s.source.octets) way c.draw_from.ensures.steps t.on t.within)
+    rw (← c.self.view_is) (drawing_reads s.source c.page_start-cursor.new.source c.draw_from.new.self.source start c.draw_from.new.cursor (length s.source.octets) way c.draw_from.ensures.steps t.on t.within)
 
 pub returns-clause-plane_steps : goal.returns-clause-plane_steps
 returns-clause-plane_steps c =
@@ -52,4 +52,4 @@ returns-clause-plane_steps c =
     let e = c.page_start-cursor.ensures in
     let same : c.page_start-cursor.new.source.octets ≡ s.source.octets = ap (λ (x : Counted). x.octets) e.steps.3 in
     let t = rw same at c.draw_from.ensures.turned in
-    rw (← c.self.view_is) (c.draw_from.ensures.fills.least, drawing_fills s.terms c.args.plane.now c.draw_from.new.plane c.page_start-cursor.result c.draw_from.result (length s.source.octets) c.draw_from.ensures.fills t.within)
+    rw (← c.self.view_is) (c.draw_from.ensures.fills.least, drawing_fills s.terms c.args.plane.now c.draw_from.new.plane c.page_start-cursor.result c.draw_from.new.cursor (length s.source.octets) c.draw_from.ensures.fills t.within)

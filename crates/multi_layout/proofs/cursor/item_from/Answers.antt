@@ -3,12 +3,12 @@ use Rattle.multi_token.specs.declared.token.Kind.TheVariants as kinds
 use Rattle.multi_token.proofs.PlaceLemmas.{single_token}
 use Rattle.multi_layout.specs.declared.item.KnownItem.TheVariants as known
 use Rattle.multi_layout.proofs.WalkLemmas.{item_is}
-use Rattle.multi_layout.proofs.cursor.Cursor.item_from.Goals as goal
+use Rattle.multi_layout.proofs.cursor.item_from.Goals as goal
 
 pub returns-then-first-ne93-clause-first : goal.returns-then-first-ne93-clause-first
 returns-then-first-ne93-clause-first c = λ sign before behind b.
     let octets = c.args.source.now.octets in
-    let at = c.args.self.now.at in
+    let at = c.args.at in
     let first = c.args.first in
     let token = single_token octets at first c.requires.room c.requires.stands (λ e. omega arith, λ e. omega arith) in
     rw c.from.ensures (item_is sign octets before behind at b (record { item = known.Char first; len = 1 }) (record { at = at; len = 1; kind = kinds.Char first }, refl, refl, token, refl) tt)
