@@ -1,17 +1,17 @@
 -- The pages of an accepted string, one after the other.
-use Rattle.std.proofs.Common.{◌≡◌, ℕ, ◌+◌, ◌-◌, ◌*◌, ◌/◌, ◌^◌, ◌<◌, ◌≤◌, inl, inr, Bool, true, false, cond, List, [], ◌∷◌, ◌++◌, length, map, Some, refl, sym, ap, subst, ◌∙◌, arith, append-nil}
+use Rattle.std.proofs.Common.{◌≡◌, ℕ, ◌+◌, ◌-◌, ◌*◌, ◌/◌, ◌^◌, ◌<◌, ◌≤◌, inl, inr, Bool, true, false, cond, List, [], ◌∷◌, ◌++◌, length, map, refl, sym, ap, subst, ◌∙◌, arith, append-nil}
 use Rattle.std.specs.Prelude.{◌==◌}
 use Rattle.std.specs.List.{All, count_by}
 use Rattle.std.proofs.lemmas.Bool.{ne_eqb}
 use Rattle.std.proofs.lemmas.List.{map-append}
 use Rattle.std.proofs.lemmas.List.Elements.{All-head, All-tail}
-use Rattle.std.proofs.lemmas.List.Sums.{sum_by_push, sum_by-append}
+use Rattle.std.proofs.lemmas.List.Sums.{sum_by-append}
 use Rattle.std.proofs.lemmas.Nat.{mul-le}
 use Rattle.multi_tag.specs.declared.tag.Tag.TheVariants.{NewPage}
 use Rattle.multi_token.specs.Counted.{Counted, RisesBetween}
 use Rattle.multi_token.specs.Reading.{reading}
 use Rattle.multi_token.specs.Spelling.{Item, IsReading, spell}
-use Rattle.multi_token.proofs.ReadingLemmas.{each_string_has_a_reading, none_found, spelling_some}
+use Rattle.multi_token.proofs.ReadingLemmas.{each_string_has_a_reading, none_found}
 use Rattle.multi_token.proofs.SpellingLemmas.{one_reading}
 use Rattle.multi_token.proofs.StepLemmas.{rises_more, rises_then}
 use Rattle.page_plane.specs.Plane.{BitPlane}
@@ -19,8 +19,6 @@ use Rattle.sign_font.specs.Sign.{FontData, SignData, largest, tallest}
 use Rattle.sign_font.specs.Sound.{IsSound, IsSoundFont}
 use Rattle.multi_layout.specs.LaidItems.{laid_out}
 use Rattle.multi_layout.specs.declared.cursor.Cursor.{Cursor}
-use Rattle.multi_layout.specs.declared.item.NextItem.{NextItem}
-use Rattle.multi_layout.specs.declared.state.State.{State}
 use Rattle.multi_layout.specs.Drawn as drawn
 use Rattle.multi_layout.specs.Limits.{drawing_limit, plane_limit, plane_octets, reading_limit}
 use Rattle.multi_layout.specs.Meaning.{BeginsPage, Does, Meaning, is_new_page, meaning, meanings}

@@ -17,7 +17,6 @@ use Rattle.sign_control.specs.declared.command.Command.{Command}
 use Rattle.sign_control.specs.declared.command.Command.TheVariants as command
 use Rattle.sign_control.specs.declared.command.DefaultField.{DefaultField}
 use Rattle.sign_control.specs.declared.command.DefaultField.TheVariants as field
-use Rattle.sign_control.specs.declared.command.Reply.{Reply}
 use Rattle.sign_control.specs.declared.command.Reply.TheVariants as reply
 use Rattle.sign_control.specs.declared.display.Registers.{Registers}
 use Rattle.message_store.specs.Judged.{error_of, is_accepted, position_of}

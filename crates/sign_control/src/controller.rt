@@ -16,6 +16,7 @@ use crate::display::{Display, NO_ERRORS, Registers, start};
 use crate::draw::draw_shown;
 use crate::frame::Frame;
 use message_store::{MsgRef, Store};
+use multi_layout::AreaLines;
 use page_plane::{Memory, Plane};
 use sign_font::{Defaults, Sign};
 use std::alloc::Global;
@@ -36,6 +37,8 @@ pub struct Controller {
     /// The message that follows a duration.
     pub(crate) end: IdCode,
     pub(crate) plane: Plane,
+    /// Room for the lines of an area that is drawn.
+    pub(crate) lines: AreaLines,
     pub(crate) steps: u64,
 }
 
@@ -93,6 +96,7 @@ impl Controller {
             registers: NO_ERRORS,
             end: NO_END,
             plane,
+            lines: AreaLines::new(),
             steps: 0,
         })
     }
@@ -118,6 +122,7 @@ impl Controller {
             &self.text,
             self.display.clock,
             colour,
+            &mut self.lines,
             &mut self.plane,
         );
         self.steps = raised(self.steps, steps);

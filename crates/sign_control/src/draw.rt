@@ -12,8 +12,7 @@ ghost use Rattle.sign_font.specs.Sound.{IsSound};
 ghost use Rattle.sign_control.specs.kept.Ready.{IsAccepted};
 
 use crate::check::accepted_text;
-use multi_layout::Shown;
-use page_picture::show;
+use multi_layout::{AreaLines, Shown};
 use page_plane::Plane;
 use sign_font::{Defaults, Sign};
 
@@ -24,6 +23,7 @@ pub(crate) fn draw_shown(
     text: &[u8],
     clock: u64,
     colour: u8,
+    lines: &mut AreaLines,
     plane: &mut Plane,
 ) -> (Shown, u64)
     requires sound { IsSound sign.now }
@@ -39,7 +39,6 @@ pub(crate) fn draw_shown(
 {
     let mut checked = accepted_text(sign, defaults, text);
     let before = plane.steps();
-    let shown = checked.locate(clock);
-    show(&mut checked, shown, colour, plane);
+    let shown = checked.draw_shown(clock, colour, lines, plane);
     (shown, checked.steps() + (plane.steps() - before))
 }

@@ -11,9 +11,9 @@ ghost use Rattle.sign_tool.specs.Frame.{frame_rows, frame_text, head_text, show_
 use crate::answer::{Answer, LineAnswer};
 use crate::ready::{Ready, make_room, push_number, push_octets, push_short};
 use crate::reply::{push_refused, push_too_long};
-use multi_layout::{Checked, Shown, check_with};
+use multi_layout::{AreaLines, Checked, Shown, check_with};
 use multi_token::Source;
-use page_picture::{Mark, show, write_rows};
+use page_picture::{Mark, write_rows};
 use page_plane::Plane;
 use sign_font::Sign;
 use std::alloc::{AllocError, Global};
@@ -22,11 +22,12 @@ use tool_streams::MAX_STRING;
 
 /// Answers each line by its verdict, and an accepted one by what the sign shows of it.
 ///
-/// One plane is used for all lines.
+/// One plane is used for all lines, and so is the room for the lines of an area.
 #[derive(Drop)]
 pub(crate) struct Shower {
     sign: Sign,
     plane: Plane,
+    lines: AreaLines,
     colour: u8,
     /// In tenths of a second.
     clock: u32,
@@ -59,6 +60,7 @@ impl Shower {
         Ok(Shower {
             sign,
             plane,
+            lines: AreaLines::new(),
             colour,
             clock,
         })
@@ -116,24 +118,13 @@ fn push_long_head(text: &mut Ready, page: u8, phase: u64) -> Result<(), AllocErr
     push_octets(text, b"\n")
 }
 
-/// Finds what a string shows at a clock, and draws its plane of a colour.
-fn draw_shown(checked: &mut Checked<'_>, clock: u32, colour: u8, plane: &mut Plane) -> Shown
-    requires size { IsSized plane.old checked.old.sign }
-    ensures shown { result ≡ shown checked.old.sign checked.old.source.octets clock }
-    ensures drawn { Lights plane.new (pixel_at checked.old.sign (meanings checked.old.source.octets) result colour) }
-    ensures size { IsSized plane.new checked.old.sign }
-{
-    let shown = checked.locate(u64::from(clock));
-    show(checked, shown, colour, plane);
-    shown
-}
-
 /// Appends the frame of a string.
 fn push_frame(
     text: &mut Ready,
     checked: &mut Checked<'_>,
     clock: u32,
     colour: u8,
+    lines: &mut AreaLines,
     plane: &mut Plane,
 ) -> Result<(), AllocError>
     requires size { IsSized plane.old checked.old.sign }
@@ -142,7 +133,7 @@ fn push_frame(
     ensures size { IsSized plane.new checked.old.sign }
     ensures whole { text.new.whole ≡ text.old.whole }
 {
-    let shown = draw_shown(checked, clock, colour, plane);
+    let shown = checked.draw_shown(u64::from(clock), colour, lines, plane);
     push_head(text, shown)?;
     push_rows(text, plane)
 }
@@ -153,6 +144,7 @@ fn push_shown(
     clock: u32,
     colour: u8,
     line: &[u8],
+    lines: &mut AreaLines,
     plane: &mut Plane,
     text: &mut Ready,
 ) -> Result<(), AllocError>
@@ -165,7 +157,7 @@ fn push_shown(
         return push_too_long(text);
     }
     match &mut check_with(sign, sign.defaults(), Source::new(line)) {
-        Ok(checked) => push_frame(text, checked, clock, colour, plane),
+        Ok(checked) => push_frame(text, checked, clock, colour, lines, plane),
         Err(fault) => push_refused(text, fault.code, fault.at),
     }
 }
@@ -179,6 +171,7 @@ impl Answer for Shower {
             self.clock,
             self.colour,
             line,
+            &mut self.lines,
             &mut self.plane,
             text,
         )?;

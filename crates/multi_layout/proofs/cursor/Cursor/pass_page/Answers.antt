@@ -1,7 +1,6 @@
-use Rattle.std.proofs.Common.{◌≡◌, ℕ, ◌+◌, ◌-◌, ◌*◌, ◌++◌, ◌∷◌, [], List, cond, length, sym, ap, subst, ◌∙◌, arith}
+use Rattle.std.proofs.Common.{◌≡◌, ℕ, ◌+◌, ◌-◌, ◌*◌, ◌++◌, ◌∷◌, [], cond, sym, ap, subst, ◌∙◌, arith}
 use Rattle.std.proofs.lemmas.Bool.{eq-eqb}
 use Rattle.multi_token.specs.Counted.{Counted, RisesBetween}
-use Rattle.multi_token.specs.Spelling.{Item}
 use Rattle.multi_token.proofs.StepLemmas.{charged-zero, rises_more, rises_then}
 use Rattle.multi_layout.specs.kept.Cursors.{IsPassing, IsPlaced, IsTextPassed}
 use Rattle.multi_layout.proofs.LocateLemmas.{in_page, in_page_more, in_page_text, passed_last, passed_page, some, stands}
