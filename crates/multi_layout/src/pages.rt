@@ -112,8 +112,8 @@ impl<'a> Checked<'a> {
         true
     }
 
-    /// Draws what the string shows at a clock, and tells it as [`Checked::locate`] does: the plane gets the pixels that have the colour then. In
-    /// an off time all have colour 0. The room for the lines of an area is lent. The plane must have the sign's size.
+    /// Draws what the string shows at a clock, and tells it as [`Checked::locate`] does: the plane gets the pixels that have the colour
+    /// then. In an off time all have colour 0. The room for the lines of an area is lent. The plane must have the sign's size.
     ///
     /// This takes at most the steps of [`Checked::locate`] and [`Checked::draw`] together.
     pub fn draw_shown(

@@ -1,10 +1,7 @@
 //! The answers that show pages, as rows of characters.
 ghost use Rattle.std.specs.Prelude.{◌≡◌, ◌++◌, ◌∷◌, OnOk, IfOk, Some, codes, decimal, map, take};
 ghost use Rattle.page_plane.specs.Plane.{is_lit};
-ghost use Rattle.multi_layout.specs.Drawn.{Lights};
-ghost use Rattle.multi_layout.specs.Meaning.{meanings};
 ghost use Rattle.multi_layout.specs.Pages.{IsSized};
-ghost use Rattle.multi_layout.specs.Picture.{pixel_at};
 ghost use Rattle.multi_layout.specs.Times.{shown};
 ghost use Rattle.sign_tool.specs.Frame.{frame_rows, frame_text, head_text, show_answer};
 
