@@ -1,11 +1,12 @@
 //! The rows of a plane as lines of text.
-ghost use Rattle.std.specs.Prelude.{◌≡◌, ℕ, ◌+◌, ◌-◌, ◌*◌, ◌<◌, ◌≤◌, ◌==◌, [], ◌++◌, ◌∷◌, drop, length, replicate, take};
+ghost use Rattle.std.specs.Prelude.{◌≡◌, ℕ, ◌+◌, ◌-◌, ◌*◌, ◌<◌, ◌≤◌, ◌==◌, [], ◌++◌, ◌∷◌, Bool, drop, length, nat_le, replicate, take, true, if◌then◌else◌};
 ghost use Rattle.std.specs.List.{list_all};
 ghost use Rattle.page_plane.specs.Plane.{is_lit};
 ghost use Rattle.page_picture.specs.Rows.{marked_rows, octet_marks, octet_of};
 ghost use Rattle.page_picture.specs.kept.Marks.{IsTable, WritesMarks, eight_marks};
 
 use page_plane::Plane;
+use std::marker::PhantomData;
 
 /// What stands for a lit pixel in a row of text (own).
 #[derive(Clone, Copy)]
@@ -88,14 +89,13 @@ fn blank(text: &mut [u8])
     text.fill(b'.');
 }
 
-/// Writes the marks of the pixels of eight octets. Most of a page is dark.
+/// Writes the marks of the pixels of a piece. Most of a page is dark, which is seen at once of eight octets.
 #[inline(always)]
-fn mark_word(text: &mut [u8], octets: &[u8], marks: &[[u8; 8]; 256])
-    requires eight { length octets.now ≡ 8 }
+fn mark_piece(text: &mut [u8], octets: &[u8], marks: &[[u8; 8]; 256])
     requires room { 8 * length octets.now ≤ length text.old }
     ensures { WritesMarks marks.now octets.now text.old text.new }
 {
-    if is_dark_word(octets) {
+    if octets.len() == 8 && is_dark_word(octets) {
         blank(&mut text[..64]);
     } else {
         mark_octets(text, octets, marks);
@@ -117,65 +117,53 @@ fn mark_block(text: &mut [u8], octets: &[u8], marks: &[[u8; 8]; 256])
     }
 }
 
-/// Writes the marks of the pixels of an octet, or of none.
-#[inline(always)]
-fn mark_below_2(text: &mut [u8], octets: &[u8], marks: &[[u8; 8]; 256])
-    requires few { length octets.now < 2 }
-    requires room { 8 * length octets.now ≤ length text.old }
-    ensures { WritesMarks marks.now octets.now text.old text.new }
-{
-    if !octets.is_empty() {
-        mark_octets(text, &octets[..1], marks);
+/// The pieces in which the last octets of a row are marked. They are types, so that each place is a constant where it is compiled: a loop
+/// over pieces would take more steps than what it writes.
+trait Pieces {
+    // whether they are the pieces of this many octets
+    ghost takes: { ℕ → Bool };
+
+    /// Writes the marks of the pixels of octets.
+    fn mark(text: &mut [u8], octets: &[u8], marks: &[[u8; 8]; 256])
+        requires few { takes (length octets.now) ≡ true }
+        requires room { 8 * length octets.now ≤ length text.old }
+        ensures { WritesMarks marks.now octets.now text.old text.new };
+}
+
+/// No piece, of no octet.
+struct Nothing;
+
+impl Pieces for Nothing {
+    ghost takes = { λ count. count == 0 };
+
+    #[inline(always)]
+    fn mark(_text: &mut [u8], _octets: &[u8], _marks: &[[u8; 8]; 256]) {}
+}
+
+/// A piece of N octets, if there are as many, and then the pieces of the rest.
+struct Piece<const N: usize, R> {
+    rest: PhantomData<R>,
+}
+
+impl<const N: usize, R: Pieces> Pieces for Piece<N, R> {
+    ghost takes = { λ count. if nat_le N count then R.takes (count - N) else R.takes count };
+
+    #[inline(always)]
+    fn mark(text: &mut [u8], octets: &[u8], marks: &[[u8; 8]; 256]) {
+        if octets.len() >= N {
+            mark_piece(text, &octets[..N], marks);
+            R::mark(&mut text[8 * N..], &octets[N..], marks);
+        } else {
+            R::mark(text, octets, marks);
+        }
     }
 }
 
-/// Writes the marks of the pixels of fewer than four octets.
-#[inline(always)]
-fn mark_below_4(text: &mut [u8], octets: &[u8], marks: &[[u8; 8]; 256])
-    requires few { length octets.now < 4 }
-    requires room { 8 * length octets.now ≤ length text.old }
-    ensures { WritesMarks marks.now octets.now text.old text.new }
-{
-    if octets.len() >= 2 {
-        mark_octets(text, &octets[..2], marks);
-        mark_below_2(&mut text[16..], &octets[2..], marks);
-    } else {
-        mark_below_2(text, octets, marks);
-    }
-}
-
-/// Writes the marks of the pixels of fewer than eight octets.
-#[inline(always)]
-fn mark_below_8(text: &mut [u8], octets: &[u8], marks: &[[u8; 8]; 256])
-    requires few { length octets.now < 8 }
-    requires room { 8 * length octets.now ≤ length text.old }
-    ensures { WritesMarks marks.now octets.now text.old text.new }
-{
-    if octets.len() >= 4 {
-        mark_octets(text, &octets[..4], marks);
-        mark_below_4(&mut text[32..], &octets[4..], marks);
-    } else {
-        mark_below_4(text, octets, marks);
-    }
-}
-
-/// Writes the marks of the pixels of fewer than sixteen octets.
-#[inline(always)]
-fn mark_below_16(text: &mut [u8], octets: &[u8], marks: &[[u8; 8]; 256])
-    requires few { length octets.now < 16 }
-    requires room { 8 * length octets.now ≤ length text.old }
-    ensures { WritesMarks marks.now octets.now text.old text.new }
-{
-    if octets.len() >= 8 {
-        mark_word(text, &octets[..8], marks);
-        mark_below_8(&mut text[64..], &octets[8..], marks);
-    } else {
-        mark_below_8(text, octets, marks);
-    }
-}
+/// The pieces of fewer than sixteen octets.
+type Last = Piece<8, Piece<4, Piece<2, Piece<1, Nothing>>>>;
 
 /// Writes the marks of the pixels of the octets of a row: those of sixteen octets at once, and at the end those of eight, of four, of two
-/// and of one. A loop over these would take more steps than what it writes.
+/// and of one.
 fn mark_pixels(text: &mut [u8], octets: &[u8], marks: &[[u8; 8]; 256])
     requires room { 8 * length octets.now ≤ length text.old }
     ensures { WritesMarks marks.now octets.now text.old text.new }
@@ -184,7 +172,7 @@ fn mark_pixels(text: &mut [u8], octets: &[u8], marks: &[[u8; 8]; 256])
         mark_block(text, &octets[..16], marks);
         mark_pixels(&mut text[128..], &octets[16..], marks);
     } else {
-        mark_below_16(text, octets, marks);
+        Last::mark(text, octets, marks);
     }
 }
 
