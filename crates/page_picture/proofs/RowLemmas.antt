@@ -6,6 +6,7 @@ use Rattle.std.proofs.Math.Seq.{take-add}
 use Rattle.std.proofs.lemmas.Bool.{and_parts, cases_Bool, eqb-true}
 use Rattle.std.proofs.lemmas.List.Folds.{list_all-append}
 use Rattle.std.proofs.lemmas.Nat.{le_bytes_8}
+use Rattle.std.proofs.lemmas.Nat.Bits.{bit_at-zero}
 use Rattle.std.proofs.lemmas.List.{drop-drop, get_or-drop, get_or-take, length-append, length-drop, length-take-le, take-append-le, take_all}
 use Rattle.std.proofs.lemmas.List.FromFn.{length-map-range_with_len, take-map-range_with_len}
 use Rattle.octet_text.proofs.TextLemmas.{flat_map_more, flat_map_same, map_same}
@@ -73,15 +74,24 @@ marks_part mark octets part from n front size is_part is_front is_size =
     ∙ sym (map_parts f 0 (8 * from) (8 * from) (8 * n) (omega arith))
     ∙ ap (octet_marks mark octets) (sym is_size)
 
--- eight octets that are 0 have 64 points
-pub dark_marks : (mark : ℕ) → octet_marks mark (replicate {A = ℕ} 8 0) 64 ≡ replicate {A = ℕ} 64 46
-unfolding is_bit_set
-dark_marks mark = refl
+-- an octet among octets that are 0
+zero_at : (n i : ℕ) → get_or (replicate {A = ℕ} n 0) i 0 ≡ 0
+zero_at zero i = refl
+zero_at (suc n) zero = refl
+zero_at (suc n) (suc i) = zero_at n i
 
--- and sixteen have 128
-pub dark_block_marks : (mark : ℕ) → octet_marks mark (replicate {A = ℕ} 16 0) 128 ≡ replicate {A = ℕ} 128 46
+-- each of their pixels is a point
+dark_point : (mark n place : ℕ) → mark_of mark (is_bit_set (replicate {A = ℕ} n 0) place) ≡ 46
 unfolding is_bit_set
-dark_block_marks mark = refl
+dark_point mark n place = rw (zero_at n (place / 8), bit_at-zero (7 - place % 8)) refl
+
+-- and so are all of them
+dark_points : (mark n from count : ℕ)
+    → map (λ place. mark_of mark (is_bit_set (replicate {A = ℕ} n 0) place)) (range_with_len from count) ≡ replicate {A = ℕ} count 46
+dark_points mark n from zero = refl
+dark_points mark n from (suc count) =
+    ap (λ x. x ∷ map (λ place. mark_of mark (is_bit_set (replicate {A = ℕ} n 0) place)) (range_with_len (from + 1) count)) (dark_point mark n from)
+    ∙ ap (λ l. 46 ∷ l) (dark_points mark n (from + 1) count)
 
 -- fewer marks are the first of them
 pub marks_fewer : (mark : ℕ) (octets text rest : List ℕ) (width count : ℕ) → width ≤ count → text ≡ octet_marks mark octets count ++ rest
@@ -173,15 +183,15 @@ all_zero (octet ∷ l) all =
     let parts = and_parts (octet == 0) (list_all (λ octet. octet == 0) l) all in
     ap (λ x. x ∷ l) (eqb-true octet 0 parts.0) ∙ ap (λ r. 0 ∷ r) (all_zero l parts.1)
 
--- so many of them are written as points
-pub dark_written : (mark n : ℕ) (octets text points : List ℕ) → list_all (λ octet. octet == 0) octets ≡ true → length octets ≡ n → 8 * n ≤ length text
-    → octet_marks mark (replicate {A = ℕ} n 0) (8 * n) ≡ replicate {A = ℕ} (8 * n) 46 → points ≡ replicate (length (take (8 * n) text)) 46
-    → points ++ drop (8 * n) text ≡ octet_marks mark octets (8 * length octets) ++ drop (8 * length octets) text
-dark_written mark n octets text points dark size room marks are =
-    let zeros : octets ≡ replicate n 0 = all_zero octets dark ∙ ap (λ n. replicate n 0) size in
-    ap (λ l. l ++ drop (8 * n) text)
-    (are ∙ ap (λ n. replicate n 46) (length-take-le (8 * n) text room) ∙ sym marks ∙ ap (λ l. octet_marks mark l (8 * n)) (sym zeros))
-    ∙ ap (λ n. octet_marks mark octets (8 * n) ++ drop (8 * n) text) (sym size)
+-- they are written as points
+pub dark_written : (mark : ℕ) (octets text points : List ℕ) → list_all (λ octet. octet == 0) octets ≡ true → 8 * length octets ≤ length text
+    → points ≡ replicate (length (take (8 * length octets) text)) 46
+    → points ++ drop (8 * length octets) text ≡ octet_marks mark octets (8 * length octets) ++ drop (8 * length octets) text
+dark_written mark octets text points dark room are =
+    let count = 8 * length octets in
+    ap (λ l. l ++ drop count text)
+    (are ∙ ap (λ n. replicate n 46) (length-take-le count text room) ∙ sym (dark_points mark (length octets) 0 count)
+    ∙ ap (λ l. octet_marks mark l count) (sym (all_zero octets dark)))
 
 -- eight octets are all 0 exactly if they are 0 as a word
 pub dark_word : (octets eight : List ℕ) (word : ℕ) → length octets ≡ 8 → ((i : ℕ) → get_or octets i 0 < 256) → eight ≡ take 8 octets

@@ -89,29 +89,26 @@ fn blank(text: &mut [u8])
     text.fill(b'.');
 }
 
-/// Writes the marks of the pixels of a piece. Most of a page is dark, which is seen at once of eight octets.
+/// Whether eight or sixteen octets have no pixel. Any other number is not looked at.
+#[inline(always)]
+fn is_dark_piece(octets: &[u8]) -> bool
+    ensures { result ≡ true → list_all (λ octet. octet == 0) octets.now ≡ true }
+{
+    match octets.len() {
+        8 => is_dark_word(octets),
+        16 => is_dark_word(&octets[..8]) & is_dark_word(&octets[8..]),
+        _ => false,
+    }
+}
+
+/// Writes the marks of the pixels of a piece. Most of a page is dark, which a large piece shows at once.
 #[inline(always)]
 fn mark_piece(text: &mut [u8], octets: &[u8], marks: &[[u8; 8]; 256])
     requires room { 8 * length octets.now ≤ length text.old }
     ensures { WritesMarks marks.now octets.now text.old text.new }
 {
-    if octets.len() == 8 && is_dark_word(octets) {
-        blank(&mut text[..64]);
-    } else {
-        mark_octets(text, octets, marks);
-    }
-}
-
-/// Writes the marks of the pixels of sixteen octets.
-#[inline(always)]
-fn mark_block(text: &mut [u8], octets: &[u8], marks: &[[u8; 8]; 256])
-    requires sixteen { length octets.now ≡ 16 }
-    requires room { 8 * length octets.now ≤ length text.old }
-    ensures { WritesMarks marks.now octets.now text.old text.new }
-{
-    let dark = is_dark_word(&octets[..8]) & is_dark_word(&octets[8..]);
-    if dark {
-        blank(&mut text[..128]);
+    if is_dark_piece(octets) {
+        blank(&mut text[..8 * octets.len()]);
     } else {
         mark_octets(text, octets, marks);
     }
@@ -169,7 +166,7 @@ fn mark_pixels(text: &mut [u8], octets: &[u8], marks: &[[u8; 8]; 256])
     ensures { WritesMarks marks.now octets.now text.old text.new }
 {
     if octets.len() >= 16 {
-        mark_block(text, &octets[..16], marks);
+        mark_piece(text, &octets[..16], marks);
         mark_pixels(&mut text[128..], &octets[16..], marks);
     } else {
         Last::mark(text, octets, marks);
