@@ -7,19 +7,20 @@ ghost use Rattle.message_report.specs.Words.{GrowsBy};
 
 use crate::accepted::AcceptedMessage;
 use crate::format::{Format, Telling, Told};
-use crate::large::large_sign;
 use crate::lines::{push_error_line, push_warning_lines};
 use crate::pages::push_told;
 use crate::picture::Picture;
 use crate::record::{push_accepted_record, push_refused_record, push_too_long_record};
 use crate::text::push_words;
 use crate::verdict::{push_line_head, push_place, push_refused, push_too_long};
-use message_words::{FontCharacters, Refusal, warnings_on};
+use crate::wording::Wording;
+use message_words::{Refusal, warnings_on};
 use multi_layout::{Checked, check};
 use multi_token::Source;
 use octet_text::push_octets;
 use sign_font::Sign;
 use std::alloc::{AllocError, Global};
+use std::cell::OnceCell;
 use std::marker::Model;
 
 /// The most octets that a message may have to be judged (own).
@@ -29,10 +30,8 @@ const MAX_MESSAGE: usize = 4_096;
 #[derive(Drop)]
 pub struct Explainer {
     sign: Sign,
-    /// A sign with its fonts and defaults and the most pixels and pages, by which is told how much room a message lacks.
-    large: Option<Sign>,
-    /// The characters of its fonts.
-    fonts: Vec<FontCharacters>,
+    /// What the words of its refusals are taken from, once there was one.
+    wording: OnceCell<Wording>,
     /// The most octets of a text that its message table takes.
     max_string: u16,
 }
@@ -46,18 +45,15 @@ impl Model for Explainer {
 }
 
 impl Explainer {
-    /// An explainer for a sign whose message table takes texts of at most this many octets. The error says that memory was refused.
-    pub fn new(alloc: Global, sign: Sign, max_string: u16) -> Result<Explainer, AllocError>
-        ensures { IfOk result (λ explainer. explainer ≡ sign) }
+    /// An explainer for a sign whose message table takes texts of at most this many octets.
+    pub fn new(sign: Sign, max_string: u16) -> Explainer
+        ensures { result ≡ sign }
     {
-        let fonts = FontCharacters::of_sign(alloc, &sign)?;
-        let large = large_sign(alloc, &sign, &fonts)?;
-        Ok(Explainer {
+        Explainer {
             sign,
-            large,
-            fonts,
+            wording: OnceCell::new(),
             max_string,
-        })
+        }
     }
 }
 
@@ -159,6 +155,12 @@ fn push_refusal(
 }
 
 impl Explainer {
+    /// What the words of a refusal are taken from, which is made once. The error says that memory was refused.
+    fn wording(&self, alloc: Global) -> Result<&Wording, AllocError> {
+        self.wording
+            .get_or_try_init(|| Wording::new(alloc, &self.sign))
+    }
+
     /// Appends the explanation of the message of a line, as it is asked for: the sign's verdict on it, and where it is refused and why, or
     /// else its pages, each with its times and its picture in all colours at once, and what its writer can't have meant. A picture shows
     /// the page as it is at the phase, in tenths of a second since the page began. The name is that of the file of the messages. The answer
@@ -185,13 +187,14 @@ impl Explainer {
                 warnings: 0,
             });
         }
-        match check(&self.sign, Source::new(message)) {
+        let sign = &self.sign;
+        match check(sign, Source::new(message)) {
             Ok(checked) => {
-                let found = warnings_on(alloc, &self.sign, message, &checked, self.max_string)?;
+                let found = warnings_on(alloc, sign, message, &checked, self.max_string)?;
                 let accepted = AcceptedMessage {
                     alloc,
                     telling,
-                    sign: &self.sign,
+                    sign,
                     line,
                     message,
                     warnings: &found,
@@ -203,11 +206,12 @@ impl Explainer {
                 })
             }
             Err(fault) => {
+                let wording = self.wording(alloc)?;
                 let refusal = Refusal {
                     alloc,
-                    sign: &self.sign,
-                    large: self.large.as_ref(),
-                    fonts: &self.fonts,
+                    sign,
+                    large: wording.large.as_ref(),
+                    fonts: &wording.fonts,
                     message,
                     code: fault.code,
                     at: fault.at,

@@ -17,6 +17,7 @@ mod picture;
 mod record;
 mod text;
 mod verdict;
+mod wording;
 
 pub use explain::Explainer;
 pub use format::{Format, Telling, Told};

@@ -224,7 +224,7 @@ fn asker_of(
     ensures { IfOk result (λ asker. asker ≡ record { sign = setup.sign; telling = telling; name = name.now; before = before }) }
 {
     let Setup { sign, store } = setup;
-    let explainer = Explainer::new(alloc, sign, store.limits().max_string)?;
+    let explainer = Explainer::new(sign, store.limits().max_string);
     let name = name.to_vec(alloc)?;
     Ok(Asker {
         explainer,

@@ -48,7 +48,7 @@ pub(crate) fn explanations_of(
     let Some(Setup { sign, store }) = setup_of(alloc, octets)? else {
         return Ok(explanations);
     };
-    let explainer = Explainer::new(alloc, sign, store.limits().max_string)?;
+    let explainer = Explainer::new(sign, store.limits().max_string);
     for refusal in refusals {
         let explanation = explanation_of(alloc, &explainer, store.permanents(), *refusal)?;
         explanations.push(explanation)?;

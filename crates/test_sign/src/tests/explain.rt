@@ -16,7 +16,7 @@ fn told(alloc: Global, telling: Telling, message: &str) -> Result<Vec<u8>, Fail>
     let Ok(sign) = Sign::new(alloc, sample_sign(alloc)?) else {
         return Ok(Vec::new(alloc));
     };
-    let explainer = Explainer::new(alloc, sign, 64)?;
+    let explainer = Explainer::new(sign, 64);
     let mut text = Vec::new(alloc);
     explainer.explain(alloc, telling, b"day", 2, message.as_bytes(), &mut text)?;
     Ok(text)
