@@ -10,12 +10,13 @@ use Rattle.tool_streams.specs.declared.fault.ToolFault.TheVariants as faults
 use Rattle.sign_tool.specs.declared.first.FirstLine.{FirstLine}
 use Rattle.sign_tool.specs.declared.first.FirstLine.TheVariants as line_is
 use Rattle.tool_streams.specs.declared.lines.NextLine.TheVariants as next
-use Rattle.sign_tool.specs.kept.Blocks.{AnswersFirst, EndsRefused, EndsWith, ReadsOn, WritesReady}
+use Rattle.tool_streams.specs.Blocks.{EndsWith, ReadsOn}
+use Rattle.sign_tool.specs.kept.Blocks.{AnswersFirst, EndsRefused, WritesReady}
 use Rattle.tool_streams.specs.Lines.{IsOneLine, input_limit, text_of}
 use Rattle.sign_tool.specs.Output.{Outcome, ended, outcome, output_of_whole}
 use Rattle.sign_tool.specs.Runs.{AnswersLine, IsFront, Runs}
 use Rattle.tool_streams.specs.Streams.{TakesLine}
-use Rattle.sign_tool.proofs.BlockLemmas.{Consumes-all_held}
+use Rattle.tool_streams.proofs.BlockLemmas.{Consumes-all_held, passes_front, reads_behind, taken_held, takes_nothing}
 use Rattle.sign_tool.proofs.RunLemmas.{AllAnswers, Going, Progress, Progress-line, Progress-lines, Progress-none, Progress-outcome, ends, ends_failing, ends_past, ends_too_long, ends_unfinished, ends_well, outcome-bad, outcome-long, told, whole}
 
 -- a run so far: `rest` was read and isn't answered, and `ready` is answered and isn't written
@@ -29,25 +30,6 @@ pub record Answering (first room : ℕ) (answers behind : AllAnswers) (input now
   pub none : IsOneLine (take seen (take left rest))
   pub progress : Progress first answers behind number taken (gone ++ ready) lines
 
--- what stands in front of what is left
-pub taken_held : (a b : Option (List ℕ)) (taken rest : List ℕ) → Consumes a (prepend_known rest b) taken → Consumes a b (taken ++ rest)
-taken_held None b taken rest c = tt
-taken_held (Some x) None taken rest c = absurd c
-taken_held (Some x) (Some y) taken rest c = c ∙ sym (append_assoc taken rest y)
-
-pub passes_front : (a b : Option (List ℕ)) (rest front others taken : List ℕ) → rest ≡ front ++ others → Consumes a (prepend_known rest b) taken → Consumes a (prepend_known others b) (taken ++ front)
-passes_front None b rest front others taken is c = tt
-passes_front (Some x) None rest front others taken is c = absurd c
-passes_front (Some x) (Some y) rest front others taken is c =
-    c ∙ ap (λ l. taken ++ (l ++ y)) is ∙ ap (λ l. taken ++ l) (append_assoc front others y) ∙ sym (append_assoc taken front (others ++ y))
-
-pub reads_behind : (a b c : Option (List ℕ)) (rest more taken : List ℕ) → Consumes b c more → Consumes a (prepend_known rest b) taken → Consumes a (prepend_known (rest ++ more) c) taken
-reads_behind None b c rest more taken took t = tt
-reads_behind (Some x) None c rest more taken took t = absurd t
-reads_behind (Some x) (Some y) None rest more taken took t = absurd took
-reads_behind (Some x) (Some y) (Some z) rest more taken took t =
-    t ∙ ap (λ l. taken ++ (rest ++ l)) took ∙ ap (λ l. taken ++ l) (sym (append_assoc rest more z))
-
 -- the same in other words
 pub first_is : (before behind : AllAnswers) (octets octets' old new : List ℕ) (line line' : FirstLine) → octets ≡ octets' → line ≡ line' → AnswersFirst before behind octets old new (Ok line) → AnswersFirst before behind octets' old new (Ok line')
 first_is before behind octets octets' old new line line' e h a =
@@ -55,10 +37,6 @@ first_is before behind octets octets' old new line line' e h a =
 
 pub written_is : (old new : Option (List ℕ)) (line line' : FirstLine) (ready ready' : List ℕ) → line ≡ line' → WritesReady old new line ready ready' (Ok tt) → WritesReady old new line' ready ready' (Ok tt)
 written_is old new line line' ready ready' h w = subst (λ l. WritesReady old new l ready ready' (Ok tt)) h w
-
-pub takes_nothing : (a : Option (List ℕ)) → Consumes a (prepend_known [] a) []
-takes_nothing None = tt
-takes_nothing (Some x) = refl
 
 -- a run begins with no octets
 pub begins : (first room : ℕ) (answers : AllAnswers) (input output : Option (List ℕ)) (rest ready : List ℕ) → rest ≡ [] → ready ≡ [] → first + room ≤ input_limit + 1

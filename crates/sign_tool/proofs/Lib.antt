@@ -1,5 +1,4 @@
 pub mod AnsweringLemmas
-pub mod BlockLemmas
 pub mod CodeLemmas
 pub mod CutLemmas
 pub mod DigitLemmas
@@ -8,6 +7,7 @@ mod FileSetupRows
 pub mod FileSetupLemmas
 pub mod FrameLemmas
 pub mod RefusedLemmas
+pub mod ReadyLemmas
 pub mod ReplyLemmas
 pub mod RunLemmas
 pub mod ScriptLemmas

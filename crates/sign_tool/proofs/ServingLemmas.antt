@@ -7,10 +7,11 @@ use Rattle.std.proofs.KnownBytes.{Appends-nil, Appends-trans, Consumes-kept, Con
 use Rattle.tool_streams.specs.declared.fault.ToolFault.{ToolFault}
 use Rattle.tool_streams.specs.declared.fault.ToolFault.TheVariants as faults
 use Rattle.tool_streams.specs.Lines.{IsOneLine, cut}
-use Rattle.sign_tool.specs.kept.Blocks.{EndsRefused, ReadsMore}
+use Rattle.tool_streams.specs.Blocks.{ReadsMore}
+use Rattle.sign_tool.specs.kept.Blocks.{EndsRefused}
 use Rattle.sign_tool.specs.Runs.{IsFront, fault_of}
 use Rattle.sign_tool.specs.Serving.{EndsServed, PassesCut, ServerData, Serves, last_line, last_reply, replies_so_far, replies_to, replies_to_all, told_cut}
-use Rattle.sign_tool.proofs.AnsweringLemmas.{passes_front, reads_behind, taken_held, takes_nothing}
+use Rattle.tool_streams.proofs.BlockLemmas.{passes_front, reads_behind, taken_held, takes_nothing}
 use Rattle.sign_tool.proofs.CutLemmas.{AreLines-more, octets_of-more}
 use Rattle.sign_tool.proofs.RunLemmas.{told}
 use Rattle.sign_tool.proofs.ServedLemmas.{Given, IsLost, cut_line_told, last_told, replies_go_on, replies_more, so_far, whole}

@@ -11,7 +11,7 @@ use Rattle.tool_streams.specs.Streams.{WritesWhole}
 use Rattle.sign_tool.specs.declared.first.FirstLine.{FirstLine}
 use Rattle.sign_tool.specs.declared.first.FirstLine.TheVariants.{Answered, Open}
 use Rattle.sign_tool.specs.declared.setup.Setup.{Setup}
-use Rattle.sign_tool.specs.kept.Blocks.{Begins}
+use Rattle.tool_streams.specs.Blocks.{Begins}
 use Rattle.sign_tool.specs.Runs.{IsFront, IsOfLines}
 use Rattle.sign_tool.specs.Script.{Told}
 use Rattle.sign_tool.specs.Served.{joined, served, told_line, too_long}

@@ -1,13 +1,12 @@
 //! The first line of a block.
 ghost use Rattle.std.specs.Prelude.{◌≡◌, ◌≤◌, [], OnOk, length, take};
-ghost use Rattle.sign_tool.specs.kept.Blocks.{AnswersFirst, IsLineEnd};
+ghost use Rattle.sign_tool.specs.kept.Blocks.{AnswersFirst};
 ghost use Rattle.tool_streams.specs.Lines.{IsOneLine};
 
 use crate::answer::{Answer, LineAnswer};
 use crate::ready::Ready;
-use memchr::memchr_iter;
 use std::alloc::AllocError;
-use tool_streams::{MAX_LINE, text_of};
+use tool_streams::{MAX_LINE, line_end, text_of};
 
 /// What was done with the first line of a block (own).
 #[derive(Clone, Copy)]
@@ -20,20 +19,6 @@ pub(crate) enum FirstLine {
     TooLong,
     /// Nothing: it is bad.
     Bad,
-}
-
-/// Where the first line feed is, if there is one. The first `seen` octets have none.
-#[inline(always)]
-pub(crate) fn line_end(octets: &[u8], seen: usize) -> Option<usize>
-    requires seen { seen ≤ length octets.now }
-    requires none { IsOneLine (take seen octets.now) }
-    ensures { IsLineEnd octets.now result }
-{
-    // Most lines are short, and an iterator looks near first.
-    match memchr_iter(b'\n', &octets[seen..]).next() {
-        Some(end) => Some(seen + end),
-        None => None,
-    }
 }
 
 /// Answers the first line if it ends here, and adds its answer to those that are ready. The first `seen` octets have no line feed.

@@ -7,7 +7,6 @@
 
 mod answer;
 mod answers;
-mod block;
 mod check;
 mod fault;
 mod few;
@@ -15,7 +14,6 @@ mod first;
 mod laws;
 mod output;
 mod ready;
-mod refill;
 mod replies;
 mod reply;
 mod script;

@@ -2,11 +2,10 @@
 ghost use Rattle.std.specs.Prelude.{◌≡◌, [], OnOk};
 ghost use Rattle.sign_tool.specs.kept.Blocks.{EndsRefused, WritesReady};
 
-use crate::block::BLOCK;
 use crate::first::FirstLine;
 use crate::ready::Ready;
 use std::io::Write;
-use tool_streams::{ToolFault, write_whole};
+use tool_streams::{BLOCK, ToolFault, write_whole};
 
 /// How many octets of answers are kept before they are written (own). The shortest answers to a block are fewer.
 pub(crate) const MAX_READY: usize = 6 * BLOCK;

@@ -5,15 +5,14 @@ ghost use Rattle.tool_streams.specs.Lines.{IsOneLine};
 ghost use Rattle.sign_tool.specs.Runs.{IsFront, WritesLines, fault_of};
 ghost use Rattle.sign_tool.specs.Serving.{AnswersLast, AnswersNext, EndsServed, PassesCut, Serves, at_start, replies_so_far, replies_to_all};
 
-use crate::block::{BLOCK, Block};
-use crate::first::{FirstLine, line_end};
+use crate::first::FirstLine;
 use crate::output::{MAX_READY, end_refused, write_ready};
 use crate::ready::Ready;
 use crate::server::Server;
 use crate::setup::Setup;
 use std::alloc::{AllocError, Global};
 use std::io::{Read, Write};
-use tool_streams::{MAX_KEPT, ToolFault, write_whole};
+use tool_streams::{BLOCK, Block, MAX_KEPT, ToolFault, line_end, write_whole};
 
 /// Answers the next line if it ends here, and adds its reply to those that are ready. The first `seen` octets have no line feed. Of a line
 /// that is cut, too many octets were passed over.

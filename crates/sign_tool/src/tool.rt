@@ -8,12 +8,10 @@ ghost use Rattle.sign_tool.specs.Tool.{IsOfInput, answers_of, outcome_of, output
 ghost use Rattle.sign_tool.specs.declared.tool.Mode.TheVariants as mode;
 
 use crate::answer::Answer;
-use crate::block::Block;
 use crate::check::Checker;
 use crate::first::{FirstLine, answer_first};
 use crate::output::{end_refused, write_ready};
 use crate::ready::Ready;
-use crate::refill::read_on;
 use crate::script::Operator;
 use crate::setup::Setup;
 use crate::show::Shower;
@@ -21,7 +19,7 @@ use crate::start::{Start, begin};
 use multi_layout::Judge;
 use std::alloc::Global;
 use std::io::{Read, Write};
-use tool_streams::{LineStart, ToolFault};
+use tool_streams::{Block, LineStart, ToolFault, read_on};
 
 /// What is done with each line (own).
 #[derive(Clone, Copy, Debug, PartialEq, Eq)]

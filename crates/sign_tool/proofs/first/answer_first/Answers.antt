@@ -1,7 +1,7 @@
 use Rattle.std.proofs.Common.{◌+◌, take, drop, ap, ◌∙◌, arith}
 use Rattle.std.proofs.lemmas.List.{length-take-le}
 use Rattle.sign_tool.specs.kept.Ready.{ReadyData}
-use Rattle.sign_tool.proofs.BlockLemmas
+use Rattle.sign_tool.proofs.ReadyLemmas
 use Rattle.sign_tool.proofs.first.answer_first.Goals as goal
 
 pub returns-in-Text-clause-first : goal.returns-in-Text-clause-first
@@ -19,7 +19,7 @@ returns-in-Text-clause-first g c =
       rw c.text_of-line.ensures.text at c.if-line-gt-MAX_LINE.false,
       (
         text,
-        BlockLemmas.answer_added _ new.whole new.begun old.whole old.begun text (ap (λ (r : ReadyData). r.whole) c.end_answer.ensures) c.in_ok-answer.ensures.whole grown c.requires.begun,
+        ReadyLemmas.answer_added _ new.whole new.begun old.whole old.begun text (ap (λ (r : ReadyData). r.whole) c.end_answer.ensures) c.in_ok-answer.ensures.whole grown c.requires.begun,
         says,
       ),
     )

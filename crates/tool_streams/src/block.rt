@@ -1,17 +1,17 @@
 //! The octets of an input that were read and aren't answered yet.
 ghost use Rattle.std.specs.Prelude.{◌≡◌, ◌^◌, ◌<◌, ◌≤◌, [], length, take, drop};
-ghost use Rattle.sign_tool.specs.kept.Blocks.{ReadsMore};
+ghost use Rattle.tool_streams.specs.Blocks.{ReadsMore};
 
+use crate::fault::ToolFault;
 use std::io::Read;
 use std::marker::Model;
-use tool_streams::ToolFault;
 
 /// How many octets a block has room for (own). A line that fills it is too long.
-pub(crate) const BLOCK: usize = 16_384;
+pub const BLOCK: usize = 16_384;
 
 /// The octets of an input that were read and aren't answered yet (own). It asks for no memory.
 #[derive(Drop)]
-pub(crate) struct Block {
+pub struct Block {
     octets: [u8; BLOCK],
     /// Where the octets begin that aren't answered yet.
     start: usize,
@@ -31,7 +31,7 @@ impl Model for Block {
 
 impl Block {
     /// With no octets.
-    pub(crate) fn new() -> Block
+    pub fn new() -> Block
         ensures { result ≡ [] }
     {
         Block {
@@ -42,7 +42,7 @@ impl Block {
     }
 
     /// How many octets wait.
-    pub(crate) fn len(&self) -> usize
+    pub fn len(&self) -> usize
         ensures value { result ≡ length self.now }
         ensures bound { result ≤ 16384 }
     {
@@ -50,14 +50,14 @@ impl Block {
     }
 
     /// All octets that wait.
-    pub(crate) fn all(&self) -> &[u8]
+    pub fn all(&self) -> &[u8]
         ensures { result.now ≡ self.now }
     {
         &self.octets[self.start..self.end]
     }
 
     /// The first octets that wait, at most `most`.
-    pub(crate) fn first(&self, most: usize) -> &[u8]
+    pub fn first(&self, most: usize) -> &[u8]
         ensures { result.now ≡ take most self.now }
     {
         let all = &self.octets[..];
@@ -65,7 +65,7 @@ impl Block {
     }
 
     /// Passes over the first octets, which are answered.
-    pub(crate) fn pass(&mut self, count: usize)
+    pub fn pass(&mut self, count: usize)
         requires { count ≤ length self.old }
         ensures { self.new ≡ drop count self.old }
     {
@@ -73,7 +73,7 @@ impl Block {
     }
 
     /// Reads once, at most `most` octets, and says how many were read: none only at the end. The error is `Read`.
-    pub(crate) fn read_more<R: Read>(
+    pub fn read_more<R: Read>(
         &mut self,
         reader: &mut R,
         most: usize,

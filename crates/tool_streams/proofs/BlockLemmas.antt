@@ -2,7 +2,7 @@
 use Rattle.std.proofs.Common.{◌≡◌, ◌≢◌, ℕ, zero, suc, Bool, slice_index, ⊎_elim, ◌+◌, ◌-◌, ◌<◌, ◌≤◌, ◌==◌, List, [], ◌∷◌, ◌++◌, Option, None, Some, Ok, Err, length, take, drop, get_or, slice_range, refl, sym, ap, ◌∙◌, subst, arith, append_assoc, append-nil, take-append-drop}
 use Rattle.std.proofs.lemmas.Bool.{cases_Bool, cases_eq, cond-false, cond-true, eqb-true, false≢true}
 use Rattle.std.specs.List.{copy_within}
-use Rattle.std.proofs.lemmas.List.{drop-append-le, drop-drop, drop-take, drop_more, get_or-drop, get_or-take, length-append, length-drop, length-take, length-take-le, take-append-le, take-take, take_all}
+use Rattle.std.proofs.lemmas.List.{drop-append-le, drop-drop, drop-take, drop_more, get_or-drop, get_or-take, length-append, length-drop, length-take, length-take-le, take-append-le, take-take, take_all, take_at}
 use Rattle.std.proofs.lemmas.List.Elements.{All-append, All-from_get_or}
 use Rattle.std.proofs.Math.Seq.{take-add, take-append-add}
 use Rattle.std.specs.Io.KnownBytes.{Consumes, IsAtEnd, Keeps, prepend_known}
@@ -10,7 +10,7 @@ use Rattle.memchr.specs.Find.{NoneBefore, Nowhere, Passes, is_byte, places, plac
 use Rattle.tool_streams.specs.declared.fault.ToolFault.{ToolFault}
 use Rattle.tool_streams.specs.declared.fault.ToolFault.TheVariants as faults
 use Rattle.tool_streams.specs.declared.lines.NextLine.TheVariants as next
-use Rattle.sign_tool.specs.kept.Blocks.{EndsWith, IsLineEnd}
+use Rattle.tool_streams.specs.Blocks.{EndsWith, HoldsUnfinished, IsLineEnd}
 use Rattle.tool_streams.specs.Lines.{IsOneLine}
 use Rattle.tool_streams.specs.Streams.{TakesLine}
 use Rattle.tool_streams.proofs.SeenLemmas.{length-text_of}
@@ -145,6 +145,50 @@ Consumes-all_held None b held c = tt
 Consumes-all_held (Some x) None held c = absurd c
 Consumes-all_held (Some x) (Some y) held c = ap (λ l. held ++ l) (sym c)
 
+-- nothing is held
+pub takes_nothing : (a : Option (List ℕ)) → Consumes a (prepend_known [] a) []
+takes_nothing None = tt
+takes_nothing (Some x) = refl
+
+-- what is held was taken
+pub taken_held : (a b : Option (List ℕ)) (taken rest : List ℕ) → Consumes a (prepend_known rest b) taken → Consumes a b (taken ++ rest)
+taken_held None b taken rest c = tt
+taken_held (Some x) None taken rest c = absurd c
+taken_held (Some x) (Some y) taken rest c = c ∙ sym (append_assoc taken rest y)
+
+-- a part of it is passed over
+pub passes_front : (a b : Option (List ℕ)) (rest front others taken : List ℕ) → rest ≡ front ++ others → Consumes a (prepend_known rest b) taken → Consumes a (prepend_known others b) (taken ++ front)
+passes_front None b rest front others taken is c = tt
+passes_front (Some x) None rest front others taken is c = absurd c
+passes_front (Some x) (Some y) rest front others taken is c =
+    c ∙ ap (λ l. taken ++ (l ++ y)) is ∙ ap (λ l. taken ++ l) (append_assoc front others y) ∙ sym (append_assoc taken front (others ++ y))
+
+-- more is read behind it
+pub reads_behind : (a b c : Option (List ℕ)) (rest more taken : List ℕ) → Consumes b c more → Consumes a (prepend_known rest b) taken → Consumes a (prepend_known (rest ++ more) c) taken
+reads_behind None b c rest more taken took t = tt
+reads_behind (Some x) None c rest more taken took t = absurd t
+reads_behind (Some x) (Some y) None rest more taken took t = absurd took
+reads_behind (Some x) (Some y) (Some z) rest more taken took t =
+    t ∙ ap (λ l. taken ++ (rest ++ l)) took ∙ ap (λ l. taken ++ l) (sym (append_assoc rest more z))
+
+-- the first line of what is held, if it ends among these first octets
+pub first_line : (held : List ℕ) (left end : ℕ) → IsLineEnd (take left held) (Some end)
+    → (held ≡ (take end (take left held) ++ 10 ∷ []) ++ drop (end + 1) held) × (length (take end (take left held)) ≡ end) × (end + 1 ≤ left) × (end + 1 ≤ length held)
+first_line held left end (below, one, stands) =
+    let octets = take left held in
+    let line = take end octets in
+    let others = drop (end + 1) octets in
+    let size : length line ≡ end = length-take-le end octets (omega (arith, below)) in
+    let regrouped : held ≡ (line ++ 10 ∷ []) ++ (others ++ drop left held) =
+    sym (take-append-drop left held) ∙ ap (λ l. l ++ drop left held) stands ∙ (let same : (line ++ 10 ∷ others) ++ drop left held ≡ (line ++ 10 ∷ []) ++ (others ++ drop left held) = simp append_assoc refl in same) in
+    let first_part : take (end + 1) held ≡ line ++ 10 ∷ [] =
+    ap (take (end + 1)) regrouped ∙ take_at (line ++ 10 ∷ []) (others ++ drop left held) (end + 1) (omega (arith, size, length-append line (10 ∷ []))) in (
+      sym (take-append-drop (end + 1) held) ∙ ap (λ l. l ++ drop (end + 1) held) first_part,
+      size,
+      omega (arith, below, length-take left held),
+      omega (arith, below, length-take left held),
+    )
+
 -- a line of which too much is held already
 module _ (old new : Option (List ℕ)) (held line : List ℕ) (number left rest left' : ℕ) (one : IsOneLine held) (long : 8301 < length held) (few : length held + rest ≡ left) where
   joined : (more : List ℕ) → IsOneLine more → IsOneLine (held ++ more)
@@ -213,6 +257,39 @@ module _ (old new : Option (List ℕ)) (held line : List ℕ) (number left rest 
   ends_failing (faults.SignRefused n) t = let (more, took, fits, bad) = t in absurd (let wrong : faults.SignRefused n ≡ faults.Memory = bad in cc)
   ends_failing faults.BadSign t = let (more, took, fits, bad) = t in absurd (let wrong : faults.BadSign ≡ faults.Memory = bad in cc)
 
+  -- what is held is the first of it
+  pub holds_unfinished : TakesLine old new rest left' line (Ok next.Unfinished) → HoldsUnfinished (prepend_known held old) new left held (faults.BadLine number)
+  holds_unfinished t = let (more, took, end, h, is, some) = t in (
+    held ++ more,
+    Consumes-held old new held more took,
+    end,
+    joined more h,
+    omega (arith, few, is, length-append held more),
+    omega (arith, long, length-append held more),
+    sym (take-append-le 8301 held more (omega (arith, long))),
+  )
+
+  pub holds_at_end : TakesLine old new rest left' line (Ok next.End) → HoldsUnfinished (prepend_known held old) new left held (faults.BadLine number)
+  holds_at_end t = (
+    held,
+    subst (Consumes (prepend_known held old) new) (append-nil held) (Consumes-held old new held [] t.0),
+    t.1,
+    one,
+    omega (arith, few),
+    omega (arith, long),
+    refl,
+  )
+
+  pub holds_failing : (e : ToolFault) → TakesLine old new rest left' line (Err e) → HoldsUnfinished (prepend_known held old) new left held e
+  holds_failing (faults.BadLine n) t = let (more, took, fits, bad) = t in absurd (let wrong : faults.BadLine n ≡ faults.Memory = bad in cc)
+  holds_failing faults.Read t = tt
+  holds_failing faults.Memory t = tt
+  holds_failing faults.Write t = tt
+  holds_failing (faults.LineTooLong n) t = tt
+  holds_failing faults.InputTooLong t = tt
+  holds_failing (faults.SignRefused n) t = tt
+  holds_failing faults.BadSign t = tt
+
 single : (l : List ℕ) → length l ≡ 1 → (x : ℕ) × (l ≡ x ∷ [])
 single [] e = absurd (omega (arith, e))
 single (x ∷ []) e = (x, refl)
@@ -242,7 +319,13 @@ held_last old new held [] number left count one few some none size took end =
     (refl, (held, subst (Consumes (prepend_known held old) new) (append-nil held) (Consumes-held old new held [] took), end, one, few, some))
 held_last old new held (x ∷ more) number left count one few some none size took end = absurd (omega (arith, size, none))
 
--- an answer that was begun is whole, and comes behind those before it
-pub answer_added : (ended whole begun ready none text : List ℕ) → ended ≡ whole ++ begun → whole ≡ ready → begun ≡ none ++ text → none ≡ [] → ended ≡ ready ++ text
-answer_added ended whole begun ready none text ends same grown is =
-    ends ∙ ap (λ l. l ++ begun) same ∙ ap (λ l. ready ++ l) (grown ∙ ap (λ l. l ++ text) is)
+-- and all of it is held
+pub holds_last : (old new : Option (List ℕ)) (held held' more : List ℕ) (number left count : ℕ) → IsOneLine held → length held ≤ left → 0 < length held → count ≡ 0 → length more ≡ count → Consumes old new more → IsAtEnd new
+    → held' ≡ held ++ more → HoldsUnfinished (prepend_known held old) new left held' (faults.BadLine number)
+holds_last old new held held' [] number left count one few some none size took end grown =
+    (held, subst (Consumes (prepend_known held old) new) (append-nil held) (Consumes-held old new held [] took), end, one, few, some, ap (take 8301) (grown ∙ append-nil held))
+holds_last old new held held' (x ∷ more) number left count one few some none size took end grown = absurd (omega (arith, size, none))
+
+-- where a reader fails there is nothing to say of what is held
+pub holds_reading : (old new : Option (List ℕ)) (held : List ℕ) (left : ℕ) (e : ToolFault) → e ≡ faults.Read → HoldsUnfinished old new left held e
+holds_reading old new held left e read = subst (HoldsUnfinished old new left held) (sym read) tt

@@ -1,6 +1,6 @@
 use Rattle.std.proofs.Common.{length, subst, ◌∙◌, ap, sym, ◌≤◌, drop}
-use Rattle.sign_tool.proofs.BlockLemmas
-use Rattle.sign_tool.proofs.block.Block.pass.Goals as goal
+use Rattle.tool_streams.proofs.BlockLemmas
+use Rattle.tool_streams.proofs.block.Block.pass.Goals as goal
 
 pub returns : goal.returns
 returns c =

@@ -1,7 +1,7 @@
 use Rattle.std.proofs.Common.{arith, sym, ◌∙◌}
 use Rattle.std.proofs.lemmas.List.{take_rest}
-use Rattle.sign_tool.proofs.BlockLemmas
-use Rattle.sign_tool.proofs.first.line_end.Goals as goal
+use Rattle.tool_streams.proofs.BlockLemmas
+use Rattle.tool_streams.proofs.ends.line_end.Goals as goal
 
 pub overflow_add-result : goal.overflow_add-result
 overflow_add-result c =

@@ -1,8 +1,8 @@
 use Rattle.std.proofs.Common.{◌≡◌, ◌≤◌, ◌<◌, ◌-◌, ◌++◌, length, slice_range, take, arith, ap, ◌∙◌}
 use Rattle.std.proofs.lemmas.List.{length-take-le}
-use Rattle.sign_tool.proofs.BlockLemmas
-use Rattle.sign_tool.proofs.block.Block.read_more.Goals.{then-self-eq-BLOCK, else-self-eq-BLOCK}
-use Rattle.sign_tool.proofs.block.Block.read_more.Goals as goal
+use Rattle.tool_streams.proofs.BlockLemmas
+use Rattle.tool_streams.proofs.block.Block.read_more.Goals.{then-self-eq-BLOCK, else-self-eq-BLOCK}
+use Rattle.tool_streams.proofs.block.Block.read_more.Goals as goal
 
 pub returns-in-Ok : goal.returns-in-Ok
 returns-in-Ok g c =
