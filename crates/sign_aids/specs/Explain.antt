@@ -38,15 +38,18 @@ refused_one sign line = if takes sign (text_of line) then 0 else 1
 abbrev pub refused_of : SignData → List (List ℕ) → ℕ
 refused_of sign lines = sum_by (refused_one sign) lines
 
--- a fault at a message. What stands behind the last line feed is a message too, unless it has too many octets (own)
+-- a fault at a message, with which what is read begins. What stands behind the last line feed is a message too, unless it has too many
+-- octets (own)
 abbrev pub IsMessageFault : ℕ → ℕ → List ℕ → Option (List ℕ) → ToolFault → Type 0
 IsMessageFault number left more input (faults.BadLine line) = ⊥
-IsMessageFault number left more input (faults.LineTooLong line) = IsLineFault number left more input (faults.LineTooLong line)
+IsMessageFault number left more input (faults.LineTooLong line) =
+    ((first behind : List ℕ) × (more ≡ first ++ behind) × IsLineFault number left first input (faults.LineTooLong line))
     ⊎ ((line ≡ number) × IsOneLine more × (length more ≤ left) × IsAtEnd input × (8300 < length more))
 IsMessageFault number left more input e = IsLineFault number left more input e
 
 -- some lines are read, from this place on, and perhaps more, which has this fault, and their explanations
--- are written, or their beginning, if the writer fails, also at what stands behind the last line feed (own)
+-- are written, or their beginning, if the writer fails, also at what stands behind the last line feed. No more is read than what shows that
+-- an input is too long (own)
 pub record BeginsToExplain (asking : Asking) (place : LineStart) (input input' output output' : Option (List ℕ)) (e : ToolFault) : Type 0
   where
     pub lines : List (List ℕ)
@@ -57,6 +60,7 @@ pub record BeginsToExplain (asking : Asking) (place : LineStart) (input input' o
     pub left : ℕ
     pub reads : Consumes input input' (octets_of lines ++ more)
     pub room : length (octets_of lines) + left ≡ place.left
+    pub most : length more ≤ left + 1
     pub fault : IsMessageFault (place.number + length lines) left more input' e
     pub last : (told ≡ []) ⊎ ((told ≡ more ∷ []) × (e ≡ faults.Write) × IsAtEnd input')
     pub explains : ExplainsLines asking place.number (lines ++ told) (sent ++ unsent)

@@ -1,16 +1,20 @@
 //! Messages, explained one after the other.
-ghost use Rattle.std.specs.Prelude.{◌≡◌, ◌+◌, ◌-◌, ◌≤◌, OnOk, IfOk, if◌then◌else◌};
+ghost use Rattle.std.specs.Prelude.{◌≡◌, ◌+◌, ◌-◌, ◌≤◌, ◌++◌, [], OnOk, IfOk, if◌then◌else◌, take};
+ghost use Rattle.std.specs.Io.KnownBytes.{prepend_known};
 ghost use Rattle.message_report.specs.Explanation.{Explains, takes};
 ghost use Rattle.sign_aids.specs.Explain.{ExplainsInput, ExplainsRest};
-ghost use Rattle.sign_aids.specs.kept.Explaining.{ExplainsNext, IsFurther, ReadsMessage, TellsMessage};
-ghost use Rattle.tool_streams.specs.Lines.{input_limit, text_of};
+ghost use Rattle.sign_aids.specs.kept.Explaining.{EndsAfter, ExplainsNext, IsFurther, IsHeld, TellsLast, TellsMessage, WritesFront};
+ghost use Rattle.tool_streams.specs.Lines.{IsOneLine, input_limit, text_of};
+ghost use Rattle.tool_streams.specs.Streams.{WritesWhole};
 
 use message_report::{Explainer, Telling, Told};
 use sign_tool::{Setup, Start, begin};
 use std::alloc::{AllocError, Global};
 use std::io::{Read, Write};
 use std::marker::Model;
-use tool_streams::{LineStart, MAX_LINE, NextLine, ToolFault, next_line, text_of, write_whole};
+use tool_streams::{
+    BLOCK, Block, LineStart, MAX_LINE, ToolFault, line_end, read_on, text_of, write_whole,
+};
 
 /// What was told of the messages of an input (own).
 #[derive(Clone, Copy, Debug, PartialEq, Eq)]
@@ -42,49 +46,93 @@ impl Model for Asker {
     ghost view = { λ a. record { sign = a.explainer; telling = a.telling; name = a.name.items; before = a.before } };
 }
 
-/// What is read of an input.
-#[derive(Clone, Copy)]
-enum NextMessage {
-    /// A line.
-    Whole,
-    /// What stands behind the last line feed.
-    Last,
-    /// Nothing more.
-    End,
-}
-
-/// What was told of it.
+/// What was done with what comes next in an input.
 #[derive(Clone, Copy)]
 enum NextTold {
-    /// Of a line.
+    /// This was told of a line.
     Whole(Told),
-    /// Of what stands behind the last line feed.
+    /// More was read.
+    More,
+    /// This was told of what stands behind the last line feed.
     Last(Told),
     /// There is nothing more.
     End,
 }
 
-/// Reads the next message.
-fn read_next<R: Read>(
-    place: &mut LineStart,
-    line: &mut Vec<u8>,
-    reader: &mut R,
-) -> Result<NextMessage, ToolFault>
-    ensures reads { ReadsMessage place.old place.new (R.remaining reader.old) (R.remaining reader.new) line.new.items result }
-    ensures number { place.new.number ≡ place.old.number }
-{
-    match next_line(reader, line, &mut place.left) {
-        Ok(NextLine::Line) => Ok(NextMessage::Whole),
-        Ok(NextLine::End) => Ok(NextMessage::End),
-        Ok(NextLine::Unfinished) => {
-            if line.len() > MAX_LINE {
-                return Err(ToolFault::LineTooLong { line: place.number });
+/// What was read of an input and isn't told of yet.
+#[derive(Drop)]
+struct Unread {
+    /// Where it stands in the input.
+    place: LineStart,
+    block: Block,
+    /// How many of its first octets have no line feed.
+    seen: usize,
+}
+
+/// What was told and isn't written yet.
+#[derive(Drop)]
+struct Gathered {
+    /// What was told of messages.
+    ready: Vec<u8>,
+    /// Room for what is told of the next one.
+    text: Vec<u8>,
+}
+
+/// How many octets are gathered before they are written (own).
+const MAX_READY: usize = 6 * BLOCK;
+
+/// How many octets a text has that is written by itself (own): to gather it would take longer.
+const LONG_TEXT: usize = 4_096;
+
+impl Gathered {
+    /// Writes what is ready. After an `Err`, which is `Write`, the writer has taken a beginning of it.
+    fn write<W: Write>(&mut self, writer: &mut W) -> Result<(), ToolFault>
+        ensures written { WritesWhole (W.contents writer.old) (W.contents writer.new) self.old.ready.items result }
+        ensures none { OnOk result (self.new.ready.items ≡ []) }
+        ensures text { self.new.text.items ≡ self.old.text.items }
+    {
+        match write_whole(writer, &self.ready) {
+            Ok(()) => {
+                self.ready.clear();
+                Ok(())
             }
-            Ok(NextMessage::Last)
+            Err(fault) => Err(fault),
         }
-        Ok(NextLine::TooLong) => Err(ToolFault::LineTooLong { line: place.number }),
-        Ok(NextLine::InputTooLong) => Err(ToolFault::InputTooLong),
-        Err(fault) => Err(fault),
+    }
+
+    /// Adds the text to what is ready, unless it is long, or much is ready, or memory is refused. The answer is whether it is added.
+    fn gather(&mut self) -> bool
+        ensures ready { self.new.ready.items ≡ (if result then self.old.ready.items ++ self.old.text.items else self.old.ready.items) }
+        ensures text { self.new.text.items ≡ self.old.text.items }
+    {
+        if self.text.len() >= LONG_TEXT || self.ready.len() >= MAX_READY {
+            return false;
+        }
+        self.ready.extend_from_slice(&self.text).is_ok()
+    }
+
+    /// Adds the text to what is ready, or writes both.
+    fn keep<W: Write>(&mut self, writer: &mut W) -> Result<(), ToolFault>
+        ensures { WritesFront (W.contents writer.old) (W.contents writer.new) (self.old.ready.items ++ self.old.text.items)
+            self.new.ready.items result }
+    {
+        if self.gather() {
+            return Ok(());
+        }
+        match self.write(writer) {
+            Ok(()) => write_whole(writer, &self.text),
+            Err(fault) => Err(fault),
+        }
+    }
+
+    /// Writes what is ready before a run ends with this fault, and says how it ends: so, or with `Write` if the writer fails.
+    fn end_with<W: Write>(&mut self, writer: &mut W, fault: ToolFault) -> ToolFault
+        ensures { EndsAfter (W.contents writer.old) (W.contents writer.new) self.old.ready.items fault result }
+    {
+        match self.write(writer) {
+            Ok(()) => fault,
+            Err(failed) => failed,
+        }
     }
 }
 
@@ -94,12 +142,12 @@ impl Asker {
         &self,
         alloc: Global,
         number: u32,
-        line: &Vec<u8>,
+        line: &[u8],
         text: &mut Vec<u8>,
     ) -> Result<Told, AllocError>
         ensures told { OnOk result
-            (Explains self.now.telling self.now.sign self.now.name (number - self.now.before) (text_of line.now.items) text.new.items) }
-        ensures taken { IfOk result (λ told. told.is_taken ≡ takes self.now.sign (text_of line.now.items)) }
+            (Explains self.now.telling self.now.sign self.now.name (number - self.now.before) (text_of line.now) text.new.items) }
+        ensures taken { IfOk result (λ told. told.is_taken ≡ takes self.now.sign (text_of line.now)) }
     {
         text.clear();
         self.explainer.explain(
@@ -112,55 +160,122 @@ impl Asker {
         )
     }
 
-    /// Explains the message of a line and writes what is told, with `text` for that.
+    /// Explains the message of a line, and gathers or writes what is told.
     fn tell<W: Write>(
         &self,
         alloc: Global,
         number: u32,
-        line: &Vec<u8>,
-        text: &mut Vec<u8>,
+        line: &[u8],
+        gathered: &mut Gathered,
         writer: &mut W,
     ) -> Result<Told, ToolFault>
-        ensures { TellsMessage self.now number line.now.items (W.contents writer.old) (W.contents writer.new) result }
+        ensures { TellsMessage self.now number line.now gathered.old.ready.items gathered.new.ready.items
+            (W.contents writer.old) (W.contents writer.new) result }
     {
-        let Ok(told) = self.explain(alloc, number, line, text) else {
+        let Ok(told) = self.explain(alloc, number, line, &mut gathered.text) else {
+            return Err(gathered.end_with(writer, ToolFault::Memory));
+        };
+        match gathered.keep(writer) {
+            Ok(()) => Ok(told),
+            Err(fault) => Err(fault),
+        }
+    }
+
+    /// Explains what stands behind the last line feed, where nothing is ready, and writes what is told.
+    fn tell_last<W: Write>(
+        &self,
+        alloc: Global,
+        number: u32,
+        line: &[u8],
+        gathered: &mut Gathered,
+        writer: &mut W,
+    ) -> Result<Told, ToolFault>
+        ensures { TellsLast self.now number line.now (W.contents writer.old) (W.contents writer.new) result }
+    {
+        if line.len() > MAX_LINE {
+            return Err(ToolFault::LineTooLong { line: number });
+        }
+        let Ok(told) = self.explain(alloc, number, line, &mut gathered.text) else {
             return Err(ToolFault::Memory);
         };
-        match write_whole(writer, text) {
+        match write_whole(writer, &gathered.text) {
             Ok(()) => Ok(told),
             Err(fault) => Err(fault),
         }
     }
 }
 
-/// Reads the next message and explains it, with `line` and `text` for its octets and for what is written.
-fn explain_next<R: Read, W: Write>(
+/// Writes what is ready and reads on, where no line ends among the octets that are held. What the input ends with is explained.
+fn explain_more<R: Read, W: Write>(
     alloc: Global,
     asker: &Asker,
-    place: &mut LineStart,
-    line: &mut Vec<u8>,
-    text: &mut Vec<u8>,
+    unread: &mut Unread,
+    gathered: &mut Gathered,
     reader: &mut R,
     writer: &mut W,
 ) -> Result<NextTold, ToolFault>
-    requires { place.old.number + place.old.left ≤ input_limit + 1 }
-    ensures explains { ExplainsNext asker.now place.old place.new (R.remaining reader.old) (R.remaining reader.new) (W.contents writer.old)
-        (W.contents writer.new) result }
-    ensures place { IfOk result (IsFurther place.old place.new) }
+    requires held { IsHeld unread.old.place unread.old.block unread.old.seen }
+    requires none { IsOneLine (take unread.old.place.left unread.old.block) }
+    ensures explains { ExplainsNext asker.now unread.old.place unread.new.place (prepend_known unread.old.block (R.remaining reader.old))
+        (R.remaining reader.new) unread.new.block (W.contents writer.old) (W.contents writer.new) gathered.old.ready.items
+        gathered.new.ready.items result }
+    ensures further { IfOk result
+        (IsFurther unread.old.place unread.new.place unread.old.block unread.new.block unread.new.seen) }
 {
-    match read_next(place, line, reader) {
-        Ok(NextMessage::Whole) => match asker.tell(alloc, place.number, line, text, writer) {
-            Ok(told) => {
-                place.number += 1;
-                Ok(NextTold::Whole(told))
-            }
-            Err(fault) => Err(fault),
-        },
-        Ok(NextMessage::Last) => match asker.tell(alloc, place.number, line, text, writer) {
-            Ok(told) => Ok(NextTold::Last(told)),
-            Err(fault) => Err(fault),
-        },
-        Ok(NextMessage::End) => Ok(NextTold::End),
+    match gathered.write(writer) {
+        Ok(()) => {}
+        Err(fault) => return Err(fault),
+    }
+    unread.seen = unread.block.len();
+    let fault = match read_on(alloc, reader, &mut unread.block, unread.place) {
+        Ok(true) => return Ok(NextTold::More),
+        Ok(false) => return Ok(NextTold::End),
+        Err(fault) => fault,
+    };
+    let ToolFault::BadLine { line } = fault else {
+        return Err(fault);
+    };
+    match asker.tell_last(alloc, line, unread.block.all(), gathered, writer) {
+        Ok(told) => Ok(NextTold::Last(told)),
+        Err(failed) => Err(failed),
+    }
+}
+
+/// Explains the next message, if a line ends among the octets that are held, or reads on.
+fn explain_next<R: Read, W: Write>(
+    alloc: Global,
+    asker: &Asker,
+    unread: &mut Unread,
+    gathered: &mut Gathered,
+    reader: &mut R,
+    writer: &mut W,
+) -> Result<NextTold, ToolFault>
+    requires { IsHeld unread.old.place unread.old.block unread.old.seen }
+    ensures explains { ExplainsNext asker.now unread.old.place unread.new.place (prepend_known unread.old.block (R.remaining reader.old))
+        (R.remaining reader.new) unread.new.block (W.contents writer.old) (W.contents writer.new) gathered.old.ready.items
+        gathered.new.ready.items result }
+    ensures further { IfOk result
+        (IsFurther unread.old.place unread.new.place unread.old.block unread.new.block unread.new.seen) }
+{
+    let LineStart { number, left } = unread.place;
+    let octets = unread.block.first(left as usize);
+    let Some(end) = line_end(octets, unread.seen) else {
+        return explain_more(alloc, asker, unread, gathered, reader, writer);
+    };
+    let line = &octets[..end];
+    if text_of(line).len() > MAX_LINE {
+        return Err(gathered.end_with(writer, ToolFault::LineTooLong { line: number }));
+    }
+    match asker.tell(alloc, number, line, gathered, writer) {
+        Ok(told) => {
+            unread.block.pass(end + 1);
+            unread.place = LineStart {
+                number: number + 1,
+                left: left - (end + 1) as u32,
+            };
+            unread.seen = 0;
+            Ok(NextTold::Whole(told))
+        }
         Err(fault) => Err(fault),
     }
 }
@@ -182,6 +297,9 @@ impl Counts {
 }
 
 /// Explains the messages from this line on, up to a fault or the end, and counts them.
+///
+/// What is read is kept in a block, and each message is explained where it stands there. What is told of short texts is written together,
+/// before more is read or as soon as it has 98,304 octets.
 fn explain_rest<R: Read, W: Write>(
     alloc: Global,
     asker: &Asker,
@@ -193,19 +311,24 @@ fn explain_rest<R: Read, W: Write>(
     ensures { ExplainsRest asker.now place (R.remaining reader.old) (R.remaining reader.new) (W.contents writer.old) (W.contents writer.new)
         result }
 {
-    let mut line = Vec::new(alloc);
-    let mut text = Vec::new(alloc);
-    let mut place = place;
+    let mut unread = Unread {
+        place,
+        block: Block::new(),
+        seen: 0,
+    };
+    let mut gathered = Gathered {
+        ready: Vec::new(alloc),
+        text: Vec::new(alloc),
+    };
     let mut counts = Counts {
         messages: 0,
         refused: 0,
         warnings: 0,
     };
     loop {
-        match explain_next(
-            alloc, asker, &mut place, &mut line, &mut text, reader, writer,
-        ) {
+        match explain_next(alloc, asker, &mut unread, &mut gathered, reader, writer) {
             Ok(NextTold::Whole(told)) => counts = counts.with(told),
+            Ok(NextTold::More) => {}
             Ok(NextTold::Last(told)) => return Ok(counts.with(told)),
             Ok(NextTold::End) => return Ok(counts),
             Err(fault) => return Err(fault),
@@ -238,7 +361,8 @@ fn asker_of(
 /// What stands behind the last line feed is a message too. Messages are told by the name of their file, and by their
 /// lines, which are counted behind the first `before` lines of the input. The answer is how many messages there were.
 ///
-/// The input is that of `check`, with its faults but for one. An explanation is written before the next line is read.
+/// The input is that of `check`, with its faults but for one. An explanation is written before
+/// more is read than the block of octets in which its line has ended.
 pub fn run_explain<R: Read, W: Write>(
     alloc: Global,
     sample: bool,

@@ -73,11 +73,7 @@ impl Block {
     }
 
     /// Reads once, at most `most` octets, and says how many were read: none only at the end. The error is `Read`.
-    pub fn read_more<R: Read>(
-        &mut self,
-        reader: &mut R,
-        most: usize,
-    ) -> Result<usize, ToolFault>
+    pub fn read_more<R: Read>(&mut self, reader: &mut R, most: usize) -> Result<usize, ToolFault>
         requires most { (0 < most) × (most ≤ 2 ^ 32) }
         requires room { length self.old < 16384 }
         ensures reads { ReadsMore (R.remaining reader.old) (R.remaining reader.new) self.old self.new most result }

@@ -1,33 +1,30 @@
-use Rattle.std.proofs.Common.{◌≡◌, ◌+◌, ◌-◌, Bool, if◌then◌else◌, ap, subst}
-use Rattle.message_report.specs.Explanation.{Explains}
-use Rattle.tool_streams.specs.Lines.{text_of}
-use Rattle.sign_aids.specs.Explain.{refused_one}
+use Rattle.std.proofs.Common.{refl}
+use Rattle.tool_streams.specs.declared.fault.ToolFault.TheVariants as faults
 use Rattle.sign_aids.proofs.ExplainLemmas
 use Rattle.sign_aids.proofs.explain.explain_next.Goals as goal
 
+pub returns-then-text_of-gt-MAX_LINE-clause-explains : goal.returns-then-text_of-gt-MAX_LINE-clause-explains
+returns-then-text_of-gt-MAX_LINE-clause-explains g c =
+    let place = c.args.unread.now.place in
+    let held = c.args.unread.now.block in
+    let is = rw c.first-octets.ensures at c.in-Some.ensures in
+    let long = rw (c.text_of.ensures.text, c.first-octets.ensures) at c.if-text_of-gt-MAX_LINE.true in
+    ExplainLemmas.begins_after c.args.asker.now place _ _ _ _ held _ (faults.LineTooLong place.number) c.end_with.result (ExplainLemmas.all_held _ held) c.requires.most (ExplainLemmas.long_first place _ held c.in-Some.end is long) c.end_with.ensures
+
 pub returns-in-Ok-clause-explains : goal.returns-in-Ok-clause-explains
 returns-in-Ok-clause-explains g c =
-    let asking = c.args.asker.now in
-    let line = c.read_next.new.line.items in
-    let told = c.in-Ok.told in
-    let (reads, one, room, short) = rw c.in-Ok-Whole.field-0-is at c.in-Ok-Whole.ensures.reads in
-    let same = c.in-Ok-Whole.ensures.number in
-    let (text, is, writes, taken) = c.in-Ok.ensures in
-    let refused : (if told.is_taken then 0 else 1) ≡ refused_one asking.sign line = ap (λ (b : Bool). if b then 0 else 1) taken in
-    let here = subst (λ n. Explains asking.telling asking.sign asking.name (n - asking.before) (text_of line) text) same is in
-    ExplainLemmas.explained_one asking c.args.place.now _ _ _ _ _ line text (if told.is_taken then 0 else 1) reads one (ap (λ n. n + 1) same) room short here refused writes
-
-pub returns-in-Err-tell-clause-explains : goal.returns-in-Err-tell-clause-explains
-returns-in-Err-tell-clause-explains g c =
-    let (reads, one, room, short) = rw c.in-Ok-Whole.field-0-is at c.in-Ok-Whole.ensures.reads in
-    ExplainLemmas.begins_whole c.args.asker.now c.args.place.now c.read_next.new.place.number c.read_next.new.place.left _ _ _ _ c.read_next.new.line.items c.in-Err-tell.fault reads one room short c.in-Ok-Whole.ensures.number c.in-Err-tell.ensures
-
-pub returns-in-Err-tell-2-clause-explains : goal.returns-in-Err-tell-2-clause-explains
-returns-in-Err-tell-2-clause-explains g c =
-    let (reads, end, one, some, room, short) = rw c.in-Ok-Last.field-0-is at c.in-Ok-Last.ensures.reads in
-    ExplainLemmas.begins_rest c.args.asker.now c.args.place.now c.read_next.new.place.number _ _ _ _ c.read_next.new.line.items c.in-Err-tell-2.fault reads end one short c.in-Ok-Last.ensures.number c.in-Err-tell-2.ensures
+    let place = c.args.unread.now.place in
+    let held = c.args.unread.now.block in
+    let is = rw c.first-octets.ensures at c.in-Some.ensures in
+    let short = rw (c.text_of.ensures.text, c.first-octets.ensures) at c.if-text_of-gt-MAX_LINE.false in
+    let told = rw c.first-octets.ensures at c.in-Ok.ensures in
+    ExplainLemmas.told_first c.args.asker.now place _ _ _ _ held c.pass.new.self c.args.gathered.now.ready.items _ c.in-Some.end c.in-Ok.told is c.pass.ensures refl refl short told
 
 pub returns-in-Err-clause-explains : goal.returns-in-Err-clause-explains
 returns-in-Err-clause-explains g c =
-    let (taken, reads, is) = c.in-Err.ensures.reads in
-    ExplainLemmas.begins_none c.args.asker.now c.args.place.now _ _ _ taken c.in-Err.fault reads is
+    let place = c.args.unread.now.place in
+    let held = c.args.unread.now.block in
+    let is = rw c.first-octets.ensures at c.in-Some.ensures in
+    let short = rw (c.text_of.ensures.text, c.first-octets.ensures) at c.if-text_of-gt-MAX_LINE.false in
+    let told = rw c.first-octets.ensures at c.in-Err.ensures in
+    ExplainLemmas.first_fails c.args.asker.now place _ _ _ held c.args.gathered.now.ready.items c.tell.new.gathered.ready.items c.in-Some.end c.in-Err.fault is c.requires.most short told

@@ -1,26 +1,37 @@
-use Rattle.std.proofs.Common.{arith}
+use Rattle.std.proofs.Common.{[], arith}
 use Rattle.sign_aids.proofs.ExplainLemmas
 use Rattle.sign_aids.proofs.explain.explain_rest.Goals as goal
 
-pub loop-told-preserved : goal.loop-told-preserved
-loop-told-preserved g c =
-    let (so_far, room, few) = c.loop-told.invariant in
+pub loop-told-init : goal.loop-told-init
+loop-told-init g c =
+    (ExplainLemmas.explained_none c.args.asker.now c.args.place _ _ c.new.result c.new-2.result.items c.new.ensures c.new-2.ensures.items, ExplainLemmas.held_none c.args.place c.new.result c.new.ensures c.requires, omega arith)
+
+pub loop-told-preserved-in-Ok-Whole : goal.loop-told-preserved-in-Ok-Whole
+loop-told-preserved-in-Ok-Whole g c =
+    let (so_far, held, few) = c.loop-told.invariant in
     let next = rw c.in-Ok-Whole.field-0-is at c.in-Ok-Whole.ensures.explains in
-    let place = rw c.in-Ok-Whole.field-0-is at c.in-Ok-Whole.ensures.place in
+    let (left, parts, further) = rw c.in-Ok-Whole.field-0-is at c.in-Ok-Whole.ensures.further in
     let counted = c.with-counts.ensures in
     let one = ExplainLemmas.one_at_most c.in-Ok-Whole.told.is_taken in
-    (ExplainLemmas.explained_with c.args.asker.now c.args.place _ _ _ _ _ _ _ _ c.loop-told.counts c.with-counts.result _ so_far next counted.messages counted.refused, place.1, omega (arith, counted.messages, counted.refused, few, one))
+    (ExplainLemmas.explained_with c.args.asker.now c.args.place _ _ _ _ _ _ _ _ [] _ _ c.loop-told.counts c.with-counts.result _ so_far next counted.messages counted.refused, further, omega (arith, counted.messages, counted.refused, few, one))
+
+pub loop-told-preserved : goal.loop-told-preserved
+loop-told-preserved g c =
+    let (so_far, held, few) = c.loop-told.invariant in
+    let next = rw c.in-Ok-More.field-0-is at c.in-Ok-More.ensures.explains in
+    let (left, more, further) = rw c.in-Ok-More.field-0-is at c.in-Ok-More.ensures.further in
+    (ExplainLemmas.explained_read c.args.asker.now c.args.place _ _ _ _ _ _ _ _ [] _ _ c.loop-told.counts.messages c.loop-told.counts.refused so_far next, further, few)
 
 pub returns-in-Ok-Last : goal.returns-in-Ok-Last
 returns-in-Ok-Last g c =
     let next = rw c.in-Ok-Last.field-0-is at c.in-Ok-Last.ensures.explains in
-    ExplainLemmas.explained_last c.args.asker.now c.args.place c.loop-told.place _ _ _ _ _ _ c.loop-told.counts.messages c.loop-told.counts.refused _ c.with.result c.loop-told.invariant.0 next c.with.ensures.messages c.with.ensures.refused
+    ExplainLemmas.explained_last c.args.asker.now c.args.place c.loop-told.unread.place _ _ _ _ _ _ c.loop-told.gathered.ready.items c.loop-told.counts.messages c.loop-told.counts.refused _ c.with.result c.loop-told.invariant.0 next c.with.ensures.messages c.with.ensures.refused
 
 pub returns-in-Ok-End : goal.returns-in-Ok-End
 returns-in-Ok-End g c =
     let (reads, end, writes) = rw c.in-Ok-End.field-0-is at c.in-Ok-End.ensures.explains in
-    ExplainLemmas.explained_end c.args.asker.now c.args.place c.loop-told.place _ _ _ _ _ _ c.loop-told.counts c.loop-told.invariant.0 reads end writes
+    ExplainLemmas.explained_end c.args.asker.now c.args.place c.loop-told.unread.place _ _ _ _ _ _ c.loop-told.gathered.ready.items c.loop-told.counts c.loop-told.invariant.0 reads end writes
 
 pub returns-in-Err : goal.returns-in-Err
 returns-in-Err g c =
-    ExplainLemmas.begins_more c.args.asker.now c.args.place c.loop-told.place _ _ _ _ _ _ c.loop-told.counts.messages c.loop-told.counts.refused c.in-Err.fault c.loop-told.invariant.0 c.in-Err.ensures.explains
+    ExplainLemmas.begins_more c.args.asker.now c.args.place c.loop-told.unread.place _ _ _ _ _ _ c.loop-told.gathered.ready.items c.loop-told.counts.messages c.loop-told.counts.refused c.in-Err.fault c.loop-told.invariant.0 c.in-Err.ensures.explains

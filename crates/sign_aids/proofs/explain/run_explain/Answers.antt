@@ -1,6 +1,4 @@
-use Rattle.std.proofs.Common.{[], inl}
-use Rattle.std.proofs.KnownBytes.{Consumes-nil}
-use Rattle.tool_streams.specs.declared.fault.ToolFault.TheVariants.{Memory}
+use Rattle.std.proofs.Common.{inl}
 use Rattle.sign_aids.proofs.ExplainLemmas
 use Rattle.sign_aids.proofs.explain.run_explain.Goals as goal
 
@@ -10,5 +8,5 @@ returns-in_default g c =
     let setup = c.in-Ok.start.setup in
     let between = g.R.Read.remaining c.begin.new.reader in
     record {
-      explained = inl (taken, setup, c.in-Ok.start.place, between, leads, took, ExplainLemmas.begins_none (record { sign = setup.sign; telling = c.args.telling; name = c.args.name.now; before = c.args.before }) _ between between _ [] Memory (Consumes-nil between) tt);
+      explained = inl (taken, setup, c.in-Ok.start.place, between, leads, took, ExplainLemmas.begins_none (record { sign = setup.sign; telling = c.args.telling; name = c.args.name.now; before = c.args.before }) _ between _);
     }

@@ -1,6 +1,6 @@
 use Rattle.std.proofs.Common.{◌∙◌, ap, inl, inr, subst}
 use Rattle.tool_streams.specs.Lines.{text_of}
-use Rattle.sign_aids.specs.Pictures.{DrawsMessage, IsFaultOf}
+use Rattle.sign_aids.specs.Pictures.{DrawsMessage}
 use Rattle.sign_aids.proofs.picture.draw_picture.Goals as goal
 
 pub returns-in-Err-read_message-clause-fault : goal.returns-in-Err-read_message-clause-fault
