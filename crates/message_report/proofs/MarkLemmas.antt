@@ -1,7 +1,7 @@
 -- Marks that are written into a line.
-use Rattle.std.proofs.Common.{◌≡◌, ℕ, zero, suc, ◌+◌, ◌-◌, ◌<◌, List, [], ◌∷◌, ◌++◌, length, map, take, drop, get_or, set, replicate, refl, sym, ap, ◌∙◌, arith, append-nil}
+use Rattle.std.proofs.Common.{◌≡◌, ℕ, zero, suc, ◌+◌, ◌-◌, ◌<◌, ◌≤◌, List, [], ◌∷◌, ◌++◌, length, map, take, drop, get_or, set, replicate, refl, sym, ap, ◌∙◌, arith, append-nil, append_assoc}
 use Rattle.std.specs.List.{range_with_len}
-use Rattle.std.proofs.lemmas.List.{drop_all, drop_at, drop-drop, drop-set-lt, length-append, length-replicate, map-append, take-append-drop, take-append-le, take-take, take_all, take_at, take_more, take_more_set}
+use Rattle.std.proofs.lemmas.List.{drop_all, drop_at, drop-drop, drop-set-lt, length-append, length-replicate, map-append, replicate-append-replicate, take-append-drop, take-append-le, take-take, take_all, take_at, take_more, take_more_set}
 use Rattle.page_picture.proofs.PartLemmas.{lent_length, part_written}
 use Rattle.message_report.specs.Pictures.{mark}
 
@@ -79,12 +79,13 @@ line_added old items lent new rest behind marks start total count all is_start i
 
 -- lines that are written where a text was made longer, by eight points more than they have
 pub lines_added : (old items lent new rest behind lines : List ℕ) (start total n count len : ℕ) → start ≡ length old → total ≡ length old
-    → items ≡ take (start + n + 8) old ++ replicate (start + n + 8 - total) 46 → lent ≡ items → len ≡ length lent
+    → items ≡ old ++ replicate (n + 8) 46 → lent ≡ items → len ≡ length lent
     → length new ≡ length (take (length lent - start) (drop start lent)) → n ≡ count → take count new ≡ lines
     → take (start + n) (take len (take start lent ++ (new ++ rest) ++ behind)) ≡ old ++ lines
 lines_added old items lent new rest behind lines start total n count len is_start is_total made is_lent is_len long is_count written =
-    let sum : start + n + 8 ≡ start + (n + 8) = omega arith in
-    let longer = made ∙ ap (λ k. take k old ++ replicate (k - total) 46) sum in
+    let sum : n + 8 ≡ start + (n + 8) - total = omega (arith, is_start, is_total) in
+    let longer : items ≡ take (start + (n + 8)) old ++ replicate (start + (n + 8) - total) 46 =
+    made ∙ ap (λ l. l ++ replicate (n + 8) 46) (sym (take_all (start + (n + 8)) old (omega (arith, is_start)))) ∙ ap (λ k. take (start + (n + 8)) old ++ replicate k 46) sum in
     let size = long_by old items lent start total (n + 8) 46 is_start is_total longer is_lent in
     let front = begins_as old items lent start total (n + 8) 46 is_start is_total longer is_lent in
     let first : length (take start lent) ≡ length old = ap length front in
@@ -98,3 +99,12 @@ lines_added old items lent new rest behind lines start total n count len is_star
     ∙ ap (λ l. l ++ take n new) front
     ∙ ap (λ k. old ++ take k new) is_count
     ∙ ap (λ l. old ++ l) written
+
+-- points, and more of them
+pub points_more : (old items items' : List ℕ) (count left part len total : ℕ) → items ≡ old ++ replicate (count - left) 46 → len ≡ length items → total ≡ length items → part ≤ left → left ≤ count
+    → items' ≡ take (len + part) items ++ replicate (len + part - total) 46 → items' ≡ old ++ replicate (count - (left - part)) 46
+points_more old items items' count left part len total so_far is_len is_total fits few made =
+    let some : len + part - total ≡ part = omega (arith, is_len, is_total) in
+    let more : count - left + part ≡ count - (left - part) = omega (arith, fits, few) in
+    made ∙ ap (λ k. take (len + part) items ++ replicate k 46) some ∙ ap (λ l. l ++ replicate part 46) (take_all (len + part) items (omega (arith, is_len)) ∙ so_far)
+    ∙ append_assoc old (replicate (count - left) 46) (replicate part 46) ∙ ap (λ l. old ++ l) (replicate-append-replicate (count - left) part 46 ∙ ap (λ k. replicate k 46) more)

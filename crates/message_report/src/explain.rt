@@ -26,6 +26,12 @@ use std::marker::Model;
 /// The most octets that a message may have to be judged (own).
 const MAX_MESSAGE: usize = 4_096;
 
+/// The answer of a message that isn't taken.
+const NOT_TAKEN: Told = Told {
+    is_taken: false,
+    warnings: 0,
+};
+
 /// A sign whose messages are explained (own).
 #[derive(Drop)]
 pub struct Explainer {
@@ -182,10 +188,7 @@ impl Explainer {
     {
         if message.len() > MAX_MESSAGE {
             push_unjudged(text, alloc, telling.format, name, line)?;
-            return Ok(Told {
-                is_taken: false,
-                warnings: 0,
-            });
+            return Ok(NOT_TAKEN);
         }
         let sign = &self.sign;
         match check(sign, Source::new(message)) {
@@ -217,10 +220,7 @@ impl Explainer {
                     at: fault.at,
                 };
                 push_refusal(text, telling, name, line, &refusal)?;
-                Ok(Told {
-                    is_taken: false,
-                    warnings: 0,
-                })
+                Ok(NOT_TAKEN)
             }
         }
     }

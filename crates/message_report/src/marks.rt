@@ -1,5 +1,5 @@
 //! A page drawn by marks: in all its colours at once, or in the one that a monochrome sign has.
-ghost use Rattle.std.specs.Prelude.{◌≡◌, ◌++◌, ◌<◌, ◌≤◌, OnOk, drop, length, map, take};
+ghost use Rattle.std.specs.Prelude.{◌≡◌, ◌^◌, ◌++◌, ◌<◌, ◌≤◌, OnOk, drop, length, map, replicate, take};
 ghost use Rattle.std.specs.List.{All};
 ghost use Rattle.page_plane.specs.Plane.{is_lit};
 ghost use Rattle.page_picture.specs.Rows.{marked_rows, row_text, rows_text};
@@ -52,14 +52,31 @@ pub(crate) fn push_rows(text: &mut Vec<u8>, colours: &PageColours) -> Result<(),
     Ok(())
 }
 
+/// How many points are appended at once (own). The C library fills longer parts by an instruction that is repeated for each octet.
+const PART: usize = 2_000;
+
+/// Appends points.
+fn push_points(text: &mut Vec<u8>, count: usize) -> Result<(), AllocError>
+    requires { count < 2 ^ 32 }
+    ensures { OnOk result (text.new.items ≡ text.old.items ++ replicate count 46) }
+{
+    let mut left = count;
+    while left > 0 {
+        let part = left.min(PART);
+        text.resize(text.len() + part, b'.')?;
+        left -= part;
+    }
+    Ok(())
+}
+
 /// Appends the rows of pixels of a plane from the top, with the mark of colour 1 for a lit pixel and that of black for another.
 pub(crate) fn push_lit(text: &mut Vec<u8>, plane: &Plane) -> Result<(), AllocError>
     ensures { OnOk result (text.new.items ≡ text.old.items ++ marked_rows 49 (is_lit plane.now) plane.now.width plane.now.height) }
 {
     let start = text.len();
-    let end = start + (usize::from(plane.width()) + 1) * usize::from(plane.height());
-    text.resize(end + 8, b'.')?;
+    let count = (usize::from(plane.width()) + 1) * usize::from(plane.height());
+    push_points(text, count + 8)?;
     write_rows(&mut text[start..], plane, Mark::One);
-    text.truncate(end);
+    text.truncate(start + count);
     Ok(())
 }

@@ -1,2 +1,4 @@
 pub mod ExplainLemmas
+pub mod HeldLemmas
+pub mod NextLemmas
 pub mod PictureLemmas

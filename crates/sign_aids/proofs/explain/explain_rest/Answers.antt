@@ -1,10 +1,12 @@
 use Rattle.std.proofs.Common.{[], arith}
 use Rattle.sign_aids.proofs.ExplainLemmas
+use Rattle.sign_aids.proofs.HeldLemmas
+use Rattle.sign_aids.proofs.NextLemmas
 use Rattle.sign_aids.proofs.explain.explain_rest.Goals as goal
 
 pub loop-told-init : goal.loop-told-init
 loop-told-init g c =
-    (ExplainLemmas.explained_none c.args.asker.now c.args.place _ _ c.new.result c.new-2.result.items c.new.ensures c.new-2.ensures.items, ExplainLemmas.held_none c.args.place c.new.result c.new.ensures c.requires, omega arith)
+    (ExplainLemmas.explained_none c.args.asker.now c.args.place _ _ c.new.result c.new-2.result.items c.new.ensures c.new-2.ensures.items, HeldLemmas.held_none c.args.place c.new.result c.new.ensures c.requires, omega arith)
 
 pub loop-told-preserved-in-Ok-Whole : goal.loop-told-preserved-in-Ok-Whole
 loop-told-preserved-in-Ok-Whole g c =
@@ -34,4 +36,4 @@ returns-in-Ok-End g c =
 
 pub returns-in-Err : goal.returns-in-Err
 returns-in-Err g c =
-    ExplainLemmas.begins_more c.args.asker.now c.args.place c.loop-told.unread.place _ _ _ _ _ _ c.loop-told.gathered.ready.items c.loop-told.counts.messages c.loop-told.counts.refused c.in-Err.fault c.loop-told.invariant.0 c.in-Err.ensures.explains
+    NextLemmas.begins_more c.args.asker.now c.args.place c.loop-told.unread.place _ _ _ _ _ _ c.loop-told.gathered.ready.items c.loop-told.counts.messages c.loop-told.counts.refused c.in-Err.fault c.loop-told.invariant.0 c.in-Err.ensures.explains
