@@ -85,6 +85,16 @@ const MAX_READY: usize = 6 * BLOCK;
 const LONG_TEXT: usize = 4_096;
 
 impl Gathered {
+    /// With nothing told, and all the room that is gathered in. The error says that memory was refused.
+    fn new(alloc: Global) -> Result<Gathered, AllocError>
+        ensures { IfOk result (λ gathered. gathered.ready.items ≡ []) }
+    {
+        Ok(Gathered {
+            ready: Vec::with_capacity(alloc, MAX_READY + LONG_TEXT)?,
+            text: Vec::new(alloc),
+        })
+    }
+
     /// Writes what is ready. After an `Err`, which is `Write`, the writer has taken a beginning of it.
     fn write<W: Write>(&mut self, writer: &mut W) -> Result<(), ToolFault>
         ensures written { WritesWhole (W.contents writer.old) (W.contents writer.new) self.old.ready.items result }
@@ -100,7 +110,7 @@ impl Gathered {
         }
     }
 
-    /// Adds the text to what is ready, unless it is long, or much is ready, or memory is refused. The answer is whether it is added.
+    /// Adds the text to what is ready, unless it is long or much is ready. The answer is whether it is added.
     fn gather(&mut self) -> bool
         ensures ready { self.new.ready.items ≡ (if result then self.old.ready.items ++ self.old.text.items else self.old.ready.items) }
         ensures text { self.new.text.items ≡ self.old.text.items }
@@ -311,14 +321,13 @@ fn explain_rest<R: Read, W: Write>(
     ensures { ExplainsRest asker.now place (R.remaining reader.old) (R.remaining reader.new) (W.contents writer.old) (W.contents writer.new)
         result }
 {
+    let Ok(mut gathered) = Gathered::new(alloc) else {
+        return Err(ToolFault::Memory);
+    };
     let mut unread = Unread {
         place,
         block: Block::new(),
         seen: 0,
-    };
-    let mut gathered = Gathered {
-        ready: Vec::new(alloc),
-        text: Vec::new(alloc),
     };
     let mut counts = Counts {
         messages: 0,

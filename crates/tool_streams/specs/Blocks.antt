@@ -44,5 +44,6 @@ ReadsOn old new number left held held' (Err e) = EndsWith (prepend_known held ol
 -- Where the input ends within a line, its octets are held, or the first 8,301 of them at least (own).
 abbrev pub HoldsUnfinished : Option (List ℕ) → Option (List ℕ) → ℕ → List ℕ → ToolFault → Type 0
 HoldsUnfinished old new left held (faults.BadLine line) = (taken : List ℕ)
-    × Consumes old new taken × IsAtEnd new × IsOneLine taken × (length taken ≤ left) × (0 < length taken) × (take 8301 held ≡ take 8301 taken)
+    × Consumes old new taken × IsAtEnd new × IsOneLine taken × (length taken ≤ left) × (0 < length taken)
+    × (take 8301 held ≡ take 8301 taken)
 HoldsUnfinished old new left held e = Unit {0}

@@ -6,7 +6,11 @@ use Rattle.sign_aids.proofs.explain.explain_rest.Goals as goal
 
 pub loop-told-init : goal.loop-told-init
 loop-told-init g c =
-    (ExplainLemmas.explained_none c.args.asker.now c.args.place _ _ c.new.result c.new-2.result.items c.new.ensures c.new-2.ensures.items, HeldLemmas.held_none c.args.place c.new.result c.new.ensures c.requires, omega arith)
+    (ExplainLemmas.explained_none c.args.asker.now c.args.place _ _ c.new-2.result c.in-Ok.gathered.ready.items c.new-2.ensures c.in-Ok.ensures, HeldLemmas.held_none c.args.place c.new-2.result c.new-2.ensures c.requires, omega arith)
+
+pub returns-in_default : goal.returns-in_default
+returns-in_default g c =
+    NextLemmas.begins_none c.args.asker.now c.args.place (g.R.Read.remaining c.args.reader.now) (g.W.Write.contents c.args.writer.now)
 
 pub loop-told-preserved-in-Ok-Whole : goal.loop-told-preserved-in-Ok-Whole
 loop-told-preserved-in-Ok-Whole g c =
