@@ -54,6 +54,7 @@ same_ended sign earlier = push_ind (λ more. pages_of (earlier ++ more) ≡ page
   where
     least : (more : List Meaning) → pages_of earlier ≤ pages_of (earlier ++ more)
     least more = omega (arith, sum_by-append (λ x. cond (is_new_page x) 1 0) earlier more)
+
     step : (more : List Meaning) (x : Meaning) → (pages_of (earlier ++ more) ≡ pages_of earlier → ended_times sign (earlier ++ more) ≡ ended_times sign earlier)
         → pages_of (earlier ++ (more ++ x ∷ [])) ≡ pages_of earlier → ended_times sign (earlier ++ (more ++ x ∷ [])) ≡ ended_times sign earlier
     step more x ih same =
@@ -217,7 +218,7 @@ module _ {sign : SignData} {octets : List ℕ} {time : ℕ} {start : Cursor} (s 
           | inl until ↦
               let e = on until in
               let w = shown_on (page_times sign (meanings octets)) earlier p.later (times_of behind) times_from time (omega (arith, st, s.began)) (omega (arith, st, until))
-                  ∙ ap (λ n. Page n (time - cycle earlier)) page_is ∙ ap (λ n. Page (start.state.pages - 1) (time - n)) (sym st) in
+              ∙ ap (λ n. Page n (time - cycle earlier)) page_is ∙ ap (λ n. Page (start.state.pages - 1) (time - n)) (sym st) in
               cc
           | inr from ↦ elim (cases_lt time (start.state.cycle + behind.state.attributes.on + behind.state.attributes.off)) [
             | inl until ↦

@@ -16,7 +16,8 @@ fn end_of_long<R: Read>(alloc: Global, reader: &mut R, held: &[u8], place: LineS
     requires most { length held.now ≤ place.left }
     requires one { IsOneLine held.now }
     ensures ends { EndsWith (prepend_known held.now (R.remaining reader.old)) (R.remaining reader.new) place.number place.left result }
-    ensures unfinished { HoldsUnfinished (prepend_known held.now (R.remaining reader.old)) (R.remaining reader.new) place.left held.now result }
+    ensures unfinished { HoldsUnfinished (prepend_known held.now (R.remaining reader.old)) (R.remaining reader.new) place.left
+        held.now result }
 {
     let mut line = Vec::new(alloc);
     let mut left = place.left - held.len() as u32;
