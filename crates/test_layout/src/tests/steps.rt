@@ -97,39 +97,24 @@ impl Walk {
         }
     }
 
-    /// Goes to the start of a page, and looks up no cell.
-    fn reach(&mut self, sign: &Sign, source: &mut Source<'_>, page: u8) {
-        let mut passed = 0;
+    /// Goes behind a page, and looks up no cell: behind the tag that begins the next one, or to the end of the string.
+    fn pass_page(&mut self, sign: &Sign, source: &mut Source<'_>) {
         for _ in 0..=source.len() {
-            if passed >= page {
-                return;
-            }
-            self.pass_text(source);
             let Some(item) = self.read(source) else {
                 return;
             };
-            if let Tag::NewPage = item {
-                passed += 1;
-            }
             self.pass_by(sign, source, item);
+            if let Tag::NewPage = item {
+                return;
+            }
+            self.pass_text(source);
         }
     }
 
-    /// Goes to the end of a page, where the tag is read that begins the next one, or to the end of the string.
-    fn leave(&mut self, sign: &Sign, source: &mut Source<'_>, page: u8) {
-        let mut passed = 0;
-        for _ in 0..=source.len() {
-            let Some(item) = self.read(source) else {
-                return;
-            };
-            if let Tag::NewPage = item {
-                if passed >= page {
-                    return;
-                }
-                passed += 1;
-            }
-            self.pass_by(sign, source, item);
-            self.pass_text(source);
+    /// Goes behind so many pages.
+    fn pass_pages(&mut self, sign: &Sign, source: &mut Source<'_>, pages: u8) {
+        for _ in 0..pages {
+            self.pass_page(sign, source);
         }
     }
 
@@ -198,7 +183,7 @@ fn judged(sign: &Sign, octets: &[u8]) -> u64 {
 /// The steps of finding this page by the clock: the items are read up to its end.
 fn found(sign: &Sign, octets: &[u8], page: u8) -> u64 {
     let mut source = Source::new(octets);
-    Walk::new(sign).leave(sign, &mut source, page);
+    Walk::new(sign).pass_pages(sign, &mut source, page.saturating_add(1));
     source.steps()
 }
 
@@ -207,7 +192,7 @@ fn found(sign: &Sign, octets: &[u8], page: u8) -> u64 {
 fn drawn(sign: &Sign, octets: &[u8], page: u8) -> u64 {
     let mut source = Source::new(octets);
     let mut walk = Walk::new(sign);
-    walk.reach(sign, &mut source, page);
+    walk.pass_pages(sign, &mut source, page);
     for _ in 0..=octets.len() {
         let mut first = walk;
         first.pass_lines(sign, &mut source, octets);
