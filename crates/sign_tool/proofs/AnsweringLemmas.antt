@@ -1,23 +1,66 @@
 -- A run that answers the lines of a block where they stand.
 use Rattle.std.proofs.Common.{◌≡◌, ◌≢◌, inl, inr, ℕ, ◌+◌, ◌-◌, ◌<◌, ◌≤◌, true, List, [], ◌∷◌, ◌++◌, Option, None, Some, IfSome, Ok, Err, length, take, drop, refl, sym, ap, ◌∙◌, subst, arith, append_assoc, append-nil, take-append-drop}
-use Rattle.std.proofs.lemmas.List.{length-append, length-drop, length-take, take-take, take_all, take_at}
+use Rattle.std.proofs.lemmas.List.{drop-take, length-append, length-drop, length-take, length-take-le, take-take, take_all, take_at}
+use Rattle.std.proofs.Math.Seq.{take-add}
 use Rattle.std.proofs.lemmas.List.Elements.{All-nil}
 use Rattle.std.specs.Io.KnownBytes.{Appends, Consumes, prepend_known}
 use Rattle.std.proofs.KnownBytes.{Appends-nil, Appends-trans, Keeps-refl}
-use Rattle.sign_tool.specs.declared.answer.LineAnswer.TheVariants as answer
+use Rattle.std.specs.declared.alloc.AllocError.{AllocError}
 use Rattle.tool_streams.specs.declared.fault.ToolFault.{ToolFault}
 use Rattle.tool_streams.specs.declared.fault.ToolFault.TheVariants as faults
 use Rattle.sign_tool.specs.declared.first.FirstLine.{FirstLine}
 use Rattle.sign_tool.specs.declared.first.FirstLine.TheVariants as line_is
+use Rattle.sign_tool.specs.declared.first.Front.{Front}
 use Rattle.tool_streams.specs.declared.lines.NextLine.TheVariants as next
 use Rattle.tool_streams.specs.Blocks.{EndsWith, ReadsOn}
-use Rattle.sign_tool.specs.kept.Blocks.{AnswersFirst, EndsRefused, WritesReady}
+use Rattle.sign_tool.specs.kept.Blocks.{AllAnswers, AnswersFirst, AnswersLines, AnswersWhole, EndsRefused, Progress, StopsAt, StopsAtMany, WritesReady}
 use Rattle.tool_streams.specs.Lines.{IsOneLine, input_limit, text_of}
 use Rattle.sign_tool.specs.Output.{Outcome, ended, outcome, output_of_whole}
-use Rattle.sign_tool.specs.Runs.{AnswersLine, IsFront, Runs}
+use Rattle.sign_tool.specs.Runs.{IsFront, Runs}
 use Rattle.tool_streams.specs.Streams.{TakesLine}
 use Rattle.tool_streams.proofs.BlockLemmas.{Consumes-all_held, passes_front, reads_behind, taken_held, takes_nothing}
-use Rattle.sign_tool.proofs.RunLemmas.{AllAnswers, Going, Progress, Progress-line, Progress-lines, Progress-none, Progress-outcome, ends, ends_failing, ends_past, ends_too_long, ends_unfinished, ends_well, outcome-bad, outcome-long, told, whole}
+use Rattle.sign_tool.proofs.RunLemmas.{Going, Progress-lines, Progress-more, Progress-none, Progress-one, Progress-outcome, ends, ends_failing, ends_past, ends_too_long, ends_unfinished, ends_well, outcome-bad, outcome-long, told, whole}
+
+-- no line is answered yet
+pub no_lines : (answers : AllAnswers) (octets ready : List ℕ) → AnswersLines answers answers octets ready ready 0 0
+no_lines answers octets ready = record {
+  within = omega arith;
+  few = omega arith;
+  sent = [];
+  added = sym (append-nil ready);
+  lines = [];
+  progress = λ first. subst (λ n. Progress first answers answers n [] [] []) (let same : first ≡ first + 0 = omega arith in same) (Progress-none first answers);
+}
+
+-- one more line is answered
+pub one_more : (before between behind : AllAnswers) (octets old ready new : List ℕ) (at lines count : ℕ) → AnswersLines before between octets old ready at lines
+    → AnswersFirst between behind (drop at octets) ready new (Ok (line_is.Answered count)) → AnswersLines before behind octets old new (at + count) (lines + 1)
+one_more before between behind octets old ready new at lines count a f =
+    let (line, others, begins, counts, short, says) = f in
+    let whole_line = line ++ 10 ∷ [] in
+    let size : length whole_line ≡ count = omega (arith, counts, length-append line (10 ∷ [])) in
+    let stands : drop at octets ≡ whole_line ++ others = begins.stands ∙ sym (append_assoc line (10 ∷ []) others) in
+    let front : take (at + count) octets ≡ take at octets ++ whole_line =
+    take-add at count octets ∙ ap (λ l. take at octets ++ l) (ap (take count) stands ∙ take_at whole_line others count size) in
+    record {
+      within = omega (arith, a.within, counts, ap length stands, length-append whole_line others, size, length-drop at octets);
+      few = omega (arith, a.few, counts);
+      sent = a.sent ++ says.0;
+      added = says.1 ∙ ap (λ l. l ++ says.0) a.added ∙ append_assoc old a.sent says.0;
+      lines = a.lines ++ line ∷ [];
+      progress = λ first.
+          let number : first + lines + 1 ≡ first + (lines + 1) = omega arith in
+          subst (λ (x : ℕ × List ℕ). Progress first before behind x.0 x.1 (a.sent ++ says.0) (a.lines ++ line ∷ [])) (λ i. (number i, sym front i))
+          (Progress-more first before between (first + lines) (take at octets) a.sent a.lines (a.progress first) behind (first + lines + 1) whole_line says.0 (line ∷ []) (Progress-one (first + lines) between behind line says.0 begins.one short says.2));
+    }
+
+-- where no line is answered the answering stops
+pub stops_here : (at : ℕ) (before behind : AllAnswers) (octets old new : List ℕ) (last : FirstLine) → ((count : ℕ) → last ≡ line_is.Answered count → ⊥) → AnswersFirst before behind octets old new (Ok last)
+    → StopsAt at before behind octets old new last × (length old < 98304 → StopsAtMany last new)
+stops_here at before behind octets old new (line_is.Answered count) other f = absurd (other count refl)
+stops_here at before behind octets old new line_is.Open other f = (f, λ few. omega (arith, ap length f.1, few))
+stops_here at before behind octets old new line_is.TooLong other f = (f, λ few. omega (arith, ap length f.3, few))
+stops_here at before behind octets old new line_is.Bad other f = (f, λ few. omega (arith, ap length f.4.0, few))
 
 -- a run so far: `rest` was read and isn't answered, and `ready` is answered and isn't written
 pub record Answering (first room : ℕ) (answers behind : AllAnswers) (input now output written : Option (List ℕ)) (rest ready : List ℕ) (number left seen : ℕ) (taken gone : List ℕ) (lines : List (List ℕ)) : Type 0 where
@@ -37,6 +80,9 @@ first_is before behind octets octets' old new line line' e h a =
 
 pub written_is : (old new : Option (List ℕ)) (line line' : FirstLine) (ready ready' : List ℕ) → line ≡ line' → WritesReady old new line ready ready' (Ok tt) → WritesReady old new line' ready ready' (Ok tt)
 written_is old new line line' ready ready' h w = subst (λ l. WritesReady old new l ready ready' (Ok tt)) h w
+
+pub stops_is : (at : ℕ) (before behind : AllAnswers) (octets old new : List ℕ) (last last' : FirstLine) → last ≡ last' → StopsAt at before behind octets old new last → StopsAt at before behind octets old new last'
+stops_is at before behind octets old new last last' h a = subst (λ l. StopsAt at before behind octets old new l) h a
 
 -- a run begins with no octets
 pub begins : (first room : ℕ) (answers : AllAnswers) (input output : Option (List ℕ)) (rest ready : List ℕ) → rest ≡ [] → ready ≡ [] → first + room ≤ input_limit + 1
@@ -168,56 +214,47 @@ module _ (first room : ℕ) (answers behind : AllAnswers) (input now output writ
       ap (outcome behind number left) (regrouped line others ys stands)
       ∙ outcome-bad behind number left line (others ++ (drop left rest ++ ys)) (left - (length line + 1)) one (omega (arith, within line others stands)) short bad))
 
-  -- the first line is answered
-  pub answered_one : (next' : AllAnswers) (line others ready' : List ℕ) (count : ℕ) → take left rest ≡ line ++ 10 ∷ others → IsOneLine line → count ≡ length line + 1 → length (text_of line) ≤ 8300
-      → AnswersLine behind next' (text_of line) ready ready' (Ok answer.Text)
-      → Answering first room answers next' input now output written (drop count rest) ready' (number + 1) (left - count) 0 (taken ++ (line ++ 10 ∷ [])) gone (lines ++ line ∷ [])
-  answered_one next' line others ready' count stands one counts short says =
-      let size : length (line ++ 10 ∷ []) ≡ count = omega (arith, counts, length-append line (10 ∷ [])) in
-      let fits = within line others stands in
-      let first_part : take count rest ≡ line ++ 10 ∷ [] =
-      ap (take count) (sym (append-nil rest) ∙ regrouped line others [] stands) ∙ take_at (line ++ 10 ∷ []) (others ++ (drop left rest ++ [])) count size in
-      let parts : rest ≡ (line ++ 10 ∷ []) ++ drop count rest =
-      sym (take-append-drop count rest) ∙ ap (λ l. l ++ drop count rest) first_part in
+  -- what stands behind the first octets of a block stands behind them in what was read
+  pub behind_front : (at : ℕ) → at ≤ left → drop at (take left rest) ≡ take (left - at) (drop at rest)
+  behind_front at fits = ap (λ n. drop at (take n rest)) (let parts : left ≡ at + (left - at) = omega (arith, fits) in parts) ∙ drop-take at (left - at) rest
+
+  -- the first lines are answered
+  pub answered_lines : (next' : AllAnswers) (ready' : List ℕ) (at count : ℕ) (a : AnswersLines behind next' (take left rest) ready ready' at count)
+      → Answering first room answers next' input now output written (drop at rest) ready' (number + count) (left - at) 0 (taken ++ take at (take left rest)) gone (lines ++ a.lines)
+  answered_lines next' ready' at count a =
+      let fits : at ≤ left = omega (arith, a.within, length-take left rest) in
+      let size : length (take at (take left rest)) ≡ at = length-take-le at (take left rest) a.within in
+      let parts : rest ≡ take at (take left rest) ++ drop at rest =
+      sym (take-append-drop at rest) ∙ ap (λ l. l ++ drop at rest) (sym (take-take at left rest fits)) in
       record {
-        takes = passes_front input now rest (line ++ 10 ∷ []) (drop count rest) taken parts go.takes;
+        takes = passes_front input now rest (take at (take left rest)) (drop at rest) taken parts go.takes;
         writes = go.writes;
-        limit = omega (arith, go.limit, counts, fits, length-append taken (line ++ 10 ∷ []), size);
-        counted = omega (arith, go.counted, counts, fits);
-        most = omega (arith, go.most, counts, fits, length-drop count rest);
+        limit = omega (arith, go.limit, fits, length-append taken (take at (take left rest)), size);
+        counted = omega (arith, go.counted, fits, a.few);
+        most = omega (arith, go.most, fits, length-drop at rest);
         looked = omega arith;
         none = All-nil (λ c. c ≢ 10);
-        progress = subst (λ l. Progress first answers next' (number + 1) (taken ++ (line ++ 10 ∷ [])) l (lines ++ line ∷ [])) (append_assoc gone ready says.0 ∙ ap (λ l. gone ++ l) (sym says.1))
-            (Progress-line first answers behind number taken (gone ++ ready) lines go.progress next' line says.0 one short says.2);
+        progress = subst (λ l. Progress first answers next' (number + count) (taken ++ take at (take left rest)) l (lines ++ a.lines)) (append_assoc gone ready a.sent ∙ ap (λ l. gone ++ l) (sym a.added))
+            (Progress-more first answers behind number taken (gone ++ ready) lines go.progress next' (number + count) (take at (take left rest)) a.sent a.lines (a.progress number));
       }
 
 module _ (first room : ℕ) (answers behind : AllAnswers) (input now output written : Option (List ℕ)) (rest ready : List ℕ) (number left seen : ℕ) (taken gone : List ℕ) (lines : List (List ℕ))
     (go : Answering first room answers behind input now output written rest ready number left seen taken gone lines) where
-  -- a writer fails after what was done with the first line
-  pub ends_writing : (behind' : AllAnswers) (line : FirstLine) (ready' ready'' : List ℕ) (written' : Option (List ℕ)) (e : ToolFault) → AnswersFirst behind behind' (take left rest) ready ready' (Ok line)
+  -- a writer fails where the answering stopped
+  pub ends_writing : (at : ℕ) (behind' : AllAnswers) (line : FirstLine) (ready' ready'' : List ℕ) (written' : Option (List ℕ)) (e : ToolFault) → StopsAt at behind behind' (take left rest) ready ready' line
       → WritesReady written written' line ready' ready'' (Err e) → Runs (outcome answers first room) (output_of_whole answers first) room input now output written' (Some e)
-  ends_writing behind' (line_is.Answered count) ready' ready'' written' e a w =
-      let (text, others, begins, counts, short, says) = a in
-      ends_cut first room answers behind' input now output written (drop count rest) ready' (number + 1) (left - count) 0 (taken ++ (text ++ 10 ∷ [])) gone (lines ++ text ∷ [])
-      (answered_one first room answers behind input now output written rest ready number left seen taken gone lines go behind' text others ready' count begins.stands begins.one counts short says) written' w.1 w.2 e w.0 w.3 w.4
-  ends_writing behind' line_is.Open ready' ready'' written' e a w = ends_cut first room answers behind input now output written rest ready number left seen taken gone lines go written' w.1 w.2 e w.0 w.3 (w.4 ∙ a.1)
-  ends_writing behind' line_is.TooLong ready' ready'' written' e a w = ends_cut first room answers behind input now output written rest ready number left seen taken gone lines go written' w.1 w.2 e w.0 w.3 (w.4 ∙ a.3)
-  ends_writing behind' line_is.Bad ready' ready'' written' e a w = ends_cut first room answers behind input now output written rest ready number left seen taken gone lines go written' w.1 w.2 e w.0 w.3 (w.4 ∙ a.4.0)
+  ends_writing at behind' (line_is.Answered count) ready' ready'' written' e a w = ends_cut first room answers behind input now output written rest ready number left seen taken gone lines go written' w.1 w.2 e w.0 w.3 (w.4 ∙ a.2)
+  ends_writing at behind' line_is.Open ready' ready'' written' e a w = ends_cut first room answers behind input now output written rest ready number left seen taken gone lines go written' w.1 w.2 e w.0 w.3 (w.4 ∙ a.1)
+  ends_writing at behind' line_is.TooLong ready' ready'' written' e a w = ends_cut first room answers behind input now output written rest ready number left seen taken gone lines go written' w.1 w.2 e w.0 w.3 (w.4 ∙ a.3)
+  ends_writing at behind' line_is.Bad ready' ready'' written' e a w = ends_cut first room answers behind input now output written rest ready number left seen taken gone lines go written' w.1 w.2 e w.0 w.3 (w.4 ∙ a.4.0)
 
-  -- the first line is answered, and what is ready may be written
-  pub goes_on : (behind' : AllAnswers) (count : ℕ) (ready' ready'' : List ℕ) (written' : Option (List ℕ)) (a : AnswersFirst behind behind' (take left rest) ready ready' (Ok (line_is.Answered count)))
+  -- the answering stopped behind an answered line, and what is ready may be written
+  pub goes_on : (at : ℕ) (behind' : AllAnswers) (count : ℕ) (ready' ready'' : List ℕ) (written' : Option (List ℕ)) → StopsAt at behind behind' (take left rest) ready ready' (line_is.Answered count)
       → (w : WritesReady written written' (line_is.Answered count) ready' ready'' (Ok tt))
-      → Answering first room answers behind' input now output written' (drop count rest) ready'' (number + 1) (left - count) 0 (taken ++ (a.0 ++ 10 ∷ [])) (gone ++ w.0) (lines ++ a.0 ∷ [])
-  goes_on behind' count ready' ready'' written' a w =
-      let (text, others, begins, counts, short, says) = a in
-      wrote first room answers behind' input now output written (drop count rest) ready' (number + 1) (left - count) 0 (taken ++ (text ++ 10 ∷ [])) gone (lines ++ text ∷ [])
-      (answered_one first room answers behind input now output written rest ready number left seen taken gone lines go behind' text others ready' count begins.stands begins.one counts short says) written' w.0 ready'' w.1 w.2
-
-  pub few : (behind' : AllAnswers) (count : ℕ) (ready' : List ℕ) → AnswersFirst behind behind' (take left rest) ready ready' (Ok (line_is.Answered count)) → (1 ≤ count) × (count ≤ left) × (count ≤ length rest)
-  few behind' count ready' a =
-      let (text, others, begins, counts, short, says) = a in
-      let size = ap length begins.stands in
-      (omega (arith, counts), omega (arith, counts, size, length-take left rest, length-append text (10 ∷ others)), omega (arith, counts, size, length-take left rest, length-append text (10 ∷ others)))
+      → Answering first room answers behind' input now output written' rest ready'' number left seen taken (gone ++ w.0) lines
+  goes_on at behind' count ready' ready'' written' a w =
+      subst (λ b. Answering first room answers b input now output written' rest ready'' number left seen taken (gone ++ w.0) lines) (sym a.1)
+      (wrote first room answers behind input now output written rest ready number left seen taken gone lines go written' w.0 ready'' w.1 (w.2 ∙ a.2))
 
   -- no line ends here, and what is ready is written
   pub paused : (behind' : AllAnswers) (ready' ready'' : List ℕ) (written' : Option (List ℕ)) → AnswersFirst behind behind' (take left rest) ready ready' (Ok line_is.Open)
@@ -261,3 +298,46 @@ module _ (first room : ℕ) (answers behind : AllAnswers) (input now output writ
       let (line, others, begins, short, answer) = a in
       ends_bad first room answers behind input now output written' rest ready'' number left seen taken (gone ++ w.0) lines
       (wrote first room answers behind input now output written rest ready number left seen taken gone lines go written' w.0 ready'' w.1 (w.2 ∙ answer.0)) line others w.3 begins.stands begins.one short answer.1
+
+-- a run whose answering stopped, behind so many octets of a block
+pub record Stopped (first room : ℕ) (answers behind : AllAnswers) (input now output written : Option (List ℕ)) (rest ready : List ℕ) (number left at : ℕ) (last : FirstLine) (gone : List ℕ) : Type 0 where
+  pub between : AllAnswers
+  pub ready_then : List ℕ
+  pub taken : List ℕ
+  pub lines : List (List ℕ)
+  pub go : Answering first room answers between input now output written rest ready_then number left 0 taken gone lines
+  pub stops : StopsAt at between behind (take left rest) ready_then ready last
+
+pub stopped : (first room : ℕ) (answers behind : AllAnswers) (input now output written : Option (List ℕ)) (rest ready : List ℕ) (number left seen : ℕ) (taken gone : List ℕ) (lines : List (List ℕ))
+    → Answering first room answers behind input now output written rest ready number left seen taken gone lines
+    → (behind' : AllAnswers) (octets ready' : List ℕ) (front : Front) → octets ≡ take left rest → AnswersWhole behind behind' octets ready ready' (Ok front)
+    → Stopped first room answers behind' input now output written (drop front.at rest) ready' (number + front.lines) (left - front.at) front.at front.last gone
+stopped first room answers behind input now output written rest ready number left seen taken gone lines go behind' octets ready' front is whole =
+    let (between, mid, a, stops) = subst (λ l. AnswersWhole behind behind' l ready ready' (Ok front)) is whole in
+    let fits : front.at ≤ left = omega (arith, a.within, length-take left rest) in
+    record {
+      between = between;
+      ready_then = mid;
+      taken = taken ++ take front.at (take left rest);
+      lines = lines ++ a.lines;
+      go = answered_lines first room answers behind input now output written rest ready number left seen taken gone lines go between mid front.at front.lines a;
+      stops = subst (λ l. StopsAt front.at between behind' l mid ready' front.last) (behind_front first room answers behind input now output written rest ready number left seen taken gone lines go front.at fits) stops;
+    }
+
+-- there is no memory for an answer
+pub stops_refused : (first room : ℕ) (answers behind : AllAnswers) (input now output written : Option (List ℕ)) (rest ready : List ℕ) (number left seen : ℕ) (taken gone : List ℕ) (lines : List (List ℕ))
+    → Answering first room answers behind input now output written rest ready number left seen taken gone lines
+    → (behind' : AllAnswers) (octets ready' : List ℕ) (refused : AllocError) → octets ≡ take left rest → AnswersWhole behind behind' octets ready ready' (Err refused)
+    → (written' : Option (List ℕ)) (e : ToolFault) → EndsRefused written written' ready' e → Runs (outcome answers first room) (output_of_whole answers first) room input now output written' (Some e)
+stops_refused first room answers behind input now output written rest ready number left seen taken gone lines go behind' octets ready' refused is whole written' e ends =
+    let (between, at, count, a) = subst (λ l. AnswersWhole behind behind' l ready ready' (Err refused)) is whole in
+    ends_refused first room answers between input now output written (drop at rest) ready' (number + count) (left - at) 0 (taken ++ take at (take left rest)) gone (lines ++ a.lines)
+    (answered_lines first room answers behind input now output written rest ready number left seen taken gone lines go between ready' at count a) written' e ends
+
+-- how far it went
+pub went : (before behind : AllAnswers) (octets old new : List ℕ) (left : ℕ) (rest : List ℕ) (front : Front) → octets ≡ take left rest → AnswersWhole before behind octets old new (Ok front)
+    → (front.at ≤ left) × (front.at ≤ length rest) × (front.lines ≤ front.at)
+went before behind octets old new left rest front is whole =
+    let (between, mid, a, stops) = whole in
+    let size = ap length is in
+    (omega (arith, a.within, size, length-take left rest), omega (arith, a.within, size, length-take left rest), a.few)

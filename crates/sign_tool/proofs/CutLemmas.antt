@@ -4,14 +4,11 @@ use Rattle.std.specs.Prelude.{nat_lt, ◌==◌}
 use Rattle.std.proofs.lemmas.List.Elements.{All-head, All-tail}
 use Rattle.std.proofs.lemmas.Grind.{flat_map-append}
 use Rattle.tool_streams.specs.Lines.{cut, IsOneLine, octets_of}
+use Rattle.sign_tool.specs.kept.Blocks.{AreLines}
 
 -- another octet is no line feed
 differs : (c : ℕ) → c ≢ 10 → (c == 10) ≡ false
 differs c h = search rules
-
-abbrev pub AreLines : List (List ℕ) → Type 0
-AreLines [] = Unit {0}
-AreLines (line ∷ lines) = IsOneLine line × AreLines lines
 
 pub cut-line : (line rest : List ℕ) → IsOneLine line → cut (line ++ 10 ∷ rest) ≡ record { whole = line ∷ (cut rest).whole; rest = (cut rest).rest }
 unfolding cut
@@ -34,14 +31,19 @@ cut-lines (line ∷ lines) rest each =
     let regrouped : ((line ++ 10 ∷ []) ++ others) ++ rest ≡ line ++ 10 ∷ (others ++ rest) = simp append_assoc refl in
     rw (regrouped, cut-line line (others ++ rest) each.0, cut-lines lines rest each.1) refl
 
--- one more line
+-- more lines
+pub octets_of-append : (lines more : List (List ℕ)) → octets_of (lines ++ more) ≡ octets_of lines ++ octets_of more
+octets_of-append lines more = flat_map-append (λ l. l ++ 10 ∷ []) lines more
+
 pub octets_of-more : (lines : List (List ℕ)) (line : List ℕ) → octets_of (lines ++ line ∷ []) ≡ octets_of lines ++ (line ++ 10 ∷ [])
-octets_of-more lines line =
-    flat_map-append (λ l. l ++ 10 ∷ []) lines (line ∷ []) ∙ ap (λ l. octets_of lines ++ l) (append-nil (line ++ 10 ∷ []))
+octets_of-more lines line = octets_of-append lines (line ∷ []) ∙ ap (λ l. octets_of lines ++ l) (append-nil (line ++ 10 ∷ []))
+
+pub AreLines-append : (lines more : List (List ℕ)) → AreLines lines → AreLines more → AreLines (lines ++ more)
+AreLines-append [] more each others = others
+AreLines-append (line ∷ lines) more each others = (each.0, AreLines-append lines more each.1 others)
 
 pub AreLines-more : (lines : List (List ℕ)) (line : List ℕ) → AreLines lines → IsOneLine line → AreLines (lines ++ line ∷ [])
-AreLines-more [] line each one = (one, tt)
-AreLines-more (x ∷ lines) line each one = (each.0, AreLines-more lines line each.1 one)
+AreLines-more lines line each one = AreLines-append lines (line ∷ []) each (one, tt)
 
 -- the front of a text that goes past its first part
 pub take-past : (front rest : List ℕ) (n k : ℕ) → n ≡ length front + k → take n (front ++ rest) ≡ front ++ take k rest

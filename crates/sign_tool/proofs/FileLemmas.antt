@@ -18,9 +18,10 @@ use Rattle.sign_tool.specs.Runs.{Fails, IsWritten, Leads, outcome_on, output_on}
 use Rattle.sign_tool.specs.FileSetup.{setup_of_octets}
 use Rattle.tool_streams.specs.Streams.{TakesLine}
 use Rattle.sign_tool.specs.Tool.{answers_of, outcome_of, output_so_far}
-use Rattle.sign_tool.proofs.CutLemmas.{AreLines, octets_of-more, cut-line, cut-lines, cut-unfinished, take-past, nat_lt-past}
+use Rattle.sign_tool.specs.kept.Blocks.{AllAnswers, AreLines}
+use Rattle.sign_tool.proofs.CutLemmas.{octets_of-more, cut-line, cut-lines, cut-unfinished, take-past, nat_lt-past}
 use Rattle.sign_tool.proofs.RefusedLemmas.{written_refused}
-use Rattle.sign_tool.proofs.RunLemmas.{AllAnswers, told}
+use Rattle.sign_tool.proofs.RunLemmas.{told}
 
 -- ---- lines of a sign file
 

@@ -13,11 +13,8 @@ use Rattle.sign_tool.specs.Output.{Outcome, ended, after, answered, outcome, out
 use Rattle.tool_streams.specs.declared.lines.NextLine.TheVariants as next
 use Rattle.tool_streams.specs.Streams.{TakesLine}
 use Rattle.sign_tool.specs.Runs.{IsFront, IsOfLines, IsWritten, Runs}
-use Rattle.sign_tool.proofs.CutLemmas.{AreLines, AreLines-more, octets_of-more, cut-line, cut-lines, cut-unfinished, take-past, nat_lt-past}
-
--- the answers to all the lines that may come
-abbrev pub AllAnswers : Type 0
-AllAnswers = List (List ℕ) → List (Option (List ℕ))
+use Rattle.sign_tool.specs.kept.Blocks.{AllAnswers, Progress}
+use Rattle.sign_tool.proofs.CutLemmas.{AreLines-append, octets_of-append, cut-line, cut-lines, cut-unfinished, take-past, nat_lt-past}
 
 -- what stands behind these octets, where a reader tells
 pub told : (a b : Option (List ℕ)) (bs : List ℕ) (P : List ℕ → Type 0) → Consumes a b bs → ((ys : List ℕ) → P (bs ++ ys)) → IfSome a P
@@ -85,30 +82,31 @@ module _ (answers : AllAnswers) (number limit : ℕ) where
 
 -- ---- the lines so far
 
--- These lines were taken, and what was sent is the answers to them, whatever comes.
-pub record Progress (first : ℕ) (answers behind : AllAnswers) (number : ℕ) (taken sent : List ℕ) (lines : List (List ℕ)) : Type 0 where
-  pub taken_is : taken ≡ octets_of lines
-  pub each : AreLines lines
-  pub says : (more : List (List ℕ)) (at_end : ℕ → Option ToolFault)
-      → answered first (lines ++ more) (answers (map text_of (lines ++ more))) at_end ≡ after sent (answered number more (behind (map text_of more)) at_end)
-
 pub Progress-none : (first : ℕ) (answers : AllAnswers) → Progress first answers answers first [] [] []
 Progress-none first answers = record { taken_is = refl; each = tt; says = λ more at_end. refl }
 
+-- one line is answered
+pub Progress-one : (first : ℕ) (answers behind : AllAnswers) (line text : List ℕ) → IsOneLine line → length (text_of line) ≤ 8300
+    → ((more : List (List ℕ)) → answers (text_of line ∷ more) ≡ Some text ∷ behind more)
+    → Progress first answers behind (first + 1) (line ++ 10 ∷ []) text (line ∷ [])
+unfolding answered
+Progress-one first answers behind line text one short says = record {
+  taken_is = sym (append-nil (line ++ 10 ∷ []));
+  each = (one, tt);
+  says = λ more at_end. rw (le-ltb _ _ short, says (map text_of more)) refl;
+}
+
 module _ (first : ℕ) (answers behind : AllAnswers) (number : ℕ) (taken sent : List ℕ) (lines : List (List ℕ)) (p : Progress first answers behind number taken sent lines) where
-  pub Progress-line : (next : AllAnswers) (line text : List ℕ) → IsOneLine line → length (text_of line) ≤ 8300
-      → ((more : List (List ℕ)) → behind (text_of line ∷ more) ≡ Some text ∷ next more)
-      → Progress first answers next (number + 1) (taken ++ (line ++ 10 ∷ [])) (sent ++ text) (lines ++ line ∷ [])
-  unfolding answered
-  Progress-line next line text one short says = record {
-    taken_is = ap (λ l. l ++ (line ++ 10 ∷ [])) p.taken_is ∙ sym (octets_of-more lines line);
-    each = AreLines-more lines line p.each one;
+  -- more lines are answered
+  pub Progress-more : (next : AllAnswers) (number' : ℕ) (taken' sent' : List ℕ) (lines' : List (List ℕ)) → Progress number behind next number' taken' sent' lines'
+      → Progress first answers next number' (taken ++ taken') (sent ++ sent') (lines ++ lines')
+  Progress-more next number' taken' sent' lines' q = record {
+    taken_is = (λ i. p.taken_is i ++ q.taken_is i) ∙ sym (octets_of-append lines lines');
+    each = AreLines-append lines lines' p.each q.each;
     says = λ more at_end.
-        let regrouped : (lines ++ line ∷ []) ++ more ≡ lines ++ line ∷ more = append_assoc lines (line ∷ []) more in
-        let step : answered number (line ∷ more) (behind (map text_of (line ∷ more))) at_end ≡ after text (answered (number + 1) more (next (map text_of more)) at_end) =
-        rw (le-ltb _ _ short, says (map text_of more)) refl in
-        ap (λ ls. answered first ls (answers (map text_of ls)) at_end) regrouped ∙ p.says (line ∷ more) at_end ∙ ap (after sent) step
-        ∙ ap (λ l. let o : Outcome = record { output = l; fault = (answered (number + 1) more (next (map text_of more)) at_end).fault } in o) (sym (append_assoc sent text _));
+        let behind_them = answered number' more (next (map text_of more)) at_end in
+        ap (λ ls. answered first ls (answers (map text_of ls)) at_end) (append_assoc lines lines' more) ∙ p.says (lines' ++ more) at_end ∙ ap (after sent) (q.says more at_end)
+        ∙ ap (λ l. let o : Outcome = record { output = l; fault = behind_them.fault } in o) (sym (append_assoc sent sent' behind_them.output));
   }
 
   -- what comes for the whole input follows from what comes for the rest

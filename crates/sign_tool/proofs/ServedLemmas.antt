@@ -16,7 +16,8 @@ use Rattle.tool_streams.proofs.SeenLemmas.{length-text_of}
 use Rattle.sign_tool.specs.Script.{Told}
 use Rattle.sign_tool.specs.Served.{OneReplyEach, ServesOn, command_of, line_command, served, served_commands, told_line, told_or_bad}
 use Rattle.sign_tool.specs.Serving.{ServerData, last_line, last_reply, replies_so_far, replies_to, replies_to_all, told_cut}
-use Rattle.sign_tool.proofs.CutLemmas.{AreLines, cut-lines, cut-unfinished}
+use Rattle.sign_tool.specs.kept.Blocks.{AreLines}
+use Rattle.sign_tool.proofs.CutLemmas.{cut-lines, cut-unfinished}
 
 -- ---- laws
 

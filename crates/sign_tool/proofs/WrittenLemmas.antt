@@ -31,3 +31,12 @@ grown items kept lent new rest behind begun more end len n count in_order within
     ∙ part_written len n lent new rest (omega (arith, long)) enough
     ∙ ap (λ l. l ++ take n new) same ∙ ap (λ l. take len items ++ l) is_more)
     ∙ drop-append-le end (take len items) more (omega (arith, there, in_order)) ∙ ap (λ l. l ++ more) (sym is_begun)
+
+-- the same where the first few of some octets are more, for which there was room
+pub few_grown : (items kept lent new rest behind begun few : List ℕ) (end len n N count : ℕ) → end ≤ len → len ≤ length items
+    → take (length items) kept ≡ items → lent ≡ kept → count ≡ length lent → len + N ≤ length lent → N ≤ length new → n ≤ N
+    → begun ≡ drop end (take len items) → take N new ≡ few
+    → drop end (take (len + n) (take count (take len lent ++ (new ++ rest) ++ behind))) ≡ begun ++ take n few
+few_grown items kept lent new rest behind begun few end len n N count in_order within room is_lent all long enough fewer is_begun is_few =
+    grown items kept lent new rest behind begun (take n few) end len n count in_order within room is_lent all (omega (arith, long, fewer)) (omega (arith, enough, fewer)) is_begun
+    (sym (take-take n N new fewer) ∙ ap (take n) is_few)

@@ -137,6 +137,7 @@ pub(crate) fn push_octets(text: &mut Ready, octets: &[u8]) -> Result<(), AllocEr
 
 /// Appends the first `count` of a few octets to the answer that was begun. The others are written behind it, where nothing counts yet, so
 /// that a short text takes one look at the room and one write. The error says that memory was refused.
+#[inline(always)]
 pub(crate) fn push_short<const N: usize>(
     text: &mut Ready,
     octets: &[u8; N],
@@ -147,8 +148,28 @@ pub(crate) fn push_short<const N: usize>(
     ensures text { OnOk result (text.new.begun ≡ text.old.begun ++ take count octets.now) }
     ensures whole { text.new.whole ≡ text.old.whole }
 {
-    make_room(&mut text.octets, text.len + N)?;
+    if text.octets.len() - text.len < N {
+        return push_far(text, *octets, count);
+    }
     put_few(&mut text.octets[text.len..], octets);
+    text.len += count;
+    Ok(())
+}
+
+/// The same where there may be too little room.
+#[inline(never)]
+fn push_far<const N: usize>(
+    text: &mut Ready,
+    octets: [u8; N],
+    count: usize,
+) -> Result<(), AllocError>
+    requires few { N ≤ 16 }
+    requires count { count ≤ N }
+    ensures text { OnOk result (text.new.begun ≡ text.old.begun ++ take count octets.entry) }
+    ensures whole { text.new.whole ≡ text.old.whole }
+{
+    make_room(&mut text.octets, text.len + N)?;
+    put_few(&mut text.octets[text.len..], &octets);
     text.len += count;
     Ok(())
 }

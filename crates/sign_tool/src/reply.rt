@@ -6,13 +6,24 @@ use crate::ready::{Ready, push_number, push_octet, push_octets, push_short};
 use std::alloc::AllocError;
 
 /// Appends how many pages an accepted string has.
+#[inline(always)]
 pub(crate) fn push_pages(text: &mut Ready, pages: u8) -> Result<(), AllocError>
     ensures text { OnOk result (text.new.begun ≡ text.old.begun ++ pages_text pages) }
     ensures whole { text.new.whole ≡ text.old.whole }
 {
     if pages < 10 {
-        return push_short(text, &[b'o', b'k', b' ', b'0' + pages, b'\n', 0, 0, 0], 5);
+        push_short(text, &[b'o', b'k', b' ', b'0' + pages, b'\n', 0, 0, 0], 5)
+    } else {
+        push_many_pages(text, pages)
     }
+}
+
+/// The same where there are many.
+#[inline(never)]
+fn push_many_pages(text: &mut Ready, pages: u8) -> Result<(), AllocError>
+    ensures text { OnOk result (text.new.begun ≡ text.old.begun ++ pages_text pages) }
+    ensures whole { text.new.whole ≡ text.old.whole }
+{
     push_octets(text, b"ok ")?;
     push_number(text, u64::from(pages))?;
     push_octets(text, b"\n")

@@ -63,18 +63,18 @@ fn push_display(text: &mut Ready, controller: &mut Controller, colour: u8) -> Re
 pub(crate) fn push_told(
     text: &mut Ready,
     controller: &mut Controller,
-    ask: Ask<'_>,
+    ask: &Ask<'_>,
 ) -> Result<(), AllocError>
-    ensures text { OnOk result (text.new.begun ≡ text.old.begun ++ (told controller.old.sign controller.old.state ask.entry).text) }
-    ensures state { controller.new.state ≡ (told controller.old.sign controller.old.state ask.entry).state }
+    ensures text { OnOk result (text.new.begun ≡ text.old.begun ++ (told controller.old.sign controller.old.state ask.now).text) }
+    ensures state { controller.new.state ≡ (told controller.old.sign controller.old.state ask.now).state }
     ensures sign { controller.new.sign ≡ controller.old.sign }
     ensures whole { text.new.whole ≡ text.old.whole }
 {
     match ask {
         Ask::Nothing => Ok(()),
-        Ask::Command(command) => push_reply(text, controller.apply(&command)),
-        Ask::Frame(colour) => push_display(text, controller, colour),
-        Ask::Row(message) => push_row(text, message, &controller.row(message)),
+        Ask::Command(command) => push_reply(text, controller.apply(command)),
+        Ask::Frame(colour) => push_display(text, controller, *colour),
+        Ask::Row(message) => push_row(text, *message, &controller.row(*message)),
         Ask::Report => push_report(text, &controller.report()),
         Ask::Defaults => push_defaults(text, controller.defaults()),
     }
@@ -94,7 +94,7 @@ fn answer_line(
 {
     match read_ask(line, octets) {
         Ok(ask) => {
-            push_told(text, controller, ask)?;
+            push_told(text, controller, &ask)?;
             Ok(LineAnswer::Text)
         }
         Err(LineFault::Bad) => Ok(LineAnswer::BadLine),

@@ -46,7 +46,7 @@ fn push_asked(text: &mut Ready, controller: &mut Controller, ask: Ask<'_>) -> Re
 {
     match ask {
         Ask::Nothing => push_octets(text, b"ok\n"),
-        ask => push_told(text, controller, ask),
+        ask => push_told(text, controller, &ask),
     }
 }
 

@@ -9,7 +9,7 @@ ghost use Rattle.sign_tool.specs.declared.tool.Mode.TheVariants as mode;
 
 use crate::answer::Answer;
 use crate::check::Checker;
-use crate::first::{FirstLine, answer_first};
+use crate::first::{FirstLine, answer_whole};
 use crate::output::{end_refused, write_ready};
 use crate::ready::Ready;
 use crate::script::Operator;
@@ -60,18 +60,16 @@ fn answer_lines<A: Answer, R: Read, W: Write>(
     let mut seen = 0;
     loop {
         let octets = block.first(place.left as usize);
-        let first = match answer_first(answer, octets, seen, &mut ready) {
-            Ok(first) => first,
+        let front = match answer_whole(answer, octets, seen, &mut ready) {
+            Ok(front) => front,
             Err(_) => return Err(end_refused(writer, &ready)),
         };
-        write_ready(writer, &mut ready, first)?;
-        match first {
-            FirstLine::Answered(count) => {
-                block.pass(count);
-                place.left -= count as u32;
-                place.number += 1;
-                seen = 0;
-            }
+        block.pass(front.at);
+        place.left -= front.at as u32;
+        place.number += front.lines;
+        write_ready(writer, &mut ready, front.last)?;
+        match front.last {
+            FirstLine::Answered(_) => seen = 0,
             FirstLine::Open => {
                 seen = block.len();
                 if !read_on(alloc, reader, &mut block, place)? {
