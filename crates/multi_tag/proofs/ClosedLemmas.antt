@@ -2,12 +2,13 @@
 use Rattle.std.proofs.Common.{◌≡◌, ℕ, ◌+◌, ◌^◌, ◌≤◌, false, true, List, [], ◌∷◌, ◌++◌, Option, Some, None, refl, sym, ap, ◌∙◌, inl, inr, arith, append_assoc}
 use Rattle.std.proofs.lemmas.Option.{none-some}
 use Rattle.std.proofs.lemmas.List.Elements.{All-head}
+use Rattle.multi_tag.specs.declared.name.Name.{Name}
 use Rattle.multi_tag.specs.declared.name.Name.TheVariants as names
-use Rattle.multi_tag.specs.declared.tag.Tag.TheVariants.{Font, Flash, Rect, PageTime}
+use Rattle.multi_tag.specs.declared.tag.Tag.TheVariants.{NewLine, LineJust, PageJust, Font, CharSpacing, PageTime, Flash, Fore, Back, Rect}
 use Rattle.multi_tag.specs.Number.{IsDigit}
 use Rattle.multi_tag.specs.Form.{Form, IsNumber, d, d?, h, ◌means◌, between}
 use Rattle.multi_tag.specs.Body.{table}
-use Rattle.multi_tag.specs.Part.{IsCut, IsPartBefore, HasNoPartBefore, in_range, times}
+use Rattle.multi_tag.specs.Part.{IsCut, IsPartBefore, HasNoPartBefore, HasOne, bounds, in_range, times}
 use Rattle.multi_tag.proofs.CutLemmas.{cut_digits, cut_before}
 use Rattle.multi_tag.proofs.FormLemmas.{number_written, written_number, before_value, d?_d, d_d?}
 use Rattle.multi_tag.proofs.PartLemmas.{comma_is_no_digit, written_at_most}
@@ -54,6 +55,16 @@ number_full_part base most low high octets v rest cut room small above =
 
 pub number_lacks : (low high : ℕ) (octets : List ℕ) → HasNoPartBefore 93 (d? low high) octets → HasNoPartBefore 93 (d low high) octets
 number_lacks low high octets none front behind n is f = none front behind (Some n) is (d_d? low high front n f)
+
+-- no number of the range before a bracket is no tag that has one at most
+pub one_no_part : (name : Name) → HasOne name → (octets : List ℕ) → HasNoPartBefore 93 (d? (bounds name).0 (bounds name).1) octets → HasNoPartBefore 93 (table name).rest octets
+one_no_part names.NewLine one octets none = means_no_part 93 (d? 0 255) NewLine octets none
+one_no_part names.LineJust one octets none = means_no_part 93 (d? 2 5) LineJust octets none
+one_no_part names.PageJust one octets none = means_no_part 93 (d? 2 4) PageJust octets none
+one_no_part names.CharSpacing one octets none = means_no_part 93 (d 0 255) CharSpacing octets (number_lacks 0 255 octets none)
+one_no_part names.Fore one octets none = means_no_part 93 (d? 0 9) Fore octets none
+one_no_part names.Back one octets none = means_no_part 93 (d? 0 9) Back octets none
+one_no_part _ one octets none = absurd one
 
 pub optional_lacks : (low high : ℕ) (octets rest : List ℕ) → IsPartBefore 93 (d? low high) octets None rest → HasNoPartBefore 93 (d low high) octets
 optional_lacks low high octets rest (front, is, inr (n, f, lacks)) a behind v same g = none-some n lacks

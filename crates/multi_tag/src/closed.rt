@@ -7,7 +7,7 @@ ghost use Rattle.multi_tag.specs.Body.{table};
 ghost use Rattle.multi_tag.specs.Closed.{HasNoClosedTag, IsClosedTag};
 ghost use Rattle.multi_tag.specs.Form.{d, d?, h};
 ghost use Rattle.multi_tag.specs.Number.{IsDigit};
-ghost use Rattle.multi_tag.specs.Part.{HasNoPartBefore, IsPartBefore, times};
+ghost use Rattle.multi_tag.specs.Part.{HasNoPartBefore, HasOne, IsPartBefore, bounds, times};
 
 use crate::name::{Name, read_name};
 use crate::number::{in_range, read_numeral};
@@ -34,23 +34,7 @@ fn read_rest(octets: &[u8], name: Name) -> Option<(Tag, &[u8])>
 {
     match name {
         Name::NewPage => Some((Tag::NewPage, after_bracket(octets)?)),
-        Name::NewLine => {
-            let (value, behind) = read_optional(octets, 0, 255)?;
-            Some((Tag::NewLine(value), behind))
-        }
-        Name::LineJust => {
-            let (value, behind) = read_optional(octets, 2, 5)?;
-            Some((Tag::LineJust(value), behind))
-        }
-        Name::PageJust => {
-            let (value, behind) = read_optional(octets, 2, 4)?;
-            Some((Tag::PageJust(value), behind))
-        }
         Name::Font => font_tag(octets),
-        Name::CharSpacing => {
-            let (value, behind) = read_optional(octets, 0, 255)?;
-            Some((Tag::CharSpacing(value?), behind))
-        }
         Name::CharSpacingEnd => Some((Tag::CharSpacingEnd, after_bracket(octets)?)),
         Name::PageTime => {
             let (on, off, behind) = read_times(octets, b'o')?;
@@ -58,19 +42,48 @@ fn read_rest(octets: &[u8], name: Name) -> Option<(Tag, &[u8])>
         }
         Name::Flash => flash_tag(octets),
         Name::FlashEnd => Some((Tag::FlashEnd, after_bracket(octets)?)),
-        Name::Fore => {
-            let (value, behind) = read_optional(octets, 0, 9)?;
-            Some((Tag::Fore(value), behind))
-        }
-        Name::Back => {
-            let (value, behind) = read_optional(octets, 0, 9)?;
-            Some((Tag::Back(value), behind))
-        }
         Name::Rect => rect_tag(octets),
         Name::HexChar => {
             let (number, behind) = read_hexadecimal(octets, 1)?;
             Some((Tag::HexChar(number), behind))
         }
+        _ => read_one(octets, name),
+    }
+}
+
+/// The least and the largest number of a tag that has one number at most; 0 and 0 for any other tag.
+fn bounds(name: Name) -> (u8, u8)
+    ensures { result ≡ bounds name }
+{
+    match name {
+        Name::NewLine | Name::CharSpacing => (0, 255),
+        Name::LineJust => (2, 5),
+        Name::PageJust => (2, 4),
+        Name::Fore | Name::Back => (0, 9),
+        _ => (0, 0),
+    }
+}
+
+/// What stands between the name of a tag that has one number at most and a bracket. All such tags are read here, so that the reading
+/// of a number stands once in what reads them.
+#[inline(always)]
+fn read_one(octets: &[u8], name: Name) -> Option<(Tag, &[u8])>
+    requires one { HasOne name }
+    ensures some { IfSome result (λ (tag, behind).
+        IsPartBefore 93 (table name).rest (str_to_ascii_lowercase octets.now) tag (str_to_ascii_lowercase behind.now)) }
+    ensures none { IfNone result (HasNoPartBefore 93 (table name).rest (str_to_ascii_lowercase octets.now)) }
+{
+    let (low, high) = bounds(name);
+    let (value, behind) = read_optional(octets, low, high)?;
+    match name {
+        Name::NewLine => Some((Tag::NewLine(value), behind)),
+        Name::LineJust => Some((Tag::LineJust(value), behind)),
+        Name::PageJust => Some((Tag::PageJust(value), behind)),
+        Name::CharSpacing => Some((Tag::CharSpacing(value?), behind)),
+        Name::Fore => Some((Tag::Fore(value), behind)),
+        Name::Back => Some((Tag::Back(value), behind)),
+        // Any other tag has more, or nothing.
+        _ => unreachable!(),
     }
 }
 
