@@ -3,7 +3,7 @@ use Rattle.std.proofs.Common.{◌≡◌, ℕ, Bool, true, false, List, [], ◌�
 use Rattle.std.specs.Prelude.{◌==◌, ◌⊎◌, not}
 use Rattle.std.specs.List.{list_all}
 use Rattle.std.proofs.lemmas.Bool.{and_parts, cases_Bool, eqb-true}
-use Rattle.sign_script.specs.Fields.{◌>>=◌, parted}
+use Rattle.sign_script.specs.Fields.{◌>>=◌, is_ended, left, parted}
 use Rattle.sign_script.specs.Spelling.{AreFields, Field, Hex, IsField, Name, Number, Octets, Text}
 
 -- what is left of a line, with the space before it
@@ -18,6 +18,15 @@ tail_some (Some t) text is = cc
 pub tail_none : (rest : Option (List ℕ)) → tail rest ≡ [] → rest ≡ None
 tail_none None is = refl
 tail_none (Some t) is = cc
+
+-- what begins with a space, or isn't written, is what is left after the space, with the space before it
+pub tail_left : (rest : List ℕ) → is_ended rest ≡ true → rest ≡ tail (left rest)
+tail_left [] ended = refl
+tail_left (c ∷ cs) ended = ap (λ (n : ℕ). n ∷ cs) (eqb-true c 32 ended)
+
+pub tail_ended : (rest : Option (List ℕ)) → is_ended (tail rest) ≡ true
+tail_ended None = refl
+tail_ended (Some text) = refl
 
 -- a text is its first field and what is left after it
 pub parted_parts : (text : List ℕ) → text ≡ (parted text).field ++ tail (parted text).rest

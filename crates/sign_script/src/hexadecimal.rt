@@ -1,10 +1,11 @@
 //! Octets in hexadecimal.
 
 ghost use Rattle.std.specs.Prelude.{◌≡◌, if◌then◌else◌, Some, None, length};
-ghost use Rattle.std.specs.Option.{option_copied};
 ghost use Rattle.hex.specs.Hex.{decode_sized};
-ghost use Rattle.sign_script.specs.Fields.{if_decoded, last_octets};
+ghost use Rattle.sign_script.specs.Fields.{if_decoded, last_octets, left};
 ghost use Rattle.sign_script.specs.kept.Hexadecimal.{digit_value, pair_of};
+
+use crate::fields::left;
 
 /// What each octet writes as a digit, in either case, and 16 where it is none.
 const VALUES: &[u8; 256] = &[
@@ -58,11 +59,11 @@ pub(crate) fn read_octets(digits: &[u8], octets: &mut [u8]) -> bool
 }
 
 /// The `N` octets, in hexadecimal, that are all that is left of a line.
-pub(crate) fn last_octets<const N: usize>(rest: Option<&[u8]>) -> Option<[u8; N]>
-    ensures { result ≡ last_octets N (option_copied rest.entry) }
+pub(crate) fn last_octets<const N: usize>(rest: &[u8]) -> Option<[u8; N]>
+    ensures { result ≡ last_octets N (left rest.now) }
 {
     let mut octets = [0; N];
-    if read_octets(rest?, &mut octets) {
+    if read_octets(left(rest)?, &mut octets) {
         Some(octets)
     } else {
         None
