@@ -1,5 +1,5 @@
 -- A line, its first field, and what is left after it.
-use Rattle.std.proofs.Common.{◌≡◌, ℕ, Bool, true, false, List, [], ◌∷◌, ◌++◌, Option, None, Some, inl, inr, refl, sym, ap, ◌∙◌, append-nil}
+use Rattle.std.proofs.Common.{◌≡◌, ℕ, slice_index_or, Bool, true, false, List, [], ◌∷◌, ◌++◌, Option, None, Some, inl, inr, refl, sym, ap, ◌∙◌, append-nil}
 use Rattle.std.specs.Prelude.{◌==◌, ◌⊎◌, not}
 use Rattle.std.specs.List.{list_all}
 use Rattle.std.proofs.lemmas.Bool.{and_parts, cases_Bool, eqb-true}
@@ -55,6 +55,24 @@ parted_word [] (Some text) h = refl
 parted_word (c ∷ cs) rest h =
     let parts = and_parts (not (c == 32)) (has_no_space cs) h in
     rw (other c parts.0, parted_word cs rest parts.1) refl
+
+-- octets without a space belong to the first field
+pub parted_after : (w rest : List ℕ) → has_no_space w ≡ true → parted (w ++ rest) ≡ record { field = w ++ (parted rest).field; rest = (parted rest).rest }
+unfolding parted
+parted_after [] rest h = refl
+parted_after (c ∷ cs) rest h =
+    let parts = and_parts (not (c == 32)) (has_no_space cs) h in
+    rw (other c parts.0, parted_after cs rest parts.1) refl
+
+pub parted_ended : (rest : List ℕ) → is_ended rest ≡ true → parted rest ≡ record { field = []; rest = left rest }
+unfolding parted
+parted_ended [] ended = refl
+parted_ended (c ∷ cs) ended = rw ended refl
+
+pub parted_more : (rest : List ℕ) → is_ended rest ≡ false → (more : List ℕ) × ((parted rest).field ≡ slice_index_or rest 0 0 ∷ more)
+unfolding parted
+parted_more [] more = cc
+parted_more (c ∷ cs) more = ((parted cs).field, rw more refl)
 
 -- a field begins with a space, or isn't written
 field_starts : (field : Field) (part : List ℕ) → IsField field part → ((text : List ℕ) × (part ≡ 32 ∷ text)) ⊎ (part ≡ [])

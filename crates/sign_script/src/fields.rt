@@ -2,10 +2,10 @@
 
 ghost use Rattle.std.specs.Prelude.{◌≡◌, ◌==◌, ◌≤◌, IfSome, position};
 ghost use Rattle.std.specs.Option.{option_copied};
-ghost use Rattle.sign_script.specs.Fields.{at_end, is_ended, left, last_message, last_number, message_value, next_message, next_number, number_of, parted, seen, text_of};
+ghost use Rattle.sign_script.specs.Fields.{at_end, is_ended, left, last_message, last_number, message_value, next_message, next_number, parted, seen, text_of};
+ghost use Rattle.sign_script.specs.kept.Leading.{IsLeading};
 
 use message_store::MsgRef;
-use octet_text::digits_number;
 
 /// Where the first space of a text stands, counted from 0.
 fn first_space(text: &[u8]) -> Option<usize>
@@ -46,20 +46,20 @@ pub(crate) fn parted(text: &[u8]) -> (&[u8], &[u8])
     }
 }
 
-/// The number that 1 to 10 decimal digits write, where it is at most `most`.
-fn number_of(most: u32, digits: &[u8]) -> Option<u32>
-    ensures number { result ≡ number_of most digits.now }
-    ensures within { IfSome result (λ number. number ≤ most) }
+/// The number that the decimal digits at the front of a text write, and how many these are, up to 10.
+fn leading_number(text: &[u8]) -> (u64, usize)
+    ensures { IsLeading text.now result.0 result.1 }
 {
-    if digits.is_empty() || digits.len() > 10 {
-        return None;
+    let mut number = 0;
+    let end = text.len().min(10);
+    for index in 0..end {
+        let octet = text[index];
+        if octet < b'0' || octet > b'9' {
+            return (number, index);
+        }
+        number = number * 10 + u64::from(octet - b'0');
     }
-    let number = digits_number(digits)?;
-    if number <= u64::from(most) {
-        Some(number as u32)
-    } else {
-        None
-    }
+    (number, end)
 }
 
 /// The number that the next field is, at most `most`, and what is left after it.
@@ -67,8 +67,14 @@ pub(crate) fn next_number(most: u32, rest: &[u8]) -> Option<(u32, &[u8])>
     ensures number { seen result ≡ next_number most (left rest.now) }
     ensures within { IfSome result (λ found. found.0 ≤ most) }
 {
-    let (field, rest) = parted(left(rest)?);
-    Some((number_of(most, field)?, rest))
+    let text = left(rest)?;
+    let (number, count) = leading_number(text);
+    let rest = &text[count..];
+    if count > 0 && is_ended(rest) && number <= u64::from(most) {
+        Some((number as u32, rest))
+    } else {
+        None
+    }
 }
 
 /// What was read, where nothing is left after it.
