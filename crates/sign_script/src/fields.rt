@@ -28,9 +28,10 @@ pub(crate) fn is_ended(rest: &[u8]) -> bool
 pub(crate) fn left(rest: &[u8]) -> Option<&[u8]>
     ensures { option_copied result ≡ left rest.now }
 {
-    match rest {
-        [] => None,
-        [_, text @ ..] => Some(text),
+    if rest.is_empty() {
+        None
+    } else {
+        Some(&rest[1..])
     }
 }
 
