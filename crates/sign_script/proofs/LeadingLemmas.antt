@@ -1,5 +1,5 @@
 -- A field that begins with digits.
-use Rattle.std.proofs.Common.{◌≡◌, ℕ, ◌+◌, ◌-◌, ◌*◌, get_or, ◌<◌, ◌≤◌, true, false, List, [], ◌∷◌, ◌++◌, length, take, drop, slice_index_or, None, Some, inl, inr, refl, sym, ap, ◌∙◌, arith, append-nil}
+use Rattle.std.proofs.Common.{◌≡◌, ℕ, ◌+◌, ◌-◌, ◌*◌, ◌%◌, get_or, ◌<◌, ◌≤◌, true, false, List, [], ◌∷◌, ◌++◌, length, take, drop, slice_index_or, None, Some, inl, inr, refl, sym, ap, ◌∙◌, arith, append-nil}
 use Rattle.std.specs.Prelude.{◌==◌, not}
 use Rattle.std.specs.List.{list_all}
 use Rattle.std.specs.Str.Parse.{digits_value}
@@ -14,6 +14,11 @@ use Rattle.sign_script.specs.Spelling.{IsNumber}
 use Rattle.sign_script.specs.kept.Leading.{IsLeading}
 use Rattle.sign_script.proofs.NumberLemmas.{digits_from, digits_to, no_number, number_read}
 use Rattle.sign_script.proofs.PartsLemmas.{has_no_space, parted_after, parted_ended, parted_more}
+
+-- what is at most 9 when 48 is taken from it is a digit
+pub digit_told : (c d : ℕ) → d ≡ c → c < 256 → (d + 18446744073709551568) % 18446744073709551616 ≤ 9
+    → (48 ≤ c) × (c ≤ 57) × ((d + 18446744073709551568) % 18446744073709551616 ≡ c - 48)
+digit_told c d is fits small = (grind (arith, is, fits, small), grind (arith, is, fits, small), grind (arith, is, fits, small))
 
 -- one digit more
 pub digits_more : (ds : List ℕ) (i : ℕ) → i < length ds → list_all is_digit (take i ds) ≡ true → is_digit (get_or ds i 0) ≡ true → list_all is_digit (take (i + 1) ds) ≡ true

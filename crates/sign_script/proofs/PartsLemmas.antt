@@ -1,8 +1,9 @@
 -- A line, its first field, and what is left after it.
-use Rattle.std.proofs.Common.{◌≡◌, ℕ, slice_index_or, Bool, true, false, List, [], ◌∷◌, ◌++◌, Option, None, Some, inl, inr, refl, sym, ap, ◌∙◌, append-nil}
+use Rattle.std.proofs.Common.{◌≡◌, ℕ, ◌-◌, ◌≤◌, length, take, drop, arith, slice_index_or, Bool, true, false, List, [], ◌∷◌, ◌++◌, Option, None, Some, inl, inr, refl, sym, ap, ◌∙◌, append-nil}
 use Rattle.std.specs.Prelude.{◌==◌, ◌⊎◌, not}
 use Rattle.std.specs.List.{list_all}
 use Rattle.std.proofs.lemmas.Bool.{and_parts, cases_Bool, eqb-true}
+use Rattle.std.proofs.lemmas.List.{take_rest}
 use Rattle.sign_script.specs.Fields.{◌>>=◌, is_ended, left, parted}
 use Rattle.sign_script.specs.Spelling.{AreFields, Field, Hex, IsField, Name, Number, Octets, Text}
 
@@ -23,6 +24,10 @@ tail_none (Some t) is = cc
 pub tail_left : (rest : List ℕ) → is_ended rest ≡ true → rest ≡ tail (left rest)
 tail_left [] ended = refl
 tail_left (c ∷ cs) ended = ap (λ (n : ℕ). n ∷ cs) (eqb-true c 32 ended)
+
+pub left_some : (rest : List ℕ) → 1 ≤ length rest → Some (take (length rest - 1) (drop 1 rest)) ≡ left rest
+left_some [] some = absurd (omega (arith, some))
+left_some (c ∷ cs) some = ap (λ (l : List ℕ). let o : Option (List ℕ) = Some l in o) (take_rest (c ∷ cs) 1)
 
 pub tail_ended : (rest : Option (List ℕ)) → is_ended (tail rest) ≡ true
 tail_ended None = refl

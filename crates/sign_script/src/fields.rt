@@ -54,11 +54,12 @@ fn leading_number(text: &[u8]) -> (u64, usize)
     let mut number = 0;
     let end = text.len().min(10);
     for index in 0..end {
-        let octet = text[index];
-        if octet < b'0' || octet > b'9' {
+        // what is below `0` wraps to a large number: one test tells digits
+        let digit = u64::from(text[index]).wrapping_sub(48);
+        if digit > 9 {
             return (number, index);
         }
-        number = number * 10 + u64::from(octet - b'0');
+        number = number * 10 + digit;
     }
     (number, end)
 }
@@ -68,7 +69,9 @@ pub(crate) fn next_number(most: u32, rest: &[u8]) -> Option<(u32, &[u8])>
     ensures number { seen result ≡ next_number most (left rest.now) }
     ensures within { IfSome result (λ found. found.0 ≤ most) }
 {
-    let text = left(rest)?;
+    let [_, text @ ..] = rest else {
+        return None;
+    };
     let (number, count) = leading_number(text);
     let rest = &text[count..];
     if count > 0 && is_ended(rest) && number <= u64::from(most) {
