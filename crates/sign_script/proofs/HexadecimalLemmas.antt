@@ -1,6 +1,6 @@
 -- Octets that are read pair by pair are those that the digits write.
 use Rattle.std.proofs.Common.{◌≡◌, ℕ, ◌+◌, ◌*◌, ◌<◌, ◌≤◌, ◌/◌, ◌%◌, true, false, List, [], ◌∷◌, ◌++◌, length, take, drop, slice_index_or, slice_set, Option, None, Some, Result, Ok, Err, refl, sym, ap, ◌∙◌, arith, append_assoc}
-use Rattle.std.specs.Prelude.{◌==◌, nat_lt, ◌&&◌, if◌then◌else◌, unwrap_or}
+use Rattle.std.specs.Prelude.{◌==◌, nat_lt, if◌then◌else◌, unwrap_or}
 use Rattle.std.proofs.lemmas.Grind.{take-set_at}
 use Rattle.std.proofs.lemmas.List.{append-nil, drop_all, drop_more, take_all}
 use Rattle.std.proofs.lemmas.Bool.Decides.{nat_tests}
@@ -10,17 +10,24 @@ use Rattle.sign_script.specs.Fields.{if_decoded}
 use Rattle.sign_script.specs.kept.Hexadecimal.{before, first_of, pair_of, pairs_of}
 
 -- a digit is below 16
-small_value : (c : ℕ) (v : ℕ) → hex_digit_value c ≡ Some v → nat_lt v 16 ≡ true
+pub small_value : (c : ℕ) (v : ℕ) → hex_digit_value c ≡ Some v → nat_lt v 16 ≡ true
 small_value c v is = grind (arith, nat_tests)
+
+both_small : (v w : ℕ) → nat_lt v 16 ≡ true → nat_lt w 16 ≡ true → nat_lt (v * 16 + w) 256 ≡ true
+both_small v w small small' = grind (arith, nat_tests)
+
+pub value_small : (o : Option ℕ) → ((v : ℕ) → o ≡ Some v → nat_lt v 16 ≡ true) → unwrap_or o 256 ≤ 256
+value_small None small = omega arith
+value_small (Some v) small = grind (arith, nat_tests, small v refl)
 
 -- one pair before others
 one_pair : (h l i : ℕ) (o p : Option ℕ) (others : Result (List ℕ) FromHexError) → ((v : ℕ) → o ≡ Some v → nat_lt v 16 ≡ true) → ((v : ℕ) → p ≡ Some v → nat_lt v 16 ≡ true)
     → if_decoded ((digit_or_error h i o >>= (λ high. digit_or_error l (i + 1) p >>= (λ low. Ok (high * 16 + low)))) >>= (λ octet. others >>= (λ octets. Ok (octet ∷ octets))))
-    ≡ first_of (if nat_lt (unwrap_or o 16) 16 && nat_lt (unwrap_or p 16) 16 then Some (unwrap_or o 16 * 16 + unwrap_or p 16) else None) (if_decoded others)
-one_pair h l i None p others small small' = refl
-one_pair h l i (Some v) None others small small' = rw (small v refl) refl
-one_pair h l i (Some v) (Some w) (Ok octets) small small' = rw (small v refl, small' w refl) refl
-one_pair h l i (Some v) (Some w) (Err fault) small small' = rw (small v refl, small' w refl) refl
+    ≡ first_of (if nat_lt (unwrap_or o 256 * 16 + unwrap_or p 256) 256 then Some (unwrap_or o 256 * 16 + unwrap_or p 256) else None) (if_decoded others)
+one_pair h l i None p others small small' = let large : nat_lt (256 * 16 + unwrap_or p 256) 256 ≡ false = grind (arith, nat_tests) in rw large refl
+one_pair h l i (Some v) None others small small' = let large : nat_lt (v * 16 + 256) 256 ≡ false = grind (arith, nat_tests) in rw large refl
+one_pair h l i (Some v) (Some w) (Ok octets) small small' = rw (both_small v w (small v refl) (small' w refl)) refl
+one_pair h l i (Some v) (Some w) (Err fault) small small' = rw (both_small v w (small v refl) (small' w refl)) refl
 
 pub decoded : (i : ℕ) (text : List ℕ) → if_decoded (decode_pairs i text) ≡ pairs_of text
 unfolding decode_pairs pairs_of

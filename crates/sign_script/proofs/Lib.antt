@@ -3,6 +3,7 @@ pub mod Asked
 pub mod FieldsFound
 pub mod FieldsRead
 pub mod HexadecimalLemmas
+pub mod LeadingLemmas
 pub mod LengthLemmas
 pub mod NumberLemmas
 pub mod PartedLemmas

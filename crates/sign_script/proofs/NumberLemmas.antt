@@ -16,11 +16,11 @@ digit_from c h = grind (arith)
 digit_to : (c : ℕ) → is_digit c ≡ true → digit_value c < 10
 digit_to c h = grind (arith)
 
-digits_from : (ds : List ℕ) → AllDigits 10 ds → list_all is_digit ds ≡ true
+pub digits_from : (ds : List ℕ) → AllDigits 10 ds → list_all is_digit ds ≡ true
 digits_from [] h = refl
 digits_from (c ∷ cs) h = and_from (is_digit c) (list_all is_digit cs) (digit_from c h.0) (digits_from cs h.1)
 
-digits_to : (ds : List ℕ) → list_all is_digit ds ≡ true → AllDigits 10 ds
+pub digits_to : (ds : List ℕ) → list_all is_digit ds ≡ true → AllDigits 10 ds
 digits_to [] h = tt
 digits_to (c ∷ cs) h =
     let parts = and_parts (is_digit c) (list_all is_digit cs) h in

@@ -1,10 +1,11 @@
 -- A text and its first field.
-use Rattle.std.proofs.Common.{◌≡◌, ℕ, zero, suc, ◌+◌, ◌<◌, ◌≤◌, true, false, List, [], ◌∷◌, length, take, drop, None, Some, inl, inr, refl, arith}
+use Rattle.std.proofs.Common.{◌≡◌, ℕ, zero, suc, ◌+◌, ◌<◌, ◌≤◌, true, false, List, [], ◌∷◌, length, take, drop, None, Some, inl, inr, refl, sym, ap, ◌∙◌, arith}
 use Rattle.std.specs.Prelude.{◌==◌, nat_lt}
 use Rattle.std.specs.List.{position, position_or_len}
 use Rattle.std.proofs.lemmas.Bool.{cases_Bool}
+use Rattle.std.proofs.lemmas.List.{drop_more}
 use Rattle.std.proofs.lemmas.Option.{cond_some}
-use Rattle.sign_script.specs.Fields.{parted}
+use Rattle.sign_script.specs.Fields.{Parted, left, parted}
 
 -- where the first space of a text stands, or the length of the text
 abbrev place : List ℕ → ℕ
@@ -50,3 +51,9 @@ pub parted_some : (text : List ℕ) (at : ℕ) → position (λ octet. octet == 
 parted_some text at is =
     let found = cond_some (nat_lt (place text) (length text)) (place text) at is in
     at_space text at found.1 (grind (arith, found.0, found.1))
+
+-- what is left from the first space on
+pub parted_left : (text : List ℕ) (at : ℕ) → position (λ octet. octet == 32) text ≡ Some at → left (drop at text) ≡ (parted text).rest
+parted_left text at is =
+    let found = cond_some (nat_lt (place text) (length text)) (place text) at is in
+    ap left (drop_more text at 0 (grind (arith, found.0, found.1))) ∙ sym (ap (λ (p : Parted). p.rest) (parted_some text at is))

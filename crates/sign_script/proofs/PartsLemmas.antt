@@ -1,9 +1,10 @@
 -- A line, its first field, and what is left after it.
-use Rattle.std.proofs.Common.{◌≡◌, ℕ, Bool, true, false, List, [], ◌∷◌, ◌++◌, Option, None, Some, inl, inr, refl, sym, ap, ◌∙◌, append-nil}
+use Rattle.std.proofs.Common.{◌≡◌, ℕ, ◌-◌, ◌≤◌, length, take, drop, arith, slice_index_or, Bool, true, false, List, [], ◌∷◌, ◌++◌, Option, None, Some, inl, inr, refl, sym, ap, ◌∙◌, append-nil}
 use Rattle.std.specs.Prelude.{◌==◌, ◌⊎◌, not}
 use Rattle.std.specs.List.{list_all}
 use Rattle.std.proofs.lemmas.Bool.{and_parts, cases_Bool, eqb-true}
-use Rattle.sign_script.specs.Fields.{◌>>=◌, parted}
+use Rattle.std.proofs.lemmas.List.{take_rest}
+use Rattle.sign_script.specs.Fields.{◌>>=◌, is_ended, left, parted}
 use Rattle.sign_script.specs.Spelling.{AreFields, Field, Hex, IsField, Name, Number, Octets, Text}
 
 -- what is left of a line, with the space before it
@@ -18,6 +19,19 @@ tail_some (Some t) text is = cc
 pub tail_none : (rest : Option (List ℕ)) → tail rest ≡ [] → rest ≡ None
 tail_none None is = refl
 tail_none (Some t) is = cc
+
+-- what begins with a space, or isn't written, is what is left after the space, with the space before it
+pub tail_left : (rest : List ℕ) → is_ended rest ≡ true → rest ≡ tail (left rest)
+tail_left [] ended = refl
+tail_left (c ∷ cs) ended = ap (λ (n : ℕ). n ∷ cs) (eqb-true c 32 ended)
+
+pub left_some : (rest : List ℕ) → 1 ≤ length rest → Some (take (length rest - 1) (drop 1 rest)) ≡ left rest
+left_some [] some = absurd (omega (arith, some))
+left_some (c ∷ cs) some = ap (λ (l : List ℕ). let o : Option (List ℕ) = Some l in o) (take_rest (c ∷ cs) 1)
+
+pub tail_ended : (rest : Option (List ℕ)) → is_ended (tail rest) ≡ true
+tail_ended None = refl
+tail_ended (Some text) = refl
 
 -- a text is its first field and what is left after it
 pub parted_parts : (text : List ℕ) → text ≡ (parted text).field ++ tail (parted text).rest
@@ -46,6 +60,24 @@ parted_word [] (Some text) h = refl
 parted_word (c ∷ cs) rest h =
     let parts = and_parts (not (c == 32)) (has_no_space cs) h in
     rw (other c parts.0, parted_word cs rest parts.1) refl
+
+-- octets without a space belong to the first field
+pub parted_after : (w rest : List ℕ) → has_no_space w ≡ true → parted (w ++ rest) ≡ record { field = w ++ (parted rest).field; rest = (parted rest).rest }
+unfolding parted
+parted_after [] rest h = refl
+parted_after (c ∷ cs) rest h =
+    let parts = and_parts (not (c == 32)) (has_no_space cs) h in
+    rw (other c parts.0, parted_after cs rest parts.1) refl
+
+pub parted_ended : (rest : List ℕ) → is_ended rest ≡ true → parted rest ≡ record { field = []; rest = left rest }
+unfolding parted
+parted_ended [] ended = refl
+parted_ended (c ∷ cs) ended = rw ended refl
+
+pub parted_more : (rest : List ℕ) → is_ended rest ≡ false → (more : List ℕ) × ((parted rest).field ≡ slice_index_or rest 0 0 ∷ more)
+unfolding parted
+parted_more [] more = cc
+parted_more (c ∷ cs) more = ((parted cs).field, rw more refl)
 
 -- a field begins with a space, or isn't written
 field_starts : (field : Field) (part : List ℕ) → IsField field part → ((text : List ℕ) × (part ≡ 32 ∷ text)) ⊎ (part ≡ [])

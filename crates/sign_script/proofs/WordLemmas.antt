@@ -1,17 +1,20 @@
 -- The words of verbs and the names of defaults.
-use Rattle.std.proofs.Common.{◌≡◌, ℕ, ◌<◌, true, false, List, [], ◌∷◌, ◌++◌, length, slice_index_or, Option, None, Some, inl, inr, refl, sym, ap, ◌∙◌, arith}
+use Rattle.std.proofs.Common.{◌≡◌, ℕ, true, false, List, ◌++◌, Option, None, Some, inl, inr, refl, sym, ap, ◌∙◌}
 use Rattle.std.specs.Prelude.{cond}
 use Rattle.std.specs.Str.{bytes_eq}
 use Rattle.std.proofs.lemmas.Bool.{cases_Bool}
+use Rattle.std.proofs.lemmas.List.{append_cancel_left}
+use Rattle.std.proofs.lemmas.Option.{none-some, same_Some}
 use Rattle.std.proofs.lemmas.Slice.Eq.{bytes_eq-Decides}
 use Rattle.sign_control.specs.declared.command.DefaultField.{DefaultField}
 use Rattle.sign_control.specs.declared.command.DefaultField.TheVariants as default
 use Rattle.sign_script.specs.declared.verb.Verb.{Verb}
 use Rattle.sign_script.specs.declared.verb.Verb.TheVariants as verb
 use Rattle.sign_script.specs.Asks.{ask_of, ask_of_line}
+use Rattle.sign_script.specs.Fields.{Parted, is_ended, left, parted}
 use Rattle.sign_script.specs.Verbs.{field_of, name, verb_of, word}
 use Rattle.sign_script.specs.kept.Likely.{likely}
-use Rattle.sign_script.proofs.PartsLemmas.{has_no_space}
+use Rattle.sign_script.proofs.PartsLemmas.{has_no_space, parted_parts, parted_word, tail, tail_ended, tail_left}
 
 -- a test for one word in a chain of tests
 pub tested : {V : Type 0} (written : V → List ℕ) (w : List ℕ) (u v : V) (others : Option V) → (others ≡ Some u → w ≡ written u) → cond (bytes_eq w (written v)) (Some v) others ≡ Some u → w ≡ written u
@@ -51,55 +54,45 @@ verb_of-word verb.Report = refl
 verb_of-word verb.Default = refl
 verb_of-word verb.Defaults = refl
 
--- the verb that a text can only be
-abbrev likely_in : List ℕ → Option Verb
-likely_in w = likely (slice_index_or w 0 0) (length w)
+-- a line that begins with the word of a verb is likely of this verb
+likely-word : (v : Verb) (rest : Option (List ℕ)) → likely (word v ++ tail rest) ≡ Some v
+likely-word verb.Request rest = refl
+likely-word verb.Multi None = refl
+likely-word verb.Multi (Some text) = refl
+likely-word verb.MultiHex rest = refl
+likely-word verb.Owner rest = refl
+likely-word verb.Priority rest = refl
+likely-word verb.Beacon rest = refl
+likely-word verb.Pixel rest = refl
+likely-word verb.Clear rest = refl
+likely-word verb.Work rest = refl
+likely-word verb.Activate rest = refl
+likely-word verb.End rest = refl
+likely-word verb.Tick rest = refl
+likely-word verb.Frame rest = refl
+likely-word verb.Row rest = refl
+likely-word verb.Report rest = refl
+likely-word verb.Default None = refl
+likely-word verb.Default (Some text) = refl
+likely-word verb.Defaults rest = refl
 
-likely_in-word : (v : Verb) → likely_in (word v) ≡ Some v
-likely_in-word verb.Request = refl
-likely_in-word verb.Multi = refl
-likely_in-word verb.MultiHex = refl
-likely_in-word verb.Owner = refl
-likely_in-word verb.Priority = refl
-likely_in-word verb.Beacon = refl
-likely_in-word verb.Pixel = refl
-likely_in-word verb.Clear = refl
-likely_in-word verb.Work = refl
-likely_in-word verb.Activate = refl
-likely_in-word verb.End = refl
-likely_in-word verb.Tick = refl
-likely_in-word verb.Frame = refl
-likely_in-word verb.Row = refl
-likely_in-word verb.Report = refl
-likely_in-word verb.Default = refl
-likely_in-word verb.Defaults = refl
+unspelled : (line : List ℕ) (found : Option Verb) → verb_of (parted line).field ≡ found
+    → ((v : Verb) (rest : Option (List ℕ)) → likely line ≡ Some v → line ≡ word v ++ tail rest → ⊥) → None ≡ found
+unspelled line None is none = refl
+unspelled line (Some u) is none =
+    let left = (parted line).rest in
+    let begins : line ≡ word u ++ tail left = parted_parts line ∙ ap (λ (w : List ℕ). w ++ tail left) (verb_word (parted line).field u is) in
+    absurd (none u left (ap likely begins ∙ likely-word u left) begins)
 
-unlikely : (w : List ℕ) (found : Option Verb) → verb_of w ≡ found → likely_in w ≡ None → None ≡ found
-unlikely w None is none = refl
-unlikely w (Some u) is none = let e = ap likely_in (verb_word w u is) ∙ likely_in-word u in cc
+-- a line that likely begins with no verb has none
+pub no_verb : (line : List ℕ) → likely line ≡ None → None ≡ verb_of (parted line).field
+no_verb line none = unspelled line (verb_of (parted line).field) refl (λ v rest is begins. none-some v (sym none ∙ is))
 
-unspelled : (w : List ℕ) (v : Verb) (found : Option Verb) → verb_of w ≡ found → likely_in w ≡ Some v → bytes_eq w (word v) ≡ false → None ≡ found
-unspelled w v None is likely differs = refl
-unspelled w v (Some u) is likely differs =
-    let e : likely_in w ≡ Some u = ap likely_in (verb_word w u is) ∙ likely_in-word u in
-    let same : u ≡ v = cc in
-    let spelled = (bytes_eq-Decides w (word v)).1 (verb_word w u is ∙ ap word same) in
-    cc
-
--- a text that is likely no verb is none
-pub no_verb : (w : List ℕ) → likely (slice_index_or w 0 0) (length w) ≡ None → None ≡ verb_of w
-no_verb w none = unlikely w (verb_of w) refl none
-
-pub empty_no_verb : (w : List ℕ) → length w < 1 → None ≡ verb_of w
-empty_no_verb [] short = no_verb [] refl
-empty_no_verb (c ∷ w) short = absurd (omega (arith, short))
-
--- a text that isn't the word of its likely verb is none
-pub other_verb : (w : List ℕ) (v : Verb) → likely (slice_index_or w 0 0) (length w) ≡ Some v → bytes_eq w (word v) ≡ false → None ≡ verb_of w
-other_verb w v likely differs = unspelled w v (verb_of w) refl likely differs
-
-pub spelled_verb : (w : List ℕ) (v : Verb) → bytes_eq w (word v) ≡ true → Some v ≡ verb_of w
-spelled_verb w v is = sym (ap verb_of ((bytes_eq-Decides w (word v)).0 is) ∙ verb_of-word v)
+-- a line that doesn't begin with the word of its likely verb has none
+pub other_verb : (line : List ℕ) (v : Verb) → likely line ≡ Some v → ((rest : Option (List ℕ)) → line ≡ word v ++ tail rest → ⊥) → None ≡ verb_of (parted line).field
+other_verb line v only differs =
+    unspelled line (verb_of (parted line).field) refl (λ u rest is begins.
+    differs rest (begins ∙ ap (λ (w : Verb). word w ++ tail rest) (same_Some u v (sym is ∙ only))))
 
 -- a line that begins with a word isn't passed over, and its word has no space
 pub record BeginsLine (w : List ℕ) : Type 0 where
@@ -124,6 +117,24 @@ word_begins verb.Row = record { plain = refl; asks = λ parts. refl }
 word_begins verb.Report = record { plain = refl; asks = λ parts. refl }
 word_begins verb.Default = record { plain = refl; asks = λ parts. refl }
 word_begins verb.Defaults = record { plain = refl; asks = λ parts. refl }
+
+-- a line that begins with a word and what is left after it
+module _ (line rest : List ℕ) (v : Verb) (is : line ≡ word v ++ rest) where
+  begun : is_ended rest ≡ true → parted line ≡ record { field = word v; rest = left rest }
+  begun ended = ap parted (is ∙ ap (λ (r : List ℕ). word v ++ r) (tail_left rest ended)) ∙ parted_word (word v) (left rest) (word_begins v).plain
+
+  pub begun_verb : is_ended rest ≡ true → Some v ≡ verb_of (parted line).field
+  begun_verb ended = sym (ap (λ (p : Parted). verb_of p.field) (begun ended) ∙ verb_of-word v)
+
+  pub begun_rest : is_ended rest ≡ true → left rest ≡ (parted line).rest
+  begun_rest ended = sym (ap (λ (p : Parted). p.rest) (begun ended))
+
+  -- where more follows, the word is another
+  pub longer_word : likely line ≡ Some v → is_ended rest ≡ false → None ≡ verb_of (parted line).field
+  longer_word only more = other_verb line v only (λ after begins.
+      let same = append_cancel_left (word v) rest (tail after) (sym is ∙ begins) in
+      let ended = ap is_ended same ∙ tail_ended after in
+      cc)
 
 pub field_name : (w : List ℕ) (u : DefaultField) → field_of w ≡ Some u → w ≡ name u
 unfolding field_of

@@ -1,8 +1,7 @@
 -- The fields of a line, which are parted by one space each.
-use Rattle.std.specs.Prelude.{◌≡◌, ℕ, ◌==◌, ◌&&◌, nat_le, List, [], ◌∷◌, length, if◌then◌else◌, Option, None, Some, Result, Ok, Err}
+use Rattle.std.specs.Prelude.{◌≡◌, ℕ, Bool, true, ◌==◌, ◌&&◌, nat_le, List, [], ◌∷◌, length, if◌then◌else◌, Option, None, Some, Result, Ok, Err}
 use Rattle.std.specs.List.{list_all}
 use Rattle.std.specs.Borrow.{Bor}
-use Rattle.std.specs.Option.{option_copied}
 use Rattle.std.specs.Str.Parse.{digits_value}
 use Rattle.octet_text.specs.Digits.{is_digit}
 use Rattle.hex.specs.Hex.{decode_of, decode_sized}
@@ -80,10 +79,20 @@ message_value rest = do
   value ← last_number 255 message.1
   Some (message.0, value)
 
+-- a field has ended before octets that begin with a space, octet 32, and where there are none (own)
+abbrev pub is_ended : List ℕ → Bool
+is_ended [] = true
+is_ended (c ∷ cs) = c == 32
+
+-- what is left of a line after the space that stands first; nothing is left where there are no octets (own)
+abbrev pub left : List ℕ → Option (List ℕ)
+left [] = None
+left (c ∷ cs) = Some cs
+
 -- what was read and what is left of a line, wherever that lies in memory (own)
-abbrev pub seen : {A : Type 0} → Option (A × Option (Bor (List ℕ))) → Option (A × Option (List ℕ))
+abbrev pub seen : {A : Type 0} → Option (A × Bor (List ℕ)) → Option (A × Option (List ℕ))
 seen None = None
-seen (Some read) = Some (read.0, option_copied read.1)
+seen (Some read) = Some (read.0, left read.1.now)
 
 -- all that is left of a line is text; where nothing is left, the text is empty (own)
 abbrev pub text_of : Option (List ℕ) → List ℕ

@@ -1,3 +1,4 @@
 -- What the code keeps on its way, which no reader of the public contracts needs.
 pub mod Likely
 pub mod Hexadecimal
+pub mod Leading

@@ -1,29 +1,34 @@
 //! Octets in hexadecimal.
 
-ghost use Rattle.std.specs.Prelude.{◌≡◌, if◌then◌else◌, Some, None, length};
-ghost use Rattle.std.specs.Option.{option_copied};
+ghost use Rattle.std.specs.Prelude.{◌≡◌, ◌≤◌, if◌then◌else◌, Some, None, length};
 ghost use Rattle.hex.specs.Hex.{decode_sized};
-ghost use Rattle.sign_script.specs.Fields.{if_decoded, last_octets};
+ghost use Rattle.sign_script.specs.Fields.{if_decoded, last_octets, left};
 ghost use Rattle.sign_script.specs.kept.Hexadecimal.{digit_value, pair_of};
 
-/// What each octet writes as a digit, in either case, and 16 where it is none.
-const VALUES: &[u8; 256] = &[
-    16, 16, 16, 16, 16, 16, 16, 16, 16, 16, 16, 16, 16, 16, 16, 16, 16, 16, 16, 16, 16, 16, 16, 16,
-    16, 16, 16, 16, 16, 16, 16, 16, 16, 16, 16, 16, 16, 16, 16, 16, 16, 16, 16, 16, 16, 16, 16, 16,
-    0, 1, 2, 3, 4, 5, 6, 7, 8, 9, 16, 16, 16, 16, 16, 16, 16, 10, 11, 12, 13, 14, 15, 16, 16, 16,
-    16, 16, 16, 16, 16, 16, 16, 16, 16, 16, 16, 16, 16, 16, 16, 16, 16, 16, 16, 16, 16, 16, 16, 10,
-    11, 12, 13, 14, 15, 16, 16, 16, 16, 16, 16, 16, 16, 16, 16, 16, 16, 16, 16, 16, 16, 16, 16, 16,
-    16, 16, 16, 16, 16, 16, 16, 16, 16, 16, 16, 16, 16, 16, 16, 16, 16, 16, 16, 16, 16, 16, 16, 16,
-    16, 16, 16, 16, 16, 16, 16, 16, 16, 16, 16, 16, 16, 16, 16, 16, 16, 16, 16, 16, 16, 16, 16, 16,
-    16, 16, 16, 16, 16, 16, 16, 16, 16, 16, 16, 16, 16, 16, 16, 16, 16, 16, 16, 16, 16, 16, 16, 16,
-    16, 16, 16, 16, 16, 16, 16, 16, 16, 16, 16, 16, 16, 16, 16, 16, 16, 16, 16, 16, 16, 16, 16, 16,
-    16, 16, 16, 16, 16, 16, 16, 16, 16, 16, 16, 16, 16, 16, 16, 16, 16, 16, 16, 16, 16, 16, 16, 16,
-    16, 16, 16, 16, 16, 16, 16, 16, 16, 16, 16, 16, 16, 16,
+use crate::fields::left;
+
+/// What each octet writes as a digit, in either case, and 256 where it is none, so that one test tells of both digits of an octet.
+const VALUES: &[u32; 256] = &[
+    256, 256, 256, 256, 256, 256, 256, 256, 256, 256, 256, 256, 256, 256, 256, 256, 256, 256, 256,
+    256, 256, 256, 256, 256, 256, 256, 256, 256, 256, 256, 256, 256, 256, 256, 256, 256, 256, 256,
+    256, 256, 256, 256, 256, 256, 256, 256, 256, 256, 0, 1, 2, 3, 4, 5, 6, 7, 8, 9, 256, 256, 256,
+    256, 256, 256, 256, 10, 11, 12, 13, 14, 15, 256, 256, 256, 256, 256, 256, 256, 256, 256, 256,
+    256, 256, 256, 256, 256, 256, 256, 256, 256, 256, 256, 256, 256, 256, 256, 256, 10, 11, 12, 13,
+    14, 15, 256, 256, 256, 256, 256, 256, 256, 256, 256, 256, 256, 256, 256, 256, 256, 256, 256,
+    256, 256, 256, 256, 256, 256, 256, 256, 256, 256, 256, 256, 256, 256, 256, 256, 256, 256, 256,
+    256, 256, 256, 256, 256, 256, 256, 256, 256, 256, 256, 256, 256, 256, 256, 256, 256, 256, 256,
+    256, 256, 256, 256, 256, 256, 256, 256, 256, 256, 256, 256, 256, 256, 256, 256, 256, 256, 256,
+    256, 256, 256, 256, 256, 256, 256, 256, 256, 256, 256, 256, 256, 256, 256, 256, 256, 256, 256,
+    256, 256, 256, 256, 256, 256, 256, 256, 256, 256, 256, 256, 256, 256, 256, 256, 256, 256, 256,
+    256, 256, 256, 256, 256, 256, 256, 256, 256, 256, 256, 256, 256, 256, 256, 256, 256, 256, 256,
+    256, 256, 256, 256, 256, 256, 256, 256, 256, 256, 256, 256, 256, 256, 256, 256, 256, 256, 256,
+    256, 256, 256,
 ];
 
 /// What an octet writes as a digit.
-fn digit_value(digit: u8) -> u8
-    ensures { result ≡ digit_value digit }
+fn digit_value(digit: u8) -> u32
+    ensures value { result ≡ digit_value digit }
+    ensures small { result ≤ 256 }
 {
     VALUES[usize::from(digit)]
 }
@@ -32,13 +37,8 @@ fn digit_value(digit: u8) -> u8
 fn pair_of(high: u8, low: u8) -> Option<u8>
     ensures { result ≡ pair_of high low }
 {
-    let high = digit_value(high);
-    let low = digit_value(low);
-    if high < 16 && low < 16 {
-        Some(high * 16 + low)
-    } else {
-        None
-    }
+    let octet = digit_value(high) * 16 + digit_value(low);
+    if octet < 256 { Some(octet as u8) } else { None }
 }
 
 /// Reads as many octets as there is room for, where the digits write just these. It answers whether they do.
@@ -58,11 +58,11 @@ pub(crate) fn read_octets(digits: &[u8], octets: &mut [u8]) -> bool
 }
 
 /// The `N` octets, in hexadecimal, that are all that is left of a line.
-pub(crate) fn last_octets<const N: usize>(rest: Option<&[u8]>) -> Option<[u8; N]>
-    ensures { result ≡ last_octets N (option_copied rest.entry) }
+pub(crate) fn last_octets<const N: usize>(rest: &[u8]) -> Option<[u8; N]>
+    ensures { result ≡ last_octets N (left rest.now) }
 {
     let mut octets = [0; N];
-    if read_octets(rest?, &mut octets) {
+    if read_octets(left(rest)?, &mut octets) {
         Some(octets)
     } else {
         None

@@ -2,10 +2,10 @@
 
 ghost use Rattle.std.specs.Prelude.{◌≡◌, ◌*◌, ◌<◌, IfOk, length, vec_capacity};
 ghost use Rattle.std.specs.List.{find};
-ghost use Rattle.std.specs.Option.{option_copied, option_map};
+ghost use Rattle.std.specs.Option.{option_map};
 ghost use Rattle.std.specs.Str.{bytes_eq};
 ghost use Rattle.sign_script.specs.Asks.{WritesHex};
-ghost use Rattle.sign_script.specs.Fields.{Gives};
+ghost use Rattle.sign_script.specs.Fields.{Gives, left};
 ghost use Rattle.sign_script.specs.Questions.{IsAsked, bare_question, more_asked, more_with, query_of, query_word, question_of};
 ghost use Rattle.sign_script.specs.declared.question.Question.{Question};
 
@@ -86,8 +86,8 @@ fn query_of(text: &[u8]) -> Option<Query>
 }
 
 /// What such a word and what is left of its line ask for.
-fn more_with(query: Query, rest: Option<&[u8]>) -> Option<Question<'_>>
-    ensures { option_map bare_question result ≡ more_with query (option_copied rest.entry) }
+fn more_with(query: Query, rest: &[u8]) -> Option<Question<'_>>
+    ensures { option_map bare_question result ≡ more_with query (left rest.now) }
 {
     Some(match query {
         Query::Colours => at_end(Question::Colours, rest)?,

@@ -1,15 +1,15 @@
 //! Reading a line.
 
 ghost use Rattle.std.specs.Prelude.{◌≡◌, ◌*◌, ◌<◌, IfOk, length, option_map, vec_capacity};
-ghost use Rattle.std.specs.Option.{option_copied};
 ghost use Rattle.sign_script.specs.Asks.{IsPlain, WritesHex, ask_of, ask_of_line, ask_with, bare};
-ghost use Rattle.sign_script.specs.Fields.{Gives, message_octets, octets_of, text_of};
+ghost use Rattle.sign_script.specs.Fields.{Gives, left, message_octets, octets_of, text_of};
 ghost use Rattle.sign_script.specs.Spelling.{IsSpelled};
 ghost use Rattle.sign_script.specs.declared.ask.Ask.{Ask};
 
 use crate::ask::{Ask, LineFault};
 use crate::fields::{
-    at_end, last_message, last_number, last_octet, message_value, next_message, parted, text_of,
+    at_end, last_message, last_number, last_octet, left, message_value, next_message, parted,
+    text_of,
 };
 use crate::hexadecimal::{last_octets, read_octets};
 use crate::verb::{Verb, field_of};
@@ -31,12 +31,9 @@ fn octets_of<'a>(digits: &[u8], octets: &'a mut Vec<u8>) -> Result<&'a [u8], Lin
 }
 
 /// The message that the next two fields name, and the octets that the rest of the line writes in hexadecimal.
-fn message_octets<'a>(
-    rest: Option<&[u8]>,
-    octets: &'a mut Vec<u8>,
-) -> Result<(MsgRef, &'a [u8]), LineFault>
-    ensures read { Gives (λ read. (read.0, read.1.now)) result (message_octets (option_copied rest.entry)) }
-    ensures memory { result ≡ Err LineFault.Memory → 2 * vec_capacity octets.old < length (text_of (option_copied rest.entry)) }
+fn message_octets<'a>(rest: &[u8], octets: &'a mut Vec<u8>) -> Result<(MsgRef, &'a [u8]), LineFault>
+    ensures read { Gives (λ read. (read.0, read.1.now)) result (message_octets (left rest.now)) }
+    ensures memory { result ≡ Err LineFault.Memory → 2 * vec_capacity octets.old < length (text_of (left rest.now)) }
 {
     match next_message(rest) {
         Some((message, rest)) => Ok((message, octets_of(text_of(rest), octets)?)),
@@ -45,17 +42,17 @@ fn message_octets<'a>(
 }
 
 /// The default that a line sets.
-fn default_set(rest: Option<&[u8]>) -> Option<Ask<'static>>
-    ensures { result ≡ ask_with Verb.Default (option_copied rest.entry) }
+fn default_set(rest: &[u8]) -> Option<Ask<'static>>
+    ensures { result ≡ ask_with Verb.Default (left rest.now) }
 {
-    let (name, rest) = parted(rest?);
+    let (name, rest) = parted(left(rest)?);
     let field = field_of(name)?;
     Some(Ask::Command(Command::SetDefault(field, last_octet(rest)?)))
 }
 
 /// What a verb and what is left of its line ask for, where no octets have to be kept.
-fn plain_ask(verb: Verb, rest: Option<&[u8]>) -> Option<Ask<'_>>
-    ensures { IsPlain verb → option_map bare result ≡ ask_with verb (option_copied rest.entry) }
+fn plain_ask(verb: Verb, rest: &[u8]) -> Option<Ask<'_>>
+    ensures { IsPlain verb → option_map bare result ≡ ask_with verb (left rest.now) }
 {
     Some(match verb {
         Verb::Request => {
@@ -93,13 +90,9 @@ fn plain_ask(verb: Verb, rest: Option<&[u8]>) -> Option<Ask<'_>>
 }
 
 /// What a verb and what is left of its line ask for.
-fn ask_with<'a>(
-    verb: Verb,
-    rest: Option<&'a [u8]>,
-    octets: &'a mut Vec<u8>,
-) -> Result<Ask<'a>, LineFault>
-    ensures asked { Gives bare result (ask_with verb (option_copied rest.entry)) }
-    ensures memory { result ≡ Err LineFault.Memory → 2 * vec_capacity octets.old < length (text_of (option_copied rest.entry)) }
+fn ask_with<'a>(verb: Verb, rest: &'a [u8], octets: &'a mut Vec<u8>) -> Result<Ask<'a>, LineFault>
+    ensures asked { Gives bare result (ask_with verb (left rest.now)) }
+    ensures memory { result ≡ Err LineFault.Memory → 2 * vec_capacity octets.old < length (text_of (left rest.now)) }
     ensures plain { result ≡ Err LineFault.Memory → IsPlain verb → ⊥ }
 {
     match verb {
@@ -122,9 +115,8 @@ fn ask_of_line<'a>(line: &'a [u8], octets: &'a mut Vec<u8>) -> Result<Ask<'a>, L
     ensures memory { result ≡ Err LineFault.Memory → 2 * vec_capacity octets.old < length line.now }
     ensures plain { result ≡ Err LineFault.Memory → WritesHex line.now }
 {
-    let (word, rest) = parted(line);
-    match Verb::of(word) {
-        Some(verb) => ask_with(verb, rest, octets),
+    match Verb::begin(line) {
+        Some((verb, rest)) => ask_with(verb, rest, octets),
         None => Err(LineFault::Bad),
     }
 }

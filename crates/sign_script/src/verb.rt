@@ -1,11 +1,13 @@
 //! The words that lines begin with, and the names of the defaults.
 
-ghost use Rattle.std.specs.Prelude.{◌≡◌};
+ghost use Rattle.std.specs.Prelude.{◌≡◌, ◌≢◌, ◌++◌, ℕ, List, IfNone, IfSome, option_map, slice_index_or};
+ghost use Rattle.sign_script.specs.Fields.{left, parted};
 ghost use Rattle.std.specs.List.{find};
 ghost use Rattle.std.specs.Str.{bytes_eq};
 ghost use Rattle.sign_script.specs.Verbs.{field_of, name, verb_of, word};
 ghost use Rattle.sign_script.specs.kept.Likely.{likely};
 
+use crate::fields::is_ended;
 use sign_control::DefaultField;
 
 /// The word that a line begins with (own).
@@ -30,69 +32,98 @@ pub(crate) enum Verb {
     Defaults,
 }
 
-/// The word of a verb.
-fn word(verb: Verb) -> &'static [u8]
-    ensures { result.now ≡ word verb }
+/// What follows a word at the front of a line. It is compared octet by octet with a word that is known, for speed.
+#[inline(always)]
+fn after<'a>(word: &[u8], line: &'a [u8]) -> Option<&'a [u8]>
+    ensures some { IfSome result (λ rest. line.now ≡ word.now ++ rest.now) }
+    ensures none { IfNone result ((rest : List ℕ) → line.now ≢ word.now ++ rest) }
+{
+    if line.len() < word.len() {
+        return None;
+    }
+    for index in 0..word.len() {
+        if line[index] != word[index] {
+            return None;
+        }
+    }
+    Some(&line[word.len()..])
+}
+
+/// What follows the word of a verb at the front of a line.
+fn after_verb(verb: Verb, line: &[u8]) -> Option<&[u8]>
+    ensures some { IfSome result (λ rest. line.now ≡ word verb ++ rest.now) }
+    ensures none { IfNone result ((rest : List ℕ) → line.now ≢ word verb ++ rest) }
 {
     match verb {
-        Verb::Request => b"request",
-        Verb::Multi => b"multi",
-        Verb::MultiHex => b"multix",
-        Verb::Owner => b"owner",
-        Verb::Priority => b"priority",
-        Verb::Beacon => b"beacon",
-        Verb::Pixel => b"pixel",
-        Verb::Clear => b"clear",
-        Verb::Work => b"work",
-        Verb::Activate => b"activate",
-        Verb::End => b"end",
-        Verb::Tick => b"tick",
-        Verb::Frame => b"frame",
-        Verb::Row => b"row",
-        Verb::Report => b"report",
-        Verb::Default => b"default",
-        Verb::Defaults => b"defaults",
+        Verb::Request => after(b"request", line),
+        Verb::Multi => after(b"multi", line),
+        Verb::MultiHex => after(b"multix", line),
+        Verb::Owner => after(b"owner", line),
+        Verb::Priority => after(b"priority", line),
+        Verb::Beacon => after(b"beacon", line),
+        Verb::Pixel => after(b"pixel", line),
+        Verb::Clear => after(b"clear", line),
+        Verb::Work => after(b"work", line),
+        Verb::Activate => after(b"activate", line),
+        Verb::End => after(b"end", line),
+        Verb::Tick => after(b"tick", line),
+        Verb::Frame => after(b"frame", line),
+        Verb::Row => after(b"row", line),
+        Verb::Report => after(b"report", line),
+        Verb::Default => after(b"default", line),
+        Verb::Defaults => after(b"defaults", line),
     }
 }
 
-/// The one verb whose word may begin with this octet and have this many.
-fn likely(first: u8, len: usize) -> Option<Verb>
-    ensures { result ≡ likely first len }
+/// The octet at an index of a line, or 0 past its end.
+fn octet_at(line: &[u8], index: usize) -> u8
+    ensures { result ≡ slice_index_or line.now index 0 }
 {
-    match (first, len) {
-        (b'r', 7) => Some(Verb::Request),
-        (b'm', 5) => Some(Verb::Multi),
-        (b'm', 6) => Some(Verb::MultiHex),
-        (b'o', 5) => Some(Verb::Owner),
-        (b'p', 8) => Some(Verb::Priority),
-        (b'b', 6) => Some(Verb::Beacon),
-        (b'p', 5) => Some(Verb::Pixel),
-        (b'c', 5) => Some(Verb::Clear),
-        (b'w', 4) => Some(Verb::Work),
-        (b'a', 8) => Some(Verb::Activate),
-        (b'e', 3) => Some(Verb::End),
-        (b't', 4) => Some(Verb::Tick),
-        (b'f', 5) => Some(Verb::Frame),
-        (b'r', 3) => Some(Verb::Row),
-        (b'r', 6) => Some(Verb::Report),
-        (b'd', 7) => Some(Verb::Default),
-        (b'd', 8) => Some(Verb::Defaults),
+    match line.get(index) {
+        Some(octet) => *octet,
+        None => 0,
+    }
+}
+
+/// The one verb whose word may stand at the front of a line, by the octets that tell words apart.
+fn likely(line: &[u8]) -> Option<Verb>
+    ensures { result ≡ likely line.now }
+{
+    match (octet_at(line, 0), octet_at(line, 2)) {
+        (b'r', b'q') => Some(Verb::Request),
+        (b'm', _) if octet_at(line, 5) == b'x' => Some(Verb::MultiHex),
+        (b'm', _) => Some(Verb::Multi),
+        (b'o', _) => Some(Verb::Owner),
+        (b'p', b'i') => Some(Verb::Priority),
+        (b'b', _) => Some(Verb::Beacon),
+        (b'p', b'x') => Some(Verb::Pixel),
+        (b'c', _) => Some(Verb::Clear),
+        (b'w', _) => Some(Verb::Work),
+        (b'a', _) => Some(Verb::Activate),
+        (b'e', _) => Some(Verb::End),
+        (b't', _) => Some(Verb::Tick),
+        (b'f', _) => Some(Verb::Frame),
+        (b'r', b'w') => Some(Verb::Row),
+        (b'r', b'p') => Some(Verb::Report),
+        (b'd', _) if octet_at(line, 7) == b's' => Some(Verb::Defaults),
+        (b'd', _) => Some(Verb::Default),
         _ => None,
     }
 }
 
 impl Verb {
-    /// The verb of a word. One word is looked at in full, for speed.
-    pub(crate) fn of(text: &[u8]) -> Option<Verb>
-        ensures { result ≡ verb_of text.now }
+    /// The verb that is the first field of a line, and what is left from the space on that ends it.
+    pub(crate) fn begin(line: &[u8]) -> Option<(Verb, &[u8])>
+        ensures verb { option_map (λ found. found.0) result ≡ verb_of (parted line.now).field }
+        ensures rest { IfSome result (λ found. left found.1.now ≡ (parted line.now).rest) }
     {
-        let [first, ..] = text else {
-            return None;
-        };
-        let Some(verb) = likely(*first, text.len()) else {
-            return None;
-        };
-        if text == word(verb) { Some(verb) } else { None }
+        let verb = likely(line)?;
+        let rest = after_verb(verb, line)?;
+        if is_ended(rest) {
+            Some((verb, rest))
+        } else {
+            None
+        }
     }
 }
 
