@@ -9,7 +9,7 @@ use Rattle.multi_layout.specs.declared.fault.SyntaxError.{SyntaxError}
 use Rattle.multi_layout.specs.declared.pass.Pass.{Pass}
 use Rattle.multi_layout.specs.Address.{spots}
 use Rattle.multi_layout.specs.Codes.{code_of}
-use Rattle.multi_layout.specs.kept.FilledState.{IsFilledJudged, IsFilledOf}
+use Rattle.multi_layout.specs.kept.FilledState.{IsFilledOf}
 use Rattle.multi_layout.specs.LaidItems.{laid_items}
 use Rattle.multi_layout.specs.Meaning.{Meaning, Shows}
 use Rattle.multi_layout.specs.Offence.{offence}
@@ -30,14 +30,7 @@ is_true n other = ap not (ne_eqb n 0 other)
 pub is_false : (n : ℕ) → n ≡ 0 → not (n == 0) ≡ false
 is_false n none = ap not (eq-eqb n 0 none)
 
--- an item that is judged where lines are filled
-pub judged_filled : (sign : SignData) (items : List Meaning) (item : Meaning) (result : Result (Unit {0}) SyntaxError) (pass : Pass) → sign.line_fill ≡ Words → IsFilledJudged sign items item result pass
-    → IsItemJudged true sign items item result pass
-judged_filled sign items item (Ok done) pass words (fine, of) =
-    (subst (λ (setting : LineFill). offence setting sign items item ≡ None) (sym words) fine, record { words = words; of = of })
-judged_filled sign items item (Err error) pass words offends = subst (λ (setting : LineFill). offence setting sign items item ≡ Some (code_of error)) (sym words) offends
-
--- and where they aren't
+-- an item that is judged where lines aren't filled
 pub judged_unfilled : (sign : SignData) (items : List Meaning) (item : Meaning) (result : Result (Unit {0}) SyntaxError) (pass : Pass) → sign.line_fill ≡ Off → some_after (offence Off sign) items ≡ [] → IsLimited pass.state
     → IsJudged sign items item result pass.state
     → IsItemJudged false sign items item result pass

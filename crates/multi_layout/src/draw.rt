@@ -1,6 +1,6 @@
 //! The drawing of a page into one plane: each area is read for the table of its lines, and then to put its cells.
 
-ghost use Rattle.std.specs.Prelude.{◌^◌, ◌≡◌, ◌≢◌, ℕ, ◌+◌, ◌-◌, ◌*◌, ◌<◌, ◌≤◌, [], ◌∷◌, ◌++◌, List, Option, IfSome, Some, false, length, map, slice_get, ◌==◌};
+ghost use Rattle.std.specs.Prelude.{◌^◌, ◌≡◌, ◌≢◌, ℕ, ◌+◌, ◌-◌, ◌*◌, ◌≤◌, [], ◌∷◌, ◌++◌, List, Option, IfSome, Some, false, length, map, slice_get, ◌==◌};
 ghost use Rattle.std.specs.Option.{unwrap_or};
 ghost use Rattle.multi_token.specs.Counted.{RisesBetween, charged};
 ghost use Rattle.sign_font.specs.Sound.{IsSound};

@@ -1,8 +1,9 @@
 -- The first reading of an area, for the table of its lines (own).
-use Rattle.std.specs.Prelude.{◌≡◌, ℕ, ◌^◌, ◌≤◌, Bool, false, ◌⊎◌, List, [], ◌∷◌, ◌++◌, Option, Some, None, map, length}
+use Rattle.std.specs.Prelude.{◌≡◌, ℕ, ◌^◌, ◌≤◌, Bool, true, false, if◌then◌else◌, ◌⊎◌, List, [], ◌∷◌, ◌++◌, Option, Some, None, map, length}
 use Rattle.multi_token.specs.Spelling.{Item}
 use Rattle.sign_font.specs.Sign.{SignData}
 use Rattle.sign_font.specs.Text.{width_in}
+use Rattle.multi_layout.specs.declared.fill.Placed.{Placed}
 use Rattle.multi_layout.specs.declared.pass.Pass.{Pass}
 use Rattle.multi_layout.specs.declared.item.KnownItem.{KnownItem}
 use Rattle.multi_layout.specs.declared.line.Line.{Line}
@@ -18,7 +19,7 @@ use Rattle.multi_layout.specs.kept.PassState.{IsPassOf, fill_of}
 use Rattle.multi_layout.specs.kept.Run.{IsBehindCharacter, IsRunPassed}
 use Rattle.multi_layout.specs.kept.State.{present_area}
 use Rattle.multi_layout.specs.kept.Table.{IsOrdered}
-use Rattle.multi_layout.specs.Offence.{offence}
+use Rattle.multi_layout.specs.Offence.{offence, unsized_offence}
 use Rattle.multi_layout.specs.Verdict.{offences}
 
 -- some items of which none offends, and which a string can have (own)
@@ -69,6 +70,19 @@ PassesCharacter words number width old new ended =
     (sign : SignData) (items : List Meaning) → IsPassOf words sign old items
     → width_in sign old.state.attributes.font.number number ≡ Some width → offence sign.line_fill sign items (Shows number) ≡ None
     → IsCharacterPassed words sign items number old new ended
+
+-- one more character is put where lines are filled, which doesn't offend by more than its size: it doesn't offend if it fits, and is passed
+-- then (own)
+pub record IsFilledPut (sign : SignData) (items : List Meaning) (number : ℕ) (old new : Pass) (placed : Placed) : Type 0 where
+  pub size : offence sign.line_fill sign items (Shows number) ≡ (if placed.fits then None else Some 5)
+  pub passed : placed.fits ≡ true → IsCharacterPassed true sign items number old new placed.ended
+
+-- so it is of one whose cell has this width, whatever the items before are of which the old is kept (own)
+abbrev pub PutsFilled : ℕ → ℕ → Pass → Pass → Placed → Type 0
+PutsFilled number width old new placed =
+    (sign : SignData) (items : List Meaning) → IsPassOf true sign old items
+    → width_in sign old.state.attributes.font.number number ≡ Some width → unsized_offence sign items (Shows number) ≡ None
+    → IsFilledPut sign items number old new placed
 
 -- the new is the old one at the same offset, or, where lines aren't filled, with the characters up to a later offset, which lengthen the
 -- line of the one before them (own)
