@@ -1,5 +1,5 @@
 -- What is kept of the items that were read, by whether lines are filled.
-use Rattle.std.proofs.Common.{◌≡◌, ℕ, ◌*◌, ◌^◌, ◌<◌, ◌≤◌, Bool, true, false, List, [], length, Some, None, Result, Ok, Err, not, ◌==◌, refl, ap, sym, subst}
+use Rattle.std.proofs.Common.{◌≡◌, ℕ, ◌*◌, ◌^◌, ◌<◌, ◌≤◌, Bool, true, false, List, [], ◌∷◌, ◌++◌, length, Some, None, Result, Ok, Err, not, ◌==◌, refl, ap, sym, subst, ◌∙◌}
 use Rattle.std.proofs.lemmas.Bool.{eq-eqb, ne_eqb}
 use Rattle.multi_token.specs.Counted.{Counted}
 use Rattle.sign_font.specs.declared.parts.LineFill.{LineFill}
@@ -7,6 +7,7 @@ use Rattle.sign_font.specs.declared.parts.LineFill.TheVariants.{Off, Words}
 use Rattle.sign_font.specs.Sign.{SignData, cell_in}
 use Rattle.multi_layout.specs.declared.fault.SyntaxError.{SyntaxError}
 use Rattle.multi_layout.specs.declared.pass.Pass.{Pass}
+use Rattle.multi_layout.specs.declared.state.State.{State}
 use Rattle.multi_layout.specs.Address.{spots}
 use Rattle.multi_layout.specs.Codes.{code_of}
 use Rattle.multi_layout.specs.kept.FilledState.{IsFilledOf}
@@ -37,6 +38,11 @@ pub judged_unfilled : (sign : SignData) (items : List Meaning) (item : Meaning) 
 judged_unfilled sign items item (Ok done) pass off none limited (fine, st) =
     (subst (λ (setting : LineFill). offence setting sign items item ≡ None) (sym off) fine, record { off = off; fine = none_more (offence Off sign) items item none fine; state_is = st; limited = limited })
 judged_unfilled sign items item (Err error) pass off none limited offends = subst (λ (setting : LineFill). offence setting sign items item ≡ Some (code_of error)) (sym off) offends
+
+-- and the state behind one that doesn't offend
+pub state_judged : (sign : SignData) (items : List Meaning) (item : Meaning) (result : Result (Unit {0}) SyntaxError) (state : State) → IsJudged sign items item result state → offence Off sign items item ≡ None → IsStateOf sign (items ++ item ∷ []) state
+state_judged sign items item (Ok done) state (fine, st) none = st
+state_judged sign items item (Err error) state offends none = let wrong : Some (code_of error) ≡ None = sym offends ∙ none in absurd (cc)
 
 -- before the first item
 pub pass_start : (sign : SignData) (pass : Pass) (words : Bool) → sign.line_fill ≡ fill_of words → IsStateOf sign [] pass.state → IsLimited pass.state

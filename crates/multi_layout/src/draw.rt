@@ -58,7 +58,7 @@ pub(crate) fn draw_page(
         let Some(next) = cursor.next_item(source) else {
             return;
         };
-        cursor.pass(sign, source, next);
+        cursor.pass_tag(sign, source, next);
         if next.item.ends_page() {
             return;
         }
@@ -228,7 +228,7 @@ fn draw_item(
         }
         KnownItem::Tag(tag) => {
             draw_tag(sign, tag, layer, plane);
-            cursor.pass(sign, source, next);
+            cursor.pass_tag(sign, source, next);
             None
         }
     }

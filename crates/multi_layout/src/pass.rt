@@ -228,7 +228,8 @@ impl Pass {
         if WORDS {
             self.put_filled(number, width).ended
         } else {
-            self.state.pass_character(width);
+            // It doesn't offend.
+            let _ = judge_cell(&mut self.state, number, width);
             None
         }
     }

@@ -1,10 +1,12 @@
 use Rattle.std.proofs.Common.{◌≡◌, None, Some, Option, ℕ, Bool, cond, refl, true, false, subst, sym, ◌∙◌}
+use Rattle.sign_font.specs.declared.parts.LineFill.{LineFill}
 use Rattle.multi_layout.specs.declared.pass.Pass.{Pass}
 use Rattle.multi_layout.specs.kept.AreaReading.{PassesCharacter}
 use Rattle.multi_layout.specs.Meaning.{Shows}
+use Rattle.multi_layout.specs.Offence.{offence}
 use Rattle.multi_layout.proofs.AreaReadLemmas.{plain_passed}
 use Rattle.multi_layout.proofs.OrderlyLemmas.{unsized_if}
-use Rattle.multi_layout.proofs.PassLemmas.{is_false, is_true}
+use Rattle.multi_layout.proofs.PassLemmas.{is_false, is_true, state_judged}
 use Rattle.multi_layout.proofs.pass.Pass.pass_cell.Goals as goal
 
 -- what has no error fits
@@ -21,8 +23,9 @@ returns-then-this-ne0-clause-passed g c =
 
 pub returns-else-this-ne0-clause-passed : goal.returns-else-this-ne0-clause-passed
 returns-else-this-ne0-clause-passed g c =
-    let new : Pass = record { state = c.pass_character.new.self; split = c.args.self.now.split; order = c.args.self.now.order } in
+    let new : Pass = record { state = c.judge_cell.new.state; split = c.args.self.now.split; order = c.args.self.now.order } in
     subst (λ w. PassesCharacter w c.args.number c.args.width c.args.self.now new None) (sym (is_false g.row.WORDS c.if-this-ne0.false))
     (λ sign items kept own fine.
-    plain_passed sign items c.args.self.now new kept c.args.number fine (c.pass_character.ensures.passed sign items c.args.number kept.state_is own (unsized_if sign.line_fill sign items (Shows c.args.number) fine true refl))
-    (c.pass_character.ensures.limited kept.limited))
+    plain_passed sign items c.args.self.now new kept c.args.number fine
+    (state_judged sign items (Shows c.args.number) c.judge_cell.result new.state (c.judge_cell.ensures.judged sign items kept own) (subst (λ (setting : LineFill). offence setting sign items (Shows c.args.number) ≡ None) kept.off fine))
+    (c.judge_cell.ensures.limited kept.limited))
