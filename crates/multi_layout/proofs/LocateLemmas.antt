@@ -21,7 +21,7 @@ use Rattle.multi_layout.specs.Meaning.{BeginsPage, Meaning, Does, is_new_page, m
 use Rattle.multi_layout.specs.kept.State.{attributes_of}
 use Rattle.multi_layout.specs.Times.{Times, cycle, ended_times, page_times, shown, shown_within, times_at}
 use Rattle.multi_layout.specs.Verdict.{Accepted, IsCycle, IsVerdict, pages_of}
-use Rattle.multi_layout.specs.kept.Cursors.{IsFirst, IsPageSkipped, IsPassing, IsTextPassed}
+use Rattle.multi_layout.specs.kept.Cursors.{IsFirst, IsPageSkipped, IsPassing, IsPassingBefore, IsPlaced, IsTextPassed, PassesOn}
 use Rattle.multi_layout.proofs.AcceptedLemmas.{accepted_is, cycle_is}
 use Rattle.multi_layout.proofs.JudgedLemmas.{cycle-grows, ended_times-push, pages_of-push}
 use Rattle.multi_layout.proofs.SkipLemmas.{same_unplaced}
@@ -123,10 +123,27 @@ module _ {sign : SignData} {octets : List ℕ} {before behind : List Item} {old 
           ends = inl (none, refl, s.same);
         }
 
+    -- the item is read that stands behind the cursor, or there is none
+    pub placed_here : {octets' : List ℕ} → octets' ≡ octets → IsPlaced sign octets' items s.passed.rest cursor.at
+    placed_here same = subst (λ o. IsPlaced sign o items s.passed.rest cursor.at) (sym same) s.passed.between.placed
+
+    pub first_here : {octets' : List ℕ} → octets' ≡ octets → (next : Option NextItem) → ((sign : SignData) (before behind : List Item) → IsPlaced sign octets' before behind cursor.at → IsFirst behind next) → IsFirst s.passed.rest next
+    first_here same next first = first sign items s.passed.rest (placed_here same)
+
     -- an item stands behind the cursor, of which this was read
     module _ {next : NextItem} (first : IsFirst s.passed.rest (Some next)) where
       pub stands : IsPassing sign octets items (first.0 ∷ first.1) cursor
       stands = subst (λ (l : List Item). IsPassing sign octets items l cursor) first.2 s.passed.between
+
+      there : {octets' : List ℕ} → octets' ≡ octets → IsPassing sign octets' items (first.0 ∷ first.1) cursor
+      there same = subst (λ o. IsPassing sign o items (first.0 ∷ first.1) cursor) (sym same) stands
+
+      pub stands_there : {octets' : List ℕ} → octets' ≡ octets → IsPassingBefore sign octets' next cursor
+      stands_there same = (items, first.1, first.0, there same, first.3)
+
+      -- and behind it the cursor in the same octets
+      pub passes_here : {octets' : List ℕ} → octets' ≡ octets → {new : Cursor} → PassesOn sign octets' next cursor new → IsPassing sign octets (items ++ first.0 ∷ []) first.1 new
+      passes_here same {new} passes = subst (λ o. IsPassing sign o (items ++ first.0 ∷ []) first.1 new) same (passes items first.1 first.0 (there same) first.3)
 
       -- it has an octet
       pub some : 1 ≤ next.len
@@ -194,6 +211,12 @@ pub record IsSearched (sign : SignData) (octets : List ℕ) (time : ℕ) (start 
   pub begins : BeginsPage (map meaning before)
   pub whole : (reading octets).items ≡ before ++ behind
   pub began : start.state.cycle ≤ time
+
+-- the page that begins there is passed in the same octets
+pub skipped_here : {sign : SignData} {octets octets' : List ℕ} {time : ℕ} {start behind : Cursor} (s : IsSearched sign octets time start) → octets' ≡ octets
+    → ((before after : List Item) → IsPassing sign octets' before after start → IsPageSkipped sign octets' before after start behind) → IsPageSkipped sign octets s.before s.behind start behind
+skipped_here {sign} {octets} {octets'} {time} {start} {behind} s same skips =
+    subst (λ o. IsPageSkipped sign o s.before s.behind start behind) same (skips s.before s.behind (subst (λ o. IsPassing sign o s.before s.behind start) (sym same) s.between))
 
 module _ {sign : SignData} {octets : List ℕ} {time : ℕ} {start : Cursor} (s : IsSearched sign octets time start) {behind : Cursor} (p : IsPageSkipped sign octets s.before s.behind start behind) where
   abbrev earlier : List Times

@@ -15,15 +15,7 @@ use Rattle.multi_layout.specs.kept.Cursors.{IsBetween, IsFirst, IsPlaced, IsRead
 use Rattle.multi_layout.specs.kept.State.{present_area}
 use Rattle.multi_layout.proofs.PageDrawLemmas.{PageDrawn, PageSoFar, page_area}
 use Rattle.multi_layout.proofs.PieceLemmas.{first_begins, first_ended}
-use Rattle.multi_layout.proofs.WalkLemmas.{spell_of-append}
-
--- reading leaves the octets
-pub same_octets : {source : Counted} {octets : List ℕ} {steps : ℕ} → source ≡ record { octets = octets; steps = steps } → source.octets ≡ octets
-same_octets same = ap (λ (x : Counted). x.octets) same
-
--- a cursor between items stands between them in the same octets too
-pub stands_in : {sign : SignData} {octets octets' : List ℕ} {before behind : List LaidItem} {cursor : Cursor} → octets' ≡ octets → IsBetween sign octets before behind cursor → IsBetween sign octets' before behind cursor
-stands_in {sign} {octets} {octets'} {before} {behind} {cursor} same b = subst (λ o. IsBetween sign o before behind cursor) (sym same) b
+use Rattle.multi_layout.proofs.WalkLemmas.{same_octets, spell_of-append, stands_in}
 
 -- an area was read and drawn
 pub record Round (sign : SignData) (octets : List ℕ) (before behind : List LaidItem) (layer : Layer) (old new : Cursor) (plane : BitPlane) (end : ℕ) (source source' drawn : Counted) : Type 0 where

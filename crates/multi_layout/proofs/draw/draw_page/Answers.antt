@@ -11,9 +11,9 @@ use Rattle.multi_layout.specs.kept.Cursors.{IsBetween, LaidItem, items_of, meant
 use Rattle.multi_layout.proofs.AreaDrawLemmas.{filled_longer, filled_none, filled_then}
 use Rattle.multi_layout.proofs.DrawLemmas.{four_octets}
 use Rattle.multi_layout.proofs.PageDrawLemmas.{area_no_page, first_ends, first_filled, if_same, last_passed, more_filled, new_page_is, no_less, one_place, page_begins, page_filled, page_goes_on, page_passed, page_shown, rises_far, same_pages, string_end, string_more}
-use Rattle.multi_layout.proofs.PageLoopLemmas.{area_here, area_known, next_area, round, same_octets, stands_in}
+use Rattle.multi_layout.proofs.PageLoopLemmas.{area_here, area_known, next_area, round}
 use Rattle.multi_layout.proofs.PieceLemmas.{begins_tag, itself, no_piece}
-use Rattle.multi_layout.proofs.WalkLemmas.{within_between}
+use Rattle.multi_layout.proofs.WalkLemmas.{same_octets, stands_in, within_between}
 use Rattle.multi_layout.proofs.draw.draw_page.Goals as goal
 
 pub loop-next-init : goal.loop-next-init

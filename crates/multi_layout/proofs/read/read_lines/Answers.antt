@@ -12,7 +12,7 @@ use Rattle.multi_layout.specs.kept.Cursors.{IsPlaced, items_of}
 use Rattle.multi_layout.proofs.AreaLinesLemmas.{area_read, nothing_read, read_on, so_advances, so_first, so_next, steps_on}
 use Rattle.multi_layout.proofs.AreaReadLemmas.{present_placing, read_below, read_lines, read_ready, read_state}
 use Rattle.multi_layout.proofs.KnownLinesLemmas.{counted_at_end}
-use Rattle.multi_layout.proofs.PageLoopLemmas.{stands_in}
+use Rattle.multi_layout.proofs.WalkLemmas.{stands_in}
 use Rattle.multi_layout.proofs.PassLemmas.{limited_of}
 use Rattle.multi_layout.proofs.RunLinesLemmas.{gone_forward, gone_within, ready_state, went_on}
 use Rattle.multi_layout.proofs.read.read_lines.Goals as goal
