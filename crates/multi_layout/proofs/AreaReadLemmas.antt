@@ -131,10 +131,6 @@ module _ {words : Bool} {sign : SignData} (sound : IsSound sign) {items : List I
   pub read_lines : (spots : List Spot) × All IsPlacing spots × (kept.state.area ≡ area_sum spots) × HasKnown present spots lines × HasRoom spots × IsNarrowArea spots
   read_lines = (present_area sign laid, present_placing sign laid, read_state.area, r.known, room_of sign sound items r.fine.none words kept r.of, read_narrow)
 
-  -- and the ended ones of the present group not high
-  pub read_closed : 2 ≤ kept.state.area.present → kept.state.area.present ≤ 4 → kept.state.area.group.closed ≤ 1024
-  read_closed low high = closed_below (present_area sign laid) kept.state.area read_state.area (present_placing sign laid) read_narrow kept.state.area.present low high refl
-
 -- the group before the item is left, if the item belongs to a later one
 pub group_left : {words : Bool} {sign : SignData} {items : List Item} {kept : Pass} {lines : LineTable} → IsReadOf words sign items kept.state.area.present kept lines → (x : Meaning) (lines' : LineTable)
     → ((spots : List Spot) → All IsPlacing spots → kept.state.area ≡ area_sum spots → HasKnown kept.state.area.present spots lines → HasKnown (next_group kept.state x) spots lines')

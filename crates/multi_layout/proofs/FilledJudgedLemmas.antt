@@ -20,7 +20,7 @@ use Rattle.multi_layout.specs.Meaning.{Meaning, Shows}
 use Rattle.multi_layout.specs.Offence.{clashes, conflicts, first_code, never_big, offence, unsized_offence}
 use Rattle.multi_layout.specs.kept.State.{attributes_of, present_area}
 use Rattle.multi_layout.specs.kept.Sums.{IsCharacter, IsPlacing, area_sum, line_sum}
-use Rattle.multi_layout.proofs.AreaSumLemmas.{area_placing, no_back, no_clash}
+use Rattle.multi_layout.proofs.AreaSumLemmas.{area_placing, both_fit, no_back, no_clash}
 use Rattle.multi_layout.proofs.FilledCharacterLemmas.{area_with, conflicts_by, doesn't_fit, goes_behind, offends_by, offends_without, present_is, shown}
 use Rattle.multi_layout.proofs.FilledOrderLemmas.{no_clash_filled}
 use Rattle.multi_layout.proofs.GroupSumLemmas.{placing_group}
@@ -135,12 +135,7 @@ module _ (sign : SignData) (items : List Meaning) (kept : Pass) (of : IsFilledOf
             let last : Spot = record { at = standing sign more; put = Glyph cell } in
             let wide = line (after_last is_break (in_group s.at.page_just new)) line_is ∙ ap (λ (a : Attributes). line_fits a.rectangle.width (after_last is_break (in_group s.at.page_just new))) attributes_here in
             let high = height new (area_placing (spots sign more) last) sum ∙ ap (λ (a : Attributes). area_fits a.rectangle.height new) attributes_here in
-            (λ i. wide i && high i) ∙ both_are (line_fits s.at.rectangle.width (after_last is_break (in_group s.at.page_just new))) (area_fits s.at.rectangle.height new)
-          where
-            both_are : (a b : Bool) → (a && b) ≡ not (not a || not b)
-            both_are true true = refl
-            both_are true false = refl
-            both_are false b = refl
+            (λ i. wide i && high i) ∙ both_fit (line_fits s.at.rectangle.width (after_last is_break (in_group s.at.page_just new))) (area_fits s.at.rectangle.height new)
 
         -- so its size is told
         pub filled_size : offence Words sign items (Shows number) ≡ cond (f && h) None (Some 5)

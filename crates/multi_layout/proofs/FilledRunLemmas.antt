@@ -3,7 +3,7 @@ use Rattle.std.proofs.Common.{◌≡◌, ℕ, ◌+◌, ◌-◌, ◌*◌, ◌^◌
 use Rattle.std.specs.Prelude.{nat_lt}
 use Rattle.std.specs.List.{AllPass, after_last, list_any}
 use Rattle.std.specs.Option.{option_map, unwrap_or}
-use Rattle.std.proofs.lemmas.Bool.{eq-eqb, false≢true, le-leb, le-ltb}
+use Rattle.std.proofs.lemmas.Bool.{and_from, and_right, eq-eqb, false≢true, le-leb, le-ltb}
 use Rattle.std.proofs.lemmas.List.Elements.{All-head, All-nil}
 use Rattle.multi_token.specs.declared.token.Token.{Token}
 use Rattle.multi_token.specs.declared.token.Kind.TheVariants as kinds
@@ -181,14 +181,6 @@ module _ (kept : Pass) (run : IsFilledRun kept) (gap room : ℕ) (runs : IsRun k
         stands_ended w group s (seen here width) placing' is fits' apart area.group own longer grown true fits_so refl,
       )
 
-both_true : (a b : Bool) → a ≡ true → b ≡ true → (a && b) ≡ true
-both_true true b e f = f
-both_true false b e f = e
-
-and_false : (a : Bool) → (a && false) ≡ false
-and_false true = refl
-and_false false = refl
-
 -- one more octet of a run
 module _ (sign : SignData) (octets : List ℕ) (at : ℕ) (kept : Pass) (r : ReadSoFar sign octets at (IsFilledFor sign kept)) (octet : ℕ) (short : length octets < 2 ^ 63) (here : slice_get octets at ≡ Some octet) (plain : IsPlain octet)
     (run : IsFilledRun kept) (gap room : ℕ) (runs : IsRun kept.state gap room) (wide : ℕ) (some : 1 ≤ wide) (small : wide ≤ 64)
@@ -208,7 +200,7 @@ module _ (sign : SignData) (octets : List ℕ) (at : ℕ) (kept : Pass) (r : Rea
       let put = filled_put sign items kept r.is octet cell found
       (filled_free sign items kept of octet cell found false
       (λ line s e just. sym (order_apart line s kept.order e (run.order.0 ∙ sym just) (run.order.1 ∙ ap (λ n. nat_lt n 5) (sym just))))
-      (ap (λ b. b || ((attributes.page_just == kept.state.area.present) && false)) (le-ltb attributes.page_just kept.state.area.present (omega (arith, run.behind.group))) ∙ and_false (attributes.page_just == kept.state.area.present)))
+      (ap (λ b. b || ((attributes.page_just == kept.state.area.present) && false)) (le-ltb attributes.page_just kept.state.area.present (omega (arith, run.behind.group))) ∙ and_right (attributes.page_just == kept.state.area.present) false refl))
       true (sym (eq-eqb attributes.page_just kept.state.area.present (sym run.behind.group)))
       (seen attributes wide) refl refl is refl area (split_one attributes gap wide (octet == 32) line kept.split) None
       (λ cell found. fills_one kept run gap room runs wide some fits (octet == 32) known)
@@ -217,7 +209,7 @@ module _ (sign : SignData) (octets : List ℕ) (at : ℕ) (kept : Pass) (r : Rea
       kept.order (λ line s just apart goes stays. order_stays line s kept.order (goes refl) (run.order.0 ∙ sym just) (run.order.1 ∙ ap (λ n. nat_lt n 5) (sym just)))
       (longer_below (1024 * length items) (line.part.width + (gap + wide)) (line.part.count + 1) kept.state.area below (omega (arith, below.group.line.part.width, runs.narrow, small)) (omega (arith, below.group.line.part.count)))
       (split_grows attributes gap wide runs.gap_is (1024 * length items) (octet == 32) line kept.split st.line_just.1 runs.narrow small below.group.line of.split_below) in
-      let fits' = both_true (kept_fits attributes.rectangle.width longer) (kept_fits_height attributes.rectangle.height area) (still_fits kept run gap room runs wide some fits (octet == 32)) run.fits.height in
+      let fits' = and_from (kept_fits attributes.rectangle.width longer) (kept_fits_height attributes.rectangle.height area) (still_fits kept run gap room runs wide some fits (octet == 32)) run.fits.height in
       let token : Token = record { at = at; len = 1; kind = kinds.Char octet } in
       read_more sign octets at (IsFilledFor sign kept) r token refl (single_token octets at octet short here plain) (IsFilledFor sign (with_one gap wide (octet == 32) kept))
       (put.size ∙ ap {B = Option ℕ} (λ b. cond b None (Some 5)) fits') (put.passed fits').of

@@ -1,5 +1,6 @@
 -- What is shown at a time of the cycle, from page to page.
 use Rattle.std.proofs.Common.{◌≡◌, ℕ, ◌+◌, ◌-◌, ◌%◌, ◌^◌, ◌<◌, ◌≤◌, true, false, cond, ◌==◌, List, [], ◌∷◌, ◌++◌, length, map, Option, Some, None, refl, sym, ap, subst, ◌∙◌, inl, inr, eq-eqb, arith, append_assoc, append-nil}
+use Rattle.multi_layout.proofs.PageDrawLemmas.{new_page_is}
 use Rattle.std.proofs.lemmas.Bool.{cases_Bool, cases_lt, ne_eqb, or_left, or_right}
 use Rattle.std.proofs.lemmas.List.{map-append}
 use Rattle.std.proofs.lemmas.List.Sums.{sum_by-append}
@@ -71,10 +72,6 @@ same_ended sign earlier = push_ind (λ more. pages_of (earlier ++ more) ≡ page
 pub record IsInPage (sign : SignData) (octets : List ℕ) (before behind : List Item) (old new : Cursor) : Type 0 where
   pub passed : IsTextPassed sign octets before behind new
   pub same : new.state.pages ≡ old.state.pages
-
-new_page_is : (x : Meaning) → is_new_page x ≡ true → x ≡ Does NewPage
-new_page_is (Does NewPage) is = refl
-new_page_is _ is = absurd cc
 
 module _ {sign : SignData} {octets : List ℕ} {before behind : List Item} {old : Cursor} (p : IsPassing sign octets before behind old) where
   -- at first

@@ -1,5 +1,5 @@
 -- What is kept of the items that were read, by whether lines are filled.
-use Rattle.std.proofs.Common.{◌≡◌, ℕ, ◌*◌, ◌^◌, ◌<◌, ◌≤◌, Bool, true, false, List, [], ◌∷◌, ◌++◌, length, Some, None, Result, Ok, Err, not, ◌==◌, refl, ap, sym, subst, ◌∙◌}
+use Rattle.std.proofs.Common.{◌≡◌, ℕ, ◌^◌, ◌<◌, Bool, true, false, List, [], ◌∷◌, ◌++◌, length, Some, None, Result, Ok, Err, not, ◌==◌, refl, ap, sym, subst, ◌∙◌}
 use Rattle.std.proofs.lemmas.Bool.{eq-eqb, ne_eqb}
 use Rattle.multi_token.specs.Counted.{Counted}
 use Rattle.sign_font.specs.declared.parts.LineFill.{LineFill}
@@ -69,11 +69,6 @@ module _ (sign : SignData) (octets : List ℕ) (at : ℕ) (pass : Pass) where
   pub pass_told : (words : Bool) (source : Counted) → IsAt sign octets at None (IsPassOf words sign pass) source → IsTold sign octets pass.state.pages (whole_times pass.state) source
   pass_told true source i = filled_told sign octets at pass source i
   pass_told false source i = unfilled_told sign octets at pass.state source i
-
--- the pages before the present one are short
-pub pass_small : (sign : SignData) (pass : Pass) (words : Bool) (items : List Meaning) → IsPassOf words sign pass items → pass.state.cycle ≤ 510 * pass.state.pages
-pass_small sign pass true items is = is.of.state_is.short
-pass_small sign pass false items is = is.state_is.short
 
 -- where lines aren't filled the limits are known
 pub limited_of : (words : Bool) → words ≡ false → (sign : SignData) (pass : Pass) (items : List Meaning) → IsPassOf words sign pass items → IsLimited pass.state

@@ -17,7 +17,7 @@ use Rattle.multi_layout.proofs.CutLemmas.{Cut, cut, cut_push, cut_behind_is}
 use Rattle.multi_layout.proofs.GroupHeightLemmas.{part_none, part_some}
 use Rattle.multi_layout.proofs.BehindLemmas.{after_last_is, ended_is, cut_if}
 use Rattle.multi_layout.proofs.HeightLemmas.{open_glyphs}
-use Rattle.multi_layout.proofs.GroupSumLemmas.{break_put, glyph_put}
+use Rattle.multi_layout.proofs.GroupSumLemmas.{glyph_put}
 
 -- ONE MORE LINE
 
@@ -88,7 +88,7 @@ closed_if : (b : Bool) (c : Cut Spot) (s : Spot) → length (cut_if is_break b c
 closed_if true c s = length_push c.closed (c.open' ++ s ∷ [])
 closed_if false c s = omega arith
 
-closed_count : (g : List Spot) → length (cut is_break g).closed ≡ count_by is_break g
+pub closed_count : (g : List Spot) → length (cut is_break g).closed ≡ count_by is_break g
 closed_count = push_ind (λ g. length (cut is_break g).closed ≡ count_by is_break g) refl step
   where
     step : (g : List Spot) (s : Spot) → length (cut is_break g).closed ≡ count_by is_break g → length (cut is_break (g ++ s ∷ [])).closed ≡ count_by is_break (g ++ s ∷ [])
@@ -128,16 +128,6 @@ counted_break : (lines : List (List Spot)) (line : List Spot) (s : Spot) → is_
 counted_break lines line s n =
     let same = λ (just : ℕ). segment_no just line s n in
     same_entry (ap width_of (same 2)) (ap width_of (same 3)) (ap width_of (same 4)) (ap width_of (same 5)) (ap length (same 5))
-
--- one more `nl` adds the entry of the open line
-pub table_break : (g : List Spot) (s : Spot) → is_break s ≡ true → table_of (ended_lines (g ++ s ∷ [])) ≡ table_of (ended_lines g) ++ open_entry g (height_of (ended_lines (g ++ s ∷ []))) ∷ []
-table_break g s b =
-    let line = after_last is_break g in
-    let ended = ended_break g s b in
-    ap table_of ended
-    ∙ table_push (ended_lines g) (line ++ s ∷ [])
-    ∙ ap (λ (e : CountedLine). table_of (ended_lines g) ++ e ∷ []) (counted_break (ended_lines g) line s (break_put s.at s.put b))
-    ∙ ap (λ n. table_of (ended_lines g) ++ open_entry g n ∷ []) (ap height_of (sym ended))
 
 -- THE LAST LINE
 

@@ -1,4 +1,5 @@
-use Rattle.std.proofs.Common.{◌≡◌, Bool, true, false, ◌&&◌, ◌^◌, ◌*◌, length, ap, refl, subst, sym, ◌∙◌}
+use Rattle.std.proofs.Common.{◌^◌, ◌*◌, length, ap, refl, subst, sym, ◌∙◌}
+use Rattle.std.proofs.lemmas.Bool.{and_parts}
 use Rattle.sign_font.specs.Sign.{cell_in}
 use Rattle.multi_layout.specs.declared.line.Character.{Character}
 use Rattle.multi_layout.specs.kept.Sums.{IsBelow}
@@ -19,11 +20,7 @@ returns-clause-put c = λ sign items is own fine.
     c.fill_character-placed.result.fits c.fits_height.result c.fill_character-placed.ensures.fits c.fits_height.ensures.sum
     c.with-self.result (λ line s just. c.with-self.ensures line s (just ∙ ap (λ (k : Character). k.just) c.character-character.ensures)) below split
 
-both : (a b : Bool) → (a && b) ≡ true → (a ≡ true) × (b ≡ true)
-both true b e = (refl, e)
-both false b e = cc
-
 pub returns-clause-fits : goal.returns-clause-fits
 returns-clause-fits c = λ fits.
-    let (wide, high) = both c.fill_character-placed.result.fits c.fits_height.result fits in
+    let (wide, high) = and_parts c.fill_character-placed.result.fits c.fits_height.result fits in
     record { width = sym c.fill_character-placed.ensures.kept_fits ∙ wide; height = sym c.fits_height.ensures.kept ∙ high }
