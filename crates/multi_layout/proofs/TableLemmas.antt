@@ -1,15 +1,14 @@
 -- The line table of a group: what one more `nl` adds to it, what its last line adds, and what is looked up in it.
-use Rattle.std.proofs.Common.{◌≡◌, ℕ, ◌+◌, ◌-◌, ◌<◌, Bool, true, false, cond, ◌&&◌, ◌==◌, length, take, List, [], ◌∷◌, ◌++◌, Option, Some, None, refl, sym, ap, ◌∙◌, suc, zero, arith}
+use Rattle.std.proofs.Common.{◌≡◌, ℕ, ◌+◌, ◌-◌, ◌<◌, Bool, true, false, cond, length, take, List, [], ◌∷◌, ◌++◌, Option, Some, None, refl, sym, ap, ◌∙◌, suc, zero, arith}
 use Rattle.std.specs.Prelude.{slice_get, slice_index_or}
 use Rattle.std.specs.List.{last_or, list_any, after_last, count_by, All}
 use Rattle.std.specs.Option.{option_map_or}
 use Rattle.std.proofs.lemmas.List.{append-nil, take_more, length_push}
-use Rattle.std.proofs.lemmas.List.Elements.{filter-append}
 use Rattle.std.proofs.lemmas.List.Sums.{sum_by_push}
 use Rattle.multi_layout.specs.declared.table.CountedLine.{CountedLine}
 use Rattle.multi_layout.specs.Words.{each_after}
-use Rattle.multi_layout.specs.Address.{Spot, is_glyph, is_break, segment, lines_of}
-use Rattle.multi_layout.specs.Line.{height_of, width_of}
+use Rattle.multi_layout.specs.Address.{Spot, is_glyph, is_break, lines_of}
+use Rattle.multi_layout.specs.Line.{height_of}
 use Rattle.multi_layout.specs.kept.Sums.{ended_lines, IsPlacing}
 use Rattle.multi_layout.specs.kept.Table.{counted_line, line_entry, table_of}
 use Rattle.multi_layout.proofs.WordLemmas.{each_after_length, each_after_push, last_or_push, push_ind}
@@ -107,27 +106,6 @@ ended_count g = ap length (ended_is is_break g) ∙ closed_count g
 -- the entry of the open line of a group
 abbrev pub open_entry : List Spot → ℕ → CountedLine
 open_entry g bottom = line_entry (after_last is_break g) bottom
-
-no_glyph : (just : ℕ) (s : Spot) → is_glyph s ≡ false → (is_glyph s && (s.at.line_just == just)) ≡ false
-no_glyph just s n = ap (λ b. b && (s.at.line_just == just)) n
-
--- what isn't a character adds nothing to a segment
-segment_no : (just : ℕ) (line : List Spot) (s : Spot) → is_glyph s ≡ false → segment just (line ++ s ∷ []) ≡ segment just line
-segment_no just line s n =
-    filter-append (λ t. is_glyph t && (t.at.line_just == just)) line (s ∷ [])
-    ∙ ap (λ b. segment just line ++ cond b (s ∷ []) []) (no_glyph just s n)
-    ∙ append-nil (segment just line)
-
-same_entry : {a a' b b' c c' d d' n n' m : ℕ} → a ≡ a' → b ≡ b' → c ≡ c' → d ≡ d' → n ≡ n'
-    → ◌≡◌ {A = CountedLine} (record { left = a; centre = b; right = c; full = d; characters = n; bottom = m }) (record { left = a'; centre = b'; right = c'; full = d'; characters = n'; bottom = m })
-same_entry e f g h i = rw (e, f, g, h, i) refl
-
--- an `nl` changes only the bottom of a line
-counted_break : (lines : List (List Spot)) (line : List Spot) (s : Spot) → is_glyph s ≡ false
-    → counted_line lines (line ++ s ∷ []) ≡ line_entry line (height_of (lines ++ (line ++ s ∷ []) ∷ []))
-counted_break lines line s n =
-    let same = λ (just : ℕ). segment_no just line s n in
-    same_entry (ap width_of (same 2)) (ap width_of (same 3)) (ap width_of (same 4)) (ap width_of (same 5)) (ap length (same 5))
 
 -- THE LAST LINE
 
