@@ -6,7 +6,6 @@ ghost use Rattle.sign_font.specs.Sound.{IsSound};
 use crate::area::Area;
 use crate::attributes::{Attributes, Rectangle, whole_sign};
 use crate::terms::Terms;
-use multi_tag::Tag;
 
 /// The running state behind some items of a string.
 #[derive(Clone, Copy)]
