@@ -68,6 +68,15 @@ same_ended sign earlier = push_ind (λ more. pages_of (earlier ++ more) ≡ page
               ∙ append-nil (ended_times sign (earlier ++ more)) ∙ ih (omega (arith, same, ap pages_of is, count, least more))
         ]
 
+-- a cursor has passed the same items in the same octets too
+pub passing_in : {sign : SignData} {octets octets' : List ℕ} {before behind : List Item} {cursor : Cursor} → octets' ≡ octets → IsPassing sign octets before behind cursor → IsPassing sign octets' before behind cursor
+passing_in {sign} {octets} {octets'} {before} {behind} {cursor} same p = subst (λ o. IsPassing sign o before behind cursor) (sym same) p
+
+-- and a page
+pub skipped_in : {sign : SignData} {octets octets' : List ℕ} {before behind : List Item} {start new : Cursor} → octets' ≡ octets → IsPassing sign octets before behind start
+    → ((before behind : List Item) → IsPassing sign octets' before behind start → IsPageSkipped sign octets' before behind start new) → IsPageSkipped sign octets before behind start new
+skipped_in {sign} {octets} {octets'} {before} {behind} {start} {new} same p skips = subst (λ o. IsPageSkipped sign o before behind start new) same (skips before behind (passing_in same p))
+
 -- the cursor has passed some of the items behind the old one, and is in the same page
 pub record IsInPage (sign : SignData) (octets : List ℕ) (before behind : List Item) (old new : Cursor) : Type 0 where
   pub passed : IsTextPassed sign octets before behind new
@@ -133,7 +142,7 @@ module _ {sign : SignData} {octets : List ℕ} {before behind : List Item} {old 
       stands = subst (λ (l : List Item). IsPassing sign octets items l cursor) first.2 s.passed.between
 
       there : {octets' : List ℕ} → octets' ≡ octets → IsPassing sign octets' items (first.0 ∷ first.1) cursor
-      there same = subst (λ o. IsPassing sign o items (first.0 ∷ first.1) cursor) (sym same) stands
+      there same = passing_in same stands
 
       pub stands_there : {octets' : List ℕ} → octets' ≡ octets → IsPassingBefore sign octets' next cursor
       stands_there same = (items, first.1, first.0, there same, first.3)
@@ -208,12 +217,6 @@ pub record IsSearched (sign : SignData) (octets : List ℕ) (time : ℕ) (start 
   pub begins : BeginsPage (map meaning before)
   pub whole : (reading octets).items ≡ before ++ behind
   pub began : start.state.cycle ≤ time
-
--- the page that begins there is passed in the same octets
-pub skipped_here : {sign : SignData} {octets octets' : List ℕ} {time : ℕ} {start behind : Cursor} (s : IsSearched sign octets time start) → octets' ≡ octets
-    → ((before after : List Item) → IsPassing sign octets' before after start → IsPageSkipped sign octets' before after start behind) → IsPageSkipped sign octets s.before s.behind start behind
-skipped_here {sign} {octets} {octets'} {time} {start} {behind} s same skips =
-    subst (λ o. IsPageSkipped sign o s.before s.behind start behind) same (skips s.before s.behind (subst (λ o. IsPassing sign o s.before s.behind start) (sym same) s.between))
 
 module _ {sign : SignData} {octets : List ℕ} {time : ℕ} {start : Cursor} (s : IsSearched sign octets time start) {behind : Cursor} (p : IsPageSkipped sign octets s.before s.behind start behind) where
   abbrev earlier : List Times

@@ -1,9 +1,8 @@
-use Rattle.std.proofs.Common.{[], ◌++◌, Some, inl, refl, sym, ap, subst, ◌∙◌, arith}
+use Rattle.std.proofs.Common.{[], ◌++◌, Some, inl, refl, sym, ap, ◌∙◌, arith}
 use Rattle.std.specs.Prelude.{◌==◌}
 use Rattle.multi_token.specs.Reading.{reading}
 use Rattle.multi_token.proofs.StepLemmas.{charged-zero, rises_more}
-use Rattle.multi_layout.specs.kept.Cursors.{IsPassing}
-use Rattle.multi_layout.proofs.LocateLemmas.{clock_of, page_here, searched_on, shown_here, skipped_here}
+use Rattle.multi_layout.proofs.LocateLemmas.{clock_of, page_here, passing_in, searched_on, shown_here, skipped_in}
 use Rattle.multi_layout.proofs.PagesLemmas.{at_most, page_starts, passes_page, passes_whole, starts_shown}
 use Rattle.multi_layout.proofs.WalkLemmas.{same_octets, within}
 use Rattle.multi_layout.proofs.times.find_page.Goals as goal
@@ -21,7 +20,7 @@ pub pass_page-requires : goal.pass_page-requires
 pass_page-requires c =
     let i = c.loop-shown.invariant in
     let s = i.searched in
-    (s.before, s.behind, subst (λ o. IsPassing c.args.sign.now o s.before s.behind c.loop-shown.start) (sym (same_octets i.steps.3)) s.between)
+    (s.before, s.behind, passing_in (same_octets i.steps.3) s.between)
 
 pub shown_in-requires-clause-some : goal.shown_in-requires-clause-some
 shown_in-requires-clause-some c = omega (arith, (clock_of c.loop-shown.invariant.searched.between).pages)
@@ -37,7 +36,7 @@ returns-in-Some c =
     let s = i.searched in
     let start = c.loop-shown.start in
     let behind = c.pass_page.new.self in
-    let skipped = skipped_here s (same_octets i.steps.3) c.pass_page.ensures.passed in
+    let skipped = skipped_in (same_octets i.steps.3) s.between c.pass_page.ensures.passed in
     let e = c.shown_in.ensures in
     record {
       shown = shown_here s skipped e.on e.off e.ended c.in-Some.is;
@@ -53,7 +52,7 @@ pub loop-shown-smaller : goal.loop-shown-smaller
 loop-shown-smaller c =
     let i = c.loop-shown.invariant in
     let s = i.searched in
-    let skipped = skipped_here s (same_octets i.steps.3) c.pass_page.ensures.passed in
+    let skipped = skipped_in (same_octets i.steps.3) s.between c.pass_page.ensures.passed in
     let e = c.shown_in.ensures in
     let (searched, further, pages) = searched_on s skipped e.on e.off e.ended c.in_default.is c.requires.within in
     omega (arith, further, within c.args.sign.now c.args.source.now.octets (s.before ++ skipped.page) skipped.rest c.pass_page.new.self.at skipped.between.placed)
@@ -65,7 +64,7 @@ loop-shown-preserved c =
     let start = c.loop-shown.start in
     let behind = c.pass_page.new.self in
     let e = c.shown_in.ensures in
-    let (searched, further, pages) = searched_on s (skipped_here s (same_octets i.steps.3) c.pass_page.ensures.passed) e.on e.off e.ended c.in_default.is c.requires.within in
+    let (searched, further, pages) = searched_on s (skipped_in (same_octets i.steps.3) s.between c.pass_page.ensures.passed) e.on e.off e.ended c.in_default.is c.requires.within in
     record {
       searched = searched;
       steps = passes_whole c.args.source.now c.loop-shown.source c.pass_page.new.source start.at behind.at start.state.pages behind.state.pages c.pass_page.ensures.on pages i.steps c.pass_page.ensures.steps;

@@ -2,8 +2,8 @@ use Rattle.std.proofs.Common.{ℕ, ◌+◌, ◌-◌, ◌*◌, ◌++◌, ◌∷�
 use Rattle.std.proofs.lemmas.Bool.{eq-eqb}
 use Rattle.multi_token.specs.Counted.{RisesBetween}
 use Rattle.multi_token.proofs.StepLemmas.{charged-zero, rises_more, rises_then}
-use Rattle.multi_layout.specs.kept.Cursors.{IsPassing, IsTextPassed}
-use Rattle.multi_layout.proofs.LocateLemmas.{first_here, in_page, in_page_more, in_page_text, passed_last, passed_page, passes_here, placed_here, some, stands, stands_there}
+use Rattle.multi_layout.specs.kept.Cursors.{IsTextPassed}
+use Rattle.multi_layout.proofs.LocateLemmas.{first_here, in_page, in_page_more, in_page_text, passed_last, passed_page, passes_here, passing_in, placed_here, some, stands, stands_there}
 use Rattle.multi_layout.proofs.WalkLemmas.{room, same_octets}
 use Rattle.multi_layout.proofs.cursor.Cursor.pass_page.Goals as goal
 
@@ -68,7 +68,7 @@ skip_text-requires c =
     let read = same_octets c.in-Some.ensures.steps.3 ∙ same_octets i.steps.3 in
     let b = passes_here p s first read c.skip.ensures.passed in
     let items = (before ++ s.passed.text) ++ first.0 ∷ [] in
-    (items, first.1, subst (λ o. IsPassing c.args.sign.now o items first.1 c.skip.new.self) (sym (same_octets c.skip.ensures.steps.3 ∙ read)) b)
+    (items, first.1, passing_in (same_octets c.skip.ensures.steps.3 ∙ read) b)
 
 pub loop-next-smaller : goal.loop-next-smaller
 loop-next-smaller c =
@@ -97,7 +97,7 @@ loop-next-preserved c =
           let s = i.way before behind p in
           let first = first_here p s (same_octets i.steps.3) (Some c.in-Some.next) c.in-Some.ensures.first in
           let more = in_page_more p s first (passes_here p s first read c.skip.ensures.passed) (sym c.ends_page.ensures ∙ c.if-ends_page.false) in
-          let text = c.skip_text.ensures.passed (before ++ more.passed.text) more.passed.rest (subst (λ o. IsPassing sign o (before ++ more.passed.text) more.passed.rest c.skip.new.self) (sym skipped) more.passed.between) in
+          let text = c.skip_text.ensures.passed (before ++ more.passed.text) more.passed.rest (passing_in skipped more.passed.between) in
           in_page_text p more c.skip_text.new.self c.skip_text.ensures.state (subst (λ o. IsTextPassed sign o (before ++ more.passed.text) more.passed.rest c.skip_text.new.self) skipped text);
       on = omega (arith, i.on, c.skip.ensures.at, c.skip_text.ensures.on);
       steps = rises_more start c.skip_text.new.source 0 _ _ (omega (arith, i.on, c.skip.ensures.at, c.skip_text.ensures.on, some p s first)) all;
