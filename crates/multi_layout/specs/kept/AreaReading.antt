@@ -54,8 +54,8 @@ ReadsOn words sign present item kept lines kept' lines' =
 
 -- one more item of the group with this page justification is passed that doesn't offend: this is then what is kept of the items with it,
 -- its group is the present one, the other groups stay as they are laid out, and its own has the lines that it had, or one more (own)
-pub record IsItemPassed (words : Bool) (sign : SignData) (items : List Meaning) (item : Meaning) (page : ℕ) (old new : Pass) (ended : Option Line) :
-    Type 0 where
+pub record IsItemPassed (words : Bool) (sign : SignData) (items : List Meaning) (item : Meaning) (page : ℕ) (old new : Pass)
+    (ended : Option Line) : Type 0 where
   pub of : IsPassOf words sign new (items ++ item ∷ [])
   pub present : new.state.area.present ≡ page
   pub order : old.state.area.present ≤ page
