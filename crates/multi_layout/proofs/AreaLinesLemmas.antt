@@ -161,6 +161,13 @@ module _ {words : Bool} {sign : SignData} {octets : List ℕ} {before behind : L
       let (piece, rest, is, read) = first_piece so.left next first in
       record { piece = piece; rest = rest; first = is; read = read }
 
+  -- in the same octets too
+  pub placed_in : {octets' : List ℕ} → octets' ≡ octets → IsPlaced sign octets' (items_of done) (items_of so.left) at
+  placed_in same = subst (λ o. IsPlaced sign o (items_of done) (items_of so.left) at) (sym same) so.placed
+
+  pub so_read : {octets' : List ℕ} → octets' ≡ octets → (next : NextItem) → ((sign : SignData) (before behind : List Item) → IsPlaced sign octets' before behind at → IsFirst behind (Some next)) → NextSo next
+  so_read same next first = so_first next (first sign (items_of done) (items_of so.left) (placed_in same))
+
   module _ {next : NextItem} (n : NextSo next) where
     placed_here : IsPlaced sign octets (items_of done) (n.piece.item ∷ items_of n.rest) at
     placed_here = subst (λ l. IsPlaced sign octets (items_of done) (items_of l) at) n.first so.placed

@@ -15,7 +15,7 @@ use Rattle.multi_layout.specs.declared.item.KnownItem.TheVariants as known
 use Rattle.multi_layout.specs.declared.item.KnownItem.TheVariants.{Char}
 use Rattle.multi_layout.specs.declared.table.LineTable.{LineTable}
 use Rattle.multi_layout.specs.Address.{Break, Spot, in_group, spots, standing}
-use Rattle.multi_layout.specs.kept.AreaReading.{IsCharacterPassed, IsNextRead, IsReadOf, laid_area}
+use Rattle.multi_layout.specs.kept.AreaReading.{IsItemPassed, IsNextRead, IsReadOf, laid_area}
 use Rattle.multi_layout.specs.kept.KnownItem.{meant_by}
 use Rattle.multi_layout.specs.LaidItems.{laid_item, laid_items}
 use Rattle.multi_layout.specs.Meaning.{Does, Meaning, Shows, has_place, meaning}
@@ -91,7 +91,7 @@ module _ (sign : SignData) (sound : IsSound sign) (items : List Item) (none : of
 
 -- a character joins the group in force where lines aren't filled
 pub plain_passed : (sign : SignData) (items : List Meaning) (old new : Pass) → IsUnfilledOf sign old.state items → (number : ℕ) → offence sign.line_fill sign items (Shows number) ≡ None
-    → IsStateOf sign (items ++ Shows number ∷ []) new.state → IsLimited new.state → IsCharacterPassed false sign items number old new None
+    → IsStateOf sign (items ++ Shows number ∷ []) new.state → IsLimited new.state → IsItemPassed false sign items (Shows number) old.state.attributes.page_just old new None
 plain_passed sign items old new of number fine st limited =
     let fine' = subst (λ setting. offence setting sign items (Shows number) ≡ None) of.off fine in
     let (present, order, others, own) = steps.glyph_joins sign items old.state of.state_is number (unsized_if Off sign items (Shows number) fine' true refl) new.state st in
@@ -130,10 +130,6 @@ module _ {words : Bool} {sign : SignData} (sound : IsSound sign) {items : List I
   -- the lines are few and narrow
   pub read_lines : (spots : List Spot) × All IsPlacing spots × (kept.state.area ≡ area_sum spots) × HasKnown present spots lines × HasRoom spots × IsNarrowArea spots
   read_lines = (present_area sign laid, present_placing sign laid, read_state.area, r.known, room_of sign sound items r.fine.none words kept r.of, read_narrow)
-
-  -- and the ended ones of the present group not high
-  pub read_closed : 2 ≤ kept.state.area.present → kept.state.area.present ≤ 4 → kept.state.area.group.closed ≤ 1024
-  read_closed low high = closed_below (present_area sign laid) kept.state.area read_state.area (present_placing sign laid) read_narrow kept.state.area.present low high refl
 
 -- the group before the item is left, if the item belongs to a later one
 pub group_left : {words : Bool} {sign : SignData} {items : List Item} {kept : Pass} {lines : LineTable} → IsReadOf words sign items kept.state.area.present kept lines → (x : Meaning) (lines' : LineTable)

@@ -1,5 +1,6 @@
 -- The sums of an area after one more placing item, and what is judged by them.
 use Rattle.std.proofs.Common.{◌≡◌, inl, inr, ℕ, ◌<◌, ◌≤◌, Bool, true, false, cond, not, ◌&&◌, ◌||◌, ◌==◌, List, [], ◌∷◌, ◌++◌, refl, sym, ap, ◌∙◌, arith}
+use Rattle.multi_layout.proofs.LineSumLemmas.{cond_zero}
 use Rattle.std.specs.Prelude.{nat_lt}
 use Rattle.std.specs.List.{list_any, after_last, All}
 use Rattle.std.proofs.Math.Bool.{or-false}
@@ -34,10 +35,6 @@ group_behind just area less =
     filter_none (λ t. t.at.page_just == just) area
     (All-weaker (λ (t : Spot). t.at.page_just ≤ largest (λ (t : Spot). t.at.page_just) area) (λ t. (t.at.page_just == just) ≡ false)
     (λ t most. ne_eqb t.at.page_just just (λ e. omega arith)) area (largest_most (λ t. t.at.page_just) area))
-
-cond_zero : (b : Bool) (n : ℕ) → n ≡ 0 → cond b n 0 ≡ 0
-cond_zero true n e = e
-cond_zero false n e = refl
 
 -- what answers the height of whatever group it is of
 abbrev pub IsHeightOf : Group → ℕ → Type 0
@@ -202,7 +199,7 @@ no_clash before s page_just g page none =
 
 -- FIT
 
-both_fit : (a b : Bool) → (a && b) ≡ not (not a || not b)
+pub both_fit : (a b : Bool) → (a && b) ≡ not (not a || not b)
 both_fit true true = refl
 both_fit true false = refl
 both_fit false b = refl

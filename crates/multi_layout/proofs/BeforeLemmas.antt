@@ -1,10 +1,11 @@
 -- What fits behind one more character, where what was before it fits: only the present segment and the present group can be too much.
-use Rattle.std.proofs.Common.{◌≡◌, ℕ, ◌≤◌, Bool, true, false, ◌&&◌, inl, inr, List, [], ◌∷◌, ◌++◌, None, refl, sym, ap, subst, ◌∙◌, arith}
+use Rattle.std.proofs.Common.{◌≡◌, ℕ, ◌≤◌, true, inl, inr, List, [], ◌∷◌, ◌++◌, None, refl, sym, ap, subst, ◌∙◌, arith}
+use Rattle.multi_layout.proofs.FillLemmas.{le_test}
 use Rattle.std.specs.Prelude.{nat_le}
 use Rattle.std.specs.List.{All, after_last}
 use Rattle.sign_font.specs.declared.parts.LineFill.TheVariants.{Off}
 use Rattle.sign_font.specs.Sign.{SignData}
-use Rattle.std.proofs.lemmas.Bool.{cases_eq, eq-eqb, ne_eqb}
+use Rattle.std.proofs.lemmas.Bool.{and_from, and_parts, cases_eq, eq-eqb, ne_eqb}
 use Rattle.std.proofs.lemmas.Bool.Decides.{nat_tests}
 use Rattle.multi_layout.specs.declared.area.Area.{Area}
 use Rattle.multi_layout.specs.declared.line.Line.{Line}
@@ -28,21 +29,6 @@ use Rattle.multi_layout.proofs.PlaceLemmas.{each_just}
 use Rattle.multi_layout.proofs.RoomLemmas.{area_fits_always}
 use Rattle.multi_layout.proofs.RunLemmas.{kept_area_fits, kept_fits_is, kept_group_height_is, kept_width_is}
 
-both : (a b : Bool) → (a && b) ≡ true → (a ≡ true) × (b ≡ true)
-both true true h = (refl, refl)
-both true false h = absurd cc
-both false b h = absurd cc
-
-and_both : (a b : Bool) → a ≡ true → b ≡ true → (a && b) ≡ true
-and_both a b h k = rw (h, k) refl
-
-and_true : (b : Bool) → (b && true) ≡ b
-and_true true = refl
-and_true false = refl
-
-le_test : (a b w : ℕ) → a ≤ b → nat_le b w ≡ true → nat_le a w ≡ true
-le_test a b w h k = grind (arith, nat_tests)
-
 -- ---- the line of a character
 
 module _ (width : ℕ) (line : List Spot) (s : Spot) (l : Line) (e : l ≡ line_sum (line ++ s ∷ [])) (own : l.present ≡ s.at.line_just) (known : l.present ≤ 5) (fits : line_fits width line ≡ true) where
@@ -60,10 +46,8 @@ module _ (width : ℕ) (line : List Spot) (s : Spot) (l : Line) (e : l ≡ line_
   segments_fit_before =
       let w = λ (just : ℕ). width_of (segment just line) in
       let k = λ (just : ℕ). kept_width just (lengthened_line 0 0 l) in
-      let (parts, full) = both (fit (w 2) (w 3) (w 4) width) (nat_le (w 5) width) fits in
-      and_both (fit (k 2) (k 3) (k 4) width) (nat_le (k 5) width)
-      (smaller_fits (w 2) (w 3) (w 4) (k 2) (k 3) (k 4) width (no_wider 2 (omega arith) (omega arith)) (no_wider 3 (omega arith) (omega arith)) (no_wider 4 (omega arith) (omega arith)) parts)
-      (le_test (k 5) (w 5) width (no_wider 5 (omega arith) (omega arith)) full)
+      let (parts, full) = and_parts (fit (w 2) (w 3) (w 4) width) (nat_le (w 5) width) fits in
+      and_from (fit (k 2) (k 3) (k 4) width) (nat_le (k 5) width) (smaller_fits (w 2) (w 3) (w 4) (k 2) (k 3) (k 4) width (no_wider 2 (omega arith) (omega arith)) (no_wider 3 (omega arith) (omega arith)) (no_wider 4 (omega arith) (omega arith)) parts) (le_test (k 5) (w 5) width (no_wider 5 (omega arith) (omega arith)) full)
 
 -- what fits still fits without its present segment
 pub fits_before : (width : ℕ) (l : Line) → kept_fits width l ≡ true → FitsBefore width l
@@ -74,8 +58,8 @@ fits_before width l fits =
       | inl same ↦ rw (eq-eqb just l.present same) (omega arith)
       | inr other ↦ rw (ne_eqb just l.present other) (omega arith)
     ] in
-    let (parts, full) = both (fit (w 2) (w 3) (w 4) width) (nat_le (w 5) width) fits in
-    and_both (fit (k 2) (k 3) (k 4) width) (nat_le (k 5) width) (smaller_fits (w 2) (w 3) (w 4) (k 2) (k 3) (k 4) width (less 2) (less 3) (less 4) parts) (le_test (k 5) (w 5) width (less 5) full)
+    let (parts, full) = and_parts (fit (w 2) (w 3) (w 4) width) (nat_le (w 5) width) fits in
+    and_from (fit (k 2) (k 3) (k 4) width) (nat_le (k 5) width) (smaller_fits (w 2) (w 3) (w 4) (k 2) (k 3) (k 4) width (less 2) (less 3) (less 4) parts) (le_test (k 5) (w 5) width (less 5) full)
 
 -- ---- the area of a character
 

@@ -1,14 +1,14 @@
 -- What code that checks and draws needs besides: tests by a running maximum, prefixes, and parts inside a length.
-use Rattle.std.proofs.Common.{◌≡◌, ℕ, ◌≤◌, max, Bool, true, false, ◌||◌, List, [], ◌∷◌, ◌++◌, Option, None, refl, sym, ap, subst, ◌∙◌, arith}
+use Rattle.std.proofs.Common.{◌≡◌, ℕ, ◌≤◌, max, Bool, true, false, ◌||◌, List, [], ◌∷◌, ◌++◌, refl, sym, ap, subst, ◌∙◌, arith}
 use Rattle.std.specs.Prelude.{nat_lt}
 use Rattle.std.specs.List.{list_any}
 use Rattle.std.proofs.lemmas.List.{append_assoc, append-nil}
 use Rattle.std.proofs.lemmas.List.Folds.{list_any-append}
 use Rattle.std.proofs.lemmas.Bool.Decides.{nat_tests}
-use Rattle.multi_layout.specs.Words.{some_after, extent, largest}
+use Rattle.multi_layout.specs.Words.{extent, largest}
 use Rattle.multi_layout.specs.Address.{Spot}
 use Rattle.multi_layout.specs.Offence.{goes_back}
-use Rattle.multi_layout.proofs.WordLemmas.{none_of, right_nil, some_after-append, largest_push, extent_push, push_ind}
+use Rattle.multi_layout.proofs.WordLemmas.{largest_push, extent_push, push_ind}
 
 -- a test of each item against a number is one of the largest
 lt_max : (n a b : ℕ) → (nat_lt n a || nat_lt n b) ≡ nat_lt n (max a b)
@@ -42,9 +42,3 @@ extent-append-le size gap [] xs = subst (λ l. extent size gap xs ≤ extent siz
 extent-append-le size gap (y ∷ ys) xs =
     let more : extent size gap (xs ++ y ∷ []) ≤ extent size gap (xs ++ y ∷ [] ++ ys) = extent-append-le size gap ys (xs ++ y ∷ []) in
     subst (λ l. extent size gap xs ≤ extent size gap l) (append_assoc xs (y ∷ []) ys) (omega (arith, extent_push size gap xs y, more))
-
--- of an accepted list no item offends after those before it
-pub none_offends : {X Y : Type 0} (f : List X → X → Option Y) (xs : List X) (x : X) (ys : List X) → some_after f (xs ++ x ∷ ys) ≡ [] → f xs x ≡ None
-none_offends f xs x ys e =
-    let all = sym (some_after-append f xs (x ∷ ys)) ∙ e in
-    sym (ap (λ l. f l x) (append-nil xs)) ∙ none_of (f (xs ++ []) x) (some_after (λ before. f (xs ++ x ∷ before)) ys) (right_nil (some_after f xs) (some_after (λ before. f (xs ++ before)) (x ∷ ys)) all)

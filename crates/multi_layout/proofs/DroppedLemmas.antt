@@ -12,16 +12,9 @@ use Rattle.multi_layout.specs.kept.Sums.{IsPlacing}
 use Rattle.multi_layout.proofs.WordLemmas.{extent_push, push_ind}
 use Rattle.multi_layout.proofs.CheckLemmas.{extent-append-le}
 use Rattle.multi_layout.proofs.CutLemmas.{Cut, cut, part, cut_push, cut_behind_is, cut_behind_push}
-use Rattle.multi_layout.proofs.BehindLemmas.{after_last_is, ended_is}
-use Rattle.multi_layout.proofs.TableLemmas.{ended_count}
+use Rattle.multi_layout.proofs.BehindLemmas.{after_last_is}
+use Rattle.multi_layout.proofs.TableLemmas.{closed_count, count_push}
 use Rattle.multi_layout.proofs.GroupSumLemmas.{glyph_put, break_put}
-
--- as many parts are closed as items end one
-closed_count : (g : List Spot) → length (cut is_break g).closed ≡ count_by is_break g
-closed_count g = ap length (sym (ended_is is_break g)) ∙ ended_count g
-
-count_more : (g : List Spot) (s : Spot) → count_by is_break (g ++ s ∷ []) ≡ count_by is_break g + cond (is_break s) 1 0
-count_more g s = sum_by_push (λ s. cond (is_break s) 1 0) g s
 
 count_behind : (xs ys : List Spot) → count_by is_break (xs ++ ys) ≡ count_by is_break xs + count_by is_break ys
 count_behind xs ys = sum_by-append (λ s. cond (is_break s) 1 0) xs ys
@@ -42,7 +35,7 @@ first_of front y =
     ∙ ap (λ l. l ++ y ∷ []) (sym (after_last_is is_break front))
 
 open_one : (front : List Spot) (y : Spot) (b : Bool) → is_break y ≡ b → count_by is_break (front ++ y ∷ []) ≡ count_by is_break front → (cut is_break (front ++ y ∷ [])).open' ≡ after_last is_break front ++ y ∷ []
-open_one front y true e same = absurd (let one : cond {A = ℕ} (is_break y) 1 0 ≡ 1 = ap (λ b. cond b 1 0) e in omega (arith, same, count_more front y, one))
+open_one front y true e same = absurd (let one : cond {A = ℕ} (is_break y) 1 0 ≡ 1 = ap (λ b. cond b 1 0) e in omega (arith, same, count_push front y, one))
 open_one front y false e same =
     let c = cut is_break front in
     ap (λ (d : Cut Spot). d.open') (cut_push is_break front y ∙ ap (λ b. let d : Cut Spot = cond b (record { closed = c.closed ++ (c.open' ++ y ∷ []) ∷ []; open' = [] }) (record { closed = c.closed; open' = c.open' ++ y ∷ [] }) in d) e)
@@ -73,7 +66,7 @@ module _ (front : List Spot) (y : Spot) where
                 ∙ ap (λ l. slice_index_or l n []) (sym (cut_behind_is is_break (front ++ y ∷ back)))
                 ∙ h.line;
             ends = h.ends;
-            open' = λ same. absurd (omega (arith, ap (count_by is_break) assoc, same, early, count_more (front ++ y ∷ back) z));
+            open' = λ same. absurd (omega (arith, ap (count_by is_break) assoc, same, early, count_push (front ++ y ∷ back) z));
           }
 
       of_late : count_by is_break (front ++ y ∷ back) ≡ count_by is_break front → front ++ y ∷ (back ++ z ∷ []) ≡ (front ++ y ∷ back) ++ z ∷ [] → LineOf front y (back ++ z ∷ [])

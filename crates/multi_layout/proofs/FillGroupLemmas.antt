@@ -19,7 +19,7 @@ use Rattle.multi_layout.proofs.FilledEndedLemmas.{broken_line}
 use Rattle.multi_layout.proofs.TableLemmas.{ended_break, ended_glyph}
 use Rattle.multi_layout.proofs.FilledSumLemmas.{breaks, drops, stands, stays, word_grows}
 use Rattle.multi_layout.proofs.FillListLemmas.{is_cut}
-use Rattle.multi_layout.proofs.FillSplitLemmas.{parts_of}
+use Rattle.multi_layout.proofs.FillSplitLemmas.{no_split, parts_of}
 use Rattle.multi_layout.proofs.CutLemmas.{Cut}
 use Rattle.multi_layout.proofs.GroupSumLemmas.{present_push}
 use Rattle.multi_layout.proofs.LaidSpotLemmas.{LaidAll, LaidAs, filled_laid}
@@ -154,11 +154,7 @@ module _ (width : ℕ) (group : List Spot) (s : Spot) (character : Character) (p
 
     -- it stays on a line that has no space
     no_space : None ≡ split_sum (after_last is_break (filled (Some width) group)) → cut_at_last is_space line ≡ None
-    no_space o = ap (cut_at_last is_space) (sym line_is) ∙ none_of (cut_at_last is_space (after_last is_break (filled (Some width) group))) (sym o)
-      where
-        none_of : (o : Option (CutAt Spot)) → option_map parts_sum o ≡ None → o ≡ None
-        none_of None e = refl
-        none_of (Some c) e = absurd cc
+    no_space o = ap (cut_at_last is_space) (sym line_is) ∙ no_split (cut_at_last is_space (after_last is_break (filled (Some width) group))) (sym o)
 
     pub stays_sum : r ≡ false → is_space s ≡ false → None ≡ split_sum (after_last is_break (filled (Some width) group)) → with_line self grown ≡ group_sum more
     stays_sum h word o = one_more ∙ ap group_sum (sym (stays width group s placing is.glyph fits (sym r_is ∙ h) word (no_space o)))

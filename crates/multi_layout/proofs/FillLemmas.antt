@@ -1,5 +1,6 @@
 -- Filling at one more character: every break is kept, and at most one is added, in the last line.
 use Rattle.std.proofs.Common.{◌≡◌, ℕ, ◌+◌, ◌<◌, ◌≤◌, Bool, true, false, cond, ◌&&◌, ◌==◌, List, [], ◌∷◌, ◌++◌, length, take, drop, Option, Some, None, zero, suc, refl, sym, ap, subst, ◌∙◌, arith, length-append, append_assoc, append-nil}
+use Rattle.std.proofs.lemmas.Bool.{and_from, and_parts}
 use Rattle.std.specs.Prelude.{nat_le}
 use Rattle.std.specs.Option.{option_map}
 use Rattle.std.proofs.lemmas.Bool.Decides.{nat_tests}
@@ -25,14 +26,7 @@ segment_grows just line s =
     subst (λ n. width_of (segment just line) ≤ n) (sym (segment_push just line s))
     (cond_least (is_glyph s && (s.at.line_just == just)) (width_of (segment just line)) (gap_before char_gap (segment just line) s) (glyph_width s))
 
-both : (a b : Bool) → (a && b) ≡ true → (a ≡ true) × (b ≡ true)
-both true b h = (refl, h)
-both false b h = absurd cc
-
-and_both : (a b : Bool) → a ≡ true → b ≡ true → (a && b) ≡ true
-and_both a b h k = rw (h, k) refl
-
-le_test : (a b w : ℕ) → a ≤ b → nat_le b w ≡ true → nat_le a w ≡ true
+pub le_test : (a b w : ℕ) → a ≤ b → nat_le b w ≡ true → nat_le a w ≡ true
 le_test a b w h k = grind (arith, nat_tests)
 
 -- what fits one line still fits without its last character
@@ -40,10 +34,8 @@ pub fits_front : (width : ℕ) (line : List Spot) (s : Spot) → line_fits width
 fits_front width line s h =
     let w = λ (just : ℕ). width_of (segment just line) in
     let v = λ (just : ℕ). width_of (segment just (line ++ s ∷ [])) in
-    let (parts, full) = both (fit (v 2) (v 3) (v 4) width) (nat_le (v 5) width) h in
-    and_both (fit (w 2) (w 3) (w 4) width) (nat_le (w 5) width)
-    (smaller_fits (v 2) (v 3) (v 4) (w 2) (w 3) (w 4) width (segment_grows 2 line s) (segment_grows 3 line s) (segment_grows 4 line s) parts)
-    (le_test (w 5) (v 5) width (segment_grows 5 line s) full)
+    let (parts, full) = and_parts (fit (v 2) (v 3) (v 4) width) (nat_le (v 5) width) h in
+    and_from (fit (w 2) (w 3) (w 4) width) (nat_le (w 5) width) (smaller_fits (v 2) (v 3) (v 4) (w 2) (w 3) (w 4) width (segment_grows 2 line s) (segment_grows 3 line s) (segment_grows 4 line s) parts) (le_test (w 5) (v 5) width (segment_grows 5 line s) full)
 
 pub stays_wide : (width : ℕ) (line : List Spot) (s : Spot) → line_fits width line ≡ false → line_fits width (line ++ s ∷ []) ≡ false
 stays_wide width line s h = of (line_fits width (line ++ s ∷ [])) refl

@@ -1,5 +1,6 @@
 -- The sums around the last space of a line, at one more character.
-use Rattle.std.proofs.Common.{◌≡◌, ℕ, ◌+◌, Bool, true, false, ◌||◌, List, [], ◌∷◌, ◌++◌, Option, Some, None, refl, sym, ap, subst, ◌∙◌, arith}
+use Rattle.std.proofs.Common.{◌≡◌, ℕ, ◌+◌, true, false, List, [], ◌∷◌, ◌++◌, Option, Some, None, refl, sym, ap, subst, ◌∙◌, arith}
+use Rattle.std.proofs.lemmas.Bool.{or_parts}
 use Rattle.std.specs.List.{AllPass, list_any}
 use Rattle.std.specs.Option.{option_map}
 use Rattle.std.proofs.lemmas.List.Elements.{All-nil, All-cons, All-head, All-tail}
@@ -19,7 +20,7 @@ some_split : (split : Split) (o : Option (CutAt Spot)) → option_map parts_sum 
 some_split split None e = absurd cc
 some_split split (Some c) e = (c, refl, (let same : parts_sum c ≡ split = cc in same))
 
-no_split : (o : Option (CutAt Spot)) → option_map parts_sum o ≡ None → o ≡ None
+pub no_split : (o : Option (CutAt Spot)) → option_map parts_sum o ≡ None → o ≡ None
 no_split None e = refl
 no_split (Some c) e = absurd cc
 
@@ -30,14 +31,10 @@ glyphs_around (z ∷ xs) x ys h =
     let rest = glyphs_around xs x ys (All-tail (λ x. is_glyph x ≡ true) z (xs ++ x ∷ ys) h) in
     (All-cons (λ x. is_glyph x ≡ true) z xs (All-head (λ x. is_glyph x ≡ true) z (xs ++ x ∷ ys) h) rest.0, rest.1)
 
-either_false : (a b : Bool) → (a || b) ≡ false → b ≡ false
-either_false true b e = cc
-either_false false b e = e
-
 -- what doesn't clash with a line doesn't with its end
 pub no_clash_behind : (s : Spot) (xs : List Spot) (x : Spot) (ys : List Spot) → list_any (clashes s) (xs ++ x ∷ ys) ≡ false → list_any (clashes s) ys ≡ false
-no_clash_behind s [] x ys e = either_false (clashes s x) (list_any (clashes s) ys) e
-no_clash_behind s (z ∷ xs) x ys e = no_clash_behind s xs x ys (either_false (clashes s z) (list_any (clashes s) (xs ++ x ∷ ys)) e)
+no_clash_behind s [] x ys e = (or_parts (clashes s x) (list_any (clashes s) ys) e).1
+no_clash_behind s (z ∷ xs) x ys e = no_clash_behind s xs x ys (or_parts (clashes s z) (list_any (clashes s) (xs ++ x ∷ ys)) e).1
 
 -- a line with a space has parts around it, and what doesn't clash with the line doesn't with the last one
 pub parts_of : (line : List Spot) (s : Spot) (split : Split) → AllPass is_glyph line → list_any (clashes s) line ≡ false → Some split ≡ split_sum line

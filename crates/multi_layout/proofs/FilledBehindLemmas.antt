@@ -6,6 +6,7 @@ use Rattle.std.proofs.lemmas.Bool.{cases_eq}
 use Rattle.std.proofs.lemmas.List.{length-append}
 use Rattle.multi_tag.specs.declared.tag.Tag.{Tag}
 use Rattle.multi_tag.specs.declared.tag.Tag.TheVariants.{NewPage, NewLine, Back, Rect}
+use Rattle.sign_font.specs.declared.parts.LineFill.{LineFill}
 use Rattle.sign_font.specs.declared.parts.LineFill.TheVariants.{Off, Words}
 use Rattle.sign_font.specs.Sign.{SignData}
 use Rattle.multi_layout.specs.declared.area.Area.{Area}
@@ -14,8 +15,9 @@ use Rattle.multi_layout.specs.declared.pass.Pass.{Pass}
 use Rattle.multi_layout.specs.declared.state.State.{State}
 use Rattle.multi_layout.specs.Address.{Break, Cover, Spot, Standing, in_area, in_group, is_break, spots, standing}
 use Rattle.multi_layout.specs.Filling.{filled}
-use Rattle.multi_layout.specs.kept.FilledState.{IsFilledJudged, IsFilledOf, begins_line}
+use Rattle.multi_layout.specs.kept.FilledState.{IsFilledOf, begins_line}
 use Rattle.multi_layout.specs.kept.FillSums.{order_sum, split_sum}
+use Rattle.multi_layout.specs.kept.PassState.{IsItemJudged}
 use Rattle.multi_layout.specs.Fit.{line_fits}
 use Rattle.multi_layout.specs.Laid.{too_big}
 use Rattle.multi_layout.specs.LaidItems.{laid_items}
@@ -167,10 +169,13 @@ module _ (sign : SignData) (items : List Meaning) (kept : Pass) (of : IsFilledOf
   area_stays (Back colour) e = present_area-cover sign items (Does (Back colour)) (Cover (standing sign items).page (unwrap_or colour sign.defaults.back)) refl refl refl
   area_stays tag e = present_area-nothing sign items (Does tag) refl refl
 
-  pub judged-stays : (tag : Tag) (result : Result (Unit {0}) SyntaxError) (state : State) → begins_line tag ≡ false → IsJudged sign laid (Does tag) result state
-      → IsFilledJudged sign items (Does tag) result (record { state = state; split = kept.split; order = kept.order })
-  judged-stays tag (Err error) state e j = offends_as_laid sign items tag ∙ j
-  judged-stays tag (Ok done) state e j = (offends_as_laid sign items tag ∙ j.0, stays sign items kept of tag state j.1 (area_stays tag e) (width_stays tag e))
+  as_laid : sign.line_fill ≡ Words → (tag : Tag) → offence sign.line_fill sign items (Does tag) ≡ offence Off sign laid (Does tag)
+  as_laid words tag = ap (λ (setting : LineFill). offence setting sign items (Does tag)) words ∙ offends_as_laid sign items tag
+
+  pub judged-stays : sign.line_fill ≡ Words → (tag : Tag) (result : Result (Unit {0}) SyntaxError) (state : State) → begins_line tag ≡ false → IsJudged sign laid (Does tag) result state
+      → IsItemJudged true sign items (Does tag) result (record { state = state; split = kept.split; order = kept.order })
+  judged-stays words tag (Err error) state e j = as_laid words tag ∙ j
+  judged-stays words tag (Ok done) state e j = (as_laid words tag ∙ j.0, record { words = words; of = stays sign items kept of tag state j.1 (area_stays tag e) (width_stays tag e) })
 
   begins_of : (tag : Tag) (state : State) → begins_line tag ≡ true → offence Off sign laid (Does tag) ≡ None → IsStateOf sign (laid ++ Does tag ∷ []) state
       → IsFilledOf sign (items ++ Does tag ∷ []) (record { state = state; split = None; order = order_sum [] })
@@ -179,7 +184,7 @@ module _ (sign : SignData) (items : List Meaning) (kept : Pass) (of : IsFilledOf
   begins_of (Rect x y w h) state e fine st = begins sign items kept of (Rect x y w h) state st (present_area-new sign items (Does (Rect x y w h)) refl)
   begins_of tag state e fine st = cc
 
-  pub judged-begins : (tag : Tag) (result : Result (Unit {0}) SyntaxError) (state : State) → begins_line tag ≡ true → IsJudged sign laid (Does tag) result state
-      → IsFilledJudged sign items (Does tag) result (record { state = state; split = None; order = order_sum [] })
-  judged-begins tag (Err error) state e j = offends_as_laid sign items tag ∙ j
-  judged-begins tag (Ok done) state e j = (offends_as_laid sign items tag ∙ j.0, begins_of tag state e j.0 j.1)
+  pub judged-begins : sign.line_fill ≡ Words → (tag : Tag) (result : Result (Unit {0}) SyntaxError) (state : State) → begins_line tag ≡ true → IsJudged sign laid (Does tag) result state
+      → IsItemJudged true sign items (Does tag) result (record { state = state; split = None; order = order_sum [] })
+  judged-begins words tag (Err error) state e j = as_laid words tag ∙ j
+  judged-begins words tag (Ok done) state e j = (as_laid words tag ∙ j.0, record { words = words; of = begins_of tag state e j.0 j.1 })

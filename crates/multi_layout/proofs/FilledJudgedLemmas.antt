@@ -1,5 +1,5 @@
 -- One more character is judged where lines are filled, by what is kept of the items before it.
-use Rattle.std.proofs.Common.{◌≡◌, ℕ, Bool, true, false, not, ◌&&◌, ◌||◌, ◌==◌, nat_lt, List, [], ◌∷◌, ◌++◌, Option, Some, None, refl, sym, ap, subst, ◌∙◌, append-nil}
+use Rattle.std.proofs.Common.{◌≡◌, ℕ, Bool, true, false, cond, not, ◌&&◌, ◌||◌, ◌==◌, nat_lt, List, [], ◌∷◌, ◌++◌, Option, Some, None, refl, sym, ap, subst, ◌∙◌, append-nil}
 use Rattle.std.specs.List.{All, after_last, list_any}
 use Rattle.sign_font.specs.declared.parts.LineFill.TheVariants.{Words}
 use Rattle.sign_font.specs.Cell.{SizedCell}
@@ -17,21 +17,28 @@ use Rattle.multi_layout.specs.Fit.{area_fits, line_fits}
 use Rattle.multi_layout.specs.kept.FilledState.{IsFilledOf}
 use Rattle.multi_layout.specs.LaidItems.{laid_items}
 use Rattle.multi_layout.specs.Meaning.{Meaning, Shows}
-use Rattle.multi_layout.specs.Offence.{clashes, conflicts, first_code, offence}
+use Rattle.multi_layout.specs.Offence.{clashes, conflicts, first_code, never_big, offence, unsized_offence}
 use Rattle.multi_layout.specs.kept.State.{attributes_of, present_area}
 use Rattle.multi_layout.specs.kept.Sums.{IsCharacter, IsPlacing, area_sum, line_sum}
-use Rattle.multi_layout.proofs.AreaSumLemmas.{area_placing, no_back, no_clash}
+use Rattle.multi_layout.proofs.AreaSumLemmas.{area_placing, both_fit, no_back, no_clash}
 use Rattle.multi_layout.proofs.FilledCharacterLemmas.{area_with, conflicts_by, doesn't_fit, goes_behind, offends_by, offends_without, present_is, shown}
 use Rattle.multi_layout.proofs.FilledOrderLemmas.{no_clash_filled}
 use Rattle.multi_layout.proofs.GroupSumLemmas.{placing_group}
 use Rattle.multi_layout.proofs.JudgedLemmas.{cell_found, cell_missing}
 use Rattle.multi_layout.proofs.LaidItemLemmas.{are_laid}
+use Rattle.multi_layout.proofs.OffenceLemmas.{offence-character}
 
 not_not : (a b : Bool) → not a ≡ not b → a ≡ b
 not_not true true e = refl
 not_not true false e = sym e
 not_not false true e = sym e
 not_not false false e = refl
+
+size_by : (fits big : Bool) → fits ≡ not big → first_code ((false, 11) ∷ (big, 5) ∷ []) ≡ cond fits None (Some 5)
+size_by true true e = cc
+size_by true false e = refl
+size_by false true e = refl
+size_by false false e = cc
 
 module _ (sign : SignData) (items : List Meaning) (kept : Pass) (of : IsFilledOf sign items kept) where
   -- the next item stands where it does among the items as they are laid out
@@ -69,6 +76,13 @@ module _ (sign : SignData) (items : List Meaning) (kept : Pass) (of : IsFilledOf
     filled_conflict is =
         let (cell, found, width) = found_here number c some in
         offends_by sign items number cell found ∙ ap (λ b. first_code ((b, 11) ∷ (doesn't_fit sign items number cell found, 5) ∷ [])) (conflict_is cell found ∙ is)
+
+    -- or it doesn't
+    pub filled_free : (nat_lt kept.state.attributes.page_just kept.state.area.present || ((kept.state.attributes.page_just == kept.state.area.present) && clash)) ≡ false
+        → unsized_offence sign items (Shows number) ≡ None
+    filled_free is =
+        let (cell, found, width) = found_here number c some in
+        offence-character never_big sign items number cell found ∙ ap {B = Option ℕ} (λ b. cond b (Some 11) None) (conflict_is cell found ∙ is)
 
   module _ (number : ℕ) (c : SizedCell) (some : cell_in sign kept.state.attributes.font.number number ≡ Some c) where
     -- what is read of it is what it is
@@ -121,22 +135,14 @@ module _ (sign : SignData) (items : List Meaning) (kept : Pass) (of : IsFilledOf
             let last : Spot = record { at = standing sign more; put = Glyph cell } in
             let wide = line (after_last is_break (in_group s.at.page_just new)) line_is ∙ ap (λ (a : Attributes). line_fits a.rectangle.width (after_last is_break (in_group s.at.page_just new))) attributes_here in
             let high = height new (area_placing (spots sign more) last) sum ∙ ap (λ (a : Attributes). area_fits a.rectangle.height new) attributes_here in
-            (λ i. wide i && high i) ∙ both_are (line_fits s.at.rectangle.width (after_last is_break (in_group s.at.page_just new))) (area_fits s.at.rectangle.height new)
-          where
-            both_are : (a b : Bool) → (a && b) ≡ not (not a || not b)
-            both_are true true = refl
-            both_are true false = refl
-            both_are false b = refl
+            (λ i. wide i && high i) ∙ both_fit (line_fits s.at.rectangle.width (after_last is_break (in_group s.at.page_just new))) (area_fits s.at.rectangle.height new)
 
-        -- too big
-        pub filled_too_big : (f && h) ≡ false → offence Words sign items (Shows number) ≡ Some 5
-        filled_too_big is =
+        -- so its size is told
+        pub filled_size : offence Words sign items (Shows number) ≡ cond (f && h) None (Some 5)
+        filled_size =
             offends_by sign items number cell found
             ∙ ap (λ b. first_code ((b, 11) ∷ (doesn't_fit sign items number cell found, 5) ∷ [])) apart
-            ∙ ap (λ b. first_code ((false, 11) ∷ (b, 5) ∷ [])) (not_not (doesn't_fit sign items number cell found) true (sym fits_is ∙ is))
+            ∙ size_by (f && h) (doesn't_fit sign items number cell found) fits_is
 
-        pub filled_fits : (f && h) ≡ true → offence Words sign items (Shows number) ≡ None
-        filled_fits is =
-            offends_by sign items number cell found
-            ∙ ap (λ b. first_code ((b, 11) ∷ (doesn't_fit sign items number cell found, 5) ∷ [])) apart
-            ∙ ap (λ b. first_code ((false, 11) ∷ (b, 5) ∷ [])) (not_not (doesn't_fit sign items number cell found) false (sym fits_is ∙ is))
+        pub filled_fit : (f && h) ≡ true → doesn't_fit sign items number cell found ≡ false
+        filled_fit is = not_not (doesn't_fit sign items number cell found) false (sym fits_is ∙ is)

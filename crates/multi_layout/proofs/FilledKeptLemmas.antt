@@ -1,10 +1,11 @@
 -- What is kept behind one more character, where lines are filled.
-use Rattle.std.proofs.Common.{◌≡◌, ℕ, ◌+◌, ◌*◌, ◌≤◌, Bool, true, false, cond, not, ◌&&◌, ◌||◌, ◌==◌, nat_lt, inl, inr, List, [], ◌∷◌, ◌++◌, length, Option, Some, None, refl, sym, ap, subst, ◌∙◌, arith}
+use Rattle.std.proofs.Common.{◌≡◌, ℕ, ◌+◌, ◌*◌, ◌≤◌, Bool, true, false, cond, not, ◌&&◌, ◌||◌, ◌==◌, inl, inr, List, [], ◌∷◌, ◌++◌, length, Option, Some, None, refl, sym, ap, subst, ◌∙◌, arith}
 use Rattle.std.specs.List.{All, after_last, find, list_any}
 use Rattle.std.specs.Option.{option_map}
 use Rattle.std.proofs.lemmas.Bool.{cases_Bool, cases_eq, eq-eqb, eqb-true, false≢true}
 use Rattle.std.proofs.lemmas.List.{length-append}
 use Rattle.std.proofs.lemmas.Option.{same_Some}
+use Rattle.sign_font.specs.declared.parts.LineFill.{LineFill}
 use Rattle.sign_font.specs.declared.parts.LineFill.TheVariants.{Words}
 use Rattle.sign_font.specs.Cell.{SizedCell}
 use Rattle.sign_font.specs.Sign.{SignData, CellData, cell_in, cell_numbered}
@@ -17,27 +18,24 @@ use Rattle.multi_layout.specs.declared.pass.Order.{Order}
 use Rattle.multi_layout.specs.declared.line.Line.{Line}
 use Rattle.multi_layout.specs.Address.{Glyph, Spot, Standing, group_of, in_group, is_break, put_at, spots, standing}
 use Rattle.multi_layout.specs.Filling.{filled, is_space}
-use Rattle.multi_layout.specs.kept.AreaReading.{IsCharacterPassed}
-use Rattle.multi_layout.specs.kept.FilledState.{IsFilledOf}
+use Rattle.multi_layout.specs.kept.AreaReading.{IsFilledPut}
+use Rattle.multi_layout.specs.kept.FilledState.{IsFilledFor, IsFilledOf}
 use Rattle.multi_layout.specs.kept.FillSums.{EndsLine, IsSplitBelow, order_sum, split_sum}
 use Rattle.multi_layout.specs.Fit.{area_fits, line_fits}
 use Rattle.multi_layout.specs.LaidItems.{laid_item, laid_items}
 use Rattle.multi_layout.specs.Meaning.{Meaning, Shows}
-use Rattle.multi_layout.specs.Offence.{clashes, conflicts, first_code, offence}
+use Rattle.multi_layout.specs.Offence.{clashes, conflicts, first_code, offence, unsized_offence}
 use Rattle.multi_layout.specs.kept.State.{present_area}
 use Rattle.multi_layout.specs.kept.Sums.{IsBelow, IsCharacter, IsPlacing, area_sum, line_sum}
 use Rattle.multi_layout.proofs.AreaSumLemmas.{group_behind, in_group_other, no_back, no_clash}
 use Rattle.multi_layout.proofs.FilledCharacterLemmas.{area_with, doesn't_fit, goes_behind, offends_by, offends_without, present_is, shown}
-use Rattle.multi_layout.proofs.FilledJudgedLemmas.{Fills, attributes_here, conflict_is, filled_fits, filled_grown, filled_too_big, found_here, shown_character}
+use Rattle.multi_layout.proofs.FilledJudgedLemmas.{Fills, attributes_here, filled_fit, filled_grown, filled_size, found_here, shown_character}
 use Rattle.multi_layout.proofs.FilledStateLemmas.{filled_state}
 use Rattle.multi_layout.proofs.GroupSumLemmas.{own_group, present_push}
+use Rattle.multi_layout.proofs.JudgedLemmas.{no_conflict}
 use Rattle.multi_layout.proofs.StandingLemmas.{standing_push}
 use Rattle.multi_layout.proofs.StateLemmas.{present_area-placing}
 use Rattle.multi_layout.proofs.WordLemmas.{each_after_length}
-
-first_true : (a b : Bool) → (a && b) ≡ true → a ≡ true
-first_true true b e = refl
-first_true false b e = e
 
 none_of_both : (a b : Bool) → first_code ((a, 11) ∷ (b, 5) ∷ []) ≡ None → (a ≡ false) × (b ≡ false)
 none_of_both true b e = cc
@@ -144,82 +142,48 @@ module _ (sign : SignData) (items : List Meaning) (kept : Pass) (of : IsFilledOf
   pub goes_on : kept.state.area.present ≤ kept.state.attributes.page_just
   goes_on = on_by (cell_numbered (standing sign items).font number) refl
 
--- a character is judged whose cell was found and which doesn't conflict
-module _ (sign : SignData) (items : List Meaning) (kept : Pass) (of : IsFilledOf sign items kept) (number : ℕ) (c : SizedCell) (some : cell_in sign kept.state.attributes.font.number number ≡ Some c)
-    (clash : Bool) (clashing : (line : List Spot) (s : Spot) → kept.order ≡ order_sum line → s.at.line_just ≡ kept.state.attributes.line_just → clash ≡ list_any (clashes s) line)
-    (goes_on : Bool) (goes : goes_on ≡ (kept.state.attributes.page_just == kept.state.area.present)) (free : (nat_lt kept.state.attributes.page_just kept.state.area.present || (goes_on && clash)) ≡ false)
+-- a character is put whose cell was found and which doesn't offend by more than its size
+module _ (sign : SignData) (items : List Meaning) (kept : Pass) (is : IsFilledFor sign kept items) (number : ℕ) (c : SizedCell) (some : cell_in sign kept.state.attributes.font.number number ≡ Some c)
+    (fine : unsized_offence sign items (Shows number) ≡ None) (goes_on : Bool) (goes : goes_on ≡ (kept.state.attributes.page_just == kept.state.area.present))
     (character : Character) (just : character.just ≡ kept.state.attributes.line_just) (spacing : character.spacing ≡ kept.state.attributes.spacing) (wide : character.width ≡ c.width)
     (font : character.font ≡ kept.state.attributes.font) (area' : Area) (split' : Option Split) (ended : Option Line)
-    (fills : (cell : CellData) (found : cell_numbered (standing sign items).font number ≡ Some cell) → Fills sign items kept of number c some character (number == 32) area' split' ended kept.state.attributes.page_just kept.state.attributes.rectangle.width)
+    (fills : (cell : CellData) (found : cell_numbered (standing sign items).font number ≡ Some cell) → Fills sign items kept is.of number c some character (number == 32) area' split' ended kept.state.attributes.page_just kept.state.attributes.rectangle.width)
     (f h : Bool) (line : (l : List Spot) → area'.group.line ≡ line_sum l → f ≡ line_fits kept.state.attributes.rectangle.width l)
-    (height : (l : List Spot) → All IsPlacing l → area' ≡ area_sum l → h ≡ area_fits kept.state.attributes.rectangle.height l) where
-  free' : (nat_lt kept.state.attributes.page_just kept.state.area.present || ((kept.state.attributes.page_just == kept.state.area.present) && clash)) ≡ false
-  free' = ap (λ b. nat_lt kept.state.attributes.page_just kept.state.area.present || (b && clash)) (sym goes) ∙ free
-
-  -- it is too big
-  pub exit_too_big : (f && h) ≡ false → offence Words sign items (Shows number) ≡ Some 5
-  exit_too_big is =
-      let (cell, found, width) = found_here sign items kept of number c some in
-      let apart = conflict_is sign items kept of number c some clash clashing cell found ∙ free' in
-      let is' = shown_character sign items kept of number c some cell found width character just spacing wide font in
-      filled_too_big sign items kept of number c some cell found apart character is' (number == 32) (spaces_is sign items number cell found) area' split' ended (fills cell found) f h line height is
-
-  -- it fits
-  pub exit_fits : (f && h) ≡ true → (order' : Order)
-      → ((line : List Spot) (s : Spot) → s.at.line_just ≡ character.just → list_any (clashes s) line ≡ false
-      → (goes_on ≡ true → kept.order ≡ order_sum line) → (goes_on ≡ false → line ≡ []) → order' ≡ order_sum (line ++ s ∷ []))
-      → IsBelow (1024 * length items + 1024) area' → IsSplitBelow (1024 * length items + 1024) split'
-      → (offence Words sign items (Shows number) ≡ None) × IsFilledOf sign (items ++ Shows number ∷ []) (record { state = record kept.state { area = area' }; split = split'; order = order' })
-  exit_fits is order' sum below split_below =
-      let (cell, found, width) = found_here sign items kept of number c some in
-      let s : Spot = shown sign items number cell found in
-      let at = ap (λ (a : Attributes). a.page_just) (attributes_here sign items kept of) in
-      let apart = conflict_is sign items kept of number c some clash clashing cell found ∙ free' in
-      let is' = shown_character sign items kept of number c some cell found width character just spacing wide font in
-      let space = spaces_is sign items number cell found in
-      let (area, split, line_ended) = filled_grown sign items kept of number c some cell found apart character is' (number == 32) space area' split' ended (fills cell found) in
-      let goes_behind' = goes_behind sign items number cell found apart in
-      let line_is : area'.group.line ≡ line_sum (after_last is_break (filled (Some s.at.rectangle.width) (group_of s (spots sign items) ++ s ∷ []))) =
-      ap (λ (a : Area). a.group.line) area ∙ ap (λ j. line_sum (after_last is_break (in_group j (area_with sign items number cell found)))) goes_behind'.last ∙ ap (λ l. line_sum (after_last is_break l)) goes_behind'.after in
-      let last = after_last is_break (filled (Some s.at.rectangle.width) (group_of s (spots sign items) ++ s ∷ [])) in
-      let fits = ap (λ (a : Attributes). line_fits a.rectangle.width last) (sym (attributes_here sign items kept of)) ∙ sym (line last line_is) ∙ first_true f h is in
-      let order = order_with sign items number cell found kept of apart goes_on goes at character is' order' sum in (
-        filled_fits sign items kept of number c some cell found apart character is' (number == 32) space area' split' ended (fills cell found) f h line height is,
-        kept_with sign items number cell found kept of apart area' split' order' area split order below split_below fits,
-      )
-
--- a character is passed that doesn't offend
-module _ (sign : SignData) (items : List Meaning) (kept : Pass) (of : IsFilledOf sign items kept) (number : ℕ) (c : SizedCell) (some : cell_in sign kept.state.attributes.font.number number ≡ Some c)
-    (fine : offence Words sign items (Shows number) ≡ None) (goes_on : Bool) (goes : goes_on ≡ (kept.state.attributes.page_just == kept.state.area.present))
-    (character : Character) (just : character.just ≡ kept.state.attributes.line_just) (spacing : character.spacing ≡ kept.state.attributes.spacing) (wide : character.width ≡ c.width)
-    (font : character.font ≡ kept.state.attributes.font) (area' : Area) (split' : Option Split) (ended : Option Line)
-    (fills : (cell : CellData) (found : cell_numbered (standing sign items).font number ≡ Some cell) → Fills sign items kept of number c some character (number == 32) area' split' ended kept.state.attributes.page_just kept.state.attributes.rectangle.width)
+    (height : (l : List Spot) → All IsPlacing l → area' ≡ area_sum l → h ≡ area_fits kept.state.attributes.rectangle.height l)
     (order' : Order) (sum : (line : List Spot) (s : Spot) → s.at.line_just ≡ character.just → list_any (clashes s) line ≡ false
-    → (goes_on ≡ true → kept.order ≡ order_sum line) → (goes_on ≡ false → line ≡ []) → order' ≡ order_sum (line ++ s ∷ [])) where
+    → (goes_on ≡ true → kept.order ≡ order_sum line) → (goes_on ≡ false → line ≡ []) → order' ≡ order_sum (line ++ s ∷ []))
+    (below : IsBelow (1024 * length items + 1024) area') (split_below : IsSplitBelow (1024 * length items + 1024) split') where
   first_of : (a b : Bool) → (not a || not b) ≡ false → a ≡ true
   first_of true b e = refl
   first_of false b e = cc
 
-  pub passed_behind : sign.line_fill ≡ Words → IsBelow (1024 * length items + 1024) area' → IsSplitBelow (1024 * length items + 1024) split'
-      → IsCharacterPassed true sign items number kept (record { state = record kept.state { area = area' }; split = split'; order = order' }) ended
-  passed_behind words below split_below =
+  pub filled_put : IsFilledPut sign items number kept (record { state = record kept.state { area = area' }; split = split'; order = order' }) (record { fits = f && h; ended = ended })
+  filled_put =
+      let of = is.of in
       let (cell, found, width) = found_here sign items kept of number c some in
       let s : Spot = shown sign items number cell found in
       let w = s.at.rectangle.width in
       let group = group_of s (spots sign items) in
       let at = ap (λ (a : Attributes). a.page_just) (attributes_here sign items kept of) in
-      let (apart, fit) = none_of_both (conflicts (spots sign items) s) (doesn't_fit sign items number cell found) (sym (offends_by sign items number cell found) ∙ fine) in
+      let apart = no_conflict sign items number cell found fine in
       let is' = shown_character sign items kept of number c some cell found width character just spacing wide font in
-      let (area, split, line_ended) = filled_grown sign items kept of number c some cell found apart character is' (number == 32) (spaces_is sign items number cell found) area' split' ended (fills cell found) in
+      let space = spaces_is sign items number cell found in
+      let (area, split, line_ended) = filled_grown sign items kept of number c some cell found apart character is' (number == 32) space area' split' ended (fills cell found) in
       let on = goes_behind sign items number cell found apart in
       let new = area_with sign items number cell found in
-      let line_fits' = ap (λ l. line_fits w (after_last is_break l)) (sym on.after) ∙ first_of (line_fits w (after_last is_break (in_group s.at.page_just new))) (area_fits s.at.rectangle.height new) fit in
-      let order = order_with sign items number cell found kept of apart goes_on goes at character is' order' sum in
       record {
-        of = record { words = words; of = kept_with sign items number cell found kept of apart area' split' order' area split order below split_below line_fits' };
-        present = ap (λ (a : Area). a.present) area ∙ on.last ∙ sym at;
-        order = omega (arith, at, back sign items number cell found kept of apart);
-        others = λ j other. on.others j (λ e. other (e ∙ sym at));
-        own = subst (λ j. EndsLine (in_group j (present_area sign (laid_items Words sign items items))) (in_group j new) ended) (sym at)
-            (subst (λ l. EndsLine l (in_group s.at.page_just new) ended) (sym on.before) (subst (λ l. EndsLine (filled (Some w) group) l ended) (sym on.after) line_ended));
+        size = ap (λ (setting : LineFill). offence setting sign items (Shows number)) is.words
+            ∙ filled_size sign items kept of number c some cell found apart character is' (number == 32) space area' split' ended (fills cell found) f h line height;
+        passed = λ both.
+            let fit = filled_fit sign items kept of number c some cell found apart character is' (number == 32) space area' split' ended (fills cell found) f h line height both in
+            let line_fits' = ap (λ l. line_fits w (after_last is_break l)) (sym on.after) ∙ first_of (line_fits w (after_last is_break (in_group s.at.page_just new))) (area_fits s.at.rectangle.height new) fit in
+            let order = order_with sign items number cell found kept of apart goes_on goes at character is' order' sum in
+            record {
+              of = record { words = is.words; of = kept_with sign items number cell found kept of apart area' split' order' area split order below split_below line_fits' };
+              present = ap (λ (a : Area). a.present) area ∙ on.last ∙ sym at;
+              order = omega (arith, at, back sign items number cell found kept of apart);
+              others = λ j other. on.others j (λ e. other (e ∙ sym at));
+              own = subst (λ j. EndsLine (in_group j (present_area sign (laid_items Words sign items items))) (in_group j new) ended) (sym at)
+                  (subst (λ l. EndsLine l (in_group s.at.page_just new) ended) (sym on.before) (subst (λ l. EndsLine (filled (Some w) group) l ended) (sym on.after) line_ended));
+            };
       }

@@ -3,7 +3,7 @@
 use Rattle.std.proofs.Common.{◌≡◌, ℕ, Bool, true, false, ◌&&◌, ◌||◌, ◌==◌, List, [], ◌∷◌, ◌++◌, length, Option, Some, None, zero, suc, refl, sym, ap, ◌∙◌, append_assoc, arith}
 use Rattle.std.specs.Prelude.{nat_lt}
 use Rattle.std.specs.List.{after_last, list_any, All}
-use Rattle.std.proofs.lemmas.Bool.{le-ltb}
+use Rattle.std.proofs.lemmas.Bool.{le-ltb, or_parts}
 use Rattle.multi_layout.specs.declared.pass.Order.{Order}
 use Rattle.multi_layout.specs.Address.{Spot, is_break}
 use Rattle.multi_layout.specs.kept.FillSums.{order_sum}
@@ -19,14 +19,10 @@ use Rattle.multi_layout.proofs.LineSumLemmas.{any_more, in_order, line_clashes}
 use Rattle.multi_layout.proofs.RunLemmas.{not_full, or_same}
 use Rattle.multi_layout.proofs.WordLemmas.{largest_push}
 
-either_false : (a b : Bool) → (a || b) ≡ false → b ≡ false
-either_false true b e = cc
-either_false false b e = e
-
 -- what holds of no item of a list holds of none of its end
 none_behind : (p : Spot → Bool) (xs ys : List Spot) → list_any p (xs ++ ys) ≡ false → list_any p ys ≡ false
 none_behind p [] ys e = e
-none_behind p (x ∷ xs) ys e = none_behind p xs ys (either_false (p x) (list_any p (xs ++ ys)) e)
+none_behind p (x ∷ xs) ys e = none_behind p xs ys (or_parts (p x) (list_any p (xs ++ ys)) e).1
 
 module _ (width : ℕ) where
   -- the open line of characters is their end

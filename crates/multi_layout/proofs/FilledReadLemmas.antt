@@ -1,12 +1,7 @@
 -- The verdict from the items read so far, where lines are filled.
-use Rattle.std.proofs.Common.{◌≡◌, ℕ, ◌+◌, ◌*◌, ◌^◌, ◌<◌, ◌≤◌, List, [], ◌∷◌, ◌++◌, length, map, slice_get, Some, None, refl, sym, ap, subst, ◌∙◌, arith, append-nil}
+use Rattle.std.proofs.Common.{◌≡◌, ℕ, ◌*◌, ◌^◌, ◌<◌, ◌≤◌, List, [], length, map, Some, None, sym, ap, subst, ◌∙◌, arith, append-nil}
 use Rattle.std.specs.List.{after_last}
 use Rattle.multi_token.specs.Counted.{Counted}
-use Rattle.multi_token.specs.declared.token.Token.{Token}
-use Rattle.multi_token.specs.declared.token.Kind.TheVariants as kinds
-use Rattle.multi_token.specs.Spelling.{IsPlain}
-use Rattle.multi_token.specs.Tokens.{IsTokenOf, item_of}
-use Rattle.multi_token.proofs.PlaceLemmas.{single_token}
 use Rattle.sign_font.specs.declared.parts.LineFill.TheVariants.{Words}
 use Rattle.sign_font.specs.Sign.{SignData}
 use Rattle.multi_layout.specs.declared.pass.Pass.{Pass}
@@ -17,8 +12,7 @@ use Rattle.multi_layout.specs.kept.FillOpen.{AllOpenFit}
 use Rattle.multi_layout.specs.kept.FillSums.{order_sum, split_sum}
 use Rattle.multi_layout.specs.kept.FilledState.{IsFilledFor, IsFilledOf, IsFilledReady}
 use Rattle.multi_layout.specs.LaidItems.{laid_items}
-use Rattle.multi_layout.specs.Meaning.{Meaning, Shows, meaning}
-use Rattle.multi_layout.specs.Offence.{offence}
+use Rattle.multi_layout.specs.Meaning.{Meaning, meaning}
 use Rattle.multi_layout.specs.kept.Judging.{IsAt, IsTold, ReadSoFar}
 use Rattle.multi_layout.specs.kept.State.{IsStateOf, present_area, whole_times}
 use Rattle.multi_layout.specs.Times.{cycle, ended_times}
@@ -30,7 +24,7 @@ use Rattle.multi_layout.proofs.FilledKeptLemmas.{laid_count}
 use Rattle.multi_layout.proofs.FilledStateLemmas.{pages_at, same_times}
 use Rattle.multi_layout.proofs.JudgedLemmas.{ready}
 use Rattle.multi_layout.proofs.LaidItemLemmas.{are_laid}
-use Rattle.multi_layout.proofs.ReadLemmas.{accepted_at_end, at_end, cycle_at_end, few_here, read_more}
+use Rattle.multi_layout.proofs.ReadLemmas.{accepted_at_end, at_end, cycle_at_end, few_here}
 
 -- what is kept where an area begins
 pub filled_start : (sign : SignData) (items : List Meaning) (state : State) → IsStateOf sign (laid_items Words sign items items) state → present_area sign items ≡ []
@@ -63,24 +57,6 @@ module _ (sign : SignData) (items : List Meaning) (kept : Pass) (of : IsFilledOf
 module _ (sign : SignData) (octets : List ℕ) (at : ℕ) (kept : Pass) (r : ReadSoFar sign octets at (IsFilledFor sign kept)) where
   pub filled_ready_here : length octets < 2 ^ 32 → IsFilledReady kept
   filled_ready_here short = filled_ready sign (map meaning r.items) kept r.is.of (few_here sign octets at (IsFilledFor sign kept) r short)
-
-  module _ (t : Token) (here : t.at ≡ at) (stands : IsTokenOf octets t) where
-    pub filled_more : (new : Pass) → offence Words sign (map meaning r.items) (meaning (item_of octets t)) ≡ None → IsFilledOf sign (map meaning r.items ++ meaning (item_of octets t) ∷ []) new
-        → ReadSoFar sign octets (at + t.len) (IsFilledFor sign new)
-    filled_more new fine of =
-        read_more sign octets at (IsFilledFor sign kept) r t here stands (IsFilledFor sign new)
-        (subst (λ setting. offence setting sign (map meaning r.items) (meaning (item_of octets t)) ≡ None) (sym r.is.words) fine) (record { words = r.is.words; of = of })
-
--- one more octet that stands for itself
-module _ (sign : SignData) (octets : List ℕ) (at : ℕ) (kept : Pass) (r : ReadSoFar sign octets at (IsFilledFor sign kept)) (octet : ℕ) (short : length octets < 2 ^ 63) (here : slice_get octets at ≡ Some octet) (plain : IsPlain octet) where
-  abbrev token : Token
-  token = record { at = at; len = 1; kind = kinds.Char octet }
-
-  stands : IsTokenOf octets token
-  stands = single_token octets at octet short here plain
-
-  pub octet_judged : (new : Pass) → (offence Words sign (map meaning r.items) (Shows octet) ≡ None) × IsFilledOf sign (map meaning r.items ++ Shows octet ∷ []) new → ReadSoFar sign octets (at + 1) (IsFilledFor sign new)
-  octet_judged new judged = filled_more sign octets at kept r token refl stands new judged.0 judged.1
 
 -- what is told of a string where all its items are read
 pub filled_told : (sign : SignData) (octets : List ℕ) (at : ℕ) (kept : Pass) (source : Counted) → IsAt sign octets at None (IsFilledFor sign kept) source → IsTold sign octets kept.state.pages (whole_times kept.state) source

@@ -3,9 +3,12 @@ use Rattle.std.proofs.Common.{◌≡◌, ℕ, ◌+◌, ◌-◌, ◌*◌, ◌^◌
 use Rattle.std.specs.Prelude.{nat_lt}
 use Rattle.std.specs.List.{AllPass, after_last, list_any}
 use Rattle.std.specs.Option.{option_map, unwrap_or}
-use Rattle.std.proofs.lemmas.Bool.{eq-eqb, false≢true, le-leb, le-ltb}
+use Rattle.std.proofs.lemmas.Bool.{and_from, and_right, eq-eqb, false≢true, le-leb, le-ltb}
 use Rattle.std.proofs.lemmas.List.Elements.{All-head, All-nil}
+use Rattle.multi_token.specs.declared.token.Token.{Token}
+use Rattle.multi_token.specs.declared.token.Kind.TheVariants as kinds
 use Rattle.multi_token.specs.Spelling.{IsPlain}
+use Rattle.multi_token.proofs.PlaceLemmas.{single_token}
 use Rattle.sign_font.specs.Cell.{SizedCell}
 use Rattle.sign_font.specs.Sign.{SignData, cell_in}
 use Rattle.multi_layout.specs.declared.area.Area.{Area}
@@ -30,9 +33,10 @@ use Rattle.multi_layout.proofs.AreaFillLemmas.{area_filled}
 use Rattle.multi_layout.proofs.AreaSumLemmas.{group_of_own}
 use Rattle.multi_layout.proofs.FillGroupLemmas.{present_glyphs, present_line, stands_ended, stands_line, stands_sum}
 use Rattle.multi_layout.proofs.FillSplitLemmas.{line_below, split_none, split_space, split_word}
-use Rattle.multi_layout.proofs.FilledKeptLemmas.{exit_fits, laid_count}
+use Rattle.multi_layout.proofs.FilledJudgedLemmas.{filled_free}
+use Rattle.multi_layout.proofs.FilledKeptLemmas.{filled_put, laid_count}
 use Rattle.multi_layout.proofs.FilledOrderLemmas.{order_apart, order_stays}
-use Rattle.multi_layout.proofs.FilledReadLemmas.{octet_judged}
+use Rattle.multi_layout.proofs.ReadLemmas.{read_more}
 use Rattle.multi_layout.proofs.LineSumLemmas.{cond_zero, line_with, segment_own}
 use Rattle.multi_layout.proofs.RunLemmas.{kept_area_fits, kept_fits_is, line_lengthened, longer_below}
 use Rattle.multi_layout.proofs.RunReadLemmas.{cell_of_width}
@@ -177,10 +181,6 @@ module _ (kept : Pass) (run : IsFilledRun kept) (gap room : ℕ) (runs : IsRun k
         stands_ended w group s (seen here width) placing' is fits' apart area.group own longer grown true fits_so refl,
       )
 
-both_true : (a b : Bool) → a ≡ true → b ≡ true → (a && b) ≡ true
-both_true true b e f = f
-both_true false b e f = e
-
 -- one more octet of a run
 module _ (sign : SignData) (octets : List ℕ) (at : ℕ) (kept : Pass) (r : ReadSoFar sign octets at (IsFilledFor sign kept)) (octet : ℕ) (short : length octets < 2 ^ 63) (here : slice_get octets at ≡ Some octet) (plain : IsPlain octet)
     (run : IsFilledRun kept) (gap room : ℕ) (runs : IsRun kept.state gap room) (wide : ℕ) (some : 1 ≤ wide) (small : wide ≤ 64)
@@ -197,16 +197,19 @@ module _ (sign : SignData) (octets : List ℕ) (at : ℕ) (kept : Pass) (r : Rea
       let below = subst (λ n. IsBelow (1024 * n) kept.state.area) (laid_count sign items) st.below in
       let longer = lengthened_line (line.part.width + (gap + wide)) (line.part.count + 1) line in
       let area : Area = lengthened_area (line.part.width + (gap + wide)) (line.part.count + 1) kept.state.area in
-      let judged = exit_fits sign items kept of octet cell found false
+      let put = filled_put sign items kept r.is octet cell found
+      (filled_free sign items kept of octet cell found false
       (λ line s e just. sym (order_apart line s kept.order e (run.order.0 ∙ sym just) (run.order.1 ∙ ap (λ n. nat_lt n 5) (sym just))))
+      (ap (λ b. b || ((attributes.page_just == kept.state.area.present) && false)) (le-ltb attributes.page_just kept.state.area.present (omega (arith, run.behind.group))) ∙ and_right (attributes.page_just == kept.state.area.present) false refl))
       true (sym (eq-eqb attributes.page_just kept.state.area.present (sym run.behind.group)))
-      (ap (λ b. b || (true && false)) (le-ltb attributes.page_just kept.state.area.present (omega (arith, run.behind.group))))
       (seen attributes wide) refl refl is refl area (split_one attributes gap wide (octet == 32) line kept.split) None
       (λ cell found. fills_one kept run gap room runs wide some fits (octet == 32) known)
       (kept_fits attributes.rectangle.width longer) (kept_fits_height attributes.rectangle.height area)
       (λ l e. kept_fits_is l longer attributes.rectangle.width e known) (λ l placing e. kept_area_fits l area attributes.rectangle.height placing e (omega (arith, st.below.known)))
-      (both_true (kept_fits attributes.rectangle.width longer) (kept_fits_height attributes.rectangle.height area) (still_fits kept run gap room runs wide some fits (octet == 32)) run.fits.height)
       kept.order (λ line s just apart goes stays. order_stays line s kept.order (goes refl) (run.order.0 ∙ sym just) (run.order.1 ∙ ap (λ n. nat_lt n 5) (sym just)))
       (longer_below (1024 * length items) (line.part.width + (gap + wide)) (line.part.count + 1) kept.state.area below (omega (arith, below.group.line.part.width, runs.narrow, small)) (omega (arith, below.group.line.part.count)))
       (split_grows attributes gap wide runs.gap_is (1024 * length items) (octet == 32) line kept.split st.line_just.1 runs.narrow small below.group.line of.split_below) in
-      octet_judged sign octets at kept r octet short here plain (with_one gap wide (octet == 32) kept) judged
+      let fits' = and_from (kept_fits attributes.rectangle.width longer) (kept_fits_height attributes.rectangle.height area) (still_fits kept run gap room runs wide some fits (octet == 32)) run.fits.height in
+      let token : Token = record { at = at; len = 1; kind = kinds.Char octet } in
+      read_more sign octets at (IsFilledFor sign kept) r token refl (single_token octets at octet short here plain) (IsFilledFor sign (with_one gap wide (octet == 32) kept))
+      (put.size ∙ ap {B = Option ℕ} (λ b. cond b None (Some 5)) fits') (put.passed fits').of

@@ -1,14 +1,12 @@
 -- The height of a group by a running state: what code keeps of the placing items so far.
-use Rattle.std.proofs.Common.{◌≡◌, ℕ, max, Bool, true, false, cond, ◌||◌, ◌⊎◌, inl, inr, List, [], ◌∷◌, ◌++◌, Option, Some, None, refl, sym, ap, subst, ◌∙◌, arith}
-use Rattle.std.specs.List.{filter, filter_map, last_or, list_any, All, AllPass}
-use Rattle.std.specs.Option.{unwrap_or, option_map, option_map_or}
+use Rattle.std.proofs.Common.{◌≡◌, Bool, true, false, cond, ◌||◌, ◌⊎◌, inl, inr, List, [], ◌∷◌, ◌++◌, refl, sym, ap, subst, ◌∙◌}
+use Rattle.std.specs.List.{filter, list_any, All, AllPass}
 use Rattle.std.proofs.lemmas.List.{append-nil}
 use Rattle.std.proofs.lemmas.List.Elements.{filter-append, All-nil, All-head, All-tail, All-push}
 use Rattle.std.proofs.lemmas.List.Folds.{list_any-append}
-use Rattle.multi_layout.specs.Words.{largest}
-use Rattle.multi_layout.specs.Address.{Standing, Spot, Put, Glyph, Break, Cover, is_glyph, is_break}
-use Rattle.multi_layout.specs.Line.{bearers, line_height, line_spacing, line_gap, given_gap, average}
-use Rattle.multi_layout.proofs.WordLemmas.{largest_push, push_ind, All-split}
+use Rattle.multi_layout.specs.Address.{Spot, is_glyph, is_break}
+use Rattle.multi_layout.specs.Line.{bearers}
+use Rattle.multi_layout.proofs.WordLemmas.{push_ind, All-split}
 use Rattle.multi_layout.proofs.CutLemmas.{Cut, cut, cut_push}
 
 abbrev pub glyphs : List Spot → Type 0
@@ -25,13 +23,6 @@ cond_same false x y e = refl
 
 pub bearers_glyphs : (line : List Spot) → glyphs line → bearers line ≡ line
 bearers_glyphs line h = cond_same (list_any is_glyph line) (filter is_glyph line) line (filter_all line h)
-
--- one more character of a line raises its height and its spacing
-pub height_glyph : (line : List Spot) (s : Spot) → glyphs line → is_glyph s ≡ true → line_height (line ++ s ∷ []) ≡ max (line_height line) s.at.font.height
-height_glyph line s h g =
-    ap (largest (λ (t : Spot). t.at.font.height)) (bearers_glyphs (line ++ s ∷ []) (All-push (λ x. is_glyph x ≡ true) line s h g))
-    ∙ largest_push (λ t. t.at.font.height) line s
-    ∙ ap (λ l. max (largest (λ (t : Spot). t.at.font.height) l) s.at.font.height) (sym (bearers_glyphs line h))
 
 -- a `nl` ends a line: with characters it changes neither, without it gives both
 pub any_glyph : (s : Spot) (line : List Spot) → glyphs (s ∷ line) → list_any is_glyph (s ∷ line) ≡ true
@@ -69,50 +60,3 @@ open_glyphs = push_ind (λ group. All placing group → glyphs (cut is_break gro
         let parts = All-split placing group s h in
         subst glyphs (sym (ap (λ (c : Cut Spot). c.open') (cut_push is_break group s) ∙ cond_open (is_break s) (cut is_break group) s))
         (open_if (is_break s) (cut is_break group).open' s refl parts.1 (ih parts.0))
-
--- RUNNING STATE
-
--- the height of the closed lines, the gap and the spacing of the last of them, and the open line
-pub record Run : Type 0 where
-  pub closed : ℕ
-  pub last : Option (Option ℕ × ℕ)
-  pub height : ℕ
-  pub spacing : ℕ
-  pub any : Bool
-
-abbrev pub number_of : List Spot → Option ℕ
-number_of line = last_or None (filter_map given_gap line)
-
--- the gap before the open line
-abbrev pub gap_from : Option (Option ℕ × ℕ) → ℕ → ℕ
-gap_from None spacing = 0
-gap_from (Some last) spacing = unwrap_or last.0 (average last.1 spacing)
-
-gap_if : (o : Option (List Spot)) (line : List Spot) → option_map_or (λ l. line_gap l line) o 0 ≡ gap_from (option_map (λ line. (number_of line, line_spacing line)) o) (line_spacing line)
-gap_if None line = refl
-gap_if (Some l) line = refl
-
--- the open line with one more item
-abbrev pub with_item : Bool → ℕ → ℕ → Spot → ℕ
-with_item any old new s = cond (is_glyph s) (max old new) (cond any old new)
-
-not_glyph : (at : Standing) (p : Put) → is_break (record { at = at; put = p }) ≡ true → is_glyph (record { at = at; put = p }) ≡ false
-not_glyph at (Glyph cell) e = absurd (Rattle.std.proofs.lemmas.Bool.false≢true e)
-not_glyph at (Break gap) e = refl
-not_glyph at (Cover page colour) e = refl
-
-with_break : (any : Bool) (old new : ℕ) (s : Spot) → is_glyph s ≡ false → with_item any old new s ≡ cond any old new
-with_break any old new s n = ap (λ b. cond b (max old new) (cond any old new)) n
-
-line_with : (line : List Spot) (s : Spot) → glyphs line → placing s → line_height (line ++ s ∷ []) ≡ with_item (list_any is_glyph line) (line_height line) s.at.font.height s
-line_with line s h (inl g) = height_glyph line s h g ∙ sym (ap (λ b. cond b (max (line_height line) s.at.font.height) (cond (list_any is_glyph line) (line_height line) s.at.font.height)) g)
-line_with [] s h (inr b) =
-    let n = not_glyph s.at s.put b in
-    let top : max 0 s.at.font.height ≡ s.at.font.height = omega arith in
-    ap (largest (λ (t : Spot). t.at.font.height)) (bearers_empty s n) ∙ top ∙ sym (with_break false 0 s.at.font.height s n)
-line_with (t ∷ line) s h (inr b) =
-    let n = not_glyph s.at s.put b in
-    ap (largest (λ (t : Spot). t.at.font.height)) (bearers_ended t line s h n)
-    ∙ ap (largest (λ (t : Spot). t.at.font.height)) (sym (bearers_glyphs (t ∷ line) h))
-    ∙ sym (ap (λ any. cond any (line_height (t ∷ line)) s.at.font.height) (any_glyph t line h))
-    ∙ sym (with_break (list_any is_glyph (t ∷ line)) (line_height (t ∷ line)) s.at.font.height s n)

@@ -19,7 +19,7 @@ use Rattle.multi_layout.specs.declared.area.Area.{Area}
 use Rattle.multi_layout.specs.declared.attributes.Attributes.{Attributes}
 use Rattle.multi_layout.specs.declared.state.Limits.{Limits}
 use Rattle.multi_layout.specs.declared.state.State.{State}
-use Rattle.multi_layout.specs.Address.{Break, Cover, Glyph, Spot, Standing, put_at, spots, standing}
+use Rattle.multi_layout.specs.Address.{Break, Cover, Glyph, Standing, put_at, spots, standing}
 use Rattle.multi_layout.specs.Meaning.{Meaning, Shows, Does, begins_area, is_new_page}
 use Rattle.multi_layout.specs.Offence.{conflicts, never_big, offence, unsized_offence}
 use Rattle.multi_layout.specs.kept.State.{IsReady, IsStateOf, attributes_of, present_area, standing_behind}
@@ -187,9 +187,6 @@ module _ (sign : SignData) (items : List Meaning) (state : State) (st : IsStateO
       some_mapped font (cell_numbered font number) c (sym (cell_is number) ∙ some)
 
   module _ (number : ℕ) (cell : CellData) (found : cell_numbered (standing sign items).font number ≡ Some cell) where
-    glyph : Spot
-    glyph = record { at = standing sign items; put = Glyph cell }
-
     pub character-conflict : conflicts (spots sign items) (record { at = standing sign items; put = Glyph cell }) ≡ true → offence Off sign items (Shows number) ≡ Some 11
     character-conflict p = offence-character (too_big Off) sign items number cell found ∙ case_11 _ _ p
 

@@ -15,11 +15,11 @@ use Rattle.multi_layout.specs.kept.AreaDrawing.{HasCounted, HasKnown, HasRoom, I
 use Rattle.multi_layout.specs.kept.Sums.{IsPlacing, area_sum, ended_lines, group_sum}
 use Rattle.multi_layout.specs.kept.Table.{IsOrdered, group_lines, table_of}
 use Rattle.multi_layout.specs.Words.{largest}
-use Rattle.multi_layout.proofs.AreaSumLemmas.{group_behind, group_of_own, in_group_other}
-use Rattle.multi_layout.proofs.GroupSumLemmas.{own_group, placing_group}
+use Rattle.multi_layout.proofs.AreaSumLemmas.{group_behind, group_of_own}
+use Rattle.multi_layout.proofs.GroupSumLemmas.{placing_group}
 use Rattle.multi_layout.proofs.PlaceLemmas.{ended_most}
 use Rattle.multi_layout.proofs.SplitLemmas.{all_groups, each_group}
-use Rattle.multi_layout.proofs.TableLemmas.{ended_break, lines_closed, lines_open, open_entry, table_break, table_length, table_open}
+use Rattle.multi_layout.proofs.TableLemmas.{lines_closed, lines_open, open_entry, table_length, table_open}
 
 -- ONE MORE LINE
 
@@ -67,10 +67,6 @@ module _ (present just : ℕ) (area : List Spot) where
     | inl less ↦ omega (arith, ap length (known_before less))
     | inr most ↦ omega (arith, ap length (known_from most), ended_most (in_group just area))
   ]
-
-  -- an item of another group changes none
-  known_other : (s : Spot) → (s.at.page_just ≡ just → ⊥) → known_lines present just (area ++ s ∷ []) ≡ known_lines present just area
-  known_other s other = ap (λ l. cond (nat_lt just present) (lines_of l) (ended_lines l)) (in_group_other just area s other)
 
 module _ (area : List Spot) (table : LineTable) where
   -- behind the groups that have items it doesn't matter which is the present one
@@ -153,43 +149,3 @@ module _ (area : List Spot) (a : Area) (e : a ≡ area_sum area) where
         let less : f a.present < g a.present =
         omega (arith, ap length (known_from a.present a.present area (omega arith)), ap length (lines_open spots (any_is true some)), length_push (ended_lines spots) (after_last is_break spots)) in
         omega (arith, room, table_count area old a.present ordered has, less_total f g a.present low high (known_most a.present 2 area) (known_most a.present 3 area) (known_most a.present 4 area) less)
-
--- ONE MORE ITEM OF THE PRESENT GROUP
-
-module _ (present : ℕ) (area : List Spot) (s : Spot) (at : s.at.page_just ≡ present) where
-  module _ (breaks : is_break s ≡ true) (low : 2 ≤ present) (high : present ≤ 4) (old : LineTable) (has : HasKnown present area old) where
-    -- an `nl` ends the open line of its group
-    pub break_known : (after : Group) (line : CountedLine) (new : LineTable) → after ≡ group_sum (in_group present (area ++ s ∷ []))
-        → line ≡ open_entry (in_group present area) after.closed → Pushed present line old new → HasKnown present (area ++ s ∷ []) new
-    break_known after line new sum_after is pushed just least most = elim (cases_eq just present) [
-      | inl own ↦ ap (λ n. group_lines n new) own ∙ here ∙ ap (λ n. table_of (known_lines present n (area ++ s ∷ []))) (sym own)
-      | inr other ↦ pushed_other present line old new pushed just least most other ∙ has just least most ∙ ap table_of (sym (known_other present just area s (λ h. other (sym h ∙ at))))
-    ]
-      where
-        here : group_lines present new ≡ table_of (known_lines present present (area ++ s ∷ []))
-        here =
-            let g = in_group present area in
-            let own : in_group present (area ++ s ∷ []) ≡ g ++ s ∷ [] = own_group present area s at in
-            let bottom : after.closed ≡ height_of (ended_lines (g ++ s ∷ [])) = ap (λ (g : Group). g.closed) sum_after ∙ ap (λ l. height_of (ended_lines l)) own in
-            let entry : line ≡ open_entry g (height_of (ended_lines (g ++ s ∷ []))) = is ∙ ap (open_entry g) bottom in
-            pushed_own present line old new pushed low high
-            ∙ ap (λ l. l ++ line ∷ []) (has present low high ∙ ap table_of (known_from present present area (omega arith)))
-            ∙ ap (λ (e : CountedLine). table_of (ended_lines g) ++ e ∷ []) entry
-            ∙ sym (table_break g s breaks)
-            ∙ ap (λ l. table_of (ended_lines l)) (sym own)
-            ∙ ap table_of (sym (known_from present present (area ++ s ∷ []) (omega arith)))
-
-    -- before it there is room for that line
-    pub break_room : IsOrdered old → HasRoom (area ++ s ∷ []) → length old.lines.items < 128
-    break_room ordered room =
-        let f = λ (just : ℕ). length (known_lines present just area) in
-        let g = λ (just : ℕ). length (lines_of (in_group just (area ++ s ∷ []))) in
-        let spots = in_group present area in
-        let more : length (lines_of (in_group present (area ++ s ∷ []))) ≡ length (lines_of (spots ++ s ∷ [])) = ap (λ l. length (lines_of l)) (own_group present area s at) in
-        let ended = ap length (ended_break spots s breaks) ∙ length_push (ended_lines spots) (after_last is_break spots ++ s ∷ []) in
-        let less : f present < g present = omega (arith, ap length (known_from present present area (omega arith)), more, ended, ended_most (spots ++ s ∷ [])) in
-        let each : (just : ℕ) → f just ≤ g just = λ just. elim (cases_eq just present) [
-          | inl own ↦ subst (λ n. f n ≤ g n) (sym own) (omega (arith, less))
-          | inr other ↦ omega (arith, known_most present just area, ap (λ l. length (lines_of l)) (in_group_other just area s (λ h. other (sym h ∙ at))))
-        ] in
-        omega (arith, room, table_count area old present ordered has, less_total f g present low high (each 2) (each 3) (each 4) less)

@@ -1,5 +1,6 @@
--- The known lines of the present area at one more item of an accepted string: an item that ends no line, and one that ends one.
-use Rattle.std.proofs.Common.{◌≡◌, ℕ, ◌<◌, ◌≤◌, true, false, cond, length, List, [], ◌∷◌, ◌++◌, Option, Some, None, refl, sym, ap, subst, ◌∙◌, arith}
+-- The lines of the present area at one more item of an accepted string: an item that ends none, and one that ends one.
+use Rattle.std.proofs.Common.{◌≡◌, ℕ, ◌≤◌, true, false, List, [], ◌∷◌, ◌++◌, Option, Some, None, refl, sym, ap, ◌∙◌, arith, append-nil}
+use Rattle.std.specs.List.{after_last}
 use Rattle.std.specs.Option.{option_map, unwrap_or}
 use Rattle.std.proofs.lemmas.Bool.{false≢true}
 use Rattle.multi_tag.specs.declared.tag.Tag.{Tag}
@@ -7,28 +8,30 @@ use Rattle.multi_tag.specs.declared.tag.Tag.TheVariants.{NewPage, NewLine, Back,
 use Rattle.sign_font.specs.Sign.{SignData, CellData, cell_numbered}
 use Rattle.multi_layout.specs.declared.area.Area.{Area}
 use Rattle.multi_layout.specs.declared.attributes.Attributes.{Attributes}
+use Rattle.multi_layout.specs.declared.line.Line.{Line}
 use Rattle.multi_layout.specs.declared.state.State.{State}
-use Rattle.multi_layout.specs.declared.table.CountedLine.{CountedLine}
-use Rattle.multi_layout.specs.declared.table.LineTable.{LineTable}
-use Rattle.multi_layout.specs.Address.{Spot, Glyph, Break, Cover, in_group, spots, standing}
+use Rattle.multi_layout.specs.Address.{Spot, Glyph, Break, Cover, in_group, is_break, spots, standing}
+use Rattle.multi_layout.specs.kept.FillSums.{EndsLine}
 use Rattle.multi_layout.specs.Meaning.{begins_area, Does, has_place, Meaning, Shows}
-use Rattle.multi_layout.specs.kept.AreaDrawing.{HasKnown, HasRoom, ends_line, next_group}
+use Rattle.multi_layout.specs.kept.AreaDrawing.{ends_line}
 use Rattle.multi_layout.specs.Offence.{conflicts, never_big, unsized_offence}
 use Rattle.multi_layout.specs.kept.State.{IsStateOf, present_area}
-use Rattle.multi_layout.specs.kept.Sums.{area_sum, ended_lines}
-use Rattle.multi_layout.specs.kept.Table.{IsOrdered, group_lines}
+use Rattle.multi_layout.specs.kept.Sums.{area_sum, ended_lines, line_sum}
 use Rattle.multi_layout.specs.Words.{largest}
-use Rattle.multi_layout.proofs.AreaSumLemmas.{group_of_own, in_group_other, no_back, present_behind}
+use Rattle.multi_layout.proofs.AreaSumLemmas.{in_group_other, no_back, present_behind}
 use Rattle.multi_layout.proofs.GroupSumLemmas.{own_group}
-use Rattle.multi_layout.proofs.KnownLinesLemmas.{Pushed, behind_empty, break_known, break_room}
 use Rattle.multi_layout.proofs.OffenceLemmas.{offence-break, offence-character, offence-undefined}
 use Rattle.multi_layout.proofs.PlacingLemmas.{no_conflict}
 use Rattle.multi_layout.proofs.StateLemmas.{present_area-placing, present_area-nothing, present_area-cover}
-use Rattle.multi_layout.proofs.TableLemmas.{ended_glyph, open_entry}
+use Rattle.multi_layout.proofs.TableLemmas.{ended_break, ended_glyph}
 
 line_end : (x : Meaning) → ends_line x ≡ true → (gap : Option ℕ) × (x ≡ Does (NewLine gap))
 line_end (Does (NewLine gap)) e = (gap, refl)
 line_end x e = absurd (false≢true e)
+
+pub ends_placed : (x : Meaning) → ends_line x ≡ true → has_place x ≡ true
+ends_placed (Does (NewLine gap)) e = refl
+ends_placed x e = absurd (false≢true e)
 
 -- each tag but `nl` ends none
 pub ends_not : (tag : Tag) → ((gap : Option ℕ) → tag ≡ NewLine gap → ⊥) → ends_line (Does tag) ≡ false
@@ -61,99 +64,57 @@ module _ (sign : SignData) (items : List Meaning) (state : State) (st : IsStateO
       (no_conflict (conflicts (spots sign items) spot) false (sym (offence-break never_big sign items gap) ∙ fine))
   order x fine p = absurd (false≢true p)
 
-  -- an item without a place leaves the area, and its lines
-  known_stays : (x : Meaning) (after : State) → IsStateOf sign (items ++ x ∷ []) after → has_place x ≡ false → present_area sign (items ++ x ∷ []) ≡ present_area sign items
-      → (table : LineTable) → HasKnown (next_group state x) (present_area sign items) table → HasKnown after.area.present (present_area sign (items ++ x ∷ [])) table
-  known_stays x after st' none same table has =
-      let stays : next_group state x ≡ after.area.present =
-      ap (λ b. cond b state.attributes.page_just state.area.present) none ∙ ap (λ (a : Area). a.present) (st.area ∙ sym (st'.area ∙ ap area_sum same)) in
-      subst (λ n. HasKnown n (present_area sign (items ++ x ∷ [])) table) stays (subst (λ a. HasKnown (next_group state x) a table) (sym same) has)
-
-  -- a character joins the group in force, and ends no line
-  abbrev GlyphJoins : ℕ → State → Type 0
-  GlyphJoins number after =
+  -- one more placing item joins the group in force, which is then the present one, and the others stay
+  joins : (x : Meaning) (spot : Spot) → present_area sign (items ++ x ∷ []) ≡ present_area sign items ++ spot ∷ [] → spot.at.page_just ≡ state.attributes.page_just → state.area.present ≤ state.attributes.page_just
+      → (after : State) → IsStateOf sign (items ++ x ∷ []) after →
       let page = state.attributes.page_just in
       let old = present_area sign items in
-      let new = present_area sign (items ++ Shows number ∷ []) in
-      (after.area.present ≡ page) × (state.area.present ≤ page) × ((just : ℕ) → (just ≡ page → ⊥) → in_group just new ≡ in_group just old) × (ended_lines (in_group page new) ≡ ended_lines (in_group page old))
+      let new = present_area sign (items ++ x ∷ []) in
+      (after.area.present ≡ page) × ((just : ℕ) → (just ≡ page → ⊥) → in_group just new ≡ in_group just old) × (in_group page new ≡ in_group page old ++ spot ∷ [])
+  joins x spot grown at on after st' =
+      let area = present_area sign items in (
+        present_behind area spot state.area after.area st.area (st'.area ∙ ap area_sum grown) (omega (arith, at, on)) ∙ at,
+        λ just other. ap (in_group just) grown ∙ in_group_other just area spot (λ h. other (sym h ∙ at)),
+        ap (in_group state.attributes.page_just) grown ∙ own_group state.attributes.page_just area spot at,
+      )
 
+  -- so does this, and ends this line, or none
+  abbrev Joins : Meaning → State → Option Line → Type 0
+  Joins x after ended =
+      let page = state.attributes.page_just in
+      let old = present_area sign items in
+      let new = present_area sign (items ++ x ∷ []) in
+      (after.area.present ≡ page) × (state.area.present ≤ page) × ((just : ℕ) → (just ≡ page → ⊥) → in_group just new ≡ in_group just old) × EndsLine (in_group page old) (in_group page new) ended
+
+  -- a character ends none
   joins_by : (number : ℕ) (o : Option CellData) → cell_numbered (standing sign items).font number ≡ o → unsized_offence sign items (Shows number) ≡ None → (after : State) → IsStateOf sign (items ++ Shows number ∷ []) after
-      → GlyphJoins number after
+      → Joins (Shows number) after None
   joins_by number None found fine after st' = absurd (none≢some 7 (sym (offence-undefined never_big sign items number found) ∙ fine))
   joins_by number (Some cell) found fine after st' =
       let spot : Spot = record { at = standing sign items; put = Glyph cell } in
-      let area = present_area sign items in
-      let page = state.attributes.page_just in
       let on = order_glyph number (Some cell) found fine in
-      let grown : present_area sign (items ++ Shows number ∷ []) ≡ area ++ spot ∷ [] = present_area-placing sign items (Shows number) (Glyph cell) refl (ap (option_map Glyph) found) refl in (
-        present_behind area spot state.area after.area st.area (st'.area ∙ ap area_sum grown) (omega (arith, page_is, on)) ∙ page_is,
-        on,
-        λ just other. ap (in_group just) grown ∙ in_group_other just area spot (λ h. other (sym h ∙ page_is)),
-        ap (λ a. ended_lines (in_group page a)) grown ∙ ap ended_lines (own_group page area spot page_is) ∙ ended_glyph (in_group page area) spot refl,
-      )
+      let (present, others, own) = joins (Shows number) spot (present_area-placing sign items (Shows number) (Glyph cell) refl (ap (option_map Glyph) found) refl) page_is on after st' in
+      (present, on, others, ap ended_lines own ∙ ended_glyph (in_group state.attributes.page_just (present_area sign items)) spot refl)
 
-  pub glyph_joins : (number : ℕ) → unsized_offence sign items (Shows number) ≡ None → (after : State) → IsStateOf sign (items ++ Shows number ∷ []) after → GlyphJoins number after
+  pub glyph_joins : (number : ℕ) → unsized_offence sign items (Shows number) ≡ None → (after : State) → IsStateOf sign (items ++ Shows number ∷ []) after → Joins (Shows number) after None
   glyph_joins number = joins_by number (cell_numbered (standing sign items).font number) refl
 
-  -- a tag that begins no area and ends no line
-  pub known_same : (tag : Tag) (after : State) → IsStateOf sign (items ++ Does tag ∷ []) after → begins_area (Does tag) ≡ false → ends_line (Does tag) ≡ false
-      → (table : LineTable) → HasKnown (next_group state (Does tag)) (present_area sign items) table → HasKnown after.area.present (present_area sign (items ++ Does tag ∷ [])) table
-  known_same NewPage after st' stays open' table has = absurd (false≢true (sym stays))
-  known_same (NewLine gap) after st' stays open' table has = absurd (false≢true (sym open'))
-  known_same (Rect x y w h) after st' stays open' table has = absurd (false≢true (sym stays))
-  known_same (Back colour) after st' stays open' table has =
-      known_stays (Does (Back colour)) after st' refl
-      (present_area-cover sign items (Does (Back colour)) (Cover (standing sign items).page (unwrap_or colour sign.defaults.back)) refl refl refl) table has
-  known_same tag after st' stays open' table has = known_stays (Does tag) after st' refl (present_area-nothing sign items (Does tag) refl refl) table has
+  -- an `nl` ends the open line
+  pub break_joins : (x : Meaning) → ends_line x ≡ true → unsized_offence sign items x ≡ None → (after : State) → IsStateOf sign (items ++ x ∷ []) after
+      → (line : Line) → line ≡ line_sum (after_last is_break (in_group state.attributes.page_just (present_area sign items))) → Joins x after (Some line)
+  break_joins x ends fine after st' line is =
+      let (gap, same) = line_end x ends in
+      let spot : Spot = record { at = standing sign items; put = Break gap } in
+      let group = in_group state.attributes.page_just (present_area sign items) in
+      let on = order x fine (ends_placed x ends) in
+      let grown = ap (λ x. present_area sign (items ++ x ∷ [])) same ∙ present_area-placing sign items (Does (NewLine gap)) (Break gap) refl refl refl in
+      let (present, others, own) = joins x spot grown page_is on after st' in
+      (present, on, others, (after_last is_break group, spot, is, ([], sym (append-nil (after_last is_break group))), refl, ap ended_lines own ∙ ended_break group spot refl))
 
-  -- an item that ends a line of the group in force
-  module _ (x : Meaning) (ends : ends_line x ≡ true) (fine : unsized_offence sign items x ≡ None) where
-    places_end : has_place x ≡ true
-    places_end = let (gap, same) = line_end x ends in ap has_place same
-
-    -- the group in force is the next
-    pub next_is : next_group state x ≡ state.attributes.page_just
-    next_is = ap (λ b. cond b state.attributes.page_just state.area.present) places_end
-
-    pub in_order : state.area.present ≤ state.attributes.page_just
-    in_order = order x fine places_end
-
-    -- the groups behind have no line
-    pub none_behind : (table : LineTable) → HasKnown (next_group state x) (present_area sign items) table → (just : ℕ) → state.attributes.page_just < just → just ≤ 4 → group_lines just table ≡ []
-    none_behind table has =
-        behind_empty (present_area sign items) table state.attributes.page_just (omega (arith, present_is, in_order)) st.page_just.0 (subst (λ n. HasKnown n (present_area sign items) table) next_is has)
-
-    -- there is room for the line
-    pub room_for : (table : LineTable) → HasKnown (next_group state x) (present_area sign items) table → IsOrdered table → HasRoom (present_area sign (items ++ x ∷ [])) → length table.lines.items < 128
-    room_for table has ordered room =
-        let (gap, same) = line_end x ends in
-        let spot : Spot = record { at = standing sign items; put = Break gap } in
-        let grown : present_area sign (items ++ x ∷ []) ≡ present_area sign items ++ spot ∷ [] =
-        ap (λ x. present_area sign (items ++ x ∷ [])) same ∙ present_area-placing sign items (Does (NewLine gap)) (Break gap) refl refl refl in
-        break_room state.attributes.page_just (present_area sign items) spot page_is refl st.page_just.0 st.page_just.1 table (subst (λ n. HasKnown n (present_area sign items) table) next_is has) ordered
-        (subst HasRoom grown room)
-
-    module _ (after : State) (st' : IsStateOf sign (items ++ x ∷ []) after) where
-      -- the group in force is the present one then
-      pub present_then : after.area.present ≡ state.attributes.page_just
-      present_then =
-          let (gap, same) = line_end x ends in
-          let spot : Spot = record { at = standing sign items; put = Break gap } in
-          let grown : present_area sign (items ++ x ∷ []) ≡ present_area sign items ++ spot ∷ [] =
-          ap (λ x. present_area sign (items ++ x ∷ [])) same ∙ present_area-placing sign items (Does (NewLine gap)) (Break gap) refl refl refl in
-          present_behind (present_area sign items) spot state.area after.area st.area (st'.area ∙ ap area_sum grown) (omega (arith, page_is, in_order)) ∙ page_is
-
-      -- and the line is known
-      pub known_ended : (line : CountedLine) (old new : LineTable) → line ≡ open_entry (in_group state.attributes.page_just (present_area sign items)) after.area.group.closed → Pushed after.area.present line old new
-          → HasKnown (next_group state x) (present_area sign items) old → HasKnown after.area.present (present_area sign (items ++ x ∷ [])) new
-      known_ended line old new is pushed has =
-          let (gap, same) = line_end x ends in
-          let spot : Spot = record { at = standing sign items; put = Break gap } in
-          let area = present_area sign items in
-          let page = state.attributes.page_just in
-          let grown : present_area sign (items ++ x ∷ []) ≡ area ++ spot ∷ [] =
-          ap (λ x. present_area sign (items ++ x ∷ [])) same ∙ present_area-placing sign items (Does (NewLine gap)) (Break gap) refl refl refl in
-          let group = group_of_own (area ++ spot ∷ []) after.area (st'.area ∙ ap area_sum grown) page (sym present_then) in
-          subst (λ n. HasKnown n (present_area sign (items ++ x ∷ [])) new) (sym present_then)
-          (subst (λ a. HasKnown page a new) (sym grown)
-          (break_known page area spot page_is refl st.page_just.0 st.page_just.1 old (subst (λ n. HasKnown n area old) next_is has) after.area.group line new group is (subst (λ n. Pushed n line old new) present_then pushed)))
+  -- a tag that begins no area and ends no line leaves the area
+  pub area_stays : (tag : Tag) → begins_area (Does tag) ≡ false → ends_line (Does tag) ≡ false → (has_place (Does tag) ≡ false) × (present_area sign (items ++ Does tag ∷ []) ≡ present_area sign items)
+  area_stays NewPage stays open' = absurd (false≢true (sym stays))
+  area_stays (NewLine gap) stays open' = absurd (false≢true (sym open'))
+  area_stays (Rect x y w h) stays open' = absurd (false≢true (sym stays))
+  area_stays (Back colour) stays open' = (refl, present_area-cover sign items (Does (Back colour)) (Cover (standing sign items).page (unwrap_or colour sign.defaults.back)) refl refl refl)
+  area_stays tag stays open' = (refl, present_area-nothing sign items (Does tag) refl refl)

@@ -1,7 +1,7 @@
 -- What the present segment and the present group may have: the limits that are kept, and what fits them.
 use Rattle.std.proofs.Common.{◌≡◌, ℕ, ◌≤◌, Bool, true, false, ◌&&◌, not, inl, inr, [], ◌∷◌, ◌++◌, List, Option, refl, sym, ap, subst, ◌∙◌, arith}
 use Rattle.std.specs.Prelude.{nat_le}
-use Rattle.std.proofs.lemmas.Bool.{cases_Bool, false≢true, le-leb}
+use Rattle.std.proofs.lemmas.Bool.{and_parts, cases_Bool, false≢true, le-leb}
 use Rattle.std.proofs.lemmas.Bool.Decides.{nat_tests}
 use Rattle.sign_font.specs.declared.parts.LineFill.TheVariants.{Off}
 use Rattle.multi_layout.specs.declared.area.Area.{Area}
@@ -26,10 +26,6 @@ use Rattle.multi_layout.proofs.PlaceLemmas.{each_just}
 use Rattle.multi_layout.proofs.RunLemmas.{kept_area_fits, kept_fits_is}
 
 -- ---- what fits them
-
-and_left : (a b : Bool) → (a && b) ≡ true → a ≡ true
-and_left true b h = refl
-and_left false b h = absurd cc
 
 and_true : (a b : Bool) → b ≡ true → (a && b) ≡ a
 and_true true b h = h
@@ -56,13 +52,13 @@ module _ (line : List Spot) (l : Line) (e : l ≡ line_sum line) (width pixels c
       (λ is before.
       let right = (later_none 3 is).1 (omega arith) in
       let earlier = rw (is, right) at before in
-      rw (is, right) (and_true (fit l.left pixels 0 width) (nat_le 0 width) full ∙ room_middle l.left pixels width (and_left (fit l.left 0 0 width) (nat_le 0 width) earlier)))
+      rw (is, right) (and_true (fit l.left pixels 0 width) (nat_le 0 width) full ∙ room_middle l.left pixels width (and_parts (fit l.left 0 0 width) (nat_le 0 width) earlier).0))
       (λ is before.
       let earlier = rw is at before in
-      rw is (and_true (fit l.left l.centre pixels width) (nat_le 0 width) full ∙ room_end l.left l.centre pixels width (and_left (fit l.left l.centre 0 width) (nat_le 0 width) earlier)))
+      rw is (and_true (fit l.left l.centre pixels width) (nat_le 0 width) full ∙ room_end l.left l.centre pixels width (and_parts (fit l.left l.centre 0 width) (nat_le 0 width) earlier).0))
       (λ is before.
       let earlier = rw is at before in
-      rw is (and_with (fit l.left l.centre l.right width) (nat_le pixels width) (and_left (fit l.left l.centre l.right width) (nat_le 0 width) earlier)))
+      rw is (and_with (fit l.left l.centre l.right width) (nat_le pixels width) (and_parts (fit l.left l.centre l.right width) (nat_le 0 width) earlier).0))
       just low' high' is'
 
   pub segment_room_fits : 2 ≤ l.present → l.present ≤ 5 → FitsBefore width l → kept_fits width (lengthened_line pixels count l) ≡ nat_le pixels (segment_room l width)

@@ -3,7 +3,7 @@ use Rattle.std.proofs.Common.{◌≡◌, ℕ, ◌+◌, ◌<◌, ◌≤◌, max, 
 use Rattle.std.specs.Prelude.{nat_lt}
 use Rattle.std.specs.List.{filter, last_or, list_any, AllPass}
 use Rattle.std.specs.Option.{unwrap_or, option_map, option_map_or}
-use Rattle.std.proofs.lemmas.Bool.{false≢true, and_right, cases_lt, eq-eqb, le-ltb, lt-ltb, ne_eqb}
+use Rattle.std.proofs.lemmas.Bool.{and_right, cases_lt, eq-eqb, false≢true, le-ltb, lt-ltb, ne_eqb, or_parts}
 use Rattle.std.proofs.lemmas.List.{append-nil}
 use Rattle.std.proofs.lemmas.List.Elements.{All-weaker, filter-append}
 use Rattle.std.proofs.lemmas.List.Folds.{list_any-append}
@@ -206,15 +206,11 @@ line_clashes line s =
 pub in_order : (line : List Spot) (s : Spot) (l : Line) → l ≡ line_sum line → list_any (clashes s) line ≡ false → l.present ≤ s.at.line_just
 in_order line s l e none =
     let present : l.present ≡ largest (λ (t : Spot). t.at.line_just) line = ap (λ (l : Line). l.present) e in
-    let test : nat_lt s.at.line_just (largest (λ (t : Spot). t.at.line_just) line) ≡ false = or_left _ _ (sym (line_clashes line s) ∙ none) in
+    let test : nat_lt s.at.line_just (largest (λ (t : Spot). t.at.line_just) line) ≡ false = (or_parts _ _ (sym (line_clashes line s) ∙ none)).0 in
     elim (cases_lt s.at.line_just l.present) [
       | inl back ↦ absurd (false≢true (sym test ∙ lt-ltb s.at.line_just (largest (λ (t : Spot). t.at.line_just) line) (omega (arith, present))))
       | inr on ↦ on
     ]
-  where
-    or_left : (a b : Bool) → (a || b) ≡ false → a ≡ false
-    or_left true b h = absurd (false≢true (sym h))
-    or_left false b h = refl
 
 -- the width of a segment, by what is kept of the line
 module _ (line : List Spot) (l : Line) (e : l ≡ line_sum line) where

@@ -1,5 +1,6 @@
 -- What is shown at a time of the cycle, from page to page.
 use Rattle.std.proofs.Common.{◌≡◌, ℕ, ◌+◌, ◌-◌, ◌%◌, ◌^◌, ◌<◌, ◌≤◌, true, false, cond, ◌==◌, List, [], ◌∷◌, ◌++◌, length, map, Option, Some, None, refl, sym, ap, subst, ◌∙◌, inl, inr, eq-eqb, arith, append_assoc, append-nil}
+use Rattle.multi_layout.proofs.PageDrawLemmas.{new_page_is}
 use Rattle.std.proofs.lemmas.Bool.{cases_Bool, cases_lt, ne_eqb, or_left, or_right}
 use Rattle.std.proofs.lemmas.List.{map-append}
 use Rattle.std.proofs.lemmas.List.Sums.{sum_by-append}
@@ -21,7 +22,7 @@ use Rattle.multi_layout.specs.Meaning.{BeginsPage, Meaning, Does, is_new_page, m
 use Rattle.multi_layout.specs.kept.State.{attributes_of}
 use Rattle.multi_layout.specs.Times.{Times, cycle, ended_times, page_times, shown, shown_within, times_at}
 use Rattle.multi_layout.specs.Verdict.{Accepted, IsCycle, IsVerdict, pages_of}
-use Rattle.multi_layout.specs.kept.Cursors.{IsFirst, IsPageSkipped, IsPassing, IsTextPassed}
+use Rattle.multi_layout.specs.kept.Cursors.{IsFirst, IsPageSkipped, IsPassing, IsPassingBefore, IsPlaced, IsTextPassed, PassesOn}
 use Rattle.multi_layout.proofs.AcceptedLemmas.{accepted_is, cycle_is}
 use Rattle.multi_layout.proofs.JudgedLemmas.{cycle-grows, ended_times-push, pages_of-push}
 use Rattle.multi_layout.proofs.SkipLemmas.{same_unplaced}
@@ -67,14 +68,19 @@ same_ended sign earlier = push_ind (λ more. pages_of (earlier ++ more) ≡ page
               ∙ append-nil (ended_times sign (earlier ++ more)) ∙ ih (omega (arith, same, ap pages_of is, count, least more))
         ]
 
+-- a cursor has passed the same items in the same octets too
+pub passing_in : {sign : SignData} {octets octets' : List ℕ} {before behind : List Item} {cursor : Cursor} → octets' ≡ octets → IsPassing sign octets before behind cursor → IsPassing sign octets' before behind cursor
+passing_in {sign} {octets} {octets'} {before} {behind} {cursor} same p = subst (λ o. IsPassing sign o before behind cursor) (sym same) p
+
+-- and a page
+pub skipped_in : {sign : SignData} {octets octets' : List ℕ} {before behind : List Item} {start new : Cursor} → octets' ≡ octets → IsPassing sign octets before behind start
+    → ((before behind : List Item) → IsPassing sign octets' before behind start → IsPageSkipped sign octets' before behind start new) → IsPageSkipped sign octets before behind start new
+skipped_in {sign} {octets} {octets'} {before} {behind} {start} {new} same p skips = subst (λ o. IsPageSkipped sign o before behind start new) same (skips before behind (passing_in same p))
+
 -- the cursor has passed some of the items behind the old one, and is in the same page
 pub record IsInPage (sign : SignData) (octets : List ℕ) (before behind : List Item) (old new : Cursor) : Type 0 where
   pub passed : IsTextPassed sign octets before behind new
   pub same : new.state.pages ≡ old.state.pages
-
-new_page_is : (x : Meaning) → is_new_page x ≡ true → x ≡ Does NewPage
-new_page_is (Does NewPage) is = refl
-new_page_is _ is = absurd cc
 
 module _ {sign : SignData} {octets : List ℕ} {before behind : List Item} {old : Cursor} (p : IsPassing sign octets before behind old) where
   -- at first
@@ -123,10 +129,27 @@ module _ {sign : SignData} {octets : List ℕ} {before behind : List Item} {old 
           ends = inl (none, refl, s.same);
         }
 
+    -- the item is read that stands behind the cursor, or there is none
+    pub placed_here : {octets' : List ℕ} → octets' ≡ octets → IsPlaced sign octets' items s.passed.rest cursor.at
+    placed_here same = subst (λ o. IsPlaced sign o items s.passed.rest cursor.at) (sym same) s.passed.between.placed
+
+    pub first_here : {octets' : List ℕ} → octets' ≡ octets → (next : Option NextItem) → ((sign : SignData) (before behind : List Item) → IsPlaced sign octets' before behind cursor.at → IsFirst behind next) → IsFirst s.passed.rest next
+    first_here same next first = first sign items s.passed.rest (placed_here same)
+
     -- an item stands behind the cursor, of which this was read
     module _ {next : NextItem} (first : IsFirst s.passed.rest (Some next)) where
       pub stands : IsPassing sign octets items (first.0 ∷ first.1) cursor
       stands = subst (λ (l : List Item). IsPassing sign octets items l cursor) first.2 s.passed.between
+
+      there : {octets' : List ℕ} → octets' ≡ octets → IsPassing sign octets' items (first.0 ∷ first.1) cursor
+      there same = passing_in same stands
+
+      pub stands_there : {octets' : List ℕ} → octets' ≡ octets → IsPassingBefore sign octets' next cursor
+      stands_there same = (items, first.1, first.0, there same, first.3)
+
+      -- and behind it the cursor in the same octets
+      pub passes_here : {octets' : List ℕ} → octets' ≡ octets → {new : Cursor} → PassesOn sign octets' next cursor new → IsPassing sign octets (items ++ first.0 ∷ []) first.1 new
+      passes_here same {new} passes = subst (λ o. IsPassing sign o (items ++ first.0 ∷ []) first.1 new) same (passes items first.1 first.0 (there same) first.3)
 
       -- it has an octet
       pub some : 1 ≤ next.len

@@ -2,7 +2,7 @@
 use Rattle.std.proofs.Common.{◌≡◌, ℕ, ◌+◌, ◌≤◌, Bool, true, false, cond, not, ◌&&◌, ◌||◌, ◌==◌, length, List, [], ◌∷◌, ◌++◌, refl, sym, ap, subst, ◌∙◌, arith, inl, inr, append_assoc, append-nil, length-append}
 use Rattle.std.specs.Prelude.{nat_le}
 use Rattle.std.specs.List.{All, after_last, sum_by}
-use Rattle.std.proofs.lemmas.Bool.{cases_Bool, cases_eq, false≢true, le-leb, ne_eqb}
+use Rattle.std.proofs.lemmas.Bool.{and_parts, cases_Bool, cases_eq, false≢true, ne_eqb}
 use Rattle.std.proofs.lemmas.Bool.Decides.{nat_tests}
 use Rattle.std.proofs.lemmas.List.Elements.{All-cons, All-drop, All-filter, All-head, All-nil, All-tail, filter-append}
 use Rattle.sign_font.specs.Sign.{SignData}
@@ -17,7 +17,7 @@ use Rattle.multi_layout.specs.kept.State.{present_area}
 use Rattle.multi_layout.specs.kept.Table.{IsNarrow, IsNarrowArea}
 use Rattle.multi_layout.specs.kept.Cursors.{IsFine}
 use Rattle.multi_layout.proofs.BehindLemmas.{after_last_push}
-use Rattle.multi_layout.proofs.FillLemmas.{segment_grows}
+use Rattle.multi_layout.proofs.FillLemmas.{nothing_fits, segment_grows}
 use Rattle.multi_layout.proofs.WordLemmas.{push_ind}
 use Rattle.multi_layout.proofs.GroupSumLemmas.{own_group}
 use Rattle.multi_layout.proofs.InForceLemmas.{area_wide, rectangle_width_within, rectangle_within}
@@ -28,11 +28,8 @@ use Rattle.multi_layout.proofs.RoomLemmas.{area_fits_always, holds_always}
 abbrev pub LinesFit : ℕ → List Spot → Type 0
 LinesFit width area = (just : ℕ) → line_fits width (after_last is_break (in_group just area)) ≡ true
 
-line_none : (width : ℕ) → line_fits width [] ≡ true
-line_none width = ap (λ b. (b && true) && b) (le-leb 0 width (omega arith))
-
 -- a character whose line doesn't fit is too big
-line_where : (a b : Bool) → (not a || b) ≡ false → a ≡ true
+pub line_where : (a b : Bool) → (not a || b) ≡ false → a ≡ true
 line_where true b e = refl
 line_where false b e = absurd (false≢true (sym e))
 
@@ -45,12 +42,12 @@ joined before area s big false g placing small =
     let broken : is_break s ≡ true = sym (ap (λ b. b || is_break s) g) ∙ placing in
     let whole : after_last is_break (in_group s.at.page_just (area ++ s ∷ [])) ≡ [] =
     ap (after_last is_break) (own_group s.at.page_just area s refl) ∙ after_last_push is_break (in_group s.at.page_just area) s ∙ ap (λ b. cond b [] (after_last is_break (in_group s.at.page_just area) ++ s ∷ [])) broken in
-    ap (line_fits s.at.rectangle.width) whole ∙ line_none s.at.rectangle.width
+    ap (line_fits s.at.rectangle.width) whole ∙ nothing_fits s.at.rectangle.width
 
 -- behind the items of an accepted string the present line of each group fits the rectangle in force
 pub lines_fit_always : (sign : SignData) (items : List Meaning) → IsFine sign items → LinesFit (standing sign items).rectangle.width (present_area sign items)
 lines_fit_always sign =
-    holds_always sign (λ r area. LinesFit r.width area) (λ r just. line_none r.width)
+    holds_always sign (λ r area. LinesFit r.width area) (λ r just. nothing_fits r.width)
     (λ before put placing small old just.
     let s : Spot = record { at = standing sign before; put = put } in
     let area = present_area sign before in
@@ -72,13 +69,9 @@ wide_segment just [] all = All-nil (λ (s : Spot). 1 ≤ glyph_width s)
 wide_segment just (s ∷ line) all =
     let rest = wide_segment just line (All-tail (λ (s : Spot). is_glyph s ≡ true → 1 ≤ glyph_width s) s line all) in
     elim (cases_Bool (is_glyph s && (s.at.line_just == just))) [
-      | inl own ↦ rw own (All-cons (λ (s : Spot). 1 ≤ glyph_width s) s (segment just line) (All-head (λ (s : Spot). is_glyph s ≡ true → 1 ≤ glyph_width s) s line all (first_true (is_glyph s) _ own)) rest)
+      | inl own ↦ rw own (All-cons (λ (s : Spot). 1 ≤ glyph_width s) s (segment just line) (All-head (λ (s : Spot). is_glyph s ≡ true → 1 ≤ glyph_width s) s line all (and_parts (is_glyph s) _ own).0) rest)
       | inr other ↦ rw other rest
     ]
-  where
-    first_true : (a b : Bool) → (a && b) ≡ true → a ≡ true
-    first_true true b e = refl
-    first_true false b e = absurd (false≢true e)
 
 module _ (sign : SignData) (sound : IsSound sign) (items : List Meaning) (fits : LinesFit (standing sign items).rectangle.width (present_area sign items))
     (high : area_fits (standing sign items).rectangle.height (present_area sign items) ≡ true) (across : (standing sign items).rectangle.width ≤ sign.width) (down : (standing sign items).rectangle.height ≤ sign.height) where

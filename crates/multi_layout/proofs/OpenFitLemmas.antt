@@ -1,5 +1,6 @@
 -- Where lines are filled and no item offends, the open line of each group of the present area fits.
-use Rattle.std.proofs.Common.{◌≡◌, ℕ, Bool, true, false, not, ◌||◌, inl, inr, map, List, [], ◌∷◌, ◌++◌, Option, Some, None, refl, sym, ap, subst, ◌∙◌}
+use Rattle.std.proofs.Common.{◌≡◌, ℕ, Bool, true, false, inl, inr, map, List, [], ◌∷◌, ◌++◌, Option, Some, None, refl, sym, ap, subst, ◌∙◌}
+use Rattle.multi_layout.proofs.NarrowLemmas.{line_where}
 use Rattle.std.specs.List.{after_last}
 use Rattle.std.specs.Option.{option_map, unwrap_or}
 use Rattle.std.proofs.lemmas.Bool.{cases_eq}
@@ -33,11 +34,6 @@ not_big : (a b : Bool) → first_code ((a, 11) ∷ (b, 5) ∷ []) ≡ None → b
 not_big true b e = cc
 not_big false true e = cc
 not_big false false e = refl
-
--- and its line fits
-line_of : (a b : Bool) → (not a || b) ≡ false → a ≡ true
-line_of true b e = refl
-line_of false b e = cc
 
 module _ (sign : SignData) where
   abbrev pub OpenLinesFit : List Meaning → Type 0
@@ -101,7 +97,7 @@ module _ (sign : SignData) where
       let s : Spot = record { at = standing sign items; put = Glyph cell } in
       let big = not_big (conflicts (spots sign items) s) (too_big Words (spots sign items) s) fine in
       let own = own_group s.at.page_just (present_area sign items) s refl in
-      let fits = line_of (line_fits s.at.rectangle.width (after_last is_break (filled (Some s.at.rectangle.width) (in_group s.at.page_just (present_area sign items ++ s ∷ []))))) _ big in
+      let fits = line_where (line_fits s.at.rectangle.width (after_last is_break (filled (Some s.at.rectangle.width) (in_group s.at.page_just (present_area sign items ++ s ∷ []))))) _ big in
       area_grows items (Shows number) (Glyph cell) refl refl (ap (option_map Glyph) found) refl
       (ap (λ g. line_fits s.at.rectangle.width (after_last is_break (filled (Some s.at.rectangle.width) g))) (sym own) ∙ fits) h
 

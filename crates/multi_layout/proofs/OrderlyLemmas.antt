@@ -1,5 +1,6 @@
 -- The items of a string as they are laid out offend by nothing but their size, where those of the string don't.
 use Rattle.std.proofs.Common.{◌≡◌, ℕ, ◌+◌, Bool, true, false, cond, ◌&&◌, ◌||◌, nat_lt, inl, inr, List, [], ◌∷◌, ◌++◌, map, Option, Some, None, refl, sym, ap, subst, ◌∙◌, append_assoc, append-nil}
+use Rattle.std.proofs.lemmas.Bool.{or_parts}
 use Rattle.std.specs.List.{after_last, cons_option, count_by, list_any}
 use Rattle.std.specs.Option.{option_map}
 use Rattle.std.proofs.lemmas.List.{map-append}
@@ -31,10 +32,6 @@ use Rattle.multi_layout.proofs.SpotsLemmas.{spots_with}
 use Rattle.multi_layout.proofs.WalkLemmas.{last_fine}
 use Rattle.multi_layout.proofs.WordLemmas.{each_after_push, push_ind, some_after_push}
 
-either_false : (a b : Bool) → (a || b) ≡ false → (a ≡ false) × (b ≡ false)
-either_false true b e = cc
-either_false false b e = (refl, e)
-
 -- THE LINE OF A CHARACTER
 
 -- what is no character on the line of a group isn't one on its laid line, which is an end of it
@@ -53,7 +50,7 @@ module _ (setting : LineFill) (all : List Spot) (a j : ℕ) (p : Spot → Bool) 
       → list_any p (cond (is_break y) [] (ys ++ y ∷ [])) ≡ false
   joins xs ys x y true (inl same) ih e none = ap (λ z. list_any p (cond (is_break z) [] (ys ++ y ∷ []))) same ∙ ap (λ b. list_any p (cond b [] (ys ++ y ∷ []))) e
   joins xs ys x y false (inl same) ih e none =
-      let parts = either_false (list_any p xs) (p x || false) (sym (list_any-append p xs (x ∷ [])) ∙ ap (λ b. list_any p (cond b [] (xs ++ x ∷ []))) (sym e) ∙ none) in
+      let parts = or_parts (list_any p xs) (p x || false) (sym (list_any-append p xs (x ∷ [])) ∙ ap (λ b. list_any p (cond b [] (xs ++ x ∷ []))) (sym e) ∙ none) in
       ap (λ z. list_any p (cond (is_break z) [] (ys ++ z ∷ []))) same ∙ ap (λ b. list_any p (cond b [] (ys ++ x ∷ []))) e
       ∙ list_any-append p ys (x ∷ []) ∙ ap (λ b. b || (p x || false)) (ih parts.0) ∙ parts.1
   joins xs ys x y b (inr (glyph, drop)) ih e none = ap (λ z. list_any p (cond (is_break z) [] (ys ++ y ∷ []))) drop
@@ -77,7 +74,7 @@ module _ (setting : LineFill) (all : List Spot) (a j : ℕ) (p : Spot → Bool) 
 
 module _ (setting : LineFill) (all some more : List Spot) (is : all ≡ some ++ more) (s : Spot) (apart : conflicts some s ≡ false) where
   parts : (list_any (goes_back s) (area_of s some) ≡ false) × ((is_glyph s && list_any (clashes s) (line_before some s)) ≡ false)
-  parts = either_false (list_any (goes_back s) (area_of s some)) (is_glyph s && list_any (clashes s) (line_before some s)) apart
+  parts = or_parts (list_any (goes_back s) (area_of s some)) (is_glyph s && list_any (clashes s) (line_before some s)) apart
 
   -- its group doesn't go back among what is laid out
   pub goes_on : (t : Spot) → t.at ≡ s.at → list_any (goes_back t) (area_of t (laid setting all some)) ≡ false

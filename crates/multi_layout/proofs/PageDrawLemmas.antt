@@ -16,14 +16,13 @@ use Rattle.sign_font.specs.Sign.{SignData, tallest}
 use Rattle.multi_layout.specs.declared.attributes.Attributes.{Attributes}
 use Rattle.multi_layout.specs.declared.cursor.Cursor.{Cursor}
 use Rattle.multi_layout.specs.declared.paint.Layer.{Layer}
-use Rattle.multi_layout.specs.declared.read.AreaLines.{AreaLines}
 use Rattle.multi_layout.specs.Address.{Standing, spots, standing, put_at}
 use Rattle.multi_layout.specs.Drawn.{has_colour}
 use Rattle.multi_layout.specs.Drawn as drawn
 use Rattle.multi_layout.specs.Limits.{plane_octets}
-use Rattle.multi_layout.specs.Meaning.{Meaning, Shows, Does, Faulty, BeginsPage, EndsArea, EndsPage, begins_area, is_new_page}
+use Rattle.multi_layout.specs.Meaning.{Meaning, Shows, Does, Faulty, BeginsPage, EndsPage, begins_area, is_new_page}
 use Rattle.multi_layout.specs.kept.PageDrawing.{IsFilledFew, IsPagePassed}
-use Rattle.multi_layout.specs.kept.AreaDrawing.{HasCounted, IsAreaRead, IsDrawnTo, IsFilledBy, BeginsNoArea, first_steps, whole_area}
+use Rattle.multi_layout.specs.kept.AreaDrawing.{IsDrawnTo, IsFilledBy, BeginsNoArea, first_steps}
 use Rattle.multi_layout.specs.Picture.{in_plane, shown_colour}
 use Rattle.multi_layout.specs.kept.State.{present_area}
 use Rattle.multi_layout.specs.Verdict.{pages_of}
@@ -32,7 +31,6 @@ use Rattle.multi_layout.proofs.DrawLemmas.{no_page}
 use Rattle.multi_layout.proofs.DrawnLemmas.{covered_begins, covered_ends, covered_same}
 use Rattle.multi_layout.proofs.SpotsLemmas.{same_page_behind, next_page_behind}
 use Rattle.multi_layout.proofs.StateLemmas.{present_area-new}
-use Rattle.multi_layout.proofs.WalkLemmas.{spell_of-append}
 
 -- ONE PLACE
 
@@ -239,43 +237,8 @@ new_page_is (Faulty code) is = cc
 new_page_is (Does NewPage) is = refl
 new_page_is (Does _) is = cc
 
-pub first_begins : (item : LaidItem) (rest : List LaidItem) → EndsArea (map meant (item ∷ rest)) → begins_area (meant item) ≡ true
-first_begins item rest (inl none) = cc
-first_begins item rest (inr (x, more, begins, is)) = let same : x ≡ meant item = cc in ap begins_area (sym same) ∙ begins
-
 pub first_ends : (item : LaidItem) (rest : List LaidItem) → is_new_page (meant item) ≡ true → EndsPage (map meant (item ∷ rest))
 first_ends item rest is = inr (map meant rest, ap (λ m. m ∷ map meant rest) (new_page_is (meant item) is))
-
--- A ROUND
-
--- an area was read and drawn
-pub record Round (sign : SignData) (octets : List ℕ) (before behind : List LaidItem) (layer : Layer) (old new : Cursor) (plane : BitPlane) (end : ℕ) (source source' : Counted) : Type 0 where
-  pub so : PageDrawn sign octets before behind layer new plane
-  pub ends : EndsArea (map meant so.left)
-  pub at : new.at ≡ end
-  pub on : old.at ≤ end
-  pub steps : RisesBetween source source' 0 (9 * (end - old.at) + first_steps (items_of so.left))
-
-pub round : (sign : SignData) (octets : List ℕ) (before behind : List LaidItem) (layer : Layer) (cursor : Cursor) (plane : BitPlane) (s : PageSoFar sign octets before behind layer cursor plane)
-    → (read : AreaLines) (source source' : Counted) → IsAreaRead sign (before ++ s.so.done) s.so.left cursor read source source' → (new : Cursor) (plane' : BitPlane)
-    → ((earlier area rest : List LaidItem) → IsBetween sign octets earlier (area ++ rest) cursor → BeginsNoArea area → read.end ≡ cursor.at + length (spell_of area) → HasCounted (whole_area sign earlier (area ++ rest)) read.lines
-    → IsBetween sign octets (earlier ++ area) rest new)
-    → ((earlier area rest : List LaidItem) → IsBetween sign octets earlier (area ++ rest) cursor → BeginsNoArea area → read.end ≡ cursor.at + length (spell_of area) → HasCounted (whole_area sign earlier (area ++ rest)) read.lines
-    → IsDrawnTo sign layer (map meant (earlier ++ (area ++ rest))) (map meant earlier) plane → IsDrawnTo sign layer (map meant (earlier ++ (area ++ rest))) (map meant (earlier ++ area)) plane')
-    → Round sign octets before behind layer cursor new plane' read.end source source'
-round sign octets before behind layer cursor plane s read source source' a new plane' passed drawn =
-    let b : IsBetween sign octets (before ++ s.so.done) (a.area ++ a.rest) cursor = subst (λ l. IsBetween sign octets (before ++ s.so.done) l cursor) a.split s.so.between in
-    let table : HasCounted (whole_area sign (before ++ s.so.done) (a.area ++ a.rest)) read.lines = subst (λ l. HasCounted (whole_area sign (before ++ s.so.done) l) read.lines) a.split a.table in
-    let between = passed (before ++ s.so.done) a.area a.rest b a.plain a.end table in
-    let (d, done, left) = page_area sign octets before behind layer cursor plane s.so a.area a.rest a.split a.plain new plane' between (drawn (before ++ s.so.done) a.area a.rest b a.plain a.end table) in
-    let long : length (spell_of a.area) ≡ read.end - cursor.at = omega (arith, a.end) in
-    record {
-      so = d;
-      ends = subst (λ l. EndsArea (map meant l)) (sym left) a.ends;
-      at = omega (arith, between.placed.place, b.placed.place, a.end, ap length (spell_of-append (before ++ s.so.done) a.area), length-append (spell_of (before ++ s.so.done)) (spell_of a.area));
-      on = omega (arith, a.end);
-      steps = subst (λ n. RisesBetween source source' 0 (9 * n + first_steps (items_of d.left))) long (subst (λ l. RisesBetween source source' 0 (9 * length (spell_of a.area) + first_steps (items_of l))) (sym left) a.steps);
-    }
 
 -- STEPS
 
@@ -299,11 +262,11 @@ string_end a b c d e start at end left on more none w x y z =
 
 -- the steps over the string behind one more item
 pub string_more : (a b c d e f : Counted) (start at end len : ℕ) (item : LaidItem) (rest left : List LaidItem) → start ≤ at → at ≤ end → left ≡ item ∷ rest → len ≡ length (spelling item.item)
-    → RisesBetween a b 0 (18 * (at - start)) → RisesBetween b c 0 (9 * (end - at) + first_steps (items_of left)) → RisesBetween c d 0 (9 * (end - at)) → RisesBetween d e 0 (9 * len - 8) → RisesBetween e f 0 8
+    → RisesBetween a b 0 (18 * (at - start)) → RisesBetween b c 0 (9 * (end - at) + first_steps (items_of left)) → RisesBetween c d 0 (9 * (end - at)) → RisesBetween d e 0 (9 * len - 8) → RisesBetween e f 0 1
     → RisesBetween a f 0 (18 * (end + len - start))
 string_more a b c d e f start at end len item rest left on more some is v w x y z =
     let first : first_steps (items_of left) ≡ 9 * length (spelling item.item) - 8 = ap (λ l. first_steps (items_of l)) some in
-    let all = rises_then a e f 0 _ 0 8 (rises_then a d e 0 _ 0 (9 * len - 8) (rises_then a c d 0 _ 0 (9 * (end - at)) (rises_then a b c 0 (18 * (at - start)) 0 (9 * (end - at) + first_steps (items_of left)) v w) x) y) z in
+    let all = rises_then a e f 0 _ 0 1 (rises_then a d e 0 _ 0 (9 * len - 8) (rises_then a c d 0 _ 0 (9 * (end - at)) (rises_then a b c 0 (18 * (at - start)) 0 (9 * (end - at) + first_steps (items_of left)) v w) x) y) z in
     rises_more a f 0 _ (18 * (end + len - start)) (omega (arith, first, on, more, is, spelling_some item.item)) all
 
 -- the steps over the plane of the areas of a page so far, with the fill where it begins

@@ -1,33 +1,91 @@
--- A round of the loop over the areas of a page, in the octets of the source as they stand in that round.
-use Rattle.std.proofs.Common.{◌≡◌, ℕ, ◌+◌, length, map, List, ◌∷◌, ◌++◌, sym, subst}
-use Rattle.multi_token.specs.Counted.{Counted}
+-- A round of the loop over the areas of a page.
+use Rattle.std.proofs.Common.{◌≡◌, ℕ, ◌+◌, ◌-◌, ◌*◌, ◌≤◌, true, [], length, map, List, ◌∷◌, ◌++◌, Some, sym, ap, ◌∙◌, subst, arith}
+use Rattle.std.proofs.lemmas.List.{length-append}
+use Rattle.multi_token.specs.Counted.{Counted, RisesBetween}
+use Rattle.multi_token.specs.Spelling.{Item}
 use Rattle.page_plane.specs.Plane.{BitPlane}
 use Rattle.sign_font.specs.Sign.{SignData}
 use Rattle.multi_layout.specs.declared.cursor.Cursor.{Cursor}
+use Rattle.multi_layout.specs.declared.item.NextItem.{NextItem}
 use Rattle.multi_layout.specs.declared.paint.Layer.{Layer}
 use Rattle.multi_layout.specs.declared.read.AreaLines.{AreaLines}
-use Rattle.multi_layout.specs.kept.AreaDrawing.{HasCounted, IsAreaRead, IsDrawnTo, BeginsNoArea, whole_area}
-use Rattle.multi_layout.specs.kept.Cursors.{IsBetween, meant, LaidItem, spell_of}
-use Rattle.multi_layout.proofs.PageDrawLemmas.{PageSoFar, Round, round}
+use Rattle.multi_layout.specs.Meaning.{EndsArea, begins_area}
+use Rattle.multi_layout.specs.kept.AreaDrawing.{BeginsNoArea, DrawsOn, HasCounted, IsAreaRead, OverArea, first_steps, whole_area}
+use Rattle.multi_layout.specs.kept.Cursors.{IsBetween, IsFirst, IsPlaced, IsRead, LaidItem, items_of, meant, spell_of}
+use Rattle.multi_layout.specs.kept.State.{present_area}
+use Rattle.multi_layout.proofs.PageDrawLemmas.{PageDrawn, PageSoFar, page_area}
+use Rattle.multi_layout.proofs.PieceLemmas.{first_begins, first_ended}
+use Rattle.multi_layout.proofs.WalkLemmas.{same_octets, spell_of-append, stands_in}
 
--- a cursor between items stands between them in the same octets too
-pub stands_in : {sign : SignData} {octets octets' : List ℕ} {before behind : List LaidItem} {cursor : Cursor} → octets' ≡ octets → IsBetween sign octets before behind cursor → IsBetween sign octets' before behind cursor
-stands_in {sign} {octets} {octets'} {before} {behind} {cursor} same b = subst (λ o. IsBetween sign o before behind cursor) (sym same) b
+-- an area was read and drawn
+pub record Round (sign : SignData) (octets : List ℕ) (before behind : List LaidItem) (layer : Layer) (old new : Cursor) (plane : BitPlane) (end : ℕ) (source source' drawn : Counted) : Type 0 where
+  pub so : PageDrawn sign octets before behind layer new plane
+  pub ends : EndsArea (map meant so.left)
+  pub at : new.at ≡ end
+  pub on : old.at ≤ end
+  pub steps : RisesBetween source source' 0 (9 * (end - old.at) + first_steps (items_of so.left))
+  pub same : drawn.octets ≡ octets
+  pub here : IsBetween sign drawn.octets (before ++ so.done) so.left new
 
--- and before the first of the items that are left
-pub stands_before : {sign : SignData} {octets octets' : List ℕ} {before left : List LaidItem} {item : LaidItem} {rest : List LaidItem} {cursor : Cursor} → octets' ≡ octets → left ≡ item ∷ rest
-    → IsBetween sign octets before left cursor → IsBetween sign octets' before (item ∷ rest) cursor
-stands_before {sign} {octets} {octets'} {before} {left} {item} {rest} {cursor} same is b = stands_in same (subst (λ l. IsBetween sign octets before l cursor) is b)
+-- the area that begins at the cursor was read
+module _ {sign : SignData} {octets : List ℕ} {before behind : List LaidItem} {layer : Layer} {cursor : Cursor} {plane : BitPlane} (s : PageSoFar sign octets before behind layer cursor plane)
+    {source source' : Counted} (same : source.octets ≡ octets) {read : AreaLines}
+    (reads : (before behind : List LaidItem) → IsBetween sign source.octets before behind cursor → present_area sign (map meant before) ≡ [] → IsAreaRead sign before behind cursor read source source') where
+  pub area_here : IsAreaRead sign (before ++ s.so.done) s.so.left cursor read source source'
+  area_here = reads (before ++ s.so.done) s.so.left (stands_in same s.so.between) s.begins
 
--- an area that was drawn from the same octets
-pub round_in : (sign : SignData) (octets octets' : List ℕ) → octets' ≡ octets → (before behind : List LaidItem) (layer : Layer) (cursor : Cursor) (plane : BitPlane) (s : PageSoFar sign octets before behind layer cursor plane)
-    → (read : AreaLines) (source source' : Counted) → IsAreaRead sign (before ++ s.so.done) s.so.left cursor read source source' → (new : Cursor) (plane' : BitPlane)
-    → ((earlier area rest : List LaidItem) → IsBetween sign octets' earlier (area ++ rest) cursor → BeginsNoArea area → read.end ≡ cursor.at + length (spell_of area) → HasCounted (whole_area sign earlier (area ++ rest)) read.lines
-    → IsBetween sign octets' (earlier ++ area) rest new)
-    → ((earlier area rest : List LaidItem) → IsBetween sign octets' earlier (area ++ rest) cursor → BeginsNoArea area → read.end ≡ cursor.at + length (spell_of area) → HasCounted (whole_area sign earlier (area ++ rest)) read.lines
-    → IsDrawnTo sign layer (map meant (earlier ++ (area ++ rest))) (map meant earlier) plane → IsDrawnTo sign layer (map meant (earlier ++ (area ++ rest))) (map meant (earlier ++ area)) plane')
-    → Round sign octets before behind layer cursor new plane' read.end source source'
-round_in sign octets octets' same before behind layer cursor plane s read source source' a new plane' passed drawn =
-    round sign octets before behind layer cursor plane s read source source' a new plane'
-    (λ earlier area rest x plain end table. subst (λ o. IsBetween sign o (earlier ++ area) rest new) same (passed earlier area rest (stands_in same x) plain end table))
-    (λ earlier area rest x plain end table. drawn earlier area rest (stands_in same x) plain end table)
+  same' : source'.octets ≡ octets
+  same' = same_octets area_here.steps.3 ∙ same
+
+  between : IsBetween sign source'.octets (before ++ s.so.done) (area_here.area ++ area_here.rest) cursor
+  between = subst (λ l. IsBetween sign source'.octets (before ++ s.so.done) l cursor) area_here.split (stands_in same' s.so.between)
+
+  counted : HasCounted (whole_area sign (before ++ s.so.done) (area_here.area ++ area_here.rest)) read.lines
+  counted = subst (λ l. HasCounted (whole_area sign (before ++ s.so.done) l) read.lines) area_here.split area_here.table
+
+  pub area_known : (before area rest : List LaidItem) × IsBetween sign source'.octets before (area ++ rest) cursor × BeginsNoArea area × (read.end ≡ cursor.at + length (spell_of area)) × HasCounted (whole_area sign before (area ++ rest)) read.lines
+  area_known = (before ++ s.so.done, area_here.area, area_here.rest, between, area_here.plain, area_here.end, counted)
+
+  -- and drawn
+  pub round : {drawn : Counted} → RisesBetween source' drawn 0 (9 * (read.end - cursor.at)) → (new : Cursor) (plane' : BitPlane) → OverArea sign source'.octets cursor read (λ before area rest. IsBetween sign source'.octets (before ++ area) rest new)
+      → OverArea sign source'.octets cursor read (λ before area rest. DrawsOn sign layer before area rest plane plane') → Round sign octets before behind layer cursor new plane' read.end source source' drawn
+  round steps new plane' passed draws =
+      let a = area_here in
+      let done = before ++ s.so.done in
+      let then' = subst (λ o. IsBetween sign o (done ++ a.area) a.rest new) same' (passed done a.area a.rest between a.plain a.end counted) in
+      let (d, is, left) = page_area sign octets before behind layer cursor plane s.so a.area a.rest a.split a.plain new plane' then' (draws done a.area a.rest between a.plain a.end counted) in
+      let long : length (spell_of a.area) ≡ read.end - cursor.at = omega (arith, a.end) in
+      record {
+        so = d;
+        ends = subst (λ l. EndsArea (map meant l)) (sym left) a.ends;
+        at = omega (arith, then'.placed.place, between.placed.place, a.end, ap length (spell_of-append done a.area), length-append (spell_of done) (spell_of a.area));
+        on = omega (arith, a.end);
+        steps = subst (λ n. RisesBetween source source' 0 (9 * n + first_steps (items_of d.left))) long (subst (λ l. RisesBetween source source' 0 (9 * length (spell_of a.area) + first_steps (items_of l))) (sym left) a.steps);
+        same = same_octets steps.3 ∙ same';
+        here = stands_in (same_octets steps.3 ∙ same') d.between;
+      }
+
+-- this is the item behind it, which begins an area
+pub record NextArea (sign : SignData) (octets octets' : List ℕ) (done left : List LaidItem) (cursor : Cursor) (next : NextItem) : Type 0 where
+  pub item : LaidItem
+  pub rest : List LaidItem
+  pub is : left ≡ item ∷ rest
+  pub read : IsRead item next
+  pub begins : begins_area (meant item) ≡ true
+  pub same : octets' ≡ octets
+  pub here : IsBetween sign octets' done (item ∷ rest) cursor
+
+pub next_area : {sign : SignData} {octets : List ℕ} {before behind : List LaidItem} {layer : Layer} {old new : Cursor} {plane : BitPlane} {end : ℕ} {source source' drawn : Counted} (r : Round sign octets before behind layer old new plane end source source' drawn)
+    → {octets' : List ℕ} → octets' ≡ drawn.octets → (next : NextItem) → ((sign : SignData) (before behind : List Item) → IsPlaced sign drawn.octets before behind new.at → IsFirst behind (Some next)) → NextArea sign octets octets' (before ++ r.so.done) r.so.left new next
+next_area {sign} {octets} {before} {behind} {layer} {old} {new} r same next first =
+    let done = before ++ r.so.done in
+    let (item, rest, is, read) = first_ended r.here r.ends next (first sign (items_of done) (items_of r.so.left) r.here.placed) in
+    record {
+      item = item;
+      rest = rest;
+      is = is;
+      read = read;
+      begins = first_begins item rest (subst (λ l. EndsArea (map meant l)) is r.ends);
+      same = same ∙ r.same;
+      here = stands_in (same ∙ r.same) (subst (λ l. IsBetween sign octets done l new) is r.so.between);
+    }

@@ -7,7 +7,6 @@ use Rattle.std.proofs.lemmas.List.{map-append}
 use Rattle.std.proofs.lemmas.List.Elements.{All-head, All-tail}
 use Rattle.std.proofs.lemmas.List.Sums.{sum_by-append}
 use Rattle.std.proofs.lemmas.Nat.{mul-le}
-use Rattle.multi_tag.specs.declared.tag.Tag.TheVariants.{NewPage}
 use Rattle.multi_token.specs.Counted.{Counted, RisesBetween}
 use Rattle.multi_token.specs.Reading.{reading}
 use Rattle.multi_token.specs.Spelling.{Item, IsReading, spell}
@@ -21,7 +20,7 @@ use Rattle.multi_layout.specs.LaidItems.{laid_out}
 use Rattle.multi_layout.specs.declared.cursor.Cursor.{Cursor}
 use Rattle.multi_layout.specs.Drawn as drawn
 use Rattle.multi_layout.specs.Limits.{drawing_limit, plane_limit, plane_octets, reading_limit}
-use Rattle.multi_layout.specs.Meaning.{BeginsPage, Does, Meaning, is_new_page, meaning, meanings}
+use Rattle.multi_layout.specs.Meaning.{BeginsPage, Meaning, is_new_page, meaning, meanings}
 use Rattle.multi_layout.specs.Pages.{IsTurned}
 use Rattle.multi_layout.specs.declared.times.Shown.{Shown}
 use Rattle.multi_layout.specs.declared.times.Shown.TheVariants.{Page, Off}
@@ -60,11 +59,6 @@ pages_before sign octets before behind cursor p pages =
       ap pages_of (sym (map-append meaning before behind)),
       ap pages_of (same_meanings sign octets (before ++ behind) p.accepted),
     )
-
--- a new page is one tag
-new_page_is : (x : Meaning) → is_new_page x ≡ true → x ≡ Does NewPage
-new_page_is (Does NewPage) e = refl
-new_page_is _ e = absurd (cc)
 
 -- the pieces have the pages of the items
 pages_left : (sign : SignData) (octets : List ℕ) (before behind : List LaidItem) (cursor : Cursor) → IsBetween sign octets before behind cursor → cursor.state.pages + count_by is_new_page (map meant behind) ≡ pages_of (meanings octets)

@@ -1,5 +1,5 @@
 -- What is kept of the items that were read, by whether lines are filled.
-use Rattle.std.proofs.Common.{◌≡◌, ℕ, ◌*◌, ◌^◌, ◌<◌, ◌≤◌, Bool, true, false, List, [], length, Some, None, Result, Ok, Err, not, ◌==◌, refl, ap, sym, subst}
+use Rattle.std.proofs.Common.{◌≡◌, ℕ, ◌^◌, ◌<◌, Bool, true, false, List, [], ◌∷◌, ◌++◌, length, Some, None, Result, Ok, Err, not, ◌==◌, refl, ap, sym, subst, ◌∙◌}
 use Rattle.std.proofs.lemmas.Bool.{eq-eqb, ne_eqb}
 use Rattle.multi_token.specs.Counted.{Counted}
 use Rattle.sign_font.specs.declared.parts.LineFill.{LineFill}
@@ -7,9 +7,10 @@ use Rattle.sign_font.specs.declared.parts.LineFill.TheVariants.{Off, Words}
 use Rattle.sign_font.specs.Sign.{SignData, cell_in}
 use Rattle.multi_layout.specs.declared.fault.SyntaxError.{SyntaxError}
 use Rattle.multi_layout.specs.declared.pass.Pass.{Pass}
+use Rattle.multi_layout.specs.declared.state.State.{State}
 use Rattle.multi_layout.specs.Address.{spots}
 use Rattle.multi_layout.specs.Codes.{code_of}
-use Rattle.multi_layout.specs.kept.FilledState.{IsFilledJudged, IsFilledOf}
+use Rattle.multi_layout.specs.kept.FilledState.{IsFilledOf}
 use Rattle.multi_layout.specs.LaidItems.{laid_items}
 use Rattle.multi_layout.specs.Meaning.{Meaning, Shows}
 use Rattle.multi_layout.specs.Offence.{offence}
@@ -30,20 +31,18 @@ is_true n other = ap not (ne_eqb n 0 other)
 pub is_false : (n : ℕ) → n ≡ 0 → not (n == 0) ≡ false
 is_false n none = ap not (eq-eqb n 0 none)
 
--- an item that is judged where lines are filled
-pub judged_filled : (sign : SignData) (items : List Meaning) (item : Meaning) (result : Result (Unit {0}) SyntaxError) (pass : Pass) → sign.line_fill ≡ Words → IsFilledJudged sign items item result pass
-    → IsItemJudged true sign items item result pass
-judged_filled sign items item (Ok done) pass words (fine, of) =
-    (subst (λ (setting : LineFill). offence setting sign items item ≡ None) (sym words) fine, record { words = words; of = of })
-judged_filled sign items item (Err error) pass words offends = subst (λ (setting : LineFill). offence setting sign items item ≡ Some (code_of error)) (sym words) offends
-
--- and where they aren't
+-- an item that is judged where lines aren't filled
 pub judged_unfilled : (sign : SignData) (items : List Meaning) (item : Meaning) (result : Result (Unit {0}) SyntaxError) (pass : Pass) → sign.line_fill ≡ Off → some_after (offence Off sign) items ≡ [] → IsLimited pass.state
     → IsJudged sign items item result pass.state
     → IsItemJudged false sign items item result pass
 judged_unfilled sign items item (Ok done) pass off none limited (fine, st) =
     (subst (λ (setting : LineFill). offence setting sign items item ≡ None) (sym off) fine, record { off = off; fine = none_more (offence Off sign) items item none fine; state_is = st; limited = limited })
 judged_unfilled sign items item (Err error) pass off none limited offends = subst (λ (setting : LineFill). offence setting sign items item ≡ Some (code_of error)) (sym off) offends
+
+-- and the state behind one that doesn't offend
+pub state_judged : (sign : SignData) (items : List Meaning) (item : Meaning) (result : Result (Unit {0}) SyntaxError) (state : State) → IsJudged sign items item result state → offence Off sign items item ≡ None → IsStateOf sign (items ++ item ∷ []) state
+state_judged sign items item (Ok done) state (fine, st) none = st
+state_judged sign items item (Err error) state offends none = let wrong : Some (code_of error) ≡ None = sym offends ∙ none in absurd (cc)
 
 -- before the first item
 pub pass_start : (sign : SignData) (pass : Pass) (words : Bool) → sign.line_fill ≡ fill_of words → IsStateOf sign [] pass.state → IsLimited pass.state
@@ -70,11 +69,6 @@ module _ (sign : SignData) (octets : List ℕ) (at : ℕ) (pass : Pass) where
   pub pass_told : (words : Bool) (source : Counted) → IsAt sign octets at None (IsPassOf words sign pass) source → IsTold sign octets pass.state.pages (whole_times pass.state) source
   pass_told true source i = filled_told sign octets at pass source i
   pass_told false source i = unfilled_told sign octets at pass.state source i
-
--- the pages before the present one are short
-pub pass_small : (sign : SignData) (pass : Pass) (words : Bool) (items : List Meaning) → IsPassOf words sign pass items → pass.state.cycle ≤ 510 * pass.state.pages
-pass_small sign pass true items is = is.of.state_is.short
-pass_small sign pass false items is = is.state_is.short
 
 -- where lines aren't filled the limits are known
 pub limited_of : (words : Bool) → words ≡ false → (sign : SignData) (pass : Pass) (items : List Meaning) → IsPassOf words sign pass items → IsLimited pass.state

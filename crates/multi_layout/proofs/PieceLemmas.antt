@@ -212,17 +212,23 @@ itself {sign} {octets} {before} {rest} {piece} {cursor} b none =
         let wrong : true ≡ false = sym (laid_placed sign.line_fill sign _ _ (meaning piece.item) e) ∙ ap has_place (sym (laid_here sign before rest piece b.laid)) ∙ none in
         absurd cc
 
+-- what begins an area is a tag
+pub begins_tag : (item : KnownItem) → begins_area (meant_by item) ≡ true → (tag : Tag) × (item ≡ items.Tag tag)
+begins_tag (Char number) begins = cc
+begins_tag (items.Tag tag) begins = (tag, refl)
+
+-- where an area ends, the first item begins one
+pub first_begins : (piece : LaidItem) (rest : List LaidItem) → EndsArea (map meant (piece ∷ rest)) → begins_area (meant piece) ≡ true
+first_begins piece rest (inl none) = cc
+first_begins piece rest (inr (x, more, starts, is)) = let same : meant piece ≡ x = cc in ap begins_area same ∙ starts
+
 pub first_ended : {sign : SignData} {octets : List ℕ} {before behind : List LaidItem} {cursor : Cursor} → IsBetween sign octets before behind cursor → EndsArea (map meant behind)
     → (next : NextItem) → IsFirst (items_of behind) (Some next) → IsPieceFirst behind (Some next)
 first_ended {sign} {octets} {before} {behind} {cursor} b ends next first =
     let (piece, rest, is, read) = first_piece behind next first in
     let b' = subst (λ l. IsBetween sign octets before l cursor) is b in
-    let none = (itself b' (begins_unplaced (meant piece) (begins piece rest (subst (λ l. EndsArea (map meant l)) is ends)))).0 in
+    let none = (itself b' (begins_unplaced (meant piece) (first_begins piece rest (subst (λ l. EndsArea (map meant l)) is ends)))).0 in
     (piece, rest, is, read_unplaced b' (ap has_place (sym read.meant) ∙ none) read)
-  where
-    begins : (piece : LaidItem) (rest : List LaidItem) → EndsArea (map meant (piece ∷ rest)) → begins_area (meant piece) ≡ true
-    begins piece rest (inl none) = cc
-    begins piece rest (inr (x, more, starts, is)) = let same : meant piece ≡ x = cc in ap begins_area same ∙ starts
 
 -- the first item, laid out, is the first piece
 pub laid_first : {sign : SignData} {octets : List ℕ} {cursor : Cursor} (lines : LineTable) (raw next : NextItem) (before behind : List LaidItem) → IsBetween sign octets before behind cursor → HasCounted (whole_area sign before behind) lines

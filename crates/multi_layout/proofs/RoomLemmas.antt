@@ -120,11 +120,6 @@ fits_where true b e = absurd (false≢true (sym e))
 fits_where false true e = refl
 fits_where false false e = absurd (false≢true (sym e))
 
--- and if it is a character, so does its line
-line_where : (a b : Bool) → (not a || b) ≡ false → a ≡ true
-line_where true b e = refl
-line_where false b e = absurd (false≢true (sym e))
-
 -- an area fits a rectangle
 abbrev Fitting : Rectangle → List Spot → Type 0
 Fitting r area = area_fits r.height area ≡ true

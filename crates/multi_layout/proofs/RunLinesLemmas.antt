@@ -26,7 +26,7 @@ use Rattle.multi_layout.specs.kept.State.{IsReady}
 use Rattle.multi_layout.specs.kept.Run.{IsBehindCharacter, IsRunPassed, lengthened, line_in_force}
 use Rattle.multi_layout.proofs.AreaLinesLemmas.{SoFar, read_on, so_first, so_next}
 use Rattle.multi_layout.proofs.AreaReadLemmas.{next_fine, plain_passed}
-use Rattle.multi_layout.proofs.AreaStepLemmas.{shown_stays}
+use Rattle.multi_layout.proofs.AreaStepLemmas.{step_stays}
 use Rattle.multi_layout.proofs.BeforeLemmas.{unfilled_fits}
 use Rattle.multi_layout.proofs.OrderlyLemmas.{unsized_if}
 use Rattle.multi_layout.proofs.RunLemmas.{behind_stays, state_beside}
@@ -61,7 +61,7 @@ module _ {sign : SignData} (sound : IsSound sign) {octets : List ℕ} (short : l
       let new = longer kept (width + (gap + cell.width)) (count + 1) in
       let passed = plain_passed sign items (longer kept width count) new of octet fine st (record { width = of.limited.width; height = of.limited.height }) in
       let r = subst (λ p. IsReadOf false sign (items_of (before ++ so.pieces)) p (longer kept width count) lines) b.group so.read in
-      let read = shown_stays sound r it passed refl in
+      let read = step_stays sound r it passed refl in
       subst (λ s. SoFar false sign octets before behind (at + 1) (in_state kept s) lines) wide (read_on so n (at + 1) refl refl new lines read)
 
   -- a text

@@ -27,9 +27,6 @@ pub in_area-append : (k : ℕ) (xs ys : List Spot) → in_area k (xs ++ ys) ≡ 
 in_area-append k xs ys = filter-append (λ t. is_placing t && (t.at.area == k)) xs ys
 
 module _ (sign : SignData) (items : List Meaning) (x : Meaning) where
-  here : Standing
-  here = standing sign items
-
   grown : (k : ℕ) → in_area k (spots sign (items ++ x ∷ [])) ≡ in_area k (spots sign items) ++ in_area k (cons_option (spot_at sign.defaults (standing sign items) x) [])
   grown k = ap (in_area k) (spots_push sign items x) ∙ in_area-append k (spots sign items) (cons_option (spot_at sign.defaults (standing sign items) x) [])
 

@@ -1,15 +1,14 @@
 -- The line table of a group: what one more `nl` adds to it, what its last line adds, and what is looked up in it.
-use Rattle.std.proofs.Common.{◌≡◌, ℕ, ◌+◌, ◌-◌, ◌<◌, Bool, true, false, cond, ◌&&◌, ◌==◌, length, take, List, [], ◌∷◌, ◌++◌, Option, Some, None, refl, sym, ap, ◌∙◌, suc, zero, arith}
+use Rattle.std.proofs.Common.{◌≡◌, ℕ, ◌+◌, ◌-◌, ◌<◌, Bool, true, false, cond, length, take, List, [], ◌∷◌, ◌++◌, Option, Some, None, refl, sym, ap, ◌∙◌, suc, zero, arith}
 use Rattle.std.specs.Prelude.{slice_get, slice_index_or}
 use Rattle.std.specs.List.{last_or, list_any, after_last, count_by, All}
 use Rattle.std.specs.Option.{option_map_or}
 use Rattle.std.proofs.lemmas.List.{append-nil, take_more, length_push}
-use Rattle.std.proofs.lemmas.List.Elements.{filter-append}
 use Rattle.std.proofs.lemmas.List.Sums.{sum_by_push}
 use Rattle.multi_layout.specs.declared.table.CountedLine.{CountedLine}
 use Rattle.multi_layout.specs.Words.{each_after}
-use Rattle.multi_layout.specs.Address.{Spot, is_glyph, is_break, segment, lines_of}
-use Rattle.multi_layout.specs.Line.{height_of, width_of}
+use Rattle.multi_layout.specs.Address.{Spot, is_glyph, is_break, lines_of}
+use Rattle.multi_layout.specs.Line.{height_of}
 use Rattle.multi_layout.specs.kept.Sums.{ended_lines, IsPlacing}
 use Rattle.multi_layout.specs.kept.Table.{counted_line, line_entry, table_of}
 use Rattle.multi_layout.proofs.WordLemmas.{each_after_length, each_after_push, last_or_push, push_ind}
@@ -17,7 +16,7 @@ use Rattle.multi_layout.proofs.CutLemmas.{Cut, cut, cut_push, cut_behind_is}
 use Rattle.multi_layout.proofs.GroupHeightLemmas.{part_none, part_some}
 use Rattle.multi_layout.proofs.BehindLemmas.{after_last_is, ended_is, cut_if}
 use Rattle.multi_layout.proofs.HeightLemmas.{open_glyphs}
-use Rattle.multi_layout.proofs.GroupSumLemmas.{break_put, glyph_put}
+use Rattle.multi_layout.proofs.GroupSumLemmas.{glyph_put}
 
 -- ONE MORE LINE
 
@@ -88,7 +87,7 @@ closed_if : (b : Bool) (c : Cut Spot) (s : Spot) → length (cut_if is_break b c
 closed_if true c s = length_push c.closed (c.open' ++ s ∷ [])
 closed_if false c s = omega arith
 
-closed_count : (g : List Spot) → length (cut is_break g).closed ≡ count_by is_break g
+pub closed_count : (g : List Spot) → length (cut is_break g).closed ≡ count_by is_break g
 closed_count = push_ind (λ g. length (cut is_break g).closed ≡ count_by is_break g) refl step
   where
     step : (g : List Spot) (s : Spot) → length (cut is_break g).closed ≡ count_by is_break g → length (cut is_break (g ++ s ∷ [])).closed ≡ count_by is_break (g ++ s ∷ [])
@@ -107,37 +106,6 @@ ended_count g = ap length (ended_is is_break g) ∙ closed_count g
 -- the entry of the open line of a group
 abbrev pub open_entry : List Spot → ℕ → CountedLine
 open_entry g bottom = line_entry (after_last is_break g) bottom
-
-no_glyph : (just : ℕ) (s : Spot) → is_glyph s ≡ false → (is_glyph s && (s.at.line_just == just)) ≡ false
-no_glyph just s n = ap (λ b. b && (s.at.line_just == just)) n
-
--- what isn't a character adds nothing to a segment
-segment_no : (just : ℕ) (line : List Spot) (s : Spot) → is_glyph s ≡ false → segment just (line ++ s ∷ []) ≡ segment just line
-segment_no just line s n =
-    filter-append (λ t. is_glyph t && (t.at.line_just == just)) line (s ∷ [])
-    ∙ ap (λ b. segment just line ++ cond b (s ∷ []) []) (no_glyph just s n)
-    ∙ append-nil (segment just line)
-
-same_entry : {a a' b b' c c' d d' n n' m : ℕ} → a ≡ a' → b ≡ b' → c ≡ c' → d ≡ d' → n ≡ n'
-    → ◌≡◌ {A = CountedLine} (record { left = a; centre = b; right = c; full = d; characters = n; bottom = m }) (record { left = a'; centre = b'; right = c'; full = d'; characters = n'; bottom = m })
-same_entry e f g h i = rw (e, f, g, h, i) refl
-
--- an `nl` changes only the bottom of a line
-counted_break : (lines : List (List Spot)) (line : List Spot) (s : Spot) → is_glyph s ≡ false
-    → counted_line lines (line ++ s ∷ []) ≡ line_entry line (height_of (lines ++ (line ++ s ∷ []) ∷ []))
-counted_break lines line s n =
-    let same = λ (just : ℕ). segment_no just line s n in
-    same_entry (ap width_of (same 2)) (ap width_of (same 3)) (ap width_of (same 4)) (ap width_of (same 5)) (ap length (same 5))
-
--- one more `nl` adds the entry of the open line
-pub table_break : (g : List Spot) (s : Spot) → is_break s ≡ true → table_of (ended_lines (g ++ s ∷ [])) ≡ table_of (ended_lines g) ++ open_entry g (height_of (ended_lines (g ++ s ∷ []))) ∷ []
-table_break g s b =
-    let line = after_last is_break g in
-    let ended = ended_break g s b in
-    ap table_of ended
-    ∙ table_push (ended_lines g) (line ++ s ∷ [])
-    ∙ ap (λ (e : CountedLine). table_of (ended_lines g) ++ e ∷ []) (counted_break (ended_lines g) line s (break_put s.at s.put b))
-    ∙ ap (λ n. table_of (ended_lines g) ++ open_entry g n ∷ []) (ap height_of (sym ended))
 
 -- THE LAST LINE
 

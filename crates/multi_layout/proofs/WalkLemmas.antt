@@ -4,6 +4,7 @@ use Rattle.std.specs.List.{All, cons_option}
 use Rattle.std.proofs.lemmas.List.{length-append, map-append}
 use Rattle.std.proofs.lemmas.List.Concat.{flat_map-append}
 use Rattle.std.proofs.lemmas.List.Elements.{All-head, All-tail}
+use Rattle.multi_token.specs.Counted.{Counted}
 use Rattle.multi_token.specs.declared.token.Token.{Token}
 use Rattle.multi_token.specs.Spelling.{Item, IsItem, spelling, spell, HasNoItem}
 use Rattle.multi_token.specs.Tokens.{IsTokenOf, item_of}
@@ -97,6 +98,10 @@ module _ (sign : SignData) (octets : List ℕ) (before behind : List Item) (at :
   item_is next (t, here, long, stands, means) known =
       let (rest, is) = first_is t here stands in
       (item_of octets t, rest, is, record { meant = means; known = known; len = sym long ∙ stands.len })
+
+-- reading leaves the octets
+pub same_octets : {source : Counted} {octets : List ℕ} {steps : ℕ} → source ≡ record { octets = octets; steps = steps } → source.octets ≡ octets
+same_octets same = ap (λ (x : Counted). x.octets) same
 
 -- none of some items offends, so the last doesn't, nor any before it
 pub last_fine : (sign : SignData) (items : List Item) (item : Item) → offences sign (items ++ item ∷ []) ≡ []
@@ -197,6 +202,10 @@ module _ (sign : SignData) (octets : List ℕ) (before rest : List LaidItem) (it
         orderly = subst (λ l. IsOrderly sign (map meant l)) again b.orderly;
         state_is = subst (λ ms. IsStateOf sign ms new.state) (sym (map-append meant before (item ∷ []))) st;
       }
+
+-- a cursor between items stands between them in the same octets too
+pub stands_in : {sign : SignData} {octets octets' : List ℕ} {before behind : List LaidItem} {cursor : Cursor} → octets' ≡ octets → IsBetween sign octets before behind cursor → IsBetween sign octets' before behind cursor
+stands_in {sign} {octets} {octets'} {before} {behind} {cursor} same b = subst (λ o. IsBetween sign o before behind cursor) (sym same) b
 
 -- AS THEY ARE LAID OUT
 

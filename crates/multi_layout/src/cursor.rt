@@ -87,10 +87,9 @@ impl Cursor {
     {
         if next.item.has_place() {
             self.at += next.len;
-            return;
+        } else {
+            self.skip_tag(sign, source, next);
         }
-        self.skip_tag(sign, source, next.item);
-        self.at += next.len;
     }
 
     /// Goes behind octets from here on that stand for themselves, as many as one reading takes, and lays nothing out.
@@ -110,57 +109,49 @@ impl Cursor {
         self.at += sign.read_run(source, self.at, font, all, false).len;
     }
 
-    /// Puts what a tag says into force that places nothing, as the next item does. It isn't put into its callers' code, since
+    /// Goes behind the next item, a tag that places nothing, and puts what it says into force. It isn't put into its callers' code, since
     /// characters are many more.
     #[inline(never)]
-    fn skip_tag(&mut self, sign: &Terms<'_>, source: &mut Source<'_>, item: KnownItem)
-        requires known { IsKnownItem item }
+    fn skip_tag(&mut self, sign: &Terms<'_>, source: &mut Source<'_>, next: NextItem)
+        requires known { IsKnownItem next.item }
         requires ready { IsReady self.old.state }
-        requires unplaced { has_place (meant_by item) ≡ false }
+        requires unplaced { has_place (meant_by next.item) ≡ false }
         requires fine { (items : List Meaning) × IsStateOf sign.now items self.old.state
-            × (unsized_offence sign.now items (meant_by item) ≡ None) }
+            × (unsized_offence sign.now items (meant_by next.item) ≡ None) }
+        requires room { self.old.at + next.len < 2 ^ 64 }
         ensures passed { (items : List Meaning) → IsStateOf sign.now items self.old.state
-            → IsStateOf sign.now (items ++ meant_by item ∷ []) self.new.state }
-        ensures at { self.new.at ≡ self.old.at }
+            → IsStateOf sign.now (items ++ meant_by next.item ∷ []) self.new.state }
+        ensures at { self.new.at ≡ self.old.at + next.len }
         ensures steps { RisesBetween source.old source.new 0 1 }
     {
-        let KnownItem::Tag(tag) = item else {
+        let KnownItem::Tag(tag) = next.item else {
             // A character is placed.
             unreachable!();
         };
         match judge_tag::<true>(sign, &mut self.state, source, tag) {
-            Ok(()) => {}
+            Ok(()) => self.at += next.len,
             // No item of an accepted string offends.
             Err(_) => unreachable!(),
         }
     }
 
-    /// Goes behind the next item, of which this was read.
-    pub(crate) fn pass(&mut self, sign: &Terms<'_>, source: &mut Source<'_>, next: NextItem)
-        requires { IsBefore sign.now source.old.octets next self.old }
+    /// Goes behind the next item, a tag that was read.
+    pub(crate) fn pass_tag(&mut self, sign: &Terms<'_>, source: &mut Source<'_>, next: NextItem)
+        requires before { IsBefore sign.now source.old.octets next self.old }
+        requires tag { (tag : Tag) × (next.item ≡ KnownItem.Tag tag) }
         ensures passed { GoesBehind sign.now source.old.octets next self.old self.new }
         ensures at { self.new.at ≡ self.old.at + next.len }
-        ensures steps { RisesBetween source.old source.new 0 8 }
+        ensures steps { RisesBetween source.old source.new 0 1 }
     {
-        match next.item {
-            KnownItem::Char(number) => {
-                let font = self.state.attributes.font.number;
-                let Some(width) = sign.cell_width(source, font, number) else {
-                    // Each character of an accepted string has a cell.
-                    unreachable!();
-                };
-                self.pass_character(number, width, next.len);
+        let KnownItem::Tag(tag) = next.item else {
+            unreachable!();
+        };
+        match tag {
+            Tag::NewLine(gap) => {
+                self.state.put_break(gap);
+                self.at += next.len;
             }
-            KnownItem::Tag(tag) => match tag {
-                Tag::NewLine(gap) => {
-                    self.state.pass_break(gap);
-                    self.at += next.len;
-                }
-                _ => {
-                    self.skip_tag(sign, source, next.item);
-                    self.at += next.len;
-                }
-            },
+            _ => self.skip_tag(sign, source, next),
         }
     }
 
@@ -172,7 +163,7 @@ impl Cursor {
             → GoesBehind sign octets (record { item = KnownItem.Char number; len = len }) self.old self.new }
         ensures at { self.new.at ≡ self.old.at + len }
     {
-        self.state.pass_character(width);
+        self.state.put_character(width);
         self.at += len;
     }
 }

@@ -1,6 +1,6 @@
 //! The drawing of a page into one plane: each area is read for the table of its lines, and then to put its cells.
 
-ghost use Rattle.std.specs.Prelude.{◌^◌, ◌≡◌, ◌≢◌, ℕ, ◌+◌, ◌-◌, ◌*◌, ◌<◌, ◌≤◌, [], ◌∷◌, ◌++◌, List, Option, IfSome, Some, false, length, map, slice_get, ◌==◌};
+ghost use Rattle.std.specs.Prelude.{◌^◌, ◌≡◌, ◌≢◌, ℕ, ◌+◌, ◌-◌, ◌*◌, ◌≤◌, [], ◌∷◌, ◌++◌, List, Option, IfSome, Some, false, length, map, slice_get, ◌==◌};
 ghost use Rattle.std.specs.Option.{unwrap_or};
 ghost use Rattle.multi_token.specs.Counted.{RisesBetween, charged};
 ghost use Rattle.sign_font.specs.Sound.{IsSound};
@@ -58,7 +58,7 @@ pub(crate) fn draw_page(
         let Some(next) = cursor.next_item(source) else {
             return;
         };
-        cursor.pass(sign, source, next);
+        cursor.pass_tag(sign, source, next);
         if next.item.ends_page() {
             return;
         }
@@ -228,7 +228,7 @@ fn draw_item(
         }
         KnownItem::Tag(tag) => {
             draw_tag(sign, tag, layer, plane);
-            cursor.pass(sign, source, next);
+            cursor.pass_tag(sign, source, next);
             None
         }
     }

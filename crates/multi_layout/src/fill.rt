@@ -1,6 +1,6 @@
 //! Lines that are filled by words: the open line is broken at its last space, which is dropped.
 
-ghost use Rattle.std.specs.Prelude.{◌≡◌, ℕ, ◌+◌, ◌^◌, ◌≤◌, true, false, List, [], ◌∷◌, ◌++◌, Some, IfSome};
+ghost use Rattle.std.specs.Prelude.{◌≡◌, ℕ, ◌+◌, ◌^◌, ◌≤◌, false, List, [], ◌∷◌, ◌++◌, IfSome};
 ghost use Rattle.std.specs.List.{AllPass, list_any};
 ghost use Rattle.multi_layout.specs.Address.{Spot, is_glyph};
 ghost use Rattle.multi_layout.specs.Fit.{line_fits};

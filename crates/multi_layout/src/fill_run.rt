@@ -1,7 +1,7 @@
 //! Text behind a character with the same attributes, where lines are filled: as long as it stays on its line, each word and
 //! each space only lengthens what is kept.
 
-ghost use Rattle.std.specs.Prelude.{◌≡◌, ℕ, ◌+◌, ◌*◌, ◌^◌, ◌<◌, ◌≤◌, true, false, length, Option};
+ghost use Rattle.std.specs.Prelude.{◌≡◌, ℕ, ◌+◌, ◌^◌, ◌<◌, ◌≤◌, true, false, length, Option};
 ghost use Rattle.multi_token.specs.Counted.{charged};
 ghost use Rattle.multi_layout.specs.kept.FilledRun.{GoesOnBehind, IsFilledRun, with_run, with_space, with_word};
 ghost use Rattle.multi_layout.specs.kept.FilledState.{IsFilledFor, IsFilledReady};

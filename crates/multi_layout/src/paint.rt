@@ -1,6 +1,6 @@
 //! What a plane shows of a page: the pixels of one colour at one phase.
 
-ghost use Rattle.std.specs.Prelude.{◌≡◌, ◌+◌, ◌≤◌, ◌==◌, Some};
+ghost use Rattle.std.specs.Prelude.{◌≡◌, ◌+◌, ◌≤◌, ◌==◌};
 ghost use Rattle.sign_font.specs.Sound.{IsSound, IsSoundSize};
 ghost use Rattle.multi_layout.specs.kept.RunDrawing.{DrawsCharacter};
 ghost use Rattle.multi_layout.specs.Picture.{is_lit_at, shown_colour};

@@ -1,27 +1,26 @@
 //! One pass over a string from the left: what is kept of its items, and how each of them is judged.
 
-ghost use Rattle.std.specs.Prelude.{◌≡◌, ◌+◌, ◌^◌, ◌≤◌, true, false, List, [], ◌∷◌, ◌++◌, None, Some, IfSome, OnOk};
+ghost use Rattle.std.specs.Prelude.{◌≡◌, ◌+◌, ◌^◌, ◌≤◌, true, false, List, [], ◌∷◌, ◌++◌, IfSome, OnOk};
 ghost use Rattle.std.specs.List.{list_any};
 ghost use Rattle.multi_token.specs.Counted.{RisesBetween, charged};
 ghost use Rattle.sign_font.specs.declared.parts.LineFill.TheVariants.{Words};
 ghost use Rattle.sign_font.specs.Sign.{SignData};
-ghost use Rattle.sign_font.specs.Text.{width_in};
 ghost use Rattle.multi_layout.specs.Address.{Spot};
-ghost use Rattle.multi_layout.specs.kept.AreaReading.{PassesCharacter};
-ghost use Rattle.multi_layout.specs.kept.FilledState.{IsFilledJudged, IsFilledOf, IsFilledReady, JudgesFilled, begins_line};
+ghost use Rattle.multi_layout.specs.kept.AreaReading.{PassesCharacter, PutsFilled};
+ghost use Rattle.multi_layout.specs.kept.FilledState.{IsFilledOf, IsFilledReady, begins_line};
 ghost use Rattle.multi_layout.specs.kept.FillSums.{order_sum};
 ghost use Rattle.multi_layout.specs.LaidItems.{laid_items};
 ghost use Rattle.multi_layout.specs.kept.KnownItem.{IsKnownItem, meant_by};
 ghost use Rattle.multi_layout.specs.Meaning.{Does, Meaning, Shows};
 ghost use Rattle.multi_layout.specs.Offence.{clashes};
 ghost use Rattle.multi_layout.specs.kept.Run.{Fits};
-ghost use Rattle.multi_layout.specs.kept.PassState.{IsItemJudged, IsPassBehind, IsPassOf, IsPassReady, JudgesItem};
+ghost use Rattle.multi_layout.specs.kept.PassState.{IsPassBehind, IsPassReady, JudgesCell, JudgesItem};
 ghost use Rattle.multi_layout.specs.kept.State.{IsKnown, IsStateOf, present_area};
 ghost use Rattle.multi_layout.specs.kept.Sums.{IsLineBelow};
 
 use crate::attributes::Rectangle;
 use crate::fault::SyntaxError;
-use crate::fill::Split;
+use crate::fill::{Placed, Split};
 use crate::item::KnownItem;
 use crate::judge::{judge_cell, judge_tag};
 use crate::line::Line;
@@ -141,9 +140,7 @@ impl Pass {
     #[inline(always)]
     fn judge_cell<const WORDS: bool>(&mut self, number: u16, width: u8) -> Result<(), SyntaxError>
         requires ready { IsPassReady WORDS self.old }
-        ensures judged { (sign : SignData) (items : List Meaning) → IsPassOf WORDS sign self.old items
-            → width_in sign self.old.state.attributes.font.number number ≡ Some width
-            → IsItemJudged WORDS sign items (Shows number) result self.new }
+        ensures judged { JudgesCell WORDS self.old number width result self.new }
         ensures behind { OnOk result (IsPassBehind WORDS self.new) }
     {
         if WORDS {
@@ -166,27 +163,8 @@ impl Pass {
         ensures judged { JudgesItem WORDS sign.now self.old (Does tag) result self.new }
         ensures steps { RisesBetween source.old source.new 0 1 }
     {
-        if WORDS {
-            self.fill_tag(sign, source, tag)
-        } else {
-            judge_tag::<false>(sign, &mut self.state, source, tag)
-        }
-    }
-
-    /// Judges what a tag says, where lines are filled.
-    fn fill_tag(
-        &mut self,
-        sign: &Terms<'_>,
-        source: &mut Source<'_>,
-        tag: Tag,
-    ) -> Result<(), SyntaxError>
-        requires ready { IsFilledReady self.old }
-        requires known { IsKnown tag }
-        ensures judged { JudgesFilled sign.now self.old (Does tag) result self.new }
-        ensures steps { RisesBetween source.old source.new 0 1 }
-    {
-        let judged = judge_tag::<true>(sign, &mut self.state, source, tag);
-        if begins_line(tag) {
+        let judged = judge_tag::<WORDS>(sign, &mut self.state, source, tag);
+        if WORDS && begins_line(tag) {
             self.split = None;
             self.order = Order::new();
         }
@@ -196,9 +174,7 @@ impl Pass {
     /// Judges a character whose cell has this width in pixels, where lines are filled.
     fn fill_cell(&mut self, number: u16, width: u8) -> Result<(), SyntaxError>
         requires ready { IsFilledReady self.old }
-        ensures judged { (sign : SignData) (items : List Meaning) → IsFilledOf sign items self.old
-            → width_in sign self.old.state.attributes.font.number number ≡ Some width
-            → IsFilledJudged sign items (Shows number) result self.new }
+        ensures judged { JudgesCell true self.old number width result self.new }
         ensures fits { OnOk result (Fits self.new.state) }
     {
         let attributes = self.state.attributes;
@@ -208,6 +184,23 @@ impl Pass {
         {
             return Err(SyntaxError::TagConflict);
         }
+        if self.put_filled(number, width).fits {
+            Ok(())
+        } else {
+            Err(SyntaxError::TextTooBig)
+        }
+    }
+
+    /// Puts a character whose cell has this width in pixels, where lines are filled: whether it fits, and the line that it ended.
+    #[inline(always)]
+    fn put_filled(&mut self, number: u16, width: u8) -> Placed
+        requires ready { IsFilledReady self.old }
+        ensures put { PutsFilled number width self.old self.new result }
+        ensures fits { result.fits ≡ true → Fits self.new.state }
+        ensures small { IfSome result.ended (IsLineBelow (2 ^ 62)) }
+    {
+        let attributes = self.state.attributes;
+        let (page_just, present) = (attributes.page_just, self.state.area.present);
         let character = attributes.character(width);
         self.order = self.order.with(page_just == present, attributes.line_just);
         let Rectangle { width, height, .. } = attributes.rectangle;
@@ -219,10 +212,9 @@ impl Pass {
             &character,
             number == 32,
         );
-        if placed.fits & self.state.area.fits_height(height) {
-            Ok(())
-        } else {
-            Err(SyntaxError::TextTooBig)
+        Placed {
+            fits: placed.fits & self.state.area.fits_height(height),
+            ended: placed.ended,
         }
     }
 
@@ -234,33 +226,12 @@ impl Pass {
         ensures small { IfSome result (IsLineBelow (2 ^ 62)) }
     {
         if WORDS {
-            self.pass_filled(number, width)
+            self.put_filled(number, width).ended
         } else {
-            self.state.pass_character(width);
+            // It doesn't offend.
+            let _ = judge_cell(&mut self.state, number, width);
             None
         }
-    }
-
-    /// The same where lines are filled.
-    fn pass_filled(&mut self, number: u16, width: u8) -> Option<Line>
-        requires ready { IsFilledReady self.old }
-        ensures passed { PassesCharacter true number width self.old self.new result }
-        ensures small { IfSome result (IsLineBelow (2 ^ 62)) }
-    {
-        let attributes = self.state.attributes;
-        let (page_just, present) = (attributes.page_just, self.state.area.present);
-        let character = attributes.character(width);
-        self.order = self.order.with(page_just == present, attributes.line_just);
-        let width = attributes.rectangle.width;
-        let area = &mut self.state.area;
-        let placed = area.fill_character(
-            &mut self.split,
-            page_just,
-            width,
-            &character,
-            number == 32,
-        );
-        placed.ended
     }
 }
 

@@ -4,7 +4,6 @@ ghost use Rattle.std.specs.Prelude.{◌≡◌, ℕ, ◌+◌, ◌-◌, ◌*◌, �
 ghost use Rattle.std.specs.List.{All};
 ghost use Rattle.multi_token.specs.Counted.{RisesBetween, charged};
 ghost use Rattle.multi_token.specs.Spelling as spelled;
-ghost use Rattle.sign_font.specs.declared.parts.LineFill.TheVariants.{Off, Words};
 ghost use Rattle.sign_font.specs.Sign.{SignData};
 ghost use Rattle.sign_font.specs.Sound.{IsSound};
 ghost use Rattle.multi_layout.specs.Address.{Spot};

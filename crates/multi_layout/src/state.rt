@@ -1,12 +1,11 @@
 //! What is kept of the items that were read.
 
-ghost use Rattle.std.specs.Prelude.{◌≡◌, ℕ, ◌+◌, ◌*◌, ◌≤◌, []};
+ghost use Rattle.std.specs.Prelude.{◌≡◌, ◌*◌, ◌≤◌, []};
 ghost use Rattle.sign_font.specs.Sound.{IsSound};
 
 use crate::area::Area;
 use crate::attributes::{Attributes, Rectangle, whole_sign};
 use crate::terms::Terms;
-use multi_tag::Tag;
 
 /// The running state behind some items of a string.
 #[derive(Clone, Copy)]
@@ -29,12 +28,9 @@ pub(crate) struct Limits {
 }
 
 impl State {
-    ghost use Rattle.std.specs.Prelude.{List, ◌∷◌, ◌++◌, Some, None, true, false, not};
-    ghost use Rattle.sign_font.specs.Sign.{SignData};
-    ghost use Rattle.sign_font.specs.Text.{width_in};
-    ghost use Rattle.multi_layout.specs.Meaning.{Does, Meaning, Shows};
+    ghost use Rattle.std.specs.Prelude.{List, true, false, not};
     ghost use Rattle.multi_layout.specs.Address.{Spot, area_of, is_glyph};
-    ghost use Rattle.multi_layout.specs.Offence.{conflicts, unsized_offence};
+    ghost use Rattle.multi_layout.specs.Offence.{conflicts};
     ghost use Rattle.multi_layout.specs.kept.Adding.{AddsBreak, AddsCharacter};
     ghost use Rattle.multi_layout.specs.kept.Sums.{area_sum};
     ghost use Rattle.multi_layout.specs.kept.State.{IsLimited, IsReady, IsStateOf, whole_times};
@@ -108,26 +104,6 @@ impl State {
         }
         self.area.group.add_break(gap, &self.attributes.font);
         true
-    }
-
-    /// Goes behind an `nl` of an accepted string, with the gap that it gives.
-    pub(crate) fn pass_break(&mut self, gap: Option<u8>)
-        requires ready { IsReady self.old }
-        ensures passed { (sign : SignData) (items : List Meaning) → IsStateOf sign items self.old
-            → unsized_offence sign items (Does (Tag.NewLine gap)) ≡ None → IsStateOf sign (items ++ Does (Tag.NewLine gap) ∷ []) self.new }
-    {
-        self.put_break(gap);
-    }
-
-    /// Goes behind a character of an accepted string, whose cell has this width in pixels.
-    pub(crate) fn pass_character(&mut self, width: u8)
-        requires ready { IsReady self.old }
-        ensures passed { (sign : SignData) (items : List Meaning) (number : ℕ) → IsStateOf sign items self.old
-            → width_in sign self.old.attributes.font.number number ≡ Some width → unsized_offence sign items (Shows number) ≡ None
-            → IsStateOf sign (items ++ Shows number ∷ []) self.new }
-        ensures limited { IsLimited self.old → IsLimited self.new }
-    {
-        self.put_character(width);
     }
 
     /// The times of all pages of a string that ends here, in tenths of a second.

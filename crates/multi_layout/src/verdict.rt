@@ -1,6 +1,6 @@
 //! The verdict on a string, in one reading from the left with running sums.
 
-ghost use Rattle.std.specs.Prelude.{◌≡◌, ◌≢◌, ℕ, ◌+◌, ◌^◌, ◌<◌, ◌≤◌, ◌-◌, ◌⊎◌, [], length, IfOk, IfErr, OnOk, None, Some};
+ghost use Rattle.std.specs.Prelude.{◌≡◌, ◌≢◌, ℕ, ◌+◌, ◌^◌, ◌<◌, ◌≤◌, ◌⊎◌, [], length, IfOk, IfErr, OnOk, None, Some};
 ghost use Rattle.sign_font.specs.Defaults.{default_fault, under};
 ghost use Rattle.sign_font.specs.Sign.{SignData};
 ghost use Rattle.multi_layout.specs.Codes.{code_of};

@@ -16,7 +16,6 @@ use Rattle.multi_layout.specs.Address.{Spot, spots, standing, in_group, lines_of
 use Rattle.multi_layout.specs.Drawn.{Lights, has_colour}
 use Rattle.multi_layout.specs.Limits.{plane_octets}
 use Rattle.multi_layout.specs.Meaning.{Meaning, Does, Shows, EndsArea, begins_area, has_place}
-use Rattle.multi_layout.specs.kept.State.{present_area}
 use Rattle.multi_layout.specs.kept.Sums.{ended_lines}
 use Rattle.multi_layout.specs.kept.Cursors.{IsBetween, items_of, meant, LaidItem, spell_of}
 use Rattle.multi_layout.specs.kept.Table.{IsOrdered, group_lines, table_of}
@@ -63,14 +62,6 @@ IsQuiet tag = Unit {0}
 -- the placing items of the area in which the next item stands, those behind that item too (own)
 abbrev pub whole_area : SignData → List LaidItem → List LaidItem → List Spot
 whole_area sign before behind = in_area (standing sign (map meant before)).area (spots sign (map meant (before ++ behind)))
-
--- the table has the counted lines of the area in which the first of the items behind stands (own)
-abbrev pub HasArea : SignData → List Meaning → List Meaning → LineTable → Type 0
-HasArea sign before behind lines = HasCounted (in_area (standing sign before).area (spots sign (before ++ behind))) lines
-
--- the table has the lines that are known before these items, where the cursor stands (own)
-abbrev pub IsKnownBefore : SignData → List LaidItem → Cursor → LineTable → Type 0
-IsKnownBefore sign before cursor lines = HasKnown cursor.state.area.present (present_area sign (map meant before)) lines
 
 -- the steps that reading the first of these items takes at most, and one at the end (own)
 abbrev pub first_steps : List Item → ℕ

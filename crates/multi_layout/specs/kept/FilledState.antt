@@ -1,18 +1,15 @@
 -- What is kept of the items that were read, where lines are filled (own).
-use Rattle.std.specs.Prelude.{◌≡◌, Bool, true, false, ◌*◌, ◌^◌, List, [], ◌∷◌, ◌++◌, length, Some, None, Result, Ok, Err}
+use Rattle.std.specs.Prelude.{◌≡◌, Bool, true, false, ◌*◌, ◌^◌, List, length, Some}
 use Rattle.std.specs.List.{after_last}
 use Rattle.multi_tag.specs.declared.tag.Tag.{Tag}
 use Rattle.multi_tag.specs.declared.tag.Tag.TheVariants.{NewPage, NewLine, Rect}
 use Rattle.sign_font.specs.declared.parts.LineFill.TheVariants.{Words}
 use Rattle.sign_font.specs.Sign.{SignData}
-use Rattle.multi_layout.specs.declared.fault.SyntaxError.{SyntaxError}
 use Rattle.multi_layout.specs.declared.pass.Pass.{Pass}
 use Rattle.multi_layout.specs.Address.{in_group, is_break, standing}
-use Rattle.multi_layout.specs.Codes.{code_of}
 use Rattle.multi_layout.specs.Filling.{filled}
 use Rattle.multi_layout.specs.kept.FillOpen.{AllOpenFit}
 use Rattle.multi_layout.specs.kept.FillSums.{IsSplitBelow, order_sum, split_sum}
-use Rattle.multi_layout.specs.Offence.{offence}
 use Rattle.multi_layout.specs.LaidItems.{laid_items}
 use Rattle.multi_layout.specs.Meaning.{Meaning}
 use Rattle.multi_layout.specs.kept.State.{IsReady, IsStateOf, present_area}
@@ -39,15 +36,6 @@ pub record IsFilledFor (sign : SignData) (kept : Pass) (items : List Meaning) : 
 pub record IsFilledReady (kept : Pass) : Type 0 where
   pub state : IsReady kept.state
   pub split : IsSplitBelow (2 ^ 62) kept.split
-
--- one more item is judged: it doesn't offend and this is then what is kept of the items with it, or it offends by this error (own)
-abbrev pub IsFilledJudged : SignData → List Meaning → Meaning → Result (Unit {0}) SyntaxError → Pass → Type 0
-IsFilledJudged sign items item (Ok done) kept = (offence Words sign items item ≡ None) × IsFilledOf sign (items ++ item ∷ []) kept
-IsFilledJudged sign items item (Err error) kept = offence Words sign items item ≡ Some (code_of error)
-
--- whatever the items before are, if the old is what is kept of them, the item is judged behind them, and the new is what is kept then (own)
-abbrev pub JudgesFilled : SignData → Pass → Meaning → Result (Unit {0}) SyntaxError → Pass → Type 0
-JudgesFilled sign old item result new = (items : List Meaning) → IsFilledOf sign items old → IsFilledJudged sign items item result new
 
 -- a line begins behind what this tag says (NTCIP 1203 v03, MULTI tags 'nl', 'np' and 'tr')
 abbrev pub begins_line : Tag → Bool

@@ -1,13 +1,14 @@
 -- What is kept of the items that were read, by whether lines are filled (own).
-use Rattle.std.specs.Prelude.{◌≡◌, Bool, true, false, List, [], ◌∷◌, ◌++◌, Some, None, Result, Ok, Err}
+use Rattle.std.specs.Prelude.{◌≡◌, ℕ, Bool, true, false, List, [], ◌∷◌, ◌++◌, Some, None, Result, Ok, Err}
 use Rattle.sign_font.specs.declared.parts.LineFill.{LineFill}
 use Rattle.sign_font.specs.declared.parts.LineFill.TheVariants.{Off, Words}
 use Rattle.sign_font.specs.Sign.{SignData}
+use Rattle.sign_font.specs.Text.{width_in}
 use Rattle.multi_layout.specs.declared.fault.SyntaxError.{SyntaxError}
 use Rattle.multi_layout.specs.declared.pass.Pass.{Pass}
 use Rattle.multi_layout.specs.Codes.{code_of}
 use Rattle.multi_layout.specs.kept.FilledState.{IsFilledFor, IsFilledReady}
-use Rattle.multi_layout.specs.Meaning.{Meaning}
+use Rattle.multi_layout.specs.Meaning.{Meaning, Shows}
 use Rattle.multi_layout.specs.Offence.{offence}
 use Rattle.multi_layout.specs.kept.Run.{Fits, IsBehindCharacter}
 use Rattle.multi_layout.specs.kept.State.{IsReady, IsUnfilledOf}
@@ -42,3 +43,9 @@ IsItemJudged words sign items item (Err error) pass = offence sign.line_fill sig
 abbrev pub JudgesItem : Bool → SignData → Pass → Meaning → Result (Unit {0}) SyntaxError → Pass → Type 0
 JudgesItem words sign old item result new =
     (items : List Meaning) → IsPassOf words sign old items → IsItemJudged words sign items item result new
+
+-- the same of a character whose cell has this width in pixels (own)
+abbrev pub JudgesCell : Bool → Pass → ℕ → ℕ → Result (Unit {0}) SyntaxError → Pass → Type 0
+JudgesCell words old number width result new =
+    (sign : SignData) (items : List Meaning) → IsPassOf words sign old items
+    → width_in sign old.state.attributes.font.number number ≡ Some width → IsItemJudged words sign items (Shows number) result new

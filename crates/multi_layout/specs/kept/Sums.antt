@@ -1,5 +1,5 @@
 -- The running sums of an area: what is kept of its items, in place of the items.
-use Rattle.std.specs.Prelude.{◌≡◌, ◌⊎◌, ℕ, ◌≤◌, Bool, true, nat_lt, List, length, Option, None, if◌then◌else◌}
+use Rattle.std.specs.Prelude.{◌≡◌, ◌⊎◌, ℕ, ◌≤◌, true, nat_lt, List, length, Option, None, if◌then◌else◌}
 use Rattle.std.specs.List.{filter, filter_map, last_or, list_any, after_last}
 use Rattle.std.specs.Option.{option_map}
 use Rattle.sign_font.specs.declared.font.FontInfo.{FontInfo}
@@ -11,7 +11,6 @@ use Rattle.multi_layout.specs.declared.area.Ended.{Ended}
 use Rattle.multi_layout.specs.declared.area.Group.{Group}
 use Rattle.multi_layout.specs.declared.area.Area.{Area}
 use Rattle.multi_layout.specs.Address.{Spot, Break, is_glyph, is_break, segment, in_group, lines_of}
-use Rattle.multi_layout.specs.Offence.{clashes}
 use Rattle.multi_layout.specs.Line.{line_height, line_spacing, given_gap, glyph_width, width_of, height_of}
 use Rattle.multi_layout.specs.Words.{largest}
 
@@ -124,7 +123,3 @@ pub record IsBelow (k : ℕ) (area : Area) : Type 0 where
   pub group : IsGroupBelow k area.group
   pub known : area.present ≤ 4
   pub some : area.group.line.any ≡ true → 2 ≤ area.present
-
--- a character clashes with one on the present line of the group with a page justification (own)
-abbrev pub clashes_in : ℕ → List Spot → Spot → Bool
-clashes_in just area spot = list_any (clashes spot) (after_last is_break (in_group just area))

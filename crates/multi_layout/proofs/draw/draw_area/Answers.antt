@@ -1,6 +1,5 @@
 use Rattle.std.proofs.Common.{◌≡◌, ◌+◌, ◌-◌, ◌*◌, ◌≤◌, ◌∷◌, ◌++◌, length, map, slice_get, sym, ap, ◌∙◌, subst, arith}
 use Rattle.std.proofs.lemmas.Option.{IfSome_then}
-use Rattle.multi_token.specs.Counted.{Counted}
 use Rattle.multi_token.proofs.StepLemmas.{charged-zero, rises_more, rises_then}
 use Rattle.multi_layout.specs.kept.AreaDrawing.{IsDrawnTo, IsFilledBy}
 use Rattle.multi_layout.specs.kept.RunDrawing.{AreaSoFar, IsNextDrawn, octets_read}
@@ -8,6 +7,7 @@ use Rattle.multi_layout.specs.kept.Cursors.{IsBetween, IsPlaced, items_of, meant
 use Rattle.multi_layout.proofs.AreaDrawLemmas.{area_begins, area_ended, area_here, area_then, at_end, filled_none, filled_then, next_drawn, none_read, read_one}
 use Rattle.multi_layout.proofs.BesideLemmas.{octet_stands}
 use Rattle.multi_layout.proofs.PieceLemmas.{laid_first}
+use Rattle.multi_layout.proofs.WalkLemmas.{same_octets}
 use Rattle.multi_layout.proofs.draw.draw_area.Goals as goal
 
 pub loop-cursor-init : goal.loop-cursor-init
@@ -22,7 +22,7 @@ loop-cursor-init c = record {
 pub octet_at-requires : goal.octet_at-requires
 octet_at-requires c =
     let i = c.loop-cursor.invariant in
-    let same : c.loop-cursor.source.octets ≡ c.args.source.now.octets = ap (λ (x : Counted). x.octets) i.steps.3 in
+    let same : c.loop-cursor.source.octets ≡ c.args.source.now.octets = same_octets i.steps.3 in
     IfSome_then c.loop-cursor.first i.read_behind (λ octet is. ap (λ o. slice_get o c.loop-cursor.cursor.at) same ∙ is.0)
 
 pub unreachable-requires : goal.unreachable-requires
@@ -30,7 +30,7 @@ unreachable-requires c =
     let i = c.loop-cursor.invariant in
     let (before, area, rest, b, plain, ends, counted) = c.requires.known in
     let s = i.so_far before area rest b plain ends counted in
-    let same : c.loop-cursor.source.octets ≡ c.args.source.now.octets = ap (λ (x : Counted). x.octets) i.steps.3 in
+    let same : c.loop-cursor.source.octets ≡ c.args.source.now.octets = same_octets i.steps.3 in
     let end : c.args.read.now.end ≡ length (spell_of before) + length (spell_of area) = omega (arith, ends, b.placed.place) in
     octet_stands c.args.sign.now c.args.source.now.octets before area rest c.args.read.now.lines c.args.layer c.loop-cursor.cursor c.args.plane.now c.loop-cursor.plane s c.args.read.now.end end c.loop-cursor-test.true
     (ap (λ o. slice_get o c.loop-cursor.cursor.at) (sym same) ∙ sym c.octet_at.ensures.octet ∙ c.in_default.is)
@@ -41,8 +41,8 @@ item_from-next-requires c =
     let sign = c.args.sign.now in
     let (before, area, rest, b, plain, ends, counted) = c.requires.known in
     let s = i.so_far before area rest b plain ends counted in
-    let same : c.octet_at.new.source.octets ≡ c.args.source.now.octets = ap (λ (x : Counted). x.octets) c.octet_at.ensures.step ∙ ap (λ (x : Counted). x.octets) i.steps.3 in
-    let first : c.octet_at.new.source.octets ≡ c.loop-cursor.source.octets = ap (λ (x : Counted). x.octets) c.octet_at.ensures.step in
+    let same : c.octet_at.new.source.octets ≡ c.args.source.now.octets = same_octets c.octet_at.ensures.step ∙ same_octets i.steps.3 in
+    let first : c.octet_at.new.source.octets ≡ c.loop-cursor.source.octets = same_octets c.octet_at.ensures.step in
     record {
       within = (sign, (items_of (before ++ s.done), items_of (s.left ++ rest), (subst (λ o. IsBetween sign o (before ++ s.done) (s.left ++ rest) c.loop-cursor.cursor) (sym same) s.between).placed));
       stands = ap (λ o. slice_get o c.loop-cursor.cursor.at) first ∙ sym c.octet_at.ensures.octet ∙ c.in-Some.is;
@@ -65,8 +65,8 @@ draw_next-first-requires-clause-known c =
     let octets = c.args.source.now.octets in
     let (before, area, rest, b, plain, ends, counted) = c.requires.known in
     let s = i.so_far before area rest b plain ends counted in
-    let same : c.octet_at.new.source.octets ≡ octets = ap (λ (x : Counted). x.octets) c.octet_at.ensures.step ∙ ap (λ (x : Counted). x.octets) i.steps.3 in
-    let read_same : c.item_from-next.new.source.octets ≡ octets = ap (λ (x : Counted). x.octets) c.item_from-next.ensures.steps.3 ∙ same in
+    let same : c.octet_at.new.source.octets ≡ octets = same_octets c.octet_at.ensures.step ∙ same_octets i.steps.3 in
+    let read_same : c.item_from-next.new.source.octets ≡ octets = same_octets c.item_from-next.ensures.steps.3 ∙ same in
     let end : c.args.read.now.end ≡ length (spell_of before) + length (spell_of area) = omega (arith, ends, b.placed.place) in
     let (item, more, is, n) = next_drawn sign octets before area rest c.args.read.now c.args.layer c.loop-cursor.cursor c.args.plane.now c.loop-cursor.plane s end c.loop-cursor-test.true c.lay-next.result
     (λ earlier behind x counted. laid_first c.args.read.now.lines c.item_from-next.result c.lay-next.result earlier behind x counted (c.item_from-next.ensures.first sign (items_of earlier) (items_of behind) (subst (λ o. IsPlaced sign o (items_of earlier) (items_of behind) c.loop-cursor.cursor.at) (sym same) x.placed)) (c.lay-next.ensures.read octets)) in
@@ -82,8 +82,8 @@ loop-cursor-preserved c =
     let octets = c.args.source.now.octets in
     let len = c.item_from-next.result.len in
     let d = c.draw_next-first.ensures in
-    let same : c.octet_at.new.source.octets ≡ octets = ap (λ (x : Counted). x.octets) c.octet_at.ensures.step ∙ ap (λ (x : Counted). x.octets) i.steps.3 in
-    let read_same : c.item_from-next.new.source.octets ≡ octets = ap (λ (x : Counted). x.octets) c.item_from-next.ensures.steps.3 ∙ same in
+    let same : c.octet_at.new.source.octets ≡ octets = same_octets c.octet_at.ensures.step ∙ same_octets i.steps.3 in
+    let read_same : c.item_from-next.new.source.octets ≡ octets = same_octets c.item_from-next.ensures.steps.3 ∙ same in
     let gone = c.loop-cursor.cursor.at - c.args.cursor.now.at in
     let one = rises_then c.args.source.now c.loop-cursor.source c.octet_at.new.source 0 (9 * gone + octets_read c.loop-cursor.first) 0 (1 - octets_read c.loop-cursor.first) i.steps (1 - octets_read c.loop-cursor.first, omega arith, omega arith, c.octet_at.ensures.step) in
     let two = rises_then c.args.source.now c.octet_at.new.source c.item_from-next.new.source 0 _ 0 (9 * len - 9) one c.item_from-next.ensures.steps in
@@ -106,38 +106,25 @@ loop-cursor-preserved c =
       fills = subst (IsFilledBy sign c.args.plane.now c.draw_next-first.new.plane) on (filled_then sign c.args.plane.now c.loop-cursor.plane c.draw_next-first.new.plane gone (c.draw_next-first.new.cursor.at - c.loop-cursor.cursor.at) i.fills d.fills);
     }
 
-pub returns-clause-passed : goal.returns-clause-passed
-returns-clause-passed c = λ before area rest b plain ends counted.
-    let s = c.loop-cursor.invariant.so_far before area rest b plain ends counted in
-    let end : c.args.read.now.end ≡ length (spell_of before) + length (spell_of area) = omega (arith, ends, b.placed.place) in
-    (area_ended c.args.sign.now c.args.source.now.octets before area rest c.args.read.now.lines c.args.layer c.args.plane.now c.loop-cursor.cursor c.loop-cursor.plane s c.args.read.now.end end (omega (arith, c.loop-cursor-test.false))).1
-
-pub returns-clause-drawn : goal.returns-clause-drawn
-returns-clause-drawn c = λ before area rest b plain ends counted drawn.
-    let sign = c.args.sign.now in
-    let s = c.loop-cursor.invariant.so_far before area rest b plain ends counted in
-    let end : c.args.read.now.end ≡ length (spell_of before) + length (spell_of area) = omega (arith, ends, b.placed.place) in
-    let ended = area_ended sign c.args.source.now.octets before area rest c.args.read.now.lines c.args.layer c.args.plane.now c.loop-cursor.cursor c.loop-cursor.plane s c.args.read.now.end end (omega (arith, c.loop-cursor-test.false)) in
-    subst (λ l. IsDrawnTo sign c.args.layer (map meant (before ++ (area ++ rest))) (map meant (before ++ l)) c.loop-cursor.plane) ended.0 (s.drawn drawn)
-
-pub returns-clause-steps : goal.returns-clause-steps
-returns-clause-steps c =
+pub returns : goal.returns
+returns c =
     let i = c.loop-cursor.invariant in
     let sign = c.args.sign.now in
-    let (before, area, rest, b, plain, ends, counted) = c.requires.known in
-    let s = i.so_far before area rest b plain ends counted in
-    let end : c.args.read.now.end ≡ length (spell_of before) + length (spell_of area) = omega (arith, ends, b.placed.place) in
+    let octets = c.args.source.now.octets in
     let past : c.args.read.now.end ≤ c.loop-cursor.cursor.at = omega (arith, c.loop-cursor-test.false) in
-    let at = at_end sign c.args.source.now.octets before area rest c.args.read.now.lines c.args.layer c.args.plane.now c.loop-cursor.cursor c.loop-cursor.plane s c.args.read.now.end end past in
-    let none = none_read c.args.source.now.octets c.loop-cursor.cursor.at c.args.read.now.end c.loop-cursor.first i.read_behind past in
-    rises_more c.args.source.now c.loop-cursor.source 0 _ _ (omega (arith, at, none)) i.steps
-
-pub returns-clause-fills : goal.returns-clause-fills
-returns-clause-fills c =
-    let i = c.loop-cursor.invariant in
-    let sign = c.args.sign.now in
     let (before, area, rest, b, plain, ends, counted) = c.requires.known in
     let s = i.so_far before area rest b plain ends counted in
-    let end : c.args.read.now.end ≡ length (spell_of before) + length (spell_of area) = omega (arith, ends, b.placed.place) in
-    let at = at_end sign c.args.source.now.octets before area rest c.args.read.now.lines c.args.layer c.args.plane.now c.loop-cursor.cursor c.loop-cursor.plane s c.args.read.now.end end (omega (arith, c.loop-cursor-test.false)) in
-    subst (λ n. IsFilledBy sign c.args.plane.now c.loop-cursor.plane (n - c.args.cursor.now.at)) at i.fills
+    let at = at_end sign octets before area rest c.args.read.now.lines c.args.layer c.args.plane.now c.loop-cursor.cursor c.loop-cursor.plane s c.args.read.now.end (omega (arith, ends, b.placed.place)) past in
+    record {
+      passed = λ before area rest b plain ends counted.
+          let s = i.so_far before area rest b plain ends counted in
+          (area_ended sign octets before area rest c.args.read.now.lines c.args.layer c.args.plane.now c.loop-cursor.cursor c.loop-cursor.plane s c.args.read.now.end (omega (arith, ends, b.placed.place)) past).1;
+      drawn = λ before area rest b plain ends counted drawn.
+          let s = i.so_far before area rest b plain ends counted in
+          let ended = area_ended sign octets before area rest c.args.read.now.lines c.args.layer c.args.plane.now c.loop-cursor.cursor c.loop-cursor.plane s c.args.read.now.end (omega (arith, ends, b.placed.place)) past in
+          subst (λ l. IsDrawnTo sign c.args.layer (map meant (before ++ (area ++ rest))) (map meant (before ++ l)) c.loop-cursor.plane) ended.0 (s.drawn drawn);
+      steps =
+          let none = none_read octets c.loop-cursor.cursor.at c.args.read.now.end c.loop-cursor.first i.read_behind past in
+          rises_more c.args.source.now c.loop-cursor.source 0 _ _ (omega (arith, at, none)) i.steps;
+      fills = subst (λ n. IsFilledBy sign c.args.plane.now c.loop-cursor.plane (n - c.args.cursor.now.at)) at i.fills;
+    }

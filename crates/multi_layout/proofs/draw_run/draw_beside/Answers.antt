@@ -1,6 +1,5 @@
 use Rattle.std.proofs.Common.{◌≡◌, ◌+◌, ◌-◌, ◌*◌, ◌≤◌, ◌++◌, Some, length, map, slice_get, sym, ap, ◌∙◌, subst, arith}
 use Rattle.std.specs.Option.{unwrap_or}
-use Rattle.multi_token.specs.Counted.{Counted}
 use Rattle.multi_token.proofs.StepLemmas.{charged-zero, rises_more, rises_then}
 use Rattle.sign_font.specs.Sign.{cell_in}
 use Rattle.multi_layout.specs.declared.cursor.Cursor.{Cursor}
@@ -12,7 +11,7 @@ use Rattle.multi_layout.proofs.AreaDrawLemmas.{filled_none, filled_then}
 use Rattle.multi_layout.proofs.BesideLemmas.{RunSoFar, has_cell, no_bracket, octet_stands, run_begins, run_more}
 use Rattle.multi_layout.proofs.DrawLemmas.{cell_height, rows_few}
 use Rattle.multi_layout.proofs.RunLemmas.{behind_stays}
-use Rattle.multi_layout.proofs.WalkLemmas.{within_between}
+use Rattle.multi_layout.proofs.WalkLemmas.{same_octets, within_between}
 use Rattle.multi_layout.proofs.draw_run.draw_beside.Goals as goal
 
 pub loop-at-init : goal.loop-at-init
@@ -37,22 +36,24 @@ unreachable-requires c =
     let i = c.loop-at.invariant in
     let (before, area, rest, h) = c.requires.known in
     let r = i.so_far before area rest h in
-    let same : c.loop-at.source.octets ≡ c.args.source.now.octets = ap (λ (s : Counted). s.octets) i.steps.3 in
+    let same : c.loop-at.source.octets ≡ c.args.source.now.octets = same_octets i.steps.3 in
     let end : c.args.read.now.end ≡ length (spell_of before) + length (spell_of area) = omega (arith, h.ends, h.between.placed.place) in
     octet_stands c.args.sign.now c.args.source.now.octets before area rest c.args.read.now.lines c.args.layer _ c.args.plane.now c.loop-at.plane r.so_far c.args.read.now.end end c.loop-at-test.true
     (ap (λ o. slice_get o c.loop-at.at) (sym same) ∙ sym c.read.ensures.octet ∙ c.in_default.is)
 
-pub returns-then-is_bracket-clause-so_far : goal.returns-then-is_bracket-clause-so_far
-returns-then-is_bracket-clause-so_far c = λ before area rest h. (c.loop-at.invariant.so_far before area rest h).so_far
-
-pub returns-then-is_bracket-clause-next : goal.returns-then-is_bracket-clause-next
-returns-then-is_bracket-clause-next c =
-    let same : c.loop-at.source.octets ≡ c.args.source.now.octets = ap (λ (s : Counted). s.octets) c.loop-at.invariant.steps.3 in
-    (ap (λ o. slice_get o c.loop-at.at) (sym same) ∙ sym c.read.ensures.octet ∙ c.in-Some.is, c.loop-at-test.true)
-
-pub returns-then-is_bracket-clause-steps : goal.returns-then-is_bracket-clause-steps
-returns-then-is_bracket-clause-steps c =
-    rises_then c.args.source.now c.loop-at.source c.read.new.self 0 (9 * (c.loop-at.at - c.args.cursor.now.at)) 0 1 c.loop-at.invariant.steps (1, omega arith, omega arith, c.read.ensures.step)
+pub returns-then-is_bracket : goal.returns-then-is_bracket
+returns-then-is_bracket c =
+    let i = c.loop-at.invariant in
+    let (before, area, rest, h) = c.requires.known in
+    let r = i.so_far before area rest h in
+    let within = within_between c.args.sign.now c.args.source.now.octets (before ++ r.so_far.done) (r.so_far.left ++ rest) _ r.so_far.between in
+    record {
+      so_far = λ before area rest h. (i.so_far before area rest h).so_far;
+      next = (ap (λ o. slice_get o c.loop-at.at) (sym (same_octets i.steps.3)) ∙ sym c.read.ensures.octet ∙ c.in-Some.is, c.loop-at-test.true);
+      steps = rises_then c.args.source.now c.loop-at.source c.read.new.self 0 (9 * (c.loop-at.at - c.args.cursor.now.at)) 0 1 i.steps (1, omega arith, omega arith, c.read.ensures.step);
+      fills = i.fills;
+      forward = (i.forward, omega (arith, within, h.between.placed.accepted.short), i.least, i.most);
+    }
 
 pub unreachable-requires-in_default-cell : goal.unreachable-requires-in_default-cell
 unreachable-requires-in_default-cell c =
@@ -61,7 +62,7 @@ unreachable-requires-in_default-cell c =
     let octets = c.args.source.now.octets in
     let (before, area, rest, h) = c.requires.known in
     let r = i.so_far before area rest h in
-    let same : c.loop-at.source.octets ≡ octets = ap (λ (s : Counted). s.octets) i.steps.3 in
+    let same : c.loop-at.source.octets ≡ octets = same_octets i.steps.3 in
     let end : c.args.read.now.end ≡ length (spell_of before) + length (spell_of area) = omega (arith, h.ends, h.between.placed.place) in
     let here : slice_get octets c.loop-at.at ≡ Some c.in-Some.octet = ap (λ o. slice_get o c.loop-at.at) (sym same) ∙ sym c.read.ensures.octet ∙ c.in-Some.is in
     has_cell sign octets before area rest c.args.read.now.lines c.args.layer _ _ c.args.plane.now c.loop-at.plane r c.args.read.now.end end c.loop-at-test.true c.requires.off c.in-Some.octet
@@ -74,7 +75,7 @@ loop-at-preserved c =
     let sign = c.args.sign.now in
     let octets = c.args.source.now.octets in
     let state = c.args.cursor.now.state in
-    let same : c.loop-at.source.octets ≡ octets = ap (λ (s : Counted). s.octets) i.steps.3 in
+    let same : c.loop-at.source.octets ≡ octets = same_octets i.steps.3 in
     let here : slice_get octets c.loop-at.at ≡ Some c.in-Some.octet = ap (λ o. slice_get o c.loop-at.at) (sym same) ∙ sym c.read.ensures.octet ∙ c.in-Some.is in
     let found : cell_in sign state.attributes.font.number c.in-Some.octet ≡ Some c.in-Some-cell.cell = ap (cell_in sign state.attributes.font.number) (sym c.from.ensures) ∙ sym c.cell.ensures.cell ∙ c.in-Some-cell.is in
     let wide : c.from-in-loop-at.result ≡ c.in-Some-cell.cell.width = c.from-in-loop-at.ensures ∙ c.width.ensures in
@@ -109,14 +110,6 @@ loop-at-preserved c =
           (filled_then sign c.args.plane.now c.loop-at.plane c.put_character.new.plane (c.loop-at.at - c.args.cursor.now.at) 1 i.fills
           (rows_few sign c.loop-at.plane c.put_character.new.plane 1 c.in-Some-cell.cell.height (omega arith) tall c.put_character.ensures.counted c.put_character.ensures.steps c.put_character.ensures.width c.put_character.ensures.height));
     }
-
-pub returns-then-is_bracket-clause-forward : goal.returns-then-is_bracket-clause-forward
-returns-then-is_bracket-clause-forward c =
-    let i = c.loop-at.invariant in
-    let (before, area, rest, h) = c.requires.known in
-    let r = i.so_far before area rest h in
-    let within = within_between c.args.sign.now c.args.source.now.octets (before ++ r.so_far.done) (r.so_far.left ++ rest) _ r.so_far.between in
-    (i.forward, omega (arith, within, h.between.placed.accepted.short), i.least, i.most)
 
 pub returns-clause-forward : goal.returns-clause-forward
 returns-clause-forward c =

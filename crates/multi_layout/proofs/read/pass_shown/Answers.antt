@@ -1,9 +1,9 @@
-use Rattle.std.proofs.Common.{◌≡◌, ℕ, Option, None, Some, map, sym, ◌∙◌}
+use Rattle.std.proofs.Common.{◌≡◌, ℕ, Option, None, Some, map, refl, sym, ◌∙◌}
 use Rattle.sign_font.specs.Sign.{cell_in}
 use Rattle.multi_layout.specs.Meaning.{meaning}
 use Rattle.multi_layout.proofs.PassLemmas.{pass_undefined}
 use Rattle.multi_layout.proofs.AreaReadLemmas.{next_fine, read_ready}
-use Rattle.multi_layout.proofs.AreaStepLemmas.{shown_closed, shown_ended, shown_just, shown_last, shown_narrow, shown_room, shown_stays}
+use Rattle.multi_layout.proofs.AreaStepLemmas.{step_closed, step_ended, step_just, step_last, step_narrow, step_room, step_stays}
 use Rattle.multi_layout.proofs.RunReadLemmas.{no_cell}
 use Rattle.multi_layout.proofs.read.pass_shown.Goals as goal
 
@@ -20,49 +20,28 @@ pass_cell-requires g c =
     let (before, item, r, next) = c.requires.known in
     record { ready = read_ready c.requires.sound r }
 
-pub of-requires-clause-narrow : goal.of-requires-clause-narrow
-of-requires-clause-narrow g c =
+pub of-requires : goal.of-requires
+of-requires g c =
     let (before, item, r, next) = c.requires.known in
-    let sign = c.args.sign.now in
     let b = c.pass_cell.ensures.passed c.args.sign.now (map meaning before) r.of (sym c.cell_width.ensures.width ∙ c.in-Some.is) (next_fine next) in
-    shown_narrow c.requires.sound r next b c.in-Some-pass_cell.line c.in-Some-pass_cell.is
+    let line = c.in-Some-pass_cell.line in
+    let is = c.in-Some-pass_cell.is in
+    record { known = c.in-Some-pass_cell.ensures.small.known; narrow = step_narrow c.requires.sound r next b refl line is; low = step_closed c.requires.sound r next b refl line is }
 
-pub of-requires-clause-low : goal.of-requires-clause-low
-of-requires-clause-low g c =
+pub push-requires : goal.push-requires
+push-requires g c =
     let (before, item, r, next) = c.requires.known in
-    let sign = c.args.sign.now in
     let b = c.pass_cell.ensures.passed c.args.sign.now (map meaning before) r.of (sym c.cell_width.ensures.width ∙ c.in-Some.is) (next_fine next) in
-    shown_closed c.requires.sound r next b c.in-Some-pass_cell.line c.in-Some-pass_cell.is
-
-pub push-requires-clause-known : goal.push-requires-clause-known
-push-requires-clause-known g c =
-    let (before, item, r, next) = c.requires.known in
-    let sign = c.args.sign.now in
-    let b = c.pass_cell.ensures.passed c.args.sign.now (map meaning before) r.of (sym c.cell_width.ensures.width ∙ c.in-Some.is) (next_fine next) in
-    shown_just c.requires.sound r next b
-
-pub push-requires-clause-room : goal.push-requires-clause-room
-push-requires-clause-room g c =
-    let (before, item, r, next) = c.requires.known in
-    let sign = c.args.sign.now in
-    let b = c.pass_cell.ensures.passed c.args.sign.now (map meaning before) r.of (sym c.cell_width.ensures.width ∙ c.in-Some.is) (next_fine next) in
-    shown_room c.requires.sound r next b c.in-Some-pass_cell.line c.in-Some-pass_cell.is
-
-pub push-requires-clause-last : goal.push-requires-clause-last
-push-requires-clause-last g c =
-    let (before, item, r, next) = c.requires.known in
-    let sign = c.args.sign.now in
-    let b = c.pass_cell.ensures.passed c.args.sign.now (map meaning before) r.of (sym c.cell_width.ensures.width ∙ c.in-Some.is) (next_fine next) in
-    shown_last c.requires.sound r next b c.in-Some-pass_cell.line c.in-Some-pass_cell.is
+    let line = c.in-Some-pass_cell.line in
+    let is = c.in-Some-pass_cell.is in
+    record { known = step_just c.requires.sound r next b refl line is; room = step_room c.requires.sound r next b refl line is; ordered = r.ordered; last = step_last c.requires.sound r next b refl line is }
 
 pub returns-in-Some-pass_cell-clause-known : goal.returns-in-Some-pass_cell-clause-known
 returns-in-Some-pass_cell-clause-known g c = λ before item r next.
-    let sign = c.args.sign.now in
     let b = c.pass_cell.ensures.passed c.args.sign.now (map meaning before) r.of (sym c.cell_width.ensures.width ∙ c.in-Some.is) (next_fine next) in
-    shown_ended c.requires.sound r next b c.in-Some-pass_cell.line c.in-Some-pass_cell.is c.of.result c.push.new.self c.of.ensures.entry c.of.ensures.bottom c.push.ensures.pushed c.push.ensures.ordered
+    step_ended c.requires.sound r next b refl c.in-Some-pass_cell.line c.in-Some-pass_cell.is c.of.result c.push.new.self c.of.ensures.entry c.of.ensures.bottom c.push.ensures.pushed c.push.ensures.ordered
 
 pub returns-in_default-pass_cell-clause-known : goal.returns-in_default-pass_cell-clause-known
 returns-in_default-pass_cell-clause-known g c = λ before item r next.
-    let sign = c.args.sign.now in
     let b = c.pass_cell.ensures.passed c.args.sign.now (map meaning before) r.of (sym c.cell_width.ensures.width ∙ c.in-Some.is) (next_fine next) in
-    shown_stays c.requires.sound r next b c.in_default-pass_cell.is
+    step_stays c.requires.sound r next b c.in_default-pass_cell.is

@@ -1,12 +1,10 @@
-use Rattle.std.proofs.Common.{◌≡◌, ◌++◌, [], Some, inl, refl, sym, ap, subst, ◌∙◌, arith}
+use Rattle.std.proofs.Common.{[], ◌++◌, Some, inl, refl, sym, ap, ◌∙◌, arith}
 use Rattle.std.specs.Prelude.{◌==◌}
-use Rattle.multi_token.specs.Counted.{Counted}
 use Rattle.multi_token.specs.Reading.{reading}
 use Rattle.multi_token.proofs.StepLemmas.{charged-zero, rises_more}
-use Rattle.multi_layout.specs.kept.Cursors.{IsPageSkipped, IsPassing}
-use Rattle.multi_layout.proofs.LocateLemmas.{clock_of, page_here, searched_on, shown_here}
+use Rattle.multi_layout.proofs.LocateLemmas.{clock_of, page_here, passing_in, searched_on, shown_here, skipped_in}
 use Rattle.multi_layout.proofs.PagesLemmas.{at_most, page_starts, passes_page, passes_whole, starts_shown}
-use Rattle.multi_layout.proofs.WalkLemmas.{within}
+use Rattle.multi_layout.proofs.WalkLemmas.{same_octets, within}
 use Rattle.multi_layout.proofs.times.find_page.Goals as goal
 
 pub loop-shown-init : goal.loop-shown-init
@@ -20,13 +18,9 @@ loop-shown-init c =
 
 pub pass_page-requires : goal.pass_page-requires
 pass_page-requires c =
-    let sign = c.args.sign.now in
-    let octets = c.args.source.now.octets in
     let i = c.loop-shown.invariant in
     let s = i.searched in
-    let start = c.loop-shown.start in
-    let same : c.loop-shown.source.octets ≡ octets = ap (λ (s : Counted). s.octets) i.steps.3 in
-    (s.before, s.behind, subst (λ o. IsPassing sign o s.before s.behind start) (sym same) s.between)
+    (s.before, s.behind, passing_in (same_octets i.steps.3) s.between)
 
 pub shown_in-requires-clause-some : goal.shown_in-requires-clause-some
 shown_in-requires-clause-some c = omega (arith, (clock_of c.loop-shown.invariant.searched.between).pages)
@@ -34,71 +28,44 @@ shown_in-requires-clause-some c = omega (arith, (clock_of c.loop-shown.invariant
 pub shown_in-requires-clause-began : goal.shown_in-requires-clause-began
 shown_in-requires-clause-began c = c.loop-shown.invariant.searched.began
 
-pub returns-in-Some-clause-shown : goal.returns-in-Some-clause-shown
-returns-in-Some-clause-shown c =
+pub returns-in-Some : goal.returns-in-Some
+returns-in-Some c =
     let sign = c.args.sign.now in
     let octets = c.args.source.now.octets in
     let i = c.loop-shown.invariant in
     let s = i.searched in
     let start = c.loop-shown.start in
-    let same : c.loop-shown.source.octets ≡ octets = ap (λ (s : Counted). s.octets) i.steps.3 in
-    let skipped = subst (λ o. IsPageSkipped sign o s.before s.behind start c.pass_page.new.self) same (c.pass_page.ensures.passed s.before s.behind (subst (λ o. IsPassing sign o s.before s.behind start) (sym same) s.between)) in
-    let e = c.shown_in.ensures in
-    shown_here s skipped e.on e.off e.ended c.in-Some.is
-
-pub returns-in-Some-clause-begins : goal.returns-in-Some-clause-begins
-returns-in-Some-clause-begins c =
-    let sign = c.args.sign.now in
-    let octets = c.args.source.now.octets in
-    let i = c.loop-shown.invariant in
-    let s = i.searched in
-    let start = c.loop-shown.start in
-    let same : c.loop-shown.source.octets ≡ octets = ap (λ (s : Counted). s.octets) i.steps.3 in
-    let skipped = subst (λ o. IsPageSkipped sign o s.before s.behind start c.pass_page.new.self) same (c.pass_page.ensures.passed s.before s.behind (subst (λ o. IsPassing sign o s.before s.behind start) (sym same) s.between)) in
-    let e = c.shown_in.ensures in
-    starts_shown sign octets start c.in-Some.shown (page_starts sign octets s.before s.behind start s.between s.begins c.requires.orderly)
-    (λ page phase is. page_here s skipped e.on e.off e.ended page phase (c.in-Some.is ∙ ap (λ x. Some x) is))
-
-pub returns-in-Some-clause-steps : goal.returns-in-Some-clause-steps
-returns-in-Some-clause-steps c =
-    let sign = c.args.sign.now in
-    let octets = c.args.source.now.octets in
-    let i = c.loop-shown.invariant in
-    let s = i.searched in
-    let start = c.loop-shown.start in
-    let same : c.loop-shown.source.octets ≡ octets = ap (λ (s : Counted). s.octets) i.steps.3 in
-    let skipped = subst (λ o. IsPageSkipped sign o s.before s.behind start c.pass_page.new.self) same (c.pass_page.ensures.passed s.before s.behind (subst (λ o. IsPassing sign o s.before s.behind start) (sym same) s.between)) in
     let behind = c.pass_page.new.self in
-    let new = c.pass_page.new.source in
-    let all = passes_page c.args.source.now c.loop-shown.source new start.at behind.at start.state.pages behind.state.pages c.pass_page.ensures.on i.steps c.pass_page.ensures.steps in
-    rises_more c.args.source.now new 0 _ _
-    (omega (arith, within sign octets (s.before ++ skipped.page) skipped.rest behind.at skipped.between.placed, at_most (behind.state.pages == start.state.pages) 1)) all
+    let skipped = skipped_in (same_octets i.steps.3) s.between c.pass_page.ensures.passed in
+    let e = c.shown_in.ensures in
+    record {
+      shown = shown_here s skipped e.on e.off e.ended c.in-Some.is;
+      begins = starts_shown sign octets start c.in-Some.shown (page_starts sign octets s.before s.behind start s.between s.begins c.requires.orderly)
+          (λ page phase is. page_here s skipped e.on e.off e.ended page phase (c.in-Some.is ∙ ap (λ x. Some x) is));
+      steps =
+          let all = passes_page c.args.source.now c.loop-shown.source c.pass_page.new.source start.at behind.at start.state.pages behind.state.pages c.pass_page.ensures.on i.steps c.pass_page.ensures.steps in
+          rises_more c.args.source.now c.pass_page.new.source 0 _ _
+          (omega (arith, within sign octets (s.before ++ skipped.page) skipped.rest behind.at skipped.between.placed, at_most (behind.state.pages == start.state.pages) 1)) all;
+    }
 
 pub loop-shown-smaller : goal.loop-shown-smaller
 loop-shown-smaller c =
-    let sign = c.args.sign.now in
-    let octets = c.args.source.now.octets in
     let i = c.loop-shown.invariant in
     let s = i.searched in
-    let start = c.loop-shown.start in
-    let same : c.loop-shown.source.octets ≡ octets = ap (λ (s : Counted). s.octets) i.steps.3 in
-    let skipped = subst (λ o. IsPageSkipped sign o s.before s.behind start c.pass_page.new.self) same (c.pass_page.ensures.passed s.before s.behind (subst (λ o. IsPassing sign o s.before s.behind start) (sym same) s.between)) in
+    let skipped = skipped_in (same_octets i.steps.3) s.between c.pass_page.ensures.passed in
     let e = c.shown_in.ensures in
     let (searched, further, pages) = searched_on s skipped e.on e.off e.ended c.in_default.is c.requires.within in
-    omega (arith, further, within sign octets (s.before ++ skipped.page) skipped.rest c.pass_page.new.self.at skipped.between.placed)
+    omega (arith, further, within c.args.sign.now c.args.source.now.octets (s.before ++ skipped.page) skipped.rest c.pass_page.new.self.at skipped.between.placed)
 
 pub loop-shown-preserved : goal.loop-shown-preserved
 loop-shown-preserved c =
-    let sign = c.args.sign.now in
-    let octets = c.args.source.now.octets in
     let i = c.loop-shown.invariant in
     let s = i.searched in
     let start = c.loop-shown.start in
-    let same : c.loop-shown.source.octets ≡ octets = ap (λ (s : Counted). s.octets) i.steps.3 in
-    let skipped = subst (λ o. IsPageSkipped sign o s.before s.behind start c.pass_page.new.self) same (c.pass_page.ensures.passed s.before s.behind (subst (λ o. IsPassing sign o s.before s.behind start) (sym same) s.between)) in
+    let behind = c.pass_page.new.self in
     let e = c.shown_in.ensures in
-    let (searched, further, pages) = searched_on s skipped e.on e.off e.ended c.in_default.is c.requires.within in
+    let (searched, further, pages) = searched_on s (skipped_in (same_octets i.steps.3) s.between c.pass_page.ensures.passed) e.on e.off e.ended c.in_default.is c.requires.within in
     record {
       searched = searched;
-      steps = passes_whole c.args.source.now c.loop-shown.source c.pass_page.new.source start.at c.pass_page.new.self.at start.state.pages c.pass_page.new.self.state.pages c.pass_page.ensures.on pages i.steps c.pass_page.ensures.steps;
+      steps = passes_whole c.args.source.now c.loop-shown.source c.pass_page.new.source start.at behind.at start.state.pages behind.state.pages c.pass_page.ensures.on pages i.steps c.pass_page.ensures.steps;
     }

@@ -1,11 +1,8 @@
-use Rattle.std.proofs.Common.{◌+◌, map, refl, sym, ap, ◌∙◌}
+use Rattle.std.proofs.Common.{map, refl, sym, ◌∙◌}
 use Rattle.multi_layout.specs.Meaning.{meaning}
 use Rattle.multi_layout.specs.kept.Cursors.{unplaced}
 use Rattle.multi_layout.proofs.SkipLemmas.{fine_passing, passing_placed, passing_tag, ready_passing}
 use Rattle.multi_layout.proofs.cursor.Cursor.skip.Goals as goal
-
-pub returns-then-has_place-clause-passed : goal.returns-then-has_place-clause-passed
-returns-then-has_place-clause-passed c = λ before rest item p read. passing_placed p read _ (sym c.has_place.ensures ∙ c.if-has_place.true) refl refl
 
 pub skip_tag-requires-clause-ready : goal.skip_tag-requires-clause-ready
 skip_tag-requires-clause-ready c =
@@ -17,6 +14,9 @@ skip_tag-requires-clause-fine c =
     let (before, rest, item, p, read) = c.requires in
     (unplaced (map meaning before), p.state_is, fine_passing p read (sym c.has_place.ensures ∙ c.if-has_place.false))
 
-pub returns-clause-passed : goal.returns-clause-passed
-returns-clause-passed c = λ before rest item p read.
-    passing_tag p read _ (sym c.has_place.ensures ∙ c.if-has_place.false) (ap (λ n. n + c.args.next.len) c.skip_tag.ensures.at) (c.skip_tag.ensures.passed (unplaced (map meaning before)) p.state_is)
+pub returns-then-has_place-clause-passed : goal.returns-then-has_place-clause-passed
+returns-then-has_place-clause-passed c = λ before rest item p read. passing_placed p read _ (sym c.has_place.ensures ∙ c.if-has_place.true) refl refl
+
+pub returns-else-has_place-clause-passed : goal.returns-else-has_place-clause-passed
+returns-else-has_place-clause-passed c = λ before rest item p read.
+    passing_tag p read _ (sym c.has_place.ensures ∙ c.if-has_place.false) c.skip_tag.ensures.at (c.skip_tag.ensures.passed (unplaced (map meaning before)) p.state_is)
