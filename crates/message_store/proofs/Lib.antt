@@ -11,6 +11,7 @@ mod RowExamples
 pub mod ShortLemmas
 pub mod StoreRows
 pub mod StoredLemmas
+pub mod WaitLemmas
 pub mod WholeLemmas
 pub mod WorkLemmas
 mod WriteExamples

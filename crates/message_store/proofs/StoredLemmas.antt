@@ -5,7 +5,6 @@ use Rattle.std.proofs.lemmas.List.{length-map, length-set, length-replicate, set
 use Rattle.std.proofs.lemmas.List.Sums.{sum_by-cons, sum_by-set, count_by-le-length}
 use Rattle.std.proofs.lemmas.List.Elements.{All-get_or, All-set, All-replicate}
 use Rattle.message_store.specs.declared.slot.Slot.{Slot}
-use Rattle.message_store.specs.declared.slot.Status.TheVariants.{NotUsed}
 use Rattle.message_store.specs.declared.limits.StoreLimits.{StoreLimits}
 use Rattle.message_store.specs.declared.message.Permanent.{Permanent}
 use Rattle.message_store.specs.kept.Pool.{Pool, used}
@@ -14,7 +13,7 @@ use Rattle.message_store.specs.Slot.{SlotData, StoreData, slot_at, empty_slot, u
 use Rattle.message_store.specs.Step.{cleared, with_slot}
 use Rattle.message_store.proofs.WholeLemmas.{length-whole, get-whole, set-multi, set-owner, set-slot, used-whole, used_slots-whole, whole-empty}
 use Rattle.message_store.proofs.LimitsLemmas.{sound-limits, sound-permanent}
-use Rattle.message_store.specs.kept.Stored.{slot_of, whole, stored, IsStored}
+use Rattle.message_store.specs.kept.Stored.{unused_slot, slot_of, whole, stored, IsStored}
 
 -- ---- the store that is kept in these parts
 
@@ -30,9 +29,6 @@ pub record IsSeen (limits : StoreLimits) (permanent : List Permanent) (slots : L
   pub slot_is : (i : ℕ) (e : Slot) → i < length store.slots → slot_at store i ≡ slot_of (slice_index_or slots i e) (slot_at store i).multi (slot_at store i).owner
   pub multi_is : (i : ℕ) → i < length store.slots → (slot_at store i).multi ≡ slice_index_or texts.texts (2 * i) []
   pub owner_is : (i : ℕ) → i < length store.slots → (slot_at store i).owner ≡ slice_index_or texts.texts (2 * i + 1) []
-
-abbrev pub some_slot : Slot
-some_slot = record { status = NotUsed; priority = 1; beacon = 0; pixel = 0 }
 
 -- a slot is its parts
 rw-slot : (slot : Slot) (multi owner : List ℕ) (d : SlotData) → d ≡ slot_of slot multi owner → d ≡ slot_of slot d.multi d.owner
@@ -60,8 +56,8 @@ seen-so limits permanent slots texts is =
       };
       slot_is = λ i e below. rw-slot (slice_index_or slots i e) (slice_index_or texts.texts (2 * i) []) (slice_index_or texts.texts (2 * i + 1) []) _
           (get-whole slots texts.texts i empty_slot e (omega (arith, below, count)));
-      multi_is = λ i below. ap (λ (slot : SlotData). slot.multi) (get-whole slots texts.texts i empty_slot some_slot (omega (arith, below, count)));
-      owner_is = λ i below. ap (λ (slot : SlotData). slot.owner) (get-whole slots texts.texts i empty_slot some_slot (omega (arith, below, count)));
+      multi_is = λ i below. ap (λ (slot : SlotData). slot.multi) (get-whole slots texts.texts i empty_slot unused_slot (omega (arith, below, count)));
+      owner_is = λ i below. ap (λ (slot : SlotData). slot.owner) (get-whole slots texts.texts i empty_slot unused_slot (omega (arith, below, count)));
     }
 
 pub seen : (limits : StoreLimits) (permanent : List Permanent) (slots : List Slot) (texts : Pool) (store : StoreData)
@@ -187,16 +183,16 @@ used-none (suc count) = sum_by-cons (λ (t : List ℕ). length t) [] (replicate 
 
 -- the parts of a new store
 pub kept-new : (limits : StoreLimits) (permanent : List Permanent) (slots : List Slot) (texts : Pool) (count : ℕ) → can_be_made limits (map permanent_of permanent) ≡ true → count ≡ limits.slots
-    → slots ≡ replicate count some_slot → texts ≡ record { texts = replicate (2 * count) []; room = limits.bytes } → IsStored limits permanent slots texts
+    → slots ≡ replicate count unused_slot → texts ≡ record { texts = replicate (2 * count) []; room = limits.bytes } → IsStored limits permanent slots texts
 kept-new limits permanent slots texts count are count-is slots-is texts-is =
     let pool : Pool = record { texts = replicate (2 * count) []; room = limits.bytes } in
-    let both : IsStored limits permanent (replicate count some_slot) pool = record {
+    let both : IsStored limits permanent (replicate count unused_slot) pool = record {
       sound = sound-limits limits (map permanent_of permanent) are;
       fixed = sound-permanent limits (map permanent_of permanent) are;
-      count = length-replicate count some_slot ∙ count-is;
-      pairs = length-replicate (2 * count) [] ∙ ap (λ n. 2 * n) (sym (length-replicate count some_slot));
+      count = length-replicate count unused_slot ∙ count-is;
+      pairs = length-replicate (2 * count) [] ∙ ap (λ n. 2 * n) (sym (length-replicate count unused_slot));
       room = refl;
-      short = (let P : List SlotData → Type 0 = All (IsShort limits) in subst P (sym (whole-empty count some_slot)) (All-replicate (IsShort limits) count empty_slot (record { multi = omega arith; owner = omega arith })));
+      short = (let P : List SlotData → Type 0 = All (IsShort limits) in subst P (sym (whole-empty count unused_slot)) (All-replicate (IsShort limits) count empty_slot (record { multi = omega arith; owner = omega arith })));
       within = omega (arith, used-none (2 * count));
     } in
     let P : List Slot → Type 0 = λ ss. IsStored limits permanent ss pool in
@@ -204,31 +200,31 @@ kept-new limits permanent slots texts count are count-is slots-is texts-is =
     subst Q (sym texts-is) (subst P (sym slots-is) both)
 
 pub made-is : (limits : StoreLimits) (permanent : List Permanent) (slots : List Slot) (texts : Pool) (count : ℕ) → count ≡ limits.slots
-    → slots ≡ replicate count some_slot → texts ≡ record { texts = replicate (2 * count) []; room = limits.bytes }
+    → slots ≡ replicate count unused_slot → texts ≡ record { texts = replicate (2 * count) []; room = limits.bytes }
     → stored limits permanent slots texts ≡ made limits (map permanent_of permanent)
 made-is limits permanent slots texts count count-is slots-is texts-is =
     let all : List SlotData → StoreData = λ ss. record { limits = limits; permanent = map permanent_of permanent; slots = ss } in
     ap (λ (ss : List Slot). stored limits permanent ss texts) slots-is
-    ∙ ap (λ (ts : Pool). stored limits permanent (replicate count some_slot) ts) texts-is
-    ∙ ap all (whole-empty count some_slot)
+    ∙ ap (λ (ts : Pool). stored limits permanent (replicate count unused_slot) ts) texts-is
+    ∙ ap all (whole-empty count unused_slot)
     ∙ ap (λ n. all (replicate n empty_slot)) count-is
 
 -- ---- a store that is cleared
 
 -- the parts of a store that is cleared
 pub kept-clear : (limits : StoreLimits) (permanent : List Permanent) (slots : List Slot) (texts : Pool) (empty : List Slot) (none : Pool)
-    → IsStored limits permanent slots texts → empty ≡ replicate (length slots) some_slot
+    → IsStored limits permanent slots texts → empty ≡ replicate (length slots) unused_slot
     → none ≡ record texts { texts = replicate (length texts.texts) [] } → IsStored limits permanent empty none
 kept-clear limits permanent slots texts empty none is empty_is none_is =
     let count = length slots in
     let pool : Pool = record { texts = replicate (2 * count) []; room = texts.room } in
-    let both : IsStored limits permanent (replicate count some_slot) pool = record {
+    let both : IsStored limits permanent (replicate count unused_slot) pool = record {
       sound = is.sound;
       fixed = is.fixed;
-      count = length-replicate count some_slot ∙ is.count;
-      pairs = length-replicate (2 * count) [] ∙ ap (λ n. 2 * n) (sym (length-replicate count some_slot));
+      count = length-replicate count unused_slot ∙ is.count;
+      pairs = length-replicate (2 * count) [] ∙ ap (λ n. 2 * n) (sym (length-replicate count unused_slot));
       room = is.room;
-      short = (let P : List SlotData → Type 0 = All (IsShort limits) in subst P (sym (whole-empty count some_slot)) (All-replicate (IsShort limits) count empty_slot (record { multi = omega arith; owner = omega arith })));
+      short = (let P : List SlotData → Type 0 = All (IsShort limits) in subst P (sym (whole-empty count unused_slot)) (All-replicate (IsShort limits) count empty_slot (record { multi = omega arith; owner = omega arith })));
       within = omega (arith, used-none (2 * count));
     } in
     let same : none ≡ pool = none_is ∙ ap (λ n. let p : Pool = record { texts = replicate n []; room = texts.room } in p) is.pairs in
@@ -237,13 +233,13 @@ kept-clear limits permanent slots texts empty none is empty_is none_is =
     subst Q (sym same) (subst P (sym empty_is) both)
 
 pub cleared-is : (limits : StoreLimits) (permanent : List Permanent) (slots : List Slot) (texts : Pool) (store : StoreData) (empty : List Slot) (none : Pool)
-    → stored limits permanent slots texts ≡ store → IsStored limits permanent slots texts → empty ≡ replicate (length slots) some_slot
+    → stored limits permanent slots texts ≡ store → IsStored limits permanent slots texts → empty ≡ replicate (length slots) unused_slot
     → none ≡ record texts { texts = replicate (length texts.texts) [] } → stored limits permanent empty none ≡ cleared store
 cleared-is limits permanent slots texts store empty none is kept empty_is none_is =
     let all : List SlotData → StoreData = λ ss. record { limits = limits; permanent = map permanent_of permanent; slots = ss } in
     ap (λ (ss : List Slot). stored limits permanent ss none) empty_is
-    ∙ ap (λ (ts : Pool). stored limits permanent (replicate (length slots) some_slot) ts) none_is
-    ∙ ap (λ n. all (whole (replicate (length slots) some_slot) (replicate n []))) kept.pairs
-    ∙ ap all (whole-empty (length slots) some_slot)
+    ∙ ap (λ (ts : Pool). stored limits permanent (replicate (length slots) unused_slot) ts) none_is
+    ∙ ap (λ n. all (whole (replicate (length slots) unused_slot) (replicate n []))) kept.pairs
+    ∙ ap all (whole-empty (length slots) unused_slot)
     ∙ ap (λ n. all (replicate n empty_slot)) (sym (length-whole slots texts.texts))
     ∙ ap cleared is

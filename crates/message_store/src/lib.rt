@@ -19,6 +19,7 @@ mod places;
 mod reserved;
 mod row;
 mod slot;
+mod slots;
 mod store;
 mod texts;
 mod work;

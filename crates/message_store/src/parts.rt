@@ -1,8 +1,8 @@
 //! Where the fields of a slot are kept.
 
-ghost use Rattle.std.specs.Prelude.{◌≡◌, ◌+◌, ◌<◌, ◌≤◌, length, IfSome, position};
+ghost use Rattle.std.specs.Prelude.{◌≡◌, ◌+◌, ◌<◌, ◌≤◌, length, IfSome};
 ghost use Rattle.message_store.specs.Limits.{IsKept};
-ghost use Rattle.message_store.specs.Slot.{empty_slot, is_validating, slot_at, used_bytes};
+ghost use Rattle.message_store.specs.Slot.{empty_slot, slot_at, used_bytes};
 ghost use Rattle.message_store.specs.Step.{cleared, with_slot};
 ghost use Rattle.message_store.specs.kept.Stored.{crc_of, slot_of};
 ghost use Rattle.message_store.specs.Work.{waiting};
@@ -11,34 +11,23 @@ use crate::crc::crc_behind;
 use crate::slot::{EMPTY, Slot, Status};
 use crate::store::Store;
 
-/// The first slot that waits to be judged.
-fn first_validating(slots: &[Slot]) -> Option<usize>
-    ensures { result ≡ position (λ slot. is_validating slot.status) slots.now }
-{
-    for index in 0..slots.len() {
-        if slots[index].status.is_validating() {
-            return Some(index);
-        }
-    }
-    None
-}
-
 impl Store {
     /// What a slot holds beside its texts.
     pub(crate) fn slot(&self, index: usize) -> Slot
         requires { index < length self.now.slots }
         ensures { slot_at self.now index ≡ slot_of result (slot_at self.now index).multi (slot_at self.now index).owner }
     {
-        self.slots[index]
+        self.slots.get(index)
     }
 
     /// The slot that waits to be judged, the lowest number first, counted from 0.
-    pub(crate) fn waiting(&self) -> Option<usize>
-        ensures index { result ≡ waiting self.now }
-        ensures within { IfSome result (λ index. index < length self.now.slots) }
-        ensures kept { IsKept self.now }
+    pub(crate) fn waiting(&mut self) -> Option<usize>
+        ensures index { result ≡ waiting self.old }
+        ensures within { IfSome result (λ index. index < length self.old.slots) }
+        ensures same { self.new ≡ self.old }
+        ensures kept { IsKept self.new }
     {
-        first_validating(&self.slots)
+        self.slots.waiting()
     }
 
     /// A slot's MULTI text.
@@ -105,7 +94,7 @@ impl Store {
         ensures put { self.new ≡ with_slot self.old index (slot_of slot (slot_at self.old index).multi (slot_at self.old index).owner) }
         ensures kept { IsKept self.new }
     {
-        self.slots[index] = slot;
+        self.slots.put(index, slot);
     }
 
     /// Sets the status of a slot.
@@ -135,6 +124,6 @@ impl Store {
         ensures kept { IsKept self.new }
     {
         self.texts.clear();
-        self.slots.fill(EMPTY);
+        self.slots.clear();
     }
 }

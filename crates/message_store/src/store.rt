@@ -8,7 +8,8 @@ ghost use Rattle.message_store.specs.Slot.{is_not_used, used_bytes, used_slots, 
 use crate::fault::StoreMade;
 use crate::limits::{StoreLimits, can_be_made};
 use crate::message::Permanent;
-use crate::slot::{EMPTY, Slot};
+use crate::slot::Slot;
+use crate::slots::Slots;
 use crate::texts::Texts;
 use std::alloc::Global;
 use std::marker::Model;
@@ -18,7 +19,7 @@ use std::marker::Model;
 pub struct Store {
     pub(crate) limits: StoreLimits,
     pub(crate) permanent: Vec<Permanent>,
-    pub(crate) slots: Vec<Slot>,
+    pub(crate) slots: Slots,
     /// Of slot k, counted from 0, the MULTI text at 2k and the owner at 2k + 1.
     pub(crate) texts: Texts,
 }
@@ -29,9 +30,9 @@ impl Model for Store {
 
     ghost Value = { StoreData };
 
-    ghost view = { λ s. stored s.limits s.permanent.items s.slots.items s.texts };
+    ghost view = { λ s. stored s.limits s.permanent.items s.slots s.texts };
 
-    ghost invariant = { λ s. IsStored s.limits s.permanent.items s.slots.items s.texts };
+    ghost invariant = { λ s. IsStored s.limits s.permanent.items s.slots s.texts };
 }
 
 /// The number of slots that are used.
@@ -66,7 +67,7 @@ impl Store {
             return Err(StoreMade::BadLimit);
         }
         let count = usize::from(limits.slots);
-        let Ok(slots) = Vec::from_elem(alloc, EMPTY, count) else {
+        let Ok(slots) = Slots::new(alloc, count) else {
             return Err(StoreMade::Memory);
         };
         let Ok(texts) = Texts::new(alloc, 2 * count, limits.bytes as usize) else {
@@ -118,6 +119,6 @@ impl Store {
         ensures used { result ≡ used_slots self.now }
         ensures kept { IsKept self.now }
     {
-        count_used(&self.slots) as u16
+        count_used(self.slots.all()) as u16
     }
 }

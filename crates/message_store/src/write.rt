@@ -46,7 +46,7 @@ impl Store {
             × (message.number ≤ last_number (length self.now.permanent) (length self.now.slots) memory)) }
         ensures kept { IsKept self.now }
     {
-        found_in(self.permanent.len(), self.slots.len(), message)
+        found_in(self.permanent.len(), self.slots.all().len(), message)
     }
 
     /// The slot that a call is for, counted from 0.

@@ -4,10 +4,15 @@ use Rattle.std.specs.List.{All}
 use Rattle.message_store.specs.declared.limits.StoreLimits.{StoreLimits}
 use Rattle.message_store.specs.declared.message.Permanent.{Permanent}
 use Rattle.message_store.specs.declared.slot.Slot.{Slot}
+use Rattle.message_store.specs.declared.slot.Status.TheVariants.{NotUsed}
 use Rattle.message_store.specs.Crc.{message_crc}
 use Rattle.message_store.specs.Limits.{AreLimits, ArePermanent, IsShort}
 use Rattle.message_store.specs.kept.Pool.{Pool, used}
 use Rattle.message_store.specs.Slot.{SlotData, StoreData, permanent_of}
+
+-- what a slot holds beside its texts that isn't used (own)
+abbrev pub unused_slot : Slot
+unused_slot = record { status = NotUsed; priority = 1; beacon = 0; pixel = 0 }
 
 -- a slot with its texts (own)
 abbrev pub slot_of : Slot → List ℕ → List ℕ → SlotData

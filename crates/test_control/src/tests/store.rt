@@ -2,6 +2,7 @@
 
 mod memory;
 mod pool;
+mod waiting;
 
 use crate::tests::so;
 use message_store::{Judged, MsgRef, Permanent, Store, StoreLimits, message_crc};

@@ -8,14 +8,14 @@ use Rattle.message_store.proofs.store.Store.new.Goals as goal
 
 pub invariant_of-result : goal.invariant_of-result
 invariant_of-result c =
-    kept-new c.args.limits c.args.permanent.items c.in-Ok.slots.items c.in-Ok-new.texts c.from-count.result (ap (λ (ms : List Permanent). can_be_made c.args.limits (map permanent_of ms)) (sym c.deref.ensures.value) ∙ sym c.can_be_made.ensures ∙ c.if-not-can_be_made.false) c.from-count.ensures
-    (c.in-Ok.ensures.items_if_clones_equal (λ y e. e)) c.in-Ok-new.ensures
+    kept-new c.args.limits c.args.permanent.items c.in-Ok.slots c.in-Ok-new.texts c.from-count.result (ap (λ (ms : List Permanent). can_be_made c.args.limits (map permanent_of ms)) (sym c.deref.ensures.value) ∙ sym c.can_be_made.ensures ∙ c.if-not-can_be_made.false) c.from-count.ensures
+    c.in-Ok.ensures c.in-Ok-new.ensures
 
 pub returns-clause-made : goal.returns-clause-made
 returns-clause-made c =
-    made-is c.args.limits c.args.permanent.items c.in-Ok.slots.items c.in-Ok-new.texts c.from-count.result c.from-count.ensures
-    (c.in-Ok.ensures.items_if_clones_equal (λ y e. e)) c.in-Ok-new.ensures
+    made-is c.args.limits c.args.permanent.items c.in-Ok.slots c.in-Ok-new.texts c.from-count.result c.from-count.ensures
+    c.in-Ok.ensures c.in-Ok-new.ensures
 
 pub returns-clause-kept : goal.returns-clause-kept
 returns-clause-kept c =
-    (seen c.args.limits c.args.permanent.items c.in-Ok.slots.items c.in-Ok-new.texts (stored c.args.limits c.args.permanent.items c.in-Ok.slots.items c.in-Ok-new.texts) refl (invariant_of-result c)).kept
+    (seen c.args.limits c.args.permanent.items c.in-Ok.slots c.in-Ok-new.texts (stored c.args.limits c.args.permanent.items c.in-Ok.slots c.in-Ok-new.texts) refl (invariant_of-result c)).kept

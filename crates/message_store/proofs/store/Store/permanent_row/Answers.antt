@@ -5,7 +5,7 @@ use Rattle.message_store.proofs.StoredLemmas.{seen}
 use Rattle.message_store.proofs.store.Store.permanent_row.Goals as goal
 
 pub returns-clause-short : goal.returns-clause-short
-returns-clause-short c = let s = c.self.inside in let k = seen s.limits s.permanent.items s.slots.items s.texts c.args.self.now c.self.view_is c.self.invariant in
+returns-clause-short c = let s = c.self.inside in let k = seen s.limits s.permanent.items s.slots s.texts c.args.self.now c.self.view_is c.self.invariant in
     let x = c.index-message.result.now in
     let below : c.args.index < length s.permanent.items = omega (arith, c.requires, k.permanent_is) in
     let each = c.self.invariant.fixed.each c.args.index (permanent_of x) (omega (arith, c.requires, k.permanent_is, length-map s.permanent.items permanent_of)) in

@@ -6,8 +6,8 @@ use Rattle.std.specs.List.{count_by}
 use Rattle.message_store.proofs.store.Store.used_slots.Goals as goal
 
 pub returns-clause-used : goal.returns-clause-used
-returns-clause-used c = let s = c.self.inside in let k = seen s.limits s.permanent.items s.slots.items s.texts c.args.self.now c.self.view_is c.self.invariant in c.count_used.ensures.count
-    ∙ ap (λ (l : List Slot). count_by (λ slot. not (is_not_used slot.status)) l) c.deref.ensures.value ∙ sym k.used_slots_is
+returns-clause-used c = let s = c.self.inside in let k = seen s.limits s.permanent.items s.slots s.texts c.args.self.now c.self.view_is c.self.invariant in c.count_used.ensures.count
+    ∙ ap (λ (l : List Slot). count_by (λ slot. not (is_not_used slot.status)) l) c.all.ensures ∙ sym k.used_slots_is
 
 pub returns-clause-kept : goal.returns-clause-kept
-returns-clause-kept c = let s = c.self.inside in let k = seen s.limits s.permanent.items s.slots.items s.texts c.args.self.now c.self.view_is c.self.invariant in k.kept
+returns-clause-kept c = let s = c.self.inside in let k = seen s.limits s.permanent.items s.slots s.texts c.args.self.now c.self.view_is c.self.invariant in k.kept
