@@ -1,6 +1,6 @@
 -- The parts of an explanation, one behind the other.
 use Rattle.std.proofs.Common.{◌≡◌, ℕ, suc, ◌+◌, ◌<◌, ◌^◌, ◌≤◌, ◌≢◌, false, List, [], ◌∷◌, ◌++◌, length, refl, sym, ap, ◌∙◌, arith, subst, append_assoc, append-nil}
-use Rattle.std.proofs.lemmas.List.Elements.{All-push}
+use Rattle.std.proofs.lemmas.List.Elements.{All-append, All-push}
 use Rattle.std.proofs.lemmas.Bool.{le-ltb, lt-ltb}
 use Rattle.std.proofs.lemmas.Grind.{flat_map-append}
 use Rattle.std.specs.List.{flat_map}
@@ -10,7 +10,7 @@ use Rattle.multi_layout.specs.Verdict.{Accepted, IsVerdict, Verdict, pages_of, v
 use Rattle.multi_layout.proofs.AcceptedLemmas.{accepted_is}
 use Rattle.multi_layout.proofs.VerdictLemmas.{one_verdict}
 use Rattle.octet_text.proofs.TextLemmas.{grown}
-use Rattle.message_report.specs.Words.{IsOneLine}
+use Rattle.message_report.specs.Words.{GrowsByLine, IsOneLine}
 use Rattle.message_report.specs.declared.format.Telling.{Telling}
 use Rattle.message_report.specs.Explanation.{Explains, HasPages, IsWarnings, Tells, TellsTooLong, accepts, head_text, takes, warning_text}
 
@@ -21,6 +21,11 @@ pages_are sign octets pages is short = (accepted_is sign octets pages is short).
 -- a line goes on with one more octet that is no line feed
 pub line_more : (start now new line : List ℕ) (c : ℕ) → IsOneLine line → now ≡ start ++ line → new ≡ now ++ c ∷ [] → c ≢ 10 → (more : List ℕ) × IsOneLine more × (new ≡ start ++ more)
 line_more start now new line c is so_far next other = (line ++ c ∷ [], All-push (λ n. n ≢ 10) line c is other, grown start now new line (c ∷ []) _ so_far next refl)
+
+-- a line ends with more octets that are no line feed
+pub line_joined : (start now new line rest : List ℕ) → IsOneLine line → IsOneLine rest → now ≡ start ++ line → new ≡ now ++ (rest ++ 10 ∷ []) → GrowsByLine start new
+line_joined start now new line rest is other so_far next =
+    (line ++ rest, All-append (λ n. n ≢ 10) line rest is other, grown start now new line (rest ++ 10 ∷ []) _ so_far next (append_assoc line rest (10 ∷ [])))
 
 -- what is appended behind a line comes behind its line feed
 pub behind_line : (now next last words rest : List ℕ) → next ≡ now ++ (words ++ 10 ∷ []) → last ≡ next ++ rest → last ≡ now ++ words ++ 10 ∷ rest

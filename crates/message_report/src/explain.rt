@@ -14,13 +14,14 @@ use crate::record::{push_accepted_record, push_refused_record, push_too_long_rec
 use crate::text::push_words;
 use crate::verdict::{push_line_head, push_place, push_refused, push_too_long};
 use crate::wording::Wording;
-use message_words::{Refusal, warnings_on};
+use message_words::{Refusal, Times, warnings_on};
 use multi_layout::{Checked, check};
 use multi_token::Source;
 use octet_text::push_octets;
+use page_plane::Plane;
 use sign_font::Sign;
 use std::alloc::{AllocError, Global};
-use std::cell::OnceCell;
+use std::cell::{Cell, OnceCell};
 use std::marker::Model;
 
 /// The most octets that a message may have to be judged (own).
@@ -38,6 +39,10 @@ pub struct Explainer {
     sign: Sign,
     /// What the words of its refusals are taken from, once there was one.
     wording: OnceCell<Wording>,
+    /// How long a page is shown whose times no tag sets, for the end of a line, once it was asked for.
+    usual: OnceCell<String>,
+    /// The plane that pages are drawn into, once one was drawn.
+    plane: Cell<Option<Plane>>,
     /// The most octets of a text that its message table takes.
     max_string: u16,
 }
@@ -58,6 +63,8 @@ impl Explainer {
         Explainer {
             sign,
             wording: OnceCell::new(),
+            usual: OnceCell::new(),
+            plane: Cell::new(None),
             max_string,
         }
     }
@@ -105,7 +112,7 @@ fn push_accepted(
     match message.telling.format {
         Format::Text => push_told(text, message, checked, Picture::Marks),
         Format::Ansi => push_told(text, message, checked, Picture::Blocks),
-        Format::Lines => push_warning_lines(text, name, message.line, message.warnings),
+        Format::Lines => push_warning_lines(text, name, message.line, &message.found.warnings),
         Format::Json => push_accepted_record(text, message, checked),
     }
 }
@@ -167,6 +174,12 @@ impl Explainer {
             .get_or_try_init(|| Wording::new(alloc, &self.sign))
     }
 
+    /// How long a page is shown whose times no tag sets. The words are made once. The error says that memory was refused.
+    fn usual(&self, alloc: Global) -> Result<&String, AllocError> {
+        self.usual
+            .get_or_try_init(|| Times::usual(&self.sign).words(alloc))
+    }
+
     /// Appends the explanation of the message of a line, as it is asked for: the sign's verdict on it, and where it is refused and why, or
     /// else its pages, each with its times and its picture in all colours at once, and what its writer can't have meant. A picture shows
     /// the page as it is at the phase, in tenths of a second since the page began. The name is that of the file of the messages. The answer
@@ -200,12 +213,14 @@ impl Explainer {
                     sign,
                     line,
                     message,
-                    warnings: &found,
+                    found: &found,
+                    usual: self.usual(alloc)?,
+                    plane: &self.plane,
                 };
                 push_accepted(text, name, &accepted, checked)?;
                 Ok(Told {
                     is_taken: true,
-                    warnings: found.len().min(MAX_MESSAGE) as u32,
+                    warnings: found.warnings.len().min(MAX_MESSAGE) as u32,
                 })
             }
             Err(fault) => {

@@ -1,31 +1,77 @@
 //! Accepted messages in words and pictures.
-ghost use Rattle.std.specs.Prelude.{◌≡◌, ◌<◌, ◌^◌, length, OnOk};
-ghost use Rattle.multi_layout.specs.Pages.{page_count};
+ghost use Rattle.std.specs.Prelude.{◌≡◌, ◌<◌, ◌^◌, false, length, IfOk, OnOk};
+ghost use Rattle.multi_layout.specs.Pages.{IsSized, page_count};
 ghost use Rattle.message_report.specs.Explanation.{HasPages, PassesOver, ShowsPages, TellsAccepted, picture_text};
 ghost use Rattle.message_report.specs.Words.{Grows, GrowsBy};
+ghost use Rattle.message_report.specs.declared.picture.Picture.TheVariants.{Marks};
 
 use crate::accepted::AcceptedMessage;
-use crate::picture::{Picture, push_picture};
+use crate::picture::{Picture, push_next_lit, push_picture};
 use crate::text::{push_legend, push_message, push_times, push_warnings};
 use crate::verdict::{push_accepted, push_head, push_line_head};
 use message_words::PageTimes;
 use multi_layout::Checked;
+use page_plane::Plane;
 use std::alloc::AllocError;
 
-/// Appends all pages, each with its times and its picture.
-fn push_pages(
+/// A plane of the sign's size: the one that there is, or a new one. The error says that memory was refused.
+fn plane_of(message: &AcceptedMessage<'_>) -> Result<Plane, AllocError>
+    ensures { IfOk result (λ plane. IsSized plane message.now.sign.now) }
+{
+    let (width, height) = (message.sign.width(), message.sign.height());
+    if let Some(plane) = message.plane.take() {
+        if plane.width() == width && plane.height() == height {
+            return Ok(plane);
+        }
+    }
+    match Plane::new(message.alloc, width, height) {
+        Ok(plane) => Ok(plane),
+        Err(_) => Err(AllocError),
+    }
+}
+
+/// Appends all pages of a monochrome sign, each with its times and its picture by marks. They are drawn in turn into one plane, and no
+/// page is looked for.
+fn push_lit_pages(
     text: &mut Vec<u8>,
     message: &AcceptedMessage<'_>,
-    checked: &mut Checked<'_>,
+    checked: Checked<'_>,
+) -> Result<(), AllocError>
+    requires sign { checked.sign ≡ message.now.sign.now }
+    requires monochrome { message.now.sign.now.classic ≡ false }
+    requires short { length checked.source.octets < 2 ^ 32 }
+    ensures { OnOk result (GrowsBy
+        (HasPages (picture_text Marks message.now.sign.now checked.entry.source.octets message.now.telling.phase)
+        (page_count checked.entry) (page_count checked.entry))
+        text.old.items text.new.items) }
+{
+    let AcceptedMessage { telling, sign, .. } = *message;
+    let plane = plane_of(message)?;
+    let pages = checked.pages();
+    let mut times = PageTimes::new(sign, message.message);
+    let mut drawn = checked.each_page(telling.phase, 1, plane);
+    for page in 0..pages {
+        push_head(text, page, pages)?;
+        push_times(text, message, &mut times, pages)?;
+        push_next_lit(text, &mut drawn)?;
+    }
+    message.plane.set(Some(drawn.finish().1));
+    Ok(())
+}
+
+/// Appends all pages, each with its times and its picture, as [`push_picture`] draws it.
+fn push_drawn_pages(
+    text: &mut Vec<u8>,
+    message: &AcceptedMessage<'_>,
+    checked: Checked<'_>,
     picture: Picture,
 ) -> Result<(), AllocError>
-    requires sign { checked.old.sign ≡ message.now.sign.now }
-    requires short { length checked.old.source.octets < 2 ^ 32 }
-    ensures ok { OnOk result (GrowsBy
-        (HasPages (picture_text picture message.now.sign.now checked.old.source.octets message.now.telling.phase)
-        (page_count checked.old) (page_count checked.old))
+    requires sign { checked.sign ≡ message.now.sign.now }
+    requires short { length checked.source.octets < 2 ^ 32 }
+    ensures { OnOk result (GrowsBy
+        (HasPages (picture_text picture message.now.sign.now checked.entry.source.octets message.now.telling.phase)
+        (page_count checked.entry) (page_count checked.entry))
         text.old.items text.new.items) }
-    ensures kept { (checked.new.sign ≡ checked.old.sign) × (checked.new.source.octets ≡ checked.old.source.octets) }
 {
     let AcceptedMessage {
         alloc,
@@ -33,26 +79,55 @@ fn push_pages(
         sign,
         ..
     } = *message;
+    let mut checked = checked;
     let pages = checked.pages();
     let mut times = PageTimes::new(sign, message.message);
     for page in 0..pages {
         push_head(text, page, pages)?;
-        push_times(text, alloc, &mut times, pages)?;
-        push_picture(text, alloc, sign, checked, picture, page, telling.phase)?;
+        push_times(text, message, &mut times, pages)?;
+        push_picture(
+            text,
+            alloc,
+            sign,
+            &mut checked,
+            picture,
+            page,
+            telling.phase,
+        )?;
     }
     Ok(())
+}
+
+/// Appends all pages, each with its times and its picture.
+fn push_pages(
+    text: &mut Vec<u8>,
+    message: &AcceptedMessage<'_>,
+    checked: Checked<'_>,
+    picture: Picture,
+) -> Result<(), AllocError>
+    requires sign { checked.sign ≡ message.now.sign.now }
+    requires short { length checked.source.octets < 2 ^ 32 }
+    ensures { OnOk result (GrowsBy
+        (HasPages (picture_text picture message.now.sign.now checked.entry.source.octets message.now.telling.phase)
+        (page_count checked.entry) (page_count checked.entry))
+        text.old.items text.new.items) }
+{
+    match picture {
+        Picture::Marks if !message.sign.classic() => push_lit_pages(text, message, checked),
+        _ => push_drawn_pages(text, message, checked, picture),
+    }
 }
 
 /// Appends what stands behind the pages: what their marks mean, the warnings, and an empty line.
 fn push_notes(
     text: &mut Vec<u8>,
     message: &AcceptedMessage<'_>,
-    checked: &Checked<'_>,
+    is_still: bool,
     picture: Picture,
 ) -> Result<(), AllocError>
     ensures { OnOk result (Grows text.old.items text.new.items) }
 {
-    push_legend(text, message, checked, picture)?;
+    push_legend(text, message, is_still, picture)?;
     push_warnings(text, message)
 }
 
@@ -70,12 +145,12 @@ fn push_shown(
         message.now.line (page_count checked.entry))
         text.old.items text.new.items) }
 {
-    let mut checked = checked;
+    let is_still = checked.pages() > 1 && checked.cycle() == 0;
     push_line_head(text, message.line)?;
     push_accepted(text, checked.pages())?;
     push_message(text, message.alloc, message.message)?;
-    push_pages(text, message, &mut checked, picture)?;
-    push_notes(text, message, &checked, picture)?;
+    push_pages(text, message, checked, picture)?;
+    push_notes(text, message, is_still, picture)?;
     Ok(())
 }
 
@@ -87,7 +162,7 @@ fn push_warned(
 ) -> Result<(), AllocError>
     ensures { OnOk result (GrowsBy (PassesOver message.now.line pages) text.old.items text.new.items) }
 {
-    if message.warnings.is_empty() {
+    if message.found.warnings.is_empty() {
         return Ok(());
     }
     push_line_head(text, message.line)?;

@@ -251,7 +251,7 @@ fn push_pages_record(
     let shown = message_value(alloc, message.message)?;
     let octets = octets_value(alloc, message.message)?;
     let pages = page_values(message, &mut checked)?;
-    let all = warning_values(alloc, message.warnings)?;
+    let all = warning_values(alloc, &message.found.warnings)?;
     let record = accepted_value(alloc, message.line, shown, octets, pages, all)?;
     push_record(text, alloc, &record)
 }
@@ -269,7 +269,7 @@ pub(crate) fn push_accepted_record(
         (Accepted (page_count checked.entry)))
         text.old.items text.new.items) }
 {
-    if message.telling.refused_only && message.warnings.is_empty() {
+    if message.telling.refused_only && message.found.warnings.is_empty() {
         return Ok(());
     }
     push_pages_record(text, message, checked)

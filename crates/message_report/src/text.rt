@@ -4,9 +4,8 @@ ghost use Rattle.message_report.specs.Words.{Grows, GrowsByLine, GrowsInLine};
 
 use crate::accepted::AcceptedMessage;
 use crate::picture::Picture;
-use message_words::{MessageLine, PageTimes, SHOWN_ALWAYS, Unseen, WarningLines, marks_of};
-use multi_layout::Checked;
-use octet_text::{push_octet, push_octets};
+use message_words::{FLASHING, MessageLine, NO_TIMES, PageTimes, SHOWN_ALWAYS, Warning, marks_of};
+use octet_text::{push_number, push_octet, push_octets};
 use sign_font::Sign;
 use std::alloc::{AllocError, Global};
 
@@ -54,8 +53,13 @@ pub(crate) fn push_message(
     ensures { OnOk result (GrowsByLine text.old.items text.new.items) }
 {
     let line = MessageLine(message);
-    if let Some(plain) = line.as_plain() {
-        return push_line(text, plain);
+    if let Some((front, rest)) = line.as_plain() {
+        if rest.is_empty() {
+            return push_line(text, front);
+        }
+        push_in_line(text, front)?;
+        push_line(text, rest.as_bytes())?;
+        return Ok(());
     }
     let words = line.to_string(alloc)?;
     push_line(text, words.as_bytes())
@@ -64,7 +68,7 @@ pub(crate) fn push_message(
 /// Appends how long the next page of so many is shown, and how long the sign is dark after it, to the end of a line.
 pub(crate) fn push_times(
     text: &mut Vec<u8>,
-    alloc: Global,
+    message: &AcceptedMessage<'_>,
     times: &mut PageTimes<'_>,
     pages: u8,
 ) -> Result<(), AllocError>
@@ -73,7 +77,10 @@ pub(crate) fn push_times(
     if pages == 1 {
         return push_line(text, SHOWN_ALWAYS.as_bytes());
     }
-    let words = times.next_page().words(alloc)?;
+    if !message.found.sets_times {
+        return push_line(text, message.usual.as_bytes());
+    }
+    let words = times.next_page().words(message.alloc)?;
     push_line(text, words.as_bytes())
 }
 
@@ -87,24 +94,49 @@ fn push_marks(text: &mut Vec<u8>, sign: &Sign, picture: Picture) -> Result<(), A
     }
 }
 
-/// Appends what the marks of the pictures mean, and what pictures don't show.
+/// Appends that pages don't change, if they don't.
+fn push_still(text: &mut Vec<u8>, is_still: bool) -> Result<(), AllocError>
+    ensures { OnOk result (Grows text.old.items text.new.items) }
+{
+    push_octets(text, if is_still { NO_TIMES.as_bytes() } else { b"" })
+}
+
+/// Appends that text flashes, and when its page is drawn.
+fn push_flashing(text: &mut Vec<u8>, phase: u64) -> Result<(), AllocError>
+    ensures { OnOk result (Grows text.old.items text.new.items) }
+{
+    let [before, behind] = FLASHING;
+    push_octets(text, before.as_bytes())?;
+    push_number(text, phase)?;
+    push_octets(text, behind.as_bytes())
+}
+
+/// Appends what the marks of the pictures mean, and what pictures don't show: that pages don't change, and that text flashes.
 pub(crate) fn push_legend(
     text: &mut Vec<u8>,
     message: &AcceptedMessage<'_>,
-    checked: &Checked<'_>,
+    is_still: bool,
     picture: Picture,
 ) -> Result<(), AllocError>
     ensures { OnOk result (Grows text.old.items text.new.items) }
 {
     push_marks(text, message.sign, picture)?;
-    let unseen = Unseen {
-        sign: message.sign,
-        message: message.message,
-        cycle: checked.cycle(),
-        phase: message.telling.phase,
-    };
-    let words = unseen.to_string(message.alloc)?;
-    push_words(text, &words)
+    push_still(text, is_still)?;
+    if message.found.flashes {
+        push_flashing(text, message.telling.phase)?;
+    }
+    Ok(())
+}
+
+/// Appends a warning as a line.
+fn push_warning(text: &mut Vec<u8>, warning: &Warning) -> Result<(), AllocError>
+    ensures { OnOk result (Grows text.old.items text.new.items) }
+{
+    push_octets(text, b"warning at octet ")?;
+    push_number(text, warning.at as u64)?;
+    push_octets(text, b": ")?;
+    push_words(text, &warning.words)?;
+    push_octet(text, b'\n')
 }
 
 /// Appends the warnings on a message, and the empty line that stands behind each explanation.
@@ -114,7 +146,8 @@ pub(crate) fn push_warnings(
 ) -> Result<(), AllocError>
     ensures { OnOk result (Grows text.old.items text.new.items) }
 {
-    let words = WarningLines(message.warnings).to_string(message.alloc)?;
-    push_words(text, &words)?;
+    for warning in &message.found.warnings {
+        push_warning(text, warning)?;
+    }
     push_octet(text, b'\n')
 }

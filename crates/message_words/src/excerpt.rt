@@ -35,9 +35,20 @@ fn plain_front(message: &[u8]) -> &str {
     str::from_utf8(front).unwrap_or("")
 }
 
-/// Whether a message is shown whole, and each of its octets as itself.
-pub(crate) fn is_plain(message: &[u8]) -> bool {
-    message.len() <= MOST && message.iter().all(|octet| b' ' <= *octet && *octet <= b'~')
+/// The octets of a message that are shown and what stands behind them, if each of these is shown as itself. All are looked at, several at
+/// once.
+pub(crate) fn plain_line(message: &[u8]) -> Option<(&[u8], &'static str)> {
+    let front = message.get(..MOST).unwrap_or(message);
+    let is_plain = front.iter().fold(
+        true,
+        |plain, octet| plain & (b' ' <= *octet) & (*octet <= b'~'),
+    );
+    let rest = if front.len() < message.len() {
+        " .."
+    } else {
+        ""
+    };
+    is_plain.then_some((front, rest))
 }
 
 /// Writes the first characters of a message.

@@ -23,5 +23,5 @@ mod words;
 pub use characters::{CharacterRun, FontCharacters};
 pub use room::{LARGE_COLUMNS, LARGE_ROWS};
 pub use times::{PageTimes, SHOWN_ALWAYS, Times};
-pub use warnings::{Warning, WarningLines, warnings_on};
-pub use words::{MessageLine, Refusal, Unseen, marks_of};
+pub use warnings::{Findings, Warning, warnings_on};
+pub use words::{FLASHING, MessageLine, NO_TIMES, Refusal, marks_of};

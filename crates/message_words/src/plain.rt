@@ -151,3 +151,14 @@ impl Plain {
         self.backs == 1
     }
 }
+
+/// Whether text of this colour is seen on a sign, as far as its own background goes.
+pub(crate) fn is_seen_in(sign: &Sign, fore: u8) -> bool {
+    let shown = |colour: u8| if sign.classic() {
+        colour
+    } else {
+        colour.min(1)
+    };
+    let fore = shown(fore);
+    fore > 0 && fore != shown(sign.defaults().back)
+}

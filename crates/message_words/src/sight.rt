@@ -1,6 +1,6 @@
 //! Whether text on the pages of an accepted message is seen.
 
-use crate::piece::Piece;
+use crate::piece::{Piece, piece_at};
 use crate::plain::Plain;
 use multi_layout::check;
 use multi_tag::Tag;
@@ -132,25 +132,33 @@ pub(crate) struct Sight<'a> {
 }
 
 impl<'a> Sight<'a> {
-    /// A message that a sign accepts, before its first item.
-    pub(crate) fn new(alloc: Global, sign: &'a Sign, message: &'a [u8]) -> Sight<'a> {
-        Sight {
+    /// A message that a sign accepts.
+    pub(crate) fn of(
+        alloc: Global,
+        sign: &'a Sign,
+        message: &'a [u8],
+    ) -> Result<Sight<'a>, AllocError> {
+        let mut sight = Sight {
             alloc,
             sign,
             message,
             look: first_look(sign),
             runs: Vec::new(alloc),
             plain: Plain::new(alloc, sign),
+        };
+        let mut at = 0;
+        for _ in 0..message.len() {
+            let Some((piece, behind)) = piece_at(message, at) else {
+                break;
+            };
+            sight.see(piece, at, behind)?;
+            at = behind;
         }
+        Ok(sight)
     }
 
     /// Passes what stands from one offset to another.
-    pub(crate) fn see(
-        &mut self,
-        piece: Piece<'_>,
-        at: usize,
-        end: usize,
-    ) -> Result<(), AllocError> {
+    fn see(&mut self, piece: Piece<'_>, at: usize, end: usize) -> Result<(), AllocError> {
         match piece {
             Piece::Text(text) => self.pass_text(text, at, end),
             Piece::Tag(Tag::HexChar(number)) => {

@@ -1,6 +1,6 @@
-//! The times of the pages of a message, and whether its text flashes.
+//! The times of the pages of a message.
 
-use crate::piece::{Piece, named_from, piece_at, tag_of};
+use crate::piece::{named_from, tag_of};
 use multi_tag::Tag;
 use sign_font::Sign;
 use std::alloc::{AllocError, Global};
@@ -18,6 +18,11 @@ pub struct Times {
 }
 
 impl Times {
+    /// The times of the pages of a message in which no tag sets them.
+    pub fn usual(sign: &Sign) -> Times {
+        Times::of_tag(sign, None, None)
+    }
+
     /// The times behind a tag that sets them.
     pub(crate) fn of_tag(sign: &Sign, on: Option<u8>, off: Option<u8>) -> Times {
         let defaults = sign.defaults();
@@ -66,7 +71,7 @@ impl<'a> PageTimes<'a> {
         PageTimes {
             sign,
             rest: message,
-            times: Times::of_tag(sign, None, None),
+            times: Times::usual(sign),
         }
     }
 
@@ -89,27 +94,4 @@ impl<'a> PageTimes<'a> {
         self.rest = b"";
         self.times
     }
-}
-
-/// Whether a character of a message that a sign accepts has a flash with an off time (NTCIP 1203 v03, MULTI tag 'fl').
-pub(crate) fn flashes(sign: &Sign, message: &[u8]) -> bool {
-    let Some(mut at) = named_from(message, 0, &[b"fl"]) else {
-        return false;
-    };
-    let mut is_flashing = false;
-    for _ in 0..message.len() {
-        let Some((piece, behind)) = piece_at(message, at) else {
-            return false;
-        };
-        match piece {
-            Piece::Tag(Tag::Flash { off, .. }) => {
-                is_flashing = off.unwrap_or(sign.defaults().flash_off) > 0;
-            }
-            Piece::Tag(Tag::FlashEnd) => is_flashing = false,
-            Piece::Text(_) | Piece::Tag(Tag::HexChar(_)) if is_flashing => return true,
-            _ => {}
-        }
-        at = behind;
-    }
-    false
 }

@@ -4,6 +4,7 @@ ghost use Rattle.std.specs.List.{Contains};
 ghost use Rattle.message_words.specs.Places.{places};
 
 use crate::piece::{Piece, piece_at};
+use crate::plain::is_seen_in;
 use crate::sight::Sight;
 use crate::times::Times;
 use multi_layout::Checked;
@@ -11,8 +12,7 @@ use multi_tag::{FontPick, Tag};
 use multi_token::Source;
 use sign_font::Sign;
 use std::alloc::{AllocError, Global};
-use std::fmt;
-use std::fmt::{Display, Formatter, Write};
+use std::fmt::Write;
 
 /// A warning on an accepted message (own).
 #[derive(Drop)]
@@ -21,6 +21,17 @@ pub struct Warning {
     pub at: usize,
     /// A sentence.
     pub words: String,
+}
+
+/// What is found in an accepted message (own).
+#[derive(Drop)]
+pub struct Findings {
+    /// What its writer can't have meant.
+    pub warnings: Vec<Warning>,
+    /// Whether a character has a flash with an off time (NTCIP 1203 v03, MULTI tag 'fl').
+    pub flashes: bool,
+    /// Whether a tag sets page times (NTCIP 1203 v03, MULTI tag 'pt').
+    pub sets_times: bool,
 }
 
 /// The least time for which a page is shown without a warning, in tenths of a second (own).
@@ -57,6 +68,15 @@ struct Reading<'a> {
     is_begun: bool,
     /// Whether a font was asked for without its version.
     is_asked: bool,
+    /// Whether no tag so far can hide text, and each page before this one has a character that is no space.
+    is_plain: bool,
+    /// Whether this page has one.
+    has_text: bool,
+    /// Whether a flash with an off time is in force, and whether a character has one.
+    is_flashing: bool,
+    flashes: bool,
+    /// Whether a tag set page times.
+    sets_times: bool,
 }
 
 impl<'a> Reading<'a> {
@@ -79,11 +99,16 @@ impl<'a> Reading<'a> {
             page: 0,
             begin: 0,
             times_at: 0,
-            times: Times::of_tag(sign, None, None),
+            times: Times::usual(sign),
             line_just: sign.defaults().line,
             space: None,
             is_begun: false,
             is_asked: false,
+            is_plain: is_seen_in(sign, sign.defaults().fore),
+            has_text: false,
+            is_flashing: false,
+            flashes: false,
+            sets_times: false,
         }
     }
 
@@ -135,7 +160,9 @@ impl<'a> Reading<'a> {
 
     /// Passes a character.
     fn pass_character(&mut self, number: u16, at: usize) {
+        self.flashes = self.flashes || self.is_flashing;
         if number != SPACE {
+            self.has_text = true;
             self.is_begun = true;
             self.space = None;
         } else if self.is_begun && self.space.is_none() {
@@ -145,9 +172,11 @@ impl<'a> Reading<'a> {
 
     /// Passes characters that aren't written by their numbers.
     fn pass_text(&mut self, text: &[u8], at: usize) {
+        self.flashes = self.flashes || self.is_flashing;
         let last = text.iter().rposition(|octet| *octet != b' ');
         let end = last.map_or(0, |last| last.saturating_add(1));
         if end > 0 {
+            self.has_text = true;
             self.is_begun = true;
             self.space = None;
         }
@@ -181,17 +210,35 @@ impl<'a> Reading<'a> {
         match tag {
             Tag::NewPage => {
                 self.end_line()?;
+                self.is_plain = self.is_plain && self.has_text;
+                self.has_text = false;
                 self.begin = behind;
                 self.page = self.page.saturating_add(1);
             }
-            Tag::NewLine(_) | Tag::Rect { .. } => self.end_line()?,
+            Tag::NewLine(_) => self.end_line()?,
+            Tag::Rect { .. } => {
+                self.is_plain = false;
+                self.end_line()?;
+            }
+            Tag::Back(_) => self.is_plain = false,
+            Tag::Fore(colour) => {
+                let fore = colour.unwrap_or(self.sign.defaults().fore);
+                self.is_plain = self.is_plain && is_seen_in(self.sign, fore);
+            }
             Tag::LineJust(just) => self.line_just = just.unwrap_or(self.sign.defaults().line),
             Tag::PageTime { on, off } => {
+                self.sets_times = true;
                 self.times_at = at;
                 self.times = Times::of_tag(self.sign, on, off);
             }
             Tag::Font(Some(pick)) => self.pass_font(pick, at)?,
             Tag::HexChar(number) => self.pass_character(number, at),
+            Tag::Flash { on, off, .. } => {
+                let defaults = self.sign.defaults();
+                self.is_flashing = off.unwrap_or(defaults.flash_off) > 0;
+                self.is_plain = self.is_plain && on.unwrap_or(defaults.flash_on) > 0;
+            }
+            Tag::FlashEnd => self.is_flashing = false,
             _ => {}
         }
         Ok(())
@@ -232,14 +279,13 @@ impl<'a> Reading<'a> {
         Ok(())
     }
 
-    /// Reads the message, and shows it to its sight.
-    fn read(&mut self, sight: &mut Sight<'a>) -> Result<(), AllocError> {
+    /// Reads the message.
+    fn read(&mut self) -> Result<(), AllocError> {
         let mut at = 0;
         for _ in 0..self.message.len() {
             let Some((piece, behind)) = piece_at(self.message, at) else {
                 break;
             };
-            sight.see(piece, at, behind)?;
             self.pass(piece, at, behind)?;
             at = behind;
         }
@@ -299,33 +345,31 @@ pub fn warnings_on(
     message: &[u8],
     checked: &Checked<'_>,
     max_string: u16,
-) -> Result<Vec<Warning>, AllocError>
-    ensures { IfOk result (λ warnings. max_string < length message.now → Contains (places warnings.items) max_string) }
+) -> Result<Findings, AllocError>
+    ensures { IfOk result (λ found. max_string < length message.now → Contains (places found.warnings.items) max_string) }
 {
     let mut reading = Reading::new(alloc, sign, message, checked, Vec::new(alloc));
-    let mut sight = Sight::new(alloc, sign, message);
-    reading.read(&mut sight)?;
-    // few messages have a dark page, and no other is read twice
-    let dark = sight.dark_pages(checked.pages())?;
-    if !dark.is_empty() {
-        reading = Reading::new(alloc, sign, message, checked, dark);
-        reading.read(&mut Sight::new(alloc, sign, message))?;
-    }
-    reading.look_at_text(&sight)?;
-    reading.look_at_whole(message.len(), max_string)?;
-    let Reading { found, .. } = reading;
-    Ok(found)
-}
-
-/// Warnings as lines (own). Written by `Display`.
-#[derive(Clone, Copy)]
-pub struct WarningLines<'a>(pub &'a [Warning]);
-
-impl Display for WarningLines<'_> {
-    fn fmt<W: Write>(&self, f: &mut Formatter<W>) -> fmt::Result {
-        for warning in self.0 {
-            writeln!(f, "warning at octet {}: {}", warning.at, warning.words)?;
+    reading.read()?;
+    // few messages have text that can be hidden or a page without text, and no other is looked at
+    if !reading.is_plain || !reading.has_text {
+        let sight = Sight::of(alloc, sign, message)?;
+        let dark = sight.dark_pages(checked.pages())?;
+        if !dark.is_empty() {
+            reading = Reading::new(alloc, sign, message, checked, dark);
+            reading.read()?;
         }
-        Ok(())
+        reading.look_at_text(&sight)?;
     }
+    reading.look_at_whole(message.len(), max_string)?;
+    let Reading {
+        found,
+        flashes,
+        sets_times,
+        ..
+    } = reading;
+    Ok(Findings {
+        warnings: found,
+        flashes,
+        sets_times,
+    })
 }

@@ -1,10 +1,8 @@
 //! The words on a message, each written by `Display`.
 
 use crate::characters::FontCharacters;
-use crate::excerpt::{is_plain, write_excerpt, write_message};
+use crate::excerpt::{plain_line, write_excerpt, write_message};
 use crate::reason::Place;
-use crate::standing::standing_behind;
-use crate::times::flashes;
 use sign_font::Sign;
 use std::alloc::{AllocError, Global};
 use std::fmt;
@@ -16,9 +14,9 @@ use std::fmt::{Display, Formatter, Write};
 pub struct MessageLine<'a>(pub &'a [u8]);
 
 impl<'a> MessageLine<'a> {
-    /// The message itself, if all of its octets are shown as they are.
-    pub fn as_plain(&self) -> Option<&'a [u8]> {
-        is_plain(self.0).then_some(self.0)
+    /// The octets that are shown and what stands behind them, if each is shown as it is.
+    pub fn as_plain(&self) -> Option<(&'a [u8], &'static str)> {
+        plain_line(self.0)
     }
 }
 
@@ -89,40 +87,20 @@ impl Display for Refusal<'_> {
     }
 }
 
+/// That pages don't change, since the sum of all on times and off times is 0 (own): a line.
+pub const NO_TIMES: &str = "all times are 0, so page 1 is shown all the time\n";
+
+/// That text flashes, before and after the number of tenths of a second after which its page is drawn (own): a line.
+pub const FLASHING: [&str; 2] = [
+    "text flashes, and is drawn as it is ",
+    " tenths of a second after its page began\n",
+];
+
 /// What the marks of the pictures of a sign's pages mean (own): a line.
 pub fn marks_of(sign: &Sign) -> &'static str {
     if sign.classic() {
         "colours: 1 red, 2 yellow, 3 green, 4 cyan, 5 blue, 6 magenta, 7 white, 8 orange, 9 amber, . black\n"
     } else {
         "pixels: 1 lit, . dark\n"
-    }
-}
-
-/// What the pictures of a message's pages don't show: that its pages don't change, and that text flashes (own). It is written by `Display`.
-#[derive(Clone, Copy)]
-pub struct Unseen<'a> {
-    /// The sign.
-    pub sign: &'a Sign,
-    /// The message.
-    pub message: &'a [u8],
-    /// The sum of the on times and off times of all its pages, in tenths of a second.
-    pub cycle: u32,
-    /// When its pages are drawn, in tenths of a second since each began.
-    pub phase: u64,
-}
-
-impl Display for Unseen<'_> {
-    fn fmt<W: Write>(&self, f: &mut Formatter<W>) -> fmt::Result {
-        if self.cycle == 0 && standing_behind(self.sign, self.message).pages > 1 {
-            f.write_str("all times are 0, so page 1 is shown all the time\n")?;
-        }
-        if flashes(self.sign, self.message) {
-            let phase = self.phase;
-            writeln!(
-                f,
-                "text flashes, and is drawn as it is {phase} tenths of a second after its page began"
-            )?;
-        }
-        Ok(())
     }
 }

@@ -8,10 +8,10 @@ pub returns : goal.returns
 returns c =
     let string = c.args.checked in
     let text = c.args.text.now.items in
-    let pages = ExplanationLemmas.pages_are string.sign string.source.octets c.pages.result c.pages.ensures c.requires.short in
+    let pages = ExplanationLemmas.pages_are string.sign string.source.octets c.pages-2.result c.pages-2.ensures c.requires.short in
     let first = c.in_ok-push_accepted.ensures ∙ ap (λ n. c.push_line_head.new.text.items ++ accepted_text n) pages in
     let (front, line, between) = c.in_ok-push_message.ensures in
-    let (shown, second, has) = c.in_ok-push_pages.ensures.ok in
+    let (shown, second, has) = c.in_ok-push_pages.ensures in
     let (words, third) = c.in_ok-push_notes.ensures in
     let all = ExplanationLemmas.three_more text c.push_line_head.new.text.items c.push_accepted.new.text.items c.push_message.new.text.items c.push_pages.new.text.items (line_head c.args.message.now.line) _ front shown c.in_ok-push_line_head.ensures first between second in
     (_, TextLemmas.grown text c.push_pages.new.text.items c.push_notes.new.text.items _ words _ all third refl, (front, shown, words, has, line, refl))

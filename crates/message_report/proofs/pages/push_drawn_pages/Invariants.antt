@@ -1,6 +1,6 @@
 use Rattle.std.proofs.Common.{◌≡◌, ◌++◌, ℕ, List}
 use Rattle.message_report.specs.Explanation.{HasPages, picture_text}
-use Rattle.message_report.proofs.pages.push_pages.Given as goal
+use Rattle.message_report.proofs.pages.push_drawn_pages.Given as goal
 
 abbrev pub invariant-loop-page : goal.invariant-loop-page
 invariant-loop-page l = ((shown : List ℕ) × (l.text.items ≡ l.fn.text.items ++ shown)

@@ -3,11 +3,11 @@ use Rattle.multi_layout.specs.Meaning.{meanings}
 use Rattle.multi_layout.specs.Verdict.{pages_of}
 use Rattle.message_report.specs.Explanation.{HasPages, head_text, picture_text}
 use Rattle.message_report.proofs.ExplanationLemmas
-use Rattle.message_report.proofs.pages.push_pages.Goals as goal
+use Rattle.message_report.proofs.pages.push_drawn_pages.Goals as goal
 
 pub push_picture-requires-clause-page : goal.push_picture-requires-clause-page
 push_picture-requires-clause-page c =
-    let string = c.args.checked.now in
+    let string = c.args.checked in
     let pages = ExplanationLemmas.pages_are string.sign string.source.octets c.pages-pages.result c.pages-pages.ensures c.requires.short in
     let here = ap (λ l. pages_of (meanings l)) c.loop-page.invariant.2 in
     omega (arith, c.loop-page-test.true, pages, here)
@@ -15,7 +15,7 @@ push_picture-requires-clause-page c =
 pub loop-page-preserved : goal.loop-page-preserved
 loop-page-preserved c =
     let message = c.args.message.now in
-    let octets = c.args.checked.now.source.octets in
+    let octets = c.args.checked.source.octets in
     let picture = picture_text c.args.picture message.sign.now octets message.telling.phase in
     let page = c.loop-page.page in
     let pages = c.pages-pages.result in
@@ -25,9 +25,9 @@ loop-page-preserved c =
     let all = ExplanationLemmas.three_more c.args.text.now.items c.loop-page.text.items c.push_head.new.text.items c.push_times.new.text.items c.push_picture.new.text.items shown (head_text page pages) words (picture page) so_far c.in_ok-push_head.ensures second third in
     ((shown ++ head_text page pages ++ words ++ 10 ∷ picture page, all, ExplanationLemmas.pages_more picture pages page shown words has line), c.in_ok-push_picture.ensures.kept.0 ∙ same_sign, c.in_ok-push_picture.ensures.kept.1 ∙ same_octets)
 
-pub returns-clause-ok : goal.returns-clause-ok
-returns-clause-ok c =
-    let string = c.args.checked.now in
+pub returns : goal.returns
+returns c =
+    let string = c.args.checked in
     let message = c.args.message.now in
     let picture = picture_text c.args.picture message.sign.now string.source.octets message.telling.phase in
     let pages = ExplanationLemmas.pages_are string.sign string.source.octets c.pages-pages.result c.pages-pages.ensures c.requires.short in
