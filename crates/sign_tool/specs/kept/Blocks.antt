@@ -42,7 +42,7 @@ pub record Progress (first : ℕ) (answers behind : AllAnswers) (number : ℕ) (
       → answered first (lines ++ more) (answers (map text_of (lines ++ more))) at_end
       ≡ after sent (answered number more (behind (map text_of more)) at_end)
 
--- The first `count` lines of these octets, which have `at` octets, are answered, and their answers stand behind those that were ready (own).
+-- The first `count` lines, `at` of these octets, are answered, and their answers stand behind those that were ready (own).
 pub record AnswersLines (before behind : AllAnswers) (octets old new : List ℕ) (at count : ℕ) : Type 0 where
   pub within : at ≤ length octets
   pub few : count ≤ at
