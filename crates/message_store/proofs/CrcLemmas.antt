@@ -1,8 +1,10 @@
 -- Eight bits at a time by a table are eight bits one after the other.
-use Rattle.std.proofs.Common.{◌≡◌, ℕ, zero, suc, ◌+◌, ◌*◌, ◌/◌, ◌%◌, ◌^◌, ◌<◌, ◌⊎◌, inl, inr, refl, sym, ap, ◌∙◌, arith, bit_xor}
+use Rattle.std.proofs.Common.{◌≡◌, ℕ, zero, suc, ◌+◌, ◌*◌, ◌/◌, ◌%◌, ◌^◌, ◌<◌, ◌⊎◌, inl, inr, List, [], ◌∷◌, fold, length, take, slice_index_or, refl, sym, ap, ◌∙◌, arith, bit_xor}
+use Rattle.std.proofs.lemmas.List.Sums.{fold-append}
+use Rattle.std.proofs.lemmas.List.{take_more}
 use Rattle.std.proofs.lemmas.Nat.{xor_comm, xor_shr, xor_mod, xor_block}
 use Rattle.std.proofs.lemmas.Nat.Bits.{bit_at_xor, same_from_bits, bit_at-zero}
-use Rattle.message_store.specs.Crc.{bit_step, four_steps}
+use Rattle.message_store.specs.Crc.{bit_step, four_steps, octet_step}
 
 xor_assoc : (a b c : ℕ) → bit_xor (bit_xor a b) c ≡ bit_xor a (bit_xor b c)
 xor_assoc a b c = same_from_bits _ _ (λ i.
@@ -92,3 +94,32 @@ eight-is r =
     ∙ ap four_steps (four-linear (r / 256 * 256) (r % 256))
     ∙ four-linear (four_steps (r / 256 * 256)) (four_steps (r % 256))
     ∙ ap (λ x. bit_xor x (four_steps (four_steps (r % 256)))) (high-eight (r / 256))
+
+-- one more octet of a text
+pub octet_more : (text : List ℕ) (start n : ℕ) → n < length text → octet_step (fold octet_step start (take n text)) (slice_index_or text n 0) ≡ fold octet_step start (take (n + 1) text)
+octet_more text start n below =
+    sym (ap (fold octet_step start) (take_more text n 0 below) ∙ fold-append octet_step start (take n text) (slice_index_or text n 0 ∷ []))
+
+eight-linear : (a b : ℕ) → four_steps (four_steps (bit_xor a b)) ≡ bit_xor (four_steps (four_steps a)) (four_steps (four_steps b))
+eight-linear a b = ap four_steps (four-linear a b) ∙ four-linear (four_steps a) (four_steps b)
+
+-- an octet behind eight bits of the register: sixteen bits of its lowest eight, combined with eight bits of its upper ones and the octet
+pub pair-is : (r octet : ℕ) → bit_xor (four_steps (four_steps (four_steps (four_steps (r % 256))))) (four_steps (four_steps (bit_xor (r / 256) octet)))
+    ≡ four_steps (four_steps (bit_xor (four_steps (four_steps r)) octet))
+pair-is r octet =
+    let low8 = four_steps (four_steps (r % 256)) in
+    sym (
+    ap (λ x. four_steps (four_steps (bit_xor x octet))) (eight-is r)
+    ∙ ap (λ x. four_steps (four_steps x)) (xor_behind (r / 256) low8 octet)
+    ∙ eight-linear (bit_xor (r / 256) octet) low8
+    ∙ xor_comm (four_steps (four_steps (bit_xor (r / 256) octet))) (four_steps (four_steps low8))
+    )
+
+-- one more pair of a text
+pub pair_more : (text : List ℕ) (start register n : ℕ) → n + 1 < length text → register ≡ fold octet_step start (take n text)
+    → octet_step (octet_step register (slice_index_or text n 0)) (slice_index_or text (n + 1) 0) ≡ fold octet_step start (take (n + 2) text)
+pair_more text start register n below is =
+    ap (λ r. octet_step (octet_step r (slice_index_or text n 0)) (slice_index_or text (n + 1) 0)) is
+    ∙ ap (λ r. octet_step r (slice_index_or text (n + 1) 0)) (octet_more text start n (omega (arith, below)))
+    ∙ octet_more text start (n + 1) below
+    ∙ ap (λ k. fold octet_step start (take k text)) (let e : n + 1 + 1 ≡ n + 2 = omega arith in e)

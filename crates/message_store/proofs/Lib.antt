@@ -1,4 +1,5 @@
 mod CodeExamples
+pub mod CountedLemmas
 pub mod CrcLemmas
 mod LimitExamples
 pub mod LimitsLemmas

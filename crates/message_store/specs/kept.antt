@@ -2,3 +2,4 @@
 pub mod Pool
 pub mod Stored
 pub mod Working
+pub mod Counted

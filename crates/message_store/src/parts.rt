@@ -20,6 +20,14 @@ impl Store {
         self.slots.get(index)
     }
 
+    /// How many slots there are.
+    pub(crate) fn count(&self) -> usize
+        ensures count { result ≡ length self.now.slots }
+        ensures kept { IsKept self.now }
+    {
+        self.slots.all().len()
+    }
+
     /// The slot that waits to be judged, the lowest number first, counted from 0.
     pub(crate) fn waiting(&mut self) -> Option<usize>
         ensures index { result ≡ waiting self.old }

@@ -1,14 +1,12 @@
 //! The store: what it is made of, and what it tells of itself.
 
-ghost use Rattle.std.specs.Prelude.{◌≡◌, ◌≤◌, ◌+◌, length, map, true, false, not, IfOk, IfErr, OnOk, Err};
-ghost use Rattle.std.specs.List.{count_by};
+ghost use Rattle.std.specs.Prelude.{◌≡◌, ◌≤◌, ◌+◌, length, map, true, false, IfOk, IfErr, OnOk, Err};
 ghost use Rattle.message_store.specs.Limits.{IsKept, can_be_made, made};
-ghost use Rattle.message_store.specs.Slot.{is_not_used, used_bytes, used_slots, permanent_of};
+ghost use Rattle.message_store.specs.Slot.{used_bytes, used_slots, permanent_of};
 
 use crate::fault::StoreMade;
 use crate::limits::{StoreLimits, can_be_made};
 use crate::message::Permanent;
-use crate::slot::Slot;
 use crate::slots::Slots;
 use crate::texts::Texts;
 use std::alloc::Global;
@@ -33,17 +31,6 @@ impl Model for Store {
     ghost view = { λ s. stored s.limits s.permanent.items s.slots s.texts };
 
     ghost invariant = { λ s. IsStored s.limits s.permanent.items s.slots s.texts };
-}
-
-/// The number of slots that are used.
-fn count_used(slots: &[Slot]) -> usize
-    ensures count { result ≡ count_by (λ slot. not (is_not_used slot.status)) slots.now }
-{
-    let mut count = 0;
-    for slot in slots {
-        count += usize::from(!slot.status.is_not_used());
-    }
-    count
 }
 
 impl Store {
@@ -119,6 +106,6 @@ impl Store {
         ensures used { result ≡ used_slots self.now }
         ensures kept { IsKept self.now }
     {
-        count_used(self.slots.all()) as u16
+        self.slots.used() as u16
     }
 }

@@ -3,7 +3,8 @@
 ghost use Rattle.std.specs.Prelude.{◌≡◌, ◌<◌, ◌≤◌, length, IfOk};
 ghost use Rattle.message_store.specs.Limits.{IsKept};
 ghost use Rattle.message_store.specs.Codes.{memory_numbered};
-ghost use Rattle.message_store.specs.Step.{StepsTo, addressed, beacon_set, cleared, found, found_in, last_number, multi_set, owner_set, pixel_service_set, priority_set, requested, writable};
+ghost use Rattle.message_store.specs.Step.{StepsTo, addressed, beacon_set, cleared, found, found_in, last_number, multi_set, numbered, owner_set, pixel_service_set, priority_set, requested, slot_found, writable};
+ghost use Rattle.message_store.specs.declared.message.MemoryType.TheVariants as memory;
 
 use crate::fault::StoreFault;
 use crate::message::{MemoryType, MsgRef};
@@ -49,14 +50,31 @@ impl Store {
         found_in(self.permanent.len(), self.slots.all().len(), message)
     }
 
-    /// The slot that a call is for, counted from 0.
+    /// The slot of a number, counted from 0.
+    fn numbered(&self, number: u16) -> Result<usize, StoreFault>
+        ensures index { result ≡ slot_found number (numbered number (length self.now.slots) memory.Changeable) }
+        ensures within { IfOk result (λ index. index < length self.now.slots) }
+        ensures kept { IsKept self.now }
+    {
+        let count = self.count();
+        let number = usize::from(number);
+        if 1 <= number && number <= count {
+            Ok(number - 1)
+        } else {
+            Err(StoreFault::Number)
+        }
+    }
+
+    /// The slot that a call is for, counted from 0. Almost every one is for a slot, which is looked up first, for speed.
     fn addressed(&self, message: MsgRef) -> Result<usize, StoreFault>
         ensures index { result ≡ addressed self.now message }
         ensures within { IfOk result (λ index. index < length self.now.slots) }
         ensures kept { IsKept self.now }
     {
+        if message.memory == 3 {
+            return self.numbered(message.number);
+        }
         match self.found(message) {
-            Ok(MemoryType::Changeable) => Ok(usize::from(message.number) - 1),
             Ok(_) => Err(StoreFault::ReadOnly),
             Err(fault) => Err(fault),
         }

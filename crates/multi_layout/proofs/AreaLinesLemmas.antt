@@ -1,9 +1,9 @@
 -- The first reading of an area: the table of its lines, item by item.
-use Rattle.std.proofs.Common.{◌≡◌, ℕ, Bool, true, ◌+◌, ◌-◌, ◌*◌, ◌^◌, ◌<◌, ◌≤◌, false, cond, length, map, List, [], ◌∷◌, ◌++◌, Some, refl, sym, ap, subst, ◌∙◌, arith, append_assoc, append-nil, length-append}
+use Rattle.std.proofs.Common.{◌≡◌, ℕ, Bool, true, ◌+◌, ◌-◌, ◌*◌, ◌^◌, ◌<◌, ◌≤◌, false, cond, inl, inr, slice_get, None, length, map, List, [], ◌∷◌, ◌++◌, Some, Option, refl, sym, ap, subst, ◌∙◌, arith, append_assoc, append-nil, length-append}
 use Rattle.std.specs.List.{All}
 use Rattle.std.proofs.lemmas.List.{map-append}
 use Rattle.std.proofs.lemmas.List.Elements.{All-nil, All-push}
-use Rattle.std.specs.Prelude.{if◌then◌else◌}
+use Rattle.std.specs.Prelude.{IfSome, if◌then◌else◌}
 use Rattle.multi_token.specs.Counted.{Counted, RisesBetween, charged}
 use Rattle.multi_token.specs.Spelling.{Item}
 use Rattle.multi_token.proofs.ReadingLemmas.{spelling_some}
@@ -11,60 +11,74 @@ use Rattle.multi_token.proofs.StepLemmas.{rises_more, rises_then}
 use Rattle.sign_font.specs.declared.parts.LineFill.{LineFill}
 use Rattle.sign_font.specs.declared.parts.LineFill.TheVariants.{Words}
 use Rattle.sign_font.specs.Sign.{SignData}
+use Rattle.sign_font.specs.Sound.{IsSound}
+use Rattle.multi_layout.specs.declared.area.Area.{Area}
+use Rattle.multi_layout.specs.declared.cursor.Begun.{Begun}
 use Rattle.multi_layout.specs.declared.cursor.Cursor.{Cursor}
+use Rattle.multi_layout.specs.declared.cursor.Met.TheVariants.{Setting}
+use Rattle.multi_layout.specs.declared.item.KnownItem.TheVariants as known
 use Rattle.multi_layout.specs.declared.item.NextItem.{NextItem}
 use Rattle.multi_layout.specs.declared.pass.Pass.{Pass}
 use Rattle.multi_layout.specs.declared.read.AreaLines.{AreaLines}
+use Rattle.multi_layout.specs.declared.state.State.{State}
 use Rattle.multi_layout.specs.declared.table.LineTable.{LineTable}
-use Rattle.multi_layout.specs.Address.{Standing, in_area, spots, standing}
+use Rattle.multi_layout.specs.Address.{Spot, Standing, in_area, spots, standing}
 use Rattle.multi_layout.specs.kept.AreaReading.{IsNextRead, IsReadOf, laid_area}
 use Rattle.multi_layout.specs.kept.FilledState.{IsFilledOf}
 use Rattle.multi_layout.specs.kept.KnownItem.{meant_by}
 use Rattle.multi_layout.specs.LaidItems.{laid_items}
-use Rattle.multi_layout.specs.Meaning.{EndsArea, Meaning, begins_area, meaning}
-use Rattle.multi_layout.specs.kept.AreaDrawing.{BeginsNoArea, HasCounted, HasKnown, IsAreaRead, IsLow, first_steps, whole_area}
+use Rattle.multi_layout.specs.Meaning.{Does, EndsArea, Meaning, begins_area, meaning}
+use Rattle.multi_layout.specs.kept.AreaDrawing.{BeginsNoArea, HasCounted, HasKnown, IsAreaRead, IsLow, first_steps, next_group, whole_area}
 use Rattle.multi_layout.specs.kept.PassState.{IsPassOf, fill_of}
 use Rattle.multi_layout.specs.kept.State.{IsStateOf, present_area}
 use Rattle.multi_layout.specs.kept.Table.{IsOrdered, group_lines, table_of}
 use Rattle.multi_layout.specs.Verdict.{fault_at, offences}
 use Rattle.multi_layout.specs.kept.Cursors.{IsBetween, IsFirst, IsItemRead, IsPlaced, items_of, laid_meanings, meant, LaidItem, spell_of}
-use Rattle.multi_layout.proofs.AreaReadLemmas.{laid_plain}
+use Rattle.multi_layout.specs.kept.Settings.{IsMet, IsNextAt, item_steps}
+use Rattle.multi_layout.proofs.AreaReadLemmas.{laid_plain, next_fine, present_placing, read_state}
+use Rattle.multi_layout.proofs.AreaStepLemmas.{step_stays, tag_stays}
 use Rattle.multi_layout.proofs.FilledStartLemmas.{area_empty, laid_empty, state_begins}
-use Rattle.multi_layout.proofs.KnownLinesLemmas.{known_none}
+use Rattle.multi_layout.proofs.KnownLinesLemmas.{counted_at_end, known_none}
 use Rattle.multi_layout.proofs.LaidItemLemmas.{are_laid}
-use Rattle.multi_layout.specs.kept.Sums.{area_sum}
+use Rattle.multi_layout.specs.kept.Sums.{IsPlacing, area_sum}
 use Rattle.multi_layout.proofs.LimitLemmas.{limited_none}
 use Rattle.multi_layout.proofs.PieceLemmas.{ends_laid, first_piece, laid_front, plain_laid}
+use Rattle.multi_layout.proofs.ReadLemmas.{at_end}
+use Rattle.multi_layout.proofs.SettingLemmas.{setting_is, setting_passed}
 use Rattle.multi_layout.proofs.SpotsLemmas.{area_ends}
 use Rattle.multi_layout.proofs.StandingLemmas.{standing_push}
-use Rattle.multi_layout.proofs.WalkLemmas.{few_placed, fine_items, placed_more, spell_of-append, within}
+use Rattle.multi_layout.proofs.WalkLemmas.{few_placed, fine_items, none_at_end, placed_more, spell_of-append, within}
 use Rattle.multi_layout.proofs.WholeAreaLemmas.{counted_whole}
 use Rattle.multi_layout.proofs.WordLemmas.{left_nil, some_after-append}
 
--- the steps of one more item, and of what goes on behind it, the octet there too
-pub steps_on : (source a b d e : Counted) (from at len to : ℕ) (octet : Bool) → from ≤ at → at + len ≤ to → 1 ≤ len → (octet ≡ false → to ≡ at + len)
-    → RisesBetween source a 0 (9 * (at - from)) → RisesBetween a b 0 (9 * len - 9) → RisesBetween b d 0 8 → (octet ≡ true → d ≡ charged b 1) → RisesBetween d e 1 (if octet then 2 * (to - (at + len)) + 3 else 1)
-    → RisesBetween source e 0 (9 * (to - from))
-steps_on source a b d e from at len to octet low on some alone earlier item passing one further = of octet refl
+-- the steps of one more item, of which this is still to be read, and of what goes on behind it, the octet there too
+pub steps_on : (source a b d e : Counted) (from at len to taken known paid : ℕ) (octet : Bool) → from ≤ at → at + len ≤ to → 1 ≤ len → (octet ≡ false → to ≡ at + len) → RisesBetween source a 0 taken → taken + paid ≤ 9 * (at - from) + known → known ≤ 9 * len - 9
+    → RisesBetween a b 0 (9 * len - 9 - known) → RisesBetween b d 0 8 → (octet ≡ true → d ≡ charged b 1) → RisesBetween d e 1 (if octet then 2 * (to - (at + len)) + 3 else 1)
+    → RisesBetween source e 0 (9 * (to - from) - paid) × (paid ≤ 9 * (to - from))
+steps_on source a b d e from at len to taken known paid octet low on some alone earlier few least item passing one further = (of octet refl, omega (arith, low, on, few, least))
   where
-    both : RisesBetween source b 0 (9 * (at - from) + (9 * len - 9))
-    both = rises_then source a b 0 (9 * (at - from)) 0 (9 * len - 9) earlier item
+    both : RisesBetween source b 0 (taken + (9 * len - 9 - known))
+    both = rises_then source a b 0 taken 0 (9 * len - 9 - known) earlier item
 
-    of : (is : Bool) → octet ≡ is → RisesBetween source e 0 (9 * (to - from))
+    of : (is : Bool) → octet ≡ is → RisesBetween source e 0 (9 * (to - from) - paid)
     of true is =
         let step : RisesBetween b d 0 1 = (1, omega arith, omega arith, one is) in
         let last : RisesBetween d e 1 (2 * (to - (at + len)) + 3) = subst (λ (o : Bool). RisesBetween d e 1 (if o then 2 * (to - (at + len)) + 3 else 1)) is further in
-        let all = rises_then source d e 0 (9 * (at - from) + (9 * len - 9) + 1) 1 (2 * (to - (at + len)) + 3) (rises_then source b d 0 (9 * (at - from) + (9 * len - 9)) 0 1 both step) last in
+        let all = rises_then source d e 0 (taken + (9 * len - 9 - known) + 1) 1 (2 * (to - (at + len)) + 3) (rises_then source b d 0 (taken + (9 * len - 9 - known)) 0 1 both step) last in
         (all.0, omega arith, omega (arith, all.2), all.3)
     of false is =
         let last : RisesBetween d e 1 1 = subst (λ (o : Bool). RisesBetween d e 1 (if o then 2 * (to - (at + len)) + 3 else 1)) is further in
-        let all = rises_then source d e 0 (9 * (at - from) + (9 * len - 9) + 8) 1 1 (rises_then source b d 0 (9 * (at - from) + (9 * len - 9)) 0 8 both passing) last in
+        let all = rises_then source d e 0 (taken + (9 * len - 9 - known) + 8) 1 1 (rises_then source b d 0 (taken + (9 * len - 9 - known)) 0 8 both passing) last in
         (all.0, omega arith, omega (arith, all.2, alone is), all.3)
 
--- reading the first of some items, or their end, takes a step
-first_some : (items : List Item) → 1 ≤ first_steps items
-first_some [] = omega arith
-first_some (item ∷ items) = omega (arith, spelling_some item)
+-- the steps of a setting, and of the octet behind it
+pub steps_set : (source a b d : Counted) (from at len taken known paid : ℕ) → from ≤ at → 1 ≤ len → RisesBetween source a 0 taken → taken + paid ≤ 9 * (at - from) + known → known ≤ 9 * len - 8 → RisesBetween a b 0 (9 * len - 8 - known) → d ≡ charged b 1
+    → RisesBetween source d 0 (9 * (at + len - from) - paid) × (paid ≤ 9 * (at + len - from))
+steps_set source a b d from at len taken known paid low some earlier few least item one = (
+  rises_more source d 0 _ (9 * (at + len - from) - paid) (omega (arith, low, some, few, least))
+      (rises_then source b d 0 (taken + (9 * len - 8 - known)) 0 1 (rises_then source a b 0 taken 0 (9 * len - 8 - known) earlier item) (1, omega arith, omega arith, one)),
+  omega (arith, low, few, least),
+)
 
 abbrev item_at : LaidItem → Item
 item_at piece = piece.item
@@ -165,8 +179,8 @@ module _ {words : Bool} {sign : SignData} {octets : List ℕ} {before behind : L
   pub placed_in : {octets' : List ℕ} → octets' ≡ octets → IsPlaced sign octets' (items_of done) (items_of so.left) at
   placed_in same = subst (λ o. IsPlaced sign o (items_of done) (items_of so.left) at) (sym same) so.placed
 
-  pub so_read : {octets' : List ℕ} → octets' ≡ octets → (next : NextItem) → ((sign : SignData) (before behind : List Item) → IsPlaced sign octets' before behind at → IsFirst behind (Some next)) → NextSo next
-  so_read same next first = so_first next (first sign (items_of done) (items_of so.left) (placed_in same))
+  pub so_read : {octets' : List ℕ} → octets' ≡ octets → (next : NextItem) → IsNextAt sign octets' at next → NextSo next
+  so_read same next is = so_first next (is (items_of done) (items_of so.left) (placed_in same))
 
   module _ {next : NextItem} (n : NextSo next) where
     placed_here : IsPlaced sign octets (items_of done) (n.piece.item ∷ items_of n.rest) at
@@ -217,11 +231,73 @@ module _ {words : Bool} {sign : SignData} {octets : List ℕ} {before behind : L
           read = subst (λ l. IsReadOf words sign l kept'.state.area.present kept' lines') items read;
         }
 
+  -- an item that is no setting was met
+  abbrev pub met_stays : (state : State) → state ≡ kept.state → SoFar words sign octets before behind at (record kept { state = state }) lines
+  met_stays _ same = record {
+    pieces = so.pieces;
+    left = so.left;
+    split = so.split;
+    plain = so.plain;
+    same_area = so.same_area;
+    laid = so.laid;
+    placed = so.placed;
+    read = subst (λ (s : State). IsReadOf words sign (items_of done) s.area.present (record kept { state = s }) lines) (sym same) so.read;
+  }
+
+  -- a setting is passed
+  pub setting_read : IsSound sign → {octets' : List ℕ} → octets' ≡ octets → (len : ℕ) (state : State) → IsMet sign octets' at kept.state (Setting len) state → SoFar words sign octets before behind (at + len) (record kept { state = state }) lines
+  setting_read sound same len state (tag, puts, is) =
+      let next : NextItem = record { item = known.Tag tag; len = len } in
+      let n = so_read same next is in
+      let it = so_next n in
+      let ms = map meaning (items_of done) in
+      let new : Pass = record kept { state = state } in
+      let (plain, closed, placed) = setting_is tag puts.setting in
+      let of = setting_passed words sign ms kept state tag so.read.of puts in
+      let passed = tag_stays words sign ms kept new tag so.read.of (next_fine it) of plain closed in
+      let present : next_group kept.state (Does tag) ≡ kept.state.area.present = ap (λ b. cond b kept.state.attributes.page_just kept.state.area.present) placed in
+      let r = subst (λ p. IsReadOf words sign (items_of done) p kept lines) (sym present) so.read in
+      read_on n (at + len) refl plain new lines (step_stays sound r it passed refl)
+
+  -- at the end of the string no item is left
+  pub no_more : slice_get octets at ≡ None → items_of so.left ≡ []
+  no_more none =
+      none_at_end sign octets (items_of done) (items_of so.left) at so.placed
+      (sym (at_end octets at (within sign octets (items_of done) (items_of so.left) at so.placed) none))
+
+  pub none_ends : items_of so.left ≡ [] → EndsArea (map meaning (items_of so.left))
+  none_ends none = subst (λ (l : List Item). EndsArea (map meaning l)) (sym none) (inl refl)
+
+  -- an item that begins an area ends this one, and this many steps are for it
+  pub area_ended : (next : NextItem) → IsFirst (items_of so.left) (Some next) → begins_area (meant_by next.item) ≡ true → EndsArea (map meaning (items_of so.left)) × (first_steps (items_of so.left) ≡ 9 * next.len - 8)
+  area_ended next (item, rest, is, read) begins = (
+    subst (λ (l : List Item). EndsArea (map meaning l)) (sym is) (inr (meaning item, map meaning rest, ap begins_area read.meant ∙ begins, refl)),
+    ap first_steps is ∙ ap (λ n. 9 * n - 8) (sym read.len),
+  )
+
+  -- at the end no item was read
+  pub none_known : items_of so.left ≡ [] → (item : Option NextItem) → IfSome item (IsNextAt sign octets at) → (item_steps item ≡ 0) × (first_steps (items_of so.left) ≡ 1)
+  none_known none None is = (refl, ap first_steps none)
+  none_known none (Some next) is = let (item, rest, first, read) = is (items_of done) (items_of so.left) so.placed in let wrong : [] ≡ item ∷ rest = sym none ∙ first in absurd (cc)
+
+  -- the table has all lines behind the last one
+  pub all_counted : IsSound sign → (lines' : LineTable)
+      → ((present : ℕ) (spots : List Spot) → kept.state.area.present < present → All IsPlacing spots → kept.state.area ≡ area_sum spots → HasKnown kept.state.area.present spots lines → HasKnown present spots lines')
+      → HasCounted (laid_area words sign (map meaning (items_of done))) lines'
+  all_counted sound lines' known =
+      let ms = map meaning (items_of done) in
+      let laid = laid_items (fill_of words) sign ms ms in
+      let st = read_state sound so.read in
+      let present = kept.state.area.present in
+      let is = ap (λ (a : Area). a.present) st.area in
+      counted_at_end (present_area sign laid) lines' (present + 1) (omega (arith, is)) (omega (arith, is, st.below.known))
+      (known (present + 1) (present_area sign laid) (omega arith) (present_placing sign laid) st.area so.read.known)
+
   -- the end of the area
-  pub area_read : sign.line_fill ≡ fill_of words → (start : Cursor) (read : AreaLines) (source source' source'' : Counted) → start.at ≡ length (spell_of before) → EndsArea (map meaning (items_of so.left))
-      → HasCounted (present_area sign (laid_items (fill_of words) sign (map meaning (items_of done)) (map meaning (items_of done)))) read.lines → IsOrdered read.lines → IsLow read.lines → read.end ≡ at
-      → RisesBetween source source' 0 (9 * (at - start.at) + 1) → RisesBetween source' source'' 0 (first_steps (items_of so.left) - 1) → IsAreaRead sign before behind start read source source''
-  area_read kind start read source source' source'' place ends counted ordered low end earlier last =
+  pub area_read : sign.line_fill ≡ fill_of words → (start : Cursor) (begun : Begun) (read : AreaLines) (source source' : Counted) (taken : ℕ) → start.at ≡ length (spell_of before) → EndsArea (map meaning (items_of so.left))
+      → HasCounted (present_area sign (laid_items (fill_of words) sign (map meaning (items_of done)) (map meaning (items_of done)))) read.lines → IsOrdered read.lines → IsLow read.lines → read.end ≡ at → IsFirst (items_of so.left) read.next
+      → RisesBetween source source' 0 taken → taken + 1 + item_steps begun.item ≤ 9 * (at - start.at) + first_steps (items_of so.left) → IsAreaRead sign before behind start begun read source source'
+  area_read kind start begun read source source' taken place ends counted ordered low end first steps few =
       let ms = map meaning (items_of done) in
       let rest = map meaning (items_of so.left) in
       let octets_of : length (spell_of done) ≡ length (spell_of before) + length (spell_of so.pieces) = ap length (spell_of-append before so.pieces) ∙ length-append (spell_of before) (spell_of so.pieces) in
@@ -232,7 +308,6 @@ module _ {words : Bool} {sign : SignData} {octets : List ℕ} {before behind : L
       ap (map meant) pieces ∙ so.laid ∙ ap (λ l. laid_items sign.line_fill sign l l) items ∙ ap (λ (setting : LineFill). laid_items setting sign (ms ++ rest) (ms ++ rest)) kind in
       let whole : whole_area sign before behind ≡ in_area (standing sign ms).area (spots sign (laid_items (fill_of words) sign (ms ++ rest) (ms ++ rest))) =
       ap (λ k. in_area k (spots sign (map meant (before ++ behind)))) (sym so.same_area) ∙ ap (λ l. in_area (standing sign ms).area (spots sign l)) all in
-      let all_steps = rises_then source source' source'' 0 (9 * (at - start.at) + 1) 0 (first_steps (items_of so.left) - 1) earlier last in
       record {
         area = so.pieces;
         rest = so.left;
@@ -240,8 +315,11 @@ module _ {words : Bool} {sign : SignData} {octets : List ℕ} {before behind : L
         plain = so.plain;
         ends = ends_laid sign done so.left so.laid ends;
         end = end ∙ long;
+        next = first;
         table = subst (λ a. HasCounted a read.lines) (sym whole) (counted_among words sign ms rest ends read.lines counted);
         ordered = ordered;
         low = low;
-        steps = rises_more source source'' 0 _ _ (omega (arith, long, first_some (items_of so.left))) all_steps;
+        taken = taken;
+        steps = steps;
+        few = omega (arith, few, long);
       }

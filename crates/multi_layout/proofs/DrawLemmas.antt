@@ -27,6 +27,8 @@ use Rattle.multi_layout.specs.declared.state.State.{State}
 use Rattle.multi_layout.specs.declared.attributes.Attributes.{Attributes}
 use Rattle.multi_layout.specs.Address.{Standing, standing, put_at, spots, Break}
 use Rattle.multi_layout.specs.Limits.{plane_octets}
+use Rattle.std.proofs.lemmas.Bool.{false≢true}
+use Rattle.multi_layout.specs.kept.KnownItem.{is_setting}
 use Rattle.multi_layout.specs.Meaning.{Meaning, Does, Shows, begins_area, is_new_page, meaning, meaning_of_tag}
 use Rattle.multi_layout.specs.Drawn.{has_colour}
 use Rattle.multi_layout.specs.Drawn as drawn
@@ -162,6 +164,23 @@ tag_drawn sign layer before rest tag old new plain back quiet drawn = of (back_o
         (cover_drawn sign layer before rest given new (shown_colour sign (unwrap_or given sign.defaults.back) == layer.colour) refl (back given is))
     of (inr other) = subst (IsDrawnTo sign layer (before ++ Does tag ∷ rest) (before ++ Does tag ∷ [])) (sym (quiet other))
         (same_drawn sign layer before rest (Does tag) old (no_page tag plain) (quiet_put sign.defaults (standing sign before) tag other plain) drawn)
+
+-- a setting puts nothing
+quiet_setting : (tag : Tag) → is_setting (Does tag) ≡ true → IsQuiet tag
+quiet_setting (Back colour) e = absurd (false≢true e)
+quiet_setting tag e = tt
+
+pub setting_put : (sign : SignData) (layer : Layer) (before rest : List Meaning) (tag : Tag) (plane : BitPlane) → begins_area (Does tag) ≡ false → is_setting (Does tag) ≡ true
+    → IsDrawnTo sign layer (before ++ Does tag ∷ rest) before plane → IsDrawnTo sign layer (before ++ Does tag ∷ rest) (before ++ Does tag ∷ []) plane
+setting_put sign layer before rest tag plane plain setting drawn =
+    same_drawn sign layer before rest (Does tag) plane (no_page tag plain) (quiet_put sign.defaults (standing sign before) tag (quiet_setting tag setting) plain) drawn
+
+pub setting_unput : (defaults : Defaults) (at : Standing) (tag : Tag) → is_setting (Does tag) ≡ true → put_at defaults at (Does tag) ≡ None
+setting_unput defaults at NewPage e = absurd (false≢true e)
+setting_unput defaults at (NewLine gap) e = absurd (false≢true e)
+setting_unput defaults at (Rect x y w h) e = absurd (false≢true e)
+setting_unput defaults at (Back colour) e = absurd (false≢true e)
+setting_unput defaults at tag e = refl
 
 -- STEPS OVER THE PLANE
 

@@ -16,6 +16,7 @@ pub mod BreakLemmas
 pub mod BreaksLineLemmas
 pub mod CellLemmas
 pub mod CheckLemmas
+mod ClockLemmas
 pub mod CutLemmas
 pub mod DrawLemmas
 pub mod DrawnLemmas
@@ -92,6 +93,9 @@ pub mod RoomLemmas
 pub mod RunLemmas
 mod RunLinesLemmas
 pub mod RunReadLemmas
+mod SettingDrawLemmas
+mod SettingLemmas
+mod SettingPassLemmas
 pub mod SkipLemmas
 pub mod SplitLemmas
 pub mod SpotsLemmas

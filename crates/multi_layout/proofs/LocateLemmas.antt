@@ -1,33 +1,39 @@
 -- What is shown at a time of the cycle, from page to page.
-use Rattle.std.proofs.Common.{◌≡◌, ℕ, ◌+◌, ◌-◌, ◌%◌, ◌^◌, ◌<◌, ◌≤◌, true, false, cond, ◌==◌, List, [], ◌∷◌, ◌++◌, length, map, Option, Some, None, refl, sym, ap, subst, ◌∙◌, inl, inr, eq-eqb, arith, append_assoc, append-nil}
+use Rattle.std.proofs.Common.{◌≡◌, ℕ, ◌+◌, ◌-◌, ◌<◌, ◌≤◌, true, false, cond, List, [], ◌∷◌, ◌++◌, length, map, slice_get, Option, Some, None, refl, sym, ap, subst, ◌∙◌, inl, inr, arith, append_assoc, append-nil}
 use Rattle.multi_layout.proofs.PageDrawLemmas.{new_page_is}
-use Rattle.std.proofs.lemmas.Bool.{cases_Bool, cases_lt, ne_eqb, or_left, or_right}
+use Rattle.std.proofs.lemmas.Bool.{cases_Bool, cases_lt}
 use Rattle.std.proofs.lemmas.List.{map-append}
 use Rattle.std.proofs.lemmas.List.Sums.{sum_by-append}
 use Rattle.std.specs.List.{cons_option}
 use Rattle.multi_token.specs.Reading.{reading}
 use Rattle.multi_token.specs.Spelling.{Item}
 use Rattle.multi_token.proofs.ReadingLemmas.{spelling_some}
+use Rattle.multi_tag.specs.declared.tag.Tag.{Tag}
 use Rattle.multi_tag.specs.declared.tag.Tag.TheVariants.{NewPage}
 use Rattle.sign_font.specs.Sign.{SignData}
 use Rattle.multi_layout.specs.declared.attributes.Attributes.{Attributes}
 use Rattle.multi_layout.specs.declared.cursor.Cursor.{Cursor}
+use Rattle.multi_layout.specs.declared.item.KnownItem.TheVariants as known
 use Rattle.multi_layout.specs.declared.item.NextItem.{NextItem}
 use Rattle.multi_layout.specs.declared.state.State.{State}
 use Rattle.multi_layout.specs.declared.times.Shown.{Shown}
 use Rattle.multi_layout.specs.declared.times.Shown.TheVariants.{Page, Off}
 use Rattle.multi_layout.specs.Address.{standing}
 use Rattle.multi_layout.specs.kept.KnownItem.{meant_by}
-use Rattle.multi_layout.specs.Meaning.{BeginsPage, Meaning, Does, is_new_page, meaning, meanings}
-use Rattle.multi_layout.specs.kept.State.{attributes_of}
-use Rattle.multi_layout.specs.Times.{Times, cycle, ended_times, page_times, shown, shown_within, times_at}
-use Rattle.multi_layout.specs.Verdict.{Accepted, IsCycle, IsVerdict, pages_of}
-use Rattle.multi_layout.specs.kept.Cursors.{IsFirst, IsPageSkipped, IsPassing, IsPassingBefore, IsPlaced, IsTextPassed, PassesOn}
-use Rattle.multi_layout.proofs.AcceptedLemmas.{accepted_is, cycle_is}
+use Rattle.multi_layout.specs.Meaning.{BeginsPage, Meaning, Does, begins_area, has_place, is_new_page, meaning, meanings}
+use Rattle.multi_layout.specs.kept.State.{IsStateOf, attributes_of}
+use Rattle.multi_layout.specs.Times.{Times, cycle, ended_times, page_times, shown_within, times_at}
+use Rattle.multi_layout.specs.Verdict.{pages_of}
+use Rattle.multi_layout.specs.kept.Cursors.{IsFirst, IsPlaced}
+use Rattle.multi_layout.specs.kept.Passing.{IsPageSkipped, IsPassing, IsPassingBefore, IsTextPassed, PassesOn, unplaced}
+use Rattle.multi_layout.specs.kept.Settings.{IsNextAt, PutsSetting}
 use Rattle.multi_layout.proofs.JudgedLemmas.{cycle-grows, ended_times-push, pages_of-push}
-use Rattle.multi_layout.proofs.SkipLemmas.{same_unplaced}
-use Rattle.multi_layout.proofs.TimesLemmas.{cycle_push, ended_count, shown_always, shown_modulo, shown_off, shown_on, times_are, times_are_all, times_count}
+use Rattle.multi_layout.proofs.SettingLemmas.{setting_is}
+use Rattle.multi_layout.proofs.SkipLemmas.{passing_tag, same_unplaced}
+use Rattle.multi_layout.proofs.ReadLemmas.{at_end}
+use Rattle.multi_layout.proofs.TimesLemmas.{cycle_push, ended_count, shown_off, shown_on, times_are, times_are_all}
 use Rattle.multi_layout.proofs.StandingLemmas.{standing_push}
+use Rattle.multi_layout.proofs.WalkLemmas.{none_at_end, within}
 use Rattle.multi_layout.proofs.WordLemmas.{push_ind}
 
 -- ---- what is kept where the cursor stands
@@ -48,6 +54,11 @@ abbrev pub times_of : Cursor → Times
 times_of cursor = record { on = cursor.state.attributes.on; off = cursor.state.attributes.off }
 
 -- ---- the present page
+
+-- what begins no area begins no page
+no_page_there : (x : Meaning) → begins_area x ≡ false → is_new_page x ≡ false
+no_page_there (Does NewPage) e = e
+no_page_there x e = refl
 
 -- items that begin no page end none
 pub same_ended : (sign : SignData) (earlier more : List Meaning) → pages_of (earlier ++ more) ≡ pages_of earlier → ended_times sign (earlier ++ more) ≡ ended_times sign earlier
@@ -129,12 +140,30 @@ module _ {sign : SignData} {octets : List ℕ} {before behind : List Item} {old 
           ends = inl (none, refl, s.same);
         }
 
+    -- an item was met that is no setting
+    abbrev pub met_in : (state : State) → state ≡ cursor.state → IsInPage sign octets before behind old (record { at = cursor.at; state = state })
+    met_in state same = record {
+      passed = record {
+        text = s.passed.text;
+        rest = s.passed.rest;
+        split = s.passed.split;
+        between = subst (λ (t : State). IsPassing sign octets items s.passed.rest (record { at = cursor.at; state = t })) (sym same) s.passed.between;
+      };
+      same = ap (λ (t : State). t.pages) same ∙ s.same;
+    }
+
     -- the item is read that stands behind the cursor, or there is none
     pub placed_here : {octets' : List ℕ} → octets' ≡ octets → IsPlaced sign octets' items s.passed.rest cursor.at
     placed_here same = subst (λ o. IsPlaced sign o items s.passed.rest cursor.at) (sym same) s.passed.between.placed
 
-    pub first_here : {octets' : List ℕ} → octets' ≡ octets → (next : Option NextItem) → ((sign : SignData) (before behind : List Item) → IsPlaced sign octets' before behind cursor.at → IsFirst behind next) → IsFirst s.passed.rest next
-    first_here same next first = first sign items s.passed.rest (placed_here same)
+    pub first_here : {octets' : List ℕ} → octets' ≡ octets → (next : NextItem) → IsNextAt sign octets' cursor.at next → IsFirst s.passed.rest (Some next)
+    first_here same next first = first items s.passed.rest (placed_here same)
+
+    -- at the end there is none
+    pub none_here : slice_get octets cursor.at ≡ None → s.passed.rest ≡ []
+    none_here none =
+        let p = s.passed.between.placed in
+        none_at_end sign octets items s.passed.rest cursor.at p (sym (at_end octets cursor.at (within sign octets items s.passed.rest cursor.at p) none))
 
     -- an item stands behind the cursor, of which this was read
     module _ {next : NextItem} (first : IsFirst s.passed.rest (Some next)) where
@@ -206,6 +235,16 @@ module _ {sign : SignData} {octets : List ℕ} {before behind : List Item} {old 
                 omega (arith, c.times, ap (λ ms. cycle (ended_times sign ms)) behind_is, cycle-grows sign passed (Does NewPage) refl, ap cycle ended_here, (clock_of p).times, ap (λ (t : Times). t.on + t.off) times),
               );
             }
+
+      -- a setting is put into force
+      pub set_here : (tag : Tag) → next.item ≡ known.Tag tag → (state : State) → PutsSetting sign tag cursor.state state → IsInPage sign octets before behind old (record { at = cursor.at + next.len; state = state })
+      set_here tag is state puts =
+          let (plain, closed, placed) = setting_is tag puts.setting in
+          let means = ap meant_by is in
+          let st = (puts.judged (unplaced passed) s.passed.between.state_is).1 in
+          let new : Cursor = record { at = cursor.at + next.len; state = state } in
+          let b = passing_tag stands first.3 new (ap has_place means ∙ placed) refl (subst (λ (m : Meaning). IsStateOf sign (unplaced passed ++ m ∷ []) state) (sym means) st) in
+          in_page_more b (no_page_there (meant_by next.item) (ap begins_area means ∙ plain))
 
 -- ---- a page that is looked at
 
@@ -297,35 +336,3 @@ module _ {sign : SignData} {octets : List ℕ} {time : ℕ} {start : Cursor} (s 
         more.1,
       )
     ]
-
--- A WHOLE STRING
-
--- the string has so many pages and these times together
-module _ (sign : SignData) (octets : List ℕ) (pages tenths : ℕ) (verdict : IsVerdict sign octets (Accepted pages))
-    (together : IsCycle sign octets tenths) (short : length octets < 2 ^ 32) where
-  abbrev times : List Times
-  times = page_times sign (meanings octets)
-
-  count : length times ≡ pages
-  count = times_count sign (meanings octets) ∙ sym (accepted_is sign octets pages verdict short).1
-
-  same : cycle times ≡ tenths
-  same = sym (cycle_is sign octets tenths together)
-
-  -- one page, or a cycle of 0, always shows page 0
-  pub always_one : (clock : ℕ) → pages ≡ 1 → shown sign octets clock ≡ Page 0 clock
-  always_one clock one = shown_always times clock (or_left (length times == 1) _ (eq-eqb (length times) 1 (count ∙ one)))
-
-  pub always_none : (clock : ℕ) → tenths ≡ 0 → shown sign octets clock ≡ Page 0 clock
-  always_none clock none = shown_always times clock (or_right (length times == 1) _ (eq-eqb (cycle times) 0 (same ∙ none)))
-
-  -- else what is shown is that at the clock modulo the cycle
-  pub shown_in_turn : (clock : ℕ) → (pages ≡ 1 → ⊥) → (tenths ≡ 0 → ⊥) → shown sign octets clock ≡ shown_within times (clock % tenths)
-  shown_in_turn clock many some =
-      let pages_many = ne_eqb (length times) 1 (λ e. many (sym count ∙ e)) in
-      let cycle_some = ne_eqb (cycle times) 0 (λ e. some (sym same ∙ e)) in
-      shown_modulo times clock (rw (pages_many, cycle_some) refl) ∙ ap (λ n. shown_within times (clock % n)) same
-
-  -- the clock modulo the cycle is below it
-  pub below_cycle : (clock : ℕ) → (tenths ≡ 0 → ⊥) → clock % tenths < cycle times
-  below_cycle clock some = let h : 0 < tenths = omega arith in omega (arith, same)

@@ -253,21 +253,21 @@ pub no_less : (x y k : ℕ) → x ≤ y → x ≤ y + k
 no_less x y k within = omega (arith, within)
 
 -- the steps over the string to its end
-pub string_end : (a b c d e : Counted) (start at end : ℕ) (left : List LaidItem) → start ≤ at → at ≤ end → left ≡ [] → RisesBetween a b 0 (18 * (at - start)) → RisesBetween b c 0 (9 * (end - at) + first_steps (items_of left)) → RisesBetween c d 0 (9 * (end - at)) → RisesBetween d e 0 1
-    → RisesBetween a e 0 (18 * (end - start) + 2)
-string_end a b c d e start at end left on more none w x y z =
+pub string_end : (a b s c d : Counted) (start at from end met taken : ℕ) (left : List LaidItem) → start ≤ at → at ≤ from → from ≤ end → left ≡ [] → RisesBetween a b 0 (18 * (at - start)) → RisesBetween b s 0 (9 * (from - at) + 1 + met) → RisesBetween s c 0 taken
+    → taken + 1 + met ≤ 9 * (end - from) + first_steps (items_of left) → RisesBetween c d 0 (9 * (end - from)) → RisesBetween a d 0 (18 * (end - start) + 2)
+string_end a b s c d start at from end met taken left on more further none w v x few y =
     let one : first_steps (items_of left) ≡ 1 = ap (λ l. first_steps (items_of l)) none in
-    let all = rises_then a d e 0 _ 0 1 (rises_then a c d 0 _ 0 (9 * (end - at)) (rises_then a b c 0 (18 * (at - start)) 0 (9 * (end - at) + first_steps (items_of left)) w x) y) z in
-    rises_more a e 0 _ (18 * (end - start) + 2) (omega (arith, one, on, more)) all
+    let all = rises_then a c d 0 _ 0 (9 * (end - from)) (rises_then a s c 0 _ 0 taken (rises_then a b s 0 (18 * (at - start)) 0 (9 * (from - at) + 1 + met) w v) x) y in
+    rises_more a d 0 _ (18 * (end - start) + 2) (omega (arith, one, on, more, further, few)) all
 
 -- the steps over the string behind one more item
-pub string_more : (a b c d e f : Counted) (start at end len : ℕ) (item : LaidItem) (rest left : List LaidItem) → start ≤ at → at ≤ end → left ≡ item ∷ rest → len ≡ length (spelling item.item)
-    → RisesBetween a b 0 (18 * (at - start)) → RisesBetween b c 0 (9 * (end - at) + first_steps (items_of left)) → RisesBetween c d 0 (9 * (end - at)) → RisesBetween d e 0 (9 * len - 8) → RisesBetween e f 0 1
+pub string_more : (a b s c d f : Counted) (start at from end met taken len : ℕ) (item : LaidItem) (rest left : List LaidItem) → start ≤ at → at ≤ from → from ≤ end → left ≡ item ∷ rest → len ≡ length (spelling item.item)
+    → RisesBetween a b 0 (18 * (at - start)) → RisesBetween b s 0 (9 * (from - at) + 1 + met) → RisesBetween s c 0 taken → taken + 1 + met ≤ 9 * (end - from) + first_steps (items_of left) → RisesBetween c d 0 (9 * (end - from)) → RisesBetween d f 0 1
     → RisesBetween a f 0 (18 * (end + len - start))
-string_more a b c d e f start at end len item rest left on more some is v w x y z =
+string_more a b s c d f start at from end met taken len item rest left on more further some is w v x few y z =
     let first : first_steps (items_of left) ≡ 9 * length (spelling item.item) - 8 = ap (λ l. first_steps (items_of l)) some in
-    let all = rises_then a e f 0 _ 0 1 (rises_then a d e 0 _ 0 (9 * len - 8) (rises_then a c d 0 _ 0 (9 * (end - at)) (rises_then a b c 0 (18 * (at - start)) 0 (9 * (end - at) + first_steps (items_of left)) v w) x) y) z in
-    rises_more a f 0 _ (18 * (end + len - start)) (omega (arith, first, on, more, is, spelling_some item.item)) all
+    let all = rises_then a d f 0 _ 0 1 (rises_then a c d 0 _ 0 (9 * (end - from)) (rises_then a s c 0 _ 0 taken (rises_then a b s 0 (18 * (at - start)) 0 (9 * (from - at) + 1 + met) w v) x) y) z in
+    rises_more a f 0 _ (18 * (end + len - start)) (omega (arith, first, on, more, further, few, is, spelling_some item.item)) all
 
 -- the steps over the plane of the areas of a page so far, with the fill where it begins
 pub record PageFilled (sign : SignData) (plane plane' : BitPlane) (octets : ℕ) : Type 0 where

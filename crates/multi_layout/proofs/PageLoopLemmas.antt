@@ -2,36 +2,47 @@
 use Rattle.std.proofs.Common.{◌≡◌, ℕ, ◌+◌, ◌-◌, ◌*◌, ◌≤◌, true, [], length, map, List, ◌∷◌, ◌++◌, Some, sym, ap, ◌∙◌, subst, arith}
 use Rattle.std.proofs.lemmas.List.{length-append}
 use Rattle.multi_token.specs.Counted.{Counted, RisesBetween}
-use Rattle.multi_token.specs.Spelling.{Item}
 use Rattle.page_plane.specs.Plane.{BitPlane}
 use Rattle.sign_font.specs.Sign.{SignData}
+use Rattle.multi_layout.specs.declared.cursor.Begun.{Begun}
 use Rattle.multi_layout.specs.declared.cursor.Cursor.{Cursor}
 use Rattle.multi_layout.specs.declared.item.NextItem.{NextItem}
 use Rattle.multi_layout.specs.declared.paint.Layer.{Layer}
 use Rattle.multi_layout.specs.declared.read.AreaLines.{AreaLines}
 use Rattle.multi_layout.specs.Meaning.{EndsArea, begins_area}
 use Rattle.multi_layout.specs.kept.AreaDrawing.{BeginsNoArea, DrawsOn, HasCounted, IsAreaRead, OverArea, first_steps, whole_area}
-use Rattle.multi_layout.specs.kept.Cursors.{IsBetween, IsFirst, IsPlaced, IsRead, LaidItem, items_of, meant, spell_of}
+use Rattle.multi_layout.specs.kept.Cursors.{IsBetween, IsFirst, IsRead, LaidItem, items_of, meant, spell_of}
+use Rattle.multi_layout.specs.kept.Settings.{AreSettingsPassed, item_steps}
 use Rattle.multi_layout.specs.kept.State.{present_area}
 use Rattle.multi_layout.proofs.PageDrawLemmas.{PageDrawn, PageSoFar, page_area}
 use Rattle.multi_layout.proofs.PieceLemmas.{first_begins, first_ended}
+use Rattle.multi_layout.proofs.SettingDrawLemmas.{page_settings}
 use Rattle.multi_layout.proofs.WalkLemmas.{same_octets, spell_of-append, stands_in}
 
 -- an area was read and drawn
-pub record Round (sign : SignData) (octets : List ℕ) (before behind : List LaidItem) (layer : Layer) (old new : Cursor) (plane : BitPlane) (end : ℕ) (source source' drawn : Counted) : Type 0 where
+pub record Round (sign : SignData) (octets : List ℕ) (before behind : List LaidItem) (layer : Layer) (old new : Cursor) (plane : BitPlane) (begun : Begun) (read : AreaLines) (source source' drawn : Counted) : Type 0 where
   pub so : PageDrawn sign octets before behind layer new plane
   pub ends : EndsArea (map meant so.left)
-  pub at : new.at ≡ end
-  pub on : old.at ≤ end
-  pub steps : RisesBetween source source' 0 (9 * (end - old.at) + first_steps (items_of so.left))
+  pub at : new.at ≡ read.end
+  pub on : old.at ≤ read.end
+  pub next : IsFirst (items_of so.left) read.next
+  pub taken : ℕ
+  pub steps : RisesBetween source source' 0 taken
+  pub few : taken + 1 + item_steps begun.item ≤ 9 * (read.end - old.at) + first_steps (items_of so.left)
   pub same : drawn.octets ≡ octets
   pub here : IsBetween sign drawn.octets (before ++ so.done) so.left new
 
+-- the settings from the cursor on are passed
+pub behind_settings : {sign : SignData} {octets octets' : List ℕ} {before behind : List LaidItem} {layer : Layer} {cursor : Cursor} {plane : BitPlane} (s : PageSoFar sign octets before behind layer cursor plane) → octets' ≡ octets → (new : Cursor)
+    → ((before behind : List LaidItem) → IsBetween sign octets' before behind cursor → AreSettingsPassed sign octets' before behind new) → PageSoFar sign octets before behind layer new plane
+behind_settings {sign} {octets} {octets'} {before} s same new passed =
+    page_settings s new (subst (λ o. AreSettingsPassed sign o (before ++ s.so.done) s.so.left new) same (passed (before ++ s.so.done) s.so.left (stands_in same s.so.between)))
+
 -- the area that begins at the cursor was read
 module _ {sign : SignData} {octets : List ℕ} {before behind : List LaidItem} {layer : Layer} {cursor : Cursor} {plane : BitPlane} (s : PageSoFar sign octets before behind layer cursor plane)
-    {source source' : Counted} (same : source.octets ≡ octets) {read : AreaLines}
-    (reads : (before behind : List LaidItem) → IsBetween sign source.octets before behind cursor → present_area sign (map meant before) ≡ [] → IsAreaRead sign before behind cursor read source source') where
-  pub area_here : IsAreaRead sign (before ++ s.so.done) s.so.left cursor read source source'
+    {source source' : Counted} (same : source.octets ≡ octets) {begun : Begun} {read : AreaLines}
+    (reads : (before behind : List LaidItem) → IsBetween sign source.octets before behind cursor → present_area sign (map meant before) ≡ [] → IsAreaRead sign before behind cursor begun read source source') where
+  pub area_here : IsAreaRead sign (before ++ s.so.done) s.so.left cursor begun read source source'
   area_here = reads (before ++ s.so.done) s.so.left (stands_in same s.so.between) s.begins
 
   same' : source'.octets ≡ octets
@@ -48,7 +59,7 @@ module _ {sign : SignData} {octets : List ℕ} {before behind : List LaidItem} {
 
   -- and drawn
   pub round : {drawn : Counted} → RisesBetween source' drawn 0 (9 * (read.end - cursor.at)) → (new : Cursor) (plane' : BitPlane) → OverArea sign source'.octets cursor read (λ before area rest. IsBetween sign source'.octets (before ++ area) rest new)
-      → OverArea sign source'.octets cursor read (λ before area rest. DrawsOn sign layer before area rest plane plane') → Round sign octets before behind layer cursor new plane' read.end source source' drawn
+      → OverArea sign source'.octets cursor read (λ before area rest. DrawsOn sign layer before area rest plane plane') → Round sign octets before behind layer cursor new plane' begun read source source' drawn
   round steps new plane' passed draws =
       let a = area_here in
       let done = before ++ s.so.done in
@@ -60,7 +71,10 @@ module _ {sign : SignData} {octets : List ℕ} {before behind : List LaidItem} {
         ends = subst (λ l. EndsArea (map meant l)) (sym left) a.ends;
         at = omega (arith, then'.placed.place, between.placed.place, a.end, ap length (spell_of-append done a.area), length-append (spell_of done) (spell_of a.area));
         on = omega (arith, a.end);
-        steps = subst (λ n. RisesBetween source source' 0 (9 * n + first_steps (items_of d.left))) long (subst (λ l. RisesBetween source source' 0 (9 * length (spell_of a.area) + first_steps (items_of l))) (sym left) a.steps);
+        next = subst (λ l. IsFirst (items_of l) read.next) (sym left) a.next;
+        taken = a.taken;
+        steps = a.steps;
+        few = subst (λ l. a.taken + 1 + item_steps begun.item ≤ 9 * (read.end - cursor.at) + first_steps (items_of l)) (sym left) (omega (arith, a.few, long));
         same = same_octets steps.3 ∙ same';
         here = stands_in (same_octets steps.3 ∙ same') d.between;
       }
@@ -75,17 +89,17 @@ pub record NextArea (sign : SignData) (octets octets' : List ℕ) (done left : L
   pub same : octets' ≡ octets
   pub here : IsBetween sign octets' done (item ∷ rest) cursor
 
-pub next_area : {sign : SignData} {octets : List ℕ} {before behind : List LaidItem} {layer : Layer} {old new : Cursor} {plane : BitPlane} {end : ℕ} {source source' drawn : Counted} (r : Round sign octets before behind layer old new plane end source source' drawn)
-    → {octets' : List ℕ} → octets' ≡ drawn.octets → (next : NextItem) → ((sign : SignData) (before behind : List Item) → IsPlaced sign drawn.octets before behind new.at → IsFirst behind (Some next)) → NextArea sign octets octets' (before ++ r.so.done) r.so.left new next
-next_area {sign} {octets} {before} {behind} {layer} {old} {new} r same next first =
+pub next_area : {sign : SignData} {octets : List ℕ} {before behind : List LaidItem} {layer : Layer} {old new : Cursor} {plane : BitPlane} {begun : Begun} {read : AreaLines} {source source' drawn : Counted} (r : Round sign octets before behind layer old new plane begun read source source' drawn)
+    → (next : NextItem) → read.next ≡ Some next → NextArea sign octets drawn.octets (before ++ r.so.done) r.so.left new next
+next_area {sign} {octets} {before} {behind} {layer} {old} {new} r next found =
     let done = before ++ r.so.done in
-    let (item, rest, is, read) = first_ended r.here r.ends next (first sign (items_of done) (items_of r.so.left) r.here.placed) in
+    let (item, rest, is, read) = first_ended r.here r.ends next (subst (IsFirst (items_of r.so.left)) found r.next) in
     record {
       item = item;
       rest = rest;
       is = is;
       read = read;
       begins = first_begins item rest (subst (λ l. EndsArea (map meant l)) is r.ends);
-      same = same ∙ r.same;
-      here = stands_in (same ∙ r.same) (subst (λ l. IsBetween sign octets done l new) is r.so.between);
+      same = r.same;
+      here = stands_in r.same (subst (λ l. IsBetween sign octets done l new) is r.so.between);
     }

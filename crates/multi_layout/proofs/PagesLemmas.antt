@@ -27,7 +27,8 @@ use Rattle.multi_layout.specs.declared.times.Shown.TheVariants.{Page, Off}
 use Rattle.multi_layout.specs.kept.PageDrawing.{IsFilledFew, IsPagePassed, IsPageStart, IsReadTwice, IsStartOf}
 use Rattle.multi_layout.specs.Picture.{in_plane, picture}
 use Rattle.multi_layout.specs.Verdict.{pages_of}
-use Rattle.multi_layout.specs.kept.Cursors.{IsAccepted, IsBetween, IsOrderly, IsPageSkipped, IsPassing, IsPlaced, items_of, laid_meanings, meant, LaidItem}
+use Rattle.multi_layout.specs.kept.Cursors.{IsAccepted, IsBetween, IsOrderly, IsPlaced, items_of, laid_meanings, meant, LaidItem}
+use Rattle.multi_layout.specs.kept.Passing.{IsPageSkipped, IsPassing}
 use Rattle.multi_layout.proofs.LocateLemmas.{clock_of}
 use Rattle.multi_layout.proofs.PieceLemmas.{begins_page, laid_pages, pieces_before, pieces_behind, starts_between}
 use Rattle.multi_layout.proofs.WalkLemmas.{within, within_between}

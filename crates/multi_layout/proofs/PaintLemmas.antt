@@ -9,6 +9,8 @@ use Rattle.std.proofs.lemmas.List.Elements.{filter-append}
 use Rattle.page_plane.specs.Plane.{BitPlane, is_lit}
 use Rattle.sign_font.specs.Cell as cells
 use Rattle.sign_font.specs.Sign.{SignData, FontData, CellData, cell_in, cell_numbered, sized}
+use Rattle.multi_layout.proofs.StateLemmas.{present_area-placing}
+use Rattle.multi_layout.specs.kept.Sums.{area_sum}
 use Rattle.multi_layout.specs.declared.area.Area.{Area}
 use Rattle.multi_layout.specs.declared.attributes.Attributes.{Attributes}
 use Rattle.multi_layout.specs.declared.paint.Layer.{Layer}
@@ -23,7 +25,7 @@ use Rattle.multi_layout.specs.kept.RunDrawing.{StandsAt}
 use Rattle.multi_layout.specs.Picture.{is_lit_at, shown_colour}
 use Rattle.multi_layout.specs.Place.{place_of}
 use Rattle.multi_layout.specs.kept.Placing.{PlacesCharacter}
-use Rattle.multi_layout.specs.kept.State.{IsStateOf}
+use Rattle.multi_layout.specs.kept.State.{IsStateOf, present_area}
 use Rattle.multi_layout.specs.kept.Table.{group_lines, table_of}
 use Rattle.multi_layout.proofs.CellLemmas.{covers}
 use Rattle.multi_layout.proofs.DrawnLemmas.{covered_glyph}
@@ -53,7 +55,9 @@ module _ (sign : SignData) (before : List Meaning) (state : State) (st : IsState
   -- the place of a character, by the lines of its area
   module _ (rest : List Meaning) (lines : LineTable) (counted : HasCounted (in_area (standing sign before).area (spots sign (before ++ Shows number ∷ rest))) lines)
       (place : Place)
-      (placed : PlacesCharacter state.attributes state.area (group_lines state.attributes.page_just lines) c.width place)
+      (area : Area)
+      (with : area ≡ area_sum (present_area sign (before ++ Shows number ∷ [])))
+      (placed : PlacesCharacter state.attributes area (group_lines state.attributes.page_just lines) c.width place)
       (fine : unsized_offence sign before (Shows number) ≡ None) where
     pub stands_at : StandsAt sign before number rest place
     stands_at cell numbered =
@@ -71,11 +75,12 @@ module _ (sign : SignData) (before : List Meaning) (state : State) (st : IsState
         ∙ filter-append (λ (t : Spot). t.at.page_just == at.page_just) (in_area at.area (spots sign before)) (spot ∷ more)
         ∙ ap (λ l. group_of spot (spots sign before) ++ l) own in
         let there = line_is_there (group_of spot (spots sign before)) (in_group at.page_just more) spot in
-        placed (spots sign before) (spots sign (before ++ Shows number ∷ rest)) spot refl st.attributes (ap (λ (z : cells.SizedCell). z.width) is) st.area
+        placed (spots sign before) (spots sign (before ++ Shows number ∷ rest)) spot refl st.attributes (ap (λ (z : cells.SizedCell). z.width) is)
+        (with ∙ ap area_sum (present_area-placing sign before (Shows number) (Glyph cell) refl (ap (option_map Glyph) numbered) refl))
         (counted state.attributes.page_just st.page_just.0 st.page_just.1 ∙ ap (λ n. table_of (lines_of (in_group n (in_area at.area (spots sign (before ++ Shows number ∷ rest)))))) page)
         (subst (λ g. count_by is_break (group_of spot (spots sign before)) < length (lines_of g)) (sym group) there)
         (no_clash (spots sign before) spot at.page_just refl refl (no_conflict sign before number cell numbered fine))
-        (no_back (spots sign before) spot state.attributes.page_just state.area.present (sym page) (ap (λ (a : Area). a.present) st.area) (no_conflict sign before number cell numbered fine))
+        (no_back (spots sign before) spot state.attributes.page_just _ (sym page) refl (no_conflict sign before number cell numbered fine))
 
   -- the pixels of a character that is lit
   module _ (rest : List Meaning) (layer : Layer) (place : Place) (stands : StandsAt sign before number rest place) where

@@ -1,6 +1,7 @@
 -- What is kept of the items that were read, by whether lines are filled.
 use Rattle.std.proofs.Common.{◌≡◌, ℕ, ◌^◌, ◌<◌, Bool, true, false, List, [], ◌∷◌, ◌++◌, length, Some, None, Result, Ok, Err, not, ◌==◌, refl, ap, sym, subst, ◌∙◌}
 use Rattle.std.proofs.lemmas.Bool.{eq-eqb, ne_eqb}
+use Rattle.std.specs.Prelude.{OnOk}
 use Rattle.multi_token.specs.Counted.{Counted}
 use Rattle.sign_font.specs.declared.parts.LineFill.{LineFill}
 use Rattle.sign_font.specs.declared.parts.LineFill.TheVariants.{Off, Words}
@@ -43,6 +44,11 @@ judged_unfilled sign items item (Err error) pass off none limited offends = subs
 pub state_judged : (sign : SignData) (items : List Meaning) (item : Meaning) (result : Result (Unit {0}) SyntaxError) (state : State) → IsJudged sign items item result state → offence Off sign items item ≡ None → IsStateOf sign (items ++ item ∷ []) state
 state_judged sign items item (Ok done) state (fine, st) none = st
 state_judged sign items item (Err error) state offends none = let wrong : Some (code_of error) ≡ None = sym offends ∙ none in absurd (cc)
+
+-- and what is known if it doesn't
+pub known_judged : (sign : SignData) (items : List Meaning) (item : Meaning) (result : Result (Unit {0}) SyntaxError) (state : State) (P : Type 0) → OnOk result P → IsJudged sign items item result state → offence Off sign items item ≡ None → P
+known_judged sign items item (Ok done) state P p judged none = p
+known_judged sign items item (Err error) state P p offends none = let wrong : Some (code_of error) ≡ None = sym offends ∙ none in absurd (cc)
 
 -- before the first item
 pub pass_start : (sign : SignData) (pass : Pass) (words : Bool) → sign.line_fill ≡ fill_of words → IsStateOf sign [] pass.state → IsLimited pass.state

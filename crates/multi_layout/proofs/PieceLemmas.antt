@@ -23,7 +23,8 @@ use Rattle.multi_layout.specs.Line.{given_gap}
 use Rattle.multi_layout.specs.Meaning.{BeginsPage, Does, EndsArea, Meaning, Shows, begins_area, has_place, meaning}
 use Rattle.multi_layout.specs.kept.AreaDrawing.{HasCounted, whole_area}
 use Rattle.multi_layout.specs.Verdict.{pages_of}
-use Rattle.multi_layout.specs.kept.Cursors.{IsBetween, IsFirst, IsItemRead, IsOrderly, IsPassing, IsPieceFirst, IsPlaced, IsRead, items_of, laid_meanings, meant, LaidItem, pieces_of}
+use Rattle.multi_layout.specs.kept.Cursors.{IsBetween, IsFirst, IsItemRead, IsOrderly, IsPieceFirst, IsPlaced, IsRead, items_of, laid_meanings, meant, LaidItem, pieces_of}
+use Rattle.multi_layout.specs.kept.Passing.{IsPassing}
 use Rattle.multi_layout.specs.Words.{each_after}
 use Rattle.multi_layout.proofs.FilledStateLemmas.{pages_at, same_times}
 use Rattle.multi_layout.proofs.LaidItemLemmas.{are_laid}

@@ -5,25 +5,30 @@ use Rattle.std.specs.List.{filter, list_any, onto_first, sum_by, count_by, All}
 use Rattle.std.proofs.lemmas.Bool.{cases_Bool, cases_eq, eq-eqb, eqb-true, false≢true}
 use Rattle.std.proofs.lemmas.Bool.Decides.{nat_tests}
 use Rattle.std.proofs.lemmas.List.Elements.{All-nil, All-cons, All-head, All-tail, All-filter, All-weaker}
+use Rattle.std.proofs.lemmas.List.{length-append}
 use Rattle.std.proofs.lemmas.List.Sums.{sum_by-cons, length-filter, count_by-le-length}
 use Rattle.std.proofs.lemmas.Option.{slice_get_within}
+use Rattle.multi_layout.specs.declared.area.Area.{Area}
 use Rattle.multi_layout.specs.declared.area.Group.{Group}
 use Rattle.multi_layout.specs.declared.attributes.Attributes.{Attributes}
-use Rattle.multi_layout.specs.declared.line.Character.{Character}
+use Rattle.multi_layout.specs.declared.line.Line.{Line}
 use Rattle.multi_layout.specs.declared.line.Segment.{Segment}
 use Rattle.multi_layout.specs.declared.table.CountedLine.{CountedLine}
 use Rattle.multi_layout.specs.Words.{cut_behind, largest}
-use Rattle.multi_layout.specs.Address.{Spot, is_glyph, is_break, segment, in_group, group_of, lines_of, line_before}
+use Rattle.multi_layout.specs.Address.{Spot, area_of, is_glyph, is_break, segment, in_group, group_of, lines_of, line_before}
 use Rattle.multi_layout.specs.Line.{bearers, line_height, height_of, width_of, glyph_width}
 use Rattle.multi_layout.specs.Fit.{fit, area_fits}
 use Rattle.multi_layout.specs.declared.place.Place.{Place}
+use Rattle.multi_layout.specs.Offence.{clashes}
 use Rattle.multi_layout.specs.Place.{place_of, start, spread}
 use Rattle.multi_layout.specs.kept.State.{attributes_of}
-use Rattle.multi_layout.specs.kept.Sums.{segment_sum, ended_lines, group_sum, IsCharacter}
+use Rattle.multi_layout.specs.kept.Sums.{area_sum, ended_lines, group_sum, line_sum, segment_sum}
 use Rattle.multi_layout.specs.kept.Table.{counted_line, table_of, width_in, column_in}
 use Rattle.multi_layout.proofs.WordLemmas.{largest_push, push_ind, All-split}
-use Rattle.multi_layout.proofs.LineSumLemmas.{filter_yes}
-use Rattle.multi_layout.proofs.TableLemmas.{table_length, look_up, look_up_bottom, ended_count}
+use Rattle.multi_layout.proofs.AreaSumLemmas.{group_of_own}
+use Rattle.multi_layout.proofs.GroupSumLemmas.{own_group, present_push}
+use Rattle.multi_layout.proofs.LineSumLemmas.{filter_yes, in_order}
+use Rattle.multi_layout.proofs.TableLemmas.{ended_count, ended_glyph, look_up, look_up_bottom, table_length}
 
 -- THE LINE OF AN ITEM
 
@@ -201,17 +206,6 @@ place_is before all spot line low high found =
     ∙ ap (λ n. place_by spot part_before height n (moved (length part) n) line.bottom) width
     ∙ ap (λ n. place_by spot part_before height (width_in just line) n line.bottom) (spread_if (just == 5) (length part_before) (length part) line.characters (spare (width_in just line)) characters)
 
--- this is how a line sees a character with these attributes in force
-pub seen_character : (spot : Spot) (a : Attributes) (width : ℕ) (character : Character) → is_glyph spot ≡ true → a ≡ attributes_of spot.at → glyph_width spot ≡ width
-    → character ≡ record { just = a.line_just; spacing = a.spacing; width = width; font = a.font } → IsCharacter spot character
-seen_character spot a width character glyph at wide seen = record {
-  glyph = glyph;
-  just = ap (λ (k : Character). k.just) seen ∙ ap (λ (a : Attributes). a.line_just) at;
-  spacing = ap (λ (k : Character). k.spacing) seen ∙ ap (λ (a : Attributes). a.spacing) at;
-  width = ap (λ (k : Character). k.width) seen ∙ sym wide;
-  font = ap (λ (k : Character). k.font) seen ∙ ap (λ (a : Attributes). a.font) at;
-}
-
 -- the width of a segment with one more character, from the segment's sum
 pub width_with : (earlier : List Spot) (spot : Spot) (just : ℕ) (part : Segment) → is_glyph spot ≡ true → just ≡ spot.at.line_just → part ≡ segment_sum just (earlier ++ spot ∷ []) → part.width ≡ width_of (segment spot.at.line_just earlier ++ spot ∷ [])
 width_with earlier spot just part glyph own sum =
@@ -220,27 +214,52 @@ width_with earlier spot just part glyph own sum =
     ∙ ap (λ just. width_of (segment just (earlier ++ spot ∷ []))) own
     ∙ ap width_of (filter_yes (λ t. is_glyph t && (t.at.line_just == spot.at.line_just)) earlier spot passes)
 
--- a character's column, from the columns of its segment before it
-pub column_is : (line : CountedLine) (earlier : List Spot) (spot : Spot) (a : Attributes) (part : Segment) (columns : ℕ)
-    → a ≡ attributes_of spot.at → part ≡ segment_sum a.line_just earlier → columns ≡ width_of (segment spot.at.line_just earlier ++ spot ∷ []) - glyph_width spot
+-- the present segment of a line whose last character this is
+pub part_with : (earlier : List Spot) (spot : Spot) (line : Line) → is_glyph spot ≡ true → line ≡ line_sum (earlier ++ spot ∷ []) → list_any (clashes spot) earlier ≡ false
+    → (line.part.width ≡ width_of (segment spot.at.line_just earlier ++ spot ∷ [])) × (line.part.count - 1 ≡ length (segment spot.at.line_just earlier))
+part_with earlier spot line glyph is apart =
+    let just = spot.at.line_just in
+    let all = earlier ++ spot ∷ [] in
+    let seen : line.present ≡ largest (λ (t : Spot). t.at.line_just) all = ap (λ (l : Line). l.present) is in
+    let present : line.present ≡ just = omega (arith, seen, largest_push (λ t. t.at.line_just) earlier spot, in_order earlier spot (line_sum earlier) refl apart) in
+    let part : line.part ≡ segment_sum just all = ap (λ (l : Line). l.part) is ∙ ap (λ n. segment_sum n all) (sym seen ∙ present) in
+    let passes : (is_glyph spot && (spot.at.line_just == spot.at.line_just)) ≡ true = ap (λ b. b && (spot.at.line_just == spot.at.line_just)) glyph ∙ eq-eqb spot.at.line_just spot.at.line_just refl in
+    let more : segment just all ≡ segment just earlier ++ spot ∷ [] = filter_yes (λ t. is_glyph t && (t.at.line_just == just)) earlier spot passes in
+    (width_with earlier spot just line.part glyph refl part, omega (arith, ap (λ (p : Segment). p.count) part, ap length more, length-append (segment just earlier) (spot ∷ [])))
+
+-- a character's column, from the columns of its segment before it and their number
+pub column_is : (line : CountedLine) (earlier : List Spot) (spot : Spot) (a : Attributes) (columns before : ℕ)
+    → a ≡ attributes_of spot.at → columns ≡ width_of (segment spot.at.line_just earlier ++ spot ∷ []) - glyph_width spot → before ≡ length (segment spot.at.line_just earlier)
     → a.rectangle.left + start a.line_just a.rectangle.width (width_in a.line_just line) + columns
-    + (if a.line_just == 5 then spread part.count line.characters (a.rectangle.width - width_in a.line_just line) else 0)
+    + (if a.line_just == 5 then spread before line.characters (a.rectangle.width - width_in a.line_just line) else 0)
     ≡ column_in line earlier spot
-column_is line earlier spot a part columns at sum before = rw (sum, before, at) refl
+column_is line earlier spot a columns before at wide count = rw (wide, count, at) refl
 
 -- a character's place, by the sums of its group and the entries of its group's lines
 pub place_from : (before all : List Spot) (spot : Spot) (a : Attributes) (group : Group) (lines : List CountedLine) (line : CountedLine) (column row height : ℕ)
-    → a ≡ attributes_of spot.at → (2 ≤ a.line_just) × (a.line_just ≤ 5) → group ≡ group_sum (group_of spot before) → lines ≡ table_of (lines_of (group_of spot all))
+    → a ≡ attributes_of spot.at → (2 ≤ a.line_just) × (a.line_just ≤ 5) → group.ended ≡ count_by is_break (group_of spot before) → lines ≡ table_of (lines_of (group_of spot all))
     → count_by is_break (group_of spot before) < length (lines_of (group_of spot all)) → ((l : CountedLine) → slice_get lines group.ended ≡ Some l → line ≡ l)
     → column ≡ column_in line (line_before before spot) spot → height ≡ height_of (lines_of (group_of spot all))
     → row ≡ a.rectangle.top + start a.page_just a.rectangle.height height + (line.bottom - a.font.height)
     → ◌≡◌ {A = Place} (record { column = column; row = row }) (place_of before all spot)
-place_from before all spot a group lines line column row height at known sum table there found wide high down =
+place_from before all spot a group lines line column row height at known ended table there found wide high down =
     let all_lines = lines_of (group_of spot all) in
     let k = count_by is_break (group_of spot before) in
     let just : a.line_just ≡ spot.at.line_just = ap (λ (a : Attributes). a.line_just) at in
-    let ended : group.ended ≡ k = ap (λ (g : Group). g.ended) sum ∙ ended_count (group_of spot before) in
     let own : slice_get (table_of all_lines) k ≡ Some (counted_line (take k all_lines) (slice_index_or all_lines k [])) = look_up all_lines k there in
     let is : line ≡ counted_line (take k all_lines) (slice_index_or all_lines k []) = found (counted_line (take k all_lines) (slice_index_or all_lines k [])) (rw (table, ended) own) in
     let place = place_is before all spot line (omega arith) (omega arith) (own ∙ ap Some (sym is)) in
     rw (wide, down, high, at) (sym place)
+
+-- the present group of an area whose last item is this character, and its present line
+pub group_with : (before : List Spot) (spot : Spot) (area : Area) → is_glyph spot ≡ true → area ≡ area_sum (area_of spot before ++ spot ∷ []) → largest (λ (t : Spot). t.at.page_just) (area_of spot before) ≤ spot.at.page_just
+    → (area.group.ended ≡ count_by is_break (group_of spot before)) × (area.group.line ≡ line_sum (line_before before spot ++ spot ∷ []))
+group_with before spot area glyph is order =
+    let page = spot.at.page_just in
+    let all = area_of spot before ++ spot ∷ [] in
+    let seen : area.present ≡ largest (λ (t : Spot). t.at.page_just) all = ap (λ (a : Area). a.present) is in
+    let present : page ≡ area.present = omega (arith, seen, largest_push (λ t. t.at.page_just) (area_of spot before) spot, order) in
+    let group : area.group ≡ group_sum (group_of spot before ++ spot ∷ []) = group_of_own all area is page present ∙ ap group_sum (own_group page (area_of spot before) spot refl) in (
+      ap (λ (g : Group). g.ended) group ∙ ap length (ended_glyph (group_of spot before) spot glyph) ∙ ended_count (group_of spot before),
+      ap (λ (g : Group). g.line) group ∙ ap line_sum (present_push (group_of spot before) spot glyph),
+    )

@@ -20,7 +20,8 @@ use Rattle.multi_layout.specs.kept.State.{IsReady, IsStateOf, attributes_of, pre
 use Rattle.multi_layout.specs.kept.Sums.{area_sum}
 use Rattle.multi_layout.specs.Times.{cycle, ended_times, times_at}
 use Rattle.multi_layout.specs.Verdict.{pages_of}
-use Rattle.multi_layout.specs.kept.Cursors.{IsPassing, IsItemRead, unplaced}
+use Rattle.multi_layout.specs.kept.Cursors.{IsItemRead}
+use Rattle.multi_layout.specs.kept.Passing.{IsPassing, unplaced}
 use Rattle.multi_layout.proofs.BoundLemmas.{below_more}
 use Rattle.multi_layout.proofs.JudgedLemmas.{ended_times-push, pages_of-push, ready}
 use Rattle.multi_layout.proofs.StandingLemmas.{standing_push}
@@ -137,12 +138,13 @@ sized setting sign ms x e = refl
 
 -- THE WAY
 
-module _ {sign : SignData} {octets : List ℕ} {before rest : List Item} {item : Item} {cursor : Cursor} (p : IsPassing sign octets before (item ∷ rest) cursor) {next : NextItem} (read : IsItemRead item next) where
-  pub ready_passing : IsReady cursor.state
-  ready_passing =
-      ready sign (unplaced (map meaning before)) cursor.state p.state_is
-      (omega (arith, few_unplaced sign (map meaning before), length-meanings before, few_placed sign octets before (item ∷ rest) cursor.at p.placed))
+-- the state is small enough
+pub ready_there : {sign : SignData} {octets : List ℕ} {before behind : List Item} {cursor : Cursor} → IsPassing sign octets before behind cursor → IsReady cursor.state
+ready_there {sign} {octets} {before} {behind} {cursor} p =
+    ready sign (unplaced (map meaning before)) cursor.state p.state_is
+    (omega (arith, few_unplaced sign (map meaning before), length-meanings before, few_placed sign octets before behind cursor.at p.placed))
 
+module _ {sign : SignData} {octets : List ℕ} {before rest : List Item} {item : Item} {cursor : Cursor} (p : IsPassing sign octets before (item ∷ rest) cursor) {next : NextItem} (read : IsItemRead item next) where
   pub fine_passing : has_place (meant_by next.item) ≡ false → unsized_offence sign (unplaced (map meaning before)) (meant_by next.item) ≡ None
   fine_passing e =
       offends_unplaced sign sign.line_fill (map meaning before) (meant_by next.item) e

@@ -5,9 +5,13 @@ use Rattle.page_plane.specs.Plane.{BitPlane}
 use Rattle.sign_font.specs.Sign.{SignData, tallest}
 use Rattle.sign_font.specs.Sound.{IsSound}
 use Rattle.multi_layout.specs.declared.cursor.Cursor.{Cursor}
+use Rattle.multi_layout.specs.declared.times.Shown.{Shown}
 use Rattle.multi_layout.specs.CheckedData.{CheckedData}
+use Rattle.multi_layout.specs.Drawn.{Lights}
 use Rattle.multi_layout.specs.Limits.{plane_limit, plane_octets, reading_limit}
 use Rattle.multi_layout.specs.Meaning.{meanings}
+use Rattle.multi_layout.specs.Picture.{pixel_at}
+use Rattle.multi_layout.specs.Times.{shown}
 use Rattle.multi_layout.specs.kept.PageDrawing.{IsPageStart}
 use Rattle.multi_layout.specs.Verdict.{pages_of}
 
@@ -65,3 +69,12 @@ pub record TurnsPage (old new : PagesState) : Type 0 where
   pub next_page : new.next ≡ old.next + 1
   pub string_started_kept : new.string_started ≡ old.string_started
   pub plane_started_kept : new.plane_started ≡ old.plane_started
+
+-- this is what an accepted string shows at a clock, and the plane of a colour of it (own)
+abbrev pub ShowsAt : SignData → List ℕ → ℕ → ℕ → BitPlane → Shown → Type 0
+ShowsAt sign octets clock colour plane here =
+    (here ≡ shown sign octets clock) × Lights plane (pixel_at sign (meanings octets) here colour)
+
+-- drawing a string of n octets took no more steps over the plane than the limit (own)
+abbrev pub TakesFew : SignData → ℕ → BitPlane → BitPlane → Type 0
+TakesFew sign n old new = (old.steps ≤ new.steps) × (new.steps ≤ old.steps + plane_limit sign n)

@@ -12,9 +12,11 @@ pub mod Judging
 pub mod KnownItem
 pub mod PageDrawing
 pub mod PassState
+pub mod Passing
 pub mod Placing
 pub mod Run
 pub mod RunDrawing
+pub mod Settings
 pub mod State
 pub mod Sums
 pub mod Table

@@ -55,7 +55,7 @@ pub(crate) fn read_spelled(
 
 /// The item that says this: a character, or the tag.
 #[inline(always)]
-fn said(tag: Tag) -> KnownItem
+pub(crate) fn said(tag: Tag) -> KnownItem
     ensures meant { meant_by result ≡ said_by tag }
     ensures known { IsKnown tag → IsKnownItem result }
 {
@@ -67,7 +67,7 @@ fn said(tag: Tag) -> KnownItem
 
 /// The error of a single opening bracket at an offset with which no tag begins that has a value.
 #[inline(never)]
-fn fault_of(source: &mut Source<'_>, at: usize) -> SyntaxError
+pub(crate) fn fault_of(source: &mut Source<'_>, at: usize) -> SyntaxError
     requires stands { slice_get source.old.octets at ≡ Some 91 }
     requires single { slice_get source.old.octets (at + 1) ≢ Some 91 }
     requires none { HasNoTagAt source.old.octets at }

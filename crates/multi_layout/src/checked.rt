@@ -7,6 +7,13 @@ use crate::terms::Terms;
 use multi_token::Source;
 use std::marker::Model;
 
+/// What is told of an accepted string: its pages, and the times of all of them together, in tenths of a second.
+#[derive(Clone, Copy)]
+pub(crate) struct Told {
+    pub(crate) pages: u8,
+    pub(crate) cycle: u32,
+}
+
 /// A string that a sign accepts. Only `check` makes one.
 #[derive(Drop)]
 pub struct Checked<'a> {
@@ -30,6 +37,8 @@ impl<'a> Model for Checked<'a> {
 }
 
 impl<'a> Checked<'a> {
+    ghost use Rattle.std.specs.Prelude.{◌<◌, ◌^◌, length};
+
     /// The number of pages, from 1 to the sign's limit.
     pub fn pages(&self) -> u8
         ensures { IsVerdict self.now.sign self.now.source.octets (Accepted result) }
@@ -42,6 +51,18 @@ impl<'a> Checked<'a> {
         ensures { IsCycle self.now.sign self.now.source.octets result }
     {
         self.cycle
+    }
+
+    /// What is told of it.
+    pub(crate) fn told(&self) -> Told
+        ensures pages { IsVerdict self.now.sign self.now.source.octets (Accepted result.pages) }
+        ensures cycle { IsCycle self.now.sign self.now.source.octets result.cycle }
+        ensures short { length self.now.source.octets < 2 ^ 32 }
+    {
+        Told {
+            pages: self.pages,
+            cycle: self.cycle,
+        }
     }
 
     /// The number of steps that were taken over the string so far; `u64::MAX` means that many or more.

@@ -1,6 +1,6 @@
 //! The way through an accepted string, from item to item.
 
-ghost use Rattle.std.specs.Prelude.{◌≡◌, false, None, ℕ, ◌+◌, ◌-◌, ◌*◌, ◌<◌, ◌≤◌, ◌==◌, if◌then◌else◌, ◌⊎◌, ◌^◌, [], ◌∷◌, ◌++◌, List, Some, IfSome, IfNone, length, slice_get};
+ghost use Rattle.std.specs.Prelude.{◌≡◌, false, None, ℕ, ◌+◌, ◌-◌, ◌*◌, ◌<◌, ◌≤◌, ◌==◌, if◌then◌else◌, ◌⊎◌, ◌^◌, [], ◌∷◌, ◌++◌, List, Some, IfSome, length, slice_get};
 ghost use Rattle.multi_token.specs.Counted.{RisesBetween};
 ghost use Rattle.multi_token.specs.Spelling as spelled;
 ghost use Rattle.sign_font.specs.Sign.{SignData};
@@ -9,16 +9,19 @@ ghost use Rattle.sign_font.specs.Text.{width_in};
 ghost use Rattle.multi_layout.specs.kept.KnownItem.{IsKnownItem, meant_by};
 ghost use Rattle.multi_layout.specs.Meaning.{Meaning, has_place};
 ghost use Rattle.multi_layout.specs.Offence.{unsized_offence};
+ghost use Rattle.multi_layout.specs.kept.Run.{IsBehindCharacter};
 ghost use Rattle.multi_layout.specs.kept.State.{IsReady, IsStateOf};
-ghost use Rattle.multi_layout.specs.kept.Cursors.{GoesBehind, IsAccepted, IsBefore, IsBetween, IsFirst, IsOrderly, IsPageSkipped, IsPassing, IsPassingBefore, IsPlaced, IsTextPassed, IsWithin, laid_meanings, PassesOn, pieces_of};
+ghost use Rattle.multi_layout.specs.kept.Cursors.{GoesBehind, IsBefore, IsBetween, IsWithin, LaidItem};
+ghost use Rattle.multi_layout.specs.kept.Passing.{IsAtStart, IsPageSkipped, IsPassing, IsPassingBefore, IsTextPassed, PassesOn};
+ghost use Rattle.multi_layout.specs.kept.Settings.{AreSettingsPassed, IsBegun, IsMet, IsNextAt, item_steps, met_octets, met_steps};
 
-use crate::bracket::read_spelled;
+use crate::bracket::{fault_of, said};
 use crate::item::{KnownItem, NextItem};
 use crate::judge::judge_tag;
 use crate::run::Run;
 use crate::state::State;
 use crate::terms::Terms;
-use multi_tag::Tag;
+use multi_tag::{Tag, read_ahead};
 use multi_token::Source;
 
 /// A place between two items of an accepted string: the offset of the next, and the state behind those before it.
@@ -31,11 +34,7 @@ pub(crate) struct Cursor {
 impl Cursor {
     /// The cursor before the first item.
     pub(crate) fn new(sign: &Terms<'_>) -> Cursor
-        ensures between { (octets : List ℕ) (items : List spelled.Item) → IsAccepted sign.now octets items
-            → IsOrderly sign.now (laid_meanings sign.now items)
-            → IsBetween sign.now octets [] (pieces_of sign.now items) result }
-        ensures passing { (octets : List ℕ) (items : List spelled.Item) → IsAccepted sign.now octets items
-            → IsPassing sign.now octets [] items result }
+        ensures start { IsAtStart sign.now result }
         ensures sound { IsSound sign.now }
     {
         Cursor {
@@ -44,17 +43,31 @@ impl Cursor {
         }
     }
 
-    /// Reads the next item, or `None` at the end.
-    #[inline(always)]
-    pub(crate) fn next_item(&self, source: &mut Source<'_>) -> Option<NextItem>
-        requires { (sign : SignData) × IsWithin sign source.old.octets self.now.at }
-        ensures first { (sign : SignData) (before behind : List spelled.Item)
-            → IsPlaced sign source.old.octets before behind self.now.at → IsFirst behind result }
-        ensures steps { IfSome result (λ next. RisesBetween source.old source.new 0 (9 * next.len - 8)) }
-        ensures end_steps { IfNone result (RisesBetween source.old source.new 0 1) }
+    /// Goes behind the settings from here on, and puts them into force. What stands there then is read.
+    pub(crate) fn pass_settings(&mut self, sign: &Terms<'_>, source: &mut Source<'_>) -> Begun
+        requires { (before behind : List LaidItem) × IsBetween sign.now source.old.octets before behind self.old }
+        ensures passed { (before behind : List LaidItem) → IsBetween sign.now source.old.octets before behind self.old
+            → AreSettingsPassed sign.now source.old.octets before behind self.new }
+        ensures begun { IsBegun sign.now source.old.octets self.new.at result }
+        ensures on { self.old.at ≤ self.new.at }
+        ensures steps { RisesBetween source.old source.new 0 (9 * (self.new.at - self.old.at) + 1 + item_steps result.item) }
     {
-        let first = source.read(self.at)?;
-        Some(item_from(source, self.at, first))
+        let mut first = source.read(self.at);
+        while let Some(octet) = first {
+            match meet(sign, &mut self.state, source, self.at, octet) {
+                Met::Setting(len) => {
+                    self.at += len;
+                    first = source.read(self.at);
+                }
+                Met::Item(next) => {
+                    return Begun {
+                        first,
+                        item: Some(next),
+                    };
+                }
+            }
+        }
+        Begun { first, item: None }
     }
 
     /// Goes behind the page that begins here, and lays nothing out: behind the `np` that ends it, or to the end of the string.
@@ -66,15 +79,17 @@ impl Cursor {
         ensures steps { RisesBetween source.old source.new 0
             (9 * (self.new.at - self.old.at) + (if self.new.state.pages == self.old.state.pages then 1 else 0)) }
     {
-        loop {
-            let Some(next) = self.next_item(source) else {
-                return;
-            };
-            self.skip(sign, source, next);
-            if next.item.ends_page() {
-                return;
+        while let Some(first) = source.read(self.at) {
+            match meet(sign, &mut self.state, source, self.at, first) {
+                Met::Setting(len) => self.at += len,
+                Met::Item(next) => {
+                    self.skip(sign, source, next);
+                    if next.item.ends_page() {
+                        return;
+                    }
+                    self.skip_text(sign, source);
+                }
             }
-            self.skip_text(sign, source);
         }
     }
 
@@ -161,6 +176,8 @@ impl Cursor {
             × IsBefore sign octets (record { item = KnownItem.Char number; len = len }) self.old }
         ensures passed { (sign : SignData) (octets : List ℕ) → width_in sign self.old.state.attributes.font.number number ≡ Some width
             → GoesBehind sign octets (record { item = KnownItem.Char number; len = len }) self.old self.new }
+        ensures behind { (sign : SignData) (octets : List ℕ) → width_in sign self.old.state.attributes.font.number number ≡ Some width
+            → IsBefore sign octets (record { item = KnownItem.Char number; len = len }) self.old → IsBehindCharacter self.new.state }
         ensures at { self.new.at ≡ self.old.at + len }
     {
         self.state.put_character(width);
@@ -168,42 +185,119 @@ impl Cursor {
     }
 }
 
-/// Reads the rest of the next item, which begins with this octet that was read.
-#[inline(always)]
-pub(crate) fn item_from(source: &mut Source<'_>, at: usize, first: u8) -> NextItem
-    requires within { (sign : SignData) × IsWithin sign source.old.octets at }
-    requires stands { slice_get source.old.octets at ≡ Some first }
-    requires room { length source.old.octets < 2 ^ 63 }
-    ensures first { (sign : SignData) (before behind : List spelled.Item)
-        → IsPlaced sign source.old.octets before behind at → IsFirst behind (Some result) }
-    ensures some { 1 ≤ result.len }
-    ensures steps { RisesBetween source.old source.new 0 (9 * result.len - 9) }
-{
-    if first != b'[' && first != b']' {
-        return NextItem {
-            item: KnownItem::Char(u16::from(first)),
-            len: 1,
-        };
-    }
-    next_spelled(source, at, first)
+/// What is read of what stands at an offset.
+#[derive(Clone, Copy)]
+pub(crate) struct Begun {
+    /// The octet there; none at the end of the string.
+    pub(crate) first: Option<u8>,
+    /// The item that begins there, if all of it was read.
+    pub(crate) item: Option<NextItem>,
 }
 
-/// Reads the next item, which begins with this bracket that was read. It isn't put into its callers' code, since octets that stand
-/// for themselves are many more.
+/// What an item is that was met.
+#[derive(Clone, Copy)]
+pub(crate) enum Met {
+    /// A setting of so many octets, which was put into force.
+    Setting(usize),
+    /// Another item, of which this is read.
+    Item(NextItem),
+}
+
+/// Meets the item that begins with this octet, which was read: reads the rest of it, and puts it into force if it is a setting.
+#[inline(always)]
+pub(crate) fn meet(
+    sign: &Terms<'_>,
+    state: &mut State,
+    source: &mut Source<'_>,
+    at: usize,
+    first: u8,
+) -> Met
+    requires within { IsWithin sign.now source.old.octets at }
+    requires ready { IsReady state.old }
+    requires behind { (items : List Meaning) × IsStateOf sign.now items state.old }
+    requires stands { slice_get source.old.octets at ≡ Some first }
+    requires room { length source.old.octets < 2 ^ 63 }
+    ensures met { IsMet sign.now source.old.octets at state.old result state.new }
+    ensures some { 1 ≤ met_octets result }
+    ensures steps { RisesBetween source.old source.new 0 (met_steps result) }
+{
+    if first != b'[' && first != b']' {
+        return Met::Item(NextItem {
+            item: KnownItem::Char(u16::from(first)),
+            len: 1,
+        });
+    }
+    meet_bracket(sign, state, source, at, first)
+}
+
+/// Meets the item at an offset, which is this one if it was read.
+#[inline(always)]
+pub(crate) fn meet_known(
+    sign: &Terms<'_>,
+    state: &mut State,
+    source: &mut Source<'_>,
+    at: usize,
+    first: u8,
+    item: Option<NextItem>,
+) -> Met
+    requires within { IsWithin sign.now source.old.octets at }
+    requires ready { IsReady state.old }
+    requires behind { (items : List Meaning) × IsStateOf sign.now items state.old }
+    requires stands { slice_get source.old.octets at ≡ Some first }
+    requires room { length source.old.octets < 2 ^ 63 }
+    requires item { IfSome item (IsNextAt sign.now source.old.octets at) }
+    ensures met { IsMet sign.now source.old.octets at state.old result state.new }
+    ensures some { 1 ≤ met_octets result }
+    ensures steps { RisesBetween source.old source.new 0 (met_steps result - item_steps item) }
+    ensures known { item_steps item ≤ met_steps result }
+{
+    match item {
+        Some(next) => Met::Item(next),
+        None => meet(sign, state, source, at, first),
+    }
+}
+
+/// The same of an item that begins with a bracket. It isn't put into its callers' code, which would grow too large for what they keep.
 #[inline(never)]
-fn next_spelled(source: &mut Source<'_>, at: usize, bracket: u8) -> NextItem
-    requires within { (sign : SignData) × IsWithin sign source.old.octets at }
+fn meet_bracket(
+    sign: &Terms<'_>,
+    state: &mut State,
+    source: &mut Source<'_>,
+    at: usize,
+    bracket: u8,
+) -> Met
     requires bracket { (bracket ≡ 91) ⊎ (bracket ≡ 93) }
+    requires within { IsWithin sign.now source.old.octets at }
+    requires ready { IsReady state.old }
+    requires behind { (items : List Meaning) × IsStateOf sign.now items state.old }
     requires stands { slice_get source.old.octets at ≡ Some bracket }
     requires room { length source.old.octets < 2 ^ 63 }
-    ensures first { (sign : SignData) (before behind : List spelled.Item)
-        → IsPlaced sign source.old.octets before behind at → IsFirst behind (Some result) }
-    ensures some { 1 ≤ result.len }
-    ensures steps { RisesBetween source.old source.new 0 (9 * result.len - 9) }
+    ensures met { IsMet sign.now source.old.octets at state.old result state.new }
+    ensures some { 1 ≤ met_octets result }
+    ensures steps { RisesBetween source.old source.new 0 (met_steps result) }
 {
-    match read_spelled(source, at, bracket) {
-        Ok(next) => next,
-        // An accepted string has neither a broken bracket nor a tag with an error.
-        Err(_) => unreachable!(),
+    if source.read(at + 1) == Some(bracket) {
+        return Met::Item(NextItem {
+            item: KnownItem::Char(u16::from(bracket)),
+            len: 2,
+        });
     }
+    if bracket == b']' {
+        // An accepted string has no broken bracket,
+        unreachable!();
+    }
+    let Some((tag, len)) = read_ahead(source, at) else {
+        // nor a tag with an error.
+        let _ = fault_of(source, at);
+        unreachable!();
+    };
+    let item = said(tag);
+    if !item.is_setting() {
+        return Met::Item(NextItem { item, len });
+    }
+    let Ok(()) = judge_tag::<true>(sign, state, source, tag) else {
+        // No item of an accepted string offends.
+        unreachable!();
+    };
+    Met::Setting(len)
 }

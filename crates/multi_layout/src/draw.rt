@@ -17,7 +17,7 @@ ghost use Rattle.multi_layout.specs.kept.Table.{IsOrdered};
 ghost use Rattle.multi_layout.specs.kept.Cursors.{GoesBehind, IsBetween, IsItemRead, IsRead, meant, LaidItem, spell_of};
 
 use crate::attributes::Attributes;
-use crate::cursor::{Cursor, item_from};
+use crate::cursor::{Cursor, Met, meet};
 use crate::draw_run::draw_run;
 use crate::item::{KnownItem, NextItem};
 use crate::paint::{Layer, put_character};
@@ -53,9 +53,10 @@ pub(crate) fn draw_page(
 {
     plane.fill(layer.has(sign, cursor.state.attributes.back));
     loop {
-        read_area(sign, source, cursor, read);
+        let begun = cursor.pass_settings(sign, source);
+        read_area(sign, source, cursor, begun, read);
         draw_area(sign, source, cursor, read, layer, plane);
-        let Some(next) = cursor.next_item(source) else {
+        let Some(next) = read.next else {
             return;
         };
         cursor.pass_tag(sign, source, next);
@@ -94,9 +95,16 @@ fn draw_area(
             // The area goes on.
             unreachable!();
         };
-        let next = item_from(source, cursor.at, octet);
-        let next = lay(sign, cursor, &read.lines, next);
-        first = draw_next(sign, source, cursor, next, read, layer, plane);
+        match meet(sign, &mut cursor.state, source, cursor.at, octet) {
+            Met::Setting(len) => {
+                cursor.at += len;
+                first = None;
+            }
+            Met::Item(next) => {
+                let next = lay(sign, cursor, &read.lines, next);
+                first = draw_next(sign, source, cursor, next, read, layer, plane);
+            }
+        }
     }
 }
 
@@ -220,10 +228,10 @@ fn draw_item(
                 unreachable!();
             };
             let width = cell.width();
+            cursor.pass_character(number, width, next.len);
             let lines = lines.group(attributes.page_just);
             let place = place_at(&attributes, &cursor.state.area, lines, width);
             put_character(sign, &attributes, &cell, place, layer, plane);
-            cursor.pass_character(number, width, next.len);
             beside(&attributes, place, width)
         }
         KnownItem::Tag(tag) => {

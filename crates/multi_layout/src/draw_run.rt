@@ -30,6 +30,7 @@ pub(crate) fn draw_run(
     layer: Layer,
     plane: &mut Plane,
 ) -> Option<u8>
+    requires behind { IsBehindCharacter cursor.old.state }
     requires apart { cursor.old.state.attributes.line_just ≢ 5 }
     requires low { place.column ≤ 2 ^ 63 }
     requires known { (before area rest : List LaidItem) × IsRunHere sign.now source.old.octets before area rest read.now place cursor.old }
@@ -40,9 +41,6 @@ pub(crate) fn draw_run(
     ensures fills { IsFilledBy sign.now plane.old plane.new (cursor.new.at - cursor.old.at) }
     ensures forward { cursor.old.at ≤ cursor.new.at }
 {
-    if !cursor.state.is_behind_character() {
-        return None;
-    }
     let (at, column, next) = match sign.line_fill() {
         LineFill::Off => draw_beside(sign, source, cursor, place, read, layer, plane),
         LineFill::Words => return None,

@@ -2,7 +2,7 @@
 
 ghost use Rattle.std.specs.Prelude.{◌≡◌, Err, true};
 ghost use Rattle.multi_layout.specs.Codes.{code_of};
-ghost use Rattle.multi_layout.specs.kept.KnownItem.{IsOctet, meant_by};
+ghost use Rattle.multi_layout.specs.kept.KnownItem.{IsOctet, is_setting, meant_by};
 ghost use Rattle.multi_layout.specs.Meaning.{begins_area, Faulty, has_place, is_new_page, meaning_of_tag};
 ghost use Rattle.multi_layout.specs.kept.AreaDrawing.{ends_line};
 
@@ -43,6 +43,19 @@ impl KnownItem {
         ensures { result ≡ has_place (meant_by self) }
     {
         matches!(self, KnownItem::Char(_) | KnownItem::Tag(Tag::NewLine(_)))
+    }
+
+    /// Whether the item only sets values that are in force behind it: a tag that puts nothing and begins nothing.
+    pub(crate) fn is_setting(self) -> bool
+        ensures { result ≡ is_setting (meant_by self) }
+    {
+        match self {
+            KnownItem::Char(_) => false,
+            KnownItem::Tag(tag) => !matches!(
+                tag,
+                Tag::NewPage | Tag::NewLine(_) | Tag::Rect { .. } | Tag::Back(_)
+            ),
+        }
     }
 
     /// Whether the item is a character whose number is that of an octet.

@@ -256,18 +256,6 @@ impl Line {
         }
     }
 
-    /// The segment that a character with this line justification joins, which isn't before the present one.
-    pub(crate) fn part_for(&self, just: u8) -> Segment
-        ensures sum { (line : List Spot) → self.now ≡ line_sum line → self.now.present ≤ just → result ≡ segment_sum just line }
-        ensures below { (k : ℕ) → IsLineBelow k self.now → IsSegmentBelow k result }
-    {
-        if just == self.present {
-            self.part
-        } else {
-            Segment::new()
-        }
-    }
-
     /// The most pixels that the present segment may have within a width, into which those before it fit.
     #[inline(always)]
     pub(crate) fn room(&self, width: u16) -> u64

@@ -9,7 +9,7 @@ ghost use Rattle.multi_layout.specs.Drawn.{Lights};
 ghost use Rattle.multi_layout.specs.Limits.{check_limit, drawing_limit, plane_limit, reading_limit};
 ghost use Rattle.multi_layout.specs.Meaning.{meanings};
 ghost use Rattle.multi_layout.specs.Pages.{IsSized, IsTurned, page_count};
-ghost use Rattle.multi_layout.specs.kept.PageDrawing.{IsFilledFew, IsPageStart, IsReadTwice};
+ghost use Rattle.multi_layout.specs.kept.PageDrawing.{IsFilledFew, IsPageStart, IsReadTwice, IsStartOf};
 ghost use Rattle.multi_layout.specs.Picture.{picture, pixel_at};
 ghost use Rattle.multi_layout.specs.Times.{shown};
 ghost use Rattle.multi_layout.specs.Verdict.{pages_of};
@@ -21,7 +21,7 @@ use crate::draw::draw_page;
 use crate::paint::Layer;
 use crate::read::AreaLines;
 use crate::terms::Terms;
-use crate::times::Shown;
+use crate::times::{Shown, find_shown};
 use multi_token::Source;
 use page_plane::Plane;
 use std::marker::Model;
@@ -133,13 +133,18 @@ impl<'a> Checked<'a> {
         ensures plane_steps { (plane.old.steps ≤ plane.new.steps)
             × (plane.new.steps ≤ plane.old.steps + plane_limit self.old.sign (length self.old.source.octets)) }
     {
-        let (shown, mut start) = self.find(clock);
-        match shown {
-            Shown::Page { phase, .. } => {
-                self.draw_from(&mut start, Layer { phase, colour }, lines, plane);
-            }
-            Shown::Off => plane.fill(colour == 0),
-        }
+        let mut start = Cursor::new(&self.terms);
+        let told = self.told();
+        let shown = find_shown(&self.terms, &mut self.source, told, clock, &mut start);
+        draw_found(
+            &self.terms,
+            &mut self.source,
+            shown,
+            &mut start,
+            colour,
+            lines,
+            plane,
+        );
         shown
     }
 
@@ -188,6 +193,32 @@ impl<'a> Checked<'a> {
             string: self,
             plane,
         }
+    }
+}
+
+/// Draws what an accepted string shows, where a page that it shows begins at a cursor.
+pub(crate) fn draw_found(
+    sign: &Terms<'_>,
+    source: &mut Source<'_>,
+    shown: Shown,
+    start: &mut Cursor,
+    colour: u8,
+    lines: &mut AreaLines,
+    plane: &mut Plane,
+)
+    requires begins { IsStartOf sign.now source.old.octets shown start.old }
+    requires size { IsSized plane.old sign.now }
+    ensures drawn { Lights plane.new (pixel_at sign.now (meanings source.old.octets) shown colour) }
+    ensures size { (plane.new.width ≡ plane.old.width) × (plane.new.height ≡ plane.old.height) }
+    ensures steps { RisesBetween source.old source.new 0 (reading_limit (length source.old.octets)) }
+    ensures plane_steps { (plane.old.steps ≤ plane.new.steps)
+        × (plane.new.steps ≤ plane.old.steps + plane_limit sign.now (length source.old.octets)) }
+{
+    match shown {
+        Shown::Page { phase, .. } => {
+            draw_page(sign, source, start, Layer { phase, colour }, lines, plane);
+        }
+        Shown::Off => plane.fill(colour == 0),
     }
 }
 

@@ -3,18 +3,18 @@
 ghost use Rattle.std.specs.Prelude.{◌≡◌, ℕ, ◌+◌, ◌-◌, ◌^◌, ◌<◌, ◌≤◌, ◌==◌, true, false, if◌then◌else◌, length, List, [], ◌∷◌, ◌++◌, Some, slice_get};
 ghost use Rattle.std.specs.List.{All, list_any};
 ghost use Rattle.multi_layout.specs.declared.table.CountedLine.{CountedLine};
-ghost use Rattle.multi_layout.specs.Address.{Spot, is_glyph, segment};
-ghost use Rattle.multi_layout.specs.Line.{glyph_width, width_of, height_of};
+ghost use Rattle.multi_layout.specs.Address.{Spot, is_glyph};
+ghost use Rattle.multi_layout.specs.Line.{glyph_width, height_of};
 ghost use Rattle.multi_layout.specs.Offence.{clashes};
 ghost use Rattle.multi_layout.specs.Place.{start, spread};
 ghost use Rattle.multi_layout.specs.kept.State.{attributes_of};
 ghost use Rattle.multi_layout.specs.kept.Placing.{PlacesCharacter, TellsEnd};
-ghost use Rattle.multi_layout.specs.kept.Sums.{segment_sum, line_sum, IsSegmentBelow, IsLineBelow, IsBelow};
+ghost use Rattle.multi_layout.specs.kept.Sums.{line_sum, IsLineBelow, IsBelow};
 ghost use Rattle.multi_layout.specs.kept.Table.{table_of, column_in};
 
 use crate::area::Area;
 use crate::attributes::Attributes;
-use crate::line::{Line, Segment};
+use crate::line::Line;
 use crate::table::CountedLine;
 
 /// The upper left pixel of a character, counted from 0.
@@ -24,8 +24,8 @@ pub(crate) struct Place {
     pub(crate) row: u64,
 }
 
-/// Where a character with these attributes in force stands whose cell has this width in pixels, behind the items
-/// of its area so far; `lines` are the counted lines of its group.
+/// Where a character with these attributes in force stands whose cell has this width in pixels, the last item of its area so far;
+/// `lines` are the counted lines of its group.
 pub(crate) fn place_at(
     attributes: &Attributes,
     area: &Area,
@@ -39,7 +39,7 @@ pub(crate) fn place_at(
     ensures place { PlacesCharacter attributes.now area.now lines.now width result }
     ensures low { (result.column ≤ 2 ^ 62) × (result.row ≤ 2 ^ 62) }
 {
-    let group = area.group_for(attributes.page_just);
+    let group = &area.group;
     let line = line_at(lines, group.ended);
     Place {
         column: column_at(attributes, &group.line, &line, width),
@@ -68,38 +68,25 @@ fn line_at(lines: &[CountedLine], ended: u64) -> CountedLine
     lines.get(ended as usize).copied().unwrap_or_default()
 }
 
-/// The column of a character of this width behind those of its line so far; `line` is what is kept of the line.
-fn column_at(attributes: &Attributes, before: &Line, line: &CountedLine, width: u8) -> u64
+/// The column of a character of this width, the last of its line so far; `line` is what is kept of the whole line.
+fn column_at(attributes: &Attributes, so_far: &Line, line: &CountedLine, width: u8) -> u64
     requires line_just { (2 ≤ attributes.now.line_just) × (attributes.now.line_just ≤ 5) }
-    requires below { IsLineBelow (2 ^ 43) before.now }
+    requires below { IsLineBelow (2 ^ 43) so_far.now }
     ensures column { (earlier : List Spot) (spot : Spot) → is_glyph spot ≡ true → attributes.now ≡ attributes_of spot.at
-        → glyph_width spot ≡ width → before.now ≡ line_sum earlier → list_any (clashes spot) earlier ≡ false
+        → glyph_width spot ≡ width → so_far.now ≡ line_sum (earlier ++ spot ∷ []) → list_any (clashes spot) earlier ≡ false
         → result ≡ column_in line.now earlier spot }
     ensures low { result ≤ 2 ^ 62 }
 {
     let just = attributes.line_just;
-    let part = before.part_for(just);
+    let part = &so_far.part;
     let length = attributes.rectangle.width;
     let size = line.width(just);
     let spare = u64::from(length).saturating_sub(size);
+    let before = part.count.saturating_sub(1);
     u64::from(attributes.rectangle.left)
         + start(just, length, size)
-        + columns_before(attributes, &part, width)
-        + moved(just, part.count, u64::from(line.characters), spare)
-}
-
-/// The columns of a segment before one more character of this width.
-fn columns_before(attributes: &Attributes, part: &Segment, width: u8) -> u64
-    requires below { IsSegmentBelow (2 ^ 43) part.now }
-    ensures columns { (earlier : List Spot) (spot : Spot) → is_glyph spot ≡ true → attributes.now ≡ attributes_of spot.at
-        → glyph_width spot ≡ width → part.now ≡ segment_sum spot.at.line_just earlier
-        → result ≡ width_of (segment spot.at.line_just earlier ++ spot ∷ []) - glyph_width spot }
-    ensures low { result ≤ 2 ^ 43 + 1024 }
-{
-    let character = attributes.character(width);
-    let mut part = *part;
-    part.add(&character);
-    part.width.saturating_sub(u64::from(width))
+        + part.width.saturating_sub(u64::from(width))
+        + moved(just, before, u64::from(line.characters), spare)
 }
 
 /// The row of a character on a line with this bottom in a group of this height, in pixels.

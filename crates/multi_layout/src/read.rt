@@ -1,26 +1,27 @@
 //! The first reading of an area, for the table of its lines.
 
-ghost use Rattle.std.specs.Prelude.{◌≡◌, ℕ, ◌+◌, ◌-◌, ◌*◌, ◌^◌, ◌≤◌, ◌<◌, [], List, Some, IfSome, IfNone, length, map, slice_get, true, false, if◌then◌else◌};
+ghost use Rattle.std.specs.Prelude.{◌≡◌, ℕ, ◌+◌, ◌-◌, ◌*◌, ◌^◌, ◌≤◌, ◌<◌, [], List, Some, length, map, slice_get, true, false, if◌then◌else◌};
 ghost use Rattle.std.specs.List.{All};
 ghost use Rattle.multi_token.specs.Counted.{RisesBetween, charged};
 ghost use Rattle.multi_token.specs.Spelling as spelled;
-ghost use Rattle.sign_font.specs.Sign.{SignData};
 ghost use Rattle.sign_font.specs.Sound.{IsSound};
 ghost use Rattle.multi_layout.specs.Address.{Spot};
 ghost use Rattle.multi_layout.specs.declared.item.KnownItem.TheVariants as items;
 ghost use Rattle.multi_layout.specs.declared.item.KnownItem.TheVariants.{Char};
 ghost use Rattle.multi_layout.specs.kept.AreaReading.{GoesOn, IsNextRead, IsReadOf, ReadsOn};
 ghost use Rattle.multi_layout.specs.kept.KnownItem.{IsOctet, meant_by};
-ghost use Rattle.multi_layout.specs.Meaning.{begins_area, Does, EndsArea, has_place, meaning};
+ghost use Rattle.multi_layout.specs.Meaning.{begins_area, Does, has_place};
 ghost use Rattle.multi_layout.specs.kept.PassState.{fill_of};
-ghost use Rattle.multi_layout.specs.kept.AreaDrawing.{HasKnown, HasRoom, IsAreaRead, IsLow, first_steps, next_group};
+ghost use Rattle.multi_layout.specs.kept.Run.{IsBehindCharacter};
+ghost use Rattle.multi_layout.specs.kept.AreaDrawing.{HasKnown, HasRoom, IsAreaRead, IsLow, next_group};
 ghost use Rattle.multi_layout.specs.kept.State.{IsLimited, IsReady, present_area};
 ghost use Rattle.multi_layout.specs.kept.Sums.{IsBelow, IsPlacing, area_sum};
 ghost use Rattle.multi_layout.specs.kept.Table.{IsNarrowArea, IsOrdered, group_lines};
-ghost use Rattle.multi_layout.specs.kept.Cursors.{IsBetween, IsFirst, IsPlaced, IsWithin, meant, LaidItem};
+ghost use Rattle.multi_layout.specs.kept.Cursors.{IsBetween, meant, LaidItem};
+ghost use Rattle.multi_layout.specs.kept.Settings.{IsBegun};
 
 use crate::area::Area;
-use crate::cursor::{Cursor, item_from};
+use crate::cursor::{Begun, Cursor, Met, meet_known};
 use crate::item::{KnownItem, NextItem};
 use crate::pass::Pass;
 use crate::run::go_along;
@@ -31,12 +32,15 @@ use multi_tag::Tag;
 use multi_token::Source;
 use sign_font::LineFill;
 
-/// Room for what drawing an area needs: the table of its counted lines, and the offset behind its last item. It's lent to one drawing after
-/// the other, since it is large. What it holds from one of them tells the next nothing.
+/// Room for what drawing an area needs: the table of its counted lines, and where it ends. It's lent to one drawing after the other, since
+/// it is large. What it holds from one of them tells the next nothing.
 #[derive(Drop)]
 pub struct AreaLines {
     pub(crate) lines: LineTable,
+    /// The offset behind the area's last item.
     pub(crate) end: usize,
+    /// The item that stands there, if the string goes on.
+    pub(crate) next: Option<NextItem>,
 }
 
 impl AreaLines {
@@ -45,28 +49,31 @@ impl AreaLines {
         AreaLines {
             lines: LineTable::new(),
             end: 0,
+            next: None,
         }
     }
 }
 
-/// Reads the area that begins at a cursor, whatever was read before.
+/// Reads the area that begins at a cursor, whatever was read before. This is read of what stands there.
 pub(crate) fn read_area(
     sign: &Terms<'_>,
     source: &mut Source<'_>,
     cursor: &Cursor,
+    begun: Begun,
     read: &mut AreaLines,
 )
     requires sound { IsSound sign.now }
+    requires begun { IsBegun sign.now source.old.octets cursor.now.at begun }
     requires begins { (before behind : List LaidItem) × IsBetween sign.now source.old.octets before behind cursor.now
         × (present_area sign.now (map meant before) ≡ []) }
     ensures read { (before behind : List LaidItem) → IsBetween sign.now source.old.octets before behind cursor.now
         → present_area sign.now (map meant before) ≡ []
-        → IsAreaRead sign.now before behind cursor.now read.new source.old source.new }
+        → IsAreaRead sign.now before behind cursor.now begun read.new source.old source.new }
 {
     read.lines.clear();
     match sign.line_fill() {
-        LineFill::Off => read_lines::<false>(sign, source, cursor, read),
-        LineFill::Words => read_lines::<true>(sign, source, cursor, read),
+        LineFill::Off => read_lines::<false>(sign, source, cursor, begun, read),
+        LineFill::Words => read_lines::<true>(sign, source, cursor, begun, read),
     }
 }
 
@@ -75,49 +82,47 @@ fn read_lines<const WORDS: bool>(
     sign: &Terms<'_>,
     source: &mut Source<'_>,
     cursor: &Cursor,
+    begun: Begun,
     read: &mut AreaLines,
 )
     requires sound { IsSound sign.now }
     requires kind { sign.now.line_fill ≡ fill_of WORDS }
+    requires begun { IsBegun sign.now source.old.octets cursor.now.at begun }
     requires none { (just : ℕ) → group_lines just read.old.lines ≡ [] }
     requires ordered { IsOrdered read.old.lines }
     requires begins { (before behind : List LaidItem) × IsBetween sign.now source.old.octets before behind cursor.now
         × (present_area sign.now (map meant before) ≡ []) }
     ensures read { (before behind : List LaidItem) → IsBetween sign.now source.old.octets before behind cursor.now
         → present_area sign.now (map meant before) ≡ []
-        → IsAreaRead sign.now before behind cursor.now read.new source.old source.new }
+        → IsAreaRead sign.now before behind cursor.now begun read.new source.old source.new }
 {
     let mut at = cursor.at;
     let mut kept = Pass::new(cursor.state);
-    let mut first = source.read(at);
-    while let Some(next) = next_plain(at, source, first) {
-        pass_item::<WORDS>(sign, source, &mut kept, next.item, &mut read.lines);
-        let behind = at + next.len;
-        (at, first) = go_on::<WORDS>(sign, source, &mut kept, behind, next.item.is_octet());
+    let mut first = begun.first;
+    let mut item = begun.item;
+    loop {
+        let Some(octet) = first else {
+            end_area(read, &kept.state.area, at, None);
+            return;
+        };
+        match meet_known(sign, &mut kept.state, source, at, octet, item) {
+            Met::Setting(len) => {
+                at += len;
+                first = source.read(at);
+                item = None;
+            }
+            Met::Item(next) => {
+                if next.item.begins_area() {
+                    end_area(read, &kept.state.area, at, Some(next));
+                    return;
+                }
+                pass_item::<WORDS>(sign, source, &mut kept, next.item, &mut read.lines);
+                let behind = at + next.len;
+                (at, first) = go_on::<WORDS>(sign, source, &mut kept, behind, next.item.is_octet());
+                item = None;
+            }
+        }
     }
-    end_group(&mut read.lines, &kept.state.area);
-    read.end = at;
-}
-
-/// The next item, which begins with this octet that was read, or `None` where the area ends.
-fn next_plain(at: usize, source: &mut Source<'_>, first: Option<u8>) -> Option<NextItem>
-    requires within { (sign : SignData) × IsWithin sign source.old.octets at }
-    requires stands { first ≡ slice_get source.old.octets at }
-    requires room { length source.old.octets < 2 ^ 63 }
-    ensures first { IfSome result (λ next. (sign : SignData) (before behind : List spelled.Item)
-        → IsPlaced sign source.old.octets before behind at → IsFirst behind (Some next)) }
-    ensures plain { IfSome result (λ next. begins_area (meant_by next.item) ≡ false) }
-    ensures some { IfSome result (λ next. 1 ≤ next.len) }
-    ensures steps { IfSome result (λ next. RisesBetween source.old source.new 0 (9 * next.len - 9)) }
-    ensures ends { IfNone result ((sign : SignData) (before behind : List spelled.Item)
-        → IsPlaced sign source.old.octets before behind at
-        → EndsArea (map meaning behind) × RisesBetween source.old source.new 0 (first_steps behind - 1)) }
-{
-    let next = item_from(source, at, first?);
-    if next.item.begins_area() {
-        return None;
-    }
-    Some(next)
 }
 
 /// Goes behind the characters that only lengthen the line of the one before them, if that is an octet and they are there: the offset
@@ -131,13 +136,14 @@ fn go_on<const WORDS: bool>(
 ) -> (usize, Option<u8>)
     requires small { (IsReady kept.old.state) × (length source.old.octets < 2 ^ 32) }
     requires limited { WORDS ≡ false → IsLimited kept.old.state }
+    requires behind { octet ≡ true → WORDS ≡ false → IsBehindCharacter kept.old.state }
     requires within { at ≤ length source.old.octets }
     ensures gone { GoesOn WORDS sign.now source.old.octets at kept.old result.0 kept.new }
     ensures next { result.1 ≡ slice_get source.old.octets result.0 }
     ensures steps { RisesBetween source.old source.new 1 (if octet then 2 * (result.0 - at) + 3 else 1) }
     ensures alone { octet ≡ false → result.0 ≡ at }
 {
-    if WORDS || !octet || !kept.state.is_behind_character() {
+    if WORDS || !octet {
         return (at, source.read(at));
     }
     go_along(sign, &mut kept.state, source, at)
@@ -157,6 +163,7 @@ fn pass_item<const WORDS: bool>(
         × IsReadOf WORDS sign.now before kept.old.state.area.present kept.old lines.old
         × IsNextRead sign.now before next item }
     requires plain { begins_area (meant_by item) ≡ false }
+    ensures behind { IsOctet item → WORDS ≡ false → IsBehindCharacter kept.new.state }
     ensures known { ReadsOn WORDS sign.now kept.old.state.area.present item kept.old lines.old kept.new lines.new }
     ensures octet { IsOctet item → source.new ≡ charged source.old 1 }
     ensures steps { RisesBetween source.old source.new 0 8 }
@@ -181,6 +188,7 @@ fn pass_shown<const WORDS: bool>(
         × IsReadOf WORDS sign.now before kept.old.state.attributes.page_just kept.old lines.old
         × IsNextRead sign.now before next (Char number) }
     ensures known { ReadsOn WORDS sign.now kept.old.state.attributes.page_just (Char number) kept.old lines.old kept.new lines.new }
+    ensures behind { WORDS ≡ false → IsBehindCharacter kept.new.state }
     ensures step { number ≤ 255 → source.new ≡ charged source.old 1 }
     ensures steps { RisesBetween source.old source.new 0 8 }
 {
@@ -257,4 +265,21 @@ fn end_group(lines: &mut LineTable, area: &Area)
     if group.line.any {
         lines.push(area.present, CountedLine::of(&group.line, group.height()));
     }
+}
+
+/// Ends the table of an area with its last line, if it has characters, at this offset, where this item stands, if the string goes on.
+fn end_area(read: &mut AreaLines, area: &Area, at: usize, next: Option<NextItem>)
+    requires below { IsBelow (2 ^ 42) area.now }
+    requires ordered { IsOrdered read.old.lines }
+    requires known { (spots : List Spot) × All IsPlacing spots × (area.now ≡ area_sum spots)
+        × HasKnown area.now.present spots read.old.lines × HasRoom spots × IsNarrowArea spots }
+    ensures known { (present : ℕ) (spots : List Spot) → area.now.present < present → All IsPlacing spots → area.now ≡ area_sum spots
+        → HasKnown area.now.present spots read.old.lines → HasKnown present spots read.new.lines }
+    ensures ordered { IsOrdered read.new.lines }
+    ensures low { IsLow read.old.lines → IsLow read.new.lines }
+    ensures end { (read.new.end ≡ at) × (read.new.next ≡ next) }
+{
+    end_group(&mut read.lines, area);
+    read.end = at;
+    read.next = next;
 }

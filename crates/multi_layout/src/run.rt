@@ -1,6 +1,6 @@
 //! Characters behind one with the same attributes: each only lengthens the line that they share.
 
-ghost use Rattle.std.specs.Prelude.{◌≡◌, ◌+◌, ◌-◌, ◌*◌, ◌^◌, ◌<◌, ◌≤◌, true, List, length, slice_get};
+ghost use Rattle.std.specs.Prelude.{◌≡◌, ◌+◌, ◌-◌, ◌*◌, ◌^◌, ◌<◌, ◌≤◌, List, length, slice_get};
 ghost use Rattle.multi_token.specs.Counted.{RisesBetween};
 ghost use Rattle.sign_font.specs.Sign.{SignData};
 ghost use Rattle.multi_layout.specs.Meaning.{Meaning};
@@ -37,15 +37,6 @@ impl State {
             gap: self.attributes.gap(),
             left: most.saturating_sub(self.area.group.line.part.width),
         }
-    }
-
-    /// Whether the last character can have been put with the attributes in force.
-    pub(crate) fn is_behind_character(&self) -> bool
-        ensures { result ≡ true → IsBehindCharacter self.now }
-    {
-        let here = &self.attributes;
-        let line = &self.area.group.line;
-        self.area.present == here.page_just && line.is_behind_one(here.line_just, &here.font)
     }
 
     /// Adds a width and a number of characters to the present segment.

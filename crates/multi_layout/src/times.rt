@@ -1,17 +1,19 @@
 //! What a string shows at a clock.
 
-ghost use Rattle.std.specs.Prelude.{◌≡◌, ◌+◌, ◌-◌, ◌<◌, ◌≤◌, Some, None, length};
+ghost use Rattle.std.specs.Prelude.{◌≡◌, ◌+◌, ◌-◌, ◌^◌, ◌<◌, ◌≤◌, Some, None, length};
 ghost use Rattle.multi_token.specs.Counted.{RisesBetween};
 ghost use Rattle.multi_token.specs.Reading.{reading};
 ghost use Rattle.multi_layout.specs.Limits.{check_limit};
 ghost use Rattle.multi_layout.specs.Meaning.{meanings};
 ghost use Rattle.multi_layout.specs.Times.{cycle, page_times, shown, shown_within};
+ghost use Rattle.multi_layout.specs.Verdict.{Accepted, IsCycle, IsVerdict};
 ghost use Rattle.multi_layout.specs.kept.Cursors.{IsAccepted, IsOrderly};
+ghost use Rattle.multi_layout.specs.kept.Passing.{IsAtStart};
 ghost use Rattle.multi_layout.specs.kept.PageDrawing.{IsStartOf};
 ghost use Rattle.multi_layout.specs.LaidItems.{laid_out};
 
 use crate::attributes::Attributes;
-use crate::checked::Checked;
+use crate::checked::{Checked, Told};
 use crate::cursor::Cursor;
 use crate::state::State;
 use crate::terms::Terms;
@@ -37,44 +39,56 @@ impl<'a> Checked<'a> {
         ensures kept { self.new.sign ≡ self.old.sign }
         ensures steps { RisesBetween self.old.source self.new.source 0 (check_limit (length self.old.source.octets)) }
     {
-        self.find(clock).0
-    }
-
-    /// What the string shows at a clock, and where a page that it shows begins.
-    pub(crate) fn find(&mut self, clock: u64) -> (Shown, Cursor)
-        ensures shown { result.0 ≡ shown self.old.sign self.old.source.octets clock }
-        ensures begins { IsStartOf self.old.sign self.old.source.octets result.0 result.1 }
-        ensures kept { self.new.sign ≡ self.old.sign }
-        ensures steps { RisesBetween self.old.source self.new.source 0 (check_limit (length self.old.source.octets)) }
-    {
-        if self.pages == 1 || self.cycle == 0 {
-            let shown = Shown::Page {
-                page: 0,
-                phase: clock,
-            };
-            return (shown, Cursor::new(&self.terms));
-        }
-        find_page(&self.terms, &mut self.source, clock % u64::from(self.cycle))
+        let mut start = Cursor::new(&self.terms);
+        let told = self.told();
+        find_shown(&self.terms, &mut self.source, told, clock, &mut start)
     }
 }
 
-/// What an accepted string shows at a time of its cycle, and where a page that it shows begins.
-fn find_page(sign: &Terms<'_>, source: &mut Source<'_>, time: u64) -> (Shown, Cursor)
+/// What an accepted string shows at a clock, by what is told of it. The cursor, which stands before its first item, goes to where a page
+/// that is shown begins.
+pub(crate) fn find_shown(
+    sign: &Terms<'_>,
+    source: &mut Source<'_>,
+    told: Told,
+    clock: u64,
+    start: &mut Cursor,
+) -> Shown
+    requires pages { IsVerdict sign.now source.old.octets (Accepted told.pages) }
+    requires cycle { IsCycle sign.now source.old.octets told.cycle }
+    requires short { length source.old.octets < 2 ^ 32 }
+    requires start { IsAtStart sign.now start.old }
+    ensures shown { result ≡ shown sign.now source.old.octets clock }
+    ensures begins { IsStartOf sign.now source.old.octets result start.new }
+    ensures steps { RisesBetween source.old source.new 0 (check_limit (length source.old.octets)) }
+{
+    if told.pages == 1 || told.cycle == 0 {
+        return Shown::Page {
+            page: 0,
+            phase: clock,
+        };
+    }
+    find_page(sign, source, clock % u64::from(told.cycle), start)
+}
+
+/// What an accepted string shows at a time of its cycle. The cursor, which stands before its first item, goes to where a page that is shown
+/// begins.
+fn find_page(sign: &Terms<'_>, source: &mut Source<'_>, time: u64, start: &mut Cursor) -> Shown
     requires accepted { IsAccepted sign.now source.old.octets (reading source.old.octets).items }
     requires orderly { IsOrderly sign.now (laid_out sign.now (meanings source.old.octets)) }
     requires within { time < cycle (page_times sign.now (meanings source.old.octets)) }
-    ensures shown { result.0 ≡ shown_within (page_times sign.now (meanings source.old.octets)) time }
-    ensures begins { IsStartOf sign.now source.old.octets result.0 result.1 }
+    requires start { IsAtStart sign.now start.old }
+    ensures shown { result ≡ shown_within (page_times sign.now (meanings source.old.octets)) time }
+    ensures begins { IsStartOf sign.now source.old.octets result start.new }
     ensures steps { RisesBetween source.old source.new 0 (check_limit (length source.old.octets)) }
 {
-    let mut start = Cursor::new(sign);
     loop {
-        let mut behind = start;
+        let mut behind = *start;
         behind.pass_page(sign, source);
         if let Some(shown) = shown_in(&start.state, &behind.state.attributes, time) {
-            return (shown, start);
+            return shown;
         }
-        start = behind;
+        *start = behind;
     }
 }
 

@@ -1,22 +1,28 @@
 //! The verdict on a string, in one reading from the left with running sums.
 
-ghost use Rattle.std.specs.Prelude.{◌≡◌, ◌≢◌, ℕ, ◌+◌, ◌^◌, ◌<◌, ◌≤◌, ◌⊎◌, [], length, IfOk, IfErr, OnOk, None, Some};
+ghost use Rattle.std.specs.Prelude.{◌≡◌, ◌≢◌, ℕ, ◌+◌, ◌*◌, ◌^◌, ◌<◌, ◌≤◌, ◌⊎◌, [], length, IfOk, IfErr, OnOk, OnErr, None, Some};
 ghost use Rattle.sign_font.specs.Defaults.{default_fault, under};
 ghost use Rattle.sign_font.specs.Sign.{SignData};
 ghost use Rattle.multi_layout.specs.Codes.{code_of};
-ghost use Rattle.multi_layout.specs.Limits.{check_limit};
+ghost use Rattle.multi_layout.specs.Limits.{check_limit, reading_limit};
+ghost use Rattle.multi_layout.specs.Pages.{IsSized, ShowsAt, TakesFew};
 ghost use Rattle.multi_layout.specs.kept.Judging.{IsAt, IsRefused, IsTold};
 ghost use Rattle.multi_layout.specs.kept.PassState.{IsPassOf, fill_of};
 ghost use Rattle.multi_layout.specs.Verdict.{Accepted, IsVerdict, Refused};
 
 use crate::bracket::read_spelled;
-use crate::checked::Checked;
+use crate::checked::{Checked, Told};
+use crate::cursor::Cursor;
 use crate::fault::{Fault, SyntaxError};
+use crate::pages::draw_found;
 use crate::pass::Pass;
+use crate::read::AreaLines;
 use crate::run::judge_run;
 use crate::state::State;
 use crate::terms::Terms;
+use crate::times::{Shown, find_shown};
 use multi_token::Source;
+use page_plane::Plane;
 use sign_font::{Defaults, LineFill, Sign};
 use std::marker::Model;
 
@@ -25,13 +31,6 @@ use std::marker::Model;
 pub struct Offence {
     pub error: SyntaxError,
     pub at: usize,
-}
-
-/// What is told of an accepted string: its pages, and the times of all of them together, in tenths of a second.
-#[derive(Clone, Copy)]
-struct Told {
-    pages: u8,
-    cycle: u32,
 }
 
 /// Whether a sign accepts a string by the sign's own defaults. Everything else is as [`check_with`] says.
@@ -124,6 +123,16 @@ impl<'a> Judge<'a> {
         }
     }
 
+    /// The same by these defaults, which the sign must not refuse.
+    pub fn with(sign: &'a Sign, defaults: Defaults) -> Judge<'a>
+        requires taken { default_fault sign.now defaults ≡ None }
+        ensures { result ≡ under sign.now defaults }
+    {
+        Judge {
+            terms: Terms::new(sign, defaults),
+        }
+    }
+
     /// The number of pages of a string that the sign accepts; else the first error. Verdict and steps are those of [`check`].
     #[inline(always)]
     pub fn pages(&self, source: &mut Source<'_>) -> Result<u8, Offence>
@@ -138,6 +147,41 @@ impl<'a> Judge<'a> {
     {
         match judge_string(&self.terms, source) {
             Ok(told) => Ok(told.pages),
+            Err(offence) => Err(offence),
+        }
+    }
+
+    /// Draws what a string that the sign accepts shows at a clock, and tells it; else the first error, and the plane stays. It is judged
+    /// as by [`check`], and drawn as by [`crate::Checked::draw_shown`], of which this takes the steps.
+    pub fn draw_shown(
+        &self,
+        source: &mut Source<'_>,
+        clock: u64,
+        colour: u8,
+        lines: &mut AreaLines,
+        plane: &mut Plane,
+    ) -> Result<Shown, Offence>
+        requires fresh { source.old.steps ≡ 0 }
+        requires short { length source.old.octets < 2 ^ 32 }
+        requires size { IsSized plane.old self.now }
+        ensures accepted { OnOk result ((pages : ℕ) × IsVerdict self.now source.old.octets (Accepted pages)) }
+        ensures shown { IfOk result (ShowsAt self.now source.old.octets clock colour plane.new) }
+        ensures refused { IfErr result (λ offence. IsVerdict self.now source.old.octets (Refused (code_of offence.error) offence.at)) }
+        ensures undrawn { OnErr result (plane.new ≡ plane.old) }
+        ensures size { IsSized plane.new self.now }
+        ensures kept { source.new.octets ≡ source.old.octets }
+        ensures steps { OnOk result (length source.old.octets + 1 ≤ source.new.steps) }
+        ensures fault_steps { IfErr result (λ offence. offence.at + 1 ≤ source.new.steps) }
+        ensures most { source.new.steps ≤ 2 * check_limit (length source.old.octets) + reading_limit (length source.old.octets) }
+        ensures plane_steps { TakesFew self.now (length source.old.octets) plane.old plane.new }
+    {
+        match judge_string(&self.terms, source) {
+            Ok(told) => {
+                let mut start = Cursor::new(&self.terms);
+                let shown = find_shown(&self.terms, source, told, clock, &mut start);
+                draw_found(&self.terms, source, shown, &mut start, colour, lines, plane);
+                Ok(shown)
+            }
             Err(offence) => Err(offence),
         }
     }

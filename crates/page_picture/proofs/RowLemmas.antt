@@ -1,19 +1,21 @@
 -- The rows of a plane as text, one after the other.
-use Rattle.std.proofs.Common.{◌≡◌, ℕ, zero, suc, ◌+◌, ◌-◌, ◌*◌, ◌/◌, ◌%◌, ◌<◌, ◌≤◌, ◌==◌, ◌&&◌, Bool, true, List, [], ◌∷◌, ◌++◌, get_or, length, map, replicate, subst, take, drop, refl, sym, ap, ◌∙◌, arith, inl, inr}
+use Rattle.std.proofs.Common.{◌≡◌, ℕ, zero, suc, ◌+◌, ◌-◌, ◌*◌, ◌/◌, ◌%◌, ◌<◌, ◌≤◌, ◌==◌, ◌&&◌, Bool, true, List, [], ◌∷◌, ◌++◌, get_or, length, map, replicate, subst, take, drop, refl, sym, ap, ◌∙◌, arith, append_assoc, append-nil, inl, inr}
 use Rattle.std.specs.Int.{bit_at, from_le_bytes, to_le_bytes, w64}
 use Rattle.std.specs.List.{flat_map, list_all, range_with_len}
+use Rattle.std.proofs.Math.Nat.{mul-le-mul_left}
 use Rattle.std.proofs.Math.Seq.{take-add}
-use Rattle.std.proofs.lemmas.Bool.{and_parts, cases_Bool, eqb-true}
+use Rattle.std.proofs.lemmas.Bool.{and_parts, cases_Bool, eq-eqb, eqb-true}
 use Rattle.std.proofs.lemmas.List.Folds.{list_all-append}
 use Rattle.std.proofs.lemmas.Nat.{le_bytes_8}
-use Rattle.std.proofs.lemmas.Nat.Bits.{bit_at-zero}
-use Rattle.std.proofs.lemmas.List.{drop-drop, get_or-drop, get_or-take, length-append, length-drop, length-take-le, take-append-le, take_all}
+use Rattle.std.proofs.lemmas.Nat.Bits.{bit_at_ones, bit_at-zero}
+use Rattle.std.proofs.lemmas.List.{drop-drop, drop_all, drop_at, get_or-drop, get_or-replicate, get_or-take, length-append, length-drop, length-replicate, length-take-le, take-append-le, take_all}
 use Rattle.std.proofs.lemmas.List.FromFn.{length-map-range_with_len, take-map-range_with_len}
 use Rattle.octet_text.proofs.TextLemmas.{flat_map_more, flat_map_same, map_same}
 use borrow.Rule.Slice.PartMut.{mid_of, put_mid}
-use Rattle.page_plane.specs.Octets.{is_bit_set}
-use Rattle.page_picture.proofs.PartLemmas.{lent_length, put_more}
+use Rattle.page_plane.specs.Octets.{bit_place, is_bit_set, row_octets}
+use Rattle.page_picture.proofs.PartLemmas.{lent_length, part_written, put_more}
 use Rattle.page_picture.specs.Rows.{mark_of, marked_rows, octet_marks, row_text, rows_text}
+use Rattle.page_picture.specs.kept.Marks.{WritesRows}
 
 -- OCTETS
 
@@ -174,14 +176,99 @@ rows_count at width (suc row) =
     let both = length-append (rows_text at width row) (row_text at width row) in
     ap (λ n. length (rows_text at width n)) next ∙ ap length (rows_more at width row) ∙ omega (arith, above, line, size, both)
 
+-- the first row and the rows below it are all rows
+rows_front : (at other : ℕ → ℕ → ℕ) (width height : ℕ) → ((column row : ℕ) → column < width → row < height → other column row ≡ at column (row + 1))
+    → row_text at width 0 ++ rows_text other width height ≡ rows_text at width (height + 1)
+rows_front at other width zero same =
+    ap (λ l. row_text at width 0 ++ l) (rows_none other width) ∙ append-nil (row_text at width 0)
+    ∙ sym (rows_more at width 0 ∙ ap (λ l. l ++ row_text at width 0) (rows_none at width))
+rows_front at other width (suc height) same =
+    let next : suc height ≡ height + 1 = omega arith in
+    let below = rows_text other width height in
+    let last : row_text other width height ≡ row_text at width (height + 1) =
+    ap (λ l. l ++ 10 ∷ []) (map_same (λ k. other k height) (λ k. at k (height + 1)) 0 width (λ column left. same column height (omega arith) (omega arith))) in
+    ap (λ n. row_text at width 0 ++ rows_text other width n) next
+    ∙ ap (λ l. row_text at width 0 ++ l) (rows_more other width height)
+    ∙ sym (append_assoc (row_text at width 0) below (row_text other width height))
+    ∙ ap (λ l. l ++ row_text other width height) (rows_front at other width height (λ column row left above. same column row left (omega (arith, above))))
+    ∙ ap (λ l. rows_text at width (height + 1) ++ l) last
+    ∙ sym (rows_more at width (height + 1))
+    ∙ ap (λ n. rows_text at width (n + 1)) (sym next)
+
+-- the first row that stands in octets and the rows that stand in the others are all rows
+lines_front : (mark width len height : ℕ) (octets : List ℕ) → len ≡ row_octets width → len * (height + 1) ≤ length octets
+    → (octet_marks mark (take len octets) width ++ 10 ∷ [])
+    ++ marked_rows mark (λ column row. is_bit_set (take (length octets - len) (drop len octets)) (bit_place width column row)) width height
+    ≡ marked_rows mark (λ column row. is_bit_set octets (bit_place width column row)) width (height + 1)
+lines_front mark width len height octets is_len room =
+    let rest = take (length octets - len) (drop len octets) in
+    let at : ℕ → ℕ → ℕ = λ column row. mark_of mark (is_bit_set octets (bit_place width column row)) in
+    let other : ℕ → ℕ → ℕ = λ column row. mark_of mark (is_bit_set rest (bit_place width column row)) in
+    ap (λ l. (l ++ 10 ∷ []) ++ rows_text other width height) (map_same (λ place. mark_of mark (is_bit_set (take len octets) place)) (λ column. at column 0) 0 width
+    (λ x below. ap (mark_of mark) (let there : 8 * 0 + x ≡ bit_place width x 0 = omega arith in part_bit octets 0 len x (omega (arith, is_len, below)) ∙ ap (is_bit_set octets) there)))
+    ∙ rows_front at other width height (λ column row left above.
+    let rows : len * (row + 1) ≤ len * height = mul-le-mul_left len (omega (arith, above)) in
+    let there : 8 * len + bit_place width column row ≡ bit_place width column (row + 1) = omega (arith, is_len) in
+    let here = ap (λ n. row * n) is_len in
+    let within : bit_place width column row < 8 * (length octets - len) = omega (arith, here, is_len, room, rows, left) in
+    ap (mark_of mark) (part_bit octets len (length octets - len) (bit_place width column row) within ∙ ap (is_bit_set octets) there))
+
+-- a text of a row has the rows below it written behind that row
+pub lines_joined : (mark width len h height k : ℕ) (octets old row rest r : List ℕ) → len ≡ row_octets width → height ≡ h + 1
+    → (width + 1) * height + 8 ≤ length old → len * height ≤ length octets → length row ≡ width + 9
+    → take (width + 1) row ≡ octet_marks mark (take len octets) width ++ 10 ∷ [] → rest ≡ take (length octets - len) (drop len octets)
+    → k ≡ length (row ++ drop (width + 9) old) - (width + 1) → WritesRows mark rest width h (mid_of (width + 1) k (row ++ drop (width + 9) old)) r
+    → WritesRows mark octets width height old (put_mid (width + 1) k (row ++ drop (width + 9) old) r)
+lines_joined mark width len h height k octets old row rest r is_len is_high room count size is_row is_rest is_k done =
+    let a = width + 1 in
+    let n = a * h in
+    let t = row ++ drop (width + 9) old in
+    let all : a * height ≡ a + n = ap (λ m. a * m) is_high ∙ (let more : a * (h + 1) ≡ a + a * h = omega arith in more) in
+    let behind = length-drop (width + 9) old in
+    let long : length t ≡ length old = length-append row (drop (width + 9) old) ∙ omega (arith, size, behind, room, all) in
+    let left = length-drop a t in
+    let mid : mid_of a k t ≡ drop a t = take_all k (drop a t) (omega (arith, left, is_k)) in
+    let same : length r ≡ length t - a = done.len ∙ ap length mid ∙ left in
+    let none : drop k (drop a t) ≡ [] = drop_all k (drop a t) (omega (arith, left, is_k)) in
+    let whole : put_mid a k t r ≡ take a t ++ r = ap (λ l. take a t ++ (r ++ l)) none ∙ ap (λ l. take a t ++ l) (append-nil r) in
+    let front : length (take a t) ≡ a = length-take-le a t (omega (arith, long, room, all)) in
+    record {
+      len = ap length whole ∙ length-append (take a t) r ∙ omega (arith, front, same, long, room, all);
+      written = ap (λ m. take m (put_mid a k t r)) all
+          ∙ part_written a n t r (drop k (drop a t)) (omega (arith, long, room, all)) (omega (arith, same, long, room, all))
+          ∙ ap (λ l. l ++ take n r) (take-append-le a row (drop (width + 9) old) (omega (arith, size)) ∙ is_row)
+          ∙ ap (λ l. (octet_marks mark (take len octets) width ++ 10 ∷ []) ++ l) (done.written
+          ∙ ap (λ l. marked_rows mark (λ column row. is_bit_set l (bit_place width column row)) width h) is_rest)
+          ∙ lines_front mark width len h octets is_len (let rows = ap (λ m. len * m) is_high in omega (arith, rows, count))
+          ∙ ap (marked_rows mark (λ column row. is_bit_set octets (bit_place width column row)) width) (sym is_high);
+      behind =
+          let end : a * height + 8 ≡ a + (n + 8) = omega (arith, all) in
+          let past : a * height + 8 ≡ width + 9 + n = omega (arith, all) in
+          ap (drop (a * height + 8)) whole ∙ ap (λ m. drop m (take a t ++ r)) end ∙ sym (drop-drop (n + 8) a (take a t ++ r))
+          ∙ ap (drop (n + 8)) (drop_at (take a t) r a front) ∙ done.behind ∙ ap (drop (n + 8)) mid ∙ drop-drop (n + 8) a t
+          ∙ ap (λ m. drop m t) (sym end ∙ past) ∙ sym (drop-drop n (width + 9) t) ∙ ap (drop n) (drop_at row (drop (width + 9) old) (width + 9) size)
+          ∙ drop-drop n (width + 9) old ∙ ap (λ m. drop m old) (sym past);
+    }
+
 -- DARK OCTETS
 
--- octets that are all 0
-pub all_zero : (l : List ℕ) → list_all (λ octet. octet == 0) l ≡ true → l ≡ replicate (length l) 0
-all_zero [] all = refl
-all_zero (octet ∷ l) all =
-    let parts = and_parts (octet == 0) (list_all (λ octet. octet == 0) l) all in
-    ap (λ x. x ∷ l) (eqb-true octet 0 parts.0) ∙ ap (λ r. 0 ∷ r) (all_zero l parts.1)
+-- octets that are all this one
+pub all_same : (octet : ℕ) (l : List ℕ) → list_all (λ other. other == octet) l ≡ true → l ≡ replicate (length l) octet
+all_same octet [] all = refl
+all_same octet (other ∷ l) all =
+    let parts = and_parts (other == octet) (list_all (λ other. other == octet) l) all in
+    ap (λ x. x ∷ l) (eqb-true other octet parts.0) ∙ ap (λ r. octet ∷ r) (all_same octet l parts.1)
+
+-- and back
+all_of : (octet n : ℕ) → list_all (λ other. other == octet) (replicate n octet) ≡ true
+all_of octet zero = refl
+all_of octet (suc n) = rw (eq-eqb octet octet refl) (all_of octet n)
+
+-- each of them is an octet
+small_at : (octet n i : ℕ) → octet < 256 → get_or (replicate n octet) i 0 < 256
+small_at octet zero i small = omega arith
+small_at octet (suc n) zero small = small
+small_at octet (suc n) (suc i) small = small_at octet n i small
 
 -- they are written as points
 pub dark_written : (mark : ℕ) (octets text points : List ℕ) → list_all (λ octet. octet == 0) octets ≡ true → 8 * length octets ≤ length text
@@ -191,33 +278,71 @@ dark_written mark octets text points dark room are =
     let count = 8 * length octets in
     ap (λ l. l ++ drop count text)
     (are ∙ ap (λ n. replicate n 46) (length-take-le count text room) ∙ sym (dark_points mark (length octets) 0 count)
-    ∙ ap (λ l. octet_marks mark l count) (sym (all_zero octets dark)))
+    ∙ ap (λ l. octet_marks mark l count) (sym (all_same 0 octets dark)))
 
--- eight octets are all 0 exactly if they are 0 as a word
-pub dark_word : (octets eight : List ℕ) (word : ℕ) → length octets ≡ 8 → ((i : ℕ) → get_or octets i 0 < 256) → eight ≡ take 8 octets
-    → word ≡ from_le_bytes w64 eight → (word == 0) ≡ list_all (λ octet. octet == 0) octets
-dark_word octets eight word whole small is_eight is_word =
+-- eight octets are all this one exactly if they are the same word
+pub same_word : (octet : ℕ) (octets eight : List ℕ) (word other : ℕ) → octet < 256 → length octets ≡ 8 → ((i : ℕ) → get_or octets i 0 < 256) → eight ≡ take 8 octets
+    → word ≡ from_le_bytes w64 eight → other ≡ from_le_bytes w64 (replicate 8 octet) → (word == other) ≡ list_all (λ o. o == octet) octets
+same_word octet octets eight word other fits whole small is_eight is_word is_other =
     let all : eight ≡ octets = is_eight ∙ take_all 8 octets (omega (arith, whole)) in
-    elim (cases_Bool (list_all (λ octet. octet == 0) octets)) [
-      | inl dark ↦
-          let zeros : octets ≡ replicate 8 0 = all_zero octets dark ∙ ap (λ n. replicate n 0) whole in
-          let none : word ≡ 0 = is_word ∙ ap (from_le_bytes w64) (all ∙ zeros) in
-          ap (λ n. n == 0) none ∙ sym dark
-      | inr lit ↦ elim (cases_Bool (word == 0)) [
-        | inl none ↦
-            let back : to_le_bytes w64 0 ≡ replicate {A = ℕ} 8 0 = refl in
-            let zeros : octets ≡ replicate 8 0 =
+    elim (cases_Bool (list_all (λ o. o == octet) octets)) [
+      | inl same ↦
+          let each : octets ≡ replicate 8 octet = all_same octet octets same ∙ ap (λ n. replicate n octet) whole in
+          eq-eqb word other (is_word ∙ ap (from_le_bytes w64) (all ∙ each) ∙ sym is_other) ∙ sym same
+      | inr mixed ↦ elim (cases_Bool (word == other)) [
+        | inl one ↦
+            let each : octets ≡ replicate 8 octet =
             sym all ∙ sym (le_bytes_8 eight word (ap length all ∙ whole) (λ i. subst (λ l. get_or l i 0 < 256) (sym all) (small i)) is_word)
-            ∙ ap (to_le_bytes w64) (eqb-true word 0 none) ∙ back in
-            none ∙ sym (ap (list_all (λ octet. octet == 0)) zeros)
-        | inr some ↦ some ∙ sym lit
+            ∙ ap (to_le_bytes w64) (eqb-true word other one)
+            ∙ le_bytes_8 (replicate 8 octet) other (length-replicate 8 octet) (λ i. small_at octet 8 i fits) is_other in
+            one ∙ sym (ap (list_all (λ o. o == octet)) each ∙ all_of octet 8)
+        | inr two ↦ two ∙ sym mixed
       ]
     ]
 
--- octets are all 0 if those of their front and of the part behind it are
-pub dark_more : (octets part : List ℕ) (front n size : ℕ) → size ≡ front + n → part ≡ take n (drop front octets)
-    → list_all (λ octet. octet == 0) (take size octets) ≡ (list_all (λ octet. octet == 0) (take front octets) && list_all (λ octet. octet == 0) part)
-dark_more octets part front n size is_size is_part =
-    ap (λ k. list_all (λ octet. octet == 0) (take k octets)) is_size ∙ ap (list_all (λ octet. octet == 0)) (take-add front n octets)
-    ∙ list_all-append (λ octet. octet == 0) (take front octets) (take n (drop front octets))
-    ∙ ap (λ l. list_all (λ octet. octet == 0) (take front octets) && list_all (λ octet. octet == 0) l) (sym is_part)
+-- octets are all this one if those of their front and of the part behind it are
+pub same_more : (octet : ℕ) (octets part : List ℕ) (front n size : ℕ) → size ≡ front + n → part ≡ take n (drop front octets)
+    → list_all (λ o. o == octet) (take size octets) ≡ (list_all (λ o. o == octet) (take front octets) && list_all (λ o. o == octet) part)
+same_more octet octets part front n size is_size is_part =
+    ap (λ k. list_all (λ o. o == octet) (take k octets)) is_size ∙ ap (list_all (λ o. o == octet)) (take-add front n octets)
+    ∙ list_all-append (λ o. o == octet) (take front octets) (take n (drop front octets))
+    ∙ ap (λ l. list_all (λ o. o == octet) (take front octets) && list_all (λ o. o == octet) l) (sym is_part)
+
+-- octets are all this one if those of their front and those of their end are, which reach to one another
+pub same_ends : (octet : ℕ) (octets : List ℕ) (a b : ℕ) → b ≤ a → list_all (λ o. o == octet) (take a octets) ≡ true → list_all (λ o. o == octet) (drop b octets) ≡ true
+    → list_all (λ o. o == octet) octets ≡ true
+same_ends octet [] a b reach front end = refl
+same_ends octet (other ∷ l) zero zero reach front end = end
+same_ends octet (other ∷ l) zero (suc b) reach front end = absurd (omega arith)
+same_ends octet (other ∷ l) (suc a) zero reach front end = end
+same_ends octet (other ∷ l) (suc a) (suc b) reach front end =
+    let parts = and_parts (other == octet) (list_all (λ o. o == octet) (take a l)) front in
+    rw (parts.0) (same_ends octet l a b (omega (arith, reach)) parts.1 end)
+
+-- OCTETS WITH ALL BITS
+
+-- each pixel of octets with all bits is lit
+all_set : (n place : ℕ) → place < 8 * n → is_bit_set (replicate {A = ℕ} n 255) place ≡ true
+unfolding is_bit_set
+all_set n place below =
+    rw (get_or-replicate {A = ℕ} n (place / 8) 255 0 (omega (arith, below))) (eq-eqb (bit_at 255 (7 - place % 8)) 1 (bit_at_ones 8 (7 - place % 8) (omega arith)))
+
+-- the marks of all of them are the same
+full_marks : (mark n from count : ℕ) → from + count ≤ 8 * n
+    → map (λ place. mark_of mark (is_bit_set (replicate {A = ℕ} n 255) place)) (range_with_len from count) ≡ replicate {A = ℕ} count mark
+full_marks mark n from zero within = refl
+full_marks mark n from (suc count) within =
+    let here : mark_of mark (is_bit_set (replicate {A = ℕ} n 255) from) ≡ mark =
+    ap (mark_of mark) (all_set n from (omega (arith, within))) in
+    ap (λ x. x ∷ map (λ place. mark_of mark (is_bit_set (replicate {A = ℕ} n 255) place)) (range_with_len (from + 1) count)) here
+    ∙ ap (λ l. mark ∷ l) (full_marks mark n (from + 1) count (omega (arith, within)))
+
+-- they are written by one mark
+pub full_written : (mark lit : ℕ) (octets text marks : List ℕ) → list_all (λ o. o == 255) octets ≡ true → 8 * length octets ≤ length text → lit ≡ mark
+    → marks ≡ replicate (length (take (8 * length octets) text)) lit
+    → marks ++ drop (8 * length octets) text ≡ octet_marks mark octets (8 * length octets) ++ drop (8 * length octets) text
+full_written mark lit octets text marks full room is_lit are =
+    let count = 8 * length octets in
+    ap (λ l. l ++ drop count text)
+    (are ∙ ap (λ n. replicate n lit) (length-take-le count text room) ∙ ap (replicate count) is_lit ∙ sym (full_marks mark (length octets) 0 count (omega arith))
+    ∙ ap (λ l. octet_marks mark l count) (sym (all_same 255 octets full)))

@@ -1,12 +1,12 @@
 //! The rows of a plane as lines of text.
-ghost use Rattle.std.specs.Prelude.{◌≡◌, ℕ, ◌+◌, ◌-◌, ◌*◌, ◌<◌, ◌≤◌, ◌==◌, [], ◌++◌, ◌∷◌, Bool, drop, length, nat_le, replicate, take, true, if◌then◌else◌};
+ghost use Rattle.std.specs.Prelude.{◌≡◌, ℕ, ◌+◌, ◌-◌, ◌*◌, ◌<◌, ◌≤◌, ◌==◌, [], ◌++◌, ◌∷◌, drop, length, replicate, take, true};
 ghost use Rattle.std.specs.List.{list_all};
+ghost use Rattle.page_plane.specs.Octets.{row_octets};
 ghost use Rattle.page_plane.specs.Plane.{is_lit};
 ghost use Rattle.page_picture.specs.Rows.{marked_rows, octet_marks, octet_of};
-ghost use Rattle.page_picture.specs.kept.Marks.{IsTable, WritesMarks, eight_marks};
+ghost use Rattle.page_picture.specs.kept.Marks.{IsTable, WritesMarks, WritesRows, eight_marks};
 
 use page_plane::Plane;
-use std::marker::PhantomData;
 
 /// What stands for a lit pixel in a row of text (own).
 #[derive(Clone, Copy)]
@@ -70,97 +70,87 @@ fn mark_octets(text: &mut [u8], octets: &[u8], marks: &[[u8; 8]; 256])
     }
 }
 
-/// Whether eight octets have no pixel.
-pub(crate) fn is_dark_word(octets: &[u8]) -> bool
+/// Whether each of eight octets is this one.
+// Inlined, so that the word of an octet that is known is a constant in it.
+#[inline(always)]
+pub(crate) fn is_word_of(octets: &[u8], octet: u8) -> bool
     requires { length octets.now ≡ 8 }
-    ensures { result ≡ list_all (λ octet. octet == 0) octets.now }
+    ensures { result ≡ list_all (λ other. other == octet) octets.now }
 {
     let Some((eight, _)) = octets.split_first_chunk::<8>() else {
         // There are eight octets.
         unreachable!();
     };
-    u64::from_le_bytes(*eight) == 0
+    u64::from_le_bytes(*eight) == u64::from_le_bytes([octet; 8])
 }
 
-/// Writes points over all octets.
-fn blank(text: &mut [u8])
-    ensures { text.new ≡ replicate (length text.old) 46 }
+/// Writes a mark over all octets.
+fn fill(text: &mut [u8], mark: u8)
+    ensures { text.new ≡ replicate (length text.old) mark }
 {
-    text.fill(b'.');
+    text.fill(mark);
 }
 
-/// Whether eight or sixteen octets have no pixel. Any other number is not looked at.
+/// Whether each of these octets, at least eight, is this one. They are looked at a word at once, and the last word may lie over the one
+/// before it.
+// Inlined, so that a number of octets that is known is a constant in it.
 #[inline(always)]
-fn is_dark_piece(octets: &[u8]) -> bool
-    ensures { result ≡ true → list_all (λ octet. octet == 0) octets.now ≡ true }
+fn are_all(octets: &[u8], octet: u8) -> bool
+    requires { 8 ≤ length octets.now }
+    ensures { result ≡ true → list_all (λ other. other == octet) octets.now ≡ true }
 {
-    match octets.len() {
-        8 => is_dark_word(octets),
-        16 => is_dark_word(&octets[..8]) & is_dark_word(&octets[8..]),
-        _ => false,
+    let count = octets.len();
+    let mut same = is_word_of(&octets[count - 8..], octet);
+    for word in 0..count / 8 {
+        same &= is_word_of(&octets[8 * word..8 * word + 8], octet);
     }
+    same
 }
 
-/// Writes the marks of the pixels of a piece. Most of a page is dark, which a large piece shows at once.
+/// Writes the marks of the pixels of octets that have all their pixels.
+// Inlined, so that a number of octets that is known is a constant in it.
+#[inline(always)]
+fn mark_full(text: &mut [u8], octets: &[u8], marks: &[[u8; 8]; 256])
+    requires room { 8 * length octets.now ≤ length text.old }
+    requires full { list_all (λ octet. octet == 255) octets.now ≡ true }
+    ensures { WritesMarks marks.now octets.now text.old text.new }
+{
+    let mark = eight_marks(u8::MAX, marks)[0];
+    fill(&mut text[..8 * octets.len()], mark);
+}
+
+/// Writes the marks of the pixels of octets of which all but the last have all their pixels.
+// Inlined, so that a number of octets that is known is a constant in it.
+#[inline(always)]
+fn mark_filled(text: &mut [u8], octets: &[u8], marks: &[[u8; 8]; 256])
+    requires room { 8 * length octets.now ≤ length text.old }
+    requires some { 1 ≤ length octets.now }
+    requires full { list_all (λ octet. octet == 255) (take (length octets.now - 1) octets.now) ≡ true }
+    ensures { WritesMarks marks.now octets.now text.old text.new }
+{
+    let last = octets.len() - 1;
+    mark_full(text, &octets[..last], marks);
+    mark_octets(&mut text[8 * last..], &octets[last..], marks);
+}
+
+/// Writes the marks of the pixels of a piece. Most of a page is dark, and areas may be filled, which a large piece shows at once. A row's
+/// last octet may have spare bits, which are never set.
 #[inline(always)]
 fn mark_piece(text: &mut [u8], octets: &[u8], marks: &[[u8; 8]; 256])
     requires room { 8 * length octets.now ≤ length text.old }
     ensures { WritesMarks marks.now octets.now text.old text.new }
 {
-    if is_dark_piece(octets) {
-        blank(&mut text[..8 * octets.len()]);
+    let count = octets.len();
+    if count >= 8 && are_all(octets, 0) {
+        fill(&mut text[..8 * count], b'.');
+    } else if count > 8 && are_all(&octets[..count - 1], u8::MAX) {
+        mark_filled(text, octets, marks);
     } else {
         mark_octets(text, octets, marks);
     }
 }
 
-/// The pieces in which the last octets of a row are marked. They are types, so that each place is a constant where it is compiled: a loop
-/// over pieces would take more steps than what it writes.
-trait Pieces {
-    // whether they are the pieces of this many octets
-    ghost takes: { ℕ → Bool };
-
-    /// Writes the marks of the pixels of octets.
-    fn mark(text: &mut [u8], octets: &[u8], marks: &[[u8; 8]; 256])
-        requires few { takes (length octets.now) ≡ true }
-        requires room { 8 * length octets.now ≤ length text.old }
-        ensures { WritesMarks marks.now octets.now text.old text.new };
-}
-
-/// No piece, of no octet.
-struct Nothing;
-
-impl Pieces for Nothing {
-    ghost takes = { λ count. count == 0 };
-
-    #[inline(always)]
-    fn mark(_text: &mut [u8], _octets: &[u8], _marks: &[[u8; 8]; 256]) {}
-}
-
-/// A piece of N octets, if there are as many, and then the pieces of the rest.
-struct Piece<const N: usize, R> {
-    rest: PhantomData<R>,
-}
-
-impl<const N: usize, R: Pieces> Pieces for Piece<N, R> {
-    ghost takes = { λ count. if nat_le N count then R.takes (count - N) else R.takes count };
-
-    #[inline(always)]
-    fn mark(text: &mut [u8], octets: &[u8], marks: &[[u8; 8]; 256]) {
-        if octets.len() >= N {
-            mark_piece(text, &octets[..N], marks);
-            R::mark(&mut text[8 * N..], &octets[N..], marks);
-        } else {
-            R::mark(text, octets, marks);
-        }
-    }
-}
-
-/// The pieces of fewer than sixteen octets.
-type Last = Piece<8, Piece<4, Piece<2, Piece<1, Nothing>>>>;
-
-/// Writes the marks of the pixels of the octets of a row: those of sixteen octets at once, and at the end those of eight, of four, of two
-/// and of one.
+/// Writes the marks of the pixels of the octets of a long row: those of sixteen octets at once, and then those of the rest.
 fn mark_pixels(text: &mut [u8], octets: &[u8], marks: &[[u8; 8]; 256])
     requires room { 8 * length octets.now ≤ length text.old }
     ensures { WritesMarks marks.now octets.now text.old text.new }
@@ -169,19 +159,86 @@ fn mark_pixels(text: &mut [u8], octets: &[u8], marks: &[[u8; 8]; 256])
         mark_piece(text, &octets[..16], marks);
         mark_pixels(&mut text[128..], &octets[16..], marks);
     } else {
-        Last::mark(text, octets, marks);
+        mark_octets(text, octets, marks);
     }
 }
 
-/// Writes the first pixels of a row, as many as this width, and the line feed after them.
-fn write_row(text: &mut [u8], octets: &[u8], width: usize, marks: &[[u8; 8]; 256])
+/// Writes the marks of the pixels of the octets of a row, N or, if N is 0, any number.
+// Inlined, so that a number of octets that is known is a constant in it.
+#[inline(always)]
+fn mark_row<const N: usize>(text: &mut [u8], octets: &[u8], marks: &[[u8; 8]; 256])
+    requires room { 8 * length octets.now ≤ length text.old }
+    requires count { 0 < N → length octets.now ≡ N }
+    ensures { WritesMarks marks.now octets.now text.old text.new }
+{
+    if N > 0 {
+        mark_piece(text, &octets[..N], marks);
+    } else {
+        mark_pixels(text, octets, marks);
+    }
+}
+
+/// Writes the first pixels of a row, as many as this width, and the line feed after them. The row has N octets, or any number if N is 0.
+// Inlined, so that a number of octets that is known is a constant in it.
+#[inline(always)]
+fn write_row<const N: usize>(text: &mut [u8], octets: &[u8], width: usize, marks: &[[u8; 8]; 256])
     requires room { 8 * length octets.now < length text.old }
     requires width { width ≤ 8 * length octets.now }
+    requires count { 0 < N → length octets.now ≡ N }
     ensures len { length text.new ≡ length text.old }
     ensures written { (mark : ℕ) → IsTable mark marks.now → take (width + 1) text.new ≡ octet_marks mark octets.now width ++ 10 ∷ [] }
 {
-    mark_pixels(text, octets, marks);
+    mark_row::<N>(text, octets, marks);
     text[width] = b'\n';
+}
+
+/// Writes as many rows of this width, each of which has N octets, or any number if N is 0.
+fn write_lines<const N: usize>(
+    text: &mut [u8],
+    octets: &[u8],
+    width: usize,
+    height: u16,
+    marks: &[[u8; 8]; 256],
+)
+    requires room { (width + 1) * height + 8 ≤ length text.old }
+    requires width { (1 ≤ width) × (width ≤ 1024) }
+    requires octets { row_octets width * height ≤ length octets.now }
+    requires count { 0 < N → row_octets width ≡ N }
+    ensures { (mark : ℕ) → IsTable mark marks.now → WritesRows mark octets.now width height text.old text.new }
+{
+    if height > 0 {
+        let len = (width + 7) / 8;
+        write_row::<N>(&mut text[..width + 9], &octets[..len], width, marks);
+        write_lines::<N>(
+            &mut text[width + 1..],
+            &octets[len..],
+            width,
+            height - 1,
+            marks,
+        );
+    }
+}
+
+/// Writes rows by the code for their number of octets. There each place is a constant where it is compiled, and the number isn't looked at
+/// again for each row. All other rows are long.
+macro_rules! write_by {
+    ($len:expr, $text:expr, $octets:expr, $width:expr, $height:expr, $marks:expr, $($n:literal)*) => {
+        match $len {
+            $($n => write_lines::<$n>($text, $octets, $width, $height, $marks),)*
+            _ => write_lines::<0>($text, $octets, $width, $height, $marks),
+        }
+    };
+}
+
+/// Writes as many rows of this width.
+fn write_all(text: &mut [u8], octets: &[u8], width: usize, height: u16, marks: &[[u8; 8]; 256])
+    requires room { (width + 1) * height + 8 ≤ length text.old }
+    requires width { (1 ≤ width) × (width ≤ 1024) }
+    requires octets { row_octets width * height ≤ length octets.now }
+    ensures { (mark : ℕ) → IsTable mark marks.now → WritesRows mark octets.now width height text.old text.new }
+{
+    write_by!((width + 7) / 8, text, octets, width, height, marks,
+        1 2 3 4 5 6 7 8 9 10 11 12 13 14 15 16 17 18 19 20 21 22 23 24 25 26 27 28 29 30 31 32);
 }
 
 /// Writes the rows of a plane as lines of text into the first octets: from the top, and each row from the left, with this mark for a lit
@@ -197,11 +254,11 @@ pub fn write_rows(text: &mut [u8], plane: &Plane, mark: Mark)
     ensures behind { drop ((plane.now.width + 1) * plane.now.height + 8) text.new
         ≡ drop ((plane.now.width + 1) * plane.now.height + 8) text.old }
 {
-    let marks = table(mark);
-    let width = usize::from(plane.width());
-    let mut at = 0;
-    for row in 0..plane.height() {
-        write_row(&mut text[at..at + width + 9], plane.row(row), width, marks);
-        at += width + 1;
-    }
+    write_all(
+        text,
+        plane.octets(),
+        usize::from(plane.width()),
+        plane.height(),
+        table(mark),
+    );
 }

@@ -11,7 +11,7 @@ ghost use Rattle.page_picture.specs.Colours.{page_colour};
 ghost use Rattle.page_picture.specs.Painted.{HaveValues, IsPainted, TakesSteps, pixel_count};
 ghost use Rattle.page_picture.specs.Shown.{IsThere, colours};
 
-use crate::rows::is_dark_word;
+use crate::rows::is_word_of;
 use multi_layout::{Checked, Shown};
 use page_plane::Plane;
 
@@ -41,7 +41,7 @@ fn is_dark(octets: &[u8]) -> bool
 {
     let words = octets.len() / 8;
     for word in 0..words {
-        if !is_dark_word(&octets[8 * word..8 * word + 8]) {
+        if !is_word_of(&octets[8 * word..8 * word + 8], 0) {
             return false;
         }
     }

@@ -88,7 +88,9 @@ pub(crate) fn put_rows(
     }
 }
 
-/// Puts the rows one octet of each row of octets after the other.
+/// Puts the rows one octet of each row of octets after the other. Few rows are put in this way, and the registers that it wants would be
+/// saved for all others.
+#[inline(never)]
 fn put_strips(octets: &mut [u8], columns: u16, x: u16, y: u16, width: u8, rows: &[u64], on: bool)
     requires width { width ≤ 64 }
     requires column { x + width ≤ columns }

@@ -1,9 +1,9 @@
 //! A bit plane over its octets.
 
-ghost use Rattle.std.specs.Prelude.{◌≡◌, ℕ, ◌+◌, ◌<◌, ◌≤◌, false, if◌then◌else◌, length, IfOk};
+ghost use Rattle.std.specs.Prelude.{◌≡◌, ℕ, ◌+◌, ◌*◌, ◌<◌, ◌≤◌, false, if◌then◌else◌, length, IfOk};
 ghost use Rattle.step_count.specs.Count.{raised};
 ghost use Rattle.page_plane.specs.Plane.{is_lit};
-ghost use Rattle.page_plane.specs.Octets.{row_octets, octet_count, is_bit_set};
+ghost use Rattle.page_plane.specs.Octets.{bit_place, row_octets, octet_count, is_bit_set};
 ghost use Rattle.page_plane.specs.Put.{is_put, is_block_put};
 
 use crate::memory::Memory;
@@ -122,6 +122,17 @@ impl Plane {
         let len = row_len(self.width);
         let start = usize::from(y) * len;
         &self.octets[start..start + len]
+    }
+
+    /// The octets of all rows, from the top: those of each row are as [`Plane::row`] gives them.
+    pub fn octets(&self) -> &[u8]
+        ensures count { length result.now ≡ octet_count self.now }
+        ensures pixels { (x y : ℕ) → x < self.now.width → y < self.now.height
+            → is_bit_set result.now (bit_place self.now.width x y) ≡ is_lit self.now x y }
+        ensures spare { (x y : ℕ) → self.now.width ≤ x → x < 8 * row_octets self.now.width → y < self.now.height
+            → is_bit_set result.now (bit_place self.now.width x y) ≡ false }
+    {
+        self.octets.as_slice()
     }
 
     /// The width in pixels, 1 to 1,024, which never changes.

@@ -1,6 +1,6 @@
 //! Rows that are put at once, each into eight octets.
 
-ghost use Rattle.std.specs.Prelude.{◌≡◌, ℕ, ◌+◌, ◌-◌, ◌*◌, ◌/◌, ◌%◌, ◌^◌, ◌<◌, ◌≤◌, ◌==◌, ◌&&◌, min, nat_le, nat_lt, if◌then◌else◌, length};
+ghost use Rattle.std.specs.Prelude.{◌≡◌, ℕ, ◌+◌, ◌-◌, ◌*◌, ◌/◌, ◌%◌, ◌^◌, ◌<◌, ◌≤◌, ◌==◌, ◌&&◌, ◌++◌, drop, min, nat_le, nat_lt, if◌then◌else◌, length, take};
 ghost use Rattle.std.specs.Int.{bit_at};
 ghost use Rattle.page_plane.specs.Octets.{row_octets, is_bit_set};
 ghost use Rattle.page_plane.specs.Put.{IsBlockPutAt, is_in_word};
@@ -69,11 +69,20 @@ fn put_first(octets: &mut [u8], part: u64, on: bool)
         → is_bit_set octets.new place ≡ (if is_in_word 0 part place then on else is_bit_set octets.old place) }
     ensures len { length octets.new ≡ length octets.old }
 {
-    let Some(chunk) = octets.first_chunk_mut::<8>() else {
-        // There are eight octets.
-        unreachable!();
-    };
-    *chunk = painted_word(chunk, part, on);
+    let mut eight = [0; 8];
+    copy_eight(&mut eight, octets);
+    copy_eight(octets, &painted_word(&eight, part, on));
+}
+
+/// Copies eight octets over the first ones.
+fn copy_eight(to: &mut [u8], from: &[u8])
+    requires to { 8 ≤ length to.old }
+    requires from { 8 ≤ length from.now }
+    ensures { to.new ≡ take 8 from.now ++ drop 8 to.old }
+{
+    for place in 0..8 {
+        to[place] = from[place];
+    }
 }
 
 /// Eight octets with the set bits of a word made `on`, and the others kept. There is no branch, since rows are many; and the octets are

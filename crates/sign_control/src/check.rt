@@ -28,7 +28,14 @@ pub(crate) fn check_text<'a>(
     ensures fault_steps { IfErr result (λ fault. (fault.at + 1 ≤ fault.source.steps)
         × (fault.source.steps ≤ check_limit (length text.now))) }
 {
-    check_with(sign, defaults, Source::new(text))
+    check_with(sign, defaults, counted(text))
+}
+
+/// A text as a source that counts what is read of it. All of this crate's are made here.
+pub(crate) fn counted(text: &[u8]) -> Source<'_>
+    ensures { result ≡ record { octets = text.now; steps = 0 } }
+{
+    Source::new(text)
 }
 
 /// A text that a sign accepts by these defaults, as it is judged once more.

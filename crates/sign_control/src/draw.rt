@@ -11,8 +11,8 @@ ghost use Rattle.sign_font.specs.Defaults.{default_fault, under};
 ghost use Rattle.sign_font.specs.Sound.{IsSound};
 ghost use Rattle.sign_control.specs.kept.Ready.{IsAccepted};
 
-use crate::check::accepted_text;
-use multi_layout::{AreaLines, Shown};
+use crate::check::counted;
+use multi_layout::{AreaLines, Judge, Shown};
 use page_plane::Plane;
 use sign_font::{Defaults, Sign};
 
@@ -37,8 +37,12 @@ pub(crate) fn draw_shown(
     ensures least { length text.now + 1 + (plane.new.steps - plane.old.steps) ≤ result.1 }
     ensures most { result.1 ≤ frame_limit sign.now (length text.now) }
 {
-    let mut checked = accepted_text(sign, defaults, text);
+    let mut source = counted(text);
     let before = plane.steps();
-    let shown = checked.draw_shown(clock, colour, lines, plane);
-    (shown, checked.steps() + (plane.steps() - before))
+    let judge = Judge::with(sign, defaults);
+    let Ok(shown) = judge.draw_shown(&mut source, clock, colour, lines, plane) else {
+        // These defaults accepted it.
+        unreachable!();
+    };
+    (shown, source.steps() + (plane.steps() - before))
 }

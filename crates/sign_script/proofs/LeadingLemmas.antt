@@ -20,6 +20,9 @@ pub digit_told : (c d : ℕ) → d ≡ c → c < 256 → (d + 184467440737095515
     → (48 ≤ c) × (c ≤ 57) × ((d + 18446744073709551568) % 18446744073709551616 ≡ c - 48)
 digit_told c d is fits small = (grind (arith, is, fits, small), grind (arith, is, fits, small), grind (arith, is, fits, small))
 
+pub one_digit_told : (c d : ℕ) → d ≡ c → c < 256 → (d + 4294967248) % 4294967296 ≤ 9 → (48 ≤ c) × (c ≤ 57) × ((d + 4294967248) % 4294967296 ≡ c - 48)
+one_digit_told c d is fits small = (grind (arith, is, fits, small), grind (arith, is, fits, small), grind (arith, is, fits, small))
+
 -- one digit more
 pub digits_more : (ds : List ℕ) (i : ℕ) → i < length ds → list_all is_digit (take i ds) ≡ true → is_digit (get_or ds i 0) ≡ true → list_all is_digit (take (i + 1) ds) ≡ true
 digits_more ds i there before here =
@@ -96,3 +99,27 @@ module _ (most number count : ℕ) (text : List ℕ) (leads : IsLeading text num
         | inr more ↦ not_ended n is more
       ]) in
       rw bad refl
+
+ended_here : (c : ℕ) → (c == 32) ≡ true → is_digit c ≡ false
+ended_here c is = grind (arith, is)
+
+no_second : (c : ℕ) (behind : List ℕ) → is_ended behind ≡ true → 1 < length (c ∷ behind) → is_digit (slice_index_or (c ∷ behind) 1 0) ≡ false
+no_second c [] ended there = absurd (omega (arith, there))
+no_second c (d ∷ ds) ended there = ended_here d ended
+
+-- a field that is one digit
+pub one_digit : (most digit : ℕ) (rest : List ℕ) → 2 ≤ length rest → 48 ≤ slice_index_or rest 1 0 → slice_index_or rest 1 0 ≤ 57 → digit ≡ slice_index_or rest 1 0 - 48 → digit ≤ most
+    → is_ended (drop 2 rest) ≡ true → Some (digit, left (drop 2 rest)) ≡ next_number most (left rest)
+one_digit most digit [] long least greatest is within ended = absurd (omega (arith, long))
+one_digit most digit (x ∷ []) long least greatest is within ended = absurd (omega (arith, long))
+one_digit most digit (x ∷ c ∷ behind) long least greatest is within ended =
+    let text : List ℕ = c ∷ behind in
+    let there : 0 < length text = omega arith in
+    let leads : IsLeading text digit 1 = record {
+      within = omega arith;
+      few = omega arith;
+      digits = digits_more text 0 there refl (grind (arith, least, greatest));
+      value = omega (arith, is, number_more text 0 0 there refl least greatest);
+      all = λ few more. no_second c behind ended more;
+    } in
+    leading_number most digit 1 text leads ended (omega arith) within

@@ -14,7 +14,7 @@ use Rattle.sign_script.specs.Asks.{ask_of, ask_of_line}
 use Rattle.sign_script.specs.Fields.{Parted, is_ended, left, parted}
 use Rattle.sign_script.specs.Verbs.{field_of, name, verb_of, word}
 use Rattle.sign_script.specs.kept.Likely.{likely}
-use Rattle.sign_script.proofs.PartsLemmas.{has_no_space, parted_parts, parted_word, tail, tail_ended, tail_left}
+use Rattle.sign_script.proofs.PartsLemmas.{has_no_space, parted_parts, parted_word, tail, tail_left}
 
 -- a test for one word in a chain of tests
 pub tested : {V : Type 0} (written : V → List ℕ) (w : List ℕ) (u v : V) (others : Option V) → (others ≡ Some u → w ≡ written u) → cond (bytes_eq w (written v)) (Some v) others ≡ Some u → w ≡ written u
@@ -129,12 +129,12 @@ module _ (line rest : List ℕ) (v : Verb) (is : line ≡ word v ++ rest) where
   pub begun_rest : is_ended rest ≡ true → left rest ≡ (parted line).rest
   begun_rest ended = sym (ap (λ (p : Parted). p.rest) (begun ended))
 
-  -- where more follows, the word is another
-  pub longer_word : likely line ≡ Some v → is_ended rest ≡ false → None ≡ verb_of (parted line).field
-  longer_word only more = other_verb line v only (λ after begins.
-      let same = append_cancel_left (word v) rest (tail after) (sym is ∙ begins) in
-      let ended = ap is_ended same ∙ tail_ended after in
-      cc)
+-- where more follows a word, the line has no other end of this word
+pub longer_word : (line word rest after : List ℕ) → line ≡ word ++ rest → is_ended rest ≡ false → is_ended after ≡ true → line ≡ word ++ after → ⊥
+longer_word line word rest after is more ended begins =
+    let same = append_cancel_left word rest after (sym is ∙ begins) in
+    let both = ap is_ended same in
+    cc
 
 pub field_name : (w : List ℕ) (u : DefaultField) → field_of w ≡ Some u → w ≡ name u
 unfolding field_of

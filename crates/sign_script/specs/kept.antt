@@ -2,3 +2,4 @@
 pub mod Likely
 pub mod Hexadecimal
 pub mod Leading
+pub mod Shared

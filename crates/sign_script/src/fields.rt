@@ -1,6 +1,6 @@
 //! The fields of a line, which are parted by one space each.
 
-ghost use Rattle.std.specs.Prelude.{◌≡◌, ◌==◌, ◌≤◌, IfSome, position};
+ghost use Rattle.std.specs.Prelude.{◌≡◌, ◌==◌, ◌≤◌, IfSome, Some, position};
 ghost use Rattle.std.specs.Option.{option_copied};
 ghost use Rattle.sign_script.specs.Fields.{at_end, is_ended, left, last_message, last_number, message_value, next_message, next_number, parted, seen, text_of};
 ghost use Rattle.sign_script.specs.kept.Leading.{IsLeading};
@@ -64,8 +64,25 @@ fn leading_number(text: &[u8]) -> (u64, usize)
     (number, end)
 }
 
+/// The number that the next field is if it is one digit, at most `most`, and what is left after it.
+fn next_digit(most: u32, rest: &[u8]) -> Option<(u32, &[u8])>
+    ensures number { IfSome result (λ found. seen (Some found) ≡ next_number most (left rest.now)) }
+    ensures within { IfSome result (λ found. found.0 ≤ most) }
+{
+    let [_, octet, behind @ ..] = rest else {
+        return None;
+    };
+    // what is below `0` wraps to a large number: one test tells digits
+    let digit = u32::from(*octet).wrapping_sub(48);
+    if digit <= 9 && digit <= most && is_ended(behind) {
+        Some((digit, behind))
+    } else {
+        None
+    }
+}
+
 /// The number that the next field is, at most `most`, and what is left after it.
-pub(crate) fn next_number(most: u32, rest: &[u8]) -> Option<(u32, &[u8])>
+fn next_digits(most: u32, rest: &[u8]) -> Option<(u32, &[u8])>
     ensures number { seen result ≡ next_number most (left rest.now) }
     ensures within { IfSome result (λ found. found.0 ≤ most) }
 {
@@ -78,6 +95,18 @@ pub(crate) fn next_number(most: u32, rest: &[u8]) -> Option<(u32, &[u8])>
         Some((number as u32, rest))
     } else {
         None
+    }
+}
+
+/// The number that the next field is, at most `most`, and what is left after it. Most numbers are one digit, which is read first, for
+/// speed.
+pub(crate) fn next_number(most: u32, rest: &[u8]) -> Option<(u32, &[u8])>
+    ensures number { seen result ≡ next_number most (left rest.now) }
+    ensures within { IfSome result (λ found. found.0 ≤ most) }
+{
+    match next_digit(most, rest) {
+        Some(found) => Some(found),
+        None => next_digits(most, rest),
     }
 }
 

@@ -1,10 +1,11 @@
 //! Reading a line.
 
 ghost use Rattle.std.specs.Prelude.{◌≡◌, ◌*◌, ◌<◌, IfOk, length, option_map, vec_capacity};
-ghost use Rattle.sign_script.specs.Asks.{IsPlain, WritesHex, ask_of, ask_of_line, ask_with, bare};
+ghost use Rattle.sign_script.specs.Asks.{IsPlain, WritesHex, ask_of, ask_of_line, ask_with, bare, bare_command};
 ghost use Rattle.sign_script.specs.Fields.{Gives, left, message_octets, octets_of, text_of};
 ghost use Rattle.sign_script.specs.Spelling.{IsSpelled};
 ghost use Rattle.sign_script.specs.declared.ask.Ask.{Ask};
+ghost use Rattle.sign_script.specs.kept.Shared.{octets_set, valued};
 
 use crate::ask::{Ask, LineFault};
 use crate::fields::{
@@ -50,30 +51,41 @@ fn default_set(rest: &[u8]) -> Option<Ask<'static>>
     Some(Ask::Command(Command::SetDefault(field, last_octet(rest)?)))
 }
 
-/// What a verb and what is left of its line ask for, where no octets have to be kept.
+/// The command of a verb whose fields are a message and a value.
+fn valued(verb: Verb, message: MsgRef, value: u8) -> Command<'static>
+    ensures { result ≡ valued verb message value }
+{
+    match verb {
+        Verb::Priority => Command::SetPriority(message, value),
+        Verb::Beacon => Command::SetBeacon(message, value),
+        Verb::Pixel => Command::SetPixelService(message, value),
+        _ => Command::Request(message, value),
+    }
+}
+
+/// The command of a verb whose fields are a message and octets in hexadecimal.
+fn octets_set(verb: Verb, message: MsgRef, octets: &[u8]) -> Command<'_>
+    ensures { bare_command result ≡ octets_set verb message octets.now }
+{
+    match verb {
+        Verb::Owner => Command::SetOwner(message, octets),
+        _ => Command::SetMulti(message, octets),
+    }
+}
+
+/// What a verb and what is left of its line ask for, where no octets have to be kept. The verbs whose fields are read in the same way share
+/// one reading of these, so that it is part of the call.
 fn plain_ask(verb: Verb, rest: &[u8]) -> Option<Ask<'_>>
     ensures { IsPlain verb → option_map bare result ≡ ask_with verb (left rest.now) }
 {
     Some(match verb {
-        Verb::Request => {
-            let (message, code) = message_value(rest)?;
-            Ask::Command(Command::Request(message, code))
+        Verb::Request | Verb::Priority | Verb::Beacon | Verb::Pixel => {
+            let (message, value) = message_value(rest)?;
+            Ask::Command(valued(verb, message, value))
         }
         Verb::Multi => {
             let (message, rest) = next_message(rest)?;
             Ask::Command(Command::SetMulti(message, text_of(rest)))
-        }
-        Verb::Priority => {
-            let (message, value) = message_value(rest)?;
-            Ask::Command(Command::SetPriority(message, value))
-        }
-        Verb::Beacon => {
-            let (message, value) = message_value(rest)?;
-            Ask::Command(Command::SetBeacon(message, value))
-        }
-        Verb::Pixel => {
-            let (message, value) = message_value(rest)?;
-            Ask::Command(Command::SetPixelService(message, value))
         }
         Verb::Clear => at_end(Ask::Command(Command::Clear), rest)?,
         Verb::Work => at_end(Ask::Command(Command::Work), rest)?,
@@ -96,13 +108,9 @@ fn ask_with<'a>(verb: Verb, rest: &'a [u8], octets: &'a mut Vec<u8>) -> Result<A
     ensures plain { result ≡ Err LineFault.Memory → IsPlain verb → ⊥ }
 {
     match verb {
-        Verb::MultiHex => {
-            let (message, text) = message_octets(rest, octets)?;
-            Ok(Ask::Command(Command::SetMulti(message, text)))
-        }
-        Verb::Owner => {
-            let (message, owner) = message_octets(rest, octets)?;
-            Ok(Ask::Command(Command::SetOwner(message, owner)))
+        Verb::MultiHex | Verb::Owner => {
+            let (message, read) = message_octets(rest, octets)?;
+            Ok(Ask::Command(octets_set(verb, message, read)))
         }
         _ => plain_ask(verb, rest).ok_or(LineFault::Bad),
     }

@@ -1,7 +1,7 @@
 //! The words that lines begin with, and the names of the defaults.
 
-ghost use Rattle.std.specs.Prelude.{◌≡◌, ◌≢◌, ◌++◌, ℕ, List, IfNone, IfSome, option_map, slice_index_or};
-ghost use Rattle.sign_script.specs.Fields.{left, parted};
+ghost use Rattle.std.specs.Prelude.{◌≡◌, ◌≢◌, ◌++◌, ℕ, List, IfNone, IfSome, option_map, slice_index_or, true};
+ghost use Rattle.sign_script.specs.Fields.{is_ended, left, parted};
 ghost use Rattle.std.specs.List.{find};
 ghost use Rattle.std.specs.Str.{bytes_eq};
 ghost use Rattle.sign_script.specs.Verbs.{field_of, name, verb_of, word};
@@ -49,29 +49,40 @@ fn after<'a>(word: &[u8], line: &'a [u8]) -> Option<&'a [u8]>
     Some(&line[word.len()..])
 }
 
-/// What follows the word of a verb at the front of a line.
+/// What follows a word that is the first field of a line. It is part of the call, so that each word's rest goes straight to what the word
+/// asks for.
+#[inline(always)]
+fn field_after<'a>(word: &[u8], line: &'a [u8]) -> Option<&'a [u8]>
+    ensures some { IfSome result (λ rest. (line.now ≡ word.now ++ rest.now) × (is_ended rest.now ≡ true)) }
+    ensures none { IfNone result ((rest : List ℕ) → is_ended rest ≡ true → line.now ≢ word.now ++ rest) }
+{
+    let rest = after(word, line)?;
+    if is_ended(rest) { Some(rest) } else { None }
+}
+
+/// What follows the word of a verb that is the first field of a line.
 fn after_verb(verb: Verb, line: &[u8]) -> Option<&[u8]>
-    ensures some { IfSome result (λ rest. line.now ≡ word verb ++ rest.now) }
-    ensures none { IfNone result ((rest : List ℕ) → line.now ≢ word verb ++ rest) }
+    ensures some { IfSome result (λ rest. (line.now ≡ word verb ++ rest.now) × (is_ended rest.now ≡ true)) }
+    ensures none { IfNone result ((rest : List ℕ) → is_ended rest ≡ true → line.now ≢ word verb ++ rest) }
 {
     match verb {
-        Verb::Request => after(b"request", line),
-        Verb::Multi => after(b"multi", line),
-        Verb::MultiHex => after(b"multix", line),
-        Verb::Owner => after(b"owner", line),
-        Verb::Priority => after(b"priority", line),
-        Verb::Beacon => after(b"beacon", line),
-        Verb::Pixel => after(b"pixel", line),
-        Verb::Clear => after(b"clear", line),
-        Verb::Work => after(b"work", line),
-        Verb::Activate => after(b"activate", line),
-        Verb::End => after(b"end", line),
-        Verb::Tick => after(b"tick", line),
-        Verb::Frame => after(b"frame", line),
-        Verb::Row => after(b"row", line),
-        Verb::Report => after(b"report", line),
-        Verb::Default => after(b"default", line),
-        Verb::Defaults => after(b"defaults", line),
+        Verb::Request => field_after(b"request", line),
+        Verb::Multi => field_after(b"multi", line),
+        Verb::MultiHex => field_after(b"multix", line),
+        Verb::Owner => field_after(b"owner", line),
+        Verb::Priority => field_after(b"priority", line),
+        Verb::Beacon => field_after(b"beacon", line),
+        Verb::Pixel => field_after(b"pixel", line),
+        Verb::Clear => field_after(b"clear", line),
+        Verb::Work => field_after(b"work", line),
+        Verb::Activate => field_after(b"activate", line),
+        Verb::End => field_after(b"end", line),
+        Verb::Tick => field_after(b"tick", line),
+        Verb::Frame => field_after(b"frame", line),
+        Verb::Row => field_after(b"row", line),
+        Verb::Report => field_after(b"report", line),
+        Verb::Default => field_after(b"default", line),
+        Verb::Defaults => field_after(b"defaults", line),
     }
 }
 
@@ -119,11 +130,7 @@ impl Verb {
     {
         let verb = likely(line)?;
         let rest = after_verb(verb, line)?;
-        if is_ended(rest) {
-            Some((verb, rest))
-        } else {
-            None
-        }
+        Some((verb, rest))
     }
 }
 

@@ -6,6 +6,7 @@ pub mod FileLemmas
 mod FileSetupRows
 pub mod FileSetupLemmas
 pub mod FrameLemmas
+pub mod HexadecimalLemmas
 pub mod RefusedLemmas
 pub mod ReadyLemmas
 pub mod ReplyLemmas

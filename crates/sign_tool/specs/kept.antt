@@ -1,3 +1,4 @@
 -- What the code keeps on its way, which no reader of the public contracts needs.
 pub mod Blocks
 pub mod Ready
+pub mod Hexadecimal

@@ -11,6 +11,7 @@ mod check;
 mod fault;
 mod few;
 mod first;
+mod hexadecimal;
 mod laws;
 mod output;
 mod ready;

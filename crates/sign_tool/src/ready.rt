@@ -174,13 +174,52 @@ fn push_far<const N: usize>(
     Ok(())
 }
 
-/// Appends a number in decimal to the answer that was begun. The error says that memory was refused.
+/// The two digits of a number below 100, and six octets that nothing counts.
+fn two_digits(number: u64) -> [u8; 8]
+    requires two { (10 ≤ number) × (number < 100) }
+    ensures { take 2 result ≡ decimal number }
+{
+    let tens = b'0' + (number / 10) as u8;
+    let ones = b'0' + (number % 10) as u8;
+    [tens, ones, 0, 0, 0, 0, 0, 0]
+}
+
+/// Appends a number of more digits than one. It is a function of its own, so that the calls for one digit save nothing for it.
+#[inline(never)]
+fn push_long_number(text: &mut Ready, number: u64) -> Result<(), AllocError>
+    requires long { 10 ≤ number }
+    ensures text { OnOk result (text.new.begun ≡ text.old.begun ++ decimal number) }
+    ensures whole { text.new.whole ≡ text.old.whole }
+{
+    if number < 100 {
+        return push_short(text, &two_digits(number), 2);
+    }
+    push_octets(text, Buffer::new().format(number).as_bytes())
+}
+
+/// Appends a number in decimal to the answer that was begun. Most numbers have one digit, which is written as part of the call. The error
+/// says that memory was refused.
+#[inline(always)]
 pub(crate) fn push_number(text: &mut Ready, number: u64) -> Result<(), AllocError>
     ensures text { OnOk result (text.new.begun ≡ text.old.begun ++ decimal number) }
     ensures whole { text.new.whole ≡ text.old.whole }
 {
     if number < 10 {
-        return push_octet(text, b'0' + number as u8);
+        return push_short(text, &[b'0' + number as u8, 0, 0, 0, 0, 0, 0, 0], 1);
     }
-    push_octets(text, Buffer::new().format(number).as_bytes())
+    push_long_number(text, number)
+}
+
+/// Appends a space and a number in decimal, which are written at once where the number has one digit, as part of the call. The error says
+/// that memory was refused.
+#[inline(always)]
+pub(crate) fn push_spaced(text: &mut Ready, number: u64) -> Result<(), AllocError>
+    ensures text { OnOk result (text.new.begun ≡ text.old.begun ++ 32 ∷ decimal number) }
+    ensures whole { text.new.whole ≡ text.old.whole }
+{
+    if number < 10 {
+        return push_short(text, &[b' ', b'0' + number as u8, 0, 0, 0, 0, 0, 0], 2);
+    }
+    push_octet(text, b' ')?;
+    push_long_number(text, number)
 }

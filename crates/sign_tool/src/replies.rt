@@ -1,11 +1,14 @@
 //! The texts of replies to a script's lines.
-ghost use Rattle.std.specs.Prelude.{◌≡◌, ◌++◌, OnOk, decimal};
+ghost use Rattle.std.specs.Prelude.{◌≡◌, ◌++◌, ◌∷◌, OnOk, codes, decimal, take};
 ghost use Rattle.std.specs.Int.{to_be_bytes};
 ghost use Rattle.hex.specs.Hex.{encode_lower};
 ghost use Rattle.message_store.specs.Row.{data_of, row_result};
 ghost use Rattle.sign_tool.specs.Replies.{asked_text, crc_text, defaults_text, errors_text, fault_text, fields_text, numbers_text, octets_text, reply_text, report_text, row_reply, shown_text, table_text};
 
-use crate::ready::{Ready, make_room, push_number, push_octets, push_short};
+use crate::hexadecimal::write_hex;
+use crate::ready::{
+    Ready, make_room, push_number, push_octet, push_octets, push_short, push_spaced,
+};
 use message_store::{MsgRef, Row, StoreFault};
 use sign_control::{Reply, Report};
 use sign_font::Defaults;
@@ -18,21 +21,20 @@ pub(crate) fn push_hex(text: &mut Ready, octets: &[u8]) -> Result<(), AllocError
 {
     let end = text.len.saturating_add(2 * octets.len());
     make_room(&mut text.octets, end)?;
-    let Ok(()) = hex::encode_to_slice(octets, &mut text.octets[text.len..end]) else {
-        unreachable!();
-    };
+    write_hex(octets, &mut text.octets[text.len..end]);
     text.len = end;
     Ok(())
 }
 
-/// Appends octets in hexadecimal, and no octets as `-`.
+/// Appends a space and octets in hexadecimal, and no octets as `-`.
 fn push_hex_or_dash(text: &mut Ready, octets: &[u8]) -> Result<(), AllocError>
-    ensures text { OnOk result (text.new.begun ≡ text.old.begun ++ octets_text octets.now) }
+    ensures text { OnOk result (text.new.begun ≡ text.old.begun ++ (codes " " ++ octets_text octets.now)) }
     ensures whole { text.new.whole ≡ text.old.whole }
 {
     if octets.is_empty() {
-        return push_octets(text, b"-");
+        return push_short(text, b" -\0\0\0\0\0\0", 2);
     }
+    push_octet(text, b' ')?;
     push_hex(text, octets)
 }
 
@@ -50,8 +52,7 @@ fn push_numbers(text: &mut Ready, numbers: &[u64]) -> Result<(), AllocError>
     ensures whole { text.new.whole ≡ text.old.whole }
 {
     for number in numbers {
-        push_octets(text, b" ")?;
-        push_number(text, *number)?;
+        push_spaced(text, *number)?;
     }
     Ok(())
 }
@@ -65,13 +66,25 @@ fn push_labelled(text: &mut Ready, label: &[u8], number: u64) -> Result<(), Allo
     push_number(text, number)
 }
 
+/// The refusal of a fault by the digit of its number, and six octets that nothing counts.
+fn short_fault(code: u8) -> [u8; 16]
+    ensures { take 10 result ≡ codes "refused " ++ code ∷ codes "\n" }
+{
+    [
+        b'r', b'e', b'f', b'u', b's', b'e', b'd', b' ', code, b'\n', 0, 0, 0, 0, 0, 0,
+    ]
+}
+
 /// Appends the refusal of a fault.
 pub(crate) fn push_fault(text: &mut Ready, code: u8) -> Result<(), AllocError>
     ensures text { OnOk result (text.new.begun ≡ text.old.begun ++ fault_text code) }
     ensures whole { text.new.whole ≡ text.old.whole }
 {
+    if code < 10 {
+        return push_short(text, &short_fault(b'0' + code), 10);
+    }
     push_labelled(text, b"refused ", u64::from(code))?;
-    push_octets(text, b"\n")
+    push_octet(text, b'\n')
 }
 
 /// Appends the reply to a command.
@@ -101,12 +114,12 @@ pub(crate) fn push_reply(text: &mut Ready, reply: Reply) -> Result<(), AllocErro
                     u64::from(multi_position),
                 ],
             )?;
-            push_octets(text, b"\n")
+            push_octet(text, b'\n')
         }
         Reply::Shown => push_short(text, b"shown\n\0\0", 6),
         Reply::NotShown(error) => {
             push_labelled(text, b"not shown ", u64::from(error))?;
-            push_octets(text, b"\n")
+            push_octet(text, b'\n')
         }
         Reply::NotSet(fault) => push_fault(text, fault.code()),
         Reply::Ticked => push_short(text, b"ticked\n\0", 7),
@@ -131,13 +144,11 @@ fn push_fields(text: &mut Ready, message: MsgRef, row: &Row<'_>) -> Result<(), A
             u64::from(row.pixel),
         ],
     )?;
-    push_octets(text, b" ")?;
+    push_octet(text, b' ')?;
     push_crc(text, row.crc)?;
-    push_octets(text, b" ")?;
     push_hex_or_dash(text, row.owner)?;
-    push_octets(text, b" ")?;
     push_hex_or_dash(text, row.multi)?;
-    push_octets(text, b"\n")
+    push_octet(text, b'\n')
 }
 
 /// Appends the row of a message, or its refusal.
@@ -197,7 +208,7 @@ fn push_errors(text: &mut Ready, report: &Report) -> Result<(), AllocError>
     push_labelled(text, b" multi=", u64::from(report.multi))?;
     push_labelled(text, b" position=", u64::from(report.position))?;
     push_labelled(text, b" clock=", report.clock)?;
-    push_octets(text, b"\n")
+    push_octet(text, b'\n')
 }
 
 /// Appends a report.
@@ -232,5 +243,5 @@ pub(crate) fn push_defaults(text: &mut Ready, defaults: Defaults) -> Result<(), 
             u64::from(defaults.back),
         ],
     )?;
-    push_octets(text, b"\n")
+    push_octet(text, b'\n')
 }

@@ -2,13 +2,12 @@
 ghost use Rattle.std.specs.Prelude.{◌≡◌, ◌++◌, ◌∷◌, OnOk, IfOk, Some, codes, decimal, map, take};
 ghost use Rattle.page_plane.specs.Plane.{is_lit};
 ghost use Rattle.multi_layout.specs.Pages.{IsSized};
-ghost use Rattle.multi_layout.specs.Times.{shown};
-ghost use Rattle.sign_tool.specs.Frame.{frame_rows, frame_text, head_text, show_answer};
+ghost use Rattle.sign_tool.specs.Frame.{frame_rows, head_text, show_answer};
 
 use crate::answer::{Answer, LineAnswer};
 use crate::ready::{Ready, make_room, push_number, push_octets, push_short};
 use crate::reply::{push_refused, push_too_long};
-use multi_layout::{AreaLines, Checked, Shown, check_with};
+use multi_layout::{AreaLines, Judge, Shown};
 use multi_token::Source;
 use page_picture::{Mark, write_rows};
 use page_plane::Plane;
@@ -115,22 +114,12 @@ fn push_long_head(text: &mut Ready, page: u8, phase: u64) -> Result<(), AllocErr
     push_octets(text, b"\n")
 }
 
-/// Appends the frame of a string.
-fn push_frame(
-    text: &mut Ready,
-    checked: &mut Checked<'_>,
-    clock: u32,
-    colour: u8,
-    lines: &mut AreaLines,
-    plane: &mut Plane,
-) -> Result<(), AllocError>
-    requires size { IsSized plane.old checked.old.sign }
-    ensures ok { OnOk result (text.new.begun ≡ text.old.begun
-        ++ frame_text checked.old.sign checked.old.source.octets colour (shown checked.old.sign checked.old.source.octets clock)) }
-    ensures size { IsSized plane.new checked.old.sign }
+/// Appends the frame of what a plane shows.
+fn push_frame(text: &mut Ready, shown: Shown, plane: &Plane) -> Result<(), AllocError>
+    ensures text { OnOk result (text.new.begun ≡ (text.old.begun ++ head_text shown)
+        ++ frame_rows (is_lit plane.now) plane.now.width plane.now.height) }
     ensures whole { text.new.whole ≡ text.old.whole }
 {
-    let shown = checked.draw_shown(u64::from(clock), colour, lines, plane);
     push_head(text, shown)?;
     push_rows(text, plane)
 }
@@ -153,9 +142,10 @@ fn push_shown(
     if line.len() > MAX_STRING {
         return push_too_long(text);
     }
-    match &mut check_with(sign, sign.defaults(), Source::new(line)) {
-        Ok(checked) => push_frame(text, checked, clock, colour, lines, plane),
-        Err(fault) => push_refused(text, fault.code, fault.at),
+    let mut source = Source::new(line);
+    match Judge::new(sign).draw_shown(&mut source, u64::from(clock), colour, lines, plane) {
+        Ok(shown) => push_frame(text, shown, plane),
+        Err(offence) => push_refused(text, offence.error.code(), offence.at),
     }
 }
 

@@ -7,6 +7,7 @@ use Rattle.multi_tag.specs.declared.tag.Tag.{Tag}
 use Rattle.multi_tag.specs.declared.tag.Tag.TheVariants.{Back, NewLine}
 use Rattle.page_plane.specs.Plane.{BitPlane}
 use Rattle.sign_font.specs.Sign.{SignData, tallest}
+use Rattle.multi_layout.specs.declared.cursor.Begun.{Begun}
 use Rattle.multi_layout.specs.declared.cursor.Cursor.{Cursor}
 use Rattle.multi_layout.specs.declared.paint.Layer.{Layer}
 use Rattle.multi_layout.specs.declared.read.AreaLines.{AreaLines}
@@ -17,7 +18,8 @@ use Rattle.multi_layout.specs.Drawn.{Lights, has_colour}
 use Rattle.multi_layout.specs.Limits.{plane_octets}
 use Rattle.multi_layout.specs.Meaning.{Meaning, Does, Shows, EndsArea, begins_area, has_place}
 use Rattle.multi_layout.specs.kept.Sums.{ended_lines}
-use Rattle.multi_layout.specs.kept.Cursors.{IsBetween, items_of, meant, LaidItem, spell_of}
+use Rattle.multi_layout.specs.kept.Cursors.{IsBetween, IsFirst, items_of, meant, LaidItem, spell_of}
+use Rattle.multi_layout.specs.kept.Settings.{item_steps}
 use Rattle.multi_layout.specs.kept.Table.{IsOrdered, group_lines, table_of}
 
 -- the item ends a line (NTCIP 1203 v03, MULTI tag 'nl')
@@ -68,20 +70,22 @@ abbrev pub first_steps : List Item → ℕ
 first_steps [] = 1
 first_steps (item ∷ rest) = 9 * length (spelling item) - 8
 
--- the area that begins at the cursor was read: these are its items, and those behind it (own)
-pub record IsAreaRead (sign : SignData) (before behind : List LaidItem) (cursor : Cursor) (read : AreaLines) (source source' : Counted) :
-    Type
-    0 where
+-- the area that begins at the cursor was read: these are its items, and those behind it; this was read of the first of them before (own)
+pub record IsAreaRead (sign : SignData) (before behind : List LaidItem) (cursor : Cursor) (begun : Begun) (read : AreaLines)
+    (source source' : Counted) : Type 0 where
   pub area : List LaidItem
   pub rest : List LaidItem
   pub split : behind ≡ area ++ rest
   pub plain : BeginsNoArea area
   pub ends : EndsArea (map meant rest)
   pub end : read.end ≡ cursor.at + length (spell_of area)
+  pub next : IsFirst (items_of rest) read.next
   pub table : HasCounted (whole_area sign before behind) read.lines
   pub ordered : IsOrdered read.lines
   pub low : IsLow read.lines
-  pub steps : RisesBetween source source' 0 (9 * length (spell_of area) + first_steps (items_of rest))
+  pub taken : ℕ
+  pub steps : RisesBetween source source' 0 taken
+  pub few : taken + 1 + item_steps begun.item ≤ 9 * length (spell_of area) + first_steps (items_of rest)
 
 -- the plane shows what these items put on their page, of all the items of the string (own)
 abbrev pub IsDrawnTo : SignData → Layer → List Meaning → List Meaning → BitPlane → Type 0

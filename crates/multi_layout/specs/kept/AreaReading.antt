@@ -63,12 +63,14 @@ pub record IsItemPassed (words : Bool) (sign : SignData) (items : List Meaning) 
       → in_group just (laid_area words sign (items ++ item ∷ [])) ≡ in_group just (laid_area words sign items)
   pub own : EndsLine (in_group page (laid_area words sign items)) (in_group page (laid_area words sign (items ++ item ∷ []))) ended
 
--- one more character, whose cell has this width, makes this of what is kept of items with which it doesn't offend (own)
+-- one more character, whose cell has this width, makes this of what is kept of items with which it doesn't offend; where lines aren't
+-- filled it stands behind that character (own)
 abbrev pub PassesCharacter : Bool → ℕ → ℕ → Pass → Pass → Option Line → Type 0
 PassesCharacter words number width old new ended =
     (sign : SignData) (items : List Meaning) → IsPassOf words sign old items
     → width_in sign old.state.attributes.font.number number ≡ Some width → offence sign.line_fill sign items (Shows number) ≡ None
     → IsItemPassed words sign items (Shows number) old.state.attributes.page_just old new ended
+    × (words ≡ false → IsBehindCharacter new.state)
 
 -- one more character is put where lines are filled, which doesn't offend by more than its size: it doesn't offend if it fits, and is passed
 -- then (own)

@@ -1,6 +1,6 @@
 -- A place between two items of an accepted string.
-use Rattle.std.specs.Prelude.{◌≡◌, ◌⊎◌, ℕ, ◌+◌, ◌^◌, ◌<◌, not, List, [], ◌∷◌, ◌++◌, map, length, Option, Some, None}
-use Rattle.std.specs.List.{All, filter}
+use Rattle.std.specs.Prelude.{◌≡◌, ℕ, ◌^◌, ◌<◌, List, [], ◌∷◌, ◌++◌, map, length, Option, Some, None}
+use Rattle.std.specs.List.{All}
 use Rattle.multi_token.specs.Spelling.{Item, IsItem, spelling, spell}
 use Rattle.sign_font.specs.declared.parts.LineFill.TheVariants.{Off}
 use Rattle.sign_font.specs.Sign.{SignData}
@@ -8,10 +8,9 @@ use Rattle.multi_layout.specs.LaidItems.{laid_item, laid_out}
 use Rattle.multi_layout.specs.declared.cursor.Cursor.{Cursor}
 use Rattle.multi_layout.specs.declared.item.NextItem.{NextItem}
 use Rattle.multi_layout.specs.kept.KnownItem.{meant_by, IsKnownItem}
-use Rattle.multi_layout.specs.Meaning.{BeginsPage, Meaning, has_place, meaning}
+use Rattle.multi_layout.specs.Meaning.{Meaning, meaning}
 use Rattle.multi_layout.specs.Offence.{offence, unsized_offence}
 use Rattle.multi_layout.specs.kept.State.{IsStateOf}
-use Rattle.multi_layout.specs.Times.{Times, ended_times, page_times}
 use Rattle.multi_layout.specs.Verdict.{offences}
 use Rattle.multi_layout.specs.Words.{each_after, some_after}
 
@@ -70,22 +69,6 @@ pub record IsBetween (sign : SignData) (octets : List ℕ) (before behind : List
   pub orderly : IsOrderly sign (map meant (before ++ behind))
   pub state_is : IsStateOf sign (map meant before) cursor.state
 
--- without the characters and the `nl`, which alone are laid out (own)
-abbrev pub unplaced : List Meaning → List Meaning
-unplaced items = filter (λ x. not (has_place x)) items
-
--- the cursor stands between these items of an accepted string, and nothing was laid out (own)
-pub record IsPassing (sign : SignData) (octets : List ℕ) (before behind : List Item) (cursor : Cursor) : Type 0 where
-  pub placed : IsPlaced sign octets before behind cursor.at
-  pub state_is : IsStateOf sign (unplaced (map meaning before)) cursor.state
-
--- the cursor has passed some of the items behind, and nothing was laid out (own)
-pub record IsTextPassed (sign : SignData) (octets : List ℕ) (before behind : List Item) (cursor : Cursor) : Type 0 where
-  pub text : List Item
-  pub rest : List Item
-  pub split : behind ≡ text ++ rest
-  pub between : IsPassing sign octets (before ++ text) rest cursor
-
 -- the offset is between two items of an accepted string (own)
 abbrev pub IsWithin : SignData → List ℕ → ℕ → Type 0
 IsWithin sign octets at = (before behind : List Item) × IsPlaced sign octets before behind at
@@ -122,29 +105,3 @@ abbrev pub GoesBehind : SignData → List ℕ → NextItem → Cursor → Cursor
 GoesBehind sign octets next old new =
     (before rest : List LaidItem) (item : LaidItem) → IsBetween sign octets before (item ∷ rest) old → IsRead item next
     → IsBetween sign octets (before ++ item ∷ []) rest new
-
--- the cursor passes before an item of an accepted string, of which this is read (own)
-abbrev pub IsPassingBefore : SignData → List ℕ → NextItem → Cursor → Type 0
-IsPassingBefore sign octets next cursor =
-    (before rest : List Item) × (item : Item) × IsPassing sign octets before (item ∷ rest) cursor × IsItemRead item next
-
--- the new cursor has passed the next item, of which this is read, wherever the old one stands before it (own)
-abbrev pub PassesOn : SignData → List ℕ → NextItem → Cursor → Cursor → Type 0
-PassesOn sign octets next old new =
-    (before rest : List Item) (item : Item) → IsPassing sign octets before (item ∷ rest) old → IsItemRead item next
-    → IsPassing sign octets (before ++ item ∷ []) rest new
-
--- the page that begins at the old cursor is passed, and nothing was laid out: the new one stands behind the `np` that ends it, or at the
--- end of the string. The page's times are those in force there (own)
-pub record IsPageSkipped (sign : SignData) (octets : List ℕ) (before behind : List Item) (old new : Cursor) : Type 0 where
-  pub page : List Item
-  pub rest : List Item
-  pub later : List Times
-  pub split : behind ≡ page ++ rest
-  pub between : IsPassing sign octets (before ++ page) rest new
-  pub times : page_times sign (map meaning (before ++ behind)) ≡
-      ended_times sign (map meaning before) ++ record { on = new.state.attributes.on; off = new.state.attributes.off } ∷ later
-  pub ends :
-      ((rest ≡ []) × (later ≡ []) × (new.state.pages ≡ old.state.pages))
-      ⊎ (BeginsPage (map meaning (before ++ page)) × (new.state.pages ≡ old.state.pages + 1) × (old.at < new.at)
-      × (new.state.cycle ≡ old.state.cycle + new.state.attributes.on + new.state.attributes.off))

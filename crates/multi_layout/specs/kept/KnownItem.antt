@@ -1,5 +1,6 @@
 -- The items of a string, as they are read.
-use Rattle.std.specs.Prelude.{◌≤◌}
+use Rattle.std.specs.Prelude.{◌≤◌, Bool, true, false}
+use Rattle.multi_tag.specs.declared.tag.Tag.TheVariants.{NewPage, NewLine, Rect, Back}
 use Rattle.multi_layout.specs.declared.item.KnownItem.{KnownItem}
 use Rattle.multi_layout.specs.declared.item.KnownItem.TheVariants.{Char, Tag}
 use Rattle.multi_layout.specs.Meaning.{Meaning, Shows, Does}
@@ -14,6 +15,15 @@ meant_by (Tag tag) = Does tag
 abbrev pub IsKnownItem : KnownItem → Type 0
 IsKnownItem (Char number) = Unit {0}
 IsKnownItem (Tag tag) = IsKnown tag
+
+-- an item only sets values that are in force behind it: a tag that puts nothing and begins nothing (own)
+abbrev pub is_setting : Meaning → Bool
+is_setting (Does NewPage) = false
+is_setting (Does (NewLine gap)) = false
+is_setting (Does (Rect x y w h)) = false
+is_setting (Does (Back colour)) = false
+is_setting (Does tag) = true
+is_setting _ = false
 
 -- a character whose number is that of an octet (own)
 abbrev pub IsOctet : KnownItem → Type 0

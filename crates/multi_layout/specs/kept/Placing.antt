@@ -1,5 +1,5 @@
 -- Where a character stands, by what is kept of its area (own).
-use Rattle.std.specs.Prelude.{◌≡◌, ℕ, ◌<◌, ◌≤◌, Bool, true, false, List, ◌∷◌, ◌++◌, length}
+use Rattle.std.specs.Prelude.{◌≡◌, ℕ, ◌<◌, ◌≤◌, Bool, true, false, List, [], ◌∷◌, ◌++◌, length}
 use Rattle.std.specs.List.{count_by, list_any}
 use Rattle.multi_layout.specs.declared.area.Area.{Area}
 use Rattle.multi_layout.specs.declared.attributes.Attributes.{Attributes}
@@ -9,18 +9,19 @@ use Rattle.multi_layout.specs.Address.{Spot, area_of, group_of, in_group, is_bre
 use Rattle.multi_layout.specs.Line.{glyph_width}
 use Rattle.multi_layout.specs.Offence.{clashes}
 use Rattle.multi_layout.specs.Place.{place_of}
+use Rattle.multi_layout.specs.Words.{largest}
 use Rattle.multi_layout.specs.kept.State.{attributes_of}
 use Rattle.multi_layout.specs.kept.Sums.{IsPlacing, area_sum}
 use Rattle.multi_layout.specs.kept.Table.{table_of}
 
--- a character stands at this place whose cell has this width, where these are in force, kept of its area so far, and the counted lines of
--- its group (own)
+-- a character stands at this place whose cell has this width, where these are in force, kept of its area as far as the character, and the
+-- counted lines of its group (own)
 abbrev pub PlacesCharacter : Attributes → Area → List CountedLine → ℕ → Place → Type 0
 PlacesCharacter attributes area lines width place =
     (before all : List Spot) (spot : Spot) → is_glyph spot ≡ true → attributes ≡ attributes_of spot.at → glyph_width spot ≡ width
-    → area ≡ area_sum (area_of spot before) → lines ≡ table_of (lines_of (group_of spot all))
+    → area ≡ area_sum (area_of spot before ++ spot ∷ []) → lines ≡ table_of (lines_of (group_of spot all))
     → count_by is_break (group_of spot before) < length (lines_of (group_of spot all))
-    → list_any (clashes spot) (line_before before spot) ≡ false → area.present ≤ attributes.page_just
+    → list_any (clashes spot) (line_before before spot) ≡ false → largest (λ t. t.at.page_just) (area_of spot before) ≤ attributes.page_just
     → place ≡ place_of before all spot
 
 -- the answer is whether the next of a group ends its line, where these are in force, kept of the area so far, and the counted lines of the

@@ -17,7 +17,7 @@ use Rattle.multi_layout.specs.Meaning.{Meaning, Shows}
 use Rattle.multi_layout.specs.Place.{place_of}
 use Rattle.multi_layout.specs.kept.AreaDrawing.{BeginsNoArea, DrawsGlyph, HasCounted, IsDrawnTo, whole_area}
 use Rattle.multi_layout.specs.kept.Cursors.{IsBetween, IsRead, LaidItem, meant, spell_of}
-use Rattle.multi_layout.specs.kept.Run.{lengthened, line_in_force}
+use Rattle.multi_layout.specs.kept.Run.{IsBehindCharacter, lengthened, line_in_force}
 use Rattle.multi_layout.specs.kept.State.{IsStateOf}
 
 -- these of an area's items are drawn, and those are left (own)
@@ -93,6 +93,7 @@ pub record PlacesNext (sign : SignData) (octets : List ℕ) (next : NextItem) (l
     Type 0 where
   pub stands : (before rest : List LaidItem) (item : LaidItem) → IsItemHere sign octets before rest item next lines cursor
       → NextStandsAt sign (map meant (before ++ item ∷ [])) (map meant (before ++ item ∷ rest)) place
+  pub behind : IsBehindCharacter cursor'.state
   pub apart : cursor'.state.attributes.line_just ≢ 5
   pub low : place.column ≤ 2 ^ 63
 

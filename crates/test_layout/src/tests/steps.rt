@@ -107,7 +107,9 @@ impl Walk {
             if let Tag::NewPage = item {
                 return;
             }
-            self.pass_text(source);
+            if !is_setting(item) {
+                self.pass_text(source);
+            }
         }
     }
 
@@ -115,6 +117,20 @@ impl Walk {
     fn pass_pages(&mut self, sign: &Sign, source: &mut Source<'_>, pages: u8) {
         for _ in 0..pages {
             self.pass_page(sign, source);
+        }
+    }
+
+    /// Goes behind the settings from here on. What stands behind them is read with its area.
+    fn pass_settings(&mut self, sign: &Sign, source: &mut Source<'_>, octets: &[u8]) {
+        for _ in 0..=octets.len() {
+            let mut next = *self;
+            match next.read(&mut Source::new(octets)) {
+                Some(item) if is_setting(item) => {
+                    self.read(source);
+                    self.look(sign, source, item);
+                }
+                _ => return,
+            }
         }
     }
 
@@ -165,6 +181,14 @@ impl Walk {
     }
 }
 
+/// Whether an item is a tag that puts nothing and begins nothing.
+fn is_setting(item: Tag) -> bool {
+    !matches!(
+        item,
+        Tag::NewPage | Tag::NewLine(_) | Tag::Rect { .. } | Tag::Back(_) | Tag::HexChar(_)
+    )
+}
+
 /// The steps of judging a string whose lines aren't filled: each octet is read once, the end too, the octet behind each bracket
 /// twice, with each tag 26 octets more or as many as there are, and each cell and font is looked up once; then the looks of the
 /// runs.
@@ -187,17 +211,18 @@ fn found(sign: &Sign, octets: &[u8], page: u8) -> u64 {
     source.steps()
 }
 
-/// The steps of drawing this page over the string: the items before it are read, and then each of its areas is, twice, with the
-/// item that ends it.
+/// The steps of drawing this page over the string: the items before it are read, and then each of its areas is, twice, but for the
+/// settings with which it begins and the item that ends it, which are read once.
 fn drawn(sign: &Sign, octets: &[u8], page: u8) -> u64 {
     let mut source = Source::new(octets);
     let mut walk = Walk::new(sign);
     walk.pass_pages(sign, &mut source, page);
     for _ in 0..=octets.len() {
+        walk.pass_settings(sign, &mut source, octets);
         let mut first = walk;
         first.pass_lines(sign, &mut source, octets);
         walk.pass_area(sign, &mut source, first.at);
-        match walk.read(&mut source) {
+        match walk.read(&mut Source::new(octets)) {
             None | Some(Tag::NewPage) => break,
             Some(_) => {}
         }

@@ -7,7 +7,8 @@ use Rattle.sign_font.specs.Sign.{cell_in}
 use Rattle.multi_layout.specs.declared.attributes.Attributes.{Attributes}
 use Rattle.multi_layout.specs.declared.place.Place.{Place}
 use Rattle.multi_layout.specs.kept.Cursors.{meant}
-use Rattle.multi_layout.specs.kept.State.{attributes_of}
+use Rattle.multi_layout.specs.kept.State.{attributes_of, present_area}
+use Rattle.multi_layout.specs.kept.Sums.{area_sum}
 use Rattle.multi_layout.specs.Place.{place_of}
 use Rattle.multi_layout.specs.Address.{Glyph, spots, standing, in_area}
 use Rattle.multi_layout.specs.kept.Placing.{PlacesCharacter}
@@ -41,9 +42,10 @@ unreachable-requires c =
 pub place_at-place-requires-clause-below : goal.place_at-place-requires-clause-below
 place_at-place-requires-clause-below c =
     let (before, rest, item, h) = c.requires.known in
-    let b = h.between in
-    let read = h.read_is in
-    below_more (2 ^ 42) (2 ^ 43) c.args.cursor.now.state.area (omega arith) (low_between c.args.sign.now c.args.source.now.octets before (item ∷ rest) c.args.cursor.now b)
+    let found : cell_in c.args.sign.now c.args.cursor.now.state.attributes.font.number c.in-Char.number ≡ Some c.in-Some.cell = sym c.cell.ensures.cell ∙ c.in-Some.is in
+    let new = c.pass_character.ensures.passed c.args.sign.now c.args.source.now.octets (ap (option_map (λ (c : SizedCell). c.width)) found ∙ ap Some (sym c.width-width.ensures)) before rest item h.between
+    (record { meant = h.read_is.meant ∙ ap meant_by c.in-Char.is; known = tt; len = h.read_is.len }) in
+    below_more (2 ^ 42) (2 ^ 43) c.pass_character.new.self.state.area (omega arith) (low_between c.args.sign.now c.args.source.now.octets (before ++ item ∷ []) rest c.pass_character.new.self new)
 
 pub returns-in-Some-clause-passed : goal.returns-in-Some-clause-passed
 returns-in-Some-clause-passed c = λ before rest item b read.
@@ -64,10 +66,12 @@ returns-in-Some-clause-drawn c = λ before rest item h plain.
     let k = (standing sign (map meant before)).area in
     let fine = ap (unsized_offence sign (map meant before)) (sym shows) ∙ never_offends sign c.args.source.now.octets before rest item c.args.cursor.now b in
     let lines = subst (λ (ms : List Meaning). HasCounted (in_area k (spots sign ms)) c.args.lines.now) (map_split before rest item (Shows number) shows) counted in
-    let placed = subst (λ lines. PlacesCharacter state.attributes state.area lines c.in-Some.cell.width c.place_at-place.result) c.group-lines.ensures.lines
-    (subst (λ n. PlacesCharacter state.attributes state.area c.group-lines.result.now n c.place_at-place.result) c.width-width.ensures c.place_at-place.ensures.place) in
+    let area = c.pass_character.new.self.state.area in
+    let new = c.pass_character.ensures.passed sign c.args.source.now.octets (ap (option_map (λ (c : SizedCell). c.width)) found ∙ ap Some (sym c.width-width.ensures)) before rest item b (record { meant = shows; known = tt; len = read.len }) in
+    let placed = subst (λ lines. PlacesCharacter state.attributes area lines c.in-Some.cell.width c.place_at-place.result) c.group-lines.ensures.lines
+    (subst (λ n. PlacesCharacter state.attributes area c.group-lines.result.now n c.place_at-place.result) c.width-width.ensures c.place_at-place.ensures.place) in
     let stands = stands_at sign (map meant before) state b.state_is number c.in-Some.cell found (map meant rest) c.args.lines.now lines c.place_at-place.result
-    placed fine in
+    area (new.state_is.area ∙ ap (λ ms. area_sum (present_area sign ms)) (map_split before [] item (Shows number) shows)) placed fine in
     glyph_drawn sign c.args.layer before rest item number shows c.args.plane.now c.put_character.new.plane
     (c.put_character.ensures.drawn (map meant before) (map meant rest) state number b.state_is refl found stands)
 
@@ -95,16 +99,19 @@ returns-in-Some-clause-beside c =
           let all = map_split before rest item (Shows number) shows in
           let fine = ap (unsized_offence sign items) (sym shows) ∙ never_offends sign c.args.source.now.octets before rest item c.args.cursor.now b in
           let lines = subst (λ (ms : List Meaning). HasCounted (in_area (standing sign items).area (spots sign ms)) c.args.lines.now) all counted in
-          let placed = subst (λ lines. PlacesCharacter state.attributes state.area lines c.in-Some.cell.width c.place_at-place.result) c.group-lines.ensures.lines
-          (subst (λ n. PlacesCharacter state.attributes state.area c.group-lines.result.now n c.place_at-place.result) c.width-width.ensures c.place_at-place.ensures.place) in
+          let area = c.pass_character.new.self.state.area in
+          let new = c.pass_character.ensures.passed sign c.args.source.now.octets (ap (option_map (λ (c : SizedCell). c.width)) found ∙ ap Some (sym c.width-width.ensures)) before rest item b (record { meant = shows; known = tt; len = read.len }) in
+          let placed = subst (λ lines. PlacesCharacter state.attributes area lines c.in-Some.cell.width c.place_at-place.result) c.group-lines.ensures.lines
+          (subst (λ n. PlacesCharacter state.attributes area c.group-lines.result.now n c.place_at-place.result) c.width-width.ensures c.place_at-place.ensures.place) in
           let stands = stands_at sign items state b.state_is number c.in-Some.cell found (map meant rest) c.args.lines.now lines c.place_at-place.result
-          placed fine in
+          area (new.state_is.area ∙ ap (λ ms. area_sum (present_area sign ms)) (map_split before [] item (Shows number) shows)) placed fine in
           let behind = beside_stands sign items state b.state_is number c.in-Some.cell found (map meant (before ++ item ∷ rest)) c.place_at-place.result _ is.0 refl
           (λ cell numbered. stands cell numbered ∙ ap (λ ms. place_of (spots sign items) (spots sign ms) (record { at = standing sign items; put = Glyph cell })) (sym all)) in
           let here : Place = record { column = c.place_at-place.result.column + (c.in-Some.cell.width + unwrap_or state.attributes.spacing state.attributes.font.char_spacing); row = c.place_at-place.result.row } in
           let wide = ap (λ n. let p : Place = record { column = c.place_at-place.result.column + (n + unwrap_or state.attributes.spacing state.attributes.font.char_spacing); row = c.place_at-place.result.row } in p) (sym c.width-width.ensures) in
           subst (NextStandsAt sign (map meant (before ++ item ∷ [])) (map meant (before ++ item ∷ rest))) (wide ∙ sym is.2)
           (subst (λ ms. NextStandsAt sign ms (map meant (before ++ item ∷ rest)) here) (sym (map_split before [] item (Shows number) shows)) behind);
+      behind = c.pass_character.ensures.behind sign c.args.source.now.octets (ap (option_map (λ (c : SizedCell). c.width)) found ∙ ap Some (sym c.width-width.ensures)) (before, rest, item, b, record { meant = shows; known = tt; len = read.len });
       apart = λ five. is.0 (ap (λ (a : Attributes). a.line_just) (sym same) ∙ five);
       low = is.1;
     })

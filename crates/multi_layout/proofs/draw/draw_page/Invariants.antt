@@ -6,8 +6,8 @@ use Rattle.multi_layout.proofs.PageDrawLemmas.{PageSoFar}
 use Rattle.multi_layout.proofs.draw.draw_page.Given as goal
 
 -- the page's areas so far are drawn
-abbrev pub invariant-loop-next : goal.invariant-loop-next
-invariant-loop-next l = record {
+abbrev pub invariant-loop-read : goal.invariant-loop-read
+invariant-loop-read l = record {
   so_far : (before behind : List LaidItem) → IsBetween l.sign l.initial.source.octets before behind l.initial.cursor
       → PageSoFar l.sign l.initial.source.octets before behind l.layer l.cursor l.plane;
   on : l.initial.cursor.at ≤ l.cursor.at;
@@ -15,5 +15,5 @@ invariant-loop-next l = record {
   filled : IsFilledBy l.sign l.initial.plane l.plane (l.cursor.at - l.initial.cursor.at);
 }
 
-abbrev pub decreases-loop-next : goal.decreases-loop-next
-decreases-loop-next l = length l.initial.source.octets - l.cursor.at
+abbrev pub decreases-loop-read : goal.decreases-loop-read
+decreases-loop-read l = length l.initial.source.octets - l.cursor.at

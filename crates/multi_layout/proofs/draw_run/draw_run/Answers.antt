@@ -3,10 +3,6 @@ use Rattle.multi_layout.proofs.AreaDrawLemmas.{area_begins}
 use Rattle.multi_layout.proofs.DrawLemmas.{low_between}
 use Rattle.multi_layout.proofs.draw_run.draw_run.Goals as goal
 
-pub returns-then-not-is_behind_character-clause-so_far : goal.returns-then-not-is_behind_character-clause-so_far
-returns-then-not-is_behind_character-clause-so_far c = λ before area rest h.
-    area_begins c.args.sign.now c.args.source.now.octets before area rest c.args.read.now.lines c.args.layer c.args.plane.now c.args.cursor.now h.between h.plain h.counted
-
 pub returns-in-Words-clause-so_far : goal.returns-in-Words-clause-so_far
 returns-in-Words-clause-so_far c = λ before area rest h.
     area_begins c.args.sign.now c.args.source.now.octets before area rest c.args.read.now.lines c.args.layer c.args.plane.now c.args.cursor.now h.between h.plain h.counted

@@ -9,7 +9,7 @@ use Rattle.multi_layout.proofs.pages.page_start.Goals as goal
 pub loop-cursor-init : goal.loop-cursor-init
 loop-cursor-init c =
     let octets = c.args.source.now.octets in
-    let p = c.new-cursor.ensures.passing octets (reading octets).items c.requires.accepted in
+    let p = c.new-cursor.ensures.start.passing octets (reading octets).items c.requires.accepted in
     record {
       way = record { before = []; behind = (reading octets).items; between = p; begins = inl refl; few = omega (arith, (clock_of p).pages) };
       steps = (0, omega arith, omega arith, sym (charged-zero c.args.source.now));

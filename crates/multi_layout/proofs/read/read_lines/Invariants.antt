@@ -1,19 +1,24 @@
-use Rattle.std.proofs.Common.{◌==◌, not, ◌≡◌, ◌≤◌, ◌-◌, ◌*◌, List, [], map, length, slice_get}
+use Rattle.std.proofs.Common.{◌==◌, not, ◌≡◌, ℕ, ◌≤◌, ◌+◌, ◌-◌, ◌*◌, List, [], map, length, slice_get}
+use Rattle.std.specs.Prelude.{IfSome}
 use Rattle.multi_token.specs.Counted.{RisesBetween}
 use Rattle.multi_layout.specs.kept.State.{present_area}
 use Rattle.multi_layout.specs.kept.Cursors.{IsBetween, meant, LaidItem}
+use Rattle.multi_layout.specs.kept.Settings.{IsNextAt, item_steps}
 use Rattle.multi_layout.proofs.AreaLinesLemmas.{SoFar}
 use Rattle.multi_layout.proofs.read.read_lines.Given as goal
 
--- the table has the ended lines of the items so far, and each octet of them took at most nine steps
-abbrev pub invariant-loop-next : goal.invariant-loop-next
-invariant-loop-next g l = record {
+-- the table has the ended lines of the items so far, and each octet of them took at most nine steps, with those of what was begun
+abbrev pub invariant-loop-first : goal.invariant-loop-first
+invariant-loop-first g l = record {
   so_far : (before behind : List LaidItem) → IsBetween l.sign l.initial.source.octets before behind l.cursor
       → present_area l.sign (map meant before) ≡ [] → SoFar (not (g.row.WORDS == 0)) l.sign l.initial.source.octets before behind l.at l.kept l.read.lines;
   forward : l.cursor.at ≤ l.at;
   first : l.first ≡ slice_get l.initial.source.octets l.at;
-  steps : RisesBetween l.initial.source l.source 0 (9 * (l.at - l.cursor.at));
+  item : IfSome l.item (IsNextAt l.sign l.initial.source.octets l.at);
+  taken : ℕ;
+  steps : RisesBetween l.initial.source l.source 0 taken;
+  few : taken + item_steps l.fn.begun.item ≤ 9 * (l.at - l.cursor.at) + item_steps l.item;
 }
 
-abbrev pub decreases-loop-next : goal.decreases-loop-next
-decreases-loop-next g l = length l.initial.source.octets - l.at
+abbrev pub decreases-loop-first : goal.decreases-loop-first
+decreases-loop-first g l = length l.initial.source.octets - l.at

@@ -10,7 +10,7 @@ use Rattle.multi_layout.proofs.times.find_page.Goals as goal
 pub loop-shown-init : goal.loop-shown-init
 loop-shown-init c =
     let octets = c.args.source.now.octets in
-    let p = c.new-start.ensures.passing octets (reading octets).items c.requires.accepted in
+    let p = c.requires.start.passing octets (reading octets).items c.requires.accepted in
     record {
       searched = record { before = []; behind = (reading octets).items; between = p; begins = inl refl; whole = refl; began = omega (arith, (clock_of p).times) };
       steps = (0, omega arith, omega arith, sym (charged-zero c.args.source.now));

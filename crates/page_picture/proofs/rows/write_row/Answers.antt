@@ -5,12 +5,12 @@ use Rattle.page_picture.proofs.RowLemmas.{marks_count, marks_fewer}
 use Rattle.page_picture.proofs.rows.write_row.Goals as goal
 
 pub returns-clause-written : goal.returns-clause-written
-returns-clause-written c mark table =
-    let marked = c.mark_pixels.ensures mark table in
+returns-clause-written g c mark table =
+    let marked = c.mark_row.ensures mark table in
     let octets = c.args.octets.now in
     let old = c.args.text.now in
     let count = 8 * length octets in
-    let text = c.mark_pixels.new.text in
+    let text = c.mark_row.new.text in
     let both = ap length marked ∙ length-append (octet_marks mark octets count) (drop count old) in
     let size = marks_count mark octets count in
     let rest = length-drop count old in

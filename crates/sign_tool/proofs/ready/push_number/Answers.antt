@@ -4,4 +4,4 @@ use Rattle.sign_tool.proofs.ready.push_number.Goals as goal
 
 pub returns-then-number-lt10-clause-text : goal.returns-then-number-lt10-clause-text
 returns-then-number-lt10-clause-text c =
-    subst (λ l. OnOk c.push_octet.result (c.push_octet.new.text.begun ≡ c.args.text.now.begun ++ l)) (sym (decimal_digit c.args.number c.if-number-lt10.true)) c.push_octet.ensures.text
+    subst (λ l. OnOk c.push_short.result (c.push_short.new.text.begun ≡ c.args.text.now.begun ++ l)) (sym (decimal_digit c.args.number c.if-number-lt10.true)) c.push_short.ensures.text

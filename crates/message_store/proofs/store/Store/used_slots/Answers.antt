@@ -1,13 +1,9 @@
-use Rattle.std.proofs.Common.{not, ap, ◌∙◌, sym, List}
-use Rattle.message_store.specs.declared.slot.Slot.{Slot}
-use Rattle.message_store.specs.Slot.{is_not_used}
+use Rattle.std.proofs.Common.{◌∙◌, sym}
 use Rattle.message_store.proofs.StoredLemmas.{seen}
-use Rattle.std.specs.List.{count_by}
 use Rattle.message_store.proofs.store.Store.used_slots.Goals as goal
 
 pub returns-clause-used : goal.returns-clause-used
-returns-clause-used c = let s = c.self.inside in let k = seen s.limits s.permanent.items s.slots s.texts c.args.self.now c.self.view_is c.self.invariant in c.count_used.ensures.count
-    ∙ ap (λ (l : List Slot). count_by (λ slot. not (is_not_used slot.status)) l) c.all.ensures ∙ sym k.used_slots_is
+returns-clause-used c = let s = c.self.inside in let k = seen s.limits s.permanent.items s.slots s.texts c.args.self.now c.self.view_is c.self.invariant in c.used.ensures ∙ sym k.used_slots_is
 
 pub returns-clause-kept : goal.returns-clause-kept
 returns-clause-kept c = let s = c.self.inside in let k = seen s.limits s.permanent.items s.slots s.texts c.args.self.now c.self.view_is c.self.invariant in k.kept

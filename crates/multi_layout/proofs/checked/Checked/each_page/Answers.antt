@@ -12,4 +12,4 @@ invariant_of-result c =
     let accepted = (accepted_is s.terms s.source.octets s.pages c.self.invariant.0 c.self.invariant.2).0 in
     let size = rw (← c.self.view_is) at c.requires.size in
     rw (← c.self.view_is)
-    (under_way_first _ c.new.result c.new.ensures.sound c.self.invariant.2 size refl c.steps.ensures c.steps-2.ensures (pieces_of s.terms items) (c.new.ensures.between s.source.octets items accepted (accepted_orderly s.terms s.source.octets accepted)))
+    (under_way_first _ c.new.result c.new.ensures.sound c.self.invariant.2 size refl c.steps.ensures c.steps-2.ensures (pieces_of s.terms items) (c.new.ensures.start.between s.source.octets items accepted (accepted_orderly s.terms s.source.octets accepted)))

@@ -7,6 +7,7 @@ use Rattle.multi_layout.specs.kept.State.{IsStateOf}
 use Rattle.multi_layout.specs.Meaning.{Meaning, Shows}
 use Rattle.multi_layout.specs.Offence.{unsized_offence}
 use Rattle.multi_layout.proofs.JudgedLemmas.{state-limits}
+use Rattle.multi_layout.proofs.LimitLemmas.{behind_added}
 use Rattle.multi_layout.proofs.PlacingLemmas.{character-accepted, character-free}
 use Rattle.multi_layout.proofs.RunReadLemmas.{cell_of_width}
 use Rattle.multi_layout.proofs.WalkLemmas.{ready_between, never_offends, between_more}
@@ -32,3 +33,13 @@ returns-clause-passed c = λ sign octets own before rest item b read.
     (character-accepted sign items state b.state_is number cell found (character_of state.attributes c.args.width) refl refl wide refl new.area added.sum (added.grows (1024 * length items) b.state_is.below) fine) in
     between_more sign octets before rest item c.args.self.now b _ (ap (λ n. c.args.self.now.at + n) read.len)
     (subst (λ (m : Meaning). IsStateOf sign (items ++ m ∷ []) new) (sym read.meant) st)
+
+pub returns-clause-behind : goal.returns-clause-behind
+returns-clause-behind c = λ sign octets own known.
+    let (before, rest, item, b, read) = known in
+    let items = map meant before in
+    let state = c.args.self.now.state in
+    let fine : unsized_offence sign items (Shows c.args.number) ≡ None = ap (unsized_offence sign items) (sym read.meant) ∙ never_offends sign octets before rest item c.args.self.now b in
+    let (cell, found, wide) = cell_of_width (cell_in sign state.attributes.font.number c.args.number) c.args.width (sym own) in
+    let free = character-free sign items state b.state_is c.args.number cell found (not c.put_character.result) c.put_character.ensures.conflicts fine in
+    behind_added state c.put_character.new.self c.args.width (c.put_character.ensures.added (not-false c.put_character.result free))

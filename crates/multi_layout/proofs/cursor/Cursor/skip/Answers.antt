@@ -1,13 +1,13 @@
 use Rattle.std.proofs.Common.{map, refl, sym, ◌∙◌}
 use Rattle.multi_layout.specs.Meaning.{meaning}
-use Rattle.multi_layout.specs.kept.Cursors.{unplaced}
-use Rattle.multi_layout.proofs.SkipLemmas.{fine_passing, passing_placed, passing_tag, ready_passing}
+use Rattle.multi_layout.specs.kept.Passing.{unplaced}
+use Rattle.multi_layout.proofs.SkipLemmas.{fine_passing, passing_placed, passing_tag, ready_there}
 use Rattle.multi_layout.proofs.cursor.Cursor.skip.Goals as goal
 
 pub skip_tag-requires-clause-ready : goal.skip_tag-requires-clause-ready
 skip_tag-requires-clause-ready c =
     let (before, rest, item, p, read) = c.requires in
-    ready_passing p read
+    ready_there p
 
 pub skip_tag-requires-clause-fine : goal.skip_tag-requires-clause-fine
 skip_tag-requires-clause-fine c =

@@ -1,6 +1,6 @@
 use Rattle.std.proofs.Common.{◌≡◌, ◌+◌, drop, length, take, subst, sym, arith}
 use Rattle.std.proofs.lemmas.List.{length-drop, length-take-le, take-append-drop}
-use Rattle.multi_layout.specs.kept.Cursors.{IsTextPassed}
+use Rattle.multi_layout.specs.kept.Passing.{IsTextPassed}
 use Rattle.multi_layout.proofs.TextSkipLemmas.{moved, text_skipped}
 use Rattle.multi_layout.proofs.cursor.Cursor.skip_text.Goals as goal
 

@@ -1,6 +1,6 @@
 use Rattle.std.proofs.Common.{◌∙◌, sym}
-use Rattle.sign_script.proofs.PartsLemmas.{tail}
-use Rattle.sign_script.proofs.WordLemmas.{begun_rest, begun_verb, longer_word, no_verb, other_verb}
+use Rattle.sign_script.proofs.PartsLemmas.{tail, tail_ended}
+use Rattle.sign_script.proofs.WordLemmas.{begun_rest, begun_verb, no_verb, other_verb}
 use Rattle.sign_script.proofs.verb.Verb.begin.Goals as goal
 
 pub returns-in_err-verb-clause-verb : goal.returns-in_err-verb-clause-verb
@@ -10,17 +10,12 @@ pub returns-in_err-rest-clause-verb : goal.returns-in_err-rest-clause-verb
 returns-in_err-rest-clause-verb c =
     let differs = (c.in_err-rest.ensures).none in
     rw c.from_residual-in_err-rest.ensures
-    (other_verb c.args.line.now c.in_ok-verb.verb (sym c.likely.ensures ∙ c.in_ok-verb.was) (λ rest. differs (tail rest)))
+    (other_verb c.args.line.now c.in_ok-verb.verb (sym c.likely.ensures ∙ c.in_ok-verb.was) (λ rest. differs (tail rest) (tail_ended rest)))
 
-pub returns-then-is_ended-clause-verb : goal.returns-then-is_ended-clause-verb
-returns-then-is_ended-clause-verb c =
-    begun_verb c.args.line.now c.in_ok-rest.rest.now c.in_ok-verb.verb c.in_ok-rest.ensures.some (sym c.is_ended.ensures ∙ c.if-is_ended.true)
+pub returns-clause-verb : goal.returns-clause-verb
+returns-clause-verb c =
+    begun_verb c.args.line.now c.in_ok-rest.rest.now c.in_ok-verb.verb c.in_ok-rest.ensures.some.0 c.in_ok-rest.ensures.some.1
 
-pub returns-then-is_ended-clause-rest : goal.returns-then-is_ended-clause-rest
-returns-then-is_ended-clause-rest c =
-    begun_rest c.args.line.now c.in_ok-rest.rest.now c.in_ok-verb.verb c.in_ok-rest.ensures.some (sym c.is_ended.ensures ∙ c.if-is_ended.true)
-
-pub returns-else-is_ended-clause-verb : goal.returns-else-is_ended-clause-verb
-returns-else-is_ended-clause-verb c =
-    longer_word c.args.line.now c.in_ok-rest.rest.now c.in_ok-verb.verb c.in_ok-rest.ensures.some (sym c.likely.ensures ∙ c.in_ok-verb.was)
-    (sym c.is_ended.ensures ∙ c.if-is_ended.false)
+pub returns-clause-rest : goal.returns-clause-rest
+returns-clause-rest c =
+    begun_rest c.args.line.now c.in_ok-rest.rest.now c.in_ok-verb.verb c.in_ok-rest.ensures.some.0 c.in_ok-rest.ensures.some.1

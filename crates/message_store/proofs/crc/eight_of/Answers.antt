@@ -1,0 +1,11 @@
+use Rattle.std.proofs.Common.{◌∙◌, ap, arith, ℕ}
+use Rattle.std.proofs.lemmas.List.FromFn.{get_or-map-range_with_len}
+use Rattle.message_store.specs.Crc.{four_steps}
+use Rattle.message_store.proofs.crc.eight_of.Goals as goal
+
+-- what the table has at each place
+abbrev eight : ℕ → ℕ
+eight n = four_steps (four_steps n)
+
+pub returns : goal.returns
+returns c = get_or-map-range_with_len eight 0 256 c.from.result c.from.result 0 (omega (arith, c.from.ensures)) (omega arith) ∙ ap eight c.from.ensures

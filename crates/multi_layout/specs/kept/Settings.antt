@@ -1,0 +1,62 @@
+-- Settings: tags that only set values that are in force behind them, met on the way through an accepted string (own).
+use Rattle.std.specs.Prelude.{◌≡◌, ℕ, ◌-◌, ◌*◌, true, List, ◌++◌, Option, Some, None, Ok, IfSome, slice_get}
+use Rattle.std.specs.List.{All}
+use Rattle.multi_token.specs.Spelling.{Item}
+use Rattle.multi_tag.specs.declared.tag.Tag.{Tag}
+use Rattle.sign_font.specs.Sign.{SignData}
+use Rattle.multi_layout.specs.declared.cursor.Begun.{Begun}
+use Rattle.multi_layout.specs.declared.cursor.Cursor.{Cursor}
+use Rattle.multi_layout.specs.declared.cursor.Met.{Met}
+use Rattle.multi_layout.specs.declared.cursor.Met.TheVariants as met
+use Rattle.multi_layout.specs.declared.cursor.Met.TheVariants.{Setting}
+use Rattle.multi_layout.specs.declared.item.KnownItem.TheVariants as known
+use Rattle.multi_layout.specs.declared.item.NextItem.{NextItem}
+use Rattle.multi_layout.specs.declared.state.State.{State}
+use Rattle.multi_layout.specs.kept.KnownItem.{is_setting}
+use Rattle.multi_layout.specs.Meaning.{Does}
+use Rattle.multi_layout.specs.kept.Cursors.{IsBetween, IsFirst, IsPlaced, LaidItem, meant}
+use Rattle.multi_layout.specs.kept.State.{IsLimited, Judges}
+
+-- what this setting says is put into force: it doesn't offend behind any items, and the new state is that of the items with it (own)
+pub record PutsSetting (sign : SignData) (tag : Tag) (old new : State) : Type 0 where
+  pub setting : is_setting (Does tag) ≡ true
+  pub judged : Judges sign old (Does tag) (Ok tt) new
+  pub limited : IsLimited old → IsLimited new
+
+-- this is read of the first item behind an offset of an accepted string (own)
+abbrev pub IsNextAt : SignData → List ℕ → ℕ → NextItem → Type 0
+IsNextAt sign octets at next = (before behind : List Item) → IsPlaced sign octets before behind at → IsFirst behind (Some next)
+
+-- that item was met: it is a setting, which is put into force, or this is read of it (own)
+abbrev pub IsMet : SignData → List ℕ → ℕ → State → Met → State → Type 0
+IsMet sign octets at old (Setting len) new =
+    (tag : Tag) × PutsSetting sign tag old new × IsNextAt sign octets at (record { item = known.Tag tag; len = len })
+IsMet sign octets at old (met.Item next) new = (new ≡ old) × IsNextAt sign octets at next
+
+-- the octets of an item that was met (own)
+abbrev pub met_octets : Met → ℕ
+met_octets (Setting len) = len
+met_octets (met.Item next) = next.len
+
+-- the steps that meeting an item takes at most, behind its first octet: one more where a setting looks for a font (own)
+abbrev pub met_steps : Met → ℕ
+met_steps (Setting len) = 9 * len - 8
+met_steps (met.Item next) = 9 * next.len - 9
+
+-- this is read of what stands at an offset of an accepted string (own)
+pub record IsBegun (sign : SignData) (octets : List ℕ) (at : ℕ) (begun : Begun) : Type 0 where
+  pub first : begun.first ≡ slice_get octets at
+  pub item : IfSome begun.item (IsNextAt sign octets at)
+
+-- the steps that an item took at most, if it was read, behind its first octet (own)
+abbrev pub item_steps : Option NextItem → ℕ
+item_steps None = 0
+item_steps (Some next) = 9 * next.len - 9
+
+-- the settings from a cursor on are passed: the new one stands behind them (own)
+pub record AreSettingsPassed (sign : SignData) (octets : List ℕ) (before behind : List LaidItem) (new : Cursor) : Type 0 where
+  pub settings : List LaidItem
+  pub rest : List LaidItem
+  pub split : behind ≡ settings ++ rest
+  pub each : All (λ piece. is_setting (meant piece) ≡ true) settings
+  pub between : IsBetween sign octets (before ++ settings) rest new
