@@ -52,17 +52,17 @@ seen here width = record { just = here.line_just; spacing = here.spacing; width 
 
 -- a line of characters is lengthened
 pub run_some : (here : Attributes) (gap pixels count : ℕ) (line : Line) → line.any ≡ true → with_run here gap pixels count line ≡ longer_line pixels count line
-run_some here gap pixels count line some = ap (λ b. cond b (longer_line pixels count line) (cond (count == 0) line (even_line here (pixels - gap) count))) some
+run_some here gap pixels count line some = ap (λ b. cond b (longer_line pixels count line) (cond (count == 0) line (even_line here (pixels - gap) count line))) some
 
 module _ (here : Attributes) (width : ℕ) where
   -- a line of one
-  pub first_line : (s : Spot) → IsCharacter s (seen here width) → even_line here width 1 ≡ line_sum (s ∷ [])
+  pub first_line : (s : Spot) → IsCharacter s (seen here width) → even_line here width 1 (line_sum []) ≡ line_sum (s ∷ [])
   first_line s is =
       let none = line_sum [] in
       let part : ◌≡◌ {A = Segment} (record { width = width; count = 1; last = Some here.font.char_spacing }) (segment_sum here.line_just (s ∷ [])) =
       let wide : 0 + (0 + width) ≡ width = omega arith in
       rw wide at (segment_own here.line_just [] s (seen here width) is refl (segment_sum here.line_just []) 0 width refl refl refl) in
-      line_with [] s (seen here width) (All-nil (λ x. is_glyph x ≡ true)) is none refl (omega arith) (even_line here width 1) refl
+      line_with [] s (seen here width) (All-nil (λ x. is_glyph x ≡ true)) is none refl (omega arith) (even_line here width 1 none) refl
       (sym (cond_zero (nat_lt 2 here.line_just) 0 refl)) (sym (cond_zero (nat_lt 3 here.line_just) 0 refl)) (sym (cond_zero (nat_lt 4 here.line_just) 0 refl)) part refl (omega arith) (omega arith) refl
 
   -- a line with one more, if its last one has these attributes
@@ -78,7 +78,7 @@ module _ (here : Attributes) (width : ℕ) where
       by_any false none =
           let nothing : line ≡ [] = none_there line glyphs (sym (ap (λ (l : Line). l.any) e) ∙ none) in
           let wide : gap + width - gap ≡ width = omega arith in
-          rw (none, nothing, wide) (first_line s is)
+          rw (none, nothing, wide, e ∙ ap line_sum nothing) (first_line s is)
 
 -- the parts of a line around its last space, with one more character: a space or another
 abbrev pub split_one : Attributes → ℕ → ℕ → Bool → Line → Option Split → Option Split
@@ -123,7 +123,7 @@ module _ (here : Attributes) (gap width : ℕ) (gap_is : gap ≡ unwrap_or here.
             part = record { width = omega (arith, l.part.width, narrow, small); count = omega (arith, l.part.count) };
             known = l.known;
           })
-      by_any false none = rw none (record { left = omega arith; centre = omega arith; right = omega arith; part = record { width = omega (arith, small); count = omega arith }; known = known })
+      by_any false none = let l = b.1 in rw none (record { left = omega (arith, l.left); centre = omega (arith, l.centre); right = omega (arith, l.right); part = record { width = omega (arith, small); count = omega arith }; known = known })
 
 -- what is kept with one more character of this width
 abbrev pub with_one : ℕ → ℕ → Bool → Pass → Pass

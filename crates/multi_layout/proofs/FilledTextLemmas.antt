@@ -50,11 +50,11 @@ module _ (here : Attributes) (gap : ℕ) where
       by_any false none =
           let wide : gap + width - gap + pixels ≡ gap + width + pixels - gap = omega arith in
           let some : (1 + count == 0) ≡ false = ne_eqb (1 + count) 0 (λ e. omega (arith, e)) in
-          let first : with_run here gap (gap + width) 1 line ≡ even_line here (gap + width - gap) 1 = ap (λ b. cond b (longer_line (gap + width) 1 line) (even_line here (gap + width - gap) 1)) none in
+          let first : with_run here gap (gap + width) 1 line ≡ even_line here (gap + width - gap) 1 line = ap (λ b. cond b (longer_line (gap + width) 1 line) (even_line here (gap + width - gap) 1 line)) none in
           ap (with_run here gap pixels count) first
-          ∙ ap (λ n. even_line here n (1 + count)) wide
-          ∙ ap (λ b. cond b line (even_line here (gap + width + pixels - gap) (1 + count))) (sym some)
-          ∙ ap (λ b. cond b (longer_line (gap + width + pixels) (1 + count) line) (cond (1 + count == 0) line (even_line here (gap + width + pixels - gap) (1 + count)))) (sym none)
+          ∙ ap (λ n. even_line here n (1 + count) line) wide
+          ∙ ap (λ b. cond b line (even_line here (gap + width + pixels - gap) (1 + count) line)) (sym some)
+          ∙ ap (λ b. cond b (longer_line (gap + width + pixels) (1 + count) line) (cond (1 + count == 0) line (even_line here (gap + width + pixels - gap) (1 + count) line))) (sym none)
 
   split_none : (split : Option Split) → option_map (with_run_behind here gap 0 0) split ≡ split
   split_none None = refl

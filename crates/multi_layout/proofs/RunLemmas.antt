@@ -155,6 +155,8 @@ longer_below k width count area below wide many = record {
   };
   known = below.known;
   some = below.some;
+  bare = λ none. below.bare none;
+  empty = λ none. let e = below.empty none in record { top = e.top; middle = e.middle; ended = e.ended; closed = e.closed; last = e.last };
 }
 
 -- a number below 5 isn't 5

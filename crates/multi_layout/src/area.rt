@@ -11,7 +11,7 @@ ghost use Rattle.multi_layout.specs.Line.{average, height_of};
 ghost use Rattle.multi_layout.specs.kept.Adding.{ReachesGroup};
 ghost use Rattle.multi_layout.specs.kept.Run.{kept_fits_height, kept_group_height, kept_height, lengthened_area};
 ghost use Rattle.multi_layout.specs.kept.State.{group_room};
-ghost use Rattle.multi_layout.specs.kept.Sums.{group_sum, area_sum, area_sum_in, IsPlacing, IsBreak, IsGroupBelow, IsBelow};
+ghost use Rattle.multi_layout.specs.kept.Sums.{IsBare, group_sum, area_sum, area_sum_in, IsPlacing, IsBreak, IsGroupBelow, IsBelow};
 
 use crate::line::{Line, gap_or_average, parts_fit, room_for};
 use sign_font::FontInfo;
@@ -73,6 +73,7 @@ impl Group {
             → self.new ≡ group_sum (group ++ s ∷ []) }
         ensures grows { (k : ℕ) → IsGroupBelow k self.old → IsGroupBelow (k + 1024) self.new }
         ensures none { self.new.line.any ≡ false }
+        ensures bare { IsBare self.new.line }
     {
         let height = self.line.ended_height(font);
         let spacing = self.line.ended_spacing(font);
@@ -132,7 +133,7 @@ impl Area {
             → self.new ≡ area_sum_in page_just area }
         ensures grows { (k : ℕ) → IsBelow k self.old
             → (self.new.top ≤ k + 1024) × (self.new.middle ≤ k + 1024) × IsGroupBelow k self.new.group × (2 ≤ self.new.present)
-            × (self.new.present ≤ 4) }
+            × (self.new.present ≤ 4) × IsBare self.new.group.line }
         ensures present { self.old.present ≤ page_just → self.new.present ≡ page_just }
         ensures begins { self.old.present < page_just → self.new.group.line.any ≡ false }
     {
@@ -162,12 +163,6 @@ impl Area {
         }
         if self.present == 0 {
             self.present = page_just;
-            self.top = 0;
-            self.middle = 0;
-            // its line has no character
-            self.group.ended = 0;
-            self.group.closed = 0;
-            self.group.last = None;
             *most = u64::from(height);
             return true;
         }

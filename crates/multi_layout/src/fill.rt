@@ -1,6 +1,6 @@
 //! Lines that are filled by words: the open line is broken at its last space, which is dropped.
 
-ghost use Rattle.std.specs.Prelude.{◌≡◌, ℕ, ◌+◌, ◌^◌, ◌≤◌, false, List, [], ◌∷◌, ◌++◌, IfSome};
+ghost use Rattle.std.specs.Prelude.{◌≡◌, ℕ, ◌+◌, ◌^◌, ◌≤◌, false, None, List, [], ◌∷◌, ◌++◌, IfSome};
 ghost use Rattle.std.specs.List.{AllPass, list_any};
 ghost use Rattle.multi_layout.specs.Address.{Spot, is_glyph};
 ghost use Rattle.multi_layout.specs.Fit.{line_fits};
@@ -8,7 +8,7 @@ ghost use Rattle.multi_layout.specs.kept.FillSums.{BreaksGroup, FillsArea, Fills
 ghost use Rattle.multi_layout.specs.Filling.{is_space};
 ghost use Rattle.multi_layout.specs.Offence.{clashes};
 ghost use Rattle.multi_layout.specs.kept.Run.{kept_fits};
-ghost use Rattle.multi_layout.specs.kept.Sums.{IsBelow, IsCharacter, IsGroupBelow, IsLineBelow, line_sum};
+ghost use Rattle.multi_layout.specs.kept.Sums.{IsBare, IsBelow, IsCharacter, IsGroupBelow, IsLineBelow, line_sum};
 
 use crate::area::{Area, Group};
 use crate::line::{Character, Line};
@@ -68,6 +68,7 @@ impl Group {
         ensures kept_fits { result.fits ≡ kept_fits width self.new.line }
         ensures grows { (k : ℕ) → IsGroupBelow k self.old → IsSplitBelow k split.old
             → IsGroupBelow (k + 1024) self.new × IsSplitBelow (k + 1024) split.new }
+        ensures bare { IsBare self.old.line → IsBare self.new.line }
         ensures small { IfSome result.ended (IsLineBelow (2 ^ 62)) }
     {
         let before = self.line;
@@ -82,7 +83,7 @@ impl Group {
         if space {
             self.line = before;
             self.add_break(None, &character.font);
-            *split = None;
+            forget(split);
             return Placed {
                 fits: self.line.fits(width),
                 ended: Some(before),
@@ -93,7 +94,7 @@ impl Group {
                 self.line = before;
                 self.break_at(&parts);
                 self.line.add(character);
-                *split = None;
+                forget(split);
                 Placed {
                     fits: self.line.fits(width),
                     ended: Some(parts.before),
@@ -136,6 +137,14 @@ impl Area {
         self.go_on(page_just);
         self.group.fill_character(split, width, character, space)
     }
+}
+
+/// Forgets the parts of a line. It isn't put into its callers' code, which would make room for no parts at every character.
+#[inline(never)]
+fn forget(split: &mut Option<Split>)
+    ensures { split.new ≡ None }
+{
+    *split = None;
 }
 
 /// Adds a character to the parts of a line around its last space.

@@ -11,7 +11,7 @@ ghost use Rattle.multi_layout.specs.kept.Text.{IsInText, TakesSpace};
 
 use crate::attributes::Attributes;
 use crate::fill::Split;
-use crate::line::{Line, Segment};
+use crate::line::Line;
 use crate::pass::Pass;
 use crate::run::Run;
 use crate::terms::Terms;
@@ -44,21 +44,14 @@ impl Line {
         if count == 0 {
             return;
         }
-        *self = Line {
-            present: here.line_just,
-            left: 0,
-            centre: 0,
-            right: 0,
-            part: Segment {
-                width: pixels.saturating_sub(u64::from(gap)),
-                count,
-                last: Some(here.font.char_spacing),
-            },
-            has_parts: here.line_just < 5,
-            height: here.font.height,
-            spacing: here.font.line_spacing,
-            any: true,
-        };
+        self.present = here.line_just;
+        self.part.width = pixels.saturating_sub(u64::from(gap));
+        self.part.count = count;
+        self.part.last = Some(here.font.char_spacing);
+        self.has_parts = here.line_just < 5;
+        self.height = here.font.height;
+        self.spacing = here.font.line_spacing;
+        self.any = true;
     }
 }
 

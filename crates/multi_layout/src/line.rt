@@ -10,7 +10,7 @@ ghost use Rattle.multi_layout.specs.Offence.{clashes};
 ghost use Rattle.multi_layout.specs.kept.Adding.{IsSameBefore, PutsCharacter};
 ghost use Rattle.multi_layout.specs.kept.Run.{IsBehindOne, IsOpen, kept_fits, kept_width, lengthened_line};
 ghost use Rattle.multi_layout.specs.kept.State.{segment_room};
-ghost use Rattle.multi_layout.specs.kept.Sums.{segment_sum, line_sum, line_sum_in, IsCharacter, IsSegmentBelow, IsLineBelow};
+ghost use Rattle.multi_layout.specs.kept.Sums.{segment_sum, line_sum, line_sum_in, IsCharacter, IsSegmentBelow, IsBare, IsLineBelow};
 
 use sign_font::FontInfo;
 
@@ -122,30 +122,23 @@ impl Line {
         }
     }
 
-    /// A line of one character.
+    /// Begins a line that has no character with one.
     #[inline(always)]
-    fn of(character: &Character) -> Line
+    fn begin(&mut self, character: &Character)
         requires known { character.now.just ≤ 5 }
-        ensures sum { (s : Spot) → IsCharacter s character.now → result ≡ line_sum (s ∷ []) }
-        ensures below { IsLineBelow 1024 result }
-        ensures behind { IsBehindOne character.now.just character.now.font result }
-        ensures alone { (result.left ≡ 0) × (result.centre ≡ 0) }
+        ensures sum { (s : Spot) → IsCharacter s character.now → self.old ≡ line_sum [] → self.new ≡ line_sum (s ∷ []) }
+        ensures grows { (k : ℕ) → IsLineBelow k self.old → IsLineBelow (k + 1024) self.new }
+        ensures behind { IsBehindOne character.now.just character.now.font self.new }
+        ensures before { (self.new.left ≡ self.old.left) × (self.new.centre ≡ self.old.centre) }
     {
-        Line {
-            present: character.just,
-            left: 0,
-            centre: 0,
-            right: 0,
-            part: Segment {
-                width: u64::from(character.width),
-                count: 1,
-                last: Some(character.font.char_spacing),
-            },
-            has_parts: character.just < 5,
-            height: character.font.height,
-            spacing: character.font.line_spacing,
-            any: true,
-        }
+        self.present = character.just;
+        self.part.width = u64::from(character.width);
+        self.part.count = 1;
+        self.part.last = Some(character.font.char_spacing);
+        self.has_parts = character.just < 5;
+        self.height = character.font.height;
+        self.spacing = character.font.line_spacing;
+        self.any = true;
     }
 
     /// Adds a character, whose line justification isn't before that of an earlier one.
@@ -157,10 +150,11 @@ impl Line {
             → list_any (clashes s) line ≡ false → self.new ≡ line_sum (line ++ s ∷ []) }
         ensures grows { (k : ℕ) → IsLineBelow k self.old → IsLineBelow (k + 1024) self.new }
         ensures behind { IsOpen character.now.just self.old → IsBehindOne character.now.just character.now.font self.new }
+        ensures bare { IsBare self.new }
         ensures same { self.old.any ≡ true → character.now.just ≡ self.old.present → IsSameBefore self.old self.new }
     {
         if !self.any {
-            *self = Line::of(character);
+            self.begin(character);
             return;
         }
         self.go_on(character.just);
@@ -177,6 +171,7 @@ impl Line {
     pub(crate) fn put(&mut self, character: &Character, width: u16, most: &mut u64) -> bool
         requires known { character.now.just ≤ 5 }
         requires below { IsLineBelow (2 ^ 62) self.old }
+        requires bare { IsBare self.old }
         ensures apart { (line : List Spot) (s : Spot) → AllPass is_glyph line → self.old ≡ line_sum line
             → s.at.line_just ≡ character.now.just → not result ≡ list_any (clashes s) line }
         ensures put { result ≡ true → PutsCharacter self.old character.now self.new }
@@ -185,7 +180,7 @@ impl Line {
             → most.new ≡ segment_room self.new width }
     {
         if !self.any {
-            *self = Line::of(character);
+            self.begin(character);
             *most = u64::from(width);
             return true;
         }

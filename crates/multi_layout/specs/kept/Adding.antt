@@ -10,7 +10,7 @@ use Rattle.multi_layout.specs.Address.{Spot, in_group, is_break, is_glyph}
 use Rattle.multi_layout.specs.Offence.{clashes}
 use Rattle.multi_layout.specs.kept.Run.{IsBehindOne}
 use Rattle.multi_layout.specs.kept.State.{IsLimited, group_room}
-use Rattle.multi_layout.specs.kept.Sums.{IsBelow, IsBreak, IsCharacter, IsGroupBelow, IsLineBelow, IsPlacing, area_sum, area_sum_in, line_sum}
+use Rattle.multi_layout.specs.kept.Sums.{IsBare, IsBelow, IsBreak, IsCharacter, IsGroupBelow, IsLineBelow, IsPlacing, area_sum, area_sum_in, line_sum}
 
 -- a line has the present segment of another, and the same segments before it (own)
 pub record IsSameBefore (old new : Line) : Type 0 where
@@ -26,10 +26,10 @@ pub record PutsCharacter (old : Line) (character : Character) (new : Line) : Typ
   pub behind : IsBehindOne character.just character.font new
 
 -- an area is the old one, and its present group is the one with this page justification, which isn't before; a group that begins has no
--- character, and no number grows by more than 1,024 (own)
+-- character, no number grows by more than 1,024, and a line without a character stays bare (own)
 pub record GoesOnTo (page_just : ℕ) (old new : Area) : Type 0 where
   pub sum : (area : List Spot) → All IsPlacing area → old ≡ area_sum area → new ≡ area_sum_in page_just area
-  pub grows : (k : ℕ) → IsBelow k old → (new.top ≤ k + 1024) × (new.middle ≤ k + 1024) × IsGroupBelow k new.group
+  pub grows : (k : ℕ) → IsBelow k old → (new.top ≤ k + 1024) × (new.middle ≤ k + 1024) × IsGroupBelow k new.group × IsBare new.group.line
   pub present : new.present ≡ page_just
   pub stays : page_just ≡ old.present → new ≡ old
   pub begins : old.present < page_just → new.group.line.any ≡ false

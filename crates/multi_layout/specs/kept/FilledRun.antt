@@ -29,13 +29,10 @@ pub record IsFilledRun (kept : Pass) : Type 0 where
 abbrev pub longer_line : ℕ → ℕ → Line → Line
 longer_line pixels count line = lengthened_line (line.part.width + pixels) (line.part.count + count) line
 
--- the sums of a line of so many characters with these attributes, of so many pixels (own)
-abbrev pub even_line : Attributes → ℕ → ℕ → Line
-even_line here pixels count = record {
+-- a line of no character, begun with so many characters with these attributes, of so many pixels (own)
+abbrev pub even_line : Attributes → ℕ → ℕ → Line → Line
+even_line here pixels count line = record line {
   present = here.line_just;
-  left = 0;
-  centre = 0;
-  right = 0;
   part = record { width = pixels; count = count; last = Some here.font.char_spacing };
   has_parts = nat_lt here.line_just 5;
   height = here.font.height;
@@ -47,7 +44,7 @@ even_line here pixels count = record {
 -- the first one has none (own)
 abbrev pub with_run : Attributes → ℕ → ℕ → ℕ → Line → Line
 with_run here gap pixels count line =
-    if line.any then longer_line pixels count line else (if count == 0 then line else even_line here (pixels - gap) count)
+    if line.any then longer_line pixels count line else (if count == 0 then line else even_line here (pixels - gap) count line)
 
 -- the parts of a line around its last space, with so many more characters behind it (own)
 abbrev pub with_run_behind : Attributes → ℕ → ℕ → ℕ → Split → Split

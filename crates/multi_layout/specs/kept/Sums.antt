@@ -1,5 +1,5 @@
 -- The running sums of an area: what is kept of its items, in place of the items.
-use Rattle.std.specs.Prelude.{◌≡◌, ◌⊎◌, ℕ, ◌≤◌, true, nat_lt, List, length, Option, None, if◌then◌else◌}
+use Rattle.std.specs.Prelude.{◌≡◌, ◌⊎◌, ℕ, ◌≤◌, true, false, nat_lt, List, length, Option, None, if◌then◌else◌}
 use Rattle.std.specs.List.{filter, filter_map, last_or, list_any, after_last}
 use Rattle.std.specs.Option.{option_map}
 use Rattle.sign_font.specs.declared.font.FontInfo.{FontInfo}
@@ -115,11 +115,25 @@ pub record IsGroupBelow (k : ℕ) (group : Group) : Type 0 where
   pub closed : group.closed ≤ k
   pub line : IsLineBelow k group.line
 
+-- a line without a character has no segment before the present one (own)
+abbrev pub IsBare : Line → Type 0
+IsBare line = line.any ≡ false → (line.left ≡ 0) × (line.centre ≡ 0)
+
+-- an area without an item has no height, nor has it an ended line (own)
+pub record IsEmptied (area : Area) : Type 0 where
+  pub top : area.top ≡ 0
+  pub middle : area.middle ≡ 0
+  pub ended : area.group.ended ≡ 0
+  pub closed : area.group.closed ≡ 0
+  pub last : area.group.last ≡ None
+
 -- the heights of an area's groups and the numbers of the present one are at most k, and its justification is none or a known one,
--- and a known one where its present line has a character (own)
+-- and a known one where its present line has a character; where there is none, nothing is kept of one (own)
 pub record IsBelow (k : ℕ) (area : Area) : Type 0 where
   pub top : area.top ≤ k
   pub middle : area.middle ≤ k
   pub group : IsGroupBelow k area.group
   pub known : area.present ≤ 4
   pub some : area.group.line.any ≡ true → 2 ≤ area.present
+  pub bare : IsBare area.group.line
+  pub empty : area.present ≡ 0 → IsEmptied area

@@ -10,7 +10,7 @@ use Rattle.multi_layout.proofs.area.Area.fill_character.Goals as goal
 use Rattle.multi_layout.proofs.area.Area.fill_character.Goals.{then-page_just-self, else-page_just-self}
 
 pub fill_character-requires-clause-below : goal.fill_character-requires-clause-below
-fill_character-requires-clause-below c = (c.go_on.ensures.grows (2 ^ 62) c.requires.below).2
+fill_character-requires-clause-below c = let (top, middle, group, least, known, bare) = c.go_on.ensures.grows (2 ^ 62) c.requires.below in group
 
 pub returns-clause-sum : goal.returns-clause-sum
 returns-clause-sum c old new group s placing placing' e order on is space fits apart o =
@@ -25,12 +25,12 @@ returns-clause-sum c old new group s placing placing' e order on is space fits a
 
 pub returns-clause-grows : goal.returns-clause-grows
 returns-clause-grows c k below parts =
-    let (top, middle, group, least, known) = c.go_on.ensures.grows k below in
+    let (top, middle, group, least, known, bare) = c.go_on.ensures.grows k below in
     let parts' : IsSplitBelow k c.if-page_just-self.split = elim c.if-page_just-self.branch [
       | then-page_just-self w ↦ subst (IsSplitBelow k) (sym w.split-is) tt
       | else-page_just-self w ↦ subst (IsSplitBelow k) (sym w.split-is) parts
     ] in
     let more = c.fill_character.ensures.grows k group parts' in (
-      record { top = top; middle = middle; group = more.0; known = known; some = λ any. least },
+      record { top = top; middle = middle; group = more.0; known = known; some = λ any. least; bare = c.fill_character.ensures.bare bare; empty = λ none. absurd (omega (arith, none, least)) },
       more.1,
     )

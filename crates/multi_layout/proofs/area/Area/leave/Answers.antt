@@ -5,8 +5,8 @@ use Rattle.multi_layout.proofs.area.Area.leave.Goals as goal
 
 pub room-requires : goal.room-requires
 room-requires c =
-    let (top, middle, group, least, known) = c.go_on.ensures.grows (2 ^ 62) c.requires.below in
-    record { below = record { top = top; middle = middle; group = group_more (2 ^ 62) (2 ^ 62 + 1024) _ (omega arith) group; known = known; some = λ any. least } }
+    let (top, middle, group, least, known, bare) = c.go_on.ensures.grows (2 ^ 62) c.requires.below in
+    record { below = record { top = top; middle = middle; group = group_more (2 ^ 62) (2 ^ 62 + 1024) _ (omega arith) group; known = known; some = λ any. least; bare = bare; empty = λ none. absurd (omega (arith, none, least)) } }
 
 pub returns : goal.returns
 returns c =
@@ -18,7 +18,7 @@ returns c =
         order = sym (le-leb area.present c.args.page_just order);
         goes = λ is. record {
           sum = λ items placing e. c.go_on.ensures.sum items placing e order;
-          grows = λ k below. let (top, middle, group, least, known) = c.go_on.ensures.grows k below in (top, middle, group);
+          grows = λ k below. let (top, middle, group, least, known, bare) = c.go_on.ensures.grows k below in (top, middle, group, bare);
           present = c.go_on.ensures.present order;
           stays = λ same. absurd (c.requires.other same);
           begins = c.go_on.ensures.begins;

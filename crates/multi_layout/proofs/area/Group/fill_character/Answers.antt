@@ -1,4 +1,4 @@
-use Rattle.std.proofs.Common.{◌^◌, Some, sym, ap, ◌∙◌, subst, arith}
+use Rattle.std.proofs.Common.{◌+◌, ◌^◌, Some, sym, ap, ◌∙◌, subst, arith}
 use Rattle.std.specs.List.{after_last}
 use Rattle.multi_layout.specs.Address.{is_break}
 use Rattle.multi_layout.specs.Filling.{filled}
@@ -40,12 +40,12 @@ returns-then-space-clause-sum c group s placing is space fits apart e o =
     let grown = c.add.ensures.sum _ s (present_glyphs w group s c.args.character.now placing is fits apart self e) is (present_line w group s c.args.character.now placing is fits apart self e) apart in
     let dropped = space ∙ c.if-space.true in (
       drops_sum w group s c.args.character.now placing is fits apart self e c.add.new.self grown c.fits.result c.fits.ensures.sum c.if-fits.false dropped c.add_break.new.self c.add_break.ensures.sum,
-      drops_split w group s c.args.character.now placing is fits apart self e c.add.new.self grown c.fits.result c.fits.ensures.sum c.if-fits.false dropped,
+      c.forget.ensures ∙ drops_split w group s c.args.character.now placing is fits apart self e c.add.new.self grown c.fits.result c.fits.ensures.sum c.if-fits.false dropped,
       drops_ended w group s c.args.character.now placing is fits apart self e c.add.new.self grown c.fits.result c.fits.ensures.sum c.if-fits.false dropped,
     )
 
 pub returns-then-space-clause-grows : goal.returns-then-space-clause-grows
-returns-then-space-clause-grows c k below split = (c.add_break.ensures.grows k below, tt)
+returns-then-space-clause-grows c k below split = (c.add_break.ensures.grows k below, subst (IsSplitBelow (k + 1024)) (sym c.forget.ensures) tt)
 
 pub add-requires-in-Some-clause-below : goal.add-requires-in-Some-clause-below
 add-requires-in-Some-clause-below c =
@@ -61,7 +61,7 @@ returns-in-Some-clause-sum c group s placing is space fits apart e o =
     let next = next_line w group s c.args.character.now placing is fits apart self e c.add.new.self grown c.fits.result c.fits.ensures.sum c.if-fits.false word c.in-Some.parts parts c.break_at.new.self c.break_at.ensures.sum in (
       breaks_sum w group s c.args.character.now placing is fits apart self e c.add.new.self grown c.fits.result c.fits.ensures.sum c.if-fits.false word c.in-Some.parts parts c.break_at.new.self c.break_at.ensures.sum
           c.add-in-Some.new.self (c.add-in-Some.ensures.sum _ s next.0 is next.1 next.2),
-      breaks_split w group s c.args.character.now placing is fits apart self e c.add.new.self grown c.fits.result c.fits.ensures.sum c.if-fits.false word c.in-Some.parts parts c.break_at.new.self c.break_at.ensures.sum,
+      c.forget-in-Some.ensures ∙ breaks_split w group s c.args.character.now placing is fits apart self e c.add.new.self grown c.fits.result c.fits.ensures.sum c.if-fits.false word c.in-Some.parts parts c.break_at.new.self c.break_at.ensures.sum,
       breaks_ended w group s c.args.character.now placing is fits apart self e c.add.new.self grown c.fits.result c.fits.ensures.sum c.if-fits.false word c.in-Some.parts parts,
     )
 
@@ -70,7 +70,7 @@ returns-in-Some-clause-grows c k below split =
     let parts = subst (IsSplitBelow k) c.in-Some.is split in
     let ended = c.break_at.ensures.grows k below parts.0 parts.1 in (
       record { ended = ended.ended; closed = ended.closed; line = c.add-in-Some.ensures.grows k (subst (IsLineBelow k) (sym c.break_at.ensures.line) parts.1) },
-      tt,
+      subst (IsSplitBelow (k + 1024)) (sym c.forget-in-Some.ensures) tt,
     )
 
 pub returns-in-Some-clause-small : goal.returns-in-Some-clause-small

@@ -2,11 +2,14 @@ use Rattle.std.proofs.Common.{◌≡◌, ℕ, ◌≤◌, Bool, true, false, ◌|
 use Rattle.std.specs.Prelude.{nat_lt}
 use Rattle.std.proofs.lemmas.Bool.{false≢true, ltb-false}
 use Rattle.multi_layout.specs.declared.line.Line.{Line}
+use Rattle.multi_layout.specs.kept.Sums.{line_sum}
 use Rattle.multi_layout.proofs.LineSumLemmas.{in_order, line_with, no_character}
 use Rattle.multi_layout.proofs.line.Line.add.Goals as goal
 
 pub returns-then-not-self-clause-sum : goal.returns-then-not-self-clause-sum
-returns-then-not-self-clause-sum c line s glyphs is e none = rw (no_character line c.args.self.now glyphs e c.if-not-self.true) (c.of.ensures.sum s is)
+returns-then-not-self-clause-sum c line s glyphs is e none =
+    let empty = no_character line c.args.self.now glyphs e c.if-not-self.true in
+    rw empty (c.begin.ensures.sum s is (e ∙ ap line_sum empty))
 
 pub returns-clause-sum : goal.returns-clause-sum
 returns-clause-sum c line s glyphs is e none =

@@ -1,5 +1,5 @@
-use Rattle.std.proofs.Common.{◌+◌, refl, arith}
-use Rattle.multi_layout.proofs.BoundLemmas.{line_more}
+use Rattle.std.proofs.Common.{◌∙◌, ap, refl}
+use Rattle.multi_layout.specs.kept.Sums.{line_sum}
 use Rattle.multi_layout.proofs.LineSumLemmas.{no_character}
 use Rattle.multi_layout.proofs.line.Line.put.Goals as goal
 
@@ -8,7 +8,9 @@ returns-then-not-self-clause-apart c line s glyphs e just = rw (no_character lin
 
 pub returns-then-not-self-clause-put : goal.returns-then-not-self-clause-put
 returns-then-not-self-clause-put c = λ is. record {
-  sum = λ line s glyphs own e apart. rw (no_character line c.args.self.now glyphs e c.if-not-self.true) (c.of.ensures.sum s own);
-  grows = λ k below. line_more 1024 (k + 1024) c.of.result (omega arith) c.of.ensures.below;
-  behind = c.of.ensures.behind;
+  sum = λ line s glyphs own e apart.
+      let empty = no_character line c.args.self.now glyphs e c.if-not-self.true in
+      rw empty (c.begin.ensures.sum s own (e ∙ ap line_sum empty));
+  grows = c.begin.ensures.grows;
+  behind = c.begin.ensures.behind;
 }

@@ -16,7 +16,7 @@ returns-then-not-reach-clause-conflicts c before s e g page =
     ∙ conflicts_break before s here state.area.present g page (ap (λ (a : Area). a.present) e)
 
 pub add_break-requires : goal.add_break-requires
-add_break-requires c = let (top, middle, group) = (c.reach.ensures.reached.goes c.if-not-reach.false).grows (2 ^ 62) c.requires.ready.below in record { below = group }
+add_break-requires c = let (top, middle, group, bare) = (c.reach.ensures.reached.goes c.if-not-reach.false).grows (2 ^ 62) c.requires.ready.below in record { below = group }
 
 pub returns-clause-conflicts : goal.returns-clause-conflicts
 returns-clause-conflicts c before s e g page =
@@ -38,13 +38,15 @@ returns-clause-added c = λ is.
           area_with area s here page state.area e order c.reach.new.self _ on refl refl refl
           (ended.sum (in_group here area) s (placing_group here area placing) (ap (λ (a : Area). a.group) on) own ∙ ap group_sum (sym (own_group here area s page)));
       grows = λ k below.
-          let (top, middle, group) = goes.grows k below in
+          let (top, middle, group, bare) = goes.grows k below in
           record {
             top = top;
             middle = middle;
             group = ended.grows k group;
             known = omega (arith, goes.present, c.requires.ready.page_just.1);
             some = λ any. omega (arith, goes.present, c.requires.ready.page_just.0);
+            bare = ended.bare;
+            empty = λ none. absurd (omega (arith, none, goes.present, c.requires.ready.page_just.0));
           };
       present = λ order. goes.present;
       none = ended.none;

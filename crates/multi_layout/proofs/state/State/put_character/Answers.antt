@@ -19,7 +19,10 @@ returns-then-not-reach-clause-conflicts c before s e g page just =
     ∙ conflicts_character before s here state.area.present g page (ap (λ (a : Area). a.present) e)
 
 pub put-requires-clause-below : goal.put-requires-clause-below
-put-requires-clause-below c = let (top, middle, group) = (c.reach.ensures.reached.goes c.if-not-reach.false).grows (2 ^ 62) c.requires.ready.below in group.line
+put-requires-clause-below c = let (top, middle, group, bare) = (c.reach.ensures.reached.goes c.if-not-reach.false).grows (2 ^ 62) c.requires.ready.below in group.line
+
+pub put-requires-clause-bare : goal.put-requires-clause-bare
+put-requires-clause-bare c = let (top, middle, group, bare) = (c.reach.ensures.reached.goes c.if-not-reach.false).grows (2 ^ 62) c.requires.ready.below in bare
 
 pub returns-clause-conflicts : goal.returns-clause-conflicts
 returns-clause-conflicts c before s e g page just =
@@ -61,13 +64,15 @@ returns-clause-added c = λ is.
           (group_character here area s page own.glyph c.reach.new.self.group c.put.new.self (ap (λ (a : Area). a.group) on)
           (put.sum (after_last is_break (in_group here area)) s (present_glyphs here area placing) own (ap (λ (a : Area). a.group.line) on) apart));
       grows = λ k below.
-          let (top, middle, group) = goes.grows k below in
+          let (top, middle, group, bare) = goes.grows k below in
           record {
             top = top;
             middle = middle;
             group = record { ended = omega (arith, group.ended); closed = omega (arith, group.closed); line = put.grows k group.line };
             known = omega (arith, goes.present, c.requires.ready.page_just.1);
             some = λ any. omega (arith, goes.present, c.requires.ready.page_just.0);
+            bare = λ none. absurd (false≢true (sym none ∙ put.behind.any));
+            empty = λ none. absurd (omega (arith, none, goes.present, c.requires.ready.page_just.0));
           };
       behind = (goes.present, put.behind);
       same = refl;
