@@ -1,5 +1,5 @@
 -- What begins at an offset, whose first octet was read: how it is refused, and what is judged and read behind it.
-use Rattle.std.proofs.Common.{◌≡◌, ℕ, ◌+◌, ◌-◌, ◌^◌, ◌<◌, ◌*◌, inl, inr, List, [], ◌∷◌, ◌++◌, length, map, slice_get, Option, Some, None, refl, sym, ap, subst, ◌∙◌, arith}
+use Rattle.std.proofs.Common.{◌≡◌, ℕ, ◌+◌, ◌-◌, ◌^◌, ◌<◌, ◌≤◌, ◌*◌, inl, inr, List, [], ◌∷◌, ◌++◌, length, map, slice_get, Option, Some, None, refl, sym, ap, subst, ◌∙◌, arith}
 use Rattle.std.proofs.lemmas.Option.{slice_get_within}
 use Rattle.multi_token.specs.Counted.{Counted, RisesBetween, charged}
 use Rattle.multi_token.specs.Spelling.{IsPlain}
@@ -45,14 +45,14 @@ module _ (sign : SignData) (octets : List ℕ) (at first : ℕ) (IsKept : List M
   so_far = map meaning i.so_far.items
 
   -- an octet that stands for itself
-  module _ (plain : IsPlain first) (judged : Counted) (step : judged ≡ charged source 1) where
+  module _ (plain : IsPlain first) (judged : Counted) (count : ℕ) (few : count ≤ 5) (step : judged ≡ charged source count) where
     abbrev token : Token
     token = record { at = at; len = 1; kind = kinds.Char first }
 
     stands : IsTokenOf octets token
     stands = single_token octets at first (omega (arith, short)) here plain
 
-    steps : judged.steps ≡ (charged source 1).steps
+    steps : judged.steps ≡ (charged source count).steps
     steps = ap (λ (s : Counted). s.steps) step
 
     same : judged.octets ≡ octets
@@ -65,8 +65,8 @@ module _ (sign : SignData) (octets : List ℕ) (at first : ℕ) (IsKept : List M
         record {
           verdict = refused_here sign octets at IsKept i.so_far token refl stands (code_of error) offends;
           same = same;
-          least = omega (arith, steps, least, most, before, short);
-          most = omega (arith, steps, least, most, before, short);
+          least = omega (arith, steps, few, least, most, before, short);
+          most = omega (arith, steps, few, least, most, before, short);
         }
 
     pub octet_behind : (IsNow : List Meaning → Type 0) → offence sign.line_fill sign so_far (Shows first) ≡ None → IsNow (so_far ++ Shows first ∷ []) → IsBehind sign judged.octets (at + 1) IsNow judged
@@ -76,8 +76,8 @@ module _ (sign : SignData) (octets : List ℕ) (at first : ℕ) (IsKept : List M
         subst (λ (os : List ℕ). IsBehind sign os (at + 1) IsNow judged) (sym same) (record {
           so_far = read_more sign octets at IsKept i.so_far token refl stands IsNow fine is;
           same = same;
-          least = omega (arith, steps, least, most, before, short);
-          most = omega (arith, steps, least, most, before, short);
+          least = omega (arith, steps, few, least, most, before, short);
+          most = omega (arith, steps, few, least, most, before, short);
         })
 
   -- an item of these octets, judged in at most so many steps

@@ -1,11 +1,11 @@
 -- A word and the space behind it, where lines are filled.
-use Rattle.std.proofs.Common.{◌≡◌, ℕ, ◌+◌, ◌-◌, ◌*◌, ◌^◌, ◌<◌, ◌≤◌, List, length, take, drop, slice_get, true, Option, Some, ap, subst, ◌∙◌, arith}
+use Rattle.std.proofs.Common.{◌≡◌, ℕ, ◌+◌, ◌-◌, ◌*◌, ◌^◌, ◌<◌, ◌≤◌, List, length, take, drop, slice_get, true, Option, Some, sym, ap, subst, ◌∙◌, arith}
 use Rattle.std.specs.List.{All}
 use Rattle.multi_token.specs.Counted.{Counted, RisesBetween, charged}
 use Rattle.multi_token.specs.Spelling.{IsPlain}
-use Rattle.sign_font.specs.Sign.{SignData}
+use Rattle.sign_font.specs.Sign.{FontData, SignData}
 use Rattle.sign_font.specs.Sound.{IsWithin}
-use Rattle.sign_font.specs.Text.{HasWidth, IsNoSpace, width_in}
+use Rattle.sign_font.specs.Text.{HasWidth, IsNoSpace, width_in, width_numbered}
 use Rattle.multi_layout.specs.declared.pass.Pass.{Pass}
 use Rattle.multi_layout.specs.declared.run.Run.{Run}
 use Rattle.multi_layout.specs.kept.FilledRun.{IsFilledRun, with_space, with_word}
@@ -18,10 +18,10 @@ use Rattle.multi_layout.proofs.FilledRunLemmas.{one_goes_on, one_taken}
 use Rattle.multi_layout.proofs.FilledTextLemmas.{front_runs, front_taken}
 use Rattle.multi_layout.proofs.RunLemmas.{run_stays}
 
-module _ (sign : SignData) (octets : List ℕ) (at : ℕ) (run : Run) (pass : Pass) (source : Counted) (short : length octets < 2 ^ 63) (text : IsInText sign octets at run pass source)
+module _ (sign : SignData) (cells : FontData) (octets : List ℕ) (at : ℕ) (run : Run) (pass : Pass) (source : Counted) (short : length octets < 2 ^ 63) (text : IsInText sign cells octets at run pass source)
     (len pixels : ℕ) (within : at + len ≤ length octets) (plain : All IsPlain (take len (drop at octets))) (word : All IsNoSpace (take len (drop at octets)))
     (has : HasWidth (width_in sign pass.state.attributes.font.number) run.gap (take len (drop at octets)) pixels) (narrow : pixels ≤ run.left)
-    (behind : Counted) (rises : RisesBetween source behind (2 * len + 1) (2 * len + 4)) where
+    (behind : Counted) (rises : RisesBetween source behind (2 * len + 1) (2 * len + 3)) where
   abbrev kept : Pass
   kept = with_word run.gap pixels len pass
 
@@ -61,8 +61,8 @@ module _ (sign : SignData) (octets : List ℕ) (at : ℕ) (run : Run) (pass : Pa
       }
 
   -- the word and the space behind it
-  pub word_spaced : length octets < 2 ^ 32 → slice_get octets (at + len) ≡ Some 32 → (width : ℕ) → Some width ≡ width_in sign kept.state.attributes.font.number 32 → IsWithin 1 64 width → run.gap + width ≤ run.left - pixels
-      → IsInText sign octets (at + len + 1) (record { gap = run.gap; left = run.left - pixels - (run.gap + width) }) (with_space (run.gap + width) kept) behind
+  pub word_spaced : length octets < 2 ^ 32 → slice_get octets (at + len) ≡ Some 32 → (width : ℕ) → Some width ≡ width_numbered cells 32 → IsWithin 1 64 width → run.gap + width ≤ run.left - pixels
+      → IsInText sign cells octets (at + len + 1) (record { gap = run.gap; left = run.left - pixels - (run.gap + width) }) (with_space (run.gap + width) kept) behind
   word_spaced small here width is narrow_cell fits =
       let line = line_in_force kept.state in
       let room = line.part.width + (run.left - pixels) in
@@ -75,7 +75,7 @@ module _ (sign : SignData) (octets : List ℕ) (at : ℕ) (run : Run) (pass : Pa
       let same : room ≡ line.part.width + (run.gap + width) + (run.left - pixels - (run.gap + width)) = omega (arith, fits) in
       record {
         behind = record {
-          so_far = one_taken sign octets (at + len) kept word_read 32 short here (λ e. omega (arith, e), λ e. omega (arith, e)) word_runs run.gap room word_room width some narrow_cell.1 is enough;
+          so_far = one_taken sign octets (at + len) kept word_read 32 short here (λ e. omega (arith, e), λ e. omega (arith, e)) word_runs run.gap room word_room width some narrow_cell.1 (is ∙ sym (text.widths 32)) enough;
           same = ap (λ (s : Counted). s.octets) rises.3 ∙ text.behind.same;
           least = omega (arith, steps, fewest, least, within, small);
           most = omega (arith, steps, few, most, within, small);
@@ -83,9 +83,10 @@ module _ (sign : SignData) (octets : List ℕ) (at : ℕ) (run : Run) (pass : Pa
         fits = one_goes_on kept word_runs run.gap room word_room width some enough true;
         runs = subst (IsRun _ run.gap) same (run_stays kept.state run.gap room (line.part.width + (run.gap + width)) (line.part.count + 1) word_room);
         left = omega (arith, text.left);
+        widths = text.widths;
       }
 
 -- a text with the same run and pass
-pub text_same : (sign : SignData) (octets : List ℕ) (at : ℕ) (gap left gap' left' : ℕ) (pass pass' : Pass) (source : Counted) → gap' ≡ gap → left' ≡ left → pass' ≡ pass
-    → IsInText sign octets at (record { gap = gap; left = left }) pass source → IsInText sign octets at (record { gap = gap'; left = left' }) pass' source
-text_same sign octets at gap left gap' left' pass pass' source g l p text = rw (g, l, p) text
+pub text_same : (sign : SignData) (cells : FontData) (octets : List ℕ) (at : ℕ) (gap left gap' left' : ℕ) (pass pass' : Pass) (source : Counted) → gap' ≡ gap → left' ≡ left → pass' ≡ pass
+    → IsInText sign cells octets at (record { gap = gap; left = left }) pass source → IsInText sign cells octets at (record { gap = gap'; left = left' }) pass' source
+text_same sign cells octets at gap left gap' left' pass pass' source g l p text = rw (g, l, p) text

@@ -2,6 +2,7 @@
 
 ghost use Rattle.std.specs.Prelude.{◌≡◌, ◌≢◌, ◌+◌, ◌-◌, ◌*◌, ◌^◌, ◌<◌, ◌⊎◌, IfOk, IfErr, OnErr, Some, length, slice_get};
 ghost use Rattle.multi_token.specs.Counted.{RisesBetween};
+ghost use Rattle.multi_token.specs.Spelling.{is_bracket};
 ghost use Rattle.multi_tag.specs.Closed.{HasNoTagAt};
 ghost use Rattle.multi_layout.specs.Codes.{code_of};
 ghost use Rattle.multi_layout.specs.kept.ItemAt.{IsFaultAt, IsItemAt};
@@ -13,6 +14,13 @@ use crate::fault::SyntaxError;
 use crate::item::{KnownItem, NextItem, tag_error};
 use multi_tag::{Tag, read_ahead, read_tag};
 use multi_token::{Bracketed, Kind, Source, Token, read_bracket};
+
+/// Whether an octet is a bracket.
+pub(crate) fn is_bracket(octet: u8) -> bool
+    ensures { result ≡ is_bracket octet }
+{
+    (octet == b'[') | (octet == b']')
+}
 
 /// The item that begins with this bracket at an offset, which was read, or the error of a bracket with which none begins and of a
 /// tag that has no value.

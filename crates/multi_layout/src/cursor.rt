@@ -15,7 +15,7 @@ ghost use Rattle.multi_layout.specs.kept.Cursors.{GoesBehind, IsBefore, IsBetwee
 ghost use Rattle.multi_layout.specs.kept.Passing.{IsAtStart, IsPageSkipped, IsPassing, IsPassingBefore, IsTextPassed, PassesOn};
 ghost use Rattle.multi_layout.specs.kept.Settings.{AreSettingsPassed, IsBegun, IsMet, IsNextAt, item_steps, met_octets, met_steps};
 
-use crate::bracket::{fault_of, said};
+use crate::bracket::{fault_of, is_bracket, said};
 use crate::item::{KnownItem, NextItem};
 use crate::judge::judge_tag;
 use crate::run::Run;
@@ -116,12 +116,14 @@ impl Cursor {
         ensures state { self.new.state ≡ self.old.state }
         ensures steps { RisesBetween source.old source.new 0 (2 * (self.new.at - self.old.at) + 3) }
     {
-        let font = self.state.attributes.font.number;
+        let Some(cells) = sign.cells(source, self.state.attributes.font.number) else {
+            return;
+        };
         let all = Run {
             gap: 0,
             left: u64::MAX,
         };
-        self.at += sign.read_run(source, self.at, font, all, false).len;
+        self.at += all.read(&cells, source, self.at, false).len;
     }
 
     /// Goes behind the next item, a tag that places nothing, and puts what it says into force. It isn't put into its callers' code, since
@@ -221,7 +223,7 @@ pub(crate) fn meet(
     ensures some { 1 ≤ met_octets result }
     ensures steps { RisesBetween source.old source.new 0 (met_steps result) }
 {
-    if first != b'[' && first != b']' {
+    if !is_bracket(first) {
         return Met::Item(NextItem {
             item: KnownItem::Char(u16::from(first)),
             len: 1,

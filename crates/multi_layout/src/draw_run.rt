@@ -2,7 +2,6 @@
 
 ghost use Rattle.std.specs.Prelude.{◌≡◌, ◌≢◌, ◌+◌, ◌-◌, ◌*◌, ◌^◌, ◌<◌, ◌≤◌, List};
 ghost use Rattle.multi_token.specs.Counted.{RisesBetween};
-ghost use Rattle.multi_token.specs.Spelling.{is_bracket};
 ghost use Rattle.sign_font.specs.declared.parts.LineFill.TheVariants.{Off};
 ghost use Rattle.multi_layout.specs.kept.AreaDrawing.{IsFilledBy};
 ghost use Rattle.multi_layout.specs.kept.Cursors.{LaidItem};
@@ -10,6 +9,7 @@ ghost use Rattle.multi_layout.specs.kept.Run.{IsBehindCharacter};
 ghost use Rattle.multi_layout.specs.kept.RunDrawing.{DrawsRun, IsReadBehind, IsRunHere, cursor_behind, octets_read};
 ghost use Rattle.multi_layout.specs.Pages.{IsSized};
 
+use crate::bracket::is_bracket;
 use crate::cursor::Cursor;
 use crate::paint::{Layer, put_character};
 use crate::place::Place;
@@ -102,11 +102,4 @@ fn draw_beside(
         at += 1;
     }
     (at, column, None)
-}
-
-/// Whether an octet is a bracket.
-fn is_bracket(octet: u8) -> bool
-    ensures { result ≡ is_bracket octet }
-{
-    (octet == b'[') | (octet == b']')
 }

@@ -3,6 +3,7 @@
 
 ghost use Rattle.std.specs.Prelude.{◌≡◌, ℕ, ◌+◌, ◌^◌, ◌<◌, ◌≤◌, true, false, length, Option};
 ghost use Rattle.multi_token.specs.Counted.{charged};
+ghost use Rattle.sign_font.specs.Text.{AreWidthsOf};
 ghost use Rattle.multi_layout.specs.kept.FilledRun.{GoesOnBehind, IsFilledRun, with_run, with_space, with_word};
 ghost use Rattle.multi_layout.specs.kept.FilledState.{IsFilledFor, IsFilledReady};
 ghost use Rattle.multi_layout.specs.kept.Judging.{IsAt, IsBehind};
@@ -16,7 +17,7 @@ use crate::pass::Pass;
 use crate::run::Run;
 use crate::terms::Terms;
 use multi_token::Source;
-use sign_font::FontInfo;
+use sign_font::{FontCells, FontInfo};
 
 impl Line {
     /// Whether the last character can have been one with this line justification and font.
@@ -70,6 +71,7 @@ pub(crate) enum Word {
 #[inline(always)]
 pub(crate) fn judge_text(
     sign: &Terms<'_>,
+    cells: &FontCells<'_>,
     pass: &mut Pass,
     source: &mut Source<'_>,
     at: usize,
@@ -77,11 +79,12 @@ pub(crate) fn judge_text(
     requires short { length source.old.octets < 2 ^ 32 }
     requires behind { IsBehind sign.now source.old.octets at (IsFilledFor sign.now pass.old) source.old }
     requires fits { Fits pass.old.state }
+    requires cells { AreWidthsOf sign.now pass.old.state.attributes.font.number cells.now }
     ensures further { at ≤ result.0 }
     ensures at { IsAt sign.now source.old.octets result.0 result.1 (IsFilledFor sign.now pass.new) source.new }
 {
     if pass.goes_on() {
-        take_text(sign, pass, source, at)
+        take_text(sign, cells, pass, source, at)
     } else {
         (at, source.read(at))
     }
@@ -90,6 +93,7 @@ pub(crate) fn judge_text(
 /// Takes words and the spaces behind them, as long as they stay on the present line.
 fn take_text(
     sign: &Terms<'_>,
+    cells: &FontCells<'_>,
     pass: &mut Pass,
     source: &mut Source<'_>,
     at: usize,
@@ -97,6 +101,7 @@ fn take_text(
     requires short { length source.old.octets < 2 ^ 32 }
     requires behind { IsBehind sign.now source.old.octets at (IsFilledFor sign.now pass.old) source.old }
     requires run { IsFilledRun pass.old }
+    requires cells { AreWidthsOf sign.now pass.old.state.attributes.font.number cells.now }
     ensures further { at ≤ result.0 }
     ensures at { IsAt sign.now source.old.octets result.0 result.1 (IsFilledFor sign.now pass.new) source.new }
 {
@@ -105,7 +110,7 @@ fn take_text(
     let mut run = pass.state.run(most);
     let mut at = at;
     loop {
-        match take_word(sign, pass, source, &mut run, at) {
+        match take_word(sign, cells, pass, source, &mut run, at) {
             Word::Spaced(behind) => at = behind,
             Word::Ended(behind, next) => return (behind, next),
         }
@@ -116,24 +121,24 @@ fn take_text(
 /// doesn't fit the present line, and the space too, if it fits.
 fn take_word(
     sign: &Terms<'_>,
+    cells: &FontCells<'_>,
     pass: &mut Pass,
     source: &mut Source<'_>,
     run: &mut Run,
     at: usize,
 ) -> Word
     requires short { length source.old.octets < 2 ^ 32 }
-    requires text { IsInText sign.now source.old.octets at run.old pass.old source.old }
+    requires text { IsInText sign.now cells.now source.old.octets at run.old pass.old source.old }
     ensures spaced { (behind : ℕ) → result ≡ Word.Spaced behind
-        → (at < behind) × IsInText sign.now source.old.octets behind run.new pass.new source.new }
+        → (at < behind) × IsInText sign.now cells.now source.old.octets behind run.new pass.new source.new }
     ensures ended { (behind : ℕ) (next : Option ℕ) → result ≡ Word.Ended behind next
         → (at ≤ behind) × IsAt sign.now source.old.octets behind next (IsFilledFor sign.now pass.new) source.new }
 {
-    let font = pass.state.attributes.font.number;
-    let word = sign.read_run(source, at, font, *run, true);
+    let word = run.read(cells, source, at, true);
     pass.take(run.gap, u64::from(word.width), word.len as u64);
     run.left -= u64::from(word.width);
     let behind = at + word.len;
-    if word.next == Some(b' ') && take_space(sign, pass, source, run) {
+    if word.next == Some(b' ') && take_space(cells, pass, source, run) {
         Word::Spaced(behind + 1)
     } else {
         Word::Ended(behind, word.next)
@@ -141,14 +146,18 @@ fn take_word(
 }
 
 /// Takes a space, if it has a cell and fits the present line. Looking for the cell is one step.
-fn take_space(sign: &Terms<'_>, pass: &mut Pass, source: &mut Source<'_>, run: &mut Run) -> bool
+fn take_space(
+    cells: &FontCells<'_>,
+    pass: &mut Pass,
+    source: &mut Source<'_>,
+    run: &mut Run,
+) -> bool
     requires ready { IsFilledReady pass.old }
-    ensures taken { result ≡ true → (width : ℕ) × TakesSpace sign.now run.old pass.old width run.new pass.new }
+    ensures taken { result ≡ true → (width : ℕ) × TakesSpace cells.now run.old pass.old width run.new pass.new }
     ensures left { result ≡ false → (run.new ≡ run.old) × (pass.new ≡ pass.old) }
     ensures step { source.new ≡ charged source.old 1 }
 {
-    let font = pass.state.attributes.font.number;
-    let Some(width) = sign.cell_width(source, font, u16::from(b' ')) else {
+    let Some(width) = cells.width(source, b' ') else {
         return false;
     };
     let pixels = u64::from(run.gap) + u64::from(width);

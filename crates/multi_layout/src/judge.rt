@@ -55,6 +55,7 @@ pub(crate) fn judge_cell(state: &mut State, number: u16, width: u8) -> Result<()
         → width_in sign state.old.attributes.font.number number ≡ Some width → IsJudged sign items (Shows number) result state.new }
     ensures limited { IsLimited state.old → IsLimited state.new }
     ensures behind { OnOk result (IsBehindCharacter state.new) }
+    ensures same { OnOk result (state.new.attributes ≡ state.old.attributes) }
 {
     if !state.put_character(width) {
         return Err(SyntaxError::TagConflict);

@@ -5,6 +5,7 @@ ghost use Rattle.std.specs.List.{list_any};
 ghost use Rattle.multi_token.specs.Counted.{RisesBetween, charged};
 ghost use Rattle.sign_font.specs.declared.parts.LineFill.TheVariants.{Words};
 ghost use Rattle.sign_font.specs.Sign.{SignData};
+ghost use Rattle.sign_font.specs.Text.{AreWidthsOf};
 ghost use Rattle.multi_layout.specs.Address.{Spot};
 ghost use Rattle.multi_layout.specs.kept.AreaReading.{PassesCharacter, PutsFilled};
 ghost use Rattle.multi_layout.specs.kept.FilledState.{IsFilledOf, IsFilledReady, begins_line};
@@ -28,6 +29,7 @@ use crate::state::State;
 use crate::terms::Terms;
 use multi_tag::Tag;
 use multi_token::Source;
+use sign_font::FontCells;
 
 /// What is kept behind some items of a string.
 ///
@@ -117,7 +119,7 @@ impl Pass {
 
     /// Judges a character: whether its font has a cell for it, and whether it may stand on its line and fits.
     #[inline(always)]
-    pub(crate) fn judge_character<const WORDS: bool>(
+    fn judge_character<const WORDS: bool>(
         &mut self,
         sign: &Terms<'_>,
         source: &mut Source<'_>,
@@ -125,13 +127,32 @@ impl Pass {
     ) -> Result<(), SyntaxError>
         requires ready { IsPassReady WORDS self.old }
         ensures judged { JudgesItem WORDS sign.now self.old (Shows number) result self.new }
-        ensures behind { OnOk result (IsPassBehind WORDS self.new) }
-        ensures step { number ≤ 255 → source.new ≡ charged source.old 1 }
         ensures steps { RisesBetween source.old source.new 0 8 }
     {
         let font = self.state.attributes.font.number;
         match sign.cell_width(source, font, number) {
             Some(width) => self.judge_cell::<WORDS>(number, width),
+            None => Err(SyntaxError::CharacterNotDefined),
+        }
+    }
+
+    /// Judges an octet as a character of the font in force, which has these cells.
+    #[inline(always)]
+    pub(crate) fn judge_octet<const WORDS: bool>(
+        &mut self,
+        cells: &FontCells<'_>,
+        source: &mut Source<'_>,
+        octet: u8,
+    ) -> Result<(), SyntaxError>
+        requires ready { IsPassReady WORDS self.old }
+        ensures judged { (sign : SignData) → AreWidthsOf sign self.old.state.attributes.font.number cells.now
+            → JudgesItem WORDS sign self.old (Shows octet) result self.new }
+        ensures behind { OnOk result (IsPassBehind WORDS self.new) }
+        ensures same { OnOk result (self.new.state.attributes ≡ self.old.state.attributes) }
+        ensures step { source.new ≡ charged source.old 1 }
+    {
+        match cells.width(source, octet) {
+            Some(width) => self.judge_cell::<WORDS>(u16::from(octet), width),
             None => Err(SyntaxError::CharacterNotDefined),
         }
     }
@@ -142,6 +163,7 @@ impl Pass {
         requires ready { IsPassReady WORDS self.old }
         ensures judged { JudgesCell WORDS self.old number width result self.new }
         ensures behind { OnOk result (IsPassBehind WORDS self.new) }
+        ensures same { OnOk result (self.new.state.attributes ≡ self.old.state.attributes) }
     {
         if WORDS {
             self.fill_cell(number, width)
@@ -176,6 +198,7 @@ impl Pass {
         requires ready { IsFilledReady self.old }
         ensures judged { JudgesCell true self.old number width result self.new }
         ensures fits { OnOk result (Fits self.new.state) }
+        ensures same { self.new.state.attributes ≡ self.old.state.attributes }
     {
         let attributes = self.state.attributes;
         let (page_just, present) = (attributes.page_just, self.state.area.present);
@@ -196,6 +219,7 @@ impl Pass {
     fn put_filled(&mut self, number: u16, width: u8) -> Placed
         requires ready { IsFilledReady self.old }
         ensures put { PutsFilled number width self.old self.new result }
+        ensures same { self.new.state.attributes ≡ self.old.state.attributes }
         ensures fits { result.fits ≡ true → Fits self.new.state }
         ensures small { IfSome result.ended (IsLineBelow (2 ^ 62)) }
     {

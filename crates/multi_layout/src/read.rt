@@ -146,7 +146,10 @@ fn go_on<const WORDS: bool>(
     if WORDS || !octet {
         return (at, source.read(at));
     }
-    go_along(sign, &mut kept.state, source, at)
+    match sign.cells(source, kept.state.attributes.font.number) {
+        Some(cells) => go_along(sign, &cells, &mut kept.state, source, at),
+        None => (at, source.read(at)),
+    }
 }
 
 /// Goes behind the next item of an area, and puts the lines that it ends into the table: the last one of a group that it leaves, and

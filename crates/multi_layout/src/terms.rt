@@ -1,16 +1,14 @@
 //! The sign that a string is for, with the defaults in force for that string.
 
-ghost use Rattle.std.specs.Prelude.{◌≡◌, ◌+◌, ◌*◌, ◌^◌, ◌<◌, ◌≤◌, true, Some, None, All, IfSome, drop, length, option_map, slice_get, take};
+ghost use Rattle.std.specs.Prelude.{◌≡◌, ◌≤◌, Some, None, IfSome, option_map};
 ghost use Rattle.multi_token.specs.Counted.{charged, RisesBetween};
-ghost use Rattle.multi_token.specs.Spelling.{IsPlain};
 ghost use Rattle.sign_font.specs.Defaults.{default_fault, under};
 ghost use Rattle.sign_font.specs.Sign.{cell_in, font_numbered, info_of};
 ghost use Rattle.sign_font.specs.Sound.{IsSound, IsSoundSize, IsWithin};
-ghost use Rattle.sign_font.specs.Text.{HasWidth, IsNoSpace, width_in};
+ghost use Rattle.sign_font.specs.Text.{AreWidthsOf, width_in};
 
-use crate::run::Run;
-use multi_token::{Run as Front, Source};
-use sign_font::{Cell, Defaults, FontInfo, LineFill, Sign};
+use multi_token::Source;
+use sign_font::{Cell, Defaults, FontCells, FontInfo, LineFill, Sign};
 use std::marker::Model;
 
 /// A sign, seen with these defaults in place of its own. It doesn't refuse them.
@@ -127,38 +125,14 @@ impl<'a> Terms<'a> {
         self.sign.cell(source, font, number)
     }
 
-    /// The octets from an offset on that a run can take in the font of a number: none is a bracket nor, if the run is a word, a space,
-    /// each has a cell, and together they go into what is left. The font takes one step, and each of these octets two. So does the
-    /// octet behind them, and the end takes one.
-    pub(crate) fn read_run(
-        &self,
-        source: &mut Source<'_>,
-        at: usize,
-        font: u8,
-        run: Run,
-        word: bool,
-    ) -> Front
-        requires { at ≤ length source.old.octets }
-        ensures within { at + result.len ≤ length source.old.octets }
-        ensures plain { All IsPlain (take result.len (drop at source.old.octets)) }
-        ensures word { word ≡ true → All IsNoSpace (take result.len (drop at source.old.octets)) }
-        ensures width { HasWidth (width_in self.now font) run.gap (take result.len (drop at source.old.octets)) result.width }
-        ensures left { result.width ≤ run.left }
-        ensures next { result.next ≡ slice_get source.old.octets (at + result.len) }
-        ensures steps { RisesBetween source.old source.new (2 * result.len + 1) (2 * result.len + 3) }
-        ensures room { length source.old.octets < 2 ^ 63 }
+    /// The font of a number, in which the cells of octets are looked up, if it is defined. Either way it is one step.
+    pub(crate) fn cells(&self, source: &mut Source<'_>, font: u8) -> Option<FontCells<'_>>
+        ensures cells { result ≡ font_numbered self.now font }
+        ensures widths { IfSome result (AreWidthsOf self.now font) }
+        ensures step { source.new ≡ charged source.old 1 }
         ensures sound { IsSound self.now }
     {
-        let Some(table) = self.sign.advances(source, font, word) else {
-            return Front {
-                len: 0,
-                width: 0,
-                next: source.read(at),
-            };
-        };
-        // no line has as many pixels
-        let room = run.left.min(0x7fff) as u32;
-        source.read_run(at, table, u32::from(run.gap), 0, room)
+        self.sign.cells(source, font)
     }
 
     /// The width in pixels of the cell of a number in the font of a number, if both are defined. Either way an octet is one step,

@@ -10,7 +10,7 @@ ghost use Rattle.multi_layout.specs.kept.Judging.{IsAt, IsRefused, IsTold};
 ghost use Rattle.multi_layout.specs.kept.PassState.{IsPassOf, fill_of};
 ghost use Rattle.multi_layout.specs.Verdict.{Accepted, IsVerdict, Refused};
 
-use crate::bracket::read_spelled;
+use crate::bracket::{is_bracket, read_spelled};
 use crate::checked::{Checked, Told};
 use crate::cursor::Cursor;
 use crate::fault::{Fault, SyntaxError};
@@ -259,7 +259,7 @@ fn judge_from<const WORDS: bool>(
     ensures at { IfOk result (λ next. IsAt sign.now source.old.octets at.new next (IsPassOf WORDS sign.now pass.new) source.new) }
     ensures refused { IfErr result (λ error. IsRefused sign.now source.old.octets (record { error = error; at = at.old }) source.new) }
 {
-    if first == b'[' || first == b']' {
+    if is_bracket(first) {
         return judge_bracket::<WORDS>(sign, pass, source, at, first);
     }
     judge_plain::<WORDS>(sign, pass, source, at, first)
@@ -282,9 +282,13 @@ fn judge_plain<const WORDS: bool>(
     ensures at { IfOk result (λ next. IsAt sign.now source.old.octets at.new next (IsPassOf WORDS sign.now pass.new) source.new) }
     ensures refused { IfErr result (λ error. IsRefused sign.now source.old.octets (record { error = error; at = at.old }) source.new) }
 {
-    match pass.judge_character::<WORDS>(sign, source, u16::from(first)) {
+    let Some(cells) = sign.cells(source, pass.state.attributes.font.number) else {
+        // The font in force is one of the sign's.
+        unreachable!();
+    };
+    match pass.judge_octet::<WORDS>(&cells, source, first) {
         Ok(()) => {
-            let (behind, next) = judge_run::<WORDS>(sign, pass, source, *at + 1);
+            let (behind, next) = judge_run::<WORDS>(sign, &cells, pass, source, *at + 1);
             *at = behind;
             Ok(next)
         }

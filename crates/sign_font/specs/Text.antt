@@ -12,6 +12,10 @@ width_numbered font number = option_map (λ cell. cell.width) (cell_numbered fon
 abbrev pub width_in : SignData → ℕ → ℕ → Option ℕ
 width_in sign font number = option_map (λ cell. cell.width) (cell_in sign font number)
 
+-- each number has the width in the font of a number that it has in this font (own)
+abbrev pub AreWidthsOf : SignData → ℕ → FontData → Type 0
+AreWidthsOf sign number font = (octet : ℕ) → width_in sign number octet ≡ width_numbered font octet
+
 -- each octet of a text has a width by this function, from 1 to 64, and their sum, with a gap before each, is this number of pixels (own)
 pub record HasWidth (width_of : ℕ → Option ℕ) (gap : ℕ) (text : List ℕ) (pixels : ℕ) : Type 0 where
   pub widths : List ℕ

@@ -1,7 +1,7 @@
 //! A font, as a sign keeps it and as it is asked for.
 
 ghost use Rattle.std.specs.Prelude.{◌≡◌, ℕ, IfOk, IfSome, option_map};
-ghost use Rattle.multi_token.specs.Counted.{RisesBetween};
+ghost use Rattle.multi_token.specs.Counted.{RisesBetween, charged};
 ghost use Rattle.sign_font.specs.Advance.{AreAdvances};
 ghost use Rattle.sign_font.specs.Sign.{font_of, info_of, cell_numbered, sized};
 ghost use Rattle.sign_font.specs.Sound.{IsSoundFont, IsSoundSize, IsWithin};
@@ -27,6 +27,56 @@ pub struct FontInfo {
     pub char_spacing: u8,
     /// Rows between two lines, in pixels.
     pub line_spacing: u8,
+}
+
+/// A font of a sign, in which the cells of octets are looked up (own). Each look at a cell counts as one step.
+#[derive(Drop)]
+pub struct FontCells<'a> {
+    font: &'a Font,
+}
+
+impl<'a> Model for FontCells<'a> {
+    ghost use Rattle.sign_font.specs.Sign.{FontData};
+    ghost use Rattle.sign_font.specs.Sound.{IsSoundFont};
+
+    ghost Value = { FontData };
+
+    ghost view = { λ c. c.font.now };
+
+    ghost invariant = { λ c. IsSoundFont c.font.now };
+}
+
+impl<'a> FontCells<'a> {
+    /// The cells of a font that is kept so.
+    pub(crate) fn new(font: &'a Font) -> FontCells<'a>
+        requires { IsSoundFont font.now }
+        ensures { result ≡ font.now }
+    {
+        FontCells { font }
+    }
+
+    /// The width in pixels of the cell of an octet: 1 to 64, or `None` if the font lacks it. Either way this takes one step.
+    pub fn width(&self, source: &mut Source<'_>, octet: u8) -> Option<u8>
+        ensures width { result ≡ width_numbered self.now octet }
+        ensures size { IfSome result (IsWithin 1 64) }
+        ensures step { source.new ≡ charged source.old 1 }
+    {
+        source.charge(1);
+        let font = self.font;
+        font.cell_width(octet)
+    }
+
+    /// By octet, what it takes of a line: the width of its cell in pixels, 1 to 64. A bracket, an octet without a cell and, where `words`
+    /// is set, a space take more than any line has, so that they end a run.
+    ///
+    /// Only [`Source::read_run`] can read the table, and counts each look.
+    pub fn advances(&self, words: bool) -> &Advances
+        ensures table { AreAdvances (width_numbered self.now) words result.now }
+        ensures sound { IsSoundFont self.now }
+    {
+        let font = self.font;
+        font.advances(words)
+    }
 }
 
 /// A font as a sign keeps it.

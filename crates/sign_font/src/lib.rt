@@ -21,7 +21,7 @@ mod sign;
 
 pub use cell::Cell;
 pub use fault::{DefaultFault, SignFault};
-pub use font::FontInfo;
+pub use font::{FontCells, FontInfo};
 pub use parts::{CellPart, Defaults, FontPart, LineFill, SignParts};
 pub use sample::sample_sign;
 pub use sign::Sign;

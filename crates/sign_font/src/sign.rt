@@ -4,26 +4,25 @@ ghost use Rattle.std.specs.Prelude.{◌≡◌, ℕ, ◌+◌, ◌<◌, ◌≤◌,
 ghost use Rattle.std.specs.Option.{option_copied};
 ghost use Rattle.multi_token.specs.Counted.{charged, RisesBetween};
 ghost use Rattle.sign_font.specs.Sign.{sign_of, font_of, font_numbered, info_of, cell_in, tallest};
-ghost use Rattle.sign_font.specs.Advance.{AreAdvances};
 ghost use Rattle.sign_font.specs.Defaults.{default_fault, under};
 ghost use Rattle.sign_font.specs.Limits.{first_fault};
 ghost use Rattle.sign_font.specs.Sound.{IsSound, IsSoundFont, IsSoundSize, IsWithin};
-ghost use Rattle.sign_font.specs.Text.{width_in};
+ghost use Rattle.sign_font.specs.Text.{AreWidthsOf};
 
 use crate::cell::Cell;
 use crate::fault::{DefaultFault, SignFault};
-use crate::font::{Font, FontInfo};
+use crate::font::{Font, FontCells, FontInfo};
 use crate::fonts::Fonts;
 use crate::glyphs::count_miss;
 use crate::limits::{are_known, first_fault};
 use crate::parts::{Defaults, FontPart, LineFill, SignParts};
-use multi_token::{Advances, Source};
+use multi_token::Source;
 use std::alloc::{AllocError, Global};
 use std::marker::Model;
 
 /// A sign within its limits, with its fonts (own).
 ///
-/// Only `font`, `advances`, `cell` and `cell_width` look up its fonts and their cells, and each look counts as one step. `cell` and
+/// Only `font`, `cells`, `cell` and `cell_width` look up its fonts and their cells, and each look counts as one step. `cell` and
 /// `cell_width` take one to eight for a number above 255. All other calls take no step.
 #[derive(Drop)]
 pub struct Sign {
@@ -248,19 +247,15 @@ impl Sign {
         }
     }
 
-    /// By octet, what it takes of a line in the font of a number, or `None` if the sign has no such font: the width of its cell in
-    /// pixels, 1 to 64. A bracket, an octet without a cell and, where `words` is set, a space take more than any line has, so that
-    /// they end a run. Either way this takes one step.
-    ///
-    /// Only [`Source::read_run`] can read the table, and counts each look.
-    pub fn advances(&self, source: &mut Source<'_>, font: u8, words: bool) -> Option<&Advances>
-        ensures table { IfSome result (λ table. AreAdvances (width_in self.now font) words table.now) }
-        ensures none { IfNone result ((octet : ℕ) → width_in self.now font octet ≡ None) }
+    /// The font of a number, in which the cells of octets are looked up, or `None` if the sign has none. Either way this takes one step.
+    pub fn cells(&self, source: &mut Source<'_>, font: u8) -> Option<FontCells<'_>>
+        ensures cells { result ≡ font_numbered self.now font }
+        ensures widths { IfSome result (AreWidthsOf self.now font) }
         ensures step { source.new ≡ charged source.old 1 }
         ensures sound { IsSound self.now }
     {
         match self.probe(source, font) {
-            Some(font) => Some(font.advances(words)),
+            Some(font) => Some(FontCells::new(font)),
             None => None,
         }
     }

@@ -168,9 +168,9 @@ fn only_making_a_sign_takes_memory(rt: HostRuntime) {
     let wide = look(&sign, 1, 65535) == (None, 2) && look(&sign, 9, 65535) == (None, 1);
     // an A of 3 columns and an I of one, each with a gap of one before it
     let mut text = Source::new(b"AIA");
-    let whole = sign.advances(&mut text, 1, false).is_some_and(|table| text.read_run(
-        0, table, 1, 0, 6,
-    ) == run(2, 6, Some(65)));
+    let whole = sign.cells(&mut text, 1).is_some_and(|cells| text.read_run(
+        0, cells.advances(false), 1, 0, 6,
+    ) == run(2, 6, Some(65)) && cells.width(&mut text, 65) == Some(3));
     so(&rt, large & wide & whole, "large & wide & whole");
     let own = sign.defaults();
     so(
@@ -279,16 +279,22 @@ fn a_run_is_as_wide_as_its_cells_and_gaps(rt: HostRuntime) -> Result<(), Fail> {
     ];
     for (words, text, gap, room, expected, steps) in rows {
         let mut source = Source::new(text);
-        let Some(table) = sign.advances(&mut source, 2, words) else {
+        let Some(cells) = sign.cells(&mut source, 2) else {
             panic!(rt; "there is a font 2");
         };
-        let found = source.read_run(0, table, gap, 0, room);
+        let found = source.read_run(0, cells.advances(words), gap, 0, room);
         assert!(rt; found == expected, "of {text:?}");
         assert!(rt; source.steps() == steps, "over {text:?}");
     }
     let mut source = Source::new(b"AB");
-    let none = sign.advances(&mut source, 9, false).is_none();
+    let none = sign.cells(&mut source, 9).is_none();
     so(&rt, none && source.steps() == 1, "there is no font 9");
+    // the font is one step, and each look at a cell
+    let mut source = Source::new(b"");
+    let found = sign.cells(&mut source, 2).is_some_and(|cells| {
+        cells.width(&mut source, b'A') == Some(2) && cells.width(&mut source, 0).is_none()
+    });
+    so(&rt, found && source.steps() == 3, "a cell and none");
     Ok(())
 }
 

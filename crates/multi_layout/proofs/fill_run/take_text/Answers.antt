@@ -23,6 +23,7 @@ loop-behind-init c =
         fits = c.requires.run;
         runs = c.run-run.ensures.run (laid_items Words c.args.sign.now items items) c.args.sign.now r.is.of.state_is c.requires.run.fits;
         left = omega (arith, c.run-run.ensures.left, c.room-most.ensures.most);
+        widths = c.requires.cells;
       },
       omega arith,
     )
@@ -38,7 +39,7 @@ pub loop-behind-preserved : goal.loop-behind-preserved
 loop-behind-preserved c =
     let (further, text) = c.take_word.ensures.spaced c.in-Spaced.behind c.in-Spaced.is in
     let from = c.loop-behind.invariant.1 in
-    (subst (λ (os : List ℕ). IsInText c.args.sign.now os c.in-Spaced.behind c.take_word.new.run c.take_word.new.pass c.take_word.new.source) c.loop-behind.invariant.0.behind.same text, omega (arith, further, from))
+    (subst (λ (os : List ℕ). IsInText c.args.sign.now c.args.cells.now os c.in-Spaced.behind c.take_word.new.run c.take_word.new.pass c.take_word.new.source) c.loop-behind.invariant.0.behind.same text, omega (arith, further, from))
 
 pub returns-in-Ended-clause-further : goal.returns-in-Ended-clause-further
 returns-in-Ended-clause-further c =
