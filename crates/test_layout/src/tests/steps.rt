@@ -237,7 +237,7 @@ struct Row {
     clock: u64,
     page: u8,
     /// What spaces and octets without room take more than others: they end a run, and are looked at once more, a space without
-    /// room twice; and a run that begins behind them looks up its font.
+    /// room twice; what has no room looks up its font, and so does what stands behind a dropped space.
     again: u64,
     /// The spaces of the page that are dropped: to draw them no cell is looked up.
     dropped: u64,
@@ -340,13 +340,13 @@ fn each_step_is_a_read_or_a_look(rt: HostRuntime) -> Result<(), Fail> {
     }
 
     let rows = [
-        filled(b"AA AA", 0, 0, 4, 1),
+        filled(b"AA AA", 0, 0, 3, 1),
         filled(b"A A A", 0, 0, 5, 1),
         filled(b" AAA", 0, 0, 2, 1),
         filled(b"AA[hc20]AA", 0, 0, 0, 1),
-        filled(b"[jl2]A A[jl4]AA", 0, 0, 2, 1),
+        filled(b"[jl2]A A[jl4]AA", 0, 0, 1, 1),
         // behind its dropped space no run begins, so that the bracket isn't looked at
-        filled(b"[jp2]AAA [jp4]A", 0, 0, 1, 1),
+        filled(b"[jp2]AAA [jp4]A", 0, 0, 2, 1),
         filled(b"[tr1,1,3,0]A A[np]AA AA", 30, 1, 7, 1),
         plain(b"AAA[nl] A", 0, 0),
     ];
