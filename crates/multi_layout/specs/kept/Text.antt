@@ -13,12 +13,13 @@ use Rattle.multi_layout.specs.kept.Run.{IsRun, line_in_force}
 
 -- the items before an offset are judged, the last of them is a character whose attributes are in force, their font has these cells, and
 -- these are the gap and the room of those behind it (own)
-pub record IsInText (sign : SignData) (cells : FontData) (octets : List ℕ) (at : ℕ) (run : Run) (pass : Pass) (source : Counted) : Type 0 where
-  pub behind : IsBehind sign octets at (IsFilledFor sign pass) source
-  pub fits : IsFilledRun pass
-  pub runs : IsRun pass.state run.gap ((line_in_force pass.state).part.width + run.left)
-  pub left : run.left < 2 ^ 16
-  pub widths : AreWidthsOf sign pass.state.attributes.font.number cells
+pub record IsInText (sign : SignData) (cells : FontData) (octets : List ℕ) (at : ℕ) (run : Run) (pass : Pass) (source : Counted) : Type 0
+  where
+    pub behind : IsBehind sign octets at (IsFilledFor sign pass) source
+    pub fits : IsFilledRun pass
+    pub runs : IsRun pass.state run.gap ((line_in_force pass.state).part.width + run.left)
+    pub left : run.left < 2 ^ 16
+    pub widths : AreWidthsOf sign pass.state.attributes.font.number cells
 
 -- a space whose cell among these has this width in pixels is taken: it fits what is left (own)
 pub record TakesSpace (cells : FontData) (run : Run) (pass : Pass) (width : ℕ) (run' : Run) (pass' : Pass) : Type 0 where

@@ -169,8 +169,13 @@ fn only_making_a_sign_takes_memory(rt: HostRuntime) {
     // an A of 3 columns and an I of one, each with a gap of one before it
     let mut text = Source::new(b"AIA");
     let whole = sign.cells(&mut text, 1).is_some_and(|cells| text.read_run(
-        0, cells.advances(false), 1, 0, 6,
-    ) == run(2, 6, Some(65)) && cells.width(&mut text, 65) == Some(3));
+        0,
+        cells.advances(false),
+        1,
+        0,
+        6,
+    ) == run(2, 6, Some(65))
+        && cells.width(&mut text, 65) == Some(3));
     so(&rt, large & wide & whole, "large & wide & whole");
     let own = sign.defaults();
     so(

@@ -17,7 +17,7 @@ returns-clause-width c = λ sign font widths.
     let word = c.args.word in
     let sound = λ (octet : ℕ). subst (λ w. IfSome w (IsWithin 1 64)) (sym (widths octet)) (width_sound cells octet c.advances.ensures.sound) in
     let tables : AreAdvances (width_in sign font) word c.advances.result.now = λ octet h.
-        c.advances.ensures.table octet h ∙ ap (λ (o : Option ℕ). if ends_run word octet then 32768 else unwrap_or o 32768) (sym (widths octet)) in
+    c.advances.ensures.table octet h ∙ ap (λ (o : Option ℕ). if ends_run word octet then 32768 else unwrap_or o 32768) (sym (widths octet)) in
     let has = front_width (width_in sign font) word sound c.advances.result.now tables
     c.from.result c.min-room.result octets c.read_run.result.len r.run (omega (arith, c.min-room.ensures)) r.octets in
     let wide : c.read_run.result.width ≡ taken c.advances.result.now c.from.result (take c.read_run.result.len octets) = omega (arith, r.width) in
