@@ -2,12 +2,12 @@
 use Rattle.std.specs.Prelude.{◌≡◌, ◌⊎◌, ℕ, ◌*◌, ◌^◌, ◌<◌, ◌≤◌, Bool, false, List, ◌++◌, drop, length, Some}
 use Rattle.page_plane.specs.Octets.{bit_place, is_bit_set, row_octets}
 use Rattle.sign_font.specs.Sign.{SignData}
-use Rattle.multi_layout.specs.declared.times.Shown.{Shown}
-use Rattle.multi_layout.specs.declared.times.Shown.TheVariants.{Off, Page}
-use Rattle.multi_layout.specs.Meaning.{meanings}
-use Rattle.multi_layout.specs.Picture.{pixel_at}
-use Rattle.multi_layout.specs.Times.{shown}
-use Rattle.multi_layout.specs.Verdict.{Accepted, IsVerdict, Refused, pages_of}
+use Rattle.multi_meaning.specs.declared.times.Shown.{Shown}
+use Rattle.multi_meaning.specs.declared.times.Shown.TheVariants.{Off, Page}
+use Rattle.multi_meaning.specs.Meaning.{meanings}
+use Rattle.multi_meaning.specs.Picture.{pixel_at}
+use Rattle.multi_meaning.specs.Times.{shown}
+use Rattle.multi_meaning.specs.Verdict.{Accepted, IsVerdict, Refused, pages_of}
 use Rattle.page_picture.specs.Shown.{colours}
 use Rattle.latsefur_c.specs.declared.seen.When.{When}
 use Rattle.latsefur_c.specs.declared.seen.When.TheVariants as when

@@ -2,9 +2,9 @@
 use Rattle.std.specs.Prelude.{◌≡◌, ◌⊎◌, ◌<◌, ℕ, ◌*◌, true, false, List, Option, Some, None, IsSomeAnd, ◌++◌, drop, length}
 use Rattle.page_plane.specs.Octets.{octet_count, row_octets}
 use Rattle.page_plane.specs.Plane.{BitPlane, is_lit}
-use Rattle.multi_layout.specs.Meaning.{meanings}
-use Rattle.multi_layout.specs.Picture.{pixel_at}
-use Rattle.multi_layout.specs.Times.{shown}
+use Rattle.multi_meaning.specs.Meaning.{meanings}
+use Rattle.multi_meaning.specs.Picture.{pixel_at}
+use Rattle.multi_meaning.specs.Times.{shown}
 use Rattle.sign_font.specs.Defaults.{under}
 use Rattle.sign_control.specs.Colours.{WritesColours}
 use Rattle.sign_control.specs.Headline.{shown_by, shown_now}

@@ -1,8 +1,8 @@
 -- The pages of a text on the sign that a controller of a handle holds.
 use Rattle.std.specs.Prelude.{◌≡◌, ◌⊎◌, ◌<◌, ℕ, ◌*◌, true, false, List, Option, Some, None, IsSomeAnd, length}
 use Rattle.page_plane.specs.Octets.{row_octets}
-use Rattle.multi_layout.specs.declared.times.Shown.{Shown}
-use Rattle.multi_layout.specs.declared.times.Shown.TheVariants.{Page}
+use Rattle.multi_meaning.specs.declared.times.Shown.{Shown}
+use Rattle.multi_meaning.specs.declared.times.Shown.TheVariants.{Page}
 use Rattle.sign_control.specs.Colours.{WritesColours}
 use Rattle.sign_control.specs.declared.page.NoPage.{NoPage}
 use Rattle.sign_control.specs.declared.page.NoPage.TheVariants as why

@@ -1,7 +1,7 @@
 -- The verdict on a text, as a host gets it.
 use Rattle.std.specs.Prelude.{◌≡◌, ◌⊎◌, ◌^◌, ◌<◌, ◌≤◌, ℕ, List, length, slice_get, Some}
 use Rattle.sign_font.specs.Sign.{SignData}
-use Rattle.multi_layout.specs.Verdict.{Accepted, IsCycle, IsVerdict, Refused}
+use Rattle.multi_meaning.specs.Verdict.{Accepted, IsCycle, IsVerdict, Refused}
 use Rattle.latsefur_c.specs.declared.check.LatsefurVerdict.{LatsefurVerdict}
 use Rattle.latsefur_c.specs.Outcome.{HasNoSign, sign_of_file}
 

@@ -1,8 +1,8 @@
 //! What is seen of a text, drawn.
 ghost use Rattle.std.specs.Prelude.{◌≡◌, IfOk};
 ghost use Rattle.page_plane.specs.Plane.{is_lit};
-ghost use Rattle.multi_layout.specs.Meaning.{meanings};
-ghost use Rattle.multi_layout.specs.Picture.{pixel_at};
+ghost use Rattle.multi_meaning.specs.Meaning.{meanings};
+ghost use Rattle.multi_meaning.specs.Picture.{pixel_at};
 ghost use Rattle.page_picture.specs.Shown.{IsThere};
 ghost use Rattle.latsefur_c.specs.Drawn.{HoldsPlane};
 

@@ -6,15 +6,15 @@ use Rattle.std.specs.Option.{option_map, unwrap_or}
 use Rattle.multi_tag.specs.declared.tag.Tag.TheVariants.{NewPage, NewLine}
 use Rattle.sign_font.specs.declared.parts.LineFill.{LineFill}
 use Rattle.sign_font.specs.Sign.{CellData, SignData, cell_numbered}
-use Rattle.multi_layout.specs.Address.{Break, Cover, Glyph, Put, Spot, Standing, is_break, spot_at, spots, standing}
-use Rattle.multi_layout.specs.Attributes.{given_flash}
-use Rattle.multi_layout.specs.declared.attributes.FlashTimes.{FlashTimes}
-use Rattle.multi_layout.specs.Laid.{laid_spot}
-use Rattle.multi_layout.specs.LaidItems.{laid_of, laid_out}
-use Rattle.multi_layout.specs.Line.{given_gap}
-use Rattle.multi_layout.specs.Meaning.{Does, Meaning, Shows, is_new_page}
-use Rattle.multi_layout.specs.Words.{each_after, some_after}
-use Rattle.multi_layout.proofs.StandingLemmas.{standing_push}
+use Rattle.multi_meaning.specs.Address.{Break, Cover, Glyph, Put, Spot, Standing, is_break, spot_at, spots, standing}
+use Rattle.multi_meaning.specs.Attributes.{given_flash}
+use Rattle.multi_meaning.specs.declared.attributes.FlashTimes.{FlashTimes}
+use Rattle.multi_meaning.specs.Laid.{laid_spot}
+use Rattle.multi_meaning.specs.LaidItems.{laid_of, laid_out}
+use Rattle.multi_meaning.specs.Line.{given_gap}
+use Rattle.multi_meaning.specs.Meaning.{Does, Meaning, Shows, is_new_page}
+use Rattle.multi_meaning.specs.Words.{each_after, some_after}
+use Rattle.multi_meaning.proofs.StandingLemmas.{standing_push}
 use Rattle.message_change.specs.Change.{IsBefore, flash_left, flash_on, page_flashes}
 
 -- an item as it is laid out: the item itself, or the end of a line for one that begins no page and gives no flash

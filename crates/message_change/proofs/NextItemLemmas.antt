@@ -13,7 +13,7 @@ use Rattle.multi_tag.specs.declared.tag.Tag.{Tag}
 use Rattle.multi_tag.specs.declared.tag.TagFault.{TagFault}
 use Rattle.multi_tag.specs.declared.tag.TagFault.TheVariants.{Unsupported, Value}
 use Rattle.multi_tag.specs.declared.tag.Tag.TheVariants.{NewPage, NewLine, LineJust, PageJust, Font, CharSpacing, CharSpacingEnd, PageTime, Flash, FlashEnd, Fore, Back, Rect, HexChar}
-use Rattle.multi_layout.specs.Meaning.{Does, Faulty, Meaning, is_new_page, meaning, meaning_of_tag, meanings}
+use Rattle.multi_meaning.specs.Meaning.{Does, Faulty, Meaning, is_new_page, meaning, meaning_of_tag, meanings}
 use Rattle.message_change.specs.kept.Walk.{IsSaid, is_page_said}
 
 -- what is left behind an item is read as if it stood alone

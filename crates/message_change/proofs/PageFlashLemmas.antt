@@ -5,12 +5,12 @@ use Rattle.std.proofs.lemmas.List.Sums.{fold-append, sum_by-append, sum_by-cons}
 use Rattle.std.specs.List.{cons_option, count_by}
 use Rattle.multi_tag.specs.declared.tag.Tag.TheVariants.{NewPage}
 use Rattle.sign_font.specs.Sign.{SignData}
-use Rattle.multi_layout.specs.Address.{Standing, standing}
-use Rattle.multi_layout.specs.declared.attributes.FlashTimes.{FlashTimes}
-use Rattle.multi_layout.specs.Meaning.{Does, Meaning, is_new_page}
-use Rattle.multi_layout.specs.Words.{some_after}
-use Rattle.multi_layout.proofs.StandingLemmas.{standing_push}
-use Rattle.multi_layout.proofs.WordLemmas.{push_ind, some_after-append, some_after_push}
+use Rattle.multi_meaning.specs.Address.{Standing, standing}
+use Rattle.multi_meaning.specs.declared.attributes.FlashTimes.{FlashTimes}
+use Rattle.multi_meaning.specs.Meaning.{Does, Meaning, is_new_page}
+use Rattle.multi_meaning.specs.Words.{some_after}
+use Rattle.multi_meaning.proofs.StandingLemmas.{standing_push}
+use Rattle.multi_meaning.proofs.WordLemmas.{push_ind, some_after-append, some_after_push}
 use Rattle.message_change.specs.Change.{flash_left, flash_on, flashes_left, is_shown, page_flashes, sooner}
 
 pub page_is : (sign : SignData) (before : List Meaning) → (standing sign before).page ≡ count_by is_new_page before

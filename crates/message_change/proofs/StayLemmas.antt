@@ -6,16 +6,16 @@ use Rattle.std.specs.List.{AllByRecursion, filter_map, last_or}
 use Rattle.std.specs.Option.{unwrap_or}
 use Rattle.sign_font.specs.Cell as cells
 use Rattle.sign_font.specs.Sign.{SignData, sized}
-use Rattle.multi_layout.specs.Address.{Break, Cover, Glyph, Put, Spot, spots}
-use Rattle.multi_layout.specs.declared.times.Shown.{Shown}
-use Rattle.multi_layout.specs.declared.times.Shown.TheVariants.{Off, Page}
-use Rattle.multi_layout.specs.LaidItems.{laid_out}
-use Rattle.multi_layout.specs.Meaning.{Meaning, meanings}
-use Rattle.multi_layout.specs.Picture.{in_plane, pixel_at, shown_colour, thing_at, things, things_among}
-use Rattle.multi_layout.specs.Place.{place_of}
-use Rattle.multi_layout.specs.Times.{Times, cycle, page_times, shown, shown_within}
-use Rattle.multi_layout.proofs.PixelLemmas.{all_same, pick, picked}
-use Rattle.multi_layout.proofs.TimesLemmas.{cycle_within, shown_always, shown_modulo}
+use Rattle.multi_meaning.specs.Address.{Break, Cover, Glyph, Put, Spot, spots}
+use Rattle.multi_meaning.specs.declared.times.Shown.{Shown}
+use Rattle.multi_meaning.specs.declared.times.Shown.TheVariants.{Off, Page}
+use Rattle.multi_meaning.specs.LaidItems.{laid_out}
+use Rattle.multi_meaning.specs.Meaning.{Meaning, meanings}
+use Rattle.multi_meaning.specs.Picture.{in_plane, pixel_at, shown_colour, thing_at, things, things_among}
+use Rattle.multi_meaning.specs.Place.{place_of}
+use Rattle.multi_meaning.specs.Times.{Times, cycle, page_times, shown, shown_within}
+use Rattle.multi_meaning.proofs.PixelLemmas.{all_same, pick, picked}
+use Rattle.multi_meaning.proofs.TimesLemmas.{cycle_within, shown_always, shown_modulo}
 use Rattle.message_change.specs.Change.{IsBefore, IsSamePage, Stays, change_at, change_of, change_within, flashes_left, page_flashes, sooner, times_left}
 use Rattle.message_change.proofs.FlashLemmas.{before_all, before_both, mod_on, steady}
 use Rattle.message_change.proofs.LaidLemmas.{IsSteady, laid_out_steady}

@@ -2,9 +2,9 @@
 use Rattle.std.proofs.Common.{◌≡◌, ◌⊎◌, ℕ, ◌+◌, ◌-◌, ◌<◌, ◌≤◌, cond, List, [], ◌∷◌, ◌++◌, length, refl, ap, ◌∙◌, inl, inr, arith}
 use Rattle.std.proofs.lemmas.Bool.{cases_lt, le-ltb, lt-ltb}
 use Rattle.std.proofs.lemmas.List.Sums.{sum_by-cons}
-use Rattle.multi_layout.specs.declared.times.Shown.TheVariants.{Off, Page}
-use Rattle.multi_layout.specs.Times.{Times, cycle, shown_within}
-use Rattle.multi_layout.proofs.TimesLemmas.{shown_off, shown_on}
+use Rattle.multi_meaning.specs.declared.times.Shown.TheVariants.{Off, Page}
+use Rattle.multi_meaning.specs.Times.{Times, cycle, shown_within}
+use Rattle.multi_meaning.proofs.TimesLemmas.{shown_off, shown_on}
 use Rattle.message_change.specs.Change.{part_left, times_left}
 
 -- pages of which one has the time: those before it are over, and its own times aren't

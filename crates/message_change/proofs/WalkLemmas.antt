@@ -7,15 +7,15 @@ use Rattle.std.specs.Option.{option_map}
 use Rattle.multi_tag.specs.declared.tag.Tag.TheVariants.{NewPage}
 use Rattle.sign_font.specs.declared.parts.Defaults.{Defaults}
 use Rattle.sign_font.specs.Sign.{SignData}
-use Rattle.multi_layout.specs.Address.{Standing, standing}
-use Rattle.multi_layout.specs.Meaning.{Does, Meaning, is_new_page, meanings}
-use Rattle.multi_layout.specs.kept.State.{standing_behind}
-use Rattle.multi_layout.specs.Times.{Times, cycle, ended_times, page_times, times_at}
-use Rattle.multi_layout.specs.Verdict.{Accepted, IsCycle, IsVerdict}
-use Rattle.multi_layout.proofs.StandingLemmas.{standing_push}
-use Rattle.multi_layout.proofs.TimesLemmas.{cycle_push, ended_count, times_are, times_are_all, times_count}
-use Rattle.multi_layout.proofs.AcceptedLemmas.{accepted_is, cycle_is}
-use Rattle.multi_layout.proofs.WordLemmas.{some_after_push}
+use Rattle.multi_meaning.specs.Address.{Standing, standing}
+use Rattle.multi_meaning.specs.Meaning.{Does, Meaning, is_new_page, meanings}
+use Rattle.multi_meaning.specs.kept.Present.{standing_behind}
+use Rattle.multi_meaning.specs.Times.{Times, cycle, ended_times, page_times, times_at}
+use Rattle.multi_meaning.specs.Verdict.{Accepted, IsCycle, IsVerdict}
+use Rattle.multi_meaning.proofs.StandingLemmas.{standing_push}
+use Rattle.multi_meaning.proofs.TimesLemmas.{cycle_push, ended_count, times_are, times_are_all, times_count}
+use Rattle.multi_meaning.proofs.AcceptedLemmas.{accepted_is, cycle_is}
+use Rattle.multi_meaning.proofs.WordLemmas.{some_after_push}
 use Rattle.message_change.specs.Change.{change_at, change_of, change_within, flash_left, flash_on, flashes_left, is_shown, page_flashes, part_left, sooner, times_left}
 use Rattle.message_change.specs.declared.walk.Walk.{Walk}
 use Rattle.message_change.specs.kept.Walk.{IsIn, page_left, times_of}

@@ -2,14 +2,14 @@
 use Rattle.std.specs.Prelude.{◌≡◌, ℕ, ◌+◌, ◌-◌, ◌%◌, ◌<◌, Bool, true, false, ◌||◌, ◌&&◌, ◌==◌, nat_lt, min, List, [], ◌∷◌, length, Option, Some, None, if◌then◌else◌}
 use Rattle.std.specs.List.{fold}
 use Rattle.sign_font.specs.Sign.{SignData}
-use Rattle.multi_layout.specs.Address.{Standing, standing}
-use Rattle.multi_layout.specs.declared.attributes.FlashTimes.{FlashTimes}
-use Rattle.multi_layout.specs.declared.times.Shown.{Shown}
-use Rattle.multi_layout.specs.declared.times.Shown.TheVariants.{Page, Off}
-use Rattle.multi_layout.specs.Meaning.{Meaning, Shows, meanings}
-use Rattle.multi_layout.specs.Picture.{pixel_at}
-use Rattle.multi_layout.specs.Times.{Times, cycle, page_times, shown, shown_within}
-use Rattle.multi_layout.specs.Words.{some_after}
+use Rattle.multi_meaning.specs.Address.{Standing, standing}
+use Rattle.multi_meaning.specs.declared.attributes.FlashTimes.{FlashTimes}
+use Rattle.multi_meaning.specs.declared.times.Shown.{Shown}
+use Rattle.multi_meaning.specs.declared.times.Shown.TheVariants.{Page, Off}
+use Rattle.multi_meaning.specs.Meaning.{Meaning, Shows, meanings}
+use Rattle.multi_meaning.specs.Picture.{pixel_at}
+use Rattle.multi_meaning.specs.Times.{Times, cycle, page_times, shown, shown_within}
+use Rattle.multi_meaning.specs.Words.{some_after}
 
 -- the sooner of two changes, in tenths of a second from now on; `None` is never (own)
 abbrev pub sooner : Option ℕ → Option ℕ → Option ℕ

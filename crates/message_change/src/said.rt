@@ -2,7 +2,7 @@
 ghost use Rattle.std.specs.Prelude.{◌≡◌, ◌+◌, ◌-◌, ◌*◌, ◌≤◌, [], drop, length, IfNone, IfSome};
 ghost use Rattle.multi_token.specs.Counted.{RisesBetween};
 ghost use Rattle.multi_token.specs.Tokens.{IsTokenOf, item_of};
-ghost use Rattle.multi_layout.specs.Meaning.{meaning, meanings};
+ghost use Rattle.multi_meaning.specs.Meaning.{meaning, meanings};
 ghost use Rattle.message_change.specs.kept.Walk.{IsNext, IsSaid, is_page_said};
 
 use multi_tag::{Tag, read_tag};

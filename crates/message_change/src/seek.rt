@@ -2,8 +2,8 @@
 ghost use Rattle.std.specs.Prelude.{◌≡◌, ◌+◌, ◌*◌, ◌^◌, ◌<◌, ◌≤◌, length};
 ghost use Rattle.multi_token.specs.Counted.{RisesBetween};
 ghost use Rattle.sign_font.specs.Sign.{SignData};
-ghost use Rattle.multi_layout.specs.Meaning.{meanings};
-ghost use Rattle.multi_layout.specs.Times.{cycle, page_times};
+ghost use Rattle.multi_meaning.specs.Meaning.{meanings};
+ghost use Rattle.multi_meaning.specs.Times.{cycle, page_times};
 ghost use Rattle.message_change.specs.Change.{change_at, change_within, flashes_left, page_flashes};
 
 use crate::said::next_said;

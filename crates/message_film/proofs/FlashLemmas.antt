@@ -23,15 +23,15 @@ use Rattle.multi_tag.specs.declared.tag.TagFault.TheVariants.{Unsupported, Value
 use Rattle.multi_tag.proofs.TagOfLemmas.{tag_of-read}
 use Rattle.sign_font.specs.declared.parts.Defaults.{Defaults}
 use Rattle.sign_font.specs.Sign.{SignData}
-use Rattle.multi_layout.specs.Attributes.{given_flash}
-use Rattle.multi_layout.specs.declared.attributes.FlashTimes.{FlashTimes}
-use Rattle.multi_layout.specs.Meaning.{Meaning, meaning, meaning_of_tag, meanings}
-use Rattle.multi_layout.proofs.MeaningLemmas.{meaning-tag}
+use Rattle.multi_meaning.specs.Attributes.{given_flash}
+use Rattle.multi_meaning.specs.declared.attributes.FlashTimes.{FlashTimes}
+use Rattle.multi_meaning.specs.Meaning.{Meaning, meaning, meaning_of_tag, meanings}
+use Rattle.multi_meaning.proofs.MeaningLemmas.{meaning-tag}
 use Rattle.message_film.specs.Period.{Allows, Divides, EndsFlashes, IsCommonTime, IsFlashPeriod, IsPeriod, PlaysFor, flash_time, times_of}
-use Rattle.multi_layout.specs.Times.{cycle}
-use Rattle.multi_layout.specs.Verdict.{Accepted, IsCycle, IsVerdict, broken, of_first, offences, pages_of, verdict_on}
-use Rattle.multi_layout.proofs.AcceptedLemmas.{cycle_is}
-use Rattle.multi_layout.proofs.TimesLemmas.{times_count}
+use Rattle.multi_meaning.specs.Times.{cycle}
+use Rattle.multi_meaning.specs.Verdict.{Accepted, IsCycle, IsVerdict, broken, of_first, offences, pages_of, verdict_on}
+use Rattle.multi_meaning.proofs.AcceptedLemmas.{cycle_is}
+use Rattle.multi_meaning.proofs.TimesLemmas.{times_count}
 use Rattle.message_film.proofs.PeriodLemmas
 
 -- MULTIPLES

@@ -4,8 +4,8 @@ use Rattle.std.proofs.Math.Nat.{mul-le-mul_right}
 use Rattle.std.proofs.lemmas.Grind.{flat_map-append}
 use Rattle.std.specs.List.{flat_map, range_with_len}
 use Rattle.sign_font.specs.Sign.{SignData}
-use Rattle.multi_layout.specs.declared.times.Shown.{Shown}
-use Rattle.multi_layout.specs.Times.{shown}
+use Rattle.multi_meaning.specs.declared.times.Shown.{Shown}
+use Rattle.multi_meaning.specs.Times.{shown}
 use Rattle.page_picture.proofs.ColourLemmas.{value_of}
 use Rattle.page_picture.specs.Dots.{dot_line, dots, line_points, row_points, value_at}
 use Rattle.page_picture.specs.Shown.{colours, shown_colour_at}

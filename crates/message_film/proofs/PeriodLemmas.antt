@@ -7,19 +7,19 @@ use Rattle.std.specs.Option.{option_map, option_map_or, unwrap_or}
 use Rattle.sign_font.specs.declared.parts.Defaults.{Defaults}
 use Rattle.sign_font.specs.Cell as cells
 use Rattle.sign_font.specs.Sign.{SignData, sized}
-use Rattle.multi_layout.specs.Address.{Spot, Standing, Put, Glyph, Break, Cover, is_break, put_at, spot_at, spots, standing}
-use Rattle.multi_layout.specs.Attributes.{given_flash}
-use Rattle.multi_layout.specs.declared.attributes.FlashTimes.{FlashTimes}
-use Rattle.multi_layout.specs.declared.times.Shown.TheVariants.{Page}
-use Rattle.multi_layout.specs.LaidItems.{laid_of, laid_out}
-use Rattle.multi_layout.specs.Laid.{laid_spot}
-use Rattle.multi_layout.specs.Meaning.{Meaning, meanings}
-use Rattle.multi_layout.specs.Picture.{in_plane, is_lit_at, pixel_at, shown_colour, thing_at, things, things_among}
-use Rattle.multi_layout.specs.Place.{place_of}
-use Rattle.multi_layout.specs.Times.{cycle, shown_at, shown_within}
-use Rattle.multi_layout.specs.Words.{each_after, some_after}
-use Rattle.multi_layout.proofs.PixelLemmas.{all_same, pick, picked}
-use Rattle.multi_layout.proofs.TimesLemmas.{shown_always, shown_modulo}
+use Rattle.multi_meaning.specs.Address.{Spot, Standing, Put, Glyph, Break, Cover, is_break, put_at, spot_at, spots, standing}
+use Rattle.multi_meaning.specs.Attributes.{given_flash}
+use Rattle.multi_meaning.specs.declared.attributes.FlashTimes.{FlashTimes}
+use Rattle.multi_meaning.specs.declared.times.Shown.TheVariants.{Page}
+use Rattle.multi_meaning.specs.LaidItems.{laid_of, laid_out}
+use Rattle.multi_meaning.specs.Laid.{laid_spot}
+use Rattle.multi_meaning.specs.Meaning.{Meaning, meanings}
+use Rattle.multi_meaning.specs.Picture.{in_plane, is_lit_at, pixel_at, shown_colour, thing_at, things, things_among}
+use Rattle.multi_meaning.specs.Place.{place_of}
+use Rattle.multi_meaning.specs.Times.{cycle, shown_at, shown_within}
+use Rattle.multi_meaning.specs.Words.{each_after, some_after}
+use Rattle.multi_meaning.proofs.PixelLemmas.{all_same, pick, picked}
+use Rattle.multi_meaning.proofs.TimesLemmas.{shown_always, shown_modulo}
 use Rattle.page_picture.specs.Shown.{shown_colour_at}
 use Rattle.message_film.specs.Moving.{seen_points}
 use Rattle.message_film.specs.Period.{Allows, CycleIsPeriod, Divides, FlashesHavePeriod, times_of}

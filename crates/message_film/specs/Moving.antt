@@ -2,8 +2,8 @@
 use Rattle.std.specs.Prelude.{◌≡◌, ℕ, ◌*◌, List, map, replicate, Some}
 use Rattle.std.specs.List.{flat_map, range_with_len}
 use Rattle.sign_font.specs.Sign.{SignData}
-use Rattle.multi_layout.specs.declared.times.Shown.{Shown}
-use Rattle.multi_layout.specs.Times.{shown}
+use Rattle.multi_meaning.specs.declared.times.Shown.{Shown}
+use Rattle.multi_meaning.specs.Times.{shown}
 use Rattle.page_picture.specs.Dots.{dots}
 use Rattle.page_picture.specs.Palette.{palette}
 use Rattle.page_picture.specs.Shown.{shown_colour_at}

@@ -4,10 +4,10 @@ use Rattle.std.specs.List.{AllByRecursion}
 use Rattle.std.specs.Option.{option_map_or}
 use Rattle.sign_font.specs.declared.parts.Defaults.{Defaults}
 use Rattle.sign_font.specs.Sign.{SignData}
-use Rattle.multi_layout.specs.Attributes.{given_flash}
-use Rattle.multi_layout.specs.declared.attributes.FlashTimes.{FlashTimes}
-use Rattle.multi_layout.specs.Meaning.{Meaning, meanings}
-use Rattle.multi_layout.specs.Times.{Times, cycle, page_times, shown}
+use Rattle.multi_meaning.specs.Attributes.{given_flash}
+use Rattle.multi_meaning.specs.declared.attributes.FlashTimes.{FlashTimes}
+use Rattle.multi_meaning.specs.Meaning.{Meaning, meanings}
+use Rattle.multi_meaning.specs.Times.{Times, cycle, page_times, shown}
 use Rattle.message_film.specs.Moving.{seen_points}
 
 -- a flash is over a whole number of times in some tenths of a second, or both its times are 0, and

@@ -1,6 +1,6 @@
 //! After how long a string plays anew.
 ghost use Rattle.std.specs.Prelude.{◌≡◌, ◌<◌, ◌≤◌, drop, length, IfNone, IfSome};
-ghost use Rattle.multi_layout.specs.Meaning.{meaning, said_by};
+ghost use Rattle.multi_meaning.specs.Meaning.{meaning, said_by};
 ghost use Rattle.multi_token.specs.Spelling.{HasNoItem};
 ghost use Rattle.multi_token.specs.Tokens.{IsTokenOf, item_of};
 ghost use Rattle.message_film.specs.Period.{IsCommonTime, IsFlashPeriod, IsPeriod, PlaysFor, flash_time};

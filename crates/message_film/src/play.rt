@@ -1,6 +1,6 @@
 //! A message of a sign in time.
 ghost use Rattle.std.specs.Prelude.{◌≡◌, ◌∷◌, [], ◌++◌, ◌≤◌, ℕ, IfErr, IfOk, IfSome, OnOk, length, replicate};
-ghost use Rattle.multi_layout.specs.Times.{shown};
+ghost use Rattle.multi_meaning.specs.Times.{shown};
 ghost use Rattle.page_picture.specs.Shown.{IsThere};
 ghost use Rattle.message_film.specs.Film.{IsNoFilm, IsTooLong, IsUnmade, Lasts};
 ghost use Rattle.message_film.specs.Moving.{IsFilmOf, moving, seen_points};

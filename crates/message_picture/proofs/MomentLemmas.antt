@@ -1,9 +1,9 @@
 -- The pages of a text that is accepted.
 use Rattle.std.proofs.Common.{◌≡◌, ℕ, ◌<◌, ◌≤◌, ◌^◌, List, length, sym, subst, arith}
 use Rattle.sign_font.specs.Sign.{SignData}
-use Rattle.multi_layout.specs.Meaning.{meanings}
-use Rattle.multi_layout.specs.Verdict.{Accepted, IsVerdict, pages_of}
-use Rattle.multi_layout.proofs.AcceptedLemmas.{accepted_is}
+use Rattle.multi_meaning.specs.Meaning.{meanings}
+use Rattle.multi_meaning.specs.Verdict.{Accepted, IsVerdict, pages_of}
+use Rattle.multi_meaning.proofs.AcceptedLemmas.{accepted_is}
 use Rattle.message_picture.specs.declared.draw.DrawFault.TheVariants.{NoPage}
 use Rattle.message_picture.specs.declared.view.Moment.{Moment}
 use Rattle.message_picture.specs.declared.view.Moment.TheVariants.{Page}

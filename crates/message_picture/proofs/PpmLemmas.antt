@@ -2,7 +2,7 @@
 use Rattle.std.proofs.Common.{◌≡◌, ℕ, ◌*◌, Bool, List, ◌++◌, ap, ◌∙◌}
 use Rattle.std.specs.List.{flat_map}
 use Rattle.sign_font.specs.Sign.{SignData}
-use Rattle.multi_layout.specs.declared.times.Shown.{Shown}
+use Rattle.multi_meaning.specs.declared.times.Shown.{Shown}
 use Rattle.page_picture.specs.Colours.{ColourData, colour_at}
 use Rattle.page_picture.specs.Dots.{dots}
 use Rattle.page_picture.specs.Palette.{shares}

@@ -3,9 +3,9 @@ use Rattle.std.proofs.Common.{◌≡◌, ℕ, ◌<◌, Bool, false, List, ap, �
 use Rattle.std.proofs.lemmas.Bool.{cases_Bool}
 use Rattle.page_plane.specs.Plane.{BitPlane, is_lit}
 use Rattle.sign_font.specs.Sign.{SignData}
-use Rattle.multi_layout.specs.Drawn.{Lights}
+use Rattle.multi_meaning.specs.Drawn.{Lights}
+use Rattle.multi_meaning.specs.Picture.{picture}
 use Rattle.multi_layout.specs.Pages.{IsSized}
-use Rattle.multi_layout.specs.Picture.{picture}
 use Rattle.page_picture.specs.Colours.{ColourData, IsPage, colour_by, page_colour}
 use Rattle.page_picture.specs.Rows.{mark_of, marked_rows, rows_text}
 use Rattle.page_picture.proofs.RowLemmas.{rows_same}

@@ -2,7 +2,7 @@
 use Rattle.std.specs.Prelude.{◌≡◌, ◌⊎◌, ℕ, zero, suc, ◌+◌, Bool, true, false, ◌==◌, nat_lt, List, [], ◌∷◌, ◌++◌, All, length, codes, decimal, if◌then◌else◌}
 use Rattle.std.specs.List.{flat_map}
 use Rattle.sign_font.specs.Sign.{SignData}
-use Rattle.multi_layout.specs.Verdict.{Verdict, Accepted, Refused, verdict}
+use Rattle.multi_meaning.specs.Verdict.{Verdict, Accepted, Refused, verdict}
 use Rattle.message_report.specs.Words.{IsOneLine}
 use Rattle.message_report.specs.declared.format.Format.{Format}
 use Rattle.message_report.specs.declared.format.Format.TheVariants.{Ansi, Json, Lines, Text}

@@ -4,7 +4,7 @@ use Rattle.serde_json.specs.Data.{Data, array, member, no_members, null, number,
 use Rattle.serde_json.specs.View.{items_of}
 use Rattle.serde_json.specs.Written.{compact_text}
 use Rattle.sign_font.specs.Sign.{SignData}
-use Rattle.multi_layout.specs.Verdict.{Verdict, Accepted, Refused}
+use Rattle.multi_meaning.specs.Verdict.{Verdict, Accepted, Refused}
 use Rattle.message_report.specs.declared.format.Telling.{Telling}
 use Rattle.message_report.specs.Names.{name_of}
 use Rattle.message_report.specs.Pictures.{page_text}

@@ -1,7 +1,7 @@
 //! The explanation of a message.
 ghost use Rattle.std.specs.Prelude.{◌≡◌, ◌++◌, ◌<◌, ◌^◌, List, ℕ, length, OnOk, IfOk};
+ghost use Rattle.multi_meaning.specs.Verdict.{Accepted, Refused};
 ghost use Rattle.multi_layout.specs.Pages.{page_count};
-ghost use Rattle.multi_layout.specs.Verdict.{Accepted, Refused};
 ghost use Rattle.message_report.specs.Explanation.{Explains, Tells, TellsTooLong, line_head, refused_text, takes};
 ghost use Rattle.message_report.specs.Words.{GrowsBy};
 

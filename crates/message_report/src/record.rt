@@ -3,8 +3,8 @@ ghost use Rattle.std.specs.Prelude.{◌≡◌, ◌++◌, ◌∷◌, ◌<◌, ◌
 ghost use Rattle.serde_json.specs.Data.{Data, array};
 ghost use Rattle.serde_json.specs.View.{items_of, view};
 ghost use Rattle.serde_json.specs.Written.{compact_text, has_float};
+ghost use Rattle.multi_meaning.specs.Verdict.{Accepted};
 ghost use Rattle.multi_layout.specs.Pages.{page_count};
-ghost use Rattle.multi_layout.specs.Verdict.{Accepted};
 ghost use Rattle.message_report.specs.Names.{name_of};
 ghost use Rattle.message_report.specs.Pictures.{page_text};
 ghost use Rattle.message_report.specs.Records.{ArePages, TellsPages, TellsRecord, TooLongRecord, accepted_record, page_record, picture_data, refused_record, too_long_record, warning_record};

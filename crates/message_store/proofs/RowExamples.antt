@@ -3,7 +3,7 @@ use Rattle.std.proofs.Common.{◌≡◌, ◌≤◌, ℕ, Bool, true, false, [], 
 use Rattle.multi_token.specs.Reading.{reading, read_items}
 use Rattle.sign_font.specs.Sample.{sample}
 use Rattle.sign_font.specs.Sign.{SignData}
-use Rattle.multi_layout.specs.Verdict.{Refused, verdict, verdict_on}
+use Rattle.multi_meaning.specs.Verdict.{Refused, verdict, verdict_on}
 use Rattle.message_store.specs.declared.fault.StoreFault.TheVariants.{MemoryType}
 use Rattle.message_store.specs.declared.message.MemoryType.TheVariants.{Permanent, Changeable, CurrentBuffer, Blank}
 use Rattle.message_store.specs.declared.slot.Status.TheVariants.{Modifying}

@@ -1,9 +1,9 @@
 -- The judgement of a text is what its one verdict says.
 use Rattle.std.proofs.Common.{◌≡◌, ◌≤◌, ◌∙◌, ap, subst, List, ℕ, length}
 use Rattle.sign_font.specs.Sign.{SignData}
+use Rattle.multi_meaning.specs.Verdict.{Verdict, IsVerdict, verdict}
+use Rattle.multi_meaning.proofs.VerdictLemmas.{one_verdict}
 use Rattle.multi_layout.specs.Limits.{check_limit}
-use Rattle.multi_layout.specs.Verdict.{Verdict, IsVerdict, verdict}
-use Rattle.multi_layout.proofs.VerdictLemmas.{one_verdict}
 use Rattle.message_store.specs.Judged.{AreStepsOf, least_steps}
 
 -- what is said of the octets of a text is the verdict on it

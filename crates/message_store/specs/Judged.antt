@@ -1,7 +1,7 @@
 -- What a sign says of a text that it judges.
 use Rattle.std.specs.Prelude.{ℕ, ◌+◌, ◌≤◌, Bool, true, false}
+use Rattle.multi_meaning.specs.Verdict.{Verdict, Accepted, Refused}
 use Rattle.multi_layout.specs.Limits.{check_limit}
-use Rattle.multi_layout.specs.Verdict.{Verdict, Accepted, Refused}
 
 -- the string is accepted (own)
 abbrev pub is_accepted : Verdict → Bool

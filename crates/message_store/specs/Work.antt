@@ -1,8 +1,8 @@
 -- The judgement of the message that waits for it (NTCIP 1203 v03, dmsValidateMessageError).
 use Rattle.std.specs.Prelude.{◌≡◌, ◌≤◌, ℕ, ◌+◌, not, ◌&&◌, ◌==◌, if◌then◌else◌, position, Option, Some, None}
 use Rattle.sign_font.specs.Sign.{SignData}
+use Rattle.multi_meaning.specs.Verdict.{Verdict, Accepted, Refused, verdict}
 use Rattle.multi_layout.specs.Limits.{check_limit}
-use Rattle.multi_layout.specs.Verdict.{Verdict, Accepted, Refused, verdict}
 use Rattle.message_store.specs.declared.slot.Status.{Status}
 use Rattle.message_store.specs.declared.slot.Status.TheVariants.{Valid, Error}
 use Rattle.message_store.specs.declared.work.Judged.{Judged}

@@ -2,7 +2,7 @@
 
 ghost use Rattle.std.specs.Prelude.{◌≡◌, ◌≤◌, length, None};
 ghost use Rattle.sign_font.specs.Defaults.{default_fault, under};
-ghost use Rattle.multi_layout.specs.Verdict.{verdict};
+ghost use Rattle.multi_meaning.specs.Verdict.{verdict};
 ghost use Rattle.message_store.specs.Judged.{AreStepsOf, error_of, is_accepted, position_of};
 
 use multi_layout::check_with;

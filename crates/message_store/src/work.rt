@@ -2,7 +2,7 @@
 
 ghost use Rattle.std.specs.Prelude.{◌≡◌, ◌≤◌, ◌-◌, [], length, IfSome, None, option_map};
 ghost use Rattle.sign_font.specs.Defaults.{default_fault, under};
-ghost use Rattle.multi_layout.specs.Verdict.{verdict};
+ghost use Rattle.multi_meaning.specs.Verdict.{verdict};
 ghost use Rattle.message_store.specs.Codes.{validate_code};
 ghost use Rattle.message_store.specs.Limits.{IsKept};
 ghost use Rattle.message_store.specs.kept.Working.{judgement_of};

@@ -7,18 +7,18 @@ use Rattle.multi_token.specs.Spelling.{spelling}
 use Rattle.multi_token.proofs.ReadingLemmas.{spelling_some}
 use Rattle.page_plane.specs.Plane.{BitPlane}
 use Rattle.sign_font.specs.Sign.{SignData, tallest}
+use Rattle.multi_meaning.specs.Address.{spots, standing, in_area}
+use Rattle.multi_meaning.specs.Meaning.{begins_area}
+use Rattle.multi_meaning.proofs.StateLemmas.{same_area}
 use Rattle.multi_layout.specs.declared.cursor.Cursor.{Cursor}
 use Rattle.multi_layout.specs.declared.item.NextItem.{NextItem}
 use Rattle.multi_layout.specs.declared.paint.Layer.{Layer}
 use Rattle.multi_layout.specs.declared.read.AreaLines.{AreaLines}
 use Rattle.multi_layout.specs.declared.table.LineTable.{LineTable}
-use Rattle.multi_layout.specs.Address.{spots, standing, in_area}
 use Rattle.multi_layout.specs.Limits.{plane_octets}
-use Rattle.multi_layout.specs.Meaning.{begins_area}
 use Rattle.multi_layout.specs.kept.AreaDrawing.{DrawsOn, HasCounted, IsDrawnTo, IsFilledBy, BeginsNoArea, whole_area}
 use Rattle.multi_layout.specs.kept.RunDrawing.{AreaSoFar, IsNextDrawn, IsReadBehind, octets_read}
 use Rattle.multi_layout.specs.kept.Cursors.{IsBetween, IsPieceFirst, IsRead, meant, LaidItem, spell_of}
-use Rattle.multi_layout.proofs.StateLemmas.{same_area}
 use Rattle.multi_layout.proofs.WalkLemmas.{spell_of-append}
 
 -- the lines of an area are those behind one of its items too

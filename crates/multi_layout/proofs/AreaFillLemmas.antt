@@ -3,12 +3,13 @@ use Rattle.std.proofs.Common.{◌≡◌, inl, inr, ℕ, ◌<◌, cond, List, [],
 use Rattle.std.specs.Prelude.{nat_lt}
 use Rattle.std.specs.List.{after_last}
 use Rattle.std.proofs.lemmas.Bool.{cases_lt, le-ltb}
+use Rattle.multi_meaning.specs.Address.{Spot, in_group, is_break, lines_of}
+use Rattle.multi_meaning.specs.Filling.{filled}
+use Rattle.multi_meaning.specs.kept.Present.{IsFilledOn}
+use Rattle.multi_meaning.specs.Line.{height_of}
 use Rattle.multi_layout.specs.declared.area.Area.{Area}
 use Rattle.multi_layout.specs.declared.fill.Split.{Split}
-use Rattle.multi_layout.specs.Address.{Spot, in_group, is_break, lines_of}
-use Rattle.multi_layout.specs.Filling.{filled}
-use Rattle.multi_layout.specs.kept.FillSums.{IsFilledOn, split_sum}
-use Rattle.multi_layout.specs.Line.{height_of}
+use Rattle.multi_layout.specs.kept.FillSums.{split_sum}
 use Rattle.multi_layout.specs.kept.Sums.{area_sum, area_sum_in, group_sum, height_before}
 use Rattle.multi_layout.proofs.AreaSumLemmas.{group_behind}
 

@@ -12,6 +12,15 @@ use Rattle.sign_font.specs.declared.parts.LineFill.{LineFill}
 use Rattle.sign_font.specs.declared.parts.LineFill.TheVariants.{Words}
 use Rattle.sign_font.specs.Sign.{SignData}
 use Rattle.sign_font.specs.Sound.{IsSound}
+use Rattle.multi_meaning.specs.Address.{Spot, Standing, in_area, spots, standing}
+use Rattle.multi_meaning.specs.LaidItems.{laid_items}
+use Rattle.multi_meaning.specs.Meaning.{Does, EndsArea, Meaning, begins_area, meaning}
+use Rattle.multi_meaning.specs.kept.Present.{present_area, IsPlacing}
+use Rattle.multi_meaning.specs.Verdict.{fault_at, offences}
+use Rattle.multi_meaning.proofs.LaidItemLemmas.{are_laid}
+use Rattle.multi_meaning.proofs.SpotsLemmas.{area_ends}
+use Rattle.multi_meaning.proofs.StandingLemmas.{standing_push}
+use Rattle.multi_meaning.proofs.WordLemmas.{left_nil, some_after-append}
 use Rattle.multi_layout.specs.declared.area.Area.{Area}
 use Rattle.multi_layout.specs.declared.cursor.Begun.{Begun}
 use Rattle.multi_layout.specs.declared.cursor.Cursor.{Cursor}
@@ -22,34 +31,26 @@ use Rattle.multi_layout.specs.declared.pass.Pass.{Pass}
 use Rattle.multi_layout.specs.declared.read.AreaLines.{AreaLines}
 use Rattle.multi_layout.specs.declared.state.State.{State}
 use Rattle.multi_layout.specs.declared.table.LineTable.{LineTable}
-use Rattle.multi_layout.specs.Address.{Spot, Standing, in_area, spots, standing}
 use Rattle.multi_layout.specs.kept.AreaReading.{IsNextRead, IsReadOf, laid_area}
 use Rattle.multi_layout.specs.kept.FilledState.{IsFilledOf}
 use Rattle.multi_layout.specs.kept.KnownItem.{meant_by}
-use Rattle.multi_layout.specs.LaidItems.{laid_items}
-use Rattle.multi_layout.specs.Meaning.{Does, EndsArea, Meaning, begins_area, meaning}
 use Rattle.multi_layout.specs.kept.AreaDrawing.{BeginsNoArea, HasCounted, HasKnown, IsAreaRead, IsLow, first_steps, next_group, whole_area}
 use Rattle.multi_layout.specs.kept.PassState.{IsPassOf, fill_of}
-use Rattle.multi_layout.specs.kept.State.{IsStateOf, present_area}
+use Rattle.multi_layout.specs.kept.State.{IsStateOf}
 use Rattle.multi_layout.specs.kept.Table.{IsOrdered, group_lines, table_of}
-use Rattle.multi_layout.specs.Verdict.{fault_at, offences}
 use Rattle.multi_layout.specs.kept.Cursors.{IsBetween, IsFirst, IsItemRead, IsPlaced, items_of, laid_meanings, meant, LaidItem, spell_of}
 use Rattle.multi_layout.specs.kept.Settings.{IsMet, IsNextAt, item_steps}
 use Rattle.multi_layout.proofs.AreaReadLemmas.{laid_plain, next_fine, present_placing, read_state}
 use Rattle.multi_layout.proofs.AreaStepLemmas.{step_stays, tag_stays}
 use Rattle.multi_layout.proofs.FilledStartLemmas.{area_empty, laid_empty, state_begins}
 use Rattle.multi_layout.proofs.KnownLinesLemmas.{counted_at_end, known_none}
-use Rattle.multi_layout.proofs.LaidItemLemmas.{are_laid}
-use Rattle.multi_layout.specs.kept.Sums.{IsPlacing, area_sum}
+use Rattle.multi_layout.specs.kept.Sums.{area_sum}
 use Rattle.multi_layout.proofs.LimitLemmas.{limited_none}
 use Rattle.multi_layout.proofs.PieceLemmas.{ends_laid, first_piece, laid_front, plain_laid}
 use Rattle.multi_layout.proofs.ReadLemmas.{at_end}
 use Rattle.multi_layout.proofs.SettingLemmas.{setting_is, setting_passed}
-use Rattle.multi_layout.proofs.SpotsLemmas.{area_ends}
-use Rattle.multi_layout.proofs.StandingLemmas.{standing_push}
 use Rattle.multi_layout.proofs.WalkLemmas.{few_placed, fine_items, none_at_end, placed_more, spell_of-append, within}
 use Rattle.multi_layout.proofs.WholeAreaLemmas.{counted_whole}
-use Rattle.multi_layout.proofs.WordLemmas.{left_nil, some_after-append}
 
 -- the steps of one more item, of which this is still to be read, and of what goes on behind it, the octet there too
 pub steps_on : (source a b d e : Counted) (from at len to taken known paid : ℕ) (octet : Bool) → from ≤ at → at + len ≤ to → 1 ≤ len → (octet ≡ false → to ≡ at + len) → RisesBetween source a 0 taken → taken + paid ≤ 9 * (at - from) + known → known ≤ 9 * len - 9

@@ -7,6 +7,19 @@ use Rattle.multi_tag.specs.declared.tag.Tag.{Tag}
 use Rattle.sign_font.specs.declared.parts.LineFill.TheVariants.{Off, Words}
 use Rattle.sign_font.specs.Sign.{SignData}
 use Rattle.sign_font.specs.Sound.{IsSound}
+use Rattle.multi_meaning.specs.Address.{Break, Spot, in_group, spots, standing}
+use Rattle.multi_meaning.specs.LaidItems.{laid_item, laid_items}
+use Rattle.multi_meaning.specs.Meaning.{Does, Meaning, Shows, has_place, meaning}
+use Rattle.multi_meaning.specs.Offence.{offence, unsized_offence}
+use Rattle.multi_meaning.specs.kept.Present.{present_area, IsPlacing, ended_lines, IsNarrowArea}
+use Rattle.multi_meaning.specs.Verdict.{offences}
+use Rattle.multi_meaning.proofs.GroupLemmas.{area_placing, placing_group}
+use Rattle.multi_meaning.proofs.FilledTagLemmas.{offends_as_laid}
+use Rattle.multi_meaning.proofs.NarrowLemmas.{narrow_area}
+use Rattle.multi_meaning.proofs.OrderlyLemmas.{unsized_if}
+use Rattle.multi_meaning.proofs.RoomLemmas.{room}
+use Rattle.multi_meaning.proofs.UnplacedLemmas.{last_fine}
+use Rattle.multi_meaning.proofs.WordLemmas.{each_after_length, none_more}
 use Rattle.multi_layout.specs.declared.area.Area.{Area}
 use Rattle.multi_layout.specs.declared.area.Group.{Group}
 use Rattle.multi_layout.specs.declared.pass.Pass.{Pass}
@@ -14,35 +27,24 @@ use Rattle.multi_layout.specs.declared.item.KnownItem.{KnownItem}
 use Rattle.multi_layout.specs.declared.item.KnownItem.TheVariants as known
 use Rattle.multi_layout.specs.declared.item.KnownItem.TheVariants.{Char}
 use Rattle.multi_layout.specs.declared.table.LineTable.{LineTable}
-use Rattle.multi_layout.specs.Address.{Break, Spot, in_group, spots, standing}
 use Rattle.multi_layout.specs.kept.AreaReading.{IsItemPassed, IsNextRead, IsReadOf, laid_area}
 use Rattle.multi_layout.specs.kept.KnownItem.{meant_by}
-use Rattle.multi_layout.specs.LaidItems.{laid_item, laid_items}
-use Rattle.multi_layout.specs.Meaning.{Does, Meaning, Shows, has_place, meaning}
-use Rattle.multi_layout.specs.Offence.{offence, unsized_offence}
 use Rattle.multi_layout.specs.kept.AreaDrawing.{HasKnown, HasRoom, IsLow, next_group}
 use Rattle.multi_layout.specs.kept.PassState.{IsPassOf, IsPassReady, fill_of}
 use Rattle.multi_layout.specs.kept.Run.{kept_height}
-use Rattle.multi_layout.specs.kept.State.{IsLimited, IsStateOf, IsUnfilledOf, present_area}
-use Rattle.multi_layout.specs.Verdict.{offences}
-use Rattle.multi_layout.specs.kept.Sums.{IsBelow, IsPlacing, area_sum, ended_lines}
-use Rattle.multi_layout.specs.kept.Table.{IsNarrowArea, IsOrdered}
-use Rattle.multi_layout.proofs.AreaSumLemmas.{area_placing, group_of_own}
+use Rattle.multi_layout.specs.kept.State.{IsLimited, IsStateOf, IsUnfilledOf}
+use Rattle.multi_layout.specs.kept.Sums.{IsBelow, area_sum}
+use Rattle.multi_layout.specs.kept.Table.{IsOrdered}
+use Rattle.multi_layout.proofs.AreaSumLemmas.{group_of_own}
 use Rattle.multi_layout.proofs.BoundLemmas.{below_more}
 use Rattle.multi_layout.proofs.FilledKeptLemmas.{goes_on}
 use Rattle.multi_layout.proofs.FilledReadLemmas.{filled_ready}
 use Rattle.multi_layout.proofs.FilledRoomLemmas.{laid_narrow, laid_room}
-use Rattle.multi_layout.proofs.FilledTagLemmas.{offends_as_laid}
 use Rattle.multi_layout.proofs.KnownStepLemmas as steps
-use Rattle.multi_layout.proofs.GroupSumLemmas.{placing_group}
 use Rattle.multi_layout.proofs.JudgedLemmas.{ready}
-use Rattle.multi_layout.proofs.NarrowLemmas.{narrow_area}
-use Rattle.multi_layout.proofs.OrderlyLemmas.{unsized_if}
 use Rattle.multi_layout.proofs.PieceLemmas.{unfilled_items}
-use Rattle.multi_layout.proofs.RoomLemmas.{room}
 use Rattle.multi_layout.proofs.RunLemmas.{kept_height_is}
-use Rattle.multi_layout.proofs.WalkLemmas.{last_fine, length-meanings}
-use Rattle.multi_layout.proofs.WordLemmas.{each_after_length, none_more}
+use Rattle.multi_layout.proofs.WalkLemmas.{length-meanings}
 
 -- WHAT IS KEPT
 

@@ -4,6 +4,14 @@ use Rattle.multi_token.specs.Spelling.{Item}
 use Rattle.multi_tag.specs.declared.tag.Tag.{Tag}
 use Rattle.sign_font.specs.Sign.{SignData}
 use Rattle.sign_font.specs.Sound.{IsSound}
+use Rattle.multi_meaning.specs.Address.{Spot, in_group}
+use Rattle.multi_meaning.specs.LaidItems.{laid_items}
+use Rattle.multi_meaning.specs.Line.{height_of}
+use Rattle.multi_meaning.specs.Meaning.{begins_area, Does, Meaning, meaning}
+use Rattle.multi_meaning.specs.Offence.{offence}
+use Rattle.multi_meaning.specs.kept.Present.{present_area, ended_lines, IsNarrow, IsNarrowArea}
+use Rattle.multi_meaning.proofs.LaidTagLemmas.{laid_tag}
+use Rattle.multi_meaning.proofs.NarrowLemmas.{narrow_front}
 use Rattle.multi_layout.specs.declared.area.Area.{Area}
 use Rattle.multi_layout.specs.declared.area.Group.{Group}
 use Rattle.multi_layout.specs.declared.pass.Pass.{Pass}
@@ -12,24 +20,17 @@ use Rattle.multi_layout.specs.kept.KnownItem.{meant_by}
 use Rattle.multi_layout.specs.declared.line.Line.{Line}
 use Rattle.multi_layout.specs.declared.table.CountedLine.{CountedLine}
 use Rattle.multi_layout.specs.declared.table.LineTable.{LineTable}
-use Rattle.multi_layout.specs.Address.{Spot, in_group}
 use Rattle.multi_layout.specs.kept.FillSums.{EndsLine}
 use Rattle.multi_layout.specs.kept.AreaReading.{IsItemPassed, IsNextRead, IsReadOf, laid_area}
-use Rattle.multi_layout.specs.LaidItems.{laid_items}
-use Rattle.multi_layout.specs.Line.{height_of}
-use Rattle.multi_layout.specs.Meaning.{begins_area, Does, Meaning, meaning}
-use Rattle.multi_layout.specs.Offence.{offence}
 use Rattle.multi_layout.specs.kept.AreaDrawing.{HasKnown, HasRoom, IsLow, ends_line, next_group}
 use Rattle.multi_layout.specs.kept.PassState.{IsPassOf, fill_of}
-use Rattle.multi_layout.specs.kept.State.{IsStateOf, present_area}
-use Rattle.multi_layout.specs.kept.Sums.{area_sum, ended_lines, group_sum, line_sum}
-use Rattle.multi_layout.specs.kept.Table.{IsNarrow, IsNarrowArea, IsOrdered, group_lines, line_entry}
+use Rattle.multi_layout.specs.kept.State.{IsStateOf}
+use Rattle.multi_layout.specs.kept.Sums.{area_sum, group_sum, line_sum}
+use Rattle.multi_layout.specs.kept.Table.{IsOrdered, group_lines, line_entry}
 use Rattle.multi_layout.proofs.AreaSumLemmas.{group_of_own}
 use Rattle.multi_layout.proofs.FilledTableLemmas.{entry_ended, known_pushed, known_unchanged, pushed_room}
 use Rattle.multi_layout.proofs.KnownLinesLemmas.{Pushed, behind_empty, pushed_low}
 use Rattle.multi_layout.proofs.KnownStepLemmas as steps
-use Rattle.multi_layout.proofs.LaidTagLemmas.{laid_tag}
-use Rattle.multi_layout.proofs.NarrowLemmas.{narrow_front}
 use Rattle.multi_layout.proofs.AreaReadLemmas.{closed_below, present_placing, state_of, room_of, narrow_of, items_with, tag_unsized}
 
 -- ONE MORE ITEM

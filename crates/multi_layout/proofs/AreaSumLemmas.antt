@@ -1,33 +1,27 @@
 -- The sums of an area after one more placing item, and what is judged by them.
 use Rattle.std.proofs.Common.{◌≡◌, inl, inr, ℕ, ◌<◌, ◌≤◌, Bool, true, false, cond, not, ◌&&◌, ◌||◌, ◌==◌, List, [], ◌∷◌, ◌++◌, refl, sym, ap, ◌∙◌, arith}
-use Rattle.multi_layout.proofs.LineSumLemmas.{cond_zero}
+use Rattle.multi_meaning.specs.Words.{largest}
 use Rattle.std.specs.Prelude.{nat_lt}
 use Rattle.std.specs.List.{list_any, after_last, All}
 use Rattle.std.proofs.Math.Bool.{or-false}
-use Rattle.std.proofs.lemmas.Bool.{cases_eq, cases_lt, eq-eqb, false≢true, le-ltb, lt-ltb, ne_eqb, or_cases}
-use Rattle.std.proofs.lemmas.List.{append-nil}
-use Rattle.std.proofs.lemmas.List.Elements.{All-push, All-weaker, filter-append, filter_passes}
+use Rattle.std.proofs.lemmas.Bool.{cases_eq, cases_lt, eq-eqb, false≢true, le-ltb, lt-ltb, ne_eqb}
+use Rattle.std.proofs.lemmas.List.Elements.{All-push, All-weaker}
 use Rattle.sign_font.specs.declared.parts.LineFill.TheVariants.{Off}
+use Rattle.multi_meaning.specs.Address.{Spot, is_glyph, is_break, area_of, in_group, line_before, lines_of}
+use Rattle.multi_meaning.specs.Fit.{line_fits, area_fits}
+use Rattle.multi_meaning.specs.Line.{height_of}
+use Rattle.multi_meaning.specs.Laid.{too_big}
+use Rattle.multi_meaning.specs.Offence.{goes_back, clashes, conflicts}
+use Rattle.multi_meaning.specs.kept.Present.{IsPlacing}
+use Rattle.multi_meaning.proofs.WordLemmas.{largest_most, largest_push}
+use Rattle.multi_meaning.proofs.AreaLemmas.{filter_none}
+use Rattle.multi_meaning.proofs.CheckLemmas.{group_goes_back}
+use Rattle.multi_meaning.proofs.GroupLemmas.{break_put, own_group, placing_group, area_placing, in_group_other}
+use Rattle.multi_layout.proofs.LineSumLemmas.{cond_zero}
 use Rattle.multi_layout.specs.declared.area.Area.{Area}
 use Rattle.multi_layout.specs.declared.area.Group.{Group}
-use Rattle.multi_layout.specs.Words.{largest}
-use Rattle.multi_layout.specs.Address.{Spot, is_glyph, is_break, area_of, in_group, line_before, lines_of}
-use Rattle.multi_layout.specs.Fit.{line_fits, area_fits}
-use Rattle.multi_layout.specs.Line.{height_of}
-use Rattle.multi_layout.specs.Laid.{too_big}
-use Rattle.multi_layout.specs.Offence.{goes_back, clashes, conflicts}
-use Rattle.multi_layout.specs.kept.Sums.{group_sum, area_sum, area_sum_in, height_before, line_sum, IsPlacing}
-use Rattle.multi_layout.proofs.WordLemmas.{largest_most, largest_push}
-use Rattle.multi_layout.proofs.AreaLemmas.{filter_none}
-use Rattle.multi_layout.proofs.CheckLemmas.{group_goes_back}
-use Rattle.multi_layout.proofs.GroupSumLemmas.{break_put, own_group, placing_group, present_push}
-
--- a group after an item of another
-pub in_group_other : (just : ℕ) (area : List Spot) (s : Spot) → (s.at.page_just ≡ just → ⊥) → in_group just (area ++ s ∷ []) ≡ in_group just area
-in_group_other just area s apart =
-    filter-append (λ t. t.at.page_just == just) area (s ∷ [])
-    ∙ ap (λ b. in_group just area ++ cond b (s ∷ []) []) (ne_eqb s.at.page_just just apart)
-    ∙ append-nil (in_group just area)
+use Rattle.multi_layout.specs.kept.Sums.{group_sum, area_sum, area_sum_in, height_before, line_sum}
+use Rattle.multi_layout.proofs.GroupSumLemmas.{present_push}
 
 -- no item of an area is in a group behind the one with the largest justification
 pub group_behind : (just : ℕ) (area : List Spot) → largest (λ (t : Spot). t.at.page_just) area < just → in_group just area ≡ []
@@ -231,17 +225,6 @@ fits_break before s height area b h a =
     a ∙ ap (λ n. area_fits n (area_of s before ++ s ∷ [])) (sym h)
     ∙ no_line (area_fits s.at.rectangle.height (area_of s before ++ s ∷ []))
     ∙ ap (λ b. not ((b && not (line_fits s.at.rectangle.width more)) || not (area_fits s.at.rectangle.height (area_of s before ++ s ∷ [])))) (sym (break_put s.at s.put b))
-
--- what an area has before an item is placing items, and so is the item
-pub area_placing : (before : List Spot) (s : Spot) → All IsPlacing (area_of s before)
-area_placing before s =
-    let placing = λ (t : Spot). is_glyph t || is_break t in
-    let passes = λ (t : Spot). (is_glyph t || is_break t) && (t.at.area == s.at.area) in
-    All-weaker (λ t. passes t ≡ true) IsPlacing (λ t h. or_cases (is_glyph t) (is_break t) (left (placing t) (t.at.area == s.at.area) h)) (area_of s before) (filter_passes passes before)
-  where
-    left : (a b : Bool) → (a && b) ≡ true → a ≡ true
-    left true b h = refl
-    left false b h = absurd (false≢true h)
 
 pub placing_character : (before : List Spot) (s : Spot) → is_glyph s ≡ true → All IsPlacing (area_of s before ++ s ∷ [])
 placing_character before s g = All-push IsPlacing (area_of s before) s (area_placing before s) (inl g)

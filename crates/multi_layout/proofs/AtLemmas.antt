@@ -9,15 +9,15 @@ use Rattle.multi_token.specs.declared.token.Token.{Token}
 use Rattle.multi_token.proofs.PlaceLemmas.{single_token}
 use Rattle.multi_token.proofs.ReadingLemmas.{spelling_some}
 use Rattle.sign_font.specs.Sign.{SignData}
-use Rattle.multi_layout.specs.declared.fault.SyntaxError.{SyntaxError}
-use Rattle.multi_layout.specs.Codes.{code_of}
-use Rattle.multi_layout.specs.kept.ItemAt.{IsFaultAt, IsItemAt}
-use Rattle.multi_layout.specs.Laid.{too_big}
-use Rattle.multi_layout.specs.Meaning.{Meaning, Shows, meaning}
-use Rattle.multi_layout.specs.Offence.{offence}
+use Rattle.multi_meaning.specs.declared.fault.SyntaxError.{SyntaxError}
+use Rattle.multi_meaning.specs.Codes.{code_of}
+use Rattle.multi_meaning.specs.kept.ItemAt.{IsFaultAt, IsItemAt}
+use Rattle.multi_meaning.specs.Laid.{too_big}
+use Rattle.multi_meaning.specs.Meaning.{Meaning, Shows, meaning}
+use Rattle.multi_meaning.specs.Offence.{offence}
+use Rattle.multi_meaning.specs.Verdict.{IsVerdict, Refused}
+use Rattle.multi_meaning.proofs.OffenceLemmas.{offence-faulty}
 use Rattle.multi_layout.specs.kept.Judging.{IsAt, IsBehind, IsRefused}
-use Rattle.multi_layout.specs.Verdict.{IsVerdict, Refused}
-use Rattle.multi_layout.proofs.OffenceLemmas.{offence-faulty}
 use Rattle.multi_layout.proofs.ReadLemmas.{nothing_read, read_more, refused_at_bracket, refused_here}
 
 -- the first octet is read

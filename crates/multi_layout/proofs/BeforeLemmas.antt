@@ -1,32 +1,34 @@
 -- What fits behind one more character, where what was before it fits: only the present segment and the present group can be too much.
 use Rattle.std.proofs.Common.{◌≡◌, ℕ, ◌≤◌, true, inl, inr, List, [], ◌∷◌, ◌++◌, None, refl, sym, ap, subst, ◌∙◌, arith}
-use Rattle.multi_layout.proofs.FillLemmas.{le_test}
+use Rattle.multi_meaning.proofs.FillLemmas.{le_test}
 use Rattle.std.specs.Prelude.{nat_le}
 use Rattle.std.specs.List.{All, after_last}
 use Rattle.sign_font.specs.declared.parts.LineFill.TheVariants.{Off}
 use Rattle.sign_font.specs.Sign.{SignData}
 use Rattle.std.proofs.lemmas.Bool.{and_from, and_parts, cases_eq, eq-eqb, ne_eqb}
 use Rattle.std.proofs.lemmas.Bool.Decides.{nat_tests}
+use Rattle.multi_meaning.specs.Address.{Break, Spot, Standing, in_area, in_group, is_break, lines_of, segment, spots, standing}
+use Rattle.multi_meaning.specs.Fit.{FitsWithout, area_fits, fit, line_fits, room_for}
+use Rattle.multi_meaning.specs.Line.{height_of, width_of}
+use Rattle.multi_meaning.specs.Meaning.{Meaning}
+use Rattle.multi_meaning.specs.Offence.{offence}
+use Rattle.multi_meaning.specs.kept.Present.{present_area, IsPlacing}
+use Rattle.multi_meaning.specs.Words.{some_after}
+use Rattle.multi_meaning.proofs.GroupLemmas.{area_placing, in_group_other}
+use Rattle.multi_meaning.proofs.FitLemmas.{room_end, room_middle, room_start, smaller_fits}
+use Rattle.multi_meaning.proofs.NarrowLemmas.{lines_fit_always}
+use Rattle.multi_meaning.proofs.LinesFitLemmas.{each_just}
+use Rattle.multi_meaning.proofs.RoomLemmas.{area_fits_always}
 use Rattle.multi_layout.specs.declared.area.Area.{Area}
 use Rattle.multi_layout.specs.declared.line.Line.{Line}
 use Rattle.multi_layout.specs.declared.line.Segment.{Segment}
 use Rattle.multi_layout.specs.declared.attributes.Attributes.{Attributes}
 use Rattle.multi_layout.specs.declared.state.State.{State}
-use Rattle.multi_layout.specs.Address.{Break, Spot, Standing, in_area, in_group, is_break, lines_of, segment, spots, standing}
-use Rattle.multi_layout.specs.Fit.{FitsWithout, area_fits, fit, line_fits, room_for}
-use Rattle.multi_layout.specs.Line.{height_of, width_of}
-use Rattle.multi_layout.specs.Meaning.{Meaning}
-use Rattle.multi_layout.specs.Offence.{offence}
-use Rattle.multi_layout.specs.kept.State.{IsUnfilledOf, group_room, present_area}
-use Rattle.multi_layout.specs.Words.{some_after}
+use Rattle.multi_layout.specs.kept.State.{IsUnfilledOf, group_room}
 use Rattle.multi_layout.specs.kept.Run.{Fits, line_in_force, FitsBefore, GroupsFitBefore, kept_before, kept_fits, kept_fits_height, kept_group_height, kept_height, kept_width, lengthened_line}
-use Rattle.multi_layout.specs.kept.Sums.{IsPlacing, area_sum, line_sum}
-use Rattle.multi_layout.proofs.AreaSumLemmas.{area_placing, in_group_other, own_line}
-use Rattle.multi_layout.proofs.FitLemmas.{room_end, room_middle, room_start, smaller_fits}
+use Rattle.multi_layout.specs.kept.Sums.{area_sum, line_sum}
+use Rattle.multi_layout.proofs.AreaSumLemmas.{own_line}
 use Rattle.multi_layout.proofs.LineSumLemmas.{segment_other}
-use Rattle.multi_layout.proofs.NarrowLemmas.{lines_fit_always}
-use Rattle.multi_layout.proofs.PlaceLemmas.{each_just}
-use Rattle.multi_layout.proofs.RoomLemmas.{area_fits_always}
 use Rattle.multi_layout.proofs.RunLemmas.{kept_area_fits, kept_fits_is, kept_group_height_is, kept_width_is}
 
 -- ---- the line of a character

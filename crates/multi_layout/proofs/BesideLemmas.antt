@@ -13,19 +13,24 @@ use Rattle.page_plane.specs.Plane.{BitPlane}
 use Rattle.sign_font.specs.declared.parts.LineFill.TheVariants.{Off}
 use Rattle.sign_font.specs.Cell.{SizedCell}
 use Rattle.sign_font.specs.Sign.{SignData, CellData, cell_in, cell_numbered}
+use Rattle.multi_meaning.specs.declared.place.Place.{Place}
+use Rattle.multi_meaning.specs.Address.{Glyph, Put, Spot, Standing, group_of, in_area, in_group, is_break, is_glyph, line_before, lines_of, segment, spots, standing}
+use Rattle.multi_meaning.specs.Line.{char_gap, glyph_width, height_of, width_of}
+use Rattle.multi_meaning.specs.Meaning.{Meaning, Shows, begins_area}
+use Rattle.multi_meaning.specs.Offence.{unsized_offence}
+use Rattle.multi_meaning.specs.Place.{place_of, spread, start}
+use Rattle.multi_meaning.proofs.GroupLemmas.{glyph_put, own_group, filter_yes}
+use Rattle.multi_meaning.proofs.LayoutLemmas.{width_push}
+use Rattle.multi_meaning.proofs.SpotsLemmas.{spots_more}
+use Rattle.multi_meaning.proofs.StandingLemmas.{standing_push}
+use Rattle.multi_meaning.proofs.WordLemmas.{last_or_push}
 use Rattle.multi_layout.specs.declared.attributes.Attributes.{Attributes}
 use Rattle.multi_layout.specs.declared.cursor.Cursor.{Cursor}
 use Rattle.multi_layout.specs.declared.item.KnownItem.TheVariants as known
 use Rattle.multi_layout.specs.declared.item.NextItem.{NextItem}
 use Rattle.multi_layout.specs.declared.paint.Layer.{Layer}
-use Rattle.multi_layout.specs.declared.place.Place.{Place}
 use Rattle.multi_layout.specs.declared.state.State.{State}
 use Rattle.multi_layout.specs.declared.table.LineTable.{LineTable}
-use Rattle.multi_layout.specs.Address.{Glyph, Put, Spot, Standing, group_of, in_area, in_group, is_break, is_glyph, line_before, lines_of, segment, spots, standing}
-use Rattle.multi_layout.specs.Line.{char_gap, glyph_width, height_of, width_of}
-use Rattle.multi_layout.specs.Meaning.{Meaning, Shows, begins_area}
-use Rattle.multi_layout.specs.Offence.{unsized_offence}
-use Rattle.multi_layout.specs.Place.{place_of, spread, start}
 use Rattle.multi_layout.specs.kept.AreaDrawing.{BeginsNoArea, HasCounted, whole_area}
 use Rattle.multi_layout.specs.kept.RunDrawing.{DrawsCharacter, AreaSoFar, NextStandsAt}
 use Rattle.multi_layout.specs.kept.Cursors.{IsBetween, IsRead, LaidItem, items_of, meant, spell_of}
@@ -33,18 +38,13 @@ use Rattle.multi_layout.specs.kept.Run.{IsBehindCharacter, lengthened, line_in_f
 use Rattle.multi_layout.specs.kept.State.{IsStateOf}
 use Rattle.multi_layout.proofs.AreaDrawLemmas.{area_begins, area_left, area_more, area_next, none_first}
 use Rattle.multi_layout.proofs.DrawLemmas.{glyph_drawn, map_split}
-use Rattle.multi_layout.proofs.GroupSumLemmas.{glyph_put, own_group, present_push}
+use Rattle.multi_layout.proofs.GroupSumLemmas.{present_push}
 use Rattle.multi_layout.proofs.JudgedLemmas.{unsized-undefined}
-use Rattle.multi_layout.proofs.LayoutLemmas.{width_push}
-use Rattle.multi_layout.proofs.LineSumLemmas.{filter_yes}
 use Rattle.multi_layout.proofs.PaintLemmas.{glyph_found}
 use Rattle.multi_layout.proofs.PieceLemmas.{first_piece, no_piece, read_unfilled}
 use Rattle.multi_layout.proofs.ReadLemmas.{at_end}
 use Rattle.multi_layout.proofs.RunLemmas.{average_same, state_beside}
-use Rattle.multi_layout.proofs.SpotsLemmas.{spots_more}
-use Rattle.multi_layout.proofs.StandingLemmas.{standing_push}
 use Rattle.multi_layout.proofs.WalkLemmas.{between_more, item_is, never_offends, none_at_end, within}
-use Rattle.multi_layout.proofs.WordLemmas.{last_or_push}
 
 -- a value that is only there on a full line
 not_full : (b : Bool) (n : ℕ) → b ≡ false → cond b n 0 ≡ 0

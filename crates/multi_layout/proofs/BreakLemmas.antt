@@ -2,13 +2,13 @@
 use Rattle.std.proofs.Common.{◌≡◌, true, List, [], ◌∷◌, ◌++◌, sym, ap, ◌∙◌}
 use Rattle.std.specs.List.{after_last, AllPass}
 use Rattle.std.proofs.lemmas.List.Elements.{All-cons, All-append}
+use Rattle.multi_meaning.specs.Address.{Spot, is_break, is_glyph}
+use Rattle.multi_meaning.proofs.BehindLemmas.{after_last_is, cut_if}
+use Rattle.multi_meaning.proofs.CutLemmas.{Cut, cut, cut_push}
+use Rattle.multi_meaning.proofs.LaidLemmas.{cut_with}
 use Rattle.multi_layout.specs.declared.area.Group.{Group}
-use Rattle.multi_layout.specs.Address.{Spot, is_break, is_glyph}
 use Rattle.multi_layout.specs.kept.Sums.{group_sum, line_sum}
-use Rattle.multi_layout.proofs.BehindLemmas.{after_last_is, cut_if}
-use Rattle.multi_layout.proofs.CutLemmas.{Cut, cut, cut_push}
 use Rattle.multi_layout.proofs.GroupSumLemmas.{cut_sums, sums_are}
-use Rattle.multi_layout.proofs.LaidLemmas.{cut_with}
 
 -- characters, a character and characters are characters
 pub all_glyphs : (before : List Spot) (x : Spot) (behind : List Spot) → AllPass is_glyph before → is_glyph x ≡ true → AllPass is_glyph behind → AllPass is_glyph (before ++ x ∷ behind)

@@ -21,27 +21,27 @@ use Rattle.page_plane.specs.Plane.{BitPlane, is_lit}
 use Rattle.sign_font.specs.declared.parts.Defaults.{Defaults}
 use Rattle.sign_font.specs.Cell as cells
 use Rattle.sign_font.specs.Sign.{SignData, FontData, cell_in, largest, tallest}
+use Rattle.multi_meaning.specs.Address.{Standing, standing, put_at, spots, Break}
+use Rattle.multi_meaning.specs.Meaning.{Meaning, Does, Shows, begins_area, is_new_page, meaning, meaning_of_tag}
+use Rattle.multi_meaning.specs.Drawn.{has_colour}
+use Rattle.multi_meaning.specs.Drawn as drawn
+use Rattle.multi_meaning.specs.Picture.{shown_colour}
+use Rattle.multi_meaning.proofs.DrawnLemmas.{covered_cover, covered_same}
+use Rattle.std.proofs.lemmas.Bool.{false≢true}
+use Rattle.multi_meaning.proofs.MeaningLemmas.{does_tag}
+use Rattle.multi_meaning.proofs.SpotsLemmas.{same_page_behind}
 use Rattle.multi_layout.specs.declared.cursor.Cursor.{Cursor}
 use Rattle.multi_layout.specs.declared.paint.Layer.{Layer}
 use Rattle.multi_layout.specs.declared.state.State.{State}
 use Rattle.multi_layout.specs.declared.attributes.Attributes.{Attributes}
-use Rattle.multi_layout.specs.Address.{Standing, standing, put_at, spots, Break}
 use Rattle.multi_layout.specs.Limits.{plane_octets}
-use Rattle.std.proofs.lemmas.Bool.{false≢true}
 use Rattle.multi_layout.specs.kept.KnownItem.{is_setting}
-use Rattle.multi_layout.specs.Meaning.{Meaning, Does, Shows, begins_area, is_new_page, meaning, meaning_of_tag}
-use Rattle.multi_layout.specs.Drawn.{has_colour}
-use Rattle.multi_layout.specs.Drawn as drawn
 use Rattle.multi_layout.specs.kept.AreaDrawing.{DrawsGlyph, DrawsOn, IsDrawnTo, IsFilledBy, IsQuiet}
-use Rattle.multi_layout.specs.Picture.{shown_colour}
 use Rattle.multi_layout.specs.kept.State.{IsStateOf}
 use Rattle.multi_layout.specs.kept.Sums.{IsBelow}
 use Rattle.multi_layout.specs.kept.Cursors.{IsBetween, meant, LaidItem}
-use Rattle.multi_layout.proofs.DrawnLemmas.{covered_cover, covered_same}
 use Rattle.multi_layout.proofs.BoundLemmas.{below_more}
-use Rattle.multi_layout.proofs.MeaningLemmas.{does_tag}
 use Rattle.multi_layout.proofs.PaintLemmas.{glyph_found}
-use Rattle.multi_layout.proofs.SpotsLemmas.{same_page_behind}
 use Rattle.multi_layout.proofs.WalkLemmas.{few_between}
 
 -- FOUR OCTETS

@@ -4,27 +4,28 @@ use Rattle.std.specs.List.{after_last, list_any, All, AllPass}
 use Rattle.std.specs.Option.{option_map}
 use Rattle.std.proofs.lemmas.List.Elements.{All-nil, All-cons, All-head, All-tail}
 use Rattle.sign_font.specs.Sign.{info_of}
+use Rattle.multi_meaning.specs.Address.{Spot, is_break, is_glyph}
+use Rattle.multi_meaning.specs.Fit.{line_fits}
+use Rattle.multi_meaning.specs.Filling.{CutAt, cut_at_last, dropped, filled, is_space}
+use Rattle.multi_meaning.specs.Offence.{clashes}
+use Rattle.multi_meaning.specs.kept.Present.{IsPlacing, ended_lines}
+use Rattle.multi_meaning.proofs.FilledEndedLemmas.{broken_line}
+use Rattle.multi_meaning.proofs.EndedLemmas.{ended_break, ended_glyph}
+use Rattle.multi_meaning.proofs.FilledSumLemmas.{breaks, drops, stands, stays, word_grows}
+use Rattle.multi_meaning.proofs.FillListLemmas.{is_cut}
+use Rattle.multi_meaning.proofs.CutLemmas.{Cut}
+use Rattle.multi_meaning.proofs.LaidSpotLemmas.{LaidAll, LaidAs, filled_laid}
+use Rattle.multi_meaning.proofs.LaidLemmas.{ended, ended_ends, ends_open, open_line, open_line_glyphs, open_line_is, filled_is, cut_with}
+use Rattle.multi_meaning.proofs.BehindLemmas.{after_last_is}
 use Rattle.multi_layout.specs.declared.area.Group.{Group}
 use Rattle.multi_layout.specs.declared.fill.Split.{Split}
 use Rattle.multi_layout.specs.declared.line.Character.{Character}
 use Rattle.multi_layout.specs.declared.line.Line.{Line}
-use Rattle.multi_layout.specs.Address.{Spot, is_break, is_glyph}
-use Rattle.multi_layout.specs.Fit.{line_fits}
-use Rattle.multi_layout.specs.Filling.{CutAt, cut_at_last, dropped, filled, is_space}
 use Rattle.multi_layout.specs.kept.FillSums.{EndsLine, parts_sum, split_sum}
-use Rattle.multi_layout.specs.Offence.{clashes}
-use Rattle.multi_layout.specs.kept.Sums.{IsBreak, IsCharacter, IsPlacing, ended_lines, group_sum, line_sum}
+use Rattle.multi_layout.specs.kept.Sums.{IsBreak, IsCharacter, group_sum, line_sum}
 use Rattle.multi_layout.proofs.BreakLemmas.{all_glyphs, none_behind, relined}
-use Rattle.multi_layout.proofs.FilledEndedLemmas.{broken_line}
-use Rattle.multi_layout.proofs.TableLemmas.{ended_break, ended_glyph}
-use Rattle.multi_layout.proofs.FilledSumLemmas.{breaks, drops, stands, stays, word_grows}
-use Rattle.multi_layout.proofs.FillListLemmas.{is_cut}
 use Rattle.multi_layout.proofs.FillSplitLemmas.{no_split, parts_of}
-use Rattle.multi_layout.proofs.CutLemmas.{Cut}
 use Rattle.multi_layout.proofs.GroupSumLemmas.{present_push}
-use Rattle.multi_layout.proofs.LaidSpotLemmas.{LaidAll, LaidAs, filled_laid}
-use Rattle.multi_layout.proofs.LaidLemmas.{ended, ended_ends, ends_open, open_line, open_line_glyphs, open_line_is, filled_is, cut_with}
-use Rattle.multi_layout.proofs.BehindLemmas.{after_last_is}
 
 -- with another present line
 abbrev pub with_line : Group → Line → Group

@@ -3,18 +3,18 @@ use Rattle.std.proofs.Common.{◌≡◌, ℕ, ◌+◌, true, false, List, [], �
 use Rattle.std.proofs.lemmas.Bool.{or_parts}
 use Rattle.std.specs.List.{AllPass, list_any}
 use Rattle.std.specs.Option.{option_map}
-use Rattle.std.proofs.lemmas.List.Elements.{All-nil, All-cons, All-head, All-tail}
 use Rattle.sign_font.specs.Sign.{info_of}
+use Rattle.multi_meaning.specs.Address.{Spot, is_glyph}
+use Rattle.multi_meaning.specs.Filling.{CutAt, cut_at_last, is_space, longer}
+use Rattle.multi_meaning.specs.Offence.{clashes}
+use Rattle.multi_meaning.proofs.FilledSumLemmas.{word_begins, word_grows}
+use Rattle.multi_meaning.proofs.FillListLemmas.{is_cut}
+use Rattle.multi_meaning.proofs.GroupLemmas.{glyphs_around}
 use Rattle.multi_layout.specs.declared.fill.Split.{Split}
 use Rattle.multi_layout.specs.declared.line.Character.{Character}
 use Rattle.multi_layout.specs.declared.line.Line.{Line}
-use Rattle.multi_layout.specs.Address.{Spot, is_glyph}
-use Rattle.multi_layout.specs.Filling.{CutAt, cut_at_last, is_space, longer}
 use Rattle.multi_layout.specs.kept.FillSums.{parts_sum, split_sum}
-use Rattle.multi_layout.specs.Offence.{clashes}
 use Rattle.multi_layout.specs.kept.Sums.{IsCharacter, IsLineBelow, line_sum}
-use Rattle.multi_layout.proofs.FilledSumLemmas.{word_begins, word_grows}
-use Rattle.multi_layout.proofs.FillListLemmas.{is_cut}
 
 some_split : (split : Split) (o : Option (CutAt Spot)) → option_map parts_sum o ≡ Some split → (c : CutAt Spot) × (o ≡ Some c) × (parts_sum c ≡ split)
 some_split split None e = absurd cc
@@ -23,13 +23,6 @@ some_split split (Some c) e = (c, refl, (let same : parts_sum c ≡ split = cc i
 pub no_split : (o : Option (CutAt Spot)) → option_map parts_sum o ≡ None → o ≡ None
 no_split None e = refl
 no_split (Some c) e = absurd cc
-
--- what stands around an item of a line of characters is characters
-pub glyphs_around : (xs : List Spot) (x : Spot) (ys : List Spot) → AllPass is_glyph (xs ++ x ∷ ys) → AllPass is_glyph xs × AllPass is_glyph ys
-glyphs_around [] x ys h = (All-nil (λ x. is_glyph x ≡ true), All-tail (λ x. is_glyph x ≡ true) x ys h)
-glyphs_around (z ∷ xs) x ys h =
-    let rest = glyphs_around xs x ys (All-tail (λ x. is_glyph x ≡ true) z (xs ++ x ∷ ys) h) in
-    (All-cons (λ x. is_glyph x ≡ true) z xs (All-head (λ x. is_glyph x ≡ true) z (xs ++ x ∷ ys) h) rest.0, rest.1)
 
 -- what doesn't clash with a line doesn't with its end
 pub no_clash_behind : (s : Spot) (xs : List Spot) (x : Spot) (ys : List Spot) → list_any (clashes s) (xs ++ x ∷ ys) ≡ false → list_any (clashes s) ys ≡ false

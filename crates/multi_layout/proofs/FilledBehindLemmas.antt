@@ -9,38 +9,38 @@ use Rattle.multi_tag.specs.declared.tag.Tag.TheVariants.{NewPage, NewLine, Back,
 use Rattle.sign_font.specs.declared.parts.LineFill.{LineFill}
 use Rattle.sign_font.specs.declared.parts.LineFill.TheVariants.{Off, Words}
 use Rattle.sign_font.specs.Sign.{SignData}
+use Rattle.multi_meaning.specs.declared.fault.SyntaxError.{SyntaxError}
+use Rattle.multi_meaning.specs.Address.{Break, Cover, Spot, Standing, in_area, in_group, is_break, spots, standing}
+use Rattle.multi_meaning.specs.Filling.{filled}
+use Rattle.multi_meaning.specs.Fit.{line_fits}
+use Rattle.multi_meaning.specs.Laid.{too_big}
+use Rattle.multi_meaning.specs.LaidItems.{laid_items}
+use Rattle.multi_meaning.specs.Meaning.{Meaning, Does}
+use Rattle.multi_meaning.specs.Offence.{conflicts, offence}
+use Rattle.multi_meaning.specs.kept.Present.{present_area, standing_behind}
+use Rattle.multi_meaning.specs.Words.{largest}
+use Rattle.multi_meaning.proofs.GroupLemmas.{in_group_other, own_group, placing_group, area_placing}
+use Rattle.multi_meaning.proofs.FillLemmas.{nothing_fits}
+use Rattle.multi_meaning.proofs.FilledOnLemmas.{largest_laid}
+use Rattle.multi_meaning.proofs.FilledTagLemmas.{offends_as_laid}
+use Rattle.multi_meaning.proofs.LaidItemLemmas.{are_laid}
+use Rattle.multi_meaning.proofs.LaidLemmas.{filled_break}
+use Rattle.multi_meaning.proofs.LaidTagLemmas.{laid_tag}
+use Rattle.multi_meaning.proofs.OffenceLemmas.{offence-break}
+use Rattle.multi_meaning.proofs.UnplacedLemmas.{no_conflict}
+use Rattle.multi_meaning.proofs.StandingLemmas.{standing_push}
+use Rattle.multi_meaning.proofs.StateLemmas.{present_area-cover, present_area-new, present_area-nothing, present_area-placing}
+use Rattle.multi_meaning.proofs.BehindLemmas.{after_last_push}
+use Rattle.multi_meaning.proofs.WordLemmas.{largest_push}
 use Rattle.multi_layout.specs.declared.area.Area.{Area}
-use Rattle.multi_layout.specs.declared.fault.SyntaxError.{SyntaxError}
 use Rattle.multi_layout.specs.declared.pass.Pass.{Pass}
 use Rattle.multi_layout.specs.declared.state.State.{State}
-use Rattle.multi_layout.specs.Address.{Break, Cover, Spot, Standing, in_area, in_group, is_break, spots, standing}
-use Rattle.multi_layout.specs.Filling.{filled}
 use Rattle.multi_layout.specs.kept.FilledState.{IsFilledOf, begins_line}
 use Rattle.multi_layout.specs.kept.FillSums.{order_sum, split_sum}
 use Rattle.multi_layout.specs.kept.PassState.{IsItemJudged}
-use Rattle.multi_layout.specs.Fit.{line_fits}
-use Rattle.multi_layout.specs.Laid.{too_big}
-use Rattle.multi_layout.specs.LaidItems.{laid_items}
-use Rattle.multi_layout.specs.Meaning.{Meaning, Does}
-use Rattle.multi_layout.specs.Offence.{conflicts, offence}
-use Rattle.multi_layout.specs.kept.State.{IsJudged, IsStateOf, present_area, standing_behind}
-use Rattle.multi_layout.specs.Words.{largest}
-use Rattle.multi_layout.proofs.AreaSumLemmas.{in_group_other, no_back}
+use Rattle.multi_layout.specs.kept.State.{IsJudged, IsStateOf}
+use Rattle.multi_layout.proofs.AreaSumLemmas.{no_back}
 use Rattle.multi_layout.proofs.BoundLemmas.{split_more}
-use Rattle.multi_layout.proofs.FillLemmas.{nothing_fits}
-use Rattle.multi_layout.proofs.FilledOnLemmas.{largest_laid}
-use Rattle.multi_layout.proofs.FilledTagLemmas.{offends_as_laid}
-use Rattle.multi_layout.proofs.GroupSumLemmas.{own_group, placing_group}
-use Rattle.multi_layout.proofs.AreaSumLemmas.{area_placing}
-use Rattle.multi_layout.proofs.LaidItemLemmas.{are_laid}
-use Rattle.multi_layout.proofs.LaidLemmas.{filled_break}
-use Rattle.multi_layout.proofs.LaidTagLemmas.{laid_tag}
-use Rattle.multi_layout.proofs.OffenceLemmas.{offence-break}
-use Rattle.multi_layout.proofs.PlacingLemmas.{no_conflict}
-use Rattle.multi_layout.proofs.StandingLemmas.{standing_push}
-use Rattle.multi_layout.proofs.StateLemmas.{present_area-cover, present_area-new, present_area-nothing, present_area-placing}
-use Rattle.multi_layout.proofs.BehindLemmas.{after_last_push}
-use Rattle.multi_layout.proofs.WordLemmas.{largest_push}
 
 -- the group that is present is the last one of the items, whether they are laid out or not
 pub present_laid : (sign : SignData) (items : List Meaning) (state : State) → IsStateOf sign (laid_items Words sign items items) state

@@ -4,22 +4,22 @@ use Rattle.std.specs.List.{after_last, list_any}
 use Rattle.std.proofs.lemmas.Bool.{eq-eqb}
 use Rattle.sign_font.specs.declared.parts.LineFill.TheVariants.{Words}
 use Rattle.sign_font.specs.Sign.{SignData, CellData, cell_numbered}
+use Rattle.multi_meaning.specs.Address.{Glyph, Spot, area_of, group_of, in_area, in_group, is_break, spots, standing}
+use Rattle.multi_meaning.specs.kept.Present.{IsFilledOn, present_area}
+use Rattle.multi_meaning.specs.Fit.{area_fits, line_fits}
+use Rattle.multi_meaning.specs.Laid.{laid, too_big}
+use Rattle.multi_meaning.specs.LaidItems.{laid_items}
+use Rattle.multi_meaning.specs.Meaning.{Meaning, Shows}
+use Rattle.multi_meaning.specs.Offence.{character_cases, clashes, conflicts, first_code, offence, offence_by}
+use Rattle.multi_meaning.specs.Words.{largest}
+use Rattle.multi_meaning.proofs.FilledOnLemmas.{filled_on, largest_laid}
+use Rattle.multi_meaning.proofs.FilledTagLemmas.{same_width}
+use Rattle.multi_meaning.proofs.LaidFitLemmas.{too_big_laid}
 use Rattle.multi_layout.specs.declared.area.Area.{Area}
 use Rattle.multi_layout.specs.declared.state.State.{State}
-use Rattle.multi_layout.specs.Address.{Glyph, Spot, area_of, group_of, in_area, in_group, is_break, spots, standing}
-use Rattle.multi_layout.specs.kept.FillSums.{IsFilledOn}
-use Rattle.multi_layout.specs.Fit.{area_fits, line_fits}
-use Rattle.multi_layout.specs.Laid.{laid, too_big}
-use Rattle.multi_layout.specs.LaidItems.{laid_items}
-use Rattle.multi_layout.specs.Meaning.{Meaning, Shows}
-use Rattle.multi_layout.specs.Offence.{character_cases, clashes, conflicts, first_code, offence, offence_by}
-use Rattle.multi_layout.specs.kept.State.{IsStateOf, present_area}
-use Rattle.multi_layout.specs.Words.{largest}
+use Rattle.multi_layout.specs.kept.State.{IsStateOf}
 use Rattle.multi_layout.proofs.AreaSumLemmas.{conflicts_kept, no_back}
-use Rattle.multi_layout.proofs.FilledOnLemmas.{filled_on, largest_laid}
 use Rattle.multi_layout.proofs.FilledStateLemmas.{laid_area, laid_area_more}
-use Rattle.multi_layout.proofs.FilledTagLemmas.{same_width}
-use Rattle.multi_layout.proofs.LaidFitLemmas.{too_big_laid}
 
 module _ (sign : SignData) (items : List Meaning) (number : ℕ) (cell : CellData) (found : cell_numbered (standing sign items).font number ≡ Some cell) where
   abbrev more : List Meaning

@@ -4,29 +4,30 @@ use Rattle.std.specs.List.{All, after_last, list_any}
 use Rattle.sign_font.specs.declared.parts.LineFill.TheVariants.{Words}
 use Rattle.sign_font.specs.Cell.{SizedCell}
 use Rattle.sign_font.specs.Sign.{SignData, CellData, cell_in, cell_numbered}
+use Rattle.multi_meaning.specs.Address.{Glyph, Spot, Standing, area_of, group_of, in_group, is_break, spots, standing}
+use Rattle.multi_meaning.specs.Filling.{filled, is_space}
+use Rattle.multi_meaning.specs.Fit.{area_fits, line_fits}
+use Rattle.multi_meaning.specs.LaidItems.{laid_items}
+use Rattle.multi_meaning.specs.Meaning.{Meaning, Shows}
+use Rattle.multi_meaning.specs.Offence.{clashes, conflicts, first_code, never_big, offence, unsized_offence}
+use Rattle.multi_meaning.specs.kept.Present.{present_area, IsPlacing}
+use Rattle.multi_meaning.proofs.GroupLemmas.{area_placing, placing_group}
+use Rattle.multi_meaning.proofs.LaidItemLemmas.{are_laid}
+use Rattle.multi_meaning.proofs.OffenceLemmas.{offence-character}
 use Rattle.multi_layout.specs.declared.area.Area.{Area}
 use Rattle.multi_layout.specs.declared.fill.Split.{Split}
 use Rattle.multi_layout.specs.declared.line.Character.{Character}
 use Rattle.multi_layout.specs.declared.line.Line.{Line}
 use Rattle.multi_layout.specs.declared.attributes.Attributes.{Attributes}
 use Rattle.multi_layout.specs.declared.pass.Pass.{Pass}
-use Rattle.multi_layout.specs.Address.{Glyph, Spot, Standing, area_of, group_of, in_group, is_break, spots, standing}
-use Rattle.multi_layout.specs.Filling.{filled, is_space}
 use Rattle.multi_layout.specs.kept.FillSums.{EndsLine, FillsArea, order_sum, split_sum}
-use Rattle.multi_layout.specs.Fit.{area_fits, line_fits}
 use Rattle.multi_layout.specs.kept.FilledState.{IsFilledOf}
-use Rattle.multi_layout.specs.LaidItems.{laid_items}
-use Rattle.multi_layout.specs.Meaning.{Meaning, Shows}
-use Rattle.multi_layout.specs.Offence.{clashes, conflicts, first_code, never_big, offence, unsized_offence}
-use Rattle.multi_layout.specs.kept.State.{attributes_of, present_area}
-use Rattle.multi_layout.specs.kept.Sums.{IsCharacter, IsPlacing, area_sum, line_sum}
-use Rattle.multi_layout.proofs.AreaSumLemmas.{area_placing, both_fit, no_back, no_clash}
+use Rattle.multi_layout.specs.kept.State.{attributes_of}
+use Rattle.multi_layout.specs.kept.Sums.{IsCharacter, area_sum, line_sum}
+use Rattle.multi_layout.proofs.AreaSumLemmas.{both_fit, no_back, no_clash}
 use Rattle.multi_layout.proofs.FilledCharacterLemmas.{area_with, conflicts_by, doesn't_fit, goes_behind, offends_by, offends_without, present_is, shown}
 use Rattle.multi_layout.proofs.FilledOrderLemmas.{no_clash_filled}
-use Rattle.multi_layout.proofs.GroupSumLemmas.{placing_group}
 use Rattle.multi_layout.proofs.JudgedLemmas.{cell_found, cell_missing}
-use Rattle.multi_layout.proofs.LaidItemLemmas.{are_laid}
-use Rattle.multi_layout.proofs.OffenceLemmas.{offence-character}
 
 not_not : (a b : Bool) → not a ≡ not b → a ≡ b
 not_not true true e = refl

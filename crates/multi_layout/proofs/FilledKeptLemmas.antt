@@ -1,14 +1,25 @@
 -- What is kept behind one more character, where lines are filled.
-use Rattle.std.proofs.Common.{◌≡◌, ℕ, ◌+◌, ◌*◌, ◌≤◌, Bool, true, false, cond, not, ◌&&◌, ◌||◌, ◌==◌, inl, inr, List, [], ◌∷◌, ◌++◌, length, Option, Some, None, refl, sym, ap, subst, ◌∙◌, arith}
-use Rattle.std.specs.List.{All, after_last, find, list_any}
+use Rattle.std.proofs.Common.{◌≡◌, ℕ, ◌+◌, ◌*◌, ◌≤◌, Bool, true, false, not, ◌&&◌, ◌||◌, ◌==◌, inl, inr, List, [], ◌∷◌, ◌++◌, length, Option, Some, None, refl, sym, ap, subst, ◌∙◌, arith}
+use Rattle.std.specs.List.{All, after_last, list_any}
 use Rattle.std.specs.Option.{option_map}
-use Rattle.std.proofs.lemmas.Bool.{cases_Bool, cases_eq, eq-eqb, eqb-true, false≢true}
+use Rattle.std.proofs.lemmas.Bool.{cases_eq, eq-eqb, eqb-true, false≢true}
 use Rattle.std.proofs.lemmas.List.{length-append}
-use Rattle.std.proofs.lemmas.Option.{same_Some}
 use Rattle.sign_font.specs.declared.parts.LineFill.{LineFill}
 use Rattle.sign_font.specs.declared.parts.LineFill.TheVariants.{Words}
 use Rattle.sign_font.specs.Cell.{SizedCell}
 use Rattle.sign_font.specs.Sign.{SignData, CellData, cell_in, cell_numbered}
+use Rattle.multi_meaning.specs.Address.{Glyph, Spot, Standing, group_of, in_group, is_break, put_at, spots, standing}
+use Rattle.multi_meaning.specs.Filling.{filled}
+use Rattle.multi_meaning.specs.Fit.{area_fits, line_fits}
+use Rattle.multi_meaning.specs.LaidItems.{laid_item, laid_items}
+use Rattle.multi_meaning.specs.Meaning.{Meaning, Shows}
+use Rattle.multi_meaning.specs.Offence.{clashes, conflicts, first_code, offence, unsized_offence}
+use Rattle.multi_meaning.specs.kept.Present.{present_area, IsPlacing}
+use Rattle.multi_meaning.proofs.GroupLemmas.{in_group_other, own_group}
+use Rattle.multi_meaning.proofs.StandingLemmas.{standing_push}
+use Rattle.multi_meaning.proofs.StateLemmas.{present_area-placing}
+use Rattle.multi_meaning.proofs.WordLemmas.{each_after_length}
+use Rattle.multi_meaning.proofs.FoundLemmas.{spaces_is}
 use Rattle.multi_layout.specs.declared.area.Area.{Area}
 use Rattle.multi_layout.specs.declared.attributes.Attributes.{Attributes}
 use Rattle.multi_layout.specs.declared.fill.Split.{Split}
@@ -16,41 +27,21 @@ use Rattle.multi_layout.specs.declared.pass.Pass.{Pass}
 use Rattle.multi_layout.specs.declared.line.Character.{Character}
 use Rattle.multi_layout.specs.declared.pass.Order.{Order}
 use Rattle.multi_layout.specs.declared.line.Line.{Line}
-use Rattle.multi_layout.specs.Address.{Glyph, Spot, Standing, group_of, in_group, is_break, put_at, spots, standing}
-use Rattle.multi_layout.specs.Filling.{filled, is_space}
 use Rattle.multi_layout.specs.kept.AreaReading.{IsFilledPut}
 use Rattle.multi_layout.specs.kept.FilledState.{IsFilledFor, IsFilledOf}
 use Rattle.multi_layout.specs.kept.FillSums.{EndsLine, IsSplitBelow, order_sum, split_sum}
-use Rattle.multi_layout.specs.Fit.{area_fits, line_fits}
-use Rattle.multi_layout.specs.LaidItems.{laid_item, laid_items}
-use Rattle.multi_layout.specs.Meaning.{Meaning, Shows}
-use Rattle.multi_layout.specs.Offence.{clashes, conflicts, first_code, offence, unsized_offence}
-use Rattle.multi_layout.specs.kept.State.{present_area}
-use Rattle.multi_layout.specs.kept.Sums.{IsBelow, IsCharacter, IsPlacing, area_sum, line_sum}
-use Rattle.multi_layout.proofs.AreaSumLemmas.{group_behind, in_group_other, no_back, no_clash}
+use Rattle.multi_layout.specs.kept.Sums.{IsBelow, IsCharacter, area_sum, line_sum}
+use Rattle.multi_layout.proofs.AreaSumLemmas.{group_behind, no_back, no_clash}
 use Rattle.multi_layout.proofs.FilledCharacterLemmas.{area_with, doesn't_fit, goes_behind, offends_by, offends_without, present_is, shown}
 use Rattle.multi_layout.proofs.FilledJudgedLemmas.{Fills, attributes_here, filled_fit, filled_grown, filled_size, found_here, shown_character}
 use Rattle.multi_layout.proofs.FilledStateLemmas.{filled_state}
-use Rattle.multi_layout.proofs.GroupSumLemmas.{own_group, present_push}
+use Rattle.multi_layout.proofs.GroupSumLemmas.{present_push}
 use Rattle.multi_layout.proofs.JudgedLemmas.{no_conflict}
-use Rattle.multi_layout.proofs.StandingLemmas.{standing_push}
-use Rattle.multi_layout.proofs.StateLemmas.{present_area-placing}
-use Rattle.multi_layout.proofs.WordLemmas.{each_after_length}
 
 none_of_both : (a b : Bool) → first_code ((a, 11) ∷ (b, 5) ∷ []) ≡ None → (a ≡ false) × (b ≡ false)
 none_of_both true b e = cc
 none_of_both false true e = cc
 none_of_both false false e = (refl, refl)
-
--- the cell that was found has the number that was asked for
-pub found_cell : (cells : List CellData) (n : ℕ) (cell : CellData) → find (λ c. c.number == n) cells ≡ Some cell → cell.number ≡ n
-found_cell [] n cell e = cc
-found_cell (c ∷ cells) n cell e = elim (cases_Bool (c.number == n)) [
-  | inl here ↦
-      let is : Some c ≡ Some cell = sym (ap (λ b. cond b (Some c) (find (λ d. d.number == n) cells)) here) ∙ e in
-      ap (λ (d : CellData). d.number) (sym (same_Some c cell is)) ∙ eqb-true c.number n here
-  | inr there ↦ found_cell cells n cell (sym (ap (λ b. cond b (Some c) (find (λ d. d.number == n) cells)) there) ∙ e)
-]
 
 -- as many items are laid out as there are
 pub laid_count : (sign : SignData) (items : List Meaning) → length (laid_items Words sign items items) ≡ length items
@@ -62,10 +53,6 @@ module _ (sign : SignData) (items : List Meaning) (number : ℕ) (cell : CellDat
 
   abbrev more : List Meaning
   more = items ++ Shows number ∷ []
-
-  -- it is a space by its number
-  pub spaces_is : is_space s ≡ (number == 32)
-  spaces_is = ap (λ n. n == 32) (found_cell (standing sign items).font.cells number cell found)
 
   -- the characters of its area with it
   present_more : present_area sign more ≡ present_area sign items ++ s ∷ []

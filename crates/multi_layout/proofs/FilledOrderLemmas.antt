@@ -4,20 +4,21 @@ use Rattle.std.proofs.Common.{◌≡◌, ℕ, Bool, true, false, ◌&&◌, ◌||
 use Rattle.std.specs.Prelude.{nat_lt}
 use Rattle.std.specs.List.{after_last, list_any, All}
 use Rattle.std.proofs.lemmas.Bool.{le-ltb, or_parts}
+use Rattle.multi_meaning.specs.Address.{Spot, is_break}
+use Rattle.multi_meaning.specs.Filling.{CutAt, soft_break, filled}
+use Rattle.multi_meaning.specs.Offence.{clashes}
+use Rattle.multi_meaning.specs.kept.Present.{IsPlacing}
+use Rattle.multi_meaning.specs.Words.{largest}
+use Rattle.multi_meaning.proofs.BehindLemmas.{after_last_is}
+use Rattle.multi_meaning.proofs.CutLemmas.{cut}
+use Rattle.multi_meaning.proofs.FillLemmas.{broken_parts, parts, parts_off}
+use Rattle.multi_meaning.proofs.LaidLemmas.{open_line, open_line_is}
+use Rattle.multi_meaning.proofs.WordLemmas.{largest_push}
 use Rattle.multi_layout.specs.declared.pass.Order.{Order}
-use Rattle.multi_layout.specs.Address.{Spot, is_break}
 use Rattle.multi_layout.specs.kept.FillSums.{order_sum}
-use Rattle.multi_layout.specs.Filling.{CutAt, soft_break, filled}
-use Rattle.multi_layout.specs.Offence.{clashes}
-use Rattle.multi_layout.specs.kept.Sums.{IsPlacing, line_sum}
-use Rattle.multi_layout.specs.Words.{largest}
-use Rattle.multi_layout.proofs.BehindLemmas.{after_last_is}
-use Rattle.multi_layout.proofs.CutLemmas.{cut}
-use Rattle.multi_layout.proofs.FillLemmas.{broken_parts, parts, parts_off}
-use Rattle.multi_layout.proofs.LaidLemmas.{open_line, open_line_is}
+use Rattle.multi_layout.specs.kept.Sums.{line_sum}
 use Rattle.multi_layout.proofs.LineSumLemmas.{any_more, in_order, line_clashes}
 use Rattle.multi_layout.proofs.RunLemmas.{not_full, or_same}
-use Rattle.multi_layout.proofs.WordLemmas.{largest_push}
 
 -- what holds of no item of a list holds of none of its end
 none_behind : (p : Spot → Bool) (xs ys : List Spot) → list_any p (xs ++ ys) ≡ false → list_any p ys ≡ false

@@ -4,26 +4,27 @@ use Rattle.std.specs.List.{after_last}
 use Rattle.multi_token.specs.Counted.{Counted}
 use Rattle.sign_font.specs.declared.parts.LineFill.TheVariants.{Words}
 use Rattle.sign_font.specs.Sign.{SignData}
+use Rattle.multi_meaning.specs.Address.{Spot, Standing, in_group, is_break, standing}
+use Rattle.multi_meaning.specs.Filling.{filled}
+use Rattle.multi_meaning.specs.kept.FillOpen.{AllOpenFit}
+use Rattle.multi_meaning.specs.LaidItems.{laid_items}
+use Rattle.multi_meaning.specs.Meaning.{Meaning, meaning}
+use Rattle.multi_meaning.specs.kept.Present.{present_area}
+use Rattle.multi_meaning.specs.Times.{cycle, ended_times}
+use Rattle.multi_meaning.specs.Verdict.{pages_of}
+use Rattle.multi_meaning.proofs.FillLemmas.{nothing_fits}
+use Rattle.multi_meaning.proofs.LaidItemLemmas.{are_laid}
 use Rattle.multi_layout.specs.declared.pass.Pass.{Pass}
 use Rattle.multi_layout.specs.declared.state.State.{State}
-use Rattle.multi_layout.specs.Address.{Spot, Standing, in_group, is_break, standing}
-use Rattle.multi_layout.specs.Filling.{filled}
-use Rattle.multi_layout.specs.kept.FillOpen.{AllOpenFit}
 use Rattle.multi_layout.specs.kept.FillSums.{order_sum, split_sum}
 use Rattle.multi_layout.specs.kept.FilledState.{IsFilledFor, IsFilledOf, IsFilledReady}
-use Rattle.multi_layout.specs.LaidItems.{laid_items}
-use Rattle.multi_layout.specs.Meaning.{Meaning, meaning}
 use Rattle.multi_layout.specs.kept.Judging.{IsAt, IsTold, ReadSoFar}
-use Rattle.multi_layout.specs.kept.State.{IsStateOf, present_area, whole_times}
-use Rattle.multi_layout.specs.Times.{cycle, ended_times}
-use Rattle.multi_layout.specs.Verdict.{pages_of}
+use Rattle.multi_layout.specs.kept.State.{IsStateOf, whole_times}
 use Rattle.multi_layout.proofs.BoundLemmas.{split_more}
-use Rattle.multi_layout.proofs.FillLemmas.{nothing_fits}
 use Rattle.multi_layout.proofs.FilledJudgedLemmas.{attributes_here}
 use Rattle.multi_layout.proofs.FilledKeptLemmas.{laid_count}
 use Rattle.multi_layout.proofs.FilledStateLemmas.{pages_at, same_times}
 use Rattle.multi_layout.proofs.JudgedLemmas.{ready}
-use Rattle.multi_layout.proofs.LaidItemLemmas.{are_laid}
 use Rattle.multi_layout.proofs.ReadLemmas.{accepted_at_end, at_end, cycle_at_end, few_here}
 
 -- what is kept where an area begins

@@ -7,32 +7,31 @@ use Rattle.multi_tag.specs.declared.tag.Tag.{Tag}
 use Rattle.sign_font.specs.declared.parts.LineFill.TheVariants.{Words}
 use Rattle.sign_font.specs.Sign.{SignData, CellData, cell_numbered}
 use Rattle.sign_font.specs.Sound.{IsSound}
+use Rattle.multi_meaning.specs.Address.{Standing, in_group, is_break, spots, standing}
+use Rattle.multi_meaning.specs.Filling.{filled}
+use Rattle.multi_meaning.specs.Fit.{area_fits, line_fits}
+use Rattle.multi_meaning.specs.Laid.{too_big}
+use Rattle.multi_meaning.specs.LaidItems.{laid_items}
+use Rattle.multi_meaning.specs.Meaning.{Does, Faulty, Meaning, Shows, meaning}
+use Rattle.multi_meaning.specs.Offence.{conflicts, first_code, never_big, offence}
+use Rattle.multi_meaning.specs.kept.Present.{present_area, IsNarrowArea}
+use Rattle.multi_meaning.specs.Verdict.{offences}
+use Rattle.multi_meaning.proofs.FilledTagLemmas.{offends_as_laid}
+use Rattle.multi_meaning.proofs.InForceLemmas.{rectangle_width_within, rectangle_within}
+use Rattle.multi_meaning.proofs.LaidItemLemmas.{are_laid}
+use Rattle.multi_meaning.proofs.LaidTagLemmas.{laid_tag}
+use Rattle.multi_meaning.proofs.NarrowLemmas.{narrow_of}
+use Rattle.multi_meaning.proofs.OffenceLemmas.{offence-faulty}
+use Rattle.multi_meaning.proofs.RoomLemmas.{fits_first, fits_next, room_of}
+use Rattle.multi_meaning.proofs.OrderlyLemmas.{orderly_items}
+use Rattle.multi_meaning.proofs.StandingLemmas.{standing_push}
+use Rattle.multi_meaning.proofs.UnplacedLemmas.{last_fine}
+use Rattle.multi_meaning.proofs.WordLemmas.{push_ind}
 use Rattle.multi_layout.specs.declared.pass.Pass.{Pass}
-use Rattle.multi_layout.specs.Address.{Standing, in_group, is_break, spots, standing}
 use Rattle.multi_layout.specs.kept.FilledState.{IsFilledOf}
-use Rattle.multi_layout.specs.Filling.{filled}
-use Rattle.multi_layout.specs.Fit.{area_fits, line_fits}
-use Rattle.multi_layout.specs.Laid.{too_big}
-use Rattle.multi_layout.specs.LaidItems.{laid_items}
-use Rattle.multi_layout.specs.Meaning.{Does, Faulty, Meaning, Shows, meaning}
-use Rattle.multi_layout.specs.Offence.{conflicts, first_code, never_big, offence}
 use Rattle.multi_layout.specs.kept.AreaDrawing.{HasRoom}
-use Rattle.multi_layout.specs.kept.State.{present_area}
-use Rattle.multi_layout.specs.kept.Table.{IsNarrowArea}
-use Rattle.multi_layout.specs.Verdict.{offences}
 use Rattle.multi_layout.proofs.FilledCharacterLemmas.{area_with, offends_by, offends_without, shown}
-use Rattle.multi_layout.proofs.FilledTagLemmas.{offends_as_laid}
-use Rattle.multi_layout.proofs.InForceLemmas.{rectangle_width_within, rectangle_within}
-use Rattle.multi_layout.proofs.LaidItemLemmas.{are_laid}
-use Rattle.multi_layout.proofs.LaidTagLemmas.{laid_tag}
-use Rattle.multi_layout.proofs.NarrowLemmas.{narrow_of}
-use Rattle.multi_layout.proofs.OffenceLemmas.{offence-faulty}
-use Rattle.multi_layout.proofs.RoomLemmas.{fits_first, fits_next, room_of}
-use Rattle.multi_layout.proofs.OrderlyLemmas.{orderly_items}
 use Rattle.multi_layout.proofs.WholeAreaLemmas.{laid_group_is}
-use Rattle.multi_layout.proofs.StandingLemmas.{standing_push}
-use Rattle.multi_layout.proofs.WalkLemmas.{last_fine}
-use Rattle.multi_layout.proofs.WordLemmas.{push_ind}
 
 module _ (sign : SignData) where
   abbrev pub laid : List Meaning → List Meaning

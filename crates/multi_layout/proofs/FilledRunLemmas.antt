@@ -11,6 +11,11 @@ use Rattle.multi_token.specs.Spelling.{IsPlain}
 use Rattle.multi_token.proofs.PlaceLemmas.{single_token}
 use Rattle.sign_font.specs.Cell.{SizedCell}
 use Rattle.sign_font.specs.Sign.{SignData, cell_in}
+use Rattle.multi_meaning.specs.Address.{Spot, is_break, is_glyph}
+use Rattle.multi_meaning.specs.Filling.{filled, is_space}
+use Rattle.multi_meaning.specs.Fit.{line_fits}
+use Rattle.multi_meaning.specs.Meaning.{meaning}
+use Rattle.multi_meaning.specs.Offence.{clashes}
 use Rattle.multi_layout.specs.declared.area.Area.{Area}
 use Rattle.multi_layout.specs.declared.attributes.Attributes.{Attributes}
 use Rattle.multi_layout.specs.declared.fill.Split.{Split}
@@ -18,14 +23,9 @@ use Rattle.multi_layout.specs.declared.pass.Pass.{Pass}
 use Rattle.multi_layout.specs.declared.line.Character.{Character}
 use Rattle.multi_layout.specs.declared.line.Line.{Line}
 use Rattle.multi_layout.specs.declared.line.Segment.{Segment}
-use Rattle.multi_layout.specs.Address.{Spot, is_break, is_glyph}
 use Rattle.multi_layout.specs.kept.FilledRun.{GoesOnBehind, IsFilledRun, even_line, longer_line, with_run, with_run_behind}
 use Rattle.multi_layout.specs.kept.FilledState.{IsFilledFor}
-use Rattle.multi_layout.specs.Filling.{filled, is_space}
 use Rattle.multi_layout.specs.kept.FillSums.{FillsArea, IsSplitBelow, split_sum}
-use Rattle.multi_layout.specs.Fit.{line_fits}
-use Rattle.multi_layout.specs.Meaning.{meaning}
-use Rattle.multi_layout.specs.Offence.{clashes}
 use Rattle.multi_layout.specs.kept.Judging.{ReadSoFar}
 use Rattle.multi_layout.specs.kept.Run.{IsBehindOne, IsRun, kept_fits, kept_fits_height, lengthened, lengthened_area, lengthened_line, line_in_force}
 use Rattle.multi_layout.specs.kept.Sums.{IsBelow, IsCharacter, IsLineBelow, area_sum_in, group_sum, line_sum, segment_sum}

@@ -3,19 +3,20 @@ use Rattle.std.proofs.Common.{◌≡◌, ℕ, ◌+◌, Bool, true, false, cond, 
 use Rattle.std.proofs.lemmas.List.{length-append}
 use Rattle.sign_font.specs.declared.parts.LineFill.{LineFill}
 use Rattle.sign_font.specs.Sign.{SignData}
+use Rattle.multi_meaning.specs.Address.{Spot, Standing, in_area, spots, standing}
+use Rattle.multi_meaning.specs.Laid.{laid, laid_spot}
+use Rattle.multi_meaning.specs.LaidItems.{laid_item, laid_items}
+use Rattle.multi_meaning.specs.Meaning.{Meaning}
+use Rattle.multi_meaning.specs.kept.Present.{present_area}
+use Rattle.multi_meaning.proofs.FilledOnLemmas.{one_more, same_at}
+use Rattle.multi_meaning.proofs.GroupLaidLemmas.{in_areas, laid_as}
+use Rattle.multi_meaning.proofs.LaidItemLemmas.{are_laid}
+use Rattle.multi_meaning.proofs.SpotsLemmas.{spots_append}
+use Rattle.multi_meaning.proofs.WordLemmas.{each_after_length, each_after_push, push_ind}
 use Rattle.multi_layout.specs.declared.state.State.{State}
-use Rattle.multi_layout.specs.Address.{Spot, Standing, in_area, spots, standing}
-use Rattle.multi_layout.specs.Laid.{laid, laid_spot}
-use Rattle.multi_layout.specs.LaidItems.{laid_item, laid_items}
-use Rattle.multi_layout.specs.Meaning.{Meaning}
-use Rattle.multi_layout.specs.kept.State.{IsStateOf, present_area}
-use Rattle.multi_layout.proofs.FilledOnLemmas.{one_more, same_at}
+use Rattle.multi_layout.specs.kept.State.{IsStateOf}
 use Rattle.multi_layout.proofs.FilledStateLemmas.{pages_at, same_times}
-use Rattle.multi_layout.proofs.GroupLaidLemmas.{in_areas, laid_as}
-use Rattle.multi_layout.proofs.LaidItemLemmas.{are_laid}
 use Rattle.multi_layout.proofs.SkipLemmas.{state_moved}
-use Rattle.multi_layout.proofs.SpotsLemmas.{spots_append}
-use Rattle.multi_layout.proofs.WordLemmas.{each_after_length, each_after_push, push_ind}
 
 count_if : (xs : List Spot) (x : Spot) (b : Bool) → length (xs ++ cond b (x ∷ []) []) ≡ length xs + cond b 1 0
 count_if xs x true = length-append xs (x ∷ [])

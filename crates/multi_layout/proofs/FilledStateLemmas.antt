@@ -4,21 +4,22 @@ use Rattle.std.specs.List.{cons_option}
 use Rattle.std.specs.Option.{option_map}
 use Rattle.sign_font.specs.declared.parts.LineFill.{LineFill}
 use Rattle.sign_font.specs.Sign.{SignData, CellData, cell_numbered, font_numbered}
+use Rattle.multi_meaning.specs.Address.{Glyph, Standing, in_area, put_at, spots, standing}
+use Rattle.multi_meaning.specs.Laid.{laid}
+use Rattle.multi_meaning.specs.LaidItems.{laid_item, laid_items}
+use Rattle.multi_meaning.specs.Meaning.{Meaning, Shows, is_new_page}
+use Rattle.multi_meaning.specs.kept.Present.{present_area, standing_behind}
+use Rattle.multi_meaning.specs.Times.{Times, cycle, ended_times, times_at}
+use Rattle.multi_meaning.specs.Verdict.{pages_of}
+use Rattle.multi_meaning.proofs.LaidItemLemmas.{are_laid}
+use Rattle.multi_meaning.proofs.SpotsLemmas.{spots_more}
+use Rattle.multi_meaning.proofs.StandingLemmas.{standing_push}
+use Rattle.multi_meaning.proofs.WordLemmas.{each_after_push, push_ind, some_after_push}
 use Rattle.multi_layout.specs.declared.area.Area.{Area}
 use Rattle.multi_layout.specs.declared.state.State.{State}
-use Rattle.multi_layout.specs.Address.{Glyph, Standing, in_area, put_at, spots, standing}
-use Rattle.multi_layout.specs.Laid.{laid}
-use Rattle.multi_layout.specs.LaidItems.{laid_item, laid_items}
-use Rattle.multi_layout.specs.Meaning.{Meaning, Shows, is_new_page}
-use Rattle.multi_layout.specs.kept.State.{IsStateOf, attributes_of, present_area, standing_behind}
+use Rattle.multi_layout.specs.kept.State.{IsStateOf, attributes_of}
 use Rattle.multi_layout.specs.kept.Sums.{IsBelow, area_sum}
-use Rattle.multi_layout.specs.Times.{Times, cycle, ended_times, times_at}
-use Rattle.multi_layout.specs.Verdict.{pages_of}
 use Rattle.multi_layout.proofs.JudgedLemmas.{cycle-stays}
-use Rattle.multi_layout.proofs.LaidItemLemmas.{are_laid}
-use Rattle.multi_layout.proofs.SpotsLemmas.{spots_more}
-use Rattle.multi_layout.proofs.StandingLemmas.{standing_push}
-use Rattle.multi_layout.proofs.WordLemmas.{each_after_push, push_ind, some_after_push}
 
 one_of : (b c : Bool) → cond {A = ℕ} b 1 0 ≡ cond c 1 0 → b ≡ c
 one_of true true e = refl

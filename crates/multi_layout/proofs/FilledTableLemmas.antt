@@ -4,14 +4,14 @@ use Rattle.std.specs.Prelude.{nat_lt}
 use Rattle.std.proofs.lemmas.Bool.{cases_eq, eq-eqb, le-ltb, ne_eqb}
 use Rattle.std.proofs.lemmas.List.{length_push}
 use Rattle.std.proofs.lemmas.List.Elements.{filter-append}
+use Rattle.multi_meaning.specs.Address.{Spot, in_group, is_break, is_glyph, lines_of, segment}
+use Rattle.multi_meaning.specs.Line.{height_of, width_of}
+use Rattle.multi_meaning.specs.kept.Present.{ended_lines}
+use Rattle.multi_meaning.proofs.GroupLemmas.{break_put}
 use Rattle.multi_layout.specs.declared.table.CountedLine.{CountedLine}
 use Rattle.multi_layout.specs.declared.table.LineTable.{LineTable}
-use Rattle.multi_layout.specs.Address.{Spot, in_group, is_break, is_glyph, lines_of, segment}
-use Rattle.multi_layout.specs.Line.{height_of, width_of}
 use Rattle.multi_layout.specs.kept.AreaDrawing.{HasKnown, HasRoom, known_lines}
-use Rattle.multi_layout.specs.kept.Sums.{ended_lines}
 use Rattle.multi_layout.specs.kept.Table.{IsOrdered, group_lines, line_entry, table_of}
-use Rattle.multi_layout.proofs.GroupSumLemmas.{break_put}
 use Rattle.multi_layout.proofs.KnownLinesLemmas.{Pushed, known_most, less_total, table_count}
 use Rattle.multi_layout.proofs.PlaceLemmas.{ended_most}
 use Rattle.multi_layout.proofs.TableLemmas.{table_push}

@@ -9,30 +9,29 @@ use Rattle.multi_tag.specs.declared.tag.Tag.TheVariants.{NewLine}
 use Rattle.sign_font.specs.declared.parts.LineFill.{LineFill}
 use Rattle.sign_font.specs.Sign.{SignData, CellData, cell_numbered}
 use Rattle.sign_font.specs.Sound.{IsSound}
+use Rattle.multi_meaning.specs.Address.{Break, Glyph, Put, Spot, in_area, in_group, is_break, is_glyph, lines_of, put_at, spots, standing}
+use Rattle.multi_meaning.specs.Laid.{laid_spot}
+use Rattle.multi_meaning.specs.LaidItems.{laid_item, laid_of}
+use Rattle.multi_meaning.specs.Line.{glyph_width}
+use Rattle.multi_meaning.specs.Meaning.{Does, Meaning, begins_area, Shows, has_place, meaning}
+use Rattle.multi_meaning.specs.Offence.{never_big, unsized_offence}
+use Rattle.multi_meaning.specs.kept.Present.{present_area, IsPlacing}
+use Rattle.multi_meaning.proofs.GroupLaidLemmas.{laid_as}
+use Rattle.multi_meaning.proofs.InForceLemmas.{area_wide}
+use Rattle.multi_meaning.proofs.LaidSpotLemmas.{LaidAs}
+use Rattle.multi_meaning.proofs.OffenceLemmas.{offence-undefined}
+use Rattle.multi_meaning.proofs.SpotsLemmas.{spots_behind, spots_with}
+use Rattle.multi_meaning.proofs.StateLemmas.{in_area-append, present_area-placing}
+use Rattle.multi_meaning.proofs.WordLemmas.{All-split}
 use Rattle.multi_layout.specs.declared.attributes.Attributes.{Attributes}
 use Rattle.multi_layout.specs.declared.cursor.Cursor.{Cursor}
 use Rattle.multi_layout.specs.declared.table.LineTable.{LineTable}
-use Rattle.multi_layout.specs.Address.{Break, Glyph, Put, Spot, in_area, in_group, is_break, is_glyph, lines_of, put_at, spots, standing}
-use Rattle.multi_layout.specs.Laid.{laid_spot}
-use Rattle.multi_layout.specs.LaidItems.{laid_item, laid_of}
-use Rattle.multi_layout.specs.Line.{glyph_width}
-use Rattle.multi_layout.specs.Meaning.{Does, Meaning, begins_area, Shows, has_place, meaning}
-use Rattle.multi_layout.specs.Offence.{never_big, unsized_offence}
 use Rattle.multi_layout.specs.kept.AreaDrawing.{HasCounted, whole_area}
 use Rattle.multi_layout.specs.kept.Placing.{TellsEnd}
-use Rattle.multi_layout.specs.kept.State.{present_area}
-use Rattle.multi_layout.specs.kept.Sums.{IsPlacing}
 use Rattle.multi_layout.specs.kept.Table.{group_lines, table_of}
 use Rattle.multi_layout.specs.kept.Cursors.{IsBetween, LaidItem, items_of, meant}
-use Rattle.multi_layout.proofs.GroupLaidLemmas.{laid_as}
-use Rattle.multi_layout.proofs.InForceLemmas.{area_wide}
 use Rattle.multi_layout.proofs.KnownStepLemmas.{order}
-use Rattle.multi_layout.proofs.LaidSpotLemmas.{LaidAs}
-use Rattle.multi_layout.proofs.OffenceLemmas.{offence-undefined}
-use Rattle.multi_layout.proofs.SpotsLemmas.{spots_behind, spots_with}
-use Rattle.multi_layout.proofs.StateLemmas.{in_area-append, present_area-placing}
 use Rattle.multi_layout.proofs.WalkLemmas.{laid_here, never_offends}
-use Rattle.multi_layout.proofs.WordLemmas.{All-split}
 
 -- a character is laid out as itself, or as an `nl` without a number
 laid_character : (setting : LineFill) (sign : SignData) (all some more : List Meaning) (number : ℕ) → all ≡ some ++ Shows number ∷ more → (o : Option CellData) → cell_numbered (standing sign some).font number ≡ o

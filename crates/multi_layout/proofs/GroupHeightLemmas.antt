@@ -6,15 +6,16 @@ use Rattle.std.proofs.lemmas.Bool.{false≢true}
 use Rattle.std.proofs.lemmas.List.{append-nil}
 use Rattle.std.proofs.lemmas.List.Elements.{All-head}
 use Rattle.sign_font.specs.declared.font.FontInfo.{FontInfo}
+use Rattle.multi_meaning.specs.Address.{Spot, is_glyph, is_break, lines_of}
+use Rattle.multi_meaning.specs.Line.{average, line_height, line_spacing, height_of}
+use Rattle.multi_meaning.specs.kept.Present.{IsPlacing}
+use Rattle.multi_meaning.proofs.WordLemmas.{last_or_push}
+use Rattle.multi_meaning.proofs.CutLemmas.{cut, part, cut_behind_is}
+use Rattle.multi_meaning.proofs.HeightLemmas.{open_glyphs}
 use Rattle.multi_layout.specs.declared.line.Line.{Line}
 use Rattle.multi_layout.specs.declared.area.Ended.{Ended}
 use Rattle.multi_layout.specs.declared.area.Group.{Group}
-use Rattle.multi_layout.specs.Address.{Spot, is_glyph, is_break, lines_of}
-use Rattle.multi_layout.specs.Line.{average, line_height, line_spacing, height_of}
-use Rattle.multi_layout.specs.kept.Sums.{line_sum, ended_sum, group_sum, IsPlacing, IsBreak}
-use Rattle.multi_layout.proofs.WordLemmas.{last_or_push}
-use Rattle.multi_layout.proofs.CutLemmas.{cut, part, cut_behind_is}
-use Rattle.multi_layout.proofs.HeightLemmas.{open_glyphs}
+use Rattle.multi_layout.specs.kept.Sums.{line_sum, ended_sum, group_sum, IsBreak}
 use Rattle.multi_layout.proofs.GroupSumLemmas.{gap_of_break, largest_break, cut_sums, sums_are, sums_push, same_group, more_height}
 
 abbrev ended : Option ℕ → ℕ → Option Ended

@@ -1,33 +1,23 @@
 -- The sums of a group after one more placing item, and its height.
-use Rattle.std.proofs.Common.{◌≡◌, ℕ, ◌+◌, max, Bool, true, false, cond, ◌||◌, ◌==◌, List, [], ◌∷◌, ◌++◌, length, Option, Some, None, refl, sym, ap, subst, ◌∙◌, arith}
+use Rattle.std.proofs.Common.{◌≡◌, ℕ, ◌+◌, max, Bool, true, false, cond, ◌||◌, List, [], ◌∷◌, ◌++◌, length, Option, Some, None, refl, sym, ap, subst, ◌∙◌, arith}
 use Rattle.std.specs.List.{filter_map, last_or, list_any, after_last, cons_option, All, AllPass}
 use Rattle.std.specs.Option.{unwrap_or, option_map, option_map_or}
-use Rattle.std.proofs.lemmas.Bool.{eq-eqb, false≢true}
-use Rattle.std.proofs.lemmas.List.Elements.{filter_map-append, All-filter, All-head, All-tail}
+use Rattle.std.proofs.lemmas.List.Elements.{filter_map-append, All-head, All-tail}
+use Rattle.multi_meaning.specs.Words.{largest}
+use Rattle.multi_meaning.specs.Address.{Spot, Break, is_glyph, is_break, in_group}
+use Rattle.multi_meaning.specs.Line.{average, bearers, line_height, line_spacing, line_gap, given_gap, height_of}
+use Rattle.multi_meaning.specs.kept.Present.{IsPlacing}
+use Rattle.multi_meaning.proofs.WordLemmas.{extent_push, gap_before}
+use Rattle.multi_meaning.proofs.CutLemmas.{Cut, cut, cut_push}
+use Rattle.multi_meaning.proofs.HeightLemmas.{bearers_glyphs, bearers_ended, bearers_empty, open_glyphs}
+use Rattle.multi_meaning.proofs.BehindLemmas.{after_last_is, ended_is, cut_if}
+use Rattle.multi_meaning.proofs.GroupLemmas.{glyph_put, own_group, placing_group}
 use Rattle.multi_layout.specs.declared.line.Line.{Line}
 use Rattle.multi_layout.specs.declared.area.Ended.{Ended}
 use Rattle.multi_layout.specs.declared.area.Group.{Group}
-use Rattle.multi_layout.specs.Words.{largest}
-use Rattle.multi_layout.specs.Address.{Standing, Spot, Put, Glyph, Break, Cover, is_glyph, is_break, in_group}
-use Rattle.multi_layout.specs.Line.{average, bearers, line_height, line_spacing, line_gap, given_gap, height_of}
-use Rattle.multi_layout.specs.kept.Sums.{line_sum, ended_sum, group_sum, IsPlacing}
-use Rattle.multi_layout.proofs.WordLemmas.{extent_push, gap_before}
-use Rattle.multi_layout.proofs.CutLemmas.{Cut, cut, cut_push}
-use Rattle.multi_layout.proofs.HeightLemmas.{bearers_glyphs, bearers_ended, bearers_empty, open_glyphs}
-use Rattle.multi_layout.proofs.BehindLemmas.{after_last_is, ended_is, cut_if}
-use Rattle.multi_layout.proofs.LineSumLemmas.{filter_yes}
+use Rattle.multi_layout.specs.kept.Sums.{line_sum, ended_sum, group_sum}
 
 -- THE KINDS OF ITEMS
-
-pub glyph_put : (at : Standing) (p : Put) → is_glyph (record { at = at; put = p }) ≡ true → (is_break (record { at = at; put = p }) ≡ false) × (given_gap (record { at = at; put = p }) ≡ None)
-glyph_put at (Glyph cell) e = (refl, refl)
-glyph_put at (Break gap) e = absurd (false≢true e)
-glyph_put at (Cover page colour) e = absurd (false≢true e)
-
-pub break_put : (at : Standing) (p : Put) → is_break (record { at = at; put = p }) ≡ true → is_glyph (record { at = at; put = p }) ≡ false
-break_put at (Glyph cell) e = absurd (false≢true e)
-break_put at (Break gap) e = refl
-break_put at (Cover page colour) e = refl
 
 glyph_gaps : (line : List Spot) → AllPass is_glyph line → filter_map given_gap line ≡ []
 glyph_gaps [] h = refl
@@ -71,19 +61,12 @@ sums_are group = ap (λ lines. sums lines (after_last is_break group)) (ended_is
 pub sums_push : (group : List Spot) (s : Spot) (b : Bool) → is_break s ≡ b → group_sum (group ++ s ∷ []) ≡ cut_sums (cut_if is_break b (cut is_break group) s)
 sums_push group s b e = sums_are (group ++ s ∷ []) ∙ ap cut_sums (cut_push is_break group s) ∙ ap (λ b. cut_sums (cut_if is_break b (cut is_break group) s)) e
 
-pub placing_group : (just : ℕ) (area : List Spot) → All IsPlacing area → All IsPlacing (in_group just area)
-placing_group just area h = All-filter (λ t. t.at.page_just == just) IsPlacing area h
-
 pub cut_glyphs : (just : ℕ) (area : List Spot) → All IsPlacing area → AllPass is_glyph (cut is_break (in_group just area)).open'
 cut_glyphs just area h = open_glyphs (in_group just area) (placing_group just area h)
 
 -- the present line of a group is characters
 pub present_glyphs : (just : ℕ) (area : List Spot) → All IsPlacing area → AllPass is_glyph (after_last is_break (in_group just area))
 present_glyphs just area h = subst (AllPass is_glyph) (sym (after_last_is is_break (in_group just area))) (cut_glyphs just area h)
-
--- an item of its own group
-pub own_group : (just : ℕ) (area : List Spot) (s : Spot) → s.at.page_just ≡ just → in_group just (area ++ s ∷ []) ≡ in_group just area ++ s ∷ []
-own_group just area s e = filter_yes (λ t. t.at.page_just == just) area s (eq-eqb s.at.page_just just e)
 
 -- a character stands on the present line
 pub present_push : (group : List Spot) (s : Spot) → is_glyph s ≡ true → after_last is_break (group ++ s ∷ []) ≡ after_last is_break group ++ s ∷ []

@@ -9,28 +9,29 @@ use Rattle.std.proofs.lemmas.List.{length-append}
 use Rattle.std.proofs.lemmas.List.Sums.{sum_by_push, sum_by-append}
 use Rattle.multi_tag.specs.declared.tag.Tag.TheVariants.{NewPage, NewLine, Back, Rect}
 use Rattle.sign_font.specs.declared.parts.LineFill.TheVariants.{Off}
-use Rattle.multi_layout.specs.Laid.{too_big}
+use Rattle.multi_meaning.specs.Laid.{too_big}
 use Rattle.sign_font.specs.Cell.{SizedCell}
 use Rattle.sign_font.specs.Sign.{SignData, CellData, FontData, cell_in, cell_numbered, font_numbered, info_of, sized}
 use Rattle.sign_font.specs.declared.font.FontInfo.{FontInfo}
 use Rattle.sign_font.specs.Sound.{IsSound}
-use Rattle.multi_layout.specs.Attributes.{default_font, whole_sign}
+use Rattle.multi_meaning.specs.Attributes.{default_font, whole_sign}
+use Rattle.multi_meaning.specs.Address.{Break, Cover, Glyph, Standing, put_at, spots, standing}
+use Rattle.multi_meaning.specs.Meaning.{Meaning, Shows, Does, begins_area, is_new_page}
+use Rattle.multi_meaning.specs.Offence.{conflicts, never_big, offence, unsized_offence}
+use Rattle.multi_meaning.specs.kept.Present.{present_area, standing_behind}
+use Rattle.multi_meaning.specs.Times.{Times, cycle, ended_times, times_at}
+use Rattle.multi_meaning.specs.Verdict.{pages_of}
+use Rattle.multi_meaning.proofs.OffenceLemmas.{offence-undefined, offence-character, offence-break, offence-page, offence-rectangle}
+use Rattle.multi_meaning.proofs.StandingLemmas.{standing_push}
+use Rattle.multi_meaning.proofs.StateLemmas.{present_area-placing, present_area-nothing, present_area-cover, present_area-new}
+use Rattle.multi_meaning.proofs.WordLemmas.{some_after_push}
 use Rattle.multi_layout.specs.declared.area.Area.{Area}
 use Rattle.multi_layout.specs.declared.attributes.Attributes.{Attributes}
 use Rattle.multi_layout.specs.declared.state.Limits.{Limits}
 use Rattle.multi_layout.specs.declared.state.State.{State}
-use Rattle.multi_layout.specs.Address.{Break, Cover, Glyph, Standing, put_at, spots, standing}
-use Rattle.multi_layout.specs.Meaning.{Meaning, Shows, Does, begins_area, is_new_page}
-use Rattle.multi_layout.specs.Offence.{conflicts, never_big, offence, unsized_offence}
-use Rattle.multi_layout.specs.kept.State.{IsReady, IsStateOf, attributes_of, present_area, standing_behind}
+use Rattle.multi_layout.specs.kept.State.{IsReady, IsStateOf, attributes_of}
 use Rattle.multi_layout.specs.kept.Sums.{IsBelow, area_sum}
-use Rattle.multi_layout.specs.Times.{Times, cycle, ended_times, times_at}
-use Rattle.multi_layout.specs.Verdict.{pages_of}
 use Rattle.multi_layout.proofs.BoundLemmas.{below_more}
-use Rattle.multi_layout.proofs.OffenceLemmas.{offence-undefined, offence-character, offence-break, offence-page, offence-rectangle}
-use Rattle.multi_layout.proofs.StandingLemmas.{standing_push}
-use Rattle.multi_layout.proofs.StateLemmas.{present_area-placing, present_area-nothing, present_area-cover, present_area-new}
-use Rattle.multi_layout.proofs.WordLemmas.{some_after_push}
 
 -- ---- pages and times
 
@@ -259,7 +260,7 @@ module _ (sign : SignData) (items : List Meaning) (state : State) (st : IsStateO
         short = omega (arith, st.short, pages, times, on_bound, off_bound);
       }
 
-  pub judged-rectangle : (x y w h : ℕ) → offence Off sign items (Does (Rect x y w h)) ≡ cond (Rattle.multi_layout.specs.Attributes.is_inside sign x y w h) None (Some 4)
+  pub judged-rectangle : (x y w h : ℕ) → offence Off sign items (Does (Rect x y w h)) ≡ cond (Rattle.multi_meaning.specs.Attributes.is_inside sign x y w h) None (Some 4)
   judged-rectangle x y w h = offence-rectangle (too_big Off) sign items x y w h
 
 -- ---- the start

@@ -5,18 +5,19 @@ use Rattle.std.specs.List.{All, after_last, list_any}
 use Rattle.std.proofs.lemmas.Bool.{cases_eq, cases_lt, eq-eqb, le-ltb, lt-ltb, ne_eqb}
 use Rattle.std.proofs.lemmas.List.{length_push}
 use Rattle.std.proofs.lemmas.List.Elements.{All-push}
+use Rattle.multi_meaning.specs.Address.{Spot, in_group, is_break, is_glyph, lines_of}
+use Rattle.multi_meaning.specs.Line.{height_of}
+use Rattle.multi_meaning.specs.kept.Present.{IsPlacing, ended_lines}
+use Rattle.multi_meaning.specs.Words.{largest}
+use Rattle.multi_meaning.proofs.GroupLemmas.{placing_group}
 use Rattle.multi_layout.specs.declared.area.Area.{Area}
 use Rattle.multi_layout.specs.declared.area.Group.{Group}
 use Rattle.multi_layout.specs.declared.table.CountedLine.{CountedLine}
 use Rattle.multi_layout.specs.declared.table.LineTable.{LineTable}
-use Rattle.multi_layout.specs.Address.{Spot, in_group, is_break, is_glyph, lines_of}
-use Rattle.multi_layout.specs.Line.{height_of}
 use Rattle.multi_layout.specs.kept.AreaDrawing.{HasCounted, HasKnown, HasRoom, IsLow, known_lines}
-use Rattle.multi_layout.specs.kept.Sums.{IsPlacing, area_sum, ended_lines, group_sum}
+use Rattle.multi_layout.specs.kept.Sums.{area_sum, group_sum}
 use Rattle.multi_layout.specs.kept.Table.{IsOrdered, group_lines, table_of}
-use Rattle.multi_layout.specs.Words.{largest}
 use Rattle.multi_layout.proofs.AreaSumLemmas.{group_behind, group_of_own}
-use Rattle.multi_layout.proofs.GroupSumLemmas.{placing_group}
 use Rattle.multi_layout.proofs.PlaceLemmas.{ended_most}
 use Rattle.multi_layout.proofs.SplitLemmas.{all_groups, each_group}
 use Rattle.multi_layout.proofs.TableLemmas.{lines_closed, lines_open, open_entry, table_length, table_open}

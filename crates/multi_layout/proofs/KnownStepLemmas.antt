@@ -6,24 +6,25 @@ use Rattle.std.proofs.lemmas.Bool.{false≢true}
 use Rattle.multi_tag.specs.declared.tag.Tag.{Tag}
 use Rattle.multi_tag.specs.declared.tag.Tag.TheVariants.{NewPage, NewLine, Back, Rect}
 use Rattle.sign_font.specs.Sign.{SignData, CellData, cell_numbered}
+use Rattle.multi_meaning.specs.Address.{Spot, Glyph, Break, Cover, in_group, is_break, spots, standing}
+use Rattle.multi_meaning.specs.Meaning.{begins_area, Does, has_place, Meaning, Shows}
+use Rattle.multi_meaning.specs.Offence.{conflicts, never_big, unsized_offence}
+use Rattle.multi_meaning.specs.kept.Present.{present_area, ended_lines}
+use Rattle.multi_meaning.specs.Words.{largest}
+use Rattle.multi_meaning.proofs.GroupLemmas.{in_group_other, own_group}
+use Rattle.multi_meaning.proofs.OffenceLemmas.{offence-break, offence-character, offence-undefined}
+use Rattle.multi_meaning.proofs.UnplacedLemmas.{no_conflict}
+use Rattle.multi_meaning.proofs.StateLemmas.{present_area-placing, present_area-nothing, present_area-cover}
+use Rattle.multi_meaning.proofs.EndedLemmas.{ended_break, ended_glyph}
 use Rattle.multi_layout.specs.declared.area.Area.{Area}
 use Rattle.multi_layout.specs.declared.attributes.Attributes.{Attributes}
 use Rattle.multi_layout.specs.declared.line.Line.{Line}
 use Rattle.multi_layout.specs.declared.state.State.{State}
-use Rattle.multi_layout.specs.Address.{Spot, Glyph, Break, Cover, in_group, is_break, spots, standing}
 use Rattle.multi_layout.specs.kept.FillSums.{EndsLine}
-use Rattle.multi_layout.specs.Meaning.{begins_area, Does, has_place, Meaning, Shows}
 use Rattle.multi_layout.specs.kept.AreaDrawing.{ends_line}
-use Rattle.multi_layout.specs.Offence.{conflicts, never_big, unsized_offence}
-use Rattle.multi_layout.specs.kept.State.{IsStateOf, present_area}
-use Rattle.multi_layout.specs.kept.Sums.{area_sum, ended_lines, line_sum}
-use Rattle.multi_layout.specs.Words.{largest}
-use Rattle.multi_layout.proofs.AreaSumLemmas.{in_group_other, no_back, present_behind}
-use Rattle.multi_layout.proofs.GroupSumLemmas.{own_group}
-use Rattle.multi_layout.proofs.OffenceLemmas.{offence-break, offence-character, offence-undefined}
-use Rattle.multi_layout.proofs.PlacingLemmas.{no_conflict}
-use Rattle.multi_layout.proofs.StateLemmas.{present_area-placing, present_area-nothing, present_area-cover}
-use Rattle.multi_layout.proofs.TableLemmas.{ended_break, ended_glyph}
+use Rattle.multi_layout.specs.kept.State.{IsStateOf}
+use Rattle.multi_layout.specs.kept.Sums.{area_sum, line_sum}
+use Rattle.multi_layout.proofs.AreaSumLemmas.{no_back, present_behind}
 
 line_end : (x : Meaning) → ends_line x ≡ true → (gap : Option ℕ) × (x ≡ Does (NewLine gap))
 line_end (Does (NewLine gap)) e = (gap, refl)

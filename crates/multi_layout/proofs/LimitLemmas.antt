@@ -4,25 +4,25 @@ use Rattle.std.specs.Prelude.{nat_le}
 use Rattle.std.proofs.lemmas.Bool.{and_parts, cases_Bool, false≢true, le-leb}
 use Rattle.std.proofs.lemmas.Bool.Decides.{nat_tests}
 use Rattle.sign_font.specs.declared.parts.LineFill.TheVariants.{Off}
+use Rattle.multi_meaning.specs.declared.attributes.Rectangle.{Rectangle}
+use Rattle.multi_meaning.specs.Address.{Spot, area_of, is_break, is_glyph, line_before, spots, standing}
+use Rattle.multi_meaning.specs.Meaning.{Meaning}
+use Rattle.multi_meaning.specs.Fit.{FitsWithout, fit, line_fits, room_for}
+use Rattle.multi_meaning.specs.Laid.{too_big}
+use Rattle.multi_meaning.proofs.FitLemmas.{room_end, room_middle, room_start}
+use Rattle.multi_meaning.proofs.LinesFitLemmas.{each_just}
 use Rattle.multi_layout.specs.declared.area.Area.{Area}
-use Rattle.multi_layout.specs.declared.attributes.Rectangle.{Rectangle}
+use Rattle.sign_font.specs.Sign.{SignData}
 use Rattle.multi_layout.specs.declared.area.Group.{Group}
 use Rattle.multi_layout.specs.declared.line.Line.{Line}
 use Rattle.multi_layout.specs.declared.state.State.{State}
-use Rattle.multi_layout.specs.Address.{Spot, area_of, is_break, is_glyph, line_before, spots, standing}
-use Rattle.multi_layout.specs.Meaning.{Meaning}
 use Rattle.multi_layout.specs.declared.attributes.Attributes.{Attributes}
-use Rattle.sign_font.specs.Sign.{SignData}
-use Rattle.multi_layout.specs.Fit.{FitsWithout, fit, line_fits, room_for}
-use Rattle.multi_layout.specs.Laid.{too_big}
 use Rattle.multi_layout.specs.kept.Adding.{AddsBreak, AddsCharacter}
 use Rattle.multi_layout.specs.kept.Run.{FitsBefore, IsBehindCharacter, IsBehindOne, kept_fits, kept_height, lengthened_line}
 use Rattle.multi_layout.specs.kept.State.{IsLimited, IsStateOf, IsUnfilledOf, attributes_of, group_room, segment_room}
 use Rattle.multi_layout.specs.kept.Sums.{area_sum, line_sum}
 use Rattle.multi_layout.proofs.AreaSumLemmas.{fits_break, fits_character, group_of_own, placing_break, placing_character, present_line}
 use Rattle.multi_layout.proofs.BeforeLemmas.{fits_without, group_room_fits, groups_fit_before, segments_fit_before}
-use Rattle.multi_layout.proofs.FitLemmas.{room_end, room_middle, room_start}
-use Rattle.multi_layout.proofs.PlaceLemmas.{each_just}
 use Rattle.multi_layout.proofs.RunLemmas.{kept_area_fits, kept_fits_is}
 
 -- ---- what fits them

@@ -1,29 +1,26 @@
 -- The sums of a line after one more character.
 use Rattle.std.proofs.Common.{◌≡◌, ℕ, ◌+◌, ◌<◌, ◌≤◌, max, inl, inr, Bool, true, false, cond, ◌&&◌, ◌||◌, ◌==◌, List, [], ◌∷◌, ◌++◌, length, Option, Some, None, refl, sym, ap, ◌∙◌, arith, length-append}
 use Rattle.std.specs.Prelude.{nat_lt}
-use Rattle.std.specs.List.{filter, last_or, list_any, AllPass}
+use Rattle.std.specs.List.{last_or, list_any, AllPass}
 use Rattle.std.specs.Option.{unwrap_or, option_map, option_map_or}
 use Rattle.std.proofs.lemmas.Bool.{and_right, cases_lt, eq-eqb, false≢true, le-ltb, lt-ltb, ne_eqb, or_parts}
 use Rattle.std.proofs.lemmas.List.{append-nil}
 use Rattle.std.proofs.lemmas.List.Elements.{All-weaker, filter-append}
 use Rattle.std.proofs.lemmas.List.Folds.{list_any-append}
+use Rattle.multi_meaning.specs.Words.{largest}
+use Rattle.multi_meaning.specs.Address.{Spot, is_glyph, segment}
+use Rattle.multi_meaning.specs.Line.{average, bearers, line_height, line_spacing, char_gap, width_of}
+use Rattle.multi_meaning.specs.Offence.{clashes}
+use Rattle.multi_meaning.proofs.WordLemmas.{largest_most, largest_push, last_or_push, gap_before}
+use Rattle.multi_meaning.proofs.AreaLemmas.{filter_none}
+use Rattle.multi_meaning.proofs.CheckLemmas.{any_largest}
+use Rattle.multi_meaning.proofs.HeightLemmas.{any_glyph, bearers_glyphs}
+use Rattle.multi_meaning.proofs.LayoutLemmas.{width_push}
+use Rattle.multi_meaning.proofs.GroupLemmas.{filter_yes}
 use Rattle.multi_layout.specs.declared.line.Character.{Character}
 use Rattle.multi_layout.specs.declared.line.Segment.{Segment}
 use Rattle.multi_layout.specs.declared.line.Line.{Line}
-use Rattle.multi_layout.specs.Words.{largest}
-use Rattle.multi_layout.specs.Address.{Spot, is_glyph, segment}
-use Rattle.multi_layout.specs.Line.{average, bearers, line_height, line_spacing, char_gap, width_of}
-use Rattle.multi_layout.specs.Offence.{clashes}
 use Rattle.multi_layout.specs.kept.Sums.{segment_sum, width_before, line_sum, line_sum_in, IsCharacter}
-use Rattle.multi_layout.proofs.WordLemmas.{largest_most, largest_push, last_or_push, gap_before}
-use Rattle.multi_layout.proofs.AreaLemmas.{filter_none}
-use Rattle.multi_layout.proofs.CheckLemmas.{any_largest}
-use Rattle.multi_layout.proofs.HeightLemmas.{any_glyph, bearers_glyphs}
-use Rattle.multi_layout.proofs.LayoutLemmas.{width_push}
-
--- an item that passes, put behind a list
-pub filter_yes : {X : Type 0} (p : X → Bool) (xs : List X) (x : X) → p x ≡ true → filter p (xs ++ x ∷ []) ≡ filter p xs ++ x ∷ []
-filter_yes p xs x h = filter-append p xs (x ∷ []) ∙ ap (λ b. filter p xs ++ cond b (x ∷ []) []) h
 
 -- the gap before one more character, from the spacing of the last one's font
 gap_if : (o : Option Spot) (s : Spot) → option_map_or (λ earlier. unwrap_or s.at.spacing (average earlier s.at.font.char_spacing)) (option_map (λ (t : Spot). t.at.font.char_spacing) o) 0 ≡ option_map_or (λ t. char_gap t s) o 0

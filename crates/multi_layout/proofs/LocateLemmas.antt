@@ -1,6 +1,6 @@
 -- What is shown at a time of the cycle, from page to page.
 use Rattle.std.proofs.Common.{◌≡◌, ℕ, ◌+◌, ◌-◌, ◌<◌, ◌≤◌, true, false, cond, List, [], ◌∷◌, ◌++◌, length, map, slice_get, Option, Some, None, refl, sym, ap, subst, ◌∙◌, inl, inr, arith, append_assoc, append-nil}
-use Rattle.multi_layout.proofs.PageDrawLemmas.{new_page_is}
+use Rattle.multi_meaning.specs.declared.times.Shown.{Shown}
 use Rattle.std.proofs.lemmas.Bool.{cases_Bool, cases_lt}
 use Rattle.std.proofs.lemmas.List.{map-append}
 use Rattle.std.proofs.lemmas.List.Sums.{sum_by-append}
@@ -11,19 +11,22 @@ use Rattle.multi_token.proofs.ReadingLemmas.{spelling_some}
 use Rattle.multi_tag.specs.declared.tag.Tag.{Tag}
 use Rattle.multi_tag.specs.declared.tag.Tag.TheVariants.{NewPage}
 use Rattle.sign_font.specs.Sign.{SignData}
+use Rattle.multi_meaning.specs.declared.times.Shown.TheVariants.{Page, Off}
+use Rattle.multi_meaning.specs.Address.{standing}
+use Rattle.multi_meaning.specs.Meaning.{BeginsPage, Meaning, Does, begins_area, has_place, is_new_page, meaning, meanings}
+use Rattle.multi_meaning.specs.Times.{Times, cycle, ended_times, page_times, shown_within, times_at}
+use Rattle.multi_meaning.specs.Verdict.{pages_of}
+use Rattle.multi_meaning.proofs.TimesLemmas.{cycle_push, ended_count, shown_off, shown_on, times_are, times_are_all}
+use Rattle.multi_meaning.proofs.StandingLemmas.{standing_push}
+use Rattle.multi_meaning.proofs.WordLemmas.{push_ind}
+use Rattle.multi_layout.proofs.PageDrawLemmas.{new_page_is}
 use Rattle.multi_layout.specs.declared.attributes.Attributes.{Attributes}
 use Rattle.multi_layout.specs.declared.cursor.Cursor.{Cursor}
 use Rattle.multi_layout.specs.declared.item.KnownItem.TheVariants as known
 use Rattle.multi_layout.specs.declared.item.NextItem.{NextItem}
 use Rattle.multi_layout.specs.declared.state.State.{State}
-use Rattle.multi_layout.specs.declared.times.Shown.{Shown}
-use Rattle.multi_layout.specs.declared.times.Shown.TheVariants.{Page, Off}
-use Rattle.multi_layout.specs.Address.{standing}
 use Rattle.multi_layout.specs.kept.KnownItem.{meant_by}
-use Rattle.multi_layout.specs.Meaning.{BeginsPage, Meaning, Does, begins_area, has_place, is_new_page, meaning, meanings}
 use Rattle.multi_layout.specs.kept.State.{IsStateOf, attributes_of}
-use Rattle.multi_layout.specs.Times.{Times, cycle, ended_times, page_times, shown_within, times_at}
-use Rattle.multi_layout.specs.Verdict.{pages_of}
 use Rattle.multi_layout.specs.kept.Cursors.{IsFirst, IsPlaced}
 use Rattle.multi_layout.specs.kept.Passing.{IsPageSkipped, IsPassing, IsPassingBefore, IsTextPassed, PassesOn, unplaced}
 use Rattle.multi_layout.specs.kept.Settings.{IsNextAt, PutsSetting}
@@ -31,10 +34,7 @@ use Rattle.multi_layout.proofs.JudgedLemmas.{cycle-grows, ended_times-push, page
 use Rattle.multi_layout.proofs.SettingLemmas.{setting_is}
 use Rattle.multi_layout.proofs.SkipLemmas.{passing_tag, same_unplaced}
 use Rattle.multi_layout.proofs.ReadLemmas.{at_end}
-use Rattle.multi_layout.proofs.TimesLemmas.{cycle_push, ended_count, shown_off, shown_on, times_are, times_are_all}
-use Rattle.multi_layout.proofs.StandingLemmas.{standing_push}
 use Rattle.multi_layout.proofs.WalkLemmas.{none_at_end, within}
-use Rattle.multi_layout.proofs.WordLemmas.{push_ind}
 
 -- ---- what is kept where the cursor stands
 

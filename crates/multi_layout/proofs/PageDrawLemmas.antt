@@ -13,24 +13,25 @@ use Rattle.multi_tag.specs.declared.tag.Tag.TheVariants.{NewPage, Rect}
 use Rattle.page_plane.specs.Plane.{BitPlane, is_lit}
 use Rattle.sign_font.specs.declared.parts.Defaults.{Defaults}
 use Rattle.sign_font.specs.Sign.{SignData, tallest}
+use Rattle.multi_meaning.specs.Address.{Standing, spots, standing, put_at}
+use Rattle.multi_meaning.specs.Drawn.{has_colour}
+use Rattle.multi_meaning.specs.Drawn as drawn
+use Rattle.multi_meaning.specs.Meaning.{Meaning, Shows, Does, Faulty, BeginsPage, EndsPage, begins_area, is_new_page}
+use Rattle.multi_meaning.specs.Picture.{in_plane, shown_colour}
+use Rattle.multi_meaning.specs.kept.Present.{present_area}
+use Rattle.multi_meaning.specs.Verdict.{pages_of}
+use Rattle.multi_meaning.specs.kept.Fine.{IsAccepted}
+use Rattle.multi_meaning.proofs.DrawnLemmas.{covered_begins, covered_ends, covered_same}
+use Rattle.multi_meaning.proofs.SpotsLemmas.{same_page_behind, next_page_behind}
+use Rattle.multi_meaning.proofs.StateLemmas.{present_area-new}
 use Rattle.multi_layout.specs.declared.attributes.Attributes.{Attributes}
 use Rattle.multi_layout.specs.declared.cursor.Cursor.{Cursor}
 use Rattle.multi_layout.specs.declared.paint.Layer.{Layer}
-use Rattle.multi_layout.specs.Address.{Standing, spots, standing, put_at}
-use Rattle.multi_layout.specs.Drawn.{has_colour}
-use Rattle.multi_layout.specs.Drawn as drawn
 use Rattle.multi_layout.specs.Limits.{plane_octets}
-use Rattle.multi_layout.specs.Meaning.{Meaning, Shows, Does, Faulty, BeginsPage, EndsPage, begins_area, is_new_page}
 use Rattle.multi_layout.specs.kept.PageDrawing.{IsFilledFew, IsPagePassed}
 use Rattle.multi_layout.specs.kept.AreaDrawing.{IsDrawnTo, IsFilledBy, BeginsNoArea, first_steps}
-use Rattle.multi_layout.specs.Picture.{in_plane, shown_colour}
-use Rattle.multi_layout.specs.kept.State.{present_area}
-use Rattle.multi_layout.specs.Verdict.{pages_of}
-use Rattle.multi_layout.specs.kept.Cursors.{IsAccepted, IsBetween, items_of, laid_meanings, meant, LaidItem, spell_of}
+use Rattle.multi_layout.specs.kept.Cursors.{IsBetween, items_of, laid_meanings, meant, LaidItem, spell_of}
 use Rattle.multi_layout.proofs.DrawLemmas.{no_page}
-use Rattle.multi_layout.proofs.DrawnLemmas.{covered_begins, covered_ends, covered_same}
-use Rattle.multi_layout.proofs.SpotsLemmas.{same_page_behind, next_page_behind}
-use Rattle.multi_layout.proofs.StateLemmas.{present_area-new}
 
 -- ONE PLACE
 

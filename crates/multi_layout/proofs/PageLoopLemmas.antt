@@ -4,16 +4,16 @@ use Rattle.std.proofs.lemmas.List.{length-append}
 use Rattle.multi_token.specs.Counted.{Counted, RisesBetween}
 use Rattle.page_plane.specs.Plane.{BitPlane}
 use Rattle.sign_font.specs.Sign.{SignData}
+use Rattle.multi_meaning.specs.Meaning.{EndsArea, begins_area}
+use Rattle.multi_meaning.specs.kept.Present.{present_area}
 use Rattle.multi_layout.specs.declared.cursor.Begun.{Begun}
 use Rattle.multi_layout.specs.declared.cursor.Cursor.{Cursor}
 use Rattle.multi_layout.specs.declared.item.NextItem.{NextItem}
 use Rattle.multi_layout.specs.declared.paint.Layer.{Layer}
 use Rattle.multi_layout.specs.declared.read.AreaLines.{AreaLines}
-use Rattle.multi_layout.specs.Meaning.{EndsArea, begins_area}
 use Rattle.multi_layout.specs.kept.AreaDrawing.{BeginsNoArea, DrawsOn, HasCounted, IsAreaRead, OverArea, first_steps, whole_area}
 use Rattle.multi_layout.specs.kept.Cursors.{IsBetween, IsFirst, IsRead, LaidItem, items_of, meant, spell_of}
 use Rattle.multi_layout.specs.kept.Settings.{AreSettingsPassed, item_steps}
-use Rattle.multi_layout.specs.kept.State.{present_area}
 use Rattle.multi_layout.proofs.PageDrawLemmas.{PageDrawn, PageSoFar, page_area}
 use Rattle.multi_layout.proofs.PieceLemmas.{first_begins, first_ended}
 use Rattle.multi_layout.proofs.SettingDrawLemmas.{page_settings}

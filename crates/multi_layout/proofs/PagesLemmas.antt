@@ -16,18 +16,19 @@ use Rattle.multi_token.proofs.StepLemmas.{rises_more, rises_then}
 use Rattle.page_plane.specs.Plane.{BitPlane}
 use Rattle.sign_font.specs.Sign.{FontData, SignData, largest, tallest}
 use Rattle.sign_font.specs.Sound.{IsSound, IsSoundFont}
-use Rattle.multi_layout.specs.LaidItems.{laid_out}
+use Rattle.multi_meaning.specs.LaidItems.{laid_out}
+use Rattle.multi_meaning.specs.Drawn as drawn
+use Rattle.multi_meaning.specs.Meaning.{BeginsPage, Meaning, is_new_page, meaning, meanings}
+use Rattle.multi_meaning.specs.declared.times.Shown.{Shown}
+use Rattle.multi_meaning.specs.declared.times.Shown.TheVariants.{Page, Off}
+use Rattle.multi_meaning.specs.Picture.{in_plane, picture}
+use Rattle.multi_meaning.specs.Verdict.{pages_of}
+use Rattle.multi_meaning.specs.kept.Fine.{IsAccepted, IsOrderly}
 use Rattle.multi_layout.specs.declared.cursor.Cursor.{Cursor}
-use Rattle.multi_layout.specs.Drawn as drawn
 use Rattle.multi_layout.specs.Limits.{drawing_limit, plane_limit, plane_octets, reading_limit}
-use Rattle.multi_layout.specs.Meaning.{BeginsPage, Meaning, is_new_page, meaning, meanings}
 use Rattle.multi_layout.specs.Pages.{IsTurned}
-use Rattle.multi_layout.specs.declared.times.Shown.{Shown}
-use Rattle.multi_layout.specs.declared.times.Shown.TheVariants.{Page, Off}
 use Rattle.multi_layout.specs.kept.PageDrawing.{IsFilledFew, IsPagePassed, IsPageStart, IsReadTwice, IsStartOf}
-use Rattle.multi_layout.specs.Picture.{in_plane, picture}
-use Rattle.multi_layout.specs.Verdict.{pages_of}
-use Rattle.multi_layout.specs.kept.Cursors.{IsAccepted, IsBetween, IsOrderly, IsPlaced, items_of, laid_meanings, meant, LaidItem}
+use Rattle.multi_layout.specs.kept.Cursors.{IsBetween, IsPlaced, items_of, laid_meanings, meant, LaidItem}
 use Rattle.multi_layout.specs.kept.Passing.{IsPageSkipped, IsPassing}
 use Rattle.multi_layout.proofs.LocateLemmas.{clock_of}
 use Rattle.multi_layout.proofs.PieceLemmas.{begins_page, laid_pages, pieces_before, pieces_behind, starts_between}

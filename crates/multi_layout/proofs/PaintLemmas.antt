@@ -9,31 +9,32 @@ use Rattle.std.proofs.lemmas.List.Elements.{filter-append}
 use Rattle.page_plane.specs.Plane.{BitPlane, is_lit}
 use Rattle.sign_font.specs.Cell as cells
 use Rattle.sign_font.specs.Sign.{SignData, FontData, CellData, cell_in, cell_numbered, sized}
-use Rattle.multi_layout.proofs.StateLemmas.{present_area-placing}
+use Rattle.multi_meaning.proofs.StateLemmas.{present_area-placing}
+use Rattle.multi_meaning.specs.declared.place.Place.{Place}
+use Rattle.multi_meaning.specs.Address.{standing, Glyph, Spot, spots, group_of, in_group, lines_of, is_break, in_area}
+use Rattle.multi_meaning.specs.Drawn.{has_colour}
+use Rattle.multi_meaning.specs.Meaning.{Meaning, Shows}
+use Rattle.multi_meaning.specs.Picture.{is_lit_at, shown_colour}
+use Rattle.multi_meaning.specs.Place.{place_of}
+use Rattle.multi_meaning.specs.kept.Present.{present_area}
+use Rattle.multi_meaning.proofs.CellLemmas.{covers}
+use Rattle.multi_meaning.proofs.DrawnLemmas.{covered_glyph}
+use Rattle.multi_meaning.specs.Offence.{unsized_offence}
+use Rattle.multi_meaning.proofs.SpotsLemmas.{area_with_glyph, same_page_behind}
 use Rattle.multi_layout.specs.kept.Sums.{area_sum}
 use Rattle.multi_layout.specs.declared.area.Area.{Area}
 use Rattle.multi_layout.specs.declared.attributes.Attributes.{Attributes}
 use Rattle.multi_layout.specs.declared.paint.Layer.{Layer}
-use Rattle.multi_layout.specs.declared.place.Place.{Place}
 use Rattle.multi_layout.specs.declared.state.State.{State}
 use Rattle.multi_layout.specs.declared.table.LineTable.{LineTable}
-use Rattle.multi_layout.specs.Address.{standing, Glyph, Spot, spots, group_of, in_group, lines_of, is_break, in_area}
-use Rattle.multi_layout.specs.Drawn.{has_colour}
-use Rattle.multi_layout.specs.Meaning.{Meaning, Shows}
 use Rattle.multi_layout.specs.kept.AreaDrawing.{HasCounted, IsDrawnTo}
 use Rattle.multi_layout.specs.kept.RunDrawing.{StandsAt}
-use Rattle.multi_layout.specs.Picture.{is_lit_at, shown_colour}
-use Rattle.multi_layout.specs.Place.{place_of}
 use Rattle.multi_layout.specs.kept.Placing.{PlacesCharacter}
-use Rattle.multi_layout.specs.kept.State.{IsStateOf, present_area}
+use Rattle.multi_layout.specs.kept.State.{IsStateOf}
 use Rattle.multi_layout.specs.kept.Table.{group_lines, table_of}
-use Rattle.multi_layout.proofs.CellLemmas.{covers}
-use Rattle.multi_layout.proofs.DrawnLemmas.{covered_glyph}
-use Rattle.multi_layout.specs.Offence.{unsized_offence}
 use Rattle.multi_layout.proofs.AreaSumLemmas.{no_back, no_clash}
 use Rattle.multi_layout.proofs.JudgedLemmas.{cell_of_font, no_conflict}
 use Rattle.multi_layout.proofs.PlaceLemmas.{line_is_there}
-use Rattle.multi_layout.proofs.SpotsLemmas.{area_with_glyph, same_page_behind}
 
 -- a lit character covers this pixel
 abbrev lit_covers : Bool → cells.SizedCell → ℕ → ℕ → ℕ → ℕ → ℕ → Bool

@@ -6,24 +6,25 @@ use Rattle.multi_token.specs.Counted.{Counted}
 use Rattle.sign_font.specs.declared.parts.LineFill.{LineFill}
 use Rattle.sign_font.specs.declared.parts.LineFill.TheVariants.{Off, Words}
 use Rattle.sign_font.specs.Sign.{SignData, cell_in}
-use Rattle.multi_layout.specs.declared.fault.SyntaxError.{SyntaxError}
+use Rattle.multi_meaning.specs.declared.fault.SyntaxError.{SyntaxError}
+use Rattle.multi_meaning.specs.Address.{spots}
+use Rattle.multi_meaning.specs.Codes.{code_of}
+use Rattle.multi_meaning.specs.LaidItems.{laid_items}
+use Rattle.multi_meaning.specs.Meaning.{Meaning, Shows}
+use Rattle.multi_meaning.specs.Offence.{offence}
+use Rattle.multi_meaning.specs.kept.Present.{present_area}
+use Rattle.multi_meaning.specs.Words.{some_after}
+use Rattle.multi_meaning.proofs.WordLemmas.{none_more}
 use Rattle.multi_layout.specs.declared.pass.Pass.{Pass}
 use Rattle.multi_layout.specs.declared.state.State.{State}
-use Rattle.multi_layout.specs.Address.{spots}
-use Rattle.multi_layout.specs.Codes.{code_of}
 use Rattle.multi_layout.specs.kept.FilledState.{IsFilledOf}
-use Rattle.multi_layout.specs.LaidItems.{laid_items}
-use Rattle.multi_layout.specs.Meaning.{Meaning, Shows}
-use Rattle.multi_layout.specs.Offence.{offence}
 use Rattle.multi_layout.specs.kept.PassState.{IsItemJudged, IsPassOf, IsPassReady, fill_of}
 use Rattle.multi_layout.specs.kept.Judging.{IsAt, IsTold, ReadSoFar}
-use Rattle.multi_layout.specs.kept.State.{IsJudged, IsLimited, IsStateOf, present_area, whole_times}
-use Rattle.multi_layout.specs.Words.{some_after}
+use Rattle.multi_layout.specs.kept.State.{IsJudged, IsLimited, IsStateOf, whole_times}
 use Rattle.multi_layout.proofs.FilledJudgedLemmas.{filled_undefined}
 use Rattle.multi_layout.proofs.FilledReadLemmas.{filled_ready_here, filled_told}
 use Rattle.multi_layout.proofs.JudgedLemmas.{judged-undefined}
 use Rattle.multi_layout.proofs.ReadLemmas.{ready_here, unfilled_told}
-use Rattle.multi_layout.proofs.WordLemmas.{none_more}
 
 -- whether lines are filled, as a number that isn't 0
 pub is_true : (n : ℕ) → (n ≡ 0 → ⊥) → not (n == 0) ≡ true

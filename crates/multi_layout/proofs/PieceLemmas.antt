@@ -8,6 +8,19 @@ use Rattle.multi_tag.specs.declared.tag.Tag.TheVariants.{NewPage, NewLine}
 use Rattle.sign_font.specs.declared.parts.LineFill.{LineFill}
 use Rattle.sign_font.specs.declared.parts.LineFill.TheVariants.{Off}
 use Rattle.sign_font.specs.Sign.{SignData, CellData, cell_numbered}
+use Rattle.multi_meaning.specs.Address.{Glyph, Spot, Standing, is_break, spot_at, spots, standing}
+use Rattle.multi_meaning.specs.Laid.{laid_spot}
+use Rattle.multi_meaning.specs.LaidItems.{laid_item, laid_items, laid_of, laid_out}
+use Rattle.multi_meaning.specs.Line.{given_gap}
+use Rattle.multi_meaning.specs.Meaning.{BeginsPage, Does, EndsArea, Meaning, Shows, begins_area, has_place, meaning}
+use Rattle.multi_meaning.specs.Verdict.{pages_of}
+use Rattle.multi_meaning.specs.kept.Fine.{IsOrderly}
+use Rattle.multi_meaning.specs.Words.{each_after}
+use Rattle.multi_meaning.proofs.LaidItemLemmas.{are_laid}
+use Rattle.multi_meaning.proofs.SpotsLemmas.{spots_with}
+use Rattle.multi_meaning.proofs.UnfilledLemmas.{spot_if}
+use Rattle.multi_meaning.proofs.WordLemmas.{each_after-append, each_after_length, each_after_push, push_ind}
+use Rattle.multi_meaning.proofs.UnplacedLemmas.{unplaced_item}
 use Rattle.multi_layout.specs.kept.State.{IsStateOf}
 use Rattle.multi_layout.specs.declared.cursor.Cursor.{Cursor}
 use Rattle.multi_layout.specs.declared.item.NextItem.{NextItem}
@@ -15,32 +28,15 @@ use Rattle.multi_layout.specs.declared.item.KnownItem.{KnownItem}
 use Rattle.multi_layout.specs.declared.item.KnownItem.TheVariants as items
 use Rattle.multi_layout.specs.declared.item.KnownItem.TheVariants.{Char}
 use Rattle.multi_layout.specs.declared.table.LineTable.{LineTable}
-use Rattle.multi_layout.specs.Address.{Glyph, Spot, Standing, is_break, spot_at, spots, standing}
 use Rattle.multi_layout.specs.kept.KnownItem.{meant_by}
-use Rattle.multi_layout.specs.Laid.{laid_spot}
-use Rattle.multi_layout.specs.LaidItems.{laid_item, laid_items, laid_of, laid_out}
-use Rattle.multi_layout.specs.Line.{given_gap}
-use Rattle.multi_layout.specs.Meaning.{BeginsPage, Does, EndsArea, Meaning, Shows, begins_area, has_place, meaning}
 use Rattle.multi_layout.specs.kept.AreaDrawing.{HasCounted, whole_area}
-use Rattle.multi_layout.specs.Verdict.{pages_of}
-use Rattle.multi_layout.specs.kept.Cursors.{IsBetween, IsFirst, IsItemRead, IsOrderly, IsPieceFirst, IsPlaced, IsRead, items_of, laid_meanings, meant, LaidItem, pieces_of}
+use Rattle.multi_layout.specs.kept.Cursors.{IsBetween, IsFirst, IsItemRead, IsPieceFirst, IsPlaced, IsRead, items_of, laid_meanings, meant, LaidItem, pieces_of}
 use Rattle.multi_layout.specs.kept.Passing.{IsPassing}
-use Rattle.multi_layout.specs.Words.{each_after}
 use Rattle.multi_layout.proofs.FilledStateLemmas.{pages_at, same_times}
-use Rattle.multi_layout.proofs.LaidItemLemmas.{are_laid}
 use Rattle.multi_layout.proofs.SkipLemmas.{settled_at}
-use Rattle.multi_layout.proofs.SpotsLemmas.{spots_with}
-use Rattle.multi_layout.proofs.UnfilledLemmas.{spot_if}
 use Rattle.multi_layout.proofs.WalkLemmas.{few_pieces, laid_here, length-meanings}
-use Rattle.multi_layout.proofs.WordLemmas.{each_after-append, each_after_length, each_after_push, push_ind}
 
 -- AN ITEM AS IT IS LAID OUT
-
--- what places nothing is laid as itself
-pub unplaced_item : (setting : LineFill) (sign : SignData) (all before : List Meaning) (x : Meaning) → has_place x ≡ false → laid_item setting sign all before x ≡ x
-unplaced_item setting sign all before (Shows number) e = absurd cc
-unplaced_item setting sign all before (Does (NewLine gap)) e = absurd cc
-unplaced_item setting sign all before _ e = refl
 
 -- where lines aren't filled, each is laid as itself
 unfilled_character : (sign : SignData) (all before more : List Meaning) (number : ℕ) → all ≡ before ++ Shows number ∷ more → (o : Option CellData) → cell_numbered (standing sign before).font number ≡ o

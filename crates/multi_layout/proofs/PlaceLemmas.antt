@@ -1,34 +1,35 @@
 -- The place of a character by the line table of its group, and how many lines a group has.
-use Rattle.std.proofs.Common.{◌≡◌, ℕ, ◌+◌, ◌-◌, ◌<◌, ◌≤◌, ⊎_elim, Bool, true, false, cond, ◌&&◌, ◌==◌, length, take, List, [], ◌∷◌, ◌++◌, Some, refl, sym, ap, subst, ◌∙◌, arith}
+use Rattle.std.proofs.Common.{◌≡◌, ℕ, ◌+◌, ◌-◌, ◌<◌, ◌≤◌, Bool, true, false, cond, ◌&&◌, ◌==◌, length, take, List, [], ◌∷◌, ◌++◌, Some, refl, sym, ap, subst, ◌∙◌, arith}
 use Rattle.std.specs.Prelude.{slice_get, slice_index_or, if◌then◌else◌}
-use Rattle.std.specs.List.{filter, list_any, onto_first, sum_by, count_by, All}
-use Rattle.std.proofs.lemmas.Bool.{cases_Bool, cases_eq, eq-eqb, eqb-true, false≢true}
-use Rattle.std.proofs.lemmas.Bool.Decides.{nat_tests}
-use Rattle.std.proofs.lemmas.List.Elements.{All-nil, All-cons, All-head, All-tail, All-filter, All-weaker}
+use Rattle.std.specs.List.{list_any, onto_first, count_by}
+use Rattle.std.proofs.lemmas.Bool.{eq-eqb, eqb-true}
 use Rattle.std.proofs.lemmas.List.{length-append}
 use Rattle.std.proofs.lemmas.List.Sums.{sum_by-cons, length-filter, count_by-le-length}
 use Rattle.std.proofs.lemmas.Option.{slice_get_within}
+use Rattle.multi_meaning.specs.Words.{cut_behind, largest}
+use Rattle.multi_meaning.specs.Address.{Spot, area_of, is_glyph, is_break, segment, group_of, lines_of, line_before}
+use Rattle.multi_meaning.specs.Line.{height_of, width_of, glyph_width}
+use Rattle.multi_meaning.specs.declared.place.Place.{Place}
+use Rattle.multi_meaning.specs.Offence.{clashes}
+use Rattle.multi_meaning.specs.Place.{place_of, start, spread}
+use Rattle.multi_meaning.specs.kept.Present.{ended_lines}
+use Rattle.multi_meaning.proofs.WordLemmas.{largest_push}
+use Rattle.multi_meaning.proofs.GroupLemmas.{own_group, filter_yes}
+use Rattle.multi_meaning.proofs.EndedLemmas.{ended_count, ended_glyph}
+use Rattle.multi_meaning.proofs.LinesFitLemmas.{each_just}
 use Rattle.multi_layout.specs.declared.area.Area.{Area}
 use Rattle.multi_layout.specs.declared.area.Group.{Group}
 use Rattle.multi_layout.specs.declared.attributes.Attributes.{Attributes}
 use Rattle.multi_layout.specs.declared.line.Line.{Line}
 use Rattle.multi_layout.specs.declared.line.Segment.{Segment}
 use Rattle.multi_layout.specs.declared.table.CountedLine.{CountedLine}
-use Rattle.multi_layout.specs.Words.{cut_behind, largest}
-use Rattle.multi_layout.specs.Address.{Spot, area_of, is_glyph, is_break, segment, in_group, group_of, lines_of, line_before}
-use Rattle.multi_layout.specs.Line.{bearers, line_height, height_of, width_of, glyph_width}
-use Rattle.multi_layout.specs.Fit.{fit, area_fits}
-use Rattle.multi_layout.specs.declared.place.Place.{Place}
-use Rattle.multi_layout.specs.Offence.{clashes}
-use Rattle.multi_layout.specs.Place.{place_of, start, spread}
 use Rattle.multi_layout.specs.kept.State.{attributes_of}
-use Rattle.multi_layout.specs.kept.Sums.{area_sum, ended_lines, group_sum, line_sum, segment_sum}
+use Rattle.multi_layout.specs.kept.Sums.{area_sum, group_sum, line_sum, segment_sum}
 use Rattle.multi_layout.specs.kept.Table.{counted_line, table_of, width_in, column_in}
-use Rattle.multi_layout.proofs.WordLemmas.{largest_push, push_ind, All-split}
 use Rattle.multi_layout.proofs.AreaSumLemmas.{group_of_own}
-use Rattle.multi_layout.proofs.GroupSumLemmas.{own_group, present_push}
-use Rattle.multi_layout.proofs.LineSumLemmas.{filter_yes, in_order}
-use Rattle.multi_layout.proofs.TableLemmas.{ended_count, ended_glyph, look_up, look_up_bottom, table_length}
+use Rattle.multi_layout.proofs.GroupSumLemmas.{present_push}
+use Rattle.multi_layout.proofs.LineSumLemmas.{in_order}
+use Rattle.multi_layout.proofs.TableLemmas.{look_up, look_up_bottom, table_length}
 
 -- THE LINE OF AN ITEM
 
@@ -64,96 +65,9 @@ line_is_there g rest s = part_is_there is_break g rest s
 
 -- HOW MANY LINES
 
--- a list with an item, each of which passes
-record Filled {X : Type 0} (P : X → Type 0) (xs : List X) : Type 0 where
-  some : 0 < length xs
-  each : All P xs
-
-module _ {X : Type 0} (P : X → Type 0) where
-  filled_onto : (x : X) (parts : List (List X)) → P x → All (Filled P) parts → All (Filled P) (onto_first x parts)
-  filled_onto x [] h all = All-cons (Filled P) (x ∷ []) [] (record { some = omega arith; each = All-cons P x [] h (All-nil P) }) (All-nil (Filled P))
-  filled_onto x (part ∷ parts) h all =
-      let head : Filled P part = All-head (Filled P) part parts all in
-      All-cons (Filled P) (x ∷ part) parts (record { some = omega arith; each = All-cons P x part h head.each }) (All-tail (Filled P) part parts all)
-
-  filled_if : (b : Bool) (x : X) (parts : List (List X)) → P x → All (Filled P) parts → All (Filled P) (cond b ((x ∷ []) ∷ parts) (onto_first x parts))
-  filled_if true x parts h all = All-cons (Filled P) (x ∷ []) parts (record { some = omega arith; each = All-cons P x [] h (All-nil P) }) all
-  filled_if false x parts h all = filled_onto x parts h all
-
-  -- no part of a cut list is empty
-  filled_parts : (p : X → Bool) (xs : List X) → All P xs → All (Filled P) (cut_behind p xs)
-  filled_parts p [] all = All-nil (Filled P)
-  filled_parts p (x ∷ xs) all = filled_if (p x) x (cut_behind p xs) (All-head P x xs all) (filled_parts p xs (All-tail P x xs all))
-
--- an item of a font of at least one pixel
-abbrev High : Spot → Type 0
-High s = 1 ≤ s.at.font.height
-
-largest_some : {X : Type 0} (f : X → ℕ) (xs : List X) → 0 < length xs → All (λ x. 1 ≤ f x) xs → 1 ≤ largest f xs
-largest_some {X} f = push_ind (λ xs. 0 < length xs → All (λ x. 1 ≤ f x) xs → 1 ≤ largest f xs) (λ h all. absurd (omega arith)) step
-  where
-    step : (xs : List X) (x : X) → (0 < length xs → All (λ x. 1 ≤ f x) xs → 1 ≤ largest f xs) → 0 < length (xs ++ x ∷ []) → All (λ x. 1 ≤ f x) (xs ++ x ∷ []) → 1 ≤ largest f (xs ++ x ∷ [])
-    step xs x ih h all =
-        let last : 1 ≤ f x = (All-split (λ x. 1 ≤ f x) xs x all).1 in
-        omega (arith, largest_push f xs x)
-
-filter_some : {X : Type 0} (p : X → Bool) (xs : List X) → list_any p xs ≡ true → 0 < length (filter p xs)
-filter_some p [] h = absurd (false≢true h)
-filter_some p (x ∷ xs) h = ⊎_elim (λ yes. rw yes (omega arith)) (λ no. rw no (filter_some p xs (rw no at h))) (cases_Bool (p x))
-
-bearers_if : (b : Bool) (line : List Spot) → list_any is_glyph line ≡ b → Filled High line → Filled High (cond b (filter is_glyph line) line)
-bearers_if true line e h = record { some = filter_some is_glyph line e; each = All-filter is_glyph High line h.each }
-bearers_if false line e h = h
-
--- a line with an item has at least one pixel
-line_high : (line : List Spot) → Filled High line → 1 ≤ line_height line
-line_high line h =
-    let from : Filled High (bearers line) = bearers_if (list_any is_glyph line) line refl h in
-    largest_some (λ t. t.at.font.height) (bearers line) from.some from.each
-
-pub sum_least : {X : Type 0} (f : X → ℕ) (xs : List X) → All (λ x. 1 ≤ f x) xs → length xs ≤ sum_by f xs
-sum_least f [] all = omega arith
-sum_least f (x ∷ xs) all = omega (arith, sum_by-cons f x xs, All-head (λ x. 1 ≤ f x) x xs all, sum_least f xs (All-tail (λ x. 1 ≤ f x) x xs all))
-
--- a group has no more lines than pixels
-pub lines_most : (g : List Spot) → All (λ (s : Spot). 1 ≤ s.at.font.height) g → length (lines_of g) ≤ height_of (lines_of g)
-lines_most g all =
-    let lines = lines_of g in
-    let high : All (λ line. 1 ≤ line_height line) lines = All-weaker (Filled High) (λ line. 1 ≤ line_height line) line_high lines (filled_parts High is_break g all) in
-    let most : length lines ≤ sum_by line_height lines = sum_least line_height lines high in
-    omega (arith, most)
-
 -- nor more ended lines than lines
 pub ended_most : (g : List Spot) → length (ended_lines g) ≤ length (lines_of g)
 ended_most g = rw (length-filter (list_any is_break) (lines_of g)) (count_by-le-length (list_any is_break) (lines_of g))
-
-pub fit_each : (a b c height : ℕ) → fit a b c height ≡ true → a + b + c ≤ height
-fit_each a b c height h = grind (arith, nat_tests)
-
--- what holds of the line justifications left, centre, right and full
-pub each_just : (P : ℕ → Type 0) → P 2 → P 3 → P 4 → P 5 → (just : ℕ) → 2 ≤ just → just ≤ 5 → P just
-each_just P p2 p3 p4 p5 just low high = ⊎_elim (λ e. subst P (sym e) p2) not_left (cases_eq just 2)
-  where
-    not_right : (just ≡ 2 → ⊥) → (just ≡ 3 → ⊥) → (just ≡ 4 → ⊥) → P just
-    not_right n2 n3 n4 = let five : 5 ≡ just = omega arith in subst P five p5
-
-    not_centre : (just ≡ 2 → ⊥) → (just ≡ 3 → ⊥) → P just
-    not_centre n2 n3 = ⊎_elim (λ e. subst P (sym e) p4) (not_right n2 n3) (cases_eq just 4)
-
-    not_left : (just ≡ 2 → ⊥) → P just
-    not_left n2 = ⊎_elim (λ e. subst P (sym e) p3) (not_centre n2) (cases_eq just 3)
-
-pub part_most : (f : ℕ → ℕ) (just height : ℕ) → 2 ≤ just → just ≤ 4 → f 2 + f 3 + f 4 ≤ height → f just ≤ height
-part_most f just height low high room =
-    each_just (λ just. just ≤ 4 → f just ≤ height) (λ _. omega arith) (λ _. omega arith) (λ _. omega arith) (λ h. absurd (omega arith)) just low (omega arith) high
-
--- an area that fits has no more lines than pixels
-pub lines_within : (height : ℕ) (area : List Spot) → area_fits height area ≡ true → All (λ (s : Spot). 1 ≤ s.at.font.height) area
-    → length (lines_of (in_group 2 area)) + length (lines_of (in_group 3 area)) + length (lines_of (in_group 4 area)) ≤ height
-lines_within height area fits all =
-    let tall = λ (just : ℕ). height_of (lines_of (in_group just area)) in
-    let most : (just : ℕ) → length (lines_of (in_group just area)) ≤ tall just = λ just. lines_most (in_group just area) (All-filter (λ t. t.at.page_just == just) High area all) in
-    omega (arith, most 2, most 3, most 4, fit_each (tall 2) (tall 3) (tall 4) height fits)
 
 -- THE PLACE OF A CHARACTER
 

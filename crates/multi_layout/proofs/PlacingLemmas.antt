@@ -1,24 +1,27 @@
 -- What a placing item makes of the state, from what the sums of the present area answer.
-use Rattle.std.proofs.Common.{◌≡◌, ℕ, ◌+◌, ◌*◌, ◌≤◌, Bool, true, false, cond, not, List, [], ◌∷◌, ◌++◌, length, Option, Some, None, refl, sym, ap, ◌∙◌, arith}
+use Rattle.std.proofs.Common.{◌≡◌, ℕ, ◌+◌, ◌*◌, ◌≤◌, Bool, true, false, not, List, [], ◌∷◌, ◌++◌, length, Option, Some, None, refl, sym, ap, ◌∙◌, arith}
 use Rattle.std.specs.List.{All, after_last, list_any}
 use Rattle.multi_tag.specs.declared.tag.Tag.TheVariants.{NewLine}
 use Rattle.sign_font.specs.declared.parts.LineFill.TheVariants.{Off}
-use Rattle.multi_layout.specs.Laid.{too_big}
+use Rattle.multi_meaning.specs.Laid.{too_big}
 use Rattle.sign_font.specs.Cell.{SizedCell}
 use Rattle.sign_font.specs.Sign.{SignData, cell_in, info_of}
+use Rattle.multi_meaning.specs.Address.{Break, Glyph, Spot, area_of, in_group, is_break, is_glyph, spots, standing}
+use Rattle.multi_meaning.specs.Fit.{FitsWithout}
+use Rattle.multi_meaning.specs.Meaning.{Meaning, Shows, Does}
+use Rattle.multi_meaning.specs.Offence.{clashes, conflicts, never_big, offence, unsized_offence}
+use Rattle.multi_meaning.specs.kept.Present.{present_area, IsPlacing}
+use Rattle.multi_meaning.proofs.GroupLemmas.{area_placing}
+use Rattle.multi_meaning.proofs.OffenceLemmas.{offence-break, offence-character}
+use Rattle.multi_meaning.proofs.UnplacedLemmas.{no_conflict}
 use Rattle.multi_layout.specs.declared.area.Area.{Area}
 use Rattle.multi_layout.specs.declared.attributes.Attributes.{Attributes}
 use Rattle.multi_layout.specs.declared.line.Character.{Character}
 use Rattle.multi_layout.specs.declared.state.State.{State}
-use Rattle.multi_layout.specs.Address.{Break, Glyph, Spot, area_of, in_group, is_break, is_glyph, spots, standing}
-use Rattle.multi_layout.specs.Fit.{FitsWithout}
-use Rattle.multi_layout.specs.Meaning.{Meaning, Shows, Does}
-use Rattle.multi_layout.specs.Offence.{clashes, conflicts, never_big, offence, unsized_offence}
-use Rattle.multi_layout.specs.kept.State.{IsStateOf, present_area}
-use Rattle.multi_layout.specs.kept.Sums.{IsBelow, IsBreak, IsCharacter, IsPlacing, area_sum}
-use Rattle.multi_layout.proofs.AreaSumLemmas.{area_placing, no_back, no_clash, present_behind}
+use Rattle.multi_layout.specs.kept.State.{IsStateOf}
+use Rattle.multi_layout.specs.kept.Sums.{IsBelow, IsBreak, IsCharacter, area_sum}
+use Rattle.multi_layout.proofs.AreaSumLemmas.{no_back, no_clash, present_behind}
 use Rattle.multi_layout.proofs.JudgedLemmas.{cell_found, character-conflict, character-too_big, character-fits, state-character, break-conflict, break-too_big, break-fits, state-break}
-use Rattle.multi_layout.proofs.OffenceLemmas.{offence-break, offence-character}
 
 -- what isn't refused, and what is
 not_true : (f b : Bool) → f ≡ not b → f ≡ true → b ≡ false
@@ -28,11 +31,6 @@ not_true f false e t = refl
 not_false : (f b : Bool) → f ≡ not b → f ≡ false → b ≡ true
 not_false f true e t = refl
 not_false f false e t = absurd (let wrong : true ≡ false = sym e ∙ t in cc)
-
--- without an error there is no conflict
-pub no_conflict : (conflict big : Bool) → ◌≡◌ {A = Option ℕ} (cond conflict (Some 11) (cond big (Some 5) None)) None → conflict ≡ false
-no_conflict true big e = absurd (cc)
-no_conflict false big e = refl
 
 module _ (sign : SignData) (items : List Meaning) (state : State) (st : IsStateOf sign items state) where
   placing : All IsPlacing (present_area sign items)

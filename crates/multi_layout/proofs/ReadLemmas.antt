@@ -14,19 +14,19 @@ use Rattle.multi_token.specs.Tokens.{IsTokenOf, item_of}
 use Rattle.multi_token.proofs.ReadingLemmas.{none_found, spelling_some}
 use Rattle.sign_font.specs.declared.parts.LineFill.TheVariants.{Off}
 use Rattle.sign_font.specs.Sign.{SignData}
+use Rattle.multi_meaning.specs.Address.{standing}
+use Rattle.multi_meaning.specs.Meaning.{Meaning, meaning}
+use Rattle.multi_meaning.specs.Offence.{offence}
+use Rattle.multi_meaning.specs.Times.{Times, cycle, ended_times, page_times, times_at}
+use Rattle.multi_meaning.specs.Verdict.{Accepted, IsCycle, IsVerdict, Refused, broken, of_first, pages_of, verdict, verdict_on}
+use Rattle.multi_meaning.proofs.VerdictLemmas.{item_refused, offences_push, one_verdict}
+use Rattle.multi_meaning.proofs.WordLemmas.{none_more}
 use Rattle.multi_layout.specs.declared.attributes.Attributes.{Attributes}
 use Rattle.multi_layout.specs.declared.state.State.{State}
-use Rattle.multi_layout.specs.Address.{standing}
-use Rattle.multi_layout.specs.Meaning.{Meaning, meaning}
-use Rattle.multi_layout.specs.Offence.{offence}
 use Rattle.multi_layout.specs.kept.Judging.{IsAt, IsTold, ReadSoFar}
 use Rattle.multi_layout.specs.kept.State.{IsLimited, IsReady, IsStateOf, IsUnfilledOf, attributes_of, whole_times}
-use Rattle.multi_layout.specs.Times.{Times, cycle, ended_times, page_times, times_at}
-use Rattle.multi_layout.specs.Verdict.{Accepted, IsCycle, IsVerdict, Refused, broken, of_first, pages_of, verdict, verdict_on}
 use Rattle.multi_layout.proofs.JudgedLemmas.{ready}
 use Rattle.multi_layout.proofs.WalkLemmas.{length-meanings}
-use Rattle.multi_layout.proofs.VerdictLemmas.{item_refused, offences_push, one_verdict}
-use Rattle.multi_layout.proofs.WordLemmas.{none_more}
 
 -- where no octet stands is the end
 pub at_end : (octets : List ℕ) (at : ℕ) → at ≤ length octets → slice_get octets at ≡ None → length octets ≡ at

@@ -5,25 +5,26 @@ use Rattle.std.specs.List.{All, AllPass, after_last, list_any}
 use Rattle.std.specs.Option.{option_map_or, unwrap_or}
 use Rattle.std.proofs.lemmas.Bool.{cases_eq, eq-eqb, le-leb, le-ltb, ne_eqb}
 use Rattle.sign_font.specs.declared.parts.LineFill.TheVariants.{Off}
-use Rattle.multi_layout.specs.Laid.{too_big}
+use Rattle.multi_meaning.specs.Laid.{too_big}
 use Rattle.sign_font.specs.Cell.{SizedCell}
 use Rattle.sign_font.specs.Sign.{SignData, cell_in}
+use Rattle.multi_meaning.specs.Address.{Spot, area_of, in_group, is_break, is_glyph, lines_of, segment, spots, standing}
+use Rattle.multi_meaning.specs.Fit.{FitsWithout, area_fits, fit, line_fits}
+use Rattle.multi_meaning.specs.Line.{average, height_of, width_of}
+use Rattle.multi_meaning.specs.Meaning.{Meaning, Shows}
+use Rattle.multi_meaning.specs.Offence.{clashes, conflicts, offence, unsized_offence}
+use Rattle.multi_meaning.specs.kept.Present.{IsPlacing}
+use Rattle.multi_meaning.specs.Words.{largest}
 use Rattle.multi_layout.specs.declared.area.Area.{Area}
 use Rattle.multi_layout.specs.declared.area.Group.{Group}
 use Rattle.multi_layout.specs.declared.line.Character.{Character}
 use Rattle.multi_layout.specs.declared.line.Line.{Line}
 use Rattle.multi_layout.specs.declared.line.Segment.{Segment}
 use Rattle.multi_layout.specs.declared.state.State.{State}
-use Rattle.multi_layout.specs.Address.{Spot, area_of, in_group, is_break, is_glyph, lines_of, segment, spots, standing}
-use Rattle.multi_layout.specs.Fit.{FitsWithout, area_fits, fit, line_fits}
-use Rattle.multi_layout.specs.Line.{average, height_of, width_of}
-use Rattle.multi_layout.specs.Meaning.{Meaning, Shows}
-use Rattle.multi_layout.specs.Offence.{clashes, conflicts, offence, unsized_offence}
 use Rattle.multi_layout.specs.kept.Adding.{character_of}
 use Rattle.multi_layout.specs.kept.Run.{IsBehindCharacter, IsRun, kept_fits, kept_group_height, kept_height, kept_width, lengthened, lengthened_area, lengthened_line, line_in_force}
 use Rattle.multi_layout.specs.kept.State.{IsStateOf}
-use Rattle.multi_layout.specs.kept.Sums.{IsBelow, IsCharacter, IsPlacing, area_sum, group_sum, height_before, line_sum, segment_sum, width_before}
-use Rattle.multi_layout.specs.Words.{largest}
+use Rattle.multi_layout.specs.kept.Sums.{IsBelow, IsCharacter, area_sum, group_sum, height_before, line_sum, segment_sum, width_before}
 use Rattle.multi_layout.proofs.AreaSumLemmas.{area_stays, area_with, conflicts_kept, fits_character, group_of_own, other_height, present_height, none_of_later_group, own_line, placing_character}
 use Rattle.multi_layout.proofs.GroupHeightLemmas.{height_ended, height_present}
 use Rattle.multi_layout.proofs.GroupSumLemmas.{group_character, present_glyphs}

@@ -13,12 +13,13 @@ use Rattle.multi_token.proofs.PlaceLemmas.{drop_read, read_drop, single_token}
 use Rattle.sign_font.specs.Sign.{SignData, cell_in}
 use Rattle.sign_font.specs.Sound.{IsSound, IsWithin}
 use Rattle.sign_font.specs.Text.{width_in}
+use Rattle.multi_meaning.specs.Meaning.{Shows, meaning}
+use Rattle.multi_meaning.proofs.OrderlyLemmas.{unsized_if}
 use Rattle.multi_layout.specs.declared.item.KnownItem.TheVariants as known
 use Rattle.multi_layout.specs.declared.item.NextItem.{NextItem}
 use Rattle.multi_layout.specs.declared.pass.Pass.{Pass}
 use Rattle.multi_layout.specs.declared.state.State.{State}
 use Rattle.multi_layout.specs.declared.table.LineTable.{LineTable}
-use Rattle.multi_layout.specs.Meaning.{Shows, meaning}
 use Rattle.multi_layout.specs.kept.AreaReading.{GoesOn, IsReadOf}
 use Rattle.multi_layout.specs.kept.Cursors.{LaidItem, items_of}
 use Rattle.multi_layout.specs.kept.PassState.{IsPassReady}
@@ -28,7 +29,6 @@ use Rattle.multi_layout.proofs.AreaLinesLemmas.{SoFar, read_on, so_first, so_nex
 use Rattle.multi_layout.proofs.AreaReadLemmas.{next_fine, plain_passed}
 use Rattle.multi_layout.proofs.AreaStepLemmas.{step_stays}
 use Rattle.multi_layout.proofs.BeforeLemmas.{unfilled_fits}
-use Rattle.multi_layout.proofs.OrderlyLemmas.{unsized_if}
 use Rattle.multi_layout.proofs.RunLemmas.{behind_stays, state_beside}
 use Rattle.multi_layout.proofs.RunReadLemmas.{behind_first, cell_of_width}
 use Rattle.multi_layout.proofs.WalkLemmas.{item_is}

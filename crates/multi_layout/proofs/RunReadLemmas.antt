@@ -14,8 +14,8 @@ use Rattle.sign_font.specs.Cell.{SizedCell}
 use Rattle.sign_font.specs.Sign.{SignData, cell_in}
 use Rattle.sign_font.specs.Sound.{IsWithin}
 use Rattle.sign_font.specs.Text.{HasWidth, width_in}
+use Rattle.multi_meaning.specs.Meaning.{meaning}
 use Rattle.multi_layout.specs.declared.state.State.{State}
-use Rattle.multi_layout.specs.Meaning.{meaning}
 use Rattle.multi_layout.specs.kept.Judging.{ReadSoFar}
 use Rattle.multi_layout.specs.kept.Run.{IsRun, lengthened, line_in_force}
 use Rattle.multi_layout.specs.kept.State.{IsUnfilledOf}

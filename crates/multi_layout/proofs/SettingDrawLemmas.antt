@@ -6,6 +6,10 @@ use Rattle.std.proofs.lemmas.List.Elements.{All-head, All-tail, All-weaker}
 use Rattle.multi_tag.specs.declared.tag.Tag.{Tag}
 use Rattle.page_plane.specs.Plane.{BitPlane}
 use Rattle.sign_font.specs.Sign.{SignData}
+use Rattle.multi_meaning.specs.Address.{standing}
+use Rattle.multi_meaning.specs.Meaning.{Does, Faulty, Meaning, Shows, begins_area}
+use Rattle.multi_meaning.specs.kept.Present.{present_area}
+use Rattle.multi_meaning.proofs.StateLemmas.{present_area-nothing}
 use Rattle.multi_layout.specs.declared.cursor.Cursor.{Cursor}
 use Rattle.multi_layout.specs.declared.cursor.Met.TheVariants.{Setting}
 use Rattle.multi_layout.specs.declared.item.KnownItem.TheVariants as known
@@ -14,20 +18,17 @@ use Rattle.multi_layout.specs.declared.paint.Layer.{Layer}
 use Rattle.multi_layout.specs.declared.read.AreaLines.{AreaLines}
 use Rattle.multi_layout.specs.declared.state.State.{State}
 use Rattle.multi_layout.specs.declared.table.LineTable.{LineTable}
-use Rattle.multi_layout.specs.Address.{standing}
-use Rattle.multi_layout.specs.Meaning.{Does, Faulty, Meaning, Shows, begins_area}
 use Rattle.multi_layout.specs.kept.AreaDrawing.{BeginsNoArea, DrawsOn, IsDrawnTo}
 use Rattle.multi_layout.specs.kept.Cursors.{IsBetween, LaidItem, items_of, meant, spell_of}
 use Rattle.multi_layout.specs.kept.Settings.{AreSettingsPassed, IsMet}
 use Rattle.multi_layout.specs.kept.RunDrawing.{AreaSoFar}
 use Rattle.multi_layout.specs.kept.KnownItem.{is_setting}
-use Rattle.multi_layout.specs.kept.State.{IsStateOf, present_area}
+use Rattle.multi_layout.specs.kept.State.{IsStateOf}
 use Rattle.multi_layout.proofs.AreaDrawLemmas.{area_first, area_then, next_drawn}
 use Rattle.multi_layout.proofs.DrawLemmas.{map_split, setting_put, setting_unput}
 use Rattle.multi_layout.proofs.PageDrawLemmas.{PageSoFar, page_area}
 use Rattle.multi_layout.proofs.PieceLemmas.{laid_first, read_unplaced}
 use Rattle.multi_layout.proofs.SettingLemmas.{setting_is}
-use Rattle.multi_layout.proofs.StateLemmas.{present_area-nothing}
 use Rattle.multi_layout.proofs.WalkLemmas.{between_more}
 
 pub setting_drawn : (sign : SignData) (octets : List ℕ) (before area rest : List LaidItem) (read : AreaLines) (layer : Layer) (cursor : Cursor) (old new : BitPlane) (s : AreaSoFar sign octets before area rest read.lines layer cursor old new)

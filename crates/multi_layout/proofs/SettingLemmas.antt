@@ -6,16 +6,16 @@ use Rattle.multi_tag.specs.declared.tag.Tag.{Tag}
 use Rattle.multi_tag.specs.declared.tag.Tag.TheVariants.{NewPage, NewLine, Font, HexChar, Rect, Back}
 use Rattle.sign_font.specs.declared.parts.LineFill.TheVariants.{Off, Words}
 use Rattle.sign_font.specs.Sign.{SignData}
-use Rattle.multi_layout.specs.declared.fault.SyntaxError.{SyntaxError}
+use Rattle.multi_meaning.specs.declared.fault.SyntaxError.{SyntaxError}
+use Rattle.multi_meaning.specs.Address.{Spot}
+use Rattle.multi_meaning.specs.Codes.{code_of}
+use Rattle.multi_meaning.specs.Laid.{too_big}
+use Rattle.multi_meaning.specs.LaidItems.{laid_items}
+use Rattle.multi_meaning.specs.Meaning.{Does, Meaning, begins_area, has_place, meaning, said_by}
+use Rattle.multi_meaning.specs.Offence.{offence, offence_by}
 use Rattle.multi_layout.specs.declared.item.NextItem.{NextItem}
 use Rattle.multi_layout.specs.declared.pass.Pass.{Pass}
 use Rattle.multi_layout.specs.declared.state.State.{State}
-use Rattle.multi_layout.specs.Address.{Spot}
-use Rattle.multi_layout.specs.Codes.{code_of}
-use Rattle.multi_layout.specs.Laid.{too_big}
-use Rattle.multi_layout.specs.LaidItems.{laid_items}
-use Rattle.multi_layout.specs.Meaning.{Does, Meaning, begins_area, has_place, meaning, said_by}
-use Rattle.multi_layout.specs.Offence.{offence, offence_by}
 use Rattle.multi_layout.specs.kept.AreaDrawing.{ends_line}
 use Rattle.multi_layout.specs.kept.Cursors.{IsFirst, IsPlaced}
 use Rattle.multi_layout.specs.kept.Settings.{PutsSetting}

@@ -9,25 +9,26 @@ use Rattle.multi_tag.specs.declared.tag.Tag.{Tag}
 use Rattle.multi_tag.specs.declared.tag.Tag.TheVariants.{NewPage, NewLine, Font}
 use Rattle.sign_font.specs.declared.parts.LineFill.{LineFill}
 use Rattle.sign_font.specs.Sign.{SignData, font_numbered}
+use Rattle.multi_meaning.specs.Address.{Standing, spots, standing}
+use Rattle.multi_meaning.specs.Meaning.{BeginsPage, Does, Meaning, Shows, has_place, is_new_page, meaning}
+use Rattle.multi_meaning.specs.Offence.{first_code, offence, offence_by, unsized_offence}
+use Rattle.multi_meaning.specs.kept.Present.{present_area, standing_behind}
+use Rattle.multi_meaning.specs.Times.{cycle, ended_times, times_at}
+use Rattle.multi_meaning.specs.Verdict.{pages_of}
+use Rattle.multi_meaning.proofs.StandingLemmas.{standing_push}
+use Rattle.multi_meaning.proofs.StateLemmas.{present_area-new}
+use Rattle.multi_meaning.proofs.WordLemmas.{push_ind}
 use Rattle.multi_layout.specs.declared.cursor.Cursor.{Cursor}
 use Rattle.multi_layout.specs.declared.item.NextItem.{NextItem}
 use Rattle.multi_layout.specs.declared.state.State.{State}
-use Rattle.multi_layout.specs.Address.{Standing, spots, standing}
 use Rattle.multi_layout.specs.kept.KnownItem.{meant_by}
-use Rattle.multi_layout.specs.Meaning.{BeginsPage, Does, Meaning, Shows, has_place, is_new_page, meaning}
-use Rattle.multi_layout.specs.Offence.{first_code, offence, offence_by, unsized_offence}
-use Rattle.multi_layout.specs.kept.State.{IsReady, IsStateOf, attributes_of, present_area, standing_behind}
+use Rattle.multi_layout.specs.kept.State.{IsReady, IsStateOf, attributes_of}
 use Rattle.multi_layout.specs.kept.Sums.{area_sum}
-use Rattle.multi_layout.specs.Times.{cycle, ended_times, times_at}
-use Rattle.multi_layout.specs.Verdict.{pages_of}
 use Rattle.multi_layout.specs.kept.Cursors.{IsItemRead}
 use Rattle.multi_layout.specs.kept.Passing.{IsPassing, unplaced}
 use Rattle.multi_layout.proofs.BoundLemmas.{below_more}
 use Rattle.multi_layout.proofs.JudgedLemmas.{ended_times-push, pages_of-push, ready}
-use Rattle.multi_layout.proofs.StandingLemmas.{standing_push}
-use Rattle.multi_layout.proofs.StateLemmas.{present_area-new}
 use Rattle.multi_layout.proofs.WalkLemmas.{few_placed, length-meanings, none_offends, placed_more}
-use Rattle.multi_layout.proofs.WordLemmas.{push_ind}
 
 -- where the present area is empty, the state is that of all items with these pages, times and values in force
 pub state_moved : (sign : SignData) (one other : List Meaning) (state : State) → standing sign one ≡ standing sign other → ended_times sign one ≡ ended_times sign other → pages_of one ≡ pages_of other
@@ -127,14 +128,6 @@ module _ (sign : SignData) where
 pub tag_unplaced : (tag : Tag) → ((gap : Option ℕ) → tag ≡ NewLine gap → ⊥) → has_place (Does tag) ≡ false
 tag_unplaced (NewLine gap) other = absurd (other gap refl)
 tag_unplaced _ other = refl
-
--- and where an error is more than its size, it is its error
-pub sized : (setting : LineFill) (sign : SignData) (ms : List Meaning) (x : Meaning) → has_place x ≡ false → offence setting sign ms x ≡ unsized_offence sign ms x
-unfolding offence_by
-sized setting sign ms (Shows number) e = absurd cc
-sized setting sign ms (Does (NewLine gap)) e = absurd cc
-sized setting sign ms (Does (Font (Some pick))) e = refl
-sized setting sign ms x e = refl
 
 -- THE WAY
 

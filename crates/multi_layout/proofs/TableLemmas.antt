@@ -1,22 +1,20 @@
 -- The line table of a group: what one more `nl` adds to it, what its last line adds, and what is looked up in it.
-use Rattle.std.proofs.Common.{◌≡◌, ℕ, ◌+◌, ◌-◌, ◌<◌, Bool, true, false, cond, length, take, List, [], ◌∷◌, ◌++◌, Option, Some, None, refl, sym, ap, ◌∙◌, suc, zero, arith}
+use Rattle.std.proofs.Common.{◌≡◌, ℕ, ◌+◌, ◌-◌, ◌<◌, Bool, true, false, length, take, List, [], ◌∷◌, ◌++◌, Option, Some, None, refl, sym, ap, ◌∙◌, suc, zero, arith}
 use Rattle.std.specs.Prelude.{slice_get, slice_index_or}
-use Rattle.std.specs.List.{last_or, list_any, after_last, count_by, All}
+use Rattle.std.specs.List.{last_or, list_any, after_last, All}
 use Rattle.std.specs.Option.{option_map_or}
-use Rattle.std.proofs.lemmas.List.{append-nil, take_more, length_push}
-use Rattle.std.proofs.lemmas.List.Sums.{sum_by_push}
+use Rattle.std.proofs.lemmas.List.{append-nil, take_more}
+use Rattle.multi_meaning.specs.Words.{each_after}
+use Rattle.multi_meaning.specs.Address.{Spot, is_glyph, is_break, lines_of}
+use Rattle.multi_meaning.specs.Line.{height_of}
+use Rattle.multi_meaning.specs.kept.Present.{ended_lines, IsPlacing}
+use Rattle.multi_meaning.proofs.WordLemmas.{each_after_length, each_after_push, last_or_push, push_ind}
+use Rattle.multi_meaning.proofs.CutLemmas.{cut, cut_behind_is}
+use Rattle.multi_meaning.proofs.BehindLemmas.{after_last_is, ended_is}
+use Rattle.multi_meaning.proofs.HeightLemmas.{open_glyphs}
 use Rattle.multi_layout.specs.declared.table.CountedLine.{CountedLine}
-use Rattle.multi_layout.specs.Words.{each_after}
-use Rattle.multi_layout.specs.Address.{Spot, is_glyph, is_break, lines_of}
-use Rattle.multi_layout.specs.Line.{height_of}
-use Rattle.multi_layout.specs.kept.Sums.{ended_lines, IsPlacing}
 use Rattle.multi_layout.specs.kept.Table.{counted_line, line_entry, table_of}
-use Rattle.multi_layout.proofs.WordLemmas.{each_after_length, each_after_push, last_or_push, push_ind}
-use Rattle.multi_layout.proofs.CutLemmas.{Cut, cut, cut_push, cut_behind_is}
 use Rattle.multi_layout.proofs.GroupHeightLemmas.{part_none, part_some}
-use Rattle.multi_layout.proofs.BehindLemmas.{after_last_is, ended_is, cut_if}
-use Rattle.multi_layout.proofs.HeightLemmas.{open_glyphs}
-use Rattle.multi_layout.proofs.GroupSumLemmas.{glyph_put}
 
 -- ONE MORE LINE
 
@@ -62,44 +60,6 @@ look_up lines k h = each_after_get counted_line lines k [] h
 -- its bottom is the height of the lines down to it
 pub look_up_bottom : (lines : List (List Spot)) (k : ℕ) → k < length lines → height_of (take k lines ++ slice_index_or lines k [] ∷ []) ≡ height_of (take (k + 1) lines)
 look_up_bottom lines k h = ap height_of (sym (take_more lines k [] h))
-
--- ENDED LINES
-
-ended_if : (g : List Spot) (s : Spot) (b : Bool) → is_break s ≡ b → ended_lines (g ++ s ∷ []) ≡ (cut_if is_break b (cut is_break g) s).closed
-ended_if g s b e = ended_is is_break (g ++ s ∷ []) ∙ ap (λ (c : Cut Spot). c.closed) (cut_push is_break g s) ∙ ap (λ b. (cut_if is_break b (cut is_break g) s).closed) e
-
--- one more `nl` ends the open line
-pub ended_break : (g : List Spot) (s : Spot) → is_break s ≡ true → ended_lines (g ++ s ∷ []) ≡ ended_lines g ++ (after_last is_break g ++ s ∷ []) ∷ []
-ended_break g s b =
-    ended_if g s true b
-    ∙ ap (λ l. (cut is_break g).closed ++ (l ++ s ∷ []) ∷ []) (sym (after_last_is is_break g))
-    ∙ ap (λ l. l ++ (after_last is_break g ++ s ∷ []) ∷ []) (sym (ended_is is_break g))
-
--- one more character ends none
-pub ended_glyph : (g : List Spot) (s : Spot) → is_glyph s ≡ true → ended_lines (g ++ s ∷ []) ≡ ended_lines g
-ended_glyph g s b = ended_if g s false (glyph_put s.at s.put b).0 ∙ sym (ended_is is_break g)
-
--- one more item counts if it is an `nl`
-pub count_push : (g : List Spot) (s : Spot) → count_by is_break (g ++ s ∷ []) ≡ count_by is_break g + cond (is_break s) 1 0
-count_push g s = sum_by_push (λ s. cond (is_break s) 1 0) g s
-
-closed_if : (b : Bool) (c : Cut Spot) (s : Spot) → length (cut_if is_break b c s).closed ≡ length c.closed + cond b 1 0
-closed_if true c s = length_push c.closed (c.open' ++ s ∷ [])
-closed_if false c s = omega arith
-
-pub closed_count : (g : List Spot) → length (cut is_break g).closed ≡ count_by is_break g
-closed_count = push_ind (λ g. length (cut is_break g).closed ≡ count_by is_break g) refl step
-  where
-    step : (g : List Spot) (s : Spot) → length (cut is_break g).closed ≡ count_by is_break g → length (cut is_break (g ++ s ∷ [])).closed ≡ count_by is_break (g ++ s ∷ [])
-    step g s ih =
-        ap (λ (c : Cut Spot). length c.closed) (cut_push is_break g s)
-        ∙ closed_if (is_break s) (cut is_break g) s
-        ∙ ap (λ n. n + cond (is_break s) 1 0) ih
-        ∙ sym (count_push g s)
-
--- there are as many ended lines as `nl`s
-pub ended_count : (g : List Spot) → length (ended_lines g) ≡ count_by is_break g
-ended_count g = ap length (ended_is is_break g) ∙ closed_count g
 
 -- ONE MORE ENTRY
 

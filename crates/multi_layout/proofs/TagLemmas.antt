@@ -10,18 +10,19 @@ use Rattle.sign_font.specs.declared.parts.LineFill.TheVariants.{Off}
 use Rattle.sign_font.specs.declared.font.FontInfo.{FontInfo}
 use Rattle.sign_font.specs.Sign.{SignData, FontData, font_numbered, info_of}
 use Rattle.sign_font.specs.Sound.{IsSound}
-use Rattle.multi_layout.specs.Laid.{too_big}
+use Rattle.multi_meaning.specs.Laid.{too_big}
+use Rattle.multi_meaning.specs.Address.{standing}
+use Rattle.multi_meaning.specs.Attributes.{is_inside}
+use Rattle.multi_meaning.specs.Meaning.{Meaning, Does}
+use Rattle.multi_meaning.specs.Offence.{offence, offence_by}
+use Rattle.multi_meaning.specs.kept.Present.{IsKnown, standing_behind}
+use Rattle.multi_meaning.proofs.OffenceLemmas.{offence-font, offence-no_font}
 use Rattle.multi_layout.specs.declared.attributes.Attributes.{Attributes}
 use Rattle.multi_layout.specs.declared.state.State.{State}
-use Rattle.multi_layout.specs.Address.{standing}
-use Rattle.multi_layout.specs.Attributes.{is_inside}
-use Rattle.multi_layout.specs.Meaning.{Meaning, Does}
-use Rattle.multi_layout.specs.Offence.{offence, offence_by}
-use Rattle.multi_layout.specs.kept.State.{IsKnown, IsSimple, IsStateOf, attributes_of, standing_behind}
+use Rattle.multi_layout.specs.kept.State.{IsSimple, IsStateOf, attributes_of}
 use Rattle.multi_layout.specs.kept.Sums.{IsBelow}
 use Rattle.multi_layout.proofs.BoundLemmas.{below_more}
 use Rattle.multi_layout.proofs.JudgedLemmas.{font_of_info, found_again, state-attribute, state-cover}
-use Rattle.multi_layout.proofs.OffenceLemmas.{offence-font, offence-no_font}
 
 -- a tag that is none of these is a simple one
 pub simple_of : (tag : Tag) → (tag ≡ NewPage → ⊥) → ((gap : Option ℕ) → tag ≡ NewLine gap → ⊥) → ((pick : Option FontPick) → tag ≡ Font pick → ⊥) → ((x y w h : ℕ) → tag ≡ Rect x y w h → ⊥) → IsSimple tag

@@ -12,22 +12,23 @@ use Rattle.multi_token.proofs.ReadingLemmas.{spelling_some}
 use Rattle.multi_token.proofs.SpellingLemmas.{one_item_begins}
 use Rattle.sign_font.specs.declared.parts.LineFill.TheVariants.{Off}
 use Rattle.sign_font.specs.Sign.{SignData}
-use Rattle.multi_layout.specs.Words.{each_after, some_after}
-use Rattle.multi_layout.specs.Laid.{too_big}
+use Rattle.multi_meaning.specs.Words.{each_after, some_after}
+use Rattle.multi_meaning.specs.Laid.{too_big}
+use Rattle.multi_meaning.specs.LaidItems.{laid_item}
+use Rattle.multi_meaning.specs.Meaning.{Faulty, meaning}
+use Rattle.multi_meaning.specs.Offence.{offence, unsized_offence}
+use Rattle.multi_meaning.specs.Verdict.{fault_at, offences}
+use Rattle.multi_meaning.specs.kept.ItemAt.{IsFaultAt, IsItemAt}
+use Rattle.multi_meaning.specs.kept.Fine.{IsAccepted, IsFine, IsOrderly}
+use Rattle.multi_meaning.proofs.InForceLemmas.{none_front, none_last}
+use Rattle.multi_meaning.proofs.OffenceLemmas.{offence-faulty}
+use Rattle.multi_meaning.proofs.WordLemmas.{each_after-append, each_after_length, left_nil, none_mapped, none_of, push_ind, right_nil, some_after-append, some_after_push}
 use Rattle.multi_layout.specs.declared.cursor.Cursor.{Cursor}
 use Rattle.multi_layout.specs.declared.item.NextItem.{NextItem}
-use Rattle.multi_layout.specs.LaidItems.{laid_item}
-use Rattle.multi_layout.specs.Meaning.{Faulty, meaning}
-use Rattle.multi_layout.specs.Offence.{offence, unsized_offence}
 use Rattle.multi_layout.specs.kept.State.{IsReady, IsStateOf}
-use Rattle.multi_layout.specs.Verdict.{fault_at, offences}
-use Rattle.multi_layout.specs.kept.ItemAt.{IsFaultAt, IsItemAt}
 use Rattle.multi_layout.specs.kept.KnownItem.{IsKnownItem, meant_by}
-use Rattle.multi_layout.specs.kept.Cursors.{IsAccepted, IsBetween, IsFine, IsFirst, IsOrderly, IsPlaced, LaidItem, items_of, laid_meanings, meant, spell_of}
-use Rattle.multi_layout.proofs.InForceLemmas.{none_front, none_last}
+use Rattle.multi_layout.specs.kept.Cursors.{IsBetween, IsFirst, IsPlaced, LaidItem, items_of, laid_meanings, meant, spell_of}
 use Rattle.multi_layout.proofs.JudgedLemmas.{ready}
-use Rattle.multi_layout.proofs.OffenceLemmas.{offence-faulty}
-use Rattle.multi_layout.proofs.WordLemmas.{each_after-append, each_after_length, left_nil, none_mapped, none_of, push_ind, right_nil, some_after-append, some_after_push}
 
 drop_front : (xs ys : List ℕ) → drop (length xs) (xs ++ ys) ≡ ys
 drop_front [] ys = refl
@@ -102,14 +103,6 @@ module _ (sign : SignData) (octets : List ℕ) (before behind : List Item) (at :
 -- reading leaves the octets
 pub same_octets : {source : Counted} {octets : List ℕ} {steps : ℕ} → source ≡ record { octets = octets; steps = steps } → source.octets ≡ octets
 same_octets same = ap (λ (x : Counted). x.octets) same
-
--- none of some items offends, so the last doesn't, nor any before it
-pub last_fine : (sign : SignData) (items : List Item) (item : Item) → offences sign (items ++ item ∷ []) ≡ []
-    → (offences sign items ≡ []) × (offence sign.line_fill sign (map meaning items) (meaning item) ≡ None)
-last_fine sign items item none =
-    let parts = sym (some_after_push (fault_at sign) items item) ∙ none in
-    let here = none_of (fault_at sign items item) [] (right_nil (offences sign items) _ parts) in
-    (left_nil (offences sign items) _ parts, none_mapped (λ code. (code, length (spell items))) (offence sign.line_fill sign (map meaning items) (meaning item)) here)
 
 -- the next item of an accepted string
 module _ (sign : SignData) (octets : List ℕ) (before rest : List Item) (item : Item) (at : ℕ) (p : IsPlaced sign octets before (item ∷ rest) at) where

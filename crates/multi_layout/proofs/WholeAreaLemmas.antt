@@ -3,19 +3,19 @@ use Rattle.std.proofs.Common.{◌≡◌, ℕ, List, [], ◌++◌, None, Some, re
 use Rattle.std.proofs.lemmas.List.Elements.{All-weaker}
 use Rattle.sign_font.specs.declared.parts.LineFill.TheVariants.{Words}
 use Rattle.sign_font.specs.Sign.{SignData}
+use Rattle.multi_meaning.specs.Address.{Break, Spot, Standing, in_area, in_group, lines_of, spots, standing}
+use Rattle.multi_meaning.specs.Filling.{filled}
+use Rattle.multi_meaning.specs.Laid.{fill_at, laid}
+use Rattle.multi_meaning.specs.LaidItems.{laid_items}
+use Rattle.multi_meaning.specs.Meaning.{EndsArea, Meaning}
+use Rattle.multi_meaning.specs.kept.Present.{present_area}
+use Rattle.multi_meaning.proofs.FilledOnLemmas.{HasWidth, groups_laid}
+use Rattle.multi_meaning.proofs.LaidItemLemmas.{are_laid}
+use Rattle.multi_meaning.proofs.RectangleLemmas.{same_rectangle}
+use Rattle.multi_meaning.proofs.SpotsLemmas.{area_ends}
 use Rattle.multi_layout.specs.declared.table.LineTable.{LineTable}
-use Rattle.multi_layout.specs.Address.{Break, Spot, Standing, in_area, in_group, lines_of, spots, standing}
-use Rattle.multi_layout.specs.Filling.{filled}
-use Rattle.multi_layout.specs.Laid.{fill_at, laid}
-use Rattle.multi_layout.specs.LaidItems.{laid_items}
-use Rattle.multi_layout.specs.Meaning.{EndsArea, Meaning}
 use Rattle.multi_layout.specs.kept.AreaDrawing.{HasCounted}
-use Rattle.multi_layout.specs.kept.State.{present_area}
 use Rattle.multi_layout.specs.kept.Table.{table_of}
-use Rattle.multi_layout.proofs.FilledOnLemmas.{HasWidth, groups_laid}
-use Rattle.multi_layout.proofs.LaidItemLemmas.{are_laid}
-use Rattle.multi_layout.proofs.RectangleLemmas.{same_rectangle}
-use Rattle.multi_layout.proofs.SpotsLemmas.{area_ends}
 
 module _ (sign : SignData) (items rest : List Meaning) where
   abbrev here : Standing

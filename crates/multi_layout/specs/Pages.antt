@@ -4,16 +4,16 @@ use Rattle.multi_token.specs.Counted.{RisesBetween}
 use Rattle.page_plane.specs.Plane.{BitPlane}
 use Rattle.sign_font.specs.Sign.{SignData, tallest}
 use Rattle.sign_font.specs.Sound.{IsSound}
+use Rattle.multi_meaning.specs.declared.times.Shown.{Shown}
+use Rattle.multi_meaning.specs.Drawn.{Lights}
+use Rattle.multi_meaning.specs.Meaning.{meanings}
+use Rattle.multi_meaning.specs.Picture.{pixel_at}
+use Rattle.multi_meaning.specs.Times.{shown}
+use Rattle.multi_meaning.specs.Verdict.{pages_of}
 use Rattle.multi_layout.specs.declared.cursor.Cursor.{Cursor}
-use Rattle.multi_layout.specs.declared.times.Shown.{Shown}
 use Rattle.multi_layout.specs.CheckedData.{CheckedData}
-use Rattle.multi_layout.specs.Drawn.{Lights}
 use Rattle.multi_layout.specs.Limits.{plane_limit, plane_octets, reading_limit}
-use Rattle.multi_layout.specs.Meaning.{meanings}
-use Rattle.multi_layout.specs.Picture.{pixel_at}
-use Rattle.multi_layout.specs.Times.{shown}
 use Rattle.multi_layout.specs.kept.PageDrawing.{IsPageStart}
-use Rattle.multi_layout.specs.Verdict.{pages_of}
 
 -- the string and the plane as they are, what is drawn, the page that comes next, and both counts at the start (own)
 pub record PagesState : Type 0 where

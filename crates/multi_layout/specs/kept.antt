@@ -3,11 +3,9 @@ pub mod Adding
 pub mod AreaDrawing
 pub mod AreaReading
 pub mod Cursors
-pub mod FillOpen
 pub mod FillSums
 pub mod FilledRun
 pub mod FilledState
-pub mod ItemAt
 pub mod Judging
 pub mod KnownItem
 pub mod PageDrawing

@@ -4,14 +4,15 @@ ghost use Rattle.std.specs.Prelude.{◌≡◌, ◌≢◌, ℕ, ◌+◌, ◌^◌,
 ghost use Rattle.std.specs.List.{All};
 ghost use Rattle.std.specs.Option.{option_map_or, unwrap_or};
 ghost use Rattle.sign_font.specs.declared.parts.LineFill.TheVariants.{Off};
-ghost use Rattle.multi_layout.specs.Address.{Spot, is_break, area_of, in_group, lines_of};
-ghost use Rattle.multi_layout.specs.Fit.{area_fits};
-ghost use Rattle.multi_layout.specs.Laid.{too_big};
-ghost use Rattle.multi_layout.specs.Line.{average, height_of};
+ghost use Rattle.multi_meaning.specs.Address.{Spot, is_break, area_of, in_group, lines_of};
+ghost use Rattle.multi_meaning.specs.Fit.{area_fits};
+ghost use Rattle.multi_meaning.specs.Laid.{too_big};
+ghost use Rattle.multi_meaning.specs.Line.{average, height_of};
+ghost use Rattle.multi_meaning.specs.kept.Present.{IsPlacing};
 ghost use Rattle.multi_layout.specs.kept.Adding.{ReachesGroup};
 ghost use Rattle.multi_layout.specs.kept.Run.{kept_fits_height, kept_group_height, kept_height, lengthened_area};
 ghost use Rattle.multi_layout.specs.kept.State.{group_room};
-ghost use Rattle.multi_layout.specs.kept.Sums.{IsBare, group_sum, area_sum, area_sum_in, IsPlacing, IsBreak, IsGroupBelow, IsBelow};
+ghost use Rattle.multi_layout.specs.kept.Sums.{IsBare, group_sum, area_sum, area_sum_in, IsBreak, IsGroupBelow, IsBelow};
 
 use crate::line::{Line, gap_or_average, parts_fit, room_for};
 use sign_font::FontInfo;

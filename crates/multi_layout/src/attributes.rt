@@ -3,33 +3,15 @@
 ghost use Rattle.std.specs.Prelude.{◌≡◌};
 ghost use Rattle.std.specs.Option.{unwrap_or};
 ghost use Rattle.sign_font.specs.Sign.{SignData};
-ghost use Rattle.multi_layout.specs.Address.{Standing};
-ghost use Rattle.multi_layout.specs.Attributes.{whole_sign};
-ghost use Rattle.multi_layout.specs.Meaning.{Does};
+ghost use Rattle.multi_meaning.specs.Address.{Standing};
+ghost use Rattle.multi_meaning.specs.Attributes.{whole_sign};
+ghost use Rattle.multi_meaning.specs.Meaning.{Does};
 
 use crate::line::Character;
 use crate::terms::Terms;
+use multi_meaning::{FlashTimes, Rectangle};
 use multi_tag::Tag;
 use sign_font::{Defaults, FontInfo};
-
-/// A flash: whether it begins with its off time, and its times in tenths of a second (NTCIP 1203 v03, MULTI
-/// tag 'fl').
-#[derive(Clone, Copy)]
-pub(crate) struct FlashTimes {
-    pub(crate) off_first: bool,
-    pub(crate) on: u8,
-    pub(crate) off: u8,
-}
-
-/// A part of the sign: its upper left pixel, counted from 0, and its columns and rows (NTCIP 1203 v03, MULTI
-/// tag 'tr').
-#[derive(Clone, Copy)]
-pub(crate) struct Rectangle {
-    pub(crate) left: u16,
-    pub(crate) top: u16,
-    pub(crate) width: u16,
-    pub(crate) height: u16,
-}
 
 /// The values in force behind the items so far (NTCIP 1203 v03, MULTI).
 #[derive(Clone, Copy)]
@@ -64,8 +46,9 @@ pub(crate) fn whole_sign(sign: &Terms<'_>) -> Rectangle
 }
 
 impl Attributes {
+    ghost use Rattle.multi_meaning.specs.kept.Present.{standing_behind};
     ghost use Rattle.multi_layout.specs.kept.Adding.{character_of};
-    ghost use Rattle.multi_layout.specs.kept.State.{IsSimple, attributes_of, standing_behind};
+    ghost use Rattle.multi_layout.specs.kept.State.{IsSimple, attributes_of};
 
     /// A character of this width in pixels, as its line sees it.
     pub(crate) fn character(&self, width: u8) -> Character

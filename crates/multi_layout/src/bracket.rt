@@ -4,14 +4,14 @@ ghost use Rattle.std.specs.Prelude.{◌≡◌, ◌≢◌, ◌+◌, ◌-◌, ◌*
 ghost use Rattle.multi_token.specs.Counted.{RisesBetween};
 ghost use Rattle.multi_token.specs.Spelling.{is_bracket};
 ghost use Rattle.multi_tag.specs.Closed.{HasNoTagAt};
-ghost use Rattle.multi_layout.specs.Codes.{code_of};
-ghost use Rattle.multi_layout.specs.kept.ItemAt.{IsFaultAt, IsItemAt};
+ghost use Rattle.multi_meaning.specs.Codes.{code_of};
+ghost use Rattle.multi_meaning.specs.kept.ItemAt.{IsFaultAt, IsItemAt};
+ghost use Rattle.multi_meaning.specs.Meaning.{said_by};
+ghost use Rattle.multi_meaning.specs.kept.Present.{IsKnown};
 ghost use Rattle.multi_layout.specs.kept.KnownItem.{IsKnownItem, meant_by};
-ghost use Rattle.multi_layout.specs.Meaning.{said_by};
-ghost use Rattle.multi_layout.specs.kept.State.{IsKnown};
 
-use crate::fault::SyntaxError;
 use crate::item::{KnownItem, NextItem, tag_error};
+use multi_meaning::SyntaxError;
 use multi_tag::{Tag, read_ahead, read_tag};
 use multi_token::{Bracketed, Kind, Source, Token, read_bracket};
 

@@ -1,7 +1,7 @@
 //! An accepted string.
 
 ghost use Rattle.std.specs.Prelude.{◌≡◌};
-ghost use Rattle.multi_layout.specs.Verdict.{Accepted, IsVerdict, IsCycle};
+ghost use Rattle.multi_meaning.specs.Verdict.{Accepted, IsVerdict, IsCycle};
 
 use crate::terms::Terms;
 use multi_token::Source;
@@ -25,8 +25,8 @@ pub struct Checked<'a> {
 
 impl<'a> Model for Checked<'a> {
     ghost use Rattle.std.specs.Prelude.{◌<◌, ◌^◌, length};
+    ghost use Rattle.multi_meaning.specs.Verdict.{Accepted, IsVerdict, IsCycle};
     ghost use Rattle.multi_layout.specs.CheckedData.{CheckedData};
-    ghost use Rattle.multi_layout.specs.Verdict.{Accepted, IsVerdict, IsCycle};
 
     ghost Value = { CheckedData };
 

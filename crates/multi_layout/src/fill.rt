@@ -2,11 +2,11 @@
 
 ghost use Rattle.std.specs.Prelude.{◌≡◌, ℕ, ◌+◌, ◌^◌, ◌≤◌, false, None, List, [], ◌∷◌, ◌++◌, IfSome};
 ghost use Rattle.std.specs.List.{AllPass, list_any};
-ghost use Rattle.multi_layout.specs.Address.{Spot, is_glyph};
-ghost use Rattle.multi_layout.specs.Fit.{line_fits};
+ghost use Rattle.multi_meaning.specs.Address.{Spot, is_glyph};
+ghost use Rattle.multi_meaning.specs.Fit.{line_fits};
+ghost use Rattle.multi_meaning.specs.Filling.{is_space};
+ghost use Rattle.multi_meaning.specs.Offence.{clashes};
 ghost use Rattle.multi_layout.specs.kept.FillSums.{BreaksGroup, FillsArea, FillsGroup, IsSplitBelow, split_sum};
-ghost use Rattle.multi_layout.specs.Filling.{is_space};
-ghost use Rattle.multi_layout.specs.Offence.{clashes};
 ghost use Rattle.multi_layout.specs.kept.Run.{kept_fits};
 ghost use Rattle.multi_layout.specs.kept.Sums.{IsBare, IsBelow, IsCharacter, IsGroupBelow, IsLineBelow, line_sum};
 

@@ -1,12 +1,12 @@
 //! The items of a string, as they are read.
 
 ghost use Rattle.std.specs.Prelude.{◌≡◌, Err, true};
-ghost use Rattle.multi_layout.specs.Codes.{code_of};
+ghost use Rattle.multi_meaning.specs.Codes.{code_of};
+ghost use Rattle.multi_meaning.specs.Meaning.{begins_area, Faulty, has_place, is_new_page, meaning_of_tag};
 ghost use Rattle.multi_layout.specs.kept.KnownItem.{IsOctet, is_setting, meant_by};
-ghost use Rattle.multi_layout.specs.Meaning.{begins_area, Faulty, has_place, is_new_page, meaning_of_tag};
 ghost use Rattle.multi_layout.specs.kept.AreaDrawing.{ends_line};
 
-use crate::fault::SyntaxError;
+use multi_meaning::SyntaxError;
 use multi_tag::{Tag, TagFault};
 
 /// An item of a string: a character by its number, or what a tag says (NTCIP 1203 v03, MULTI).

@@ -6,18 +6,19 @@ ghost use Rattle.multi_token.specs.Counted.{RisesBetween};
 ghost use Rattle.sign_font.specs.Sign.{SignData};
 ghost use Rattle.sign_font.specs.Text.{width_in};
 ghost use Rattle.sign_font.specs.declared.parts.LineFill.TheVariants.{Off};
-ghost use Rattle.multi_layout.specs.Address.{Spot, area_of, is_break};
-ghost use Rattle.multi_layout.specs.Laid.{too_big};
-ghost use Rattle.multi_layout.specs.Meaning.{Does, Meaning, Shows};
+ghost use Rattle.multi_meaning.specs.Address.{Spot, area_of, is_break};
+ghost use Rattle.multi_meaning.specs.Laid.{too_big};
+ghost use Rattle.multi_meaning.specs.Meaning.{Does, Meaning, Shows};
+ghost use Rattle.multi_meaning.specs.kept.Present.{IsKnown};
 ghost use Rattle.multi_layout.specs.kept.Run.{IsBehindCharacter};
 ghost use Rattle.multi_layout.specs.kept.Sums.{IsBelow, area_sum};
-ghost use Rattle.multi_layout.specs.kept.State.{IsJudged, JudgesTag, IsKnown, IsLimited, IsReady, IsUnfilledOf, Judges};
+ghost use Rattle.multi_layout.specs.kept.State.{IsJudged, JudgesTag, IsLimited, IsReady, IsUnfilledOf, Judges};
 
 use crate::area::Area;
-use crate::attributes::{Rectangle, whole_sign};
-use crate::fault::SyntaxError;
+use crate::attributes::whole_sign;
 use crate::state::{Limits, State};
 use crate::terms::Terms;
+use multi_meaning::{Rectangle, SyntaxError};
 use multi_tag::{FontPick, Tag};
 use multi_token::Source;
 

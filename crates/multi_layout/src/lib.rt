@@ -19,7 +19,6 @@ mod fill;
 mod fill_run;
 mod item;
 mod judge;
-mod laws;
 mod line;
 mod pages;
 mod paint;
@@ -34,9 +33,11 @@ mod times;
 mod verdict;
 
 pub use checked::Checked;
-pub use fault::{Fault, SyntaxError};
-pub use laws::{broken_bracket_stands, keeps_breaks, one_verdict, refusal_stands, smaller_fits};
+pub use fault::Fault;
+pub use multi_meaning::{
+    Shown, SyntaxError, broken_bracket_stands, keeps_breaks, one_verdict, refusal_stands,
+    smaller_fits,
+};
 pub use pages::{PageView, Pages};
 pub use read::AreaLines;
-pub use times::Shown;
 pub use verdict::{Judge, Offence, check, check_with};

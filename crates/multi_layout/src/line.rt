@@ -3,10 +3,10 @@
 ghost use Rattle.std.specs.Prelude.{◌≡◌, ℕ, ◌+◌, ◌^◌, ◌<◌, ◌≤◌, true, false, not, if◌then◌else◌, length, Some, List, [], ◌∷◌, ◌++◌};
 ghost use Rattle.std.specs.List.{AllPass, list_any};
 ghost use Rattle.std.specs.Option.{option_map_or, unwrap_or};
-ghost use Rattle.multi_layout.specs.Address.{Spot, is_glyph, segment};
-ghost use Rattle.multi_layout.specs.Fit.{fit, line_fits, room_for};
-ghost use Rattle.multi_layout.specs.Line.{average, width_of};
-ghost use Rattle.multi_layout.specs.Offence.{clashes};
+ghost use Rattle.multi_meaning.specs.Address.{Spot, is_glyph, segment};
+ghost use Rattle.multi_meaning.specs.Fit.{fit, line_fits, room_for};
+ghost use Rattle.multi_meaning.specs.Line.{average, width_of};
+ghost use Rattle.multi_meaning.specs.Offence.{clashes};
 ghost use Rattle.multi_layout.specs.kept.Adding.{IsSameBefore, PutsCharacter};
 ghost use Rattle.multi_layout.specs.kept.Run.{IsBehindOne, IsOpen, kept_fits, kept_width, lengthened_line};
 ghost use Rattle.multi_layout.specs.kept.State.{segment_room};

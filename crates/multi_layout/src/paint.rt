@@ -2,13 +2,13 @@
 
 ghost use Rattle.std.specs.Prelude.{◌≡◌, ◌+◌, ◌≤◌, ◌==◌};
 ghost use Rattle.sign_font.specs.Sound.{IsSound, IsSoundSize};
+ghost use Rattle.multi_meaning.specs.Picture.{is_lit_at, shown_colour};
 ghost use Rattle.multi_layout.specs.kept.RunDrawing.{DrawsCharacter};
-ghost use Rattle.multi_layout.specs.Picture.{is_lit_at, shown_colour};
 
-use crate::attributes::{Attributes, FlashTimes};
+use crate::attributes::Attributes;
 use crate::cell::put_cell;
-use crate::place::Place;
 use crate::terms::Terms;
+use multi_meaning::{FlashTimes, Place};
 use page_plane::Plane;
 use sign_font::Cell;
 

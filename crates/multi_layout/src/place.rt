@@ -2,11 +2,11 @@
 
 ghost use Rattle.std.specs.Prelude.{◌≡◌, ℕ, ◌+◌, ◌-◌, ◌^◌, ◌<◌, ◌≤◌, ◌==◌, true, false, if◌then◌else◌, length, List, [], ◌∷◌, ◌++◌, Some, slice_get};
 ghost use Rattle.std.specs.List.{All, list_any};
+ghost use Rattle.multi_meaning.specs.Address.{Spot, is_glyph};
+ghost use Rattle.multi_meaning.specs.Line.{glyph_width, height_of};
+ghost use Rattle.multi_meaning.specs.Offence.{clashes};
+ghost use Rattle.multi_meaning.specs.Place.{start, spread};
 ghost use Rattle.multi_layout.specs.declared.table.CountedLine.{CountedLine};
-ghost use Rattle.multi_layout.specs.Address.{Spot, is_glyph};
-ghost use Rattle.multi_layout.specs.Line.{glyph_width, height_of};
-ghost use Rattle.multi_layout.specs.Offence.{clashes};
-ghost use Rattle.multi_layout.specs.Place.{start, spread};
 ghost use Rattle.multi_layout.specs.kept.State.{attributes_of};
 ghost use Rattle.multi_layout.specs.kept.Placing.{PlacesCharacter, TellsEnd};
 ghost use Rattle.multi_layout.specs.kept.Sums.{line_sum, IsLineBelow, IsBelow};
@@ -16,13 +16,7 @@ use crate::area::Area;
 use crate::attributes::Attributes;
 use crate::line::Line;
 use crate::table::CountedLine;
-
-/// The upper left pixel of a character, counted from 0.
-#[derive(Clone, Copy)]
-pub(crate) struct Place {
-    pub(crate) column: u64,
-    pub(crate) row: u64,
-}
+use multi_meaning::Place;
 
 /// Where a character with these attributes in force stands whose cell has this width in pixels, the last item of its area so far;
 /// `lines` are the counted lines of its group.

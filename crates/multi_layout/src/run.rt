@@ -5,7 +5,7 @@ ghost use Rattle.multi_token.specs.Counted.{RisesBetween};
 ghost use Rattle.multi_token.specs.Spelling.{IsPlain};
 ghost use Rattle.sign_font.specs.Sign.{SignData};
 ghost use Rattle.sign_font.specs.Text.{AreWidthsOf, HasWidth, IsNoSpace, width_in};
-ghost use Rattle.multi_layout.specs.Meaning.{Meaning};
+ghost use Rattle.multi_meaning.specs.Meaning.{Meaning};
 ghost use Rattle.multi_layout.specs.kept.PassState.{IsPassBehind, IsPassOf};
 ghost use Rattle.multi_layout.specs.kept.Judging.{IsAt, IsBehind};
 ghost use Rattle.multi_layout.specs.kept.Run.{Fits, IsBehindCharacter, IsRun, IsRunPassed, lengthened, line_in_force};

@@ -4,8 +4,9 @@ ghost use Rattle.std.specs.Prelude.{◌≡◌, ◌*◌, ◌≤◌, []};
 ghost use Rattle.sign_font.specs.Sound.{IsSound};
 
 use crate::area::Area;
-use crate::attributes::{Attributes, Rectangle, whole_sign};
+use crate::attributes::{Attributes, whole_sign};
 use crate::terms::Terms;
+use multi_meaning::Rectangle;
 
 /// The running state behind some items of a string.
 #[derive(Clone, Copy)]
@@ -29,8 +30,8 @@ pub(crate) struct Limits {
 
 impl State {
     ghost use Rattle.std.specs.Prelude.{List, true, false, not};
-    ghost use Rattle.multi_layout.specs.Address.{Spot, area_of, is_glyph};
-    ghost use Rattle.multi_layout.specs.Offence.{conflicts};
+    ghost use Rattle.multi_meaning.specs.Address.{Spot, area_of, is_glyph};
+    ghost use Rattle.multi_meaning.specs.Offence.{conflicts};
     ghost use Rattle.multi_layout.specs.kept.Adding.{AddsBreak, AddsCharacter};
     ghost use Rattle.multi_layout.specs.kept.Sums.{area_sum};
     ghost use Rattle.multi_layout.specs.kept.State.{IsLimited, IsReady, IsStateOf, whole_times};

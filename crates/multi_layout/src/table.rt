@@ -1,9 +1,10 @@
 //! The counted lines of an area, as drawing needs them.
 
 ghost use Rattle.std.specs.Prelude.{◌≡◌, ℕ, ◌<◌, ◌≤◌, ◌==◌, length, List, [], ◌∷◌, ◌++◌, if◌then◌else◌};
-ghost use Rattle.multi_layout.specs.Address.{Spot};
+ghost use Rattle.multi_meaning.specs.Address.{Spot};
+ghost use Rattle.multi_meaning.specs.kept.Present.{IsNarrow};
 ghost use Rattle.multi_layout.specs.kept.Sums.{line_sum};
-ghost use Rattle.multi_layout.specs.kept.Table.{IsNarrow, IsOrdered, width_in, group_lines, line_entry};
+ghost use Rattle.multi_layout.specs.kept.Table.{IsOrdered, width_in, group_lines, line_entry};
 
 use crate::line::Line;
 use arrayvec::ArrayVec;

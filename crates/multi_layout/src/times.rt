@@ -3,30 +3,22 @@
 ghost use Rattle.std.specs.Prelude.{◌≡◌, ◌+◌, ◌-◌, ◌^◌, ◌<◌, ◌≤◌, Some, None, length};
 ghost use Rattle.multi_token.specs.Counted.{RisesBetween};
 ghost use Rattle.multi_token.specs.Reading.{reading};
+ghost use Rattle.multi_meaning.specs.Meaning.{meanings};
+ghost use Rattle.multi_meaning.specs.Times.{cycle, page_times, shown, shown_within};
+ghost use Rattle.multi_meaning.specs.Verdict.{Accepted, IsCycle, IsVerdict};
+ghost use Rattle.multi_meaning.specs.kept.Fine.{IsAccepted, IsOrderly};
+ghost use Rattle.multi_meaning.specs.LaidItems.{laid_out};
 ghost use Rattle.multi_layout.specs.Limits.{check_limit};
-ghost use Rattle.multi_layout.specs.Meaning.{meanings};
-ghost use Rattle.multi_layout.specs.Times.{cycle, page_times, shown, shown_within};
-ghost use Rattle.multi_layout.specs.Verdict.{Accepted, IsCycle, IsVerdict};
-ghost use Rattle.multi_layout.specs.kept.Cursors.{IsAccepted, IsOrderly};
 ghost use Rattle.multi_layout.specs.kept.Passing.{IsAtStart};
 ghost use Rattle.multi_layout.specs.kept.PageDrawing.{IsStartOf};
-ghost use Rattle.multi_layout.specs.LaidItems.{laid_out};
 
 use crate::attributes::Attributes;
 use crate::checked::{Checked, Told};
 use crate::cursor::Cursor;
 use crate::state::State;
 use crate::terms::Terms;
+use multi_meaning::Shown;
 use multi_token::Source;
-
-/// What a string shows at a clock (NTCIP 1203 v03, MULTI tag 'pt').
-#[derive(Clone, Copy, Debug, PartialEq, Eq)]
-pub enum Shown {
-    /// A page, counted from 0, and its phase: the tenths of a second since it began.
-    Page { page: u8, phase: u64 },
-    /// Nothing: it is the off time of a page.
-    Off,
-}
 
 impl<'a> Checked<'a> {
     /// What the string shows at a clock, in tenths of a second since it began to be shown.

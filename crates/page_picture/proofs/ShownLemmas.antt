@@ -5,12 +5,12 @@ use Rattle.std.proofs.lemmas.Bool.{cases_Bool}
 use Rattle.std.specs.List.{All, find, flat_map, range_with_len}
 use Rattle.std.specs.Option.{option_map_or}
 use Rattle.sign_font.specs.Sign.{SignData}
-use Rattle.multi_layout.specs.declared.times.Shown.{Shown}
-use Rattle.multi_layout.specs.declared.times.Shown.TheVariants.{Off, Page}
-use Rattle.multi_layout.specs.Meaning.{meanings}
-use Rattle.multi_layout.specs.Picture.{pixel_at}
-use Rattle.multi_layout.specs.Times.{shown}
-use Rattle.multi_layout.proofs.TimesLemmas.{page_below}
+use Rattle.multi_meaning.specs.declared.times.Shown.{Shown}
+use Rattle.multi_meaning.specs.declared.times.Shown.TheVariants.{Off, Page}
+use Rattle.multi_meaning.specs.Meaning.{meanings}
+use Rattle.multi_meaning.specs.Picture.{pixel_at}
+use Rattle.multi_meaning.specs.Times.{shown}
+use Rattle.multi_meaning.proofs.TimesLemmas.{page_below}
 use Rattle.page_picture.specs.Colours.{ColourData, row_values, values}
 use Rattle.page_picture.specs.Dots.{value_at}
 use Rattle.page_picture.specs.Shown.{AreShown, IsThere, colours, shown_colour_at}

@@ -9,8 +9,8 @@ use Rattle.std.specs.Option.{option_map_or}
 use Rattle.multi_token.specs.Counted.{Counted, RisesBetween}
 use Rattle.multi_token.proofs.StepLemmas.{rises_more, rises_then}
 use Rattle.sign_font.specs.Sign.{SignData}
-use Rattle.multi_layout.specs.Picture.{in_plane, picture}
-use Rattle.multi_layout.specs.declared.times.Shown.TheVariants.{Page}
+use Rattle.multi_meaning.specs.Picture.{in_plane, picture}
+use Rattle.multi_meaning.specs.declared.times.Shown.TheVariants.{Page}
 use Rattle.page_picture.specs.Shown.{colours}
 use Rattle.page_picture.specs.Colours.{page_colour, row_values, values}
 use Rattle.page_picture.specs.Dots.{value_at}

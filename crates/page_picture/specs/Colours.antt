@@ -3,7 +3,7 @@ use Rattle.std.specs.Prelude.{◌≡◌, ℕ, ◌*◌, ◌<◌, ◌≤◌, Bool,
 use Rattle.std.specs.List.{All, find, flat_map, range_with_len}
 use Rattle.std.specs.Option.{option_map_or}
 use Rattle.sign_font.specs.Sign.{SignData}
-use Rattle.multi_layout.specs.Picture.{picture}
+use Rattle.multi_meaning.specs.Picture.{picture}
 use Rattle.page_picture.specs.Dots.{value_at}
 
 -- the colour of a pixel: the first of the colours 1 to 9 that it has, and else 0, which is black (own)

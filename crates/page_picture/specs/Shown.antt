@@ -1,11 +1,11 @@
 -- The colours of what is shown of a text.
 use Rattle.std.specs.Prelude.{◌≡◌, ℕ, ◌<◌, List}
 use Rattle.sign_font.specs.Sign.{SignData}
-use Rattle.multi_layout.specs.declared.times.Shown.{Shown}
-use Rattle.multi_layout.specs.declared.times.Shown.TheVariants.{Off, Page}
-use Rattle.multi_layout.specs.Meaning.{meanings}
-use Rattle.multi_layout.specs.Picture.{pixel_at}
-use Rattle.multi_layout.specs.Verdict.{pages_of}
+use Rattle.multi_meaning.specs.declared.times.Shown.{Shown}
+use Rattle.multi_meaning.specs.declared.times.Shown.TheVariants.{Off, Page}
+use Rattle.multi_meaning.specs.Meaning.{meanings}
+use Rattle.multi_meaning.specs.Picture.{pixel_at}
+use Rattle.multi_meaning.specs.Verdict.{pages_of}
 use Rattle.page_picture.specs.Colours.{ColourData, colour_at, colour_by, values}
 
 -- what is shown is a page of the text, or nothing is (own)

@@ -4,8 +4,8 @@ use Rattle.std.specs.Io.KnownBytes.{Consumes}
 use Rattle.std.proofs.KnownBytes.{Consumes-trans}
 use Rattle.std.proofs.lemmas.List.{length-append}
 use Rattle.sign_font.specs.Sign.{SignData}
-use Rattle.multi_layout.specs.Verdict.{Accepted, IsVerdict, Verdict, verdict}
-use Rattle.multi_layout.proofs.VerdictLemmas.{one_verdict}
+use Rattle.multi_meaning.specs.Verdict.{Accepted, IsVerdict, Verdict, verdict}
+use Rattle.multi_meaning.proofs.VerdictLemmas.{one_verdict}
 use Rattle.message_picture.specs.declared.draw.DrawFault.{DrawFault}
 use Rattle.message_picture.specs.declared.draw.DrawFault.TheVariants as draws
 use Rattle.message_picture.specs.declared.view.View.{View}

@@ -2,7 +2,7 @@
 use Rattle.std.specs.Prelude.{◌≡◌, ◌⊎◌, ℕ, ◌+◌, ◌<◌, ◌≤◌, Bool, List, [], ◌∷◌, ◌++◌, length, Option, Result, Ok, Err}
 use Rattle.std.specs.Io.KnownBytes.{Appends, Consumes, IsAtEnd}
 use Rattle.sign_font.specs.Sign.{SignData}
-use Rattle.multi_layout.specs.Verdict.{Accepted, Refused, verdict}
+use Rattle.multi_meaning.specs.Verdict.{Accepted, Refused, verdict}
 use Rattle.message_picture.specs.declared.draw.DrawFault.{DrawFault}
 use Rattle.message_picture.specs.declared.draw.DrawFault.TheVariants as draws
 use Rattle.message_picture.specs.declared.view.View.{View}

@@ -3,7 +3,7 @@ use Rattle.std.proofs.Common.{◌≡◌, ℕ, Bool, true, false, List, [], ◌�
 use Rattle.multi_token.specs.Reading.{reading, read_items}
 use Rattle.sign_font.specs.Sample.{sample}
 use Rattle.sign_font.specs.Sign.{SignData}
-use Rattle.multi_layout.specs.Verdict.{Accepted, Refused, verdict, verdict_on}
+use Rattle.multi_meaning.specs.Verdict.{Accepted, Refused, verdict, verdict_on}
 use Rattle.message_store.specs.declared.slot.Status.TheVariants.{Validating}
 use Rattle.message_store.specs.Slot.{SlotData, empty_slot}
 use Rattle.sign_control.specs.declared.command.Command.TheVariants.{Clear, Work, Activate, SetEnd, Tick}

@@ -6,7 +6,7 @@ use Rattle.step_count.specs.Count.{raised}
 use Rattle.step_count.proofs.CountLemmas.{raised-zero}
 use Rattle.sign_font.specs.Defaults.{under}
 use Rattle.sign_font.specs.Sign.{SignData}
-use Rattle.multi_layout.specs.Verdict.{Verdict, Accepted, Refused, verdict}
+use Rattle.multi_meaning.specs.Verdict.{Verdict, Accepted, Refused, verdict}
 use Rattle.message_store.specs.Slot.{SlotData, StoreData, slot_at}
 use Rattle.message_store.specs.Work.{IsCounted, JudgedData, JudgementData, judgement, of_verdict, told, worked_at}
 use Rattle.message_store.specs.Codes.{validate_code}

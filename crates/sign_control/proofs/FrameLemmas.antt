@@ -4,13 +4,13 @@ use Rattle.std.proofs.lemmas.Bool.{cases_Bool, eqb-true, eqb-false, eq-eqb, ne_e
 use Rattle.multi_token.specs.Reading.{reading}
 use Rattle.sign_font.specs.Sign.{SignData}
 use Rattle.sign_font.specs.Sound.{IsSound}
-use Rattle.multi_layout.specs.declared.times.Shown.{Shown}
-use Rattle.multi_layout.specs.declared.times.Shown.TheVariants.{Page, Off}
-use Rattle.multi_layout.specs.LaidItems.{laid_out}
-use Rattle.multi_layout.specs.Meaning.{meanings}
-use Rattle.multi_layout.specs.Picture.{colour_of, in_plane, pixel_at, shown_colour, things}
-use Rattle.multi_layout.specs.Verdict.{Accepted, IsVerdict, Refused, broken, of_first, offences, pages_of, verdict, verdict_on}
-use Rattle.multi_layout.proofs.VerdictLemmas.{one_verdict}
+use Rattle.multi_meaning.specs.declared.times.Shown.{Shown}
+use Rattle.multi_meaning.specs.declared.times.Shown.TheVariants.{Page, Off}
+use Rattle.multi_meaning.specs.LaidItems.{laid_out}
+use Rattle.multi_meaning.specs.Meaning.{meanings}
+use Rattle.multi_meaning.specs.Picture.{colour_of, in_plane, pixel_at, shown_colour, things}
+use Rattle.multi_meaning.specs.Verdict.{Accepted, IsVerdict, Refused, broken, of_first, offences, pages_of, verdict, verdict_on}
+use Rattle.multi_meaning.proofs.VerdictLemmas.{one_verdict}
 use Rattle.sign_control.specs.Headline.{IsOnly}
 use Rattle.sign_control.specs.kept.Ready.{IsAccepted}
 use Rattle.sign_control.proofs.ColourLemmas.{colour_most, laid_out_coloured}

@@ -3,9 +3,9 @@ use Rattle.std.proofs.Common.{◌≡◌, ◌<◌, ℕ, List, [], ◌∷◌, map,
 use Rattle.sign_font.specs.declared.fault.DefaultFault.TheVariants.{Value, FontUnknown}
 use Rattle.sign_font.specs.declared.parts.Defaults.{Defaults}
 use Rattle.sign_font.specs.Sample.{sample}
-use Rattle.multi_layout.specs.declared.times.Shown.TheVariants as shown
-use Rattle.multi_layout.specs.Meaning.{meanings}
-use Rattle.multi_layout.specs.Verdict.{pages_of}
+use Rattle.multi_meaning.specs.declared.times.Shown.TheVariants as shown
+use Rattle.multi_meaning.specs.Meaning.{meanings}
+use Rattle.multi_meaning.specs.Verdict.{pages_of}
 use Rattle.page_picture.specs.Shown.{IsThere}
 use Rattle.message_store.specs.declared.fault.StoreFault.TheVariants as fault
 use Rattle.message_store.specs.declared.message.MsgRef.{MsgRef}

@@ -3,9 +3,9 @@ use Rattle.std.proofs.Common.{◌≡◌, ◌-◌, ◌^◌, ℕ, true, false, Lis
 use Rattle.multi_token.specs.Reading.{reading, read_items, read_item}
 use Rattle.multi_tag.specs.TagOf.{tag_of}
 use Rattle.sign_font.specs.Sample.{sample}
-use Rattle.multi_layout.specs.Address.{standing, spots}
-use Rattle.multi_layout.specs.Offence.{offence_by}
-use Rattle.multi_layout.specs.Verdict.{verdict, verdict_on}
+use Rattle.multi_meaning.specs.Address.{standing, spots}
+use Rattle.multi_meaning.specs.Offence.{offence_by}
+use Rattle.multi_meaning.specs.Verdict.{verdict, verdict_on}
 use Rattle.message_store.specs.declared.fault.StoreFault.TheVariants as fault
 use Rattle.message_store.specs.declared.message.MsgRef.{MsgRef}
 use Rattle.message_store.specs.Limits.{made}

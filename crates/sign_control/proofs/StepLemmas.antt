@@ -8,8 +8,8 @@ use Rattle.sign_font.specs.Sign.{SignData}
 use Rattle.sign_font.specs.Sound.{IsSound}
 use Rattle.page_plane.specs.Plane.{BitPlane}
 use Rattle.multi_token.specs.Reading.{reading, read_items}
+use Rattle.multi_meaning.specs.Verdict.{Verdict, Accepted, Refused, verdict, verdict_on}
 use Rattle.multi_layout.specs.Pages.{IsSized}
-use Rattle.multi_layout.specs.Verdict.{Verdict, Accepted, Refused, verdict, verdict_on}
 use Rattle.message_store.specs.declared.fault.StoreFault.{StoreFault}
 use Rattle.message_store.specs.declared.limits.StoreLimits.{StoreLimits}
 use Rattle.message_store.specs.Slot.{StoreData}

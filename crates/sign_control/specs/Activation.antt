@@ -4,7 +4,7 @@ use Rattle.std.specs.Option.{unwrap_or}
 use Rattle.sign_font.specs.declared.parts.Defaults.{Defaults}
 use Rattle.sign_font.specs.Defaults.{under}
 use Rattle.sign_font.specs.Sign.{SignData}
-use Rattle.multi_layout.specs.Verdict.{Verdict, verdict}
+use Rattle.multi_meaning.specs.Verdict.{Verdict, verdict}
 use Rattle.message_store.specs.declared.fault.StoreFault.{StoreFault}
 use Rattle.message_store.specs.declared.fault.StoreFault.TheVariants as fault
 use Rattle.message_store.specs.declared.message.MsgRef.{MsgRef}

@@ -1,7 +1,7 @@
 -- The colours of all pixels, written at the front of octets.
 use Rattle.std.specs.Prelude.{◌≡◌, ◌≤◌, ◌<◌, ℕ, ◌+◌, ◌*◌, Bool, true, false, List, ◌++◌, drop, length, Option, Some, None}
 use Rattle.sign_font.specs.Sign.{SignData}
-use Rattle.multi_layout.specs.declared.times.Shown.{Shown}
+use Rattle.multi_meaning.specs.declared.times.Shown.{Shown}
 use Rattle.multi_layout.specs.Limits.{check_limit, drawing_limit}
 use Rattle.page_picture.specs.Shown.{colours}
 

@@ -3,7 +3,7 @@ use Rattle.std.specs.Prelude.{◌≡◌, ℕ, not, ◌&&◌, ◌==◌, nat_lt, n
 use Rattle.step_count.specs.Count.{raised}
 use Rattle.sign_font.specs.Defaults.{under}
 use Rattle.sign_font.specs.Sign.{SignData}
-use Rattle.multi_layout.specs.Verdict.{verdict}
+use Rattle.multi_meaning.specs.Verdict.{verdict}
 use Rattle.message_store.specs.Judged.{AreStepsOf}
 use Rattle.message_store.specs.Slot.{SlotData, StoreData, slot_at}
 use Rattle.message_store.specs.Work.{waiting}

@@ -4,7 +4,7 @@ use Rattle.sign_font.specs.declared.fault.DefaultFault.{DefaultFault}
 use Rattle.sign_font.specs.declared.parts.Defaults.{Defaults}
 use Rattle.sign_font.specs.Defaults.{default_fault, under}
 use Rattle.sign_font.specs.Sign.{SignData}
-use Rattle.multi_layout.specs.Verdict.{Verdict}
+use Rattle.multi_meaning.specs.Verdict.{Verdict}
 use Rattle.message_store.specs.declared.fault.StoreFault.{StoreFault}
 use Rattle.message_store.specs.Slot.{StoreData}
 use Rattle.message_store.specs.Step.{requested, multi_set, owner_set, priority_set, beacon_set, pixel_service_set, cleared}

@@ -2,9 +2,9 @@
 use Rattle.std.specs.Prelude.{◌≤◌, ◌<◌, ◌^◌, ℕ, ◌+◌, List, length}
 use Rattle.sign_font.specs.Defaults.{under}
 use Rattle.sign_font.specs.Sign.{SignData}
+use Rattle.multi_meaning.specs.Meaning.{meanings}
+use Rattle.multi_meaning.specs.Verdict.{Accepted, IsVerdict, Refused, pages_of}
 use Rattle.multi_layout.specs.Limits.{check_limit, drawing_limit}
-use Rattle.multi_layout.specs.Meaning.{meanings}
-use Rattle.multi_layout.specs.Verdict.{Accepted, IsVerdict, Refused, pages_of}
 use Rattle.sign_control.specs.declared.page.NoPage.{NoPage}
 use Rattle.sign_control.specs.declared.page.NoPage.TheVariants as why
 use Rattle.sign_control.specs.State.{StateData}

@@ -3,7 +3,7 @@
 ghost use Rattle.std.specs.Prelude.{◌≡◌, ◌≤◌, None, length};
 ghost use Rattle.sign_font.specs.Defaults.{default_fault, under};
 ghost use Rattle.sign_font.specs.Sound.{IsSound};
-ghost use Rattle.multi_layout.specs.Meaning.{meanings};
+ghost use Rattle.multi_meaning.specs.Meaning.{meanings};
 ghost use Rattle.message_change.specs.Change.{change_at};
 ghost use Rattle.sign_control.specs.Change.{IsCounted, change_limit, next_change, no_later};
 ghost use Rattle.sign_control.specs.kept.Ready.{IsAccepted};

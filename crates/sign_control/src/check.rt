@@ -1,8 +1,8 @@
 //! The check of a text.
 
 ghost use Rattle.std.specs.Prelude.{◌≡◌, ℕ, ◌+◌, ◌^◌, ◌<◌, ◌≤◌, None, length, IfOk, IfErr};
+ghost use Rattle.multi_meaning.specs.Verdict.{Accepted, IsVerdict, Refused};
 ghost use Rattle.multi_layout.specs.Limits.{check_limit};
-ghost use Rattle.multi_layout.specs.Verdict.{Accepted, IsVerdict, Refused};
 ghost use Rattle.sign_font.specs.Defaults.{default_fault, under};
 ghost use Rattle.sign_control.specs.kept.Ready.{IsAccepted};
 

@@ -1,9 +1,9 @@
 //! The colours of all pixels, of what the display shows and of a text's page.
 
 ghost use Rattle.std.specs.Prelude.{◌≡◌, ◌≤◌, None, length, IfErr, IfOk, OnOk};
+ghost use Rattle.multi_meaning.specs.Times.{shown};
+ghost use Rattle.multi_meaning.specs.declared.times.Shown.TheVariants.{Page};
 ghost use Rattle.multi_layout.specs.Pages.{IsSized};
-ghost use Rattle.multi_layout.specs.Times.{shown};
-ghost use Rattle.multi_layout.specs.declared.times.Shown.TheVariants.{Page};
 ghost use Rattle.sign_font.specs.Defaults.{default_fault, under};
 ghost use Rattle.sign_font.specs.Sound.{IsSound};
 ghost use Rattle.sign_control.specs.Change.{IsCounted};

@@ -2,12 +2,12 @@
 
 ghost use Rattle.std.specs.Prelude.{◌≡◌, ◌+◌, ◌-◌, ◌≤◌, length, IfOk};
 ghost use Rattle.std.specs.Borrow.{sem};
-ghost use Rattle.multi_layout.specs.Drawn.{Lights};
+ghost use Rattle.multi_meaning.specs.Drawn.{Lights};
+ghost use Rattle.multi_meaning.specs.Meaning.{meanings};
+ghost use Rattle.multi_meaning.specs.Picture.{pixel_at};
+ghost use Rattle.multi_meaning.specs.Times.{shown};
 ghost use Rattle.multi_layout.specs.Limits.{frame_limit};
-ghost use Rattle.multi_layout.specs.Meaning.{meanings};
 ghost use Rattle.multi_layout.specs.Pages.{IsSized};
-ghost use Rattle.multi_layout.specs.Picture.{pixel_at};
-ghost use Rattle.multi_layout.specs.Times.{shown};
 ghost use Rattle.sign_font.specs.Defaults.{under};
 ghost use Rattle.sign_control.specs.State.{started};
 

@@ -1,12 +1,12 @@
 //! The drawing of what the display shows.
 
 ghost use Rattle.std.specs.Prelude.{◌≡◌, ◌+◌, ◌-◌, ◌≤◌, None, length};
-ghost use Rattle.multi_layout.specs.Drawn.{Lights};
+ghost use Rattle.multi_meaning.specs.Drawn.{Lights};
+ghost use Rattle.multi_meaning.specs.Meaning.{meanings};
+ghost use Rattle.multi_meaning.specs.Picture.{pixel_at};
+ghost use Rattle.multi_meaning.specs.Times.{shown};
 ghost use Rattle.multi_layout.specs.Limits.{frame_limit};
-ghost use Rattle.multi_layout.specs.Meaning.{meanings};
 ghost use Rattle.multi_layout.specs.Pages.{IsSized};
-ghost use Rattle.multi_layout.specs.Picture.{pixel_at};
-ghost use Rattle.multi_layout.specs.Times.{shown};
 ghost use Rattle.sign_font.specs.Defaults.{default_fault, under};
 ghost use Rattle.sign_font.specs.Sound.{IsSound};
 ghost use Rattle.sign_control.specs.kept.Ready.{IsAccepted};

@@ -3,8 +3,8 @@ use Rattle.std.proofs.Common.{◌≡◌, ℕ, ◌+◌, ◌<◌, ◌≤◌, ◌^�
 use Rattle.std.proofs.lemmas.List.{at_drop_more, at_drop_all, get_or-map, length-map}
 use Rattle.std.proofs.lemmas.List.Elements.{All-get_or}
 use Rattle.sign_font.specs.Sign.{SignData}
-use Rattle.multi_layout.specs.Verdict.{IsVerdict, Verdict, verdict}
-use Rattle.multi_layout.proofs.VerdictLemmas.{one_verdict}
+use Rattle.multi_meaning.specs.Verdict.{IsVerdict, Verdict, verdict}
+use Rattle.multi_meaning.proofs.VerdictLemmas.{one_verdict}
 use Rattle.message_store.specs.Limits.{IsKept, IsPermanent}
 use Rattle.message_store.specs.Slot.{StoreData, permanent_of}
 use Rattle.message_store.specs.declared.message.Permanent.{Permanent}

@@ -1,7 +1,7 @@
 -- Which permanent messages of a sign file its sign refuses.
 use Rattle.std.specs.Prelude.{ℕ, ◌+◌, Bool, ◌&&◌, ◌==◌, if◌then◌else◌, List, [], ◌∷◌, ◌++◌, length, Option, None, Some}
 use Rattle.sign_font.specs.Sign.{SignData}
-use Rattle.multi_layout.specs.Verdict.{Verdict, Accepted, Refused, verdict}
+use Rattle.multi_meaning.specs.Verdict.{Verdict, Accepted, Refused, verdict}
 use Rattle.message_store.specs.Slot.{PermanentData}
 use Rattle.sign_file.specs.SignFile.{FileData, file_of_octets}
 use Rattle.sign_words.specs.declared.refusal.PermanentRefusal.{PermanentRefusal}

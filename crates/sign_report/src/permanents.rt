@@ -1,7 +1,7 @@
 //! The permanent messages that their sign refuses.
 
 ghost use Rattle.std.specs.Prelude.{◌≡◌, ◌++◌, ◌<◌, ◌^◌, length, IfOk, OnOk};
-ghost use Rattle.multi_layout.specs.Verdict.{verdict};
+ghost use Rattle.multi_meaning.specs.Verdict.{verdict};
 ghost use Rattle.message_store.specs.Limits.{IsKept};
 ghost use Rattle.sign_report.specs.Permanents.{as_list, refusal_of, refusals_from};
 

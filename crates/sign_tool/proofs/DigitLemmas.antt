@@ -5,7 +5,7 @@ use Rattle.std.proofs.lemmas.List.Elements.{All-drop, All-take}
 use Rattle.std.proofs.lemmas.List.{drop_all}
 use Rattle.octet_text.proofs.TextLemmas.{flat_map_more}
 use Rattle.sign_font.specs.Sign.{SignData}
-use Rattle.multi_layout.specs.declared.times.Shown.{Shown}
+use Rattle.multi_meaning.specs.declared.times.Shown.{Shown}
 use Rattle.page_picture.specs.Shown.{colours}
 use Rattle.sign_control.specs.Colours.{TellsColours}
 use Rattle.sign_tool.specs.Served.{digit_row, digit_rows}

@@ -2,13 +2,13 @@
 use Rattle.std.proofs.Common.{◌≡◌, ℕ, ◌≤◌, List, ◌++◌, length, refl, sym, ap, ◌∙◌, append_assoc}
 use Rattle.page_plane.specs.Plane.{BitPlane, is_lit}
 use Rattle.sign_font.specs.Sign.{SignData}
-use Rattle.multi_layout.specs.declared.times.Shown.{Shown}
-use Rattle.multi_layout.specs.Drawn.{Lights}
-use Rattle.multi_layout.specs.Meaning.{meanings}
+use Rattle.multi_meaning.specs.declared.times.Shown.{Shown}
+use Rattle.multi_meaning.specs.Drawn.{Lights}
+use Rattle.multi_meaning.specs.Meaning.{meanings}
+use Rattle.multi_meaning.specs.Picture.{pixel_at}
+use Rattle.multi_meaning.specs.Times.{shown}
+use Rattle.multi_meaning.specs.Verdict.{Accepted, IsVerdict}
 use Rattle.multi_layout.specs.Pages.{IsSized}
-use Rattle.multi_layout.specs.Picture.{pixel_at}
-use Rattle.multi_layout.specs.Times.{shown}
-use Rattle.multi_layout.specs.Verdict.{Accepted, IsVerdict}
 use Rattle.page_picture.proofs.RowLemmas.{marked_same}
 use Rattle.sign_tool.specs.Frame.{frame_rows, frame_text, head_text, show_answer}
 use Rattle.sign_tool.proofs.ReplyLemmas.{answer_accepted}

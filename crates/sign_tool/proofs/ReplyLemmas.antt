@@ -2,8 +2,8 @@
 use Rattle.std.proofs.Common.{◌≡◌, ℕ, ◌<◌, ◌≤◌, List, length, refl, sym, ap, subst}
 use Rattle.std.proofs.lemmas.Bool.{le-ltb, lt-ltb}
 use Rattle.sign_font.specs.Sign.{SignData}
-use Rattle.multi_layout.specs.Verdict.{Verdict, Accepted, Refused, IsVerdict, verdict}
-use Rattle.multi_layout.proofs.VerdictLemmas.{one_verdict}
+use Rattle.multi_meaning.specs.Verdict.{Verdict, Accepted, Refused, IsVerdict, verdict}
+use Rattle.multi_meaning.proofs.VerdictLemmas.{one_verdict}
 use Rattle.sign_tool.specs.Reply.{answer_to, refused_text, too_long_text, verdict_text}
 
 module _ (accepted : ℕ → List ℕ) (sign : SignData) (line : List ℕ) where

@@ -1,11 +1,11 @@
 -- The texts of frames, which show pages.
 use Rattle.std.specs.Prelude.{ℕ, Bool, List, ◌++◌, codes, decimal}
 use Rattle.sign_font.specs.Sign.{SignData}
-use Rattle.multi_layout.specs.declared.times.Shown.{Shown}
-use Rattle.multi_layout.specs.declared.times.Shown.TheVariants.{Page, Off}
-use Rattle.multi_layout.specs.Meaning.{meanings}
-use Rattle.multi_layout.specs.Picture.{pixel_at}
-use Rattle.multi_layout.specs.Times.{shown}
+use Rattle.multi_meaning.specs.declared.times.Shown.{Shown}
+use Rattle.multi_meaning.specs.declared.times.Shown.TheVariants.{Page, Off}
+use Rattle.multi_meaning.specs.Meaning.{meanings}
+use Rattle.multi_meaning.specs.Picture.{pixel_at}
+use Rattle.multi_meaning.specs.Times.{shown}
 use Rattle.page_picture.specs.Rows.{marked_rows}
 use Rattle.sign_tool.specs.Reply.{answer_to}
 

@@ -1,7 +1,7 @@
 -- The texts of answers.
 use Rattle.std.specs.Prelude.{ℕ, List, ◌++◌, length, nat_lt, if◌then◌else◌, codes, decimal}
 use Rattle.sign_font.specs.Sign.{SignData}
-use Rattle.multi_layout.specs.Verdict.{Verdict, Accepted, Refused, verdict}
+use Rattle.multi_meaning.specs.Verdict.{Verdict, Accepted, Refused, verdict}
 
 -- A string with too many octets is answered by this text (own).
 abbrev pub too_long_text : List ℕ

@@ -5,7 +5,7 @@ use Rattle.std.specs.Option.{option_map}
 use Rattle.std.specs.declared.alloc.AllocError.{AllocError}
 use Rattle.sign_font.specs.Defaults.{under}
 use Rattle.sign_font.specs.Sign.{SignData}
-use Rattle.multi_layout.specs.Times.{shown}
+use Rattle.multi_meaning.specs.Times.{shown}
 use Rattle.sign_control.specs.declared.command.Command.{Command}
 use Rattle.sign_control.specs.Report.{report_of, row_shown}
 use Rattle.sign_control.specs.Run.{run}

@@ -3,9 +3,9 @@ use Rattle.std.specs.Prelude.{◌≡◌, ℕ, ◌+◌, ◌-◌, ◌^◌, ◌<◌
 use Rattle.std.specs.Option.{option_map}
 use Rattle.multi_tag.specs.declared.tag.Tag.{Tag}
 use Rattle.multi_tag.specs.declared.tag.Tag.TheVariants.{NewPage}
-use Rattle.multi_layout.specs.Address.{Standing}
-use Rattle.multi_layout.specs.declared.attributes.FlashTimes.{FlashTimes}
-use Rattle.multi_layout.specs.Meaning.{Faulty, Meaning, meanings, said_by}
+use Rattle.multi_meaning.specs.Address.{Standing}
+use Rattle.multi_meaning.specs.declared.attributes.FlashTimes.{FlashTimes}
+use Rattle.multi_meaning.specs.Meaning.{Faulty, Meaning, meanings, said_by}
 use Rattle.message_change.specs.declared.flash.Flash.{Flash}
 use Rattle.message_change.specs.declared.said.Said.{Said}
 use Rattle.message_change.specs.declared.walk.Walk.{Walk}

@@ -1,16 +1,17 @@
 -- One more character or end of a line, put into the present area.
 use Rattle.std.specs.Prelude.{◌≡◌, ℕ, ◌+◌, ◌<◌, ◌≤◌, Bool, true, false, nat_le, List, [], ◌∷◌, ◌++◌, Option}
 use Rattle.std.specs.List.{All, AllPass, after_last, list_any}
+use Rattle.multi_meaning.specs.Address.{Spot, in_group, is_break, is_glyph}
+use Rattle.multi_meaning.specs.Offence.{clashes}
+use Rattle.multi_meaning.specs.kept.Present.{IsPlacing}
 use Rattle.multi_layout.specs.declared.area.Area.{Area}
 use Rattle.multi_layout.specs.declared.attributes.Attributes.{Attributes}
 use Rattle.multi_layout.specs.declared.line.Character.{Character}
 use Rattle.multi_layout.specs.declared.line.Line.{Line}
 use Rattle.multi_layout.specs.declared.state.State.{State}
-use Rattle.multi_layout.specs.Address.{Spot, in_group, is_break, is_glyph}
-use Rattle.multi_layout.specs.Offence.{clashes}
 use Rattle.multi_layout.specs.kept.Run.{IsBehindOne}
 use Rattle.multi_layout.specs.kept.State.{IsLimited, group_room}
-use Rattle.multi_layout.specs.kept.Sums.{IsBare, IsBelow, IsBreak, IsCharacter, IsGroupBelow, IsLineBelow, IsPlacing, area_sum, area_sum_in, line_sum}
+use Rattle.multi_layout.specs.kept.Sums.{IsBare, IsBelow, IsBreak, IsCharacter, IsGroupBelow, IsLineBelow, area_sum, area_sum_in, line_sum}
 
 -- a line has the present segment of another, and the same segments before it (own)
 pub record IsSameBefore (old new : Line) : Type 0 where

@@ -7,17 +7,17 @@ use Rattle.multi_tag.specs.declared.tag.Tag.{Tag}
 use Rattle.multi_tag.specs.declared.tag.Tag.TheVariants.{Back, NewLine}
 use Rattle.page_plane.specs.Plane.{BitPlane}
 use Rattle.sign_font.specs.Sign.{SignData, tallest}
+use Rattle.multi_meaning.specs.Address.{Spot, spots, standing, in_group, lines_of, in_area}
+use Rattle.multi_meaning.specs.Drawn.{Lights, has_colour}
+use Rattle.multi_meaning.specs.Meaning.{Meaning, Does, Shows, EndsArea, begins_area, has_place}
+use Rattle.multi_meaning.specs.kept.Present.{ended_lines}
 use Rattle.multi_layout.specs.declared.cursor.Begun.{Begun}
 use Rattle.multi_layout.specs.declared.cursor.Cursor.{Cursor}
 use Rattle.multi_layout.specs.declared.paint.Layer.{Layer}
 use Rattle.multi_layout.specs.declared.read.AreaLines.{AreaLines}
 use Rattle.multi_layout.specs.declared.state.State.{State}
 use Rattle.multi_layout.specs.declared.table.LineTable.{LineTable}
-use Rattle.multi_layout.specs.Address.{Spot, spots, standing, in_group, lines_of, in_area}
-use Rattle.multi_layout.specs.Drawn.{Lights, has_colour}
 use Rattle.multi_layout.specs.Limits.{plane_octets}
-use Rattle.multi_layout.specs.Meaning.{Meaning, Does, Shows, EndsArea, begins_area, has_place}
-use Rattle.multi_layout.specs.kept.Sums.{ended_lines}
 use Rattle.multi_layout.specs.kept.Cursors.{IsBetween, IsFirst, items_of, meant, LaidItem, spell_of}
 use Rattle.multi_layout.specs.kept.Settings.{item_steps}
 use Rattle.multi_layout.specs.kept.Table.{IsOrdered, group_lines, table_of}

@@ -3,24 +3,24 @@ use Rattle.std.specs.Prelude.{◌≡◌, ℕ, ◌^◌, ◌≤◌, Bool, true, fa
 use Rattle.multi_token.specs.Spelling.{Item}
 use Rattle.sign_font.specs.Sign.{SignData}
 use Rattle.sign_font.specs.Text.{width_in}
+use Rattle.multi_meaning.specs.Address.{Spot, in_group}
+use Rattle.multi_meaning.specs.LaidItems.{laid_items}
+use Rattle.multi_meaning.specs.Meaning.{Meaning, Shows, meaning}
+use Rattle.multi_meaning.specs.kept.Present.{present_area}
+use Rattle.multi_meaning.specs.Offence.{offence, unsized_offence}
+use Rattle.multi_meaning.specs.Verdict.{offences}
 use Rattle.multi_layout.specs.declared.fill.Placed.{Placed}
 use Rattle.multi_layout.specs.declared.pass.Pass.{Pass}
 use Rattle.multi_layout.specs.declared.item.KnownItem.{KnownItem}
 use Rattle.multi_layout.specs.declared.line.Line.{Line}
 use Rattle.multi_layout.specs.declared.state.State.{State}
 use Rattle.multi_layout.specs.declared.table.LineTable.{LineTable}
-use Rattle.multi_layout.specs.Address.{Spot, in_group}
 use Rattle.multi_layout.specs.kept.FillSums.{EndsLine}
 use Rattle.multi_layout.specs.kept.KnownItem.{IsKnownItem, meant_by}
-use Rattle.multi_layout.specs.LaidItems.{laid_items}
-use Rattle.multi_layout.specs.Meaning.{Meaning, Shows, meaning}
 use Rattle.multi_layout.specs.kept.AreaDrawing.{HasKnown, IsLow}
 use Rattle.multi_layout.specs.kept.PassState.{IsPassOf, fill_of}
 use Rattle.multi_layout.specs.kept.Run.{IsBehindCharacter, IsRunPassed}
-use Rattle.multi_layout.specs.kept.State.{present_area}
 use Rattle.multi_layout.specs.kept.Table.{IsOrdered}
-use Rattle.multi_layout.specs.Offence.{offence, unsized_offence}
-use Rattle.multi_layout.specs.Verdict.{offences}
 
 -- some items of which none offends, and which a string can have (own)
 pub record AreFine (sign : SignData) (items : List Item) : Type 0 where

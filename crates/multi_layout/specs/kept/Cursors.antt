@@ -1,33 +1,15 @@
 -- A place between two items of an accepted string.
-use Rattle.std.specs.Prelude.{◌≡◌, ℕ, ◌^◌, ◌<◌, List, [], ◌∷◌, ◌++◌, map, length, Option, Some, None}
-use Rattle.std.specs.List.{All}
-use Rattle.multi_token.specs.Spelling.{Item, IsItem, spelling, spell}
-use Rattle.sign_font.specs.declared.parts.LineFill.TheVariants.{Off}
+use Rattle.std.specs.Prelude.{◌≡◌, ℕ, List, [], ◌∷◌, ◌++◌, map, length, Option, Some, None}
+use Rattle.multi_token.specs.Spelling.{Item, spelling, spell}
 use Rattle.sign_font.specs.Sign.{SignData}
-use Rattle.multi_layout.specs.LaidItems.{laid_item, laid_out}
+use Rattle.multi_meaning.specs.LaidItems.{laid_item, laid_out}
+use Rattle.multi_meaning.specs.Meaning.{Meaning, meaning}
+use Rattle.multi_meaning.specs.Words.{each_after}
+use Rattle.multi_meaning.specs.kept.Fine.{IsAccepted, IsOrderly}
 use Rattle.multi_layout.specs.declared.cursor.Cursor.{Cursor}
 use Rattle.multi_layout.specs.declared.item.NextItem.{NextItem}
 use Rattle.multi_layout.specs.kept.KnownItem.{meant_by, IsKnownItem}
-use Rattle.multi_layout.specs.Meaning.{Meaning, meaning}
-use Rattle.multi_layout.specs.Offence.{offence, unsized_offence}
 use Rattle.multi_layout.specs.kept.State.{IsStateOf}
-use Rattle.multi_layout.specs.Verdict.{offences}
-use Rattle.multi_layout.specs.Words.{each_after, some_after}
-
--- no item of these offends after those before it, where lines aren't filled (own)
-abbrev pub IsFine : SignData → List Meaning → Type 0
-IsFine sign items = some_after (offence Off sign) items ≡ []
-
--- no item of these offends after those before it by more than its size (own)
-abbrev pub IsOrderly : SignData → List Meaning → Type 0
-IsOrderly sign items = some_after (unsized_offence sign) items ≡ []
-
--- these are the items of an accepted string: it spells them, and none offends (own)
-pub record IsAccepted (sign : SignData) (octets : List ℕ) (items : List Item) : Type 0 where
-  pub each : All IsItem items
-  pub spelled : octets ≡ spell items
-  pub none : offences sign items ≡ []
-  pub short : length octets < 2 ^ 32
 
 -- the offset is between these items of an accepted string (own)
 pub record IsPlaced (sign : SignData) (octets : List ℕ) (before behind : List Item) (at : ℕ) : Type 0 where

@@ -3,18 +3,19 @@ use Rattle.std.specs.Prelude.{◌≡◌, ℕ, ◌≤◌, Bool, true, false, nat_
 use Rattle.std.specs.List.{All, AllPass, after_last, list_any}
 use Rattle.std.specs.Option.{IfSome, option_map}
 use Rattle.sign_font.specs.Sign.{info_of}
+use Rattle.multi_meaning.specs.Address.{Spot, is_break, is_glyph}
+use Rattle.multi_meaning.specs.Filling.{CutAt, cut_at_last, dropped, filled, is_space}
+use Rattle.multi_meaning.specs.Fit.{line_fits}
+use Rattle.multi_meaning.specs.Offence.{clashes}
+use Rattle.multi_meaning.specs.Words.{largest}
+use Rattle.multi_meaning.specs.kept.Present.{IsPlacing, ended_lines, IsFilledOn}
 use Rattle.multi_layout.specs.declared.area.Area.{Area}
 use Rattle.multi_layout.specs.declared.area.Group.{Group}
 use Rattle.multi_layout.specs.declared.fill.Split.{Split}
 use Rattle.multi_layout.specs.declared.pass.Order.{Order}
 use Rattle.multi_layout.specs.declared.line.Character.{Character}
 use Rattle.multi_layout.specs.declared.line.Line.{Line}
-use Rattle.multi_layout.specs.Address.{Spot, in_group, is_break, is_glyph}
-use Rattle.multi_layout.specs.Filling.{CutAt, cut_at_last, dropped, filled, is_space}
-use Rattle.multi_layout.specs.Fit.{line_fits}
-use Rattle.multi_layout.specs.Offence.{clashes}
-use Rattle.multi_layout.specs.Words.{largest}
-use Rattle.multi_layout.specs.kept.Sums.{IsCharacter, IsLineBelow, IsPlacing, area_sum, ended_lines, group_sum, line_sum}
+use Rattle.multi_layout.specs.kept.Sums.{IsCharacter, IsLineBelow, area_sum, group_sum, line_sum}
 
 -- the sums around a space of a line: of the characters before it, its font, and of those behind it (own)
 abbrev pub parts_sum : CutAt Spot → Split
@@ -55,15 +56,6 @@ FillsGroup width old split character space new split' ended =
     → (new ≡ group_sum (filled (Some width) (group ++ s ∷ [])))
     × (split' ≡ split_sum (after_last is_break (filled (Some width) (group ++ s ∷ []))))
     × EndsLine (filled (Some width) group) (filled (Some width) (group ++ s ∷ [])) ended
-
--- the laid items of an area, whose group with this page justification is these items, filled, and those with one more character:
--- that group grows, the others stay, and none is behind it (own)
-pub record IsFilledOn (page_just width : ℕ) (group : List Spot) (s : Spot) (old new : List Spot) : Type 0 where
-  pub own : s.at.page_just ≡ page_just
-  pub before : in_group page_just old ≡ filled (Some width) group
-  pub after : in_group page_just new ≡ filled (Some width) (group ++ s ∷ [])
-  pub others : (just : ℕ) → (just ≡ page_just → ⊥) → in_group just new ≡ in_group just old
-  pub last : largest (λ t. t.at.page_just) new ≡ page_just
 
 -- a character joins the group of an area with this page justification, where lines are filled to this width: if the open line fits
 -- and the character clashes with none of it, then area and split are those with it, and the line is ended that is (own)

@@ -5,14 +5,15 @@ use Rattle.multi_tag.specs.declared.tag.Tag.{Tag}
 use Rattle.multi_tag.specs.declared.tag.Tag.TheVariants.{NewPage, NewLine, Rect}
 use Rattle.sign_font.specs.declared.parts.LineFill.TheVariants.{Words}
 use Rattle.sign_font.specs.Sign.{SignData}
+use Rattle.multi_meaning.specs.Address.{in_group, is_break, standing}
+use Rattle.multi_meaning.specs.Filling.{filled}
+use Rattle.multi_meaning.specs.kept.FillOpen.{AllOpenFit}
+use Rattle.multi_meaning.specs.LaidItems.{laid_items}
+use Rattle.multi_meaning.specs.Meaning.{Meaning}
+use Rattle.multi_meaning.specs.kept.Present.{present_area}
 use Rattle.multi_layout.specs.declared.pass.Pass.{Pass}
-use Rattle.multi_layout.specs.Address.{in_group, is_break, standing}
-use Rattle.multi_layout.specs.Filling.{filled}
-use Rattle.multi_layout.specs.kept.FillOpen.{AllOpenFit}
 use Rattle.multi_layout.specs.kept.FillSums.{IsSplitBelow, order_sum, split_sum}
-use Rattle.multi_layout.specs.LaidItems.{laid_items}
-use Rattle.multi_layout.specs.Meaning.{Meaning}
-use Rattle.multi_layout.specs.kept.State.{IsReady, IsStateOf, present_area}
+use Rattle.multi_layout.specs.kept.State.{IsReady, IsStateOf}
 
 -- it is what is kept of these items: the state of the items as they are laid out, the parts of the present line around its last
 -- space, and the order of all characters of the present group since the last `nl`; no sum overflows, and the open lines fit (own)

@@ -4,11 +4,11 @@ use Rattle.std.specs.List.{All}
 use Rattle.multi_token.specs.Counted.{Counted}
 use Rattle.multi_token.specs.Spelling.{Item, IsItem, spell}
 use Rattle.sign_font.specs.Sign.{SignData}
+use Rattle.multi_meaning.specs.Codes.{code_of}
+use Rattle.multi_meaning.specs.Meaning.{Meaning, meaning}
+use Rattle.multi_meaning.specs.Verdict.{Accepted, IsCycle, IsVerdict, Refused, offences}
 use Rattle.multi_layout.specs.declared.verdict.Offence.{Offence}
-use Rattle.multi_layout.specs.Codes.{code_of}
 use Rattle.multi_layout.specs.Limits.{check_limit}
-use Rattle.multi_layout.specs.Meaning.{Meaning, meaning}
-use Rattle.multi_layout.specs.Verdict.{Accepted, IsCycle, IsVerdict, Refused, offences}
 
 -- the items before an offset, none of which offends, and what is kept of them (own)
 pub record ReadSoFar (sign : SignData) (octets : List ℕ) (at : ℕ) (IsKept : List Meaning → Type 0) : Type 0 where

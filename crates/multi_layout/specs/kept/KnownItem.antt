@@ -1,10 +1,10 @@
 -- The items of a string, as they are read.
 use Rattle.std.specs.Prelude.{◌≤◌, Bool, true, false}
 use Rattle.multi_tag.specs.declared.tag.Tag.TheVariants.{NewPage, NewLine, Rect, Back}
+use Rattle.multi_meaning.specs.Meaning.{Meaning, Shows, Does}
+use Rattle.multi_meaning.specs.kept.Present.{IsKnown}
 use Rattle.multi_layout.specs.declared.item.KnownItem.{KnownItem}
 use Rattle.multi_layout.specs.declared.item.KnownItem.TheVariants.{Char, Tag}
-use Rattle.multi_layout.specs.Meaning.{Meaning, Shows, Does}
-use Rattle.multi_layout.specs.kept.State.{IsKnown}
 
 -- what an item that was read means (NTCIP 1203 v03, MULTI)
 abbrev pub meant_by : KnownItem → Meaning

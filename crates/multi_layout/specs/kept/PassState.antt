@@ -4,12 +4,12 @@ use Rattle.sign_font.specs.declared.parts.LineFill.{LineFill}
 use Rattle.sign_font.specs.declared.parts.LineFill.TheVariants.{Off, Words}
 use Rattle.sign_font.specs.Sign.{SignData}
 use Rattle.sign_font.specs.Text.{width_in}
-use Rattle.multi_layout.specs.declared.fault.SyntaxError.{SyntaxError}
+use Rattle.multi_meaning.specs.declared.fault.SyntaxError.{SyntaxError}
+use Rattle.multi_meaning.specs.Codes.{code_of}
+use Rattle.multi_meaning.specs.Meaning.{Meaning, Shows}
+use Rattle.multi_meaning.specs.Offence.{offence}
 use Rattle.multi_layout.specs.declared.pass.Pass.{Pass}
-use Rattle.multi_layout.specs.Codes.{code_of}
 use Rattle.multi_layout.specs.kept.FilledState.{IsFilledFor, IsFilledReady}
-use Rattle.multi_layout.specs.Meaning.{Meaning, Shows}
-use Rattle.multi_layout.specs.Offence.{offence}
 use Rattle.multi_layout.specs.kept.Run.{Fits, IsBehindCharacter}
 use Rattle.multi_layout.specs.kept.State.{IsReady, IsUnfilledOf}
 

@@ -3,12 +3,13 @@ use Rattle.std.specs.Prelude.{◌≡◌, ◌⊎◌, ℕ, ◌+◌, ◌<◌, not, 
 use Rattle.std.specs.List.{filter}
 use Rattle.multi_token.specs.Spelling.{Item}
 use Rattle.sign_font.specs.Sign.{SignData}
+use Rattle.multi_meaning.specs.Meaning.{BeginsPage, Meaning, has_place, meaning}
+use Rattle.multi_meaning.specs.kept.Fine.{IsAccepted, IsOrderly}
+use Rattle.multi_meaning.specs.Times.{Times, ended_times, page_times}
 use Rattle.multi_layout.specs.declared.cursor.Cursor.{Cursor}
 use Rattle.multi_layout.specs.declared.item.NextItem.{NextItem}
-use Rattle.multi_layout.specs.Meaning.{BeginsPage, Meaning, has_place, meaning}
-use Rattle.multi_layout.specs.kept.Cursors.{IsAccepted, IsBetween, IsItemRead, IsOrderly, IsPlaced, laid_meanings, pieces_of}
+use Rattle.multi_layout.specs.kept.Cursors.{IsBetween, IsItemRead, IsPlaced, laid_meanings, pieces_of}
 use Rattle.multi_layout.specs.kept.State.{IsStateOf}
-use Rattle.multi_layout.specs.Times.{Times, ended_times, page_times}
 
 -- without the characters and the `nl`, which alone are laid out (own)
 abbrev pub unplaced : List Meaning → List Meaning

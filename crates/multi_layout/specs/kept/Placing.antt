@@ -1,17 +1,18 @@
 -- Where a character stands, by what is kept of its area (own).
 use Rattle.std.specs.Prelude.{◌≡◌, ℕ, ◌<◌, ◌≤◌, Bool, true, false, List, [], ◌∷◌, ◌++◌, length}
 use Rattle.std.specs.List.{count_by, list_any}
+use Rattle.multi_meaning.specs.declared.place.Place.{Place}
+use Rattle.multi_meaning.specs.Address.{Spot, area_of, group_of, in_group, is_break, is_glyph, line_before, lines_of}
+use Rattle.multi_meaning.specs.Line.{glyph_width}
+use Rattle.multi_meaning.specs.Offence.{clashes}
+use Rattle.multi_meaning.specs.Place.{place_of}
+use Rattle.multi_meaning.specs.Words.{largest}
+use Rattle.multi_meaning.specs.kept.Present.{IsPlacing}
 use Rattle.multi_layout.specs.declared.area.Area.{Area}
 use Rattle.multi_layout.specs.declared.attributes.Attributes.{Attributes}
-use Rattle.multi_layout.specs.declared.place.Place.{Place}
 use Rattle.multi_layout.specs.declared.table.CountedLine.{CountedLine}
-use Rattle.multi_layout.specs.Address.{Spot, area_of, group_of, in_group, is_break, is_glyph, line_before, lines_of}
-use Rattle.multi_layout.specs.Line.{glyph_width}
-use Rattle.multi_layout.specs.Offence.{clashes}
-use Rattle.multi_layout.specs.Place.{place_of}
-use Rattle.multi_layout.specs.Words.{largest}
 use Rattle.multi_layout.specs.kept.State.{attributes_of}
-use Rattle.multi_layout.specs.kept.Sums.{IsPlacing, area_sum}
+use Rattle.multi_layout.specs.kept.Sums.{area_sum}
 use Rattle.multi_layout.specs.kept.Table.{table_of}
 
 -- a character stands at this place whose cell has this width, where these are in force, kept of its area as far as the character, and the

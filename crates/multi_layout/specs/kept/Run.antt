@@ -6,13 +6,13 @@ use Rattle.multi_token.specs.Spelling.{IsPlain}
 use Rattle.sign_font.specs.declared.font.FontInfo.{FontInfo}
 use Rattle.sign_font.specs.Sign.{SignData}
 use Rattle.sign_font.specs.Text.{HasWidth, width_in}
+use Rattle.multi_meaning.specs.Fit.{fit}
+use Rattle.multi_meaning.specs.Line.{average}
+use Rattle.multi_meaning.specs.Meaning.{Meaning}
 use Rattle.multi_layout.specs.declared.area.Area.{Area}
 use Rattle.multi_layout.specs.declared.area.Group.{Group}
 use Rattle.multi_layout.specs.declared.line.Line.{Line}
 use Rattle.multi_layout.specs.declared.state.State.{State}
-use Rattle.multi_layout.specs.Fit.{fit}
-use Rattle.multi_layout.specs.Line.{average}
-use Rattle.multi_layout.specs.Meaning.{Meaning}
 use Rattle.multi_layout.specs.kept.State.{IsStateOf}
 
 -- the width of the characters with a line justification, by what is kept of the line: left 2, centre 3, right 4, full 5 (own)

@@ -1,20 +1,19 @@
 -- The drawing of an area's items, of which characters beside each other are drawn as a run (own).
-use Rattle.std.specs.Prelude.{◌≡◌, ◌≢◌, ℕ, ◌+◌, ◌-◌, ◌^◌, ◌<◌, ◌≤◌, true, List, [], ◌∷◌, ◌++◌, map, length, Option, None, Some, IfSome}
-use Rattle.std.specs.Prelude.{slice_get}
+use Rattle.std.specs.Prelude.{◌≡◌, ◌≢◌, ℕ, ◌+◌, ◌-◌, ◌^◌, ◌<◌, ◌≤◌, true, List, [], ◌∷◌, ◌++◌, map, length, Option, None, Some, IfSome, slice_get}
 use Rattle.page_plane.specs.Plane.{BitPlane}
 use Rattle.sign_font.specs.Cell.{SizedCell}
 use Rattle.sign_font.specs.Sign.{SignData, CellData, cell_in, cell_numbered}
+use Rattle.multi_meaning.specs.declared.place.Place.{Place}
+use Rattle.multi_meaning.specs.Address.{Glyph, Spot, is_glyph, spots, standing}
+use Rattle.multi_meaning.specs.Meaning.{Meaning, Shows}
+use Rattle.multi_meaning.specs.Place.{place_of}
 use Rattle.multi_layout.specs.declared.attributes.Attributes.{Attributes}
 use Rattle.multi_layout.specs.declared.cursor.Cursor.{Cursor}
 use Rattle.multi_layout.specs.declared.item.NextItem.{NextItem}
 use Rattle.multi_layout.specs.declared.paint.Layer.{Layer}
-use Rattle.multi_layout.specs.declared.place.Place.{Place}
 use Rattle.multi_layout.specs.declared.read.AreaLines.{AreaLines}
 use Rattle.multi_layout.specs.declared.state.State.{State}
 use Rattle.multi_layout.specs.declared.table.LineTable.{LineTable}
-use Rattle.multi_layout.specs.Address.{Glyph, Spot, is_glyph, spots, standing}
-use Rattle.multi_layout.specs.Meaning.{Meaning, Shows}
-use Rattle.multi_layout.specs.Place.{place_of}
 use Rattle.multi_layout.specs.kept.AreaDrawing.{BeginsNoArea, DrawsGlyph, HasCounted, IsDrawnTo, whole_area}
 use Rattle.multi_layout.specs.kept.Cursors.{IsBetween, IsRead, LaidItem, meant, spell_of}
 use Rattle.multi_layout.specs.kept.Run.{IsBehindCharacter, lengthened, line_in_force}

@@ -4,6 +4,7 @@ use Rattle.std.specs.List.{All}
 use Rattle.multi_token.specs.Spelling.{Item}
 use Rattle.multi_tag.specs.declared.tag.Tag.{Tag}
 use Rattle.sign_font.specs.Sign.{SignData}
+use Rattle.multi_meaning.specs.Meaning.{Does}
 use Rattle.multi_layout.specs.declared.cursor.Begun.{Begun}
 use Rattle.multi_layout.specs.declared.cursor.Cursor.{Cursor}
 use Rattle.multi_layout.specs.declared.cursor.Met.{Met}
@@ -13,7 +14,6 @@ use Rattle.multi_layout.specs.declared.item.KnownItem.TheVariants as known
 use Rattle.multi_layout.specs.declared.item.NextItem.{NextItem}
 use Rattle.multi_layout.specs.declared.state.State.{State}
 use Rattle.multi_layout.specs.kept.KnownItem.{is_setting}
-use Rattle.multi_layout.specs.Meaning.{Does}
 use Rattle.multi_layout.specs.kept.Cursors.{IsBetween, IsFirst, IsPlaced, LaidItem, meant}
 use Rattle.multi_layout.specs.kept.State.{IsLimited, Judges}
 

@@ -1,46 +1,24 @@
 -- What is kept of the items that were read (own).
-use Rattle.std.specs.Prelude.{◌≡◌, ℕ, ◌+◌, ◌*◌, ◌^◌, ◌≤◌, true, List, [], ◌∷◌, ◌++◌, length, Some, None, Result, Ok, Err, if◌then◌else◌, Bool, false}
-use Rattle.std.specs.Option.{unwrap_or}
+use Rattle.std.specs.Prelude.{◌≡◌, ℕ, ◌+◌, ◌*◌, ◌^◌, ◌≤◌, true, List, [], ◌∷◌, ◌++◌, length, Some, None, Result, Ok, Err, Bool, false}
 use Rattle.multi_tag.specs.declared.tag.Tag.{Tag}
-use Rattle.multi_tag.specs.declared.tag.Tag.TheVariants.{NewPage, NewLine, LineJust, PageJust, Font, Rect}
+use Rattle.multi_tag.specs.declared.tag.Tag.TheVariants.{NewPage, NewLine, Font, Rect}
 use Rattle.sign_font.specs.declared.parts.LineFill.TheVariants.{Off}
 use Rattle.sign_font.specs.Sign.{SignData, font_numbered, info_of}
+use Rattle.multi_meaning.specs.declared.fault.SyntaxError.{SyntaxError}
+use Rattle.multi_meaning.specs.Codes.{code_of}
+use Rattle.multi_meaning.specs.Fit.{room_for}
+use Rattle.multi_meaning.specs.Meaning.{Meaning}
+use Rattle.multi_meaning.specs.Address.{Standing, standing}
+use Rattle.multi_meaning.specs.Offence.{offence}
+use Rattle.multi_meaning.specs.Times.{cycle, ended_times}
+use Rattle.multi_meaning.specs.Verdict.{pages_of}
+use Rattle.multi_meaning.specs.Words.{some_after}
+use Rattle.multi_meaning.specs.kept.Present.{present_area}
 use Rattle.multi_layout.specs.declared.attributes.Attributes.{Attributes}
-use Rattle.multi_layout.specs.declared.fault.SyntaxError.{SyntaxError}
 use Rattle.multi_layout.specs.declared.state.State.{State}
-use Rattle.multi_layout.specs.Codes.{code_of}
-use Rattle.multi_layout.specs.Fit.{room_for}
-use Rattle.multi_layout.specs.Attributes.{given_font, given_line_just, given_page_just, given_spacing, given_fore, given_back, given_on, given_off, given_flash, given_rectangle}
-use Rattle.multi_layout.specs.Meaning.{Meaning, begins_area, is_new_page}
-use Rattle.multi_layout.specs.Address.{Spot, Standing, in_area, spots, standing}
-use Rattle.multi_layout.specs.Offence.{offence}
 use Rattle.multi_layout.specs.declared.area.Area.{Area}
 use Rattle.multi_layout.specs.declared.line.Line.{Line}
 use Rattle.multi_layout.specs.kept.Sums.{IsBelow, area_sum}
-use Rattle.multi_layout.specs.Times.{cycle, ended_times}
-use Rattle.multi_layout.specs.Verdict.{pages_of}
-use Rattle.multi_layout.specs.Words.{some_after}
-
--- the placing items of the present area, in which the next item stands (own)
-abbrev pub present_area : SignData → List Meaning → List Spot
-present_area sign items = in_area (standing sign items).area (spots sign items)
-
--- the values in force behind one more item (own)
-abbrev pub standing_behind : SignData → Standing → Meaning → Standing
-standing_behind sign here x = record {
-  page = here.page + (if is_new_page x then 1 else 0);
-  area = here.area + (if begins_area x then 1 else 0);
-  font = unwrap_or (given_font sign x) here.font;
-  line_just = unwrap_or (given_line_just sign.defaults x) here.line_just;
-  page_just = unwrap_or (given_page_just sign.defaults x) here.page_just;
-  spacing = unwrap_or (given_spacing x) here.spacing;
-  fore = unwrap_or (given_fore sign.defaults x) here.fore;
-  back = unwrap_or (given_back sign.defaults x) here.back;
-  on = unwrap_or (given_on sign.defaults x) here.on;
-  off = unwrap_or (given_off sign.defaults x) here.off;
-  flash = unwrap_or (given_flash sign.defaults x) here.flash;
-  rectangle = unwrap_or (given_rectangle sign x) here.rectangle;
-}
 
 -- what is kept of the values in force (own)
 abbrev pub attributes_of : Standing → Attributes
@@ -125,9 +103,3 @@ IsSimple (NewLine gap) = ⊥
 IsSimple (Font pick) = ⊥
 IsSimple (Rect x y w h) = ⊥
 IsSimple tag = Unit {0}
-
--- the justification that a tag gives is a known one (NTCIP 1203 v03, MULTI tags 'jl' and 'jp')
-abbrev pub IsKnown : Tag → Type 0
-IsKnown (LineJust (Some just)) = (2 ≤ just) × (just ≤ 5)
-IsKnown (PageJust (Some just)) = (2 ≤ just) × (just ≤ 4)
-IsKnown tag = Unit {0}

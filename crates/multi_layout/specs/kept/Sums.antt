@@ -1,18 +1,19 @@
 -- The running sums of an area: what is kept of its items, in place of the items.
-use Rattle.std.specs.Prelude.{◌≡◌, ◌⊎◌, ℕ, ◌≤◌, true, false, nat_lt, List, length, Option, None, if◌then◌else◌}
-use Rattle.std.specs.List.{filter, filter_map, last_or, list_any, after_last}
+use Rattle.std.specs.Prelude.{◌≡◌, ℕ, ◌≤◌, true, false, nat_lt, List, length, Option, None, if◌then◌else◌}
+use Rattle.std.specs.List.{filter_map, last_or, list_any, after_last}
 use Rattle.std.specs.Option.{option_map}
 use Rattle.sign_font.specs.declared.font.FontInfo.{FontInfo}
 use Rattle.sign_font.specs.Sign.{info_of}
+use Rattle.multi_meaning.specs.Address.{Spot, Break, is_glyph, is_break, segment, in_group, lines_of}
+use Rattle.multi_meaning.specs.Line.{line_height, line_spacing, given_gap, glyph_width, width_of, height_of}
+use Rattle.multi_meaning.specs.Words.{largest}
+use Rattle.multi_meaning.specs.kept.Present.{ended_lines}
 use Rattle.multi_layout.specs.declared.line.Character.{Character}
 use Rattle.multi_layout.specs.declared.line.Segment.{Segment}
 use Rattle.multi_layout.specs.declared.line.Line.{Line}
 use Rattle.multi_layout.specs.declared.area.Ended.{Ended}
 use Rattle.multi_layout.specs.declared.area.Group.{Group}
 use Rattle.multi_layout.specs.declared.area.Area.{Area}
-use Rattle.multi_layout.specs.Address.{Spot, Break, is_glyph, is_break, segment, in_group, lines_of}
-use Rattle.multi_layout.specs.Line.{line_height, line_spacing, given_gap, glyph_width, width_of, height_of}
-use Rattle.multi_layout.specs.Words.{largest}
 
 -- the width of a line's characters with one line justification, how many they are, and the spacing of the last one's font (own)
 abbrev pub segment_sum : ℕ → List Spot → Segment
@@ -45,10 +46,6 @@ line_sum_in present line = record {
 abbrev pub line_sum : List Spot → Line
 line_sum line = line_sum_in (largest (λ t. t.at.line_just) line) line
 
--- the lines of a group that an `nl` ends (own)
-abbrev pub ended_lines : List Spot → List (List Spot)
-ended_lines group = filter (list_any is_break) (lines_of group)
-
 -- the gap that a line's `nl` gave, and the line's spacing (own)
 abbrev pub ended_sum : List Spot → Ended
 ended_sum line = record { gap = last_or None (filter_map given_gap line); spacing = line_spacing line }
@@ -78,10 +75,6 @@ area_sum_in present area = record {
 -- the sums of an area, whose present group is that with the largest page justification of its items (own)
 abbrev pub area_sum : List Spot → Area
 area_sum area = area_sum_in (largest (λ t. t.at.page_just) area) area
-
--- a placing item: a character or the end of a line (NTCIP 1203 v03, MULTI tag 'nl')
-abbrev pub IsPlacing : Spot → Type 0
-IsPlacing s = (is_glyph s ≡ true) ⊎ (is_break s ≡ true)
 
 -- these are the numbers of a character that its line is judged by (own)
 pub record IsCharacter (s : Spot) (character : Character) : Type 0 where

@@ -1,12 +1,11 @@
 -- What drawing keeps of the counted lines of an area, so that each character's place is known when it is met.
 use Rattle.std.specs.Prelude.{ℕ, ◌+◌, ◌-◌, ◌≤◌, ◌==◌, List, [], ◌∷◌, ◌++◌, length, slice_range, if◌then◌else◌}
-use Rattle.std.specs.List.{after_last}
+use Rattle.multi_meaning.specs.Address.{Spot, segment}
+use Rattle.multi_meaning.specs.Line.{height_of, width_of, glyph_width}
+use Rattle.multi_meaning.specs.Place.{start, spread}
+use Rattle.multi_meaning.specs.Words.{each_after}
 use Rattle.multi_layout.specs.declared.table.CountedLine.{CountedLine}
 use Rattle.multi_layout.specs.declared.table.LineTable.{LineTable}
-use Rattle.multi_layout.specs.Address.{Spot, in_group, is_break, lines_of, segment}
-use Rattle.multi_layout.specs.Line.{height_of, width_of, glyph_width}
-use Rattle.multi_layout.specs.Place.{start, spread}
-use Rattle.multi_layout.specs.Words.{each_after}
 
 -- what is kept of a line whose group has this height down to the line's bottom: that height, the widths of the line's
 -- segments, and how many characters are full (own)
@@ -55,14 +54,3 @@ column_in line before spot =
     within.left + start just within.width (width_in just line)
     + (width_of (part_before ++ spot ∷ []) - glyph_width spot)
     + (if just == 5 then spread (length part_before) line.characters (within.width - width_in just line) else 0)
-
--- the segments of a line are at most as wide as the widest sign, and its full characters at most so many (own)
-pub record IsNarrow (line : List Spot) : Type 0 where
-  pub width : (just : ℕ) → 2 ≤ just → just ≤ 5 → width_of (segment just line) ≤ 1024
-  pub characters : length (segment 5 line) ≤ 1024
-
--- the present line of each group of an area is narrow, and no group is higher (own)
-abbrev pub IsNarrowArea : List Spot → Type 0
-IsNarrowArea area =
-    (just : ℕ) → 2 ≤ just → just ≤ 4
-    → IsNarrow (after_last is_break (in_group just area)) × (height_of (lines_of (in_group just area)) ≤ 1024)

@@ -5,8 +5,8 @@ use Rattle.sign_font.specs.Defaults.{default_fault, under}
 use Rattle.sign_font.specs.Sign.{SignData}
 use Rattle.sign_font.specs.Sound.{IsSound}
 use Rattle.page_plane.specs.Plane.{BitPlane}
+use Rattle.multi_meaning.specs.Verdict.{Accepted, verdict}
 use Rattle.multi_layout.specs.Pages.{IsSized}
-use Rattle.multi_layout.specs.Verdict.{Accepted, verdict}
 use Rattle.message_store.specs.Slot.{StoreData}
 use Rattle.sign_control.specs.declared.display.Display.{Display}
 

@@ -1,9 +1,9 @@
 //! Callers of the calls that lend a plane. They are proved and never run: what those calls promise is of use to a caller.
 
 ghost use Rattle.std.specs.Prelude.{◌≡◌, ◌+◌, ◌<◌};
-ghost use Rattle.multi_layout.specs.Drawn.{Lights};
+ghost use Rattle.multi_meaning.specs.Drawn.{Lights};
+ghost use Rattle.multi_meaning.specs.Picture.{picture};
 ghost use Rattle.multi_layout.specs.Pages.{page_count};
-ghost use Rattle.multi_layout.specs.Picture.{picture};
 
 use multi_layout::{Checked, Pages};
 use page_plane::Plane;

@@ -1,6 +1,6 @@
 use Rattle.std.proofs.Common.{refl, inl, ap, ◌∙◌, arith, subst, List, ℕ}
 use Rattle.multi_token.specs.Counted.{Counted}
-use Rattle.multi_layout.specs.Verdict.{Accepted, IsCycle, IsVerdict}
+use Rattle.multi_meaning.specs.Verdict.{Accepted, IsCycle, IsVerdict}
 use Rattle.sign_font.specs.Sign.{SignData}
 use Rattle.latsefur_c.proofs.check.judged_by.Goals as goal
 

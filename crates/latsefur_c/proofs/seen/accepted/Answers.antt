@@ -1,6 +1,6 @@
 use Rattle.std.proofs.Common.{refl, inl, ap, arith, subst}
 use Rattle.multi_token.specs.Counted.{Counted}
-use Rattle.multi_layout.specs.Verdict.{IsVerdict, Refused}
+use Rattle.multi_meaning.specs.Verdict.{IsVerdict, Refused}
 use Rattle.latsefur_c.proofs.seen.accepted.Goals as goal
 
 pub returns-in-Err-clause-err : goal.returns-in-Err-clause-err

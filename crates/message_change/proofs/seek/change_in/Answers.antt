@@ -1,7 +1,7 @@
 use Rattle.std.proofs.Common.{◌≡◌, ◌%◌, ◌<◌, sym, ap, subst, ◌∙◌}
-use Rattle.multi_layout.specs.Meaning.{meanings}
-use Rattle.multi_layout.specs.Times.{cycle, page_times}
-use Rattle.multi_layout.specs.Verdict.{Accepted, IsCycle, IsVerdict}
+use Rattle.multi_meaning.specs.Meaning.{meanings}
+use Rattle.multi_meaning.specs.Times.{cycle, page_times}
+use Rattle.multi_meaning.specs.Verdict.{Accepted, IsCycle, IsVerdict}
 use Rattle.message_change.specs.Change.{change_within}
 use Rattle.message_change.proofs.WalkLemmas
 use Rattle.message_change.proofs.seek.change_in.Goals as goal

@@ -1,7 +1,7 @@
 use Rattle.std.proofs.Common.{◌+◌, ◌-◌, drop, refl, sym, ap, subst, ◌∙◌, arith}
 use Rattle.multi_token.specs.Counted.{Counted}
 use Rattle.multi_token.proofs.StepLemmas.{charged-zero}
-use Rattle.multi_layout.specs.Meaning.{meanings}
+use Rattle.multi_meaning.specs.Meaning.{meanings}
 use Rattle.message_change.specs.declared.walk.Walk.{Walk}
 use Rattle.message_change.proofs.NextItemLemmas
 use Rattle.message_change.proofs.PassedLemmas

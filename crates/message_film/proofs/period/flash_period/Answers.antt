@@ -1,5 +1,5 @@
 use Rattle.std.proofs.Common.{◌∙◌, ap, subst, drop, arith}
-use Rattle.multi_layout.specs.Meaning.{meaning}
+use Rattle.multi_meaning.specs.Meaning.{meaning}
 use Rattle.multi_token.specs.Counted.{Counted}
 use Rattle.multi_token.specs.Spelling.{HasNoItem}
 use Rattle.multi_token.specs.Tokens.{IsTokenOf, item_of}

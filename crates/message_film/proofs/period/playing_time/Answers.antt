@@ -1,5 +1,5 @@
 use Rattle.std.proofs.Common.{◌≡◌, ℕ, List, subst}
-use Rattle.multi_layout.specs.Verdict.{Accepted, IsCycle, IsVerdict}
+use Rattle.multi_meaning.specs.Verdict.{Accepted, IsCycle, IsVerdict}
 use Rattle.sign_font.specs.Sign.{SignData}
 use Rattle.message_film.proofs.FlashLemmas
 use Rattle.message_film.proofs.period.playing_time.Goals as goal

@@ -1,6 +1,6 @@
 use Rattle.std.proofs.Common.{sym, ap, ◌∙◌}
 use Rattle.message_film.specs.Period.{flash_time}
-use Rattle.multi_layout.specs.Meaning.{meaning_of_tag}
+use Rattle.multi_meaning.specs.Meaning.{meaning_of_tag}
 use Rattle.message_film.proofs.FlashLemmas
 use Rattle.message_film.proofs.period.token_time.Goals as goal
 

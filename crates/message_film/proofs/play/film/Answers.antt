@@ -1,5 +1,5 @@
 use Rattle.std.proofs.Common.{◌≡◌, ◌+◌, ◌++◌, length, refl, replicate, sym, ap, ◌∙◌, arith}
-use Rattle.multi_layout.specs.Times.{shown}
+use Rattle.multi_meaning.specs.Times.{shown}
 use Rattle.page_picture.specs.Palette.{palette}
 use Rattle.message_film.specs.Moving.{seen_points}
 use Rattle.message_film.specs.Reel.{ReelData}

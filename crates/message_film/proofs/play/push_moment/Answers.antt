@@ -1,5 +1,5 @@
 use Rattle.std.proofs.Common.{◌≡◌, ◌++◌, replicate, sym, ap, ◌∙◌, subst}
-use Rattle.multi_layout.specs.Times.{shown}
+use Rattle.multi_meaning.specs.Times.{shown}
 use Rattle.page_picture.specs.Shown.{IsThere, colours}
 use Rattle.page_picture.proofs.ShownLemmas
 use Rattle.message_film.proofs.MovingLemmas

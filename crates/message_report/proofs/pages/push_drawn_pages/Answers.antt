@@ -1,6 +1,6 @@
 use Rattle.std.proofs.Common.{◌≡◌, ◌∷◌, ◌++◌, ap, ◌∙◌, arith, subst}
-use Rattle.multi_layout.specs.Meaning.{meanings}
-use Rattle.multi_layout.specs.Verdict.{pages_of}
+use Rattle.multi_meaning.specs.Meaning.{meanings}
+use Rattle.multi_meaning.specs.Verdict.{pages_of}
 use Rattle.message_report.specs.Explanation.{HasPages, head_text, picture_text}
 use Rattle.message_report.proofs.ExplanationLemmas
 use Rattle.message_report.proofs.pages.push_drawn_pages.Goals as goal

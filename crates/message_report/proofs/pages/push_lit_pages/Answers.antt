@@ -1,6 +1,6 @@
 use Rattle.std.proofs.Common.{◌≡◌, ◌∷◌, ◌++◌, ◌+◌, ap, ◌∙◌, arith, subst}
-use Rattle.multi_layout.specs.Meaning.{meanings}
-use Rattle.multi_layout.specs.Verdict.{pages_of}
+use Rattle.multi_meaning.specs.Meaning.{meanings}
+use Rattle.multi_meaning.specs.Verdict.{pages_of}
 use Rattle.message_report.specs.Explanation.{HasPages, head_text, picture_text}
 use Rattle.message_report.specs.declared.picture.Picture.TheVariants.{Marks}
 use Rattle.message_report.specs.Pictures.{page_text}

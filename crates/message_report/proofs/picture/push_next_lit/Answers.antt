@@ -1,6 +1,6 @@
 use Rattle.std.proofs.Common.{◌≡◌, ◌++◌, OnOk, subst}
-use Rattle.multi_layout.specs.Drawn.{Lights}
-use Rattle.multi_layout.specs.Picture.{picture}
+use Rattle.multi_meaning.specs.Drawn.{Lights}
+use Rattle.multi_meaning.specs.Picture.{picture}
 use Rattle.message_report.proofs.PageLemmas
 use Rattle.message_report.proofs.picture.push_next_lit.Goals as goal
 

@@ -2,8 +2,8 @@ use Rattle.std.proofs.Common.{◌≡◌, [], ◌∷◌, ◌++◌, ap, ◌∙◌,
 use Rattle.std.proofs.lemmas.List.{map-append}
 use Rattle.serde_json.specs.View.{view}
 use Rattle.serde_json.specs.declared.value.Value.{the_lemmas}
-use Rattle.multi_layout.specs.Meaning.{meanings}
-use Rattle.multi_layout.specs.Verdict.{pages_of}
+use Rattle.multi_meaning.specs.Meaning.{meanings}
+use Rattle.multi_meaning.specs.Verdict.{pages_of}
 use Rattle.message_report.specs.Pictures.{page_text}
 use Rattle.message_report.specs.Records.{ArePages, page_record, picture_data}
 use Rattle.message_report.proofs.ExplanationLemmas

@@ -1,7 +1,7 @@
 use Rattle.std.proofs.Common.{◌≡◌, ap, arith, length, ℕ}
 use Rattle.multi_token.specs.Counted.{Counted}
 use Rattle.sign_font.specs.Defaults.{under}
-use Rattle.multi_layout.specs.Verdict.{Accepted, Refused, verdict}
+use Rattle.multi_meaning.specs.Verdict.{Accepted, Refused, verdict}
 use Rattle.message_store.specs.Judged.{error_of, is_accepted, position_of}
 use Rattle.message_store.proofs.WorkLemmas.{judged_in, verdict_is}
 use Rattle.message_store.proofs.judge.judge_text.Goals as goal

@@ -10,7 +10,7 @@ use Rattle.multi_token.proofs.StepLemmas.{rises_then, rises_more}
 use Rattle.multi_tag.specs.Body.{Spells}
 use Rattle.multi_tag.specs.TagOf.{tag_of}
 use Rattle.multi_tag.proofs.TagOfLemmas.{tag_of-read}
-use Rattle.multi_layout.proofs.ItemAtLemmas.{fault_at}
+use Rattle.multi_meaning.proofs.ItemAtLemmas.{fault_at}
 use Rattle.multi_layout.proofs.bracket.fault_of.Goals as goal
 
 -- the steps of finding a tag's end and of reading its body

@@ -5,7 +5,7 @@ use Rattle.multi_token.specs.Counted.{Counted, charged}
 use Rattle.multi_token.proofs.PlaceLemmas.{none_closing}
 use Rattle.multi_token.proofs.StepLemmas.{charged-charged, rises_then, rises_more}
 use Rattle.multi_tag.specs.Closed.{IsTagAt}
-use Rattle.multi_layout.proofs.ItemAtLemmas.{ahead_steps, doubled_at, read_is, read_not, tag_at}
+use Rattle.multi_meaning.proofs.ItemAtLemmas.{ahead_steps, doubled_at, read_is, read_not, tag_at}
 use Rattle.multi_layout.proofs.bracket.read_spelled.Goals as goal
 
 pub returns-then-eq-clause-item : goal.returns-then-eq-clause-item

@@ -7,16 +7,16 @@ use Rattle.multi_token.proofs.StepLemmas.{charged-charged, rises_more, rises_the
 use Rattle.multi_tag.specs.Closed.{IsTagAt}
 use Rattle.multi_tag.specs.declared.tag.Tag.{Tag}
 use Rattle.sign_font.specs.Sign.{SignData}
+use Rattle.multi_meaning.specs.Codes.{code_of}
+use Rattle.multi_meaning.specs.Meaning.{Does, said_by}
+use Rattle.multi_meaning.specs.kept.ItemAt.{IsFaultAt}
+use Rattle.multi_meaning.specs.kept.Present.{IsKnown}
+use Rattle.multi_meaning.proofs.ItemAtLemmas.{ahead_steps, doubled_at, read_is, read_not, tag_at}
 use Rattle.multi_layout.specs.declared.item.KnownItem.{KnownItem}
 use Rattle.multi_layout.specs.declared.item.KnownItem.TheVariants as known
 use Rattle.multi_layout.specs.declared.item.NextItem.{NextItem}
-use Rattle.multi_layout.specs.Codes.{code_of}
-use Rattle.multi_layout.specs.Meaning.{Does, said_by}
 use Rattle.multi_layout.specs.kept.Settings.{IsNextAt}
-use Rattle.multi_layout.specs.kept.ItemAt.{IsFaultAt}
 use Rattle.multi_layout.specs.kept.KnownItem.{IsKnownItem, is_setting, meant_by}
-use Rattle.multi_layout.specs.kept.State.{IsKnown}
-use Rattle.multi_layout.proofs.ItemAtLemmas.{ahead_steps, doubled_at, read_is, read_not, tag_at}
 use Rattle.multi_layout.proofs.SettingLemmas.{never_refused, said_setting, setting_fine}
 use Rattle.multi_layout.proofs.WalkLemmas.{item_is, no_fault}
 use Rattle.multi_layout.proofs.cursor.meet_bracket.Goals as goal

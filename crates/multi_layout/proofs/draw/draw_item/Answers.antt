@@ -4,17 +4,18 @@ use Rattle.std.proofs.lemmas.Option.{IfSome_then}
 use Rattle.multi_token.proofs.ReadingLemmas.{spelling_some}
 use Rattle.sign_font.specs.Cell.{SizedCell}
 use Rattle.sign_font.specs.Sign.{cell_in}
+use Rattle.multi_meaning.specs.declared.place.Place.{Place}
+use Rattle.multi_meaning.specs.kept.Present.{present_area}
+use Rattle.multi_meaning.specs.Place.{place_of}
+use Rattle.multi_meaning.specs.Address.{Glyph, spots, standing, in_area}
+use Rattle.multi_meaning.specs.Meaning.{begins_area, Does, has_place, Meaning, Shows}
+use Rattle.multi_meaning.specs.Offence.{unsized_offence}
 use Rattle.multi_layout.specs.declared.attributes.Attributes.{Attributes}
-use Rattle.multi_layout.specs.declared.place.Place.{Place}
 use Rattle.multi_layout.specs.kept.Cursors.{meant}
-use Rattle.multi_layout.specs.kept.State.{attributes_of, present_area}
+use Rattle.multi_layout.specs.kept.State.{attributes_of}
 use Rattle.multi_layout.specs.kept.Sums.{area_sum}
-use Rattle.multi_layout.specs.Place.{place_of}
-use Rattle.multi_layout.specs.Address.{Glyph, spots, standing, in_area}
 use Rattle.multi_layout.specs.kept.Placing.{PlacesCharacter}
 use Rattle.multi_layout.specs.kept.KnownItem.{meant_by}
-use Rattle.multi_layout.specs.Meaning.{begins_area, Does, has_place, Meaning, Shows}
-use Rattle.multi_layout.specs.Offence.{unsized_offence}
 use Rattle.multi_layout.specs.kept.AreaDrawing.{HasCounted, IsDrawnTo}
 use Rattle.multi_layout.specs.kept.RunDrawing.{NextStandsAt}
 use Rattle.multi_layout.proofs.BesideLemmas.{beside_stands, same_standing}

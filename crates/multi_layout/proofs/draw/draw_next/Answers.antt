@@ -4,7 +4,7 @@ use Rattle.std.proofs.lemmas.List.Elements.{All-head, All-tail}
 use Rattle.multi_token.specs.Counted.{Counted}
 use Rattle.multi_token.specs.Spelling.{spelling}
 use Rattle.multi_token.proofs.StepLemmas.{rises_more, rises_then}
-use Rattle.multi_layout.specs.Meaning.{begins_area}
+use Rattle.multi_meaning.specs.Meaning.{begins_area}
 use Rattle.multi_layout.specs.kept.AreaDrawing.{IsFilledBy}
 use Rattle.multi_layout.specs.kept.RunDrawing.{AreaSoFar, NextStandsAt, octets_read}
 use Rattle.multi_layout.specs.kept.Cursors.{IsBetween, LaidItem, meant, spell_of}

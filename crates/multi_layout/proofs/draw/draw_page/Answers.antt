@@ -3,9 +3,9 @@ use Rattle.multi_token.specs.Counted.{RisesBetween}
 use Rattle.multi_token.proofs.ReadingLemmas.{spelling_some}
 use Rattle.multi_token.proofs.StepLemmas.{charged-zero}
 use Rattle.page_plane.specs.Octets.{octet_count}
-use Rattle.multi_layout.specs.Address.{standing}
+use Rattle.multi_meaning.specs.Address.{standing}
+use Rattle.multi_meaning.specs.Meaning.{BeginsPage, EndsPage, begins_area, has_place, is_new_page}
 use Rattle.multi_layout.specs.Limits.{plane_octets}
-use Rattle.multi_layout.specs.Meaning.{BeginsPage, EndsPage, begins_area, has_place, is_new_page}
 use Rattle.multi_layout.specs.kept.AreaDrawing.{IsFilledBy}
 use Rattle.multi_layout.specs.kept.Cursors.{IsBetween, IsFirst, LaidItem, items_of, meant}
 use Rattle.multi_layout.specs.kept.Settings.{IsBegun, item_steps}

@@ -2,8 +2,8 @@ use Rattle.std.proofs.Common.{◌≡◌, ◌+◌, ◌-◌, ◌*◌, ◌≤◌, �
 use Rattle.std.specs.Option.{unwrap_or}
 use Rattle.multi_token.proofs.StepLemmas.{charged-zero, rises_more, rises_then}
 use Rattle.sign_font.specs.Sign.{cell_in}
+use Rattle.multi_meaning.specs.declared.place.Place.{Place}
 use Rattle.multi_layout.specs.declared.cursor.Cursor.{Cursor}
-use Rattle.multi_layout.specs.declared.place.Place.{Place}
 use Rattle.multi_layout.specs.kept.AreaDrawing.{IsFilledBy}
 use Rattle.multi_layout.specs.kept.Cursors.{meant, spell_of}
 use Rattle.multi_layout.specs.kept.Run.{lengthened, line_in_force}

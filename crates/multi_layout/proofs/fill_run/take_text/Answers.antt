@@ -1,8 +1,8 @@
 use Rattle.std.proofs.Common.{ℕ, ◌+◌, ◌^◌, List, length, map, ap, subst, arith}
 use Rattle.sign_font.specs.declared.parts.LineFill.TheVariants.{Words}
+use Rattle.multi_meaning.specs.LaidItems.{laid_items}
+use Rattle.multi_meaning.specs.Meaning.{meaning}
 use Rattle.multi_layout.specs.kept.FilledState.{IsFilledFor}
-use Rattle.multi_layout.specs.LaidItems.{laid_items}
-use Rattle.multi_layout.specs.Meaning.{meaning}
 use Rattle.multi_layout.specs.kept.Judging.{IsAt}
 use Rattle.multi_layout.specs.kept.Text.{IsInText}
 use Rattle.multi_layout.proofs.BoundLemmas.{below_more}

@@ -1,6 +1,6 @@
 use Rattle.std.proofs.Common.{◌==◌, ◌*◌, ◌^◌, ◌++◌, ◌∷◌, [], not, length, ap}
 use Rattle.multi_tag.specs.declared.tag.Tag.TheVariants.{NewLine}
-use Rattle.multi_layout.specs.Meaning.{Does}
+use Rattle.multi_meaning.specs.Meaning.{Does}
 use Rattle.multi_layout.proofs.JudgedLemmas.{state-limits}
 use Rattle.multi_layout.proofs.LimitLemmas.{break_told}
 use Rattle.multi_layout.proofs.PlacingLemmas.{break-exit-conflict, break-exit-too_big, break-exit-fits}

@@ -1,6 +1,6 @@
 use Rattle.std.proofs.Common.{◌*◌, ◌^◌, ◌++◌, ◌∷◌, [], not, length, refl, ap, sym, ◌∙◌}
 use Rattle.sign_font.specs.Sign.{cell_in}
-use Rattle.multi_layout.specs.Meaning.{Shows}
+use Rattle.multi_meaning.specs.Meaning.{Shows}
 use Rattle.multi_layout.specs.kept.Adding.{character_of}
 use Rattle.multi_layout.proofs.BeforeLemmas.{fits_without}
 use Rattle.multi_layout.proofs.JudgedLemmas.{state-limits}

@@ -1,6 +1,6 @@
 use Rattle.std.proofs.Common.{ℕ, Option, cond, Some, None, refl, ap, ◌∙◌}
+use Rattle.multi_meaning.specs.Attributes.{rectangle}
 use Rattle.multi_layout.specs.declared.attributes.Attributes.{Attributes}
-use Rattle.multi_layout.specs.Attributes.{rectangle}
 use Rattle.multi_layout.proofs.JudgedLemmas.{judged-rectangle, state-rectangle}
 use Rattle.multi_layout.proofs.TagLemmas.{outside_across, outside_down, inside}
 use Rattle.multi_layout.proofs.LimitLemmas.{limited_none}

@@ -1,7 +1,7 @@
 use Rattle.std.proofs.Common.{◌≡◌, ap, sym, ◌∙◌, arith}
 use Rattle.multi_token.proofs.StepLemmas.{charged-zero}
-use Rattle.multi_layout.specs.declared.attributes.Rectangle.{Rectangle}
-use Rattle.multi_layout.specs.Address.{standing}
+use Rattle.multi_meaning.specs.declared.attributes.Rectangle.{Rectangle}
+use Rattle.multi_meaning.specs.Address.{standing}
 use Rattle.multi_layout.specs.kept.State.{group_room, segment_room}
 use Rattle.multi_layout.proofs.TagLemmas.{judged-simple, simple_of}
 use Rattle.multi_layout.proofs.judge.judge_tag.Goals as goal

@@ -1,10 +1,10 @@
 use Rattle.std.proofs.Common.{◌≡◌, ◌-◌, length, subst, sym, arith}
 use Rattle.multi_token.proofs.StepLemmas.{charged-zero}
-use Rattle.multi_layout.specs.declared.times.Shown.{Shown}
+use Rattle.multi_meaning.specs.declared.times.Shown.{Shown}
+use Rattle.multi_meaning.specs.Drawn as drawn
+use Rattle.multi_meaning.specs.Meaning.{meanings}
+use Rattle.multi_meaning.specs.Picture.{picture, pixel_at}
 use Rattle.multi_layout.specs.kept.PageDrawing.{IsStartOf}
-use Rattle.multi_layout.specs.Drawn as drawn
-use Rattle.multi_layout.specs.Meaning.{meanings}
-use Rattle.multi_layout.specs.Picture.{picture, pixel_at}
 use Rattle.multi_layout.proofs.PagesLemmas.{drawing_fills, drawing_reads, shows_picture, turned}
 use Rattle.multi_layout.proofs.pages.draw_found.Goals as goal
 

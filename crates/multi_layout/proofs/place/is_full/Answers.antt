@@ -1,13 +1,14 @@
 use Rattle.std.proofs.Common.{◌≡◌, ◌∷◌, ◌++◌, ◌==◌, ◌^◌, [], ap, ◌∙◌, take}
 use Rattle.std.specs.Prelude.{slice_index_or}
 use Rattle.std.specs.List.{after_last, count_by}
+use Rattle.multi_meaning.specs.Address.{is_break, lines_of}
+use Rattle.multi_meaning.proofs.DroppedLemmas.{full_known}
+use Rattle.multi_meaning.proofs.EndedLemmas.{ended_count}
 use Rattle.multi_layout.specs.declared.area.Group.{Group}
-use Rattle.multi_layout.specs.Address.{is_break, lines_of}
 use Rattle.multi_layout.specs.kept.Sums.{group_sum}
 use Rattle.multi_layout.specs.kept.Table.{counted_line, width_in}
-use Rattle.multi_layout.proofs.DroppedLemmas.{full_known}
 use Rattle.multi_layout.proofs.PlaceLemmas.{line_is_there, width_in_is}
-use Rattle.multi_layout.proofs.TableLemmas.{ended_count, look_up}
+use Rattle.multi_layout.proofs.TableLemmas.{look_up}
 use Rattle.multi_layout.proofs.place.is_full.Goals as goal
 
 pub width-requires-clause-known : goal.width-requires-clause-known

@@ -1,7 +1,7 @@
 use Rattle.std.proofs.Common.{◌≤◌, ◌^◌, ap, subst, arith}
+use Rattle.multi_meaning.specs.Address.{Spot, area_of, group_of, lines_of, line_before}
+use Rattle.multi_meaning.specs.Words.{largest}
 use Rattle.multi_layout.specs.declared.attributes.Attributes.{Attributes}
-use Rattle.multi_layout.specs.Address.{Spot, area_of, group_of, lines_of, line_before}
-use Rattle.multi_layout.specs.Words.{largest}
 use Rattle.multi_layout.proofs.PlaceLemmas.{group_with, place_from}
 use Rattle.multi_layout.proofs.place.place_at.Goals as goal
 

@@ -1,9 +1,9 @@
 use Rattle.std.proofs.Common.{◌+◌, ◌^◌, ◌≤◌, refl, ap, ◌∙◌, arith}
 use Rattle.std.specs.List.{after_last}
+use Rattle.multi_meaning.specs.Address.{in_group, is_break}
+use Rattle.multi_meaning.proofs.GroupLemmas.{placing_group}
 use Rattle.multi_layout.specs.declared.area.Area.{Area}
-use Rattle.multi_layout.specs.Address.{in_group, is_break}
 use Rattle.multi_layout.proofs.AreaSumLemmas.{group_of_own, own_line}
-use Rattle.multi_layout.proofs.GroupSumLemmas.{placing_group}
 use Rattle.multi_layout.proofs.KnownLinesLemmas.{behind_empty, known_later, last_known, last_room, nothing_left, pushed_low}
 use Rattle.multi_layout.proofs.TableLemmas.{open_entry}
 use Rattle.multi_layout.proofs.read.end_group.Goals as goal

@@ -1,9 +1,9 @@
 use Rattle.std.proofs.Common.{◌≡◌, ◌==◌, not, ℕ, Option, None, Some, map, refl, sym, ap, subst, ◌∙◌, ◌^◌, arith}
 use Rattle.multi_token.proofs.StepLemmas.{rises_more}
 use Rattle.multi_tag.specs.declared.tag.Tag.{Tag}
-use Rattle.multi_layout.specs.Codes.{code_of}
+use Rattle.multi_meaning.specs.Codes.{code_of}
+use Rattle.multi_meaning.specs.Meaning.{Does, meaning}
 use Rattle.multi_layout.specs.kept.PassState.{IsItemJudged}
-use Rattle.multi_layout.specs.Meaning.{Does, meaning}
 use Rattle.multi_layout.specs.kept.AreaDrawing.{ends_line}
 use Rattle.multi_layout.proofs.AreaReadLemmas.{next_fine, read_below, read_ready}
 use Rattle.multi_layout.proofs.AreaStepLemmas.{step_closed, step_ended, step_just, step_last, step_narrow, step_room, step_stays, tag_ends, tag_group, tag_stays}

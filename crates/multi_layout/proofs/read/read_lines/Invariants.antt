@@ -1,7 +1,7 @@
 use Rattle.std.proofs.Common.{◌==◌, not, ◌≡◌, ℕ, ◌≤◌, ◌+◌, ◌-◌, ◌*◌, List, [], map, length, slice_get}
 use Rattle.std.specs.Prelude.{IfSome}
 use Rattle.multi_token.specs.Counted.{RisesBetween}
-use Rattle.multi_layout.specs.kept.State.{present_area}
+use Rattle.multi_meaning.specs.kept.Present.{present_area}
 use Rattle.multi_layout.specs.kept.Cursors.{IsBetween, meant, LaidItem}
 use Rattle.multi_layout.specs.kept.Settings.{IsNextAt, item_steps}
 use Rattle.multi_layout.proofs.AreaLinesLemmas.{SoFar}

@@ -1,7 +1,7 @@
 use Rattle.std.proofs.Common.{◌≡◌, ℕ, ◌+◌, ◌-◌, map, sym, ap, subst, arith}
 use Rattle.multi_token.specs.Counted.{Counted, charged}
+use Rattle.multi_meaning.specs.Meaning.{meaning}
 use Rattle.multi_layout.specs.declared.state.State.{State}
-use Rattle.multi_layout.specs.Meaning.{meaning}
 use Rattle.multi_layout.specs.kept.Judging.{ReadSoFar}
 use Rattle.multi_layout.specs.kept.State.{IsUnfilledOf}
 use Rattle.multi_layout.proofs.BeforeLemmas.{unfilled_fits}

@@ -1,8 +1,8 @@
 use Rattle.std.proofs.Common.{[], inl, refl, sym, ◌∙◌, arith}
 use Rattle.multi_token.specs.Reading.{reading}
+use Rattle.multi_meaning.proofs.AcceptedLemmas.{accepted_is, accepted_orderly}
+use Rattle.multi_meaning.proofs.ClockLemmas.{always_one, always_none, shown_in_turn, below_cycle}
 use Rattle.multi_layout.specs.kept.Cursors.{pieces_of}
-use Rattle.multi_layout.proofs.AcceptedLemmas.{accepted_is, accepted_orderly}
-use Rattle.multi_layout.proofs.ClockLemmas.{always_one, always_none, shown_in_turn, below_cycle}
 use Rattle.multi_layout.proofs.times.find_shown.Goals as goal
 use Rattle.multi_layout.proofs.times.find_shown.Goals.{then-told-eq1-via-then-told-eq1, then-told-eq1-via-else-told-eq1+then-told-eq0}
 

@@ -3,9 +3,9 @@ use Rattle.multi_token.specs.Counted.{Counted, RisesBetween}
 use Rattle.multi_token.proofs.ReadingLemmas.{spelling_some}
 use Rattle.multi_token.specs.Tokens.{item_of}
 use Rattle.multi_token.proofs.StepLemmas.{rises_then}
-use Rattle.multi_layout.specs.kept.ItemAt.{IsItemAt}
+use Rattle.multi_meaning.specs.kept.ItemAt.{IsItemAt}
+use Rattle.multi_meaning.specs.Meaning.{Meaning, meaning}
 use Rattle.multi_layout.specs.kept.KnownItem.{meant_by}
-use Rattle.multi_layout.specs.Meaning.{Meaning, meaning}
 use Rattle.multi_layout.specs.kept.PassState.{IsPassOf}
 use Rattle.multi_layout.proofs.AtLemmas.{fault_refused, item_behind, item_offends}
 use Rattle.multi_layout.proofs.PassLemmas.{pass_ready_here}

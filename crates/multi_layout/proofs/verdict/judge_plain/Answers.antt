@@ -1,5 +1,5 @@
 use Rattle.std.proofs.Common.{◌≤◌, ◌==◌, not, map, sym, ◌∙◌, subst, ap, arith}
-use Rattle.multi_layout.specs.Meaning.{meaning}
+use Rattle.multi_meaning.specs.Meaning.{meaning}
 use Rattle.multi_layout.specs.declared.attributes.Attributes.{Attributes}
 use Rattle.sign_font.specs.Text.{AreWidthsOf}
 use Rattle.multi_layout.specs.kept.PassState.{IsPassOf}

@@ -1,6 +1,6 @@
 use Rattle.std.proofs.Common.{◌∙◌, sym, arith}
 use Rattle.page_plane.specs.Plane.{is_lit}
-use Rattle.multi_layout.specs.Picture.{picture}
+use Rattle.multi_meaning.specs.Picture.{picture}
 use Rattle.page_picture.proofs.PaintLemmas.{painted_none, painted_same}
 use Rattle.page_picture.proofs.WriteLemmas.{monochrome_dark, on_page}
 use Rattle.page_picture.proofs.write.paint_colour.Goals as goal

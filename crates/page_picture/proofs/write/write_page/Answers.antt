@@ -1,7 +1,7 @@
 use Rattle.std.proofs.Common.{◌-◌, ◌<◌, ◌+◌, ◌≤◌, length, refl, ap, ◌∙◌, subst, arith, ◌≡◌}
 use Rattle.multi_token.specs.Counted.{Counted, RisesBetween}
+use Rattle.multi_meaning.specs.Picture.{picture}
 use Rattle.multi_layout.specs.Limits.{plane_limit, reading_limit}
-use Rattle.multi_layout.specs.Picture.{picture}
 use Rattle.page_picture.proofs.WriteLemmas
 use Rattle.page_picture.proofs.write.write_page.Goals as goal
 

@@ -1,7 +1,7 @@
 use Rattle.std.proofs.Common.{◌≡◌, ◌+◌, ◌*◌, ◌≤◌, drop, length}
 use Rattle.multi_token.specs.Counted.{RisesBetween}
+use Rattle.multi_meaning.specs.Picture.{picture}
 use Rattle.multi_layout.specs.Limits.{plane_limit, reading_limit}
-use Rattle.multi_layout.specs.Picture.{picture}
 use Rattle.page_picture.proofs.WriteLemmas.{HaveLast}
 use Rattle.page_picture.proofs.write.write_page.Given as goal
 

@@ -1,6 +1,6 @@
 use Rattle.std.proofs.Common.{ap, arith, refl, subst, sym}
 use Rattle.multi_token.specs.Counted.{Counted}
-use Rattle.multi_layout.specs.Verdict.{Refused}
+use Rattle.multi_meaning.specs.Verdict.{Refused}
 use Rattle.sign_aids.specs.Pictures.{IsFaultOf}
 use Rattle.sign_aids.proofs.PictureLemmas
 use Rattle.sign_aids.proofs.picture.picture_of.Goals as goal

@@ -1,9 +1,9 @@
 use Rattle.std.proofs.Common.{◌≡◌, ℕ, List, length, ap, ◌∙◌, subst, arith}
 use Rattle.multi_token.specs.Counted.{Counted}
+use Rattle.multi_meaning.specs.Codes.{code_of}
+use Rattle.multi_meaning.specs.Verdict.{IsVerdict, Refused}
 use Rattle.multi_layout.proofs.PagesLemmas.{drawing_few}
-use Rattle.multi_layout.specs.Codes.{code_of}
 use Rattle.multi_layout.specs.Limits.{plane_limit}
-use Rattle.multi_layout.specs.Verdict.{IsVerdict, Refused}
 use Rattle.sign_font.specs.Defaults.{under}
 use Rattle.sign_font.specs.Sign.{SignData}
 use Rattle.sign_font.proofs.DefaultLemmas.{sound_under}

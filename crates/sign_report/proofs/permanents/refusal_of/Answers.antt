@@ -1,6 +1,6 @@
 use Rattle.std.proofs.Common.{ap}
 use Rattle.multi_token.specs.Counted.{Counted}
-use Rattle.multi_layout.specs.Verdict.{Accepted, Refused}
+use Rattle.multi_meaning.specs.Verdict.{Accepted, Refused}
 use Rattle.sign_report.proofs.PermanentLemmas.{by_verdict}
 use Rattle.sign_report.proofs.permanents.refusal_of.Goals as goal
 

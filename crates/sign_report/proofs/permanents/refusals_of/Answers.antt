@@ -1,5 +1,5 @@
 use Rattle.std.proofs.Common.{◌<◌, ◌≤◌, ◌+◌, ◌++◌, ap, ◌∙◌, arith, length}
-use Rattle.multi_layout.specs.Verdict.{verdict}
+use Rattle.multi_meaning.specs.Verdict.{verdict}
 use Rattle.message_store.specs.declared.message.Permanent.{Permanent}
 use Rattle.sign_report.specs.Permanents.{as_list, refusal_of, refusals_from}
 use Rattle.sign_report.proofs.PermanentLemmas.{none_left, one_more, short_text}

@@ -1,6 +1,6 @@
 use Rattle.std.proofs.Common.{◌≡◌, ◌++◌, OnOk, arith, refl, sym, ap, subst}
 use Rattle.multi_token.specs.Counted.{Counted}
-use Rattle.multi_layout.specs.Codes.{code_of}
+use Rattle.multi_meaning.specs.Codes.{code_of}
 use Rattle.sign_tool.specs.Reply.{pages_text}
 use Rattle.sign_tool.proofs.ReplyLemmas
 use Rattle.sign_tool.proofs.check.push_verdict.Goals as goal

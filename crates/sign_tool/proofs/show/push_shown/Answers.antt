@@ -1,8 +1,8 @@
 use Rattle.std.proofs.Common.{◌≡◌, ◌++◌, OnOk, arith, refl, sym, ap, ◌∙◌, subst}
 use Rattle.multi_token.specs.Counted.{Counted}
 use Rattle.sign_font.specs.Sign.{SignData}
-use Rattle.multi_layout.specs.Times.{shown}
-use Rattle.multi_layout.specs.Verdict.{Accepted, IsVerdict, Refused}
+use Rattle.multi_meaning.specs.Times.{shown}
+use Rattle.multi_meaning.specs.Verdict.{Accepted, IsVerdict, Refused}
 use Rattle.sign_tool.specs.Frame.{frame_text, head_text}
 use Rattle.sign_tool.proofs.FrameLemmas
 use Rattle.sign_tool.proofs.ReplyLemmas

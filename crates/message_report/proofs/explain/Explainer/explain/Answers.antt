@@ -1,7 +1,7 @@
 use Rattle.std.proofs.Common.{◌≤◌, length, refl, sym, ap, ◌∙◌, arith, subst}
 use Rattle.multi_token.specs.Counted.{Counted}
-use Rattle.multi_layout.specs.Meaning.{meanings}
-use Rattle.multi_layout.specs.Verdict.{Accepted, IsVerdict, Refused, pages_of}
+use Rattle.multi_meaning.specs.Meaning.{meanings}
+use Rattle.multi_meaning.specs.Verdict.{Accepted, IsVerdict, Refused, pages_of}
 use Rattle.message_report.specs.Explanation.{Explains, takes}
 use Rattle.message_report.proofs.ExplanationLemmas
 use Rattle.message_report.proofs.explain.Explainer.explain.Goals as goal

@@ -1,8 +1,8 @@
 use Rattle.std.proofs.Common.{◌≡◌, ◌^◌, Some, refl, sym, ap, ◌∙◌, subst, arith}
 use Rattle.std.specs.List.{after_last}
+use Rattle.multi_meaning.specs.Address.{is_break}
+use Rattle.multi_meaning.specs.Filling.{filled}
 use Rattle.multi_layout.specs.declared.area.Area.{Area}
-use Rattle.multi_layout.specs.Address.{is_break}
-use Rattle.multi_layout.specs.Filling.{filled}
 use Rattle.multi_layout.specs.kept.FillSums.{IsSplitBelow, split_sum}
 use Rattle.multi_layout.specs.kept.Sums.{group_sum}
 use Rattle.multi_layout.proofs.AreaFillLemmas.{area_filled, nothing_yet}

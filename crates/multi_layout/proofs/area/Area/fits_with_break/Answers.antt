@@ -1,5 +1,5 @@
 use Rattle.std.proofs.Common.{[], ◌∷◌, ◌++◌}
-use Rattle.multi_layout.specs.Address.{area_of}
+use Rattle.multi_meaning.specs.Address.{area_of}
 use Rattle.multi_layout.proofs.AreaSumLemmas.{fits_break, placing_break}
 use Rattle.multi_layout.proofs.area.Area.fits_with_break.Goals as goal
 

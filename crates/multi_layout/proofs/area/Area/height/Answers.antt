@@ -1,7 +1,7 @@
 use Rattle.std.proofs.Common.{ap, sym, ◌∙◌, arith}
+use Rattle.multi_meaning.specs.Address.{lines_of}
+use Rattle.multi_meaning.specs.Line.{height_of}
 use Rattle.multi_layout.specs.declared.area.Area.{Area}
-use Rattle.multi_layout.specs.Address.{lines_of}
-use Rattle.multi_layout.specs.Line.{height_of}
 use Rattle.multi_layout.proofs.AreaSumLemmas.{other_height, present_height, none_of_later_group}
 use Rattle.multi_layout.proofs.area.Area.height.Goals as goal
 

@@ -1,12 +1,12 @@
 use Rattle.std.proofs.Common.{◌≡◌, ◌<◌, ◌≤◌, Bool, true, false, None, [], refl, sym, ◌∙◌, ap, arith}
 use Rattle.std.specs.List.{after_last}
 use Rattle.std.proofs.lemmas.Bool.{le-leb}
+use Rattle.multi_meaning.specs.Address.{in_group, is_break}
+use Rattle.multi_meaning.proofs.FitLemmas.{room_alone}
 use Rattle.multi_layout.specs.declared.area.Area.{Area}
 use Rattle.multi_layout.specs.declared.area.Group.{Group}
-use Rattle.multi_layout.specs.Address.{in_group, is_break}
 use Rattle.multi_layout.specs.kept.Sums.{group_sum, line_sum}
 use Rattle.multi_layout.proofs.AreaSumLemmas.{area_turned, middle_kept, own_line, top_kept}
-use Rattle.multi_layout.proofs.FitLemmas.{room_alone}
 use Rattle.multi_layout.proofs.GroupSumLemmas.{present_glyphs}
 use Rattle.multi_layout.proofs.LineSumLemmas.{no_character}
 use Rattle.multi_layout.proofs.area.Area.reach.Goals as goal

@@ -1,7 +1,7 @@
 use Rattle.std.proofs.Common.{◌≡◌, [], ◌∷◌, ◌++◌, refl, sym, ap, ◌∙◌}
+use Rattle.multi_meaning.specs.Filling.{dropped}
 use Rattle.multi_layout.specs.declared.area.Group.{Group}
 use Rattle.multi_layout.specs.declared.line.Line.{Line}
-use Rattle.multi_layout.specs.Filling.{dropped}
 use Rattle.multi_layout.specs.kept.Sums.{group_sum}
 use Rattle.multi_layout.proofs.BreakLemmas.{all_glyphs, none_behind, relined}
 use Rattle.multi_layout.proofs.area.Group.break_at.Goals as goal

@@ -1,7 +1,7 @@
 use Rattle.std.proofs.Common.{◌+◌, ◌^◌, Some, sym, ap, ◌∙◌, subst, arith}
 use Rattle.std.specs.List.{after_last}
-use Rattle.multi_layout.specs.Address.{is_break}
-use Rattle.multi_layout.specs.Filling.{filled}
+use Rattle.multi_meaning.specs.Address.{is_break}
+use Rattle.multi_meaning.specs.Filling.{filled}
 use Rattle.multi_layout.specs.kept.FillSums.{IsSplitBelow, split_sum}
 use Rattle.multi_layout.specs.kept.Sums.{IsLineBelow}
 use Rattle.multi_layout.proofs.FillGroupLemmas.{breaks_ended, breaks_split, breaks_sum, drops_ended, drops_split, drops_sum, next_line, present_glyphs, present_line, stands_ended, stands_line, stands_sum, stays_ended, stays_line, stays_sum}

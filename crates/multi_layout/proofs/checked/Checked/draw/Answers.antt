@@ -2,7 +2,7 @@ use Rattle.std.proofs.Common.{◌≡◌, ◌-◌, ◌*◌, length, ap, arith}
 use Rattle.std.proofs.lemmas.Bool.Decides.{nat_tests}
 use Rattle.multi_token.specs.Counted.{Counted}
 use Rattle.multi_token.proofs.StepLemmas.{rises_more}
-use Rattle.multi_layout.proofs.AcceptedLemmas.{accepted_orderly, accepted_is}
+use Rattle.multi_meaning.proofs.AcceptedLemmas.{accepted_orderly, accepted_is}
 use Rattle.multi_layout.proofs.PagesLemmas.{drawing_fills, drawing_reads}
 use Rattle.multi_layout.proofs.checked.Checked.draw.Goals as goal
 

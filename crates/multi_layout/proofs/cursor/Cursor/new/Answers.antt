@@ -1,6 +1,7 @@
 use Rattle.std.proofs.Common.{List, [], refl, sym, subst, ◌∙◌, ap}
 use Rattle.multi_token.specs.Spelling.{Item}
-use Rattle.multi_layout.specs.kept.Cursors.{IsOrderly, IsPlaced, laid_meanings}
+use Rattle.multi_meaning.specs.kept.Fine.{IsOrderly}
+use Rattle.multi_layout.specs.kept.Cursors.{IsPlaced, laid_meanings}
 use Rattle.multi_layout.proofs.PieceLemmas.{pieces_are}
 use Rattle.multi_layout.proofs.cursor.Cursor.new.Goals as goal
 

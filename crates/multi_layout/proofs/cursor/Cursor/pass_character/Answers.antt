@@ -1,11 +1,11 @@
 use Rattle.std.proofs.Common.{◌≡◌, ◌+◌, ◌*◌, [], ◌∷◌, ◌++◌, length, map, not, None, refl, sym, ap, ◌∙◌, subst}
 use Rattle.std.proofs.lemmas.Bool.{not-false}
 use Rattle.sign_font.specs.Sign.{cell_in}
+use Rattle.multi_meaning.specs.Meaning.{Meaning, Shows}
+use Rattle.multi_meaning.specs.Offence.{unsized_offence}
 use Rattle.multi_layout.specs.kept.Adding.{character_of}
 use Rattle.multi_layout.specs.kept.Cursors.{meant}
 use Rattle.multi_layout.specs.kept.State.{IsStateOf}
-use Rattle.multi_layout.specs.Meaning.{Meaning, Shows}
-use Rattle.multi_layout.specs.Offence.{unsized_offence}
 use Rattle.multi_layout.proofs.JudgedLemmas.{state-limits}
 use Rattle.multi_layout.proofs.LimitLemmas.{behind_added}
 use Rattle.multi_layout.proofs.PlacingLemmas.{character-accepted, character-free}

@@ -1,11 +1,11 @@
 use Rattle.std.proofs.Common.{◌≡◌, ◌+◌, ◌*◌, [], ◌∷◌, ◌++◌, length, map, not, sym, ap, subst, ◌∙◌}
 use Rattle.std.proofs.lemmas.Bool.{not-false}
 use Rattle.multi_tag.specs.declared.tag.Tag.TheVariants.{NewLine}
+use Rattle.multi_meaning.specs.Meaning.{Does, Meaning, has_place}
+use Rattle.multi_meaning.specs.Offence.{unsized_offence}
 use Rattle.multi_layout.specs.kept.Cursors.{meant}
 use Rattle.multi_layout.specs.kept.KnownItem.{meant_by}
 use Rattle.multi_layout.specs.kept.State.{IsStateOf}
-use Rattle.multi_layout.specs.Meaning.{Does, Meaning, has_place}
-use Rattle.multi_layout.specs.Offence.{unsized_offence}
 use Rattle.multi_layout.proofs.JudgedLemmas.{state-limits}
 use Rattle.multi_layout.proofs.PlacingLemmas.{break-accepted, break-free}
 use Rattle.multi_layout.proofs.SkipLemmas.{tag_unplaced}

@@ -1,5 +1,5 @@
 use Rattle.std.proofs.Common.{map, refl, sym, ◌∙◌}
-use Rattle.multi_layout.specs.Meaning.{meaning}
+use Rattle.multi_meaning.specs.Meaning.{meaning}
 use Rattle.multi_layout.specs.kept.Passing.{unplaced}
 use Rattle.multi_layout.proofs.SkipLemmas.{fine_passing, passing_placed, passing_tag, ready_there}
 use Rattle.multi_layout.proofs.cursor.Cursor.skip.Goals as goal

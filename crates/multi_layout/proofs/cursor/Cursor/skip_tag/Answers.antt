@@ -1,10 +1,10 @@
 use Rattle.std.proofs.Common.{◌≡◌, Some, None, sym, ap, ◌∙◌}
 use Rattle.sign_font.specs.declared.parts.LineFill.TheVariants.{Off}
-use Rattle.multi_layout.specs.Codes.{code_of}
+use Rattle.multi_meaning.specs.Codes.{code_of}
+use Rattle.multi_meaning.specs.Meaning.{Does, has_place}
+use Rattle.multi_meaning.specs.Offence.{unsized_offence}
+use Rattle.multi_meaning.proofs.UnplacedLemmas.{sized}
 use Rattle.multi_layout.specs.kept.KnownItem.{meant_by}
-use Rattle.multi_layout.specs.Meaning.{Does, has_place}
-use Rattle.multi_layout.specs.Offence.{unsized_offence}
-use Rattle.multi_layout.proofs.SkipLemmas.{sized}
 use Rattle.multi_layout.proofs.cursor.Cursor.skip_tag.Goals as goal
 
 pub unreachable-requires-in-Err : goal.unreachable-requires-in-Err

@@ -1,6 +1,6 @@
 use Rattle.std.proofs.Common.{ap, sym, arith}
+use Rattle.multi_meaning.specs.Line.{width_of}
 use Rattle.multi_layout.specs.declared.line.Line.{Line}
-use Rattle.multi_layout.specs.Line.{width_of}
 use Rattle.multi_layout.proofs.LineSumLemmas.{none_of_later, width_other_of, width_present}
 use Rattle.multi_layout.proofs.line.Line.width.Goals as goal
 

@@ -1,8 +1,8 @@
 use Rattle.std.proofs.Common.{◌≡◌, Bool, true, false, ◌&&◌, [], refl, sym, ap}
 use Rattle.std.specs.Prelude.{nat_lt}
 use Rattle.std.specs.List.{list_any}
+use Rattle.multi_meaning.specs.Address.{Spot}
 use Rattle.multi_layout.specs.declared.pass.Order.{Order}
-use Rattle.multi_layout.specs.Address.{Spot}
 use Rattle.multi_layout.specs.kept.FillSums.{order_sum}
 use Rattle.multi_layout.proofs.FilledOrderLemmas.{order_more}
 use Rattle.multi_layout.proofs.pass.Order.with.Goals as goal

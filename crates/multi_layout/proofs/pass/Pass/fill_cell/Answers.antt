@@ -1,8 +1,8 @@
 use Rattle.std.proofs.Common.{None, ap, cond, sym, ◌∙◌, Option, ℕ, Some}
 use Rattle.sign_font.specs.declared.parts.LineFill.{LineFill}
 use Rattle.sign_font.specs.Sign.{cell_in}
-use Rattle.multi_layout.specs.Meaning.{Shows}
-use Rattle.multi_layout.specs.Offence.{offence}
+use Rattle.multi_meaning.specs.Meaning.{Shows}
+use Rattle.multi_meaning.specs.Offence.{offence}
 use Rattle.multi_layout.proofs.FilledJudgedLemmas.{filled_conflict, filled_free}
 use Rattle.multi_layout.proofs.RunReadLemmas.{cell_of_width}
 use Rattle.multi_layout.proofs.pass.Pass.fill_cell.Goals as goal

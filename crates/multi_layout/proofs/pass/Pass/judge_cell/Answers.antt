@@ -1,6 +1,6 @@
 use Rattle.std.proofs.Common.{subst, sym}
+use Rattle.multi_meaning.specs.Meaning.{Shows}
 use Rattle.multi_layout.specs.declared.pass.Pass.{Pass}
-use Rattle.multi_layout.specs.Meaning.{Shows}
 use Rattle.multi_layout.specs.kept.PassState.{JudgesCell}
 use Rattle.multi_layout.proofs.PassLemmas.{is_false, is_true, judged_unfilled}
 use Rattle.multi_layout.proofs.pass.Pass.judge_cell.Goals as goal

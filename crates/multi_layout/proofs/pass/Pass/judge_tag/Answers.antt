@@ -1,11 +1,11 @@
 use Rattle.std.proofs.Common.{[], None, ◌==◌, not, subst, sym, ◌∙◌}
 use Rattle.sign_font.specs.declared.parts.LineFill.TheVariants.{Words}
+use Rattle.multi_meaning.specs.LaidItems.{laid_items}
+use Rattle.multi_meaning.specs.Meaning.{Does}
 use Rattle.multi_layout.specs.declared.pass.Order.{Order}
 use Rattle.multi_layout.specs.declared.pass.Pass.{Pass}
 use Rattle.multi_layout.specs.kept.FillSums.{order_sum}
 use Rattle.multi_layout.specs.kept.PassState.{JudgesItem}
-use Rattle.multi_layout.specs.LaidItems.{laid_items}
-use Rattle.multi_layout.specs.Meaning.{Does}
 use Rattle.multi_layout.proofs.FilledBehindLemmas.{judged-begins, judged-stays}
 use Rattle.multi_layout.proofs.PassLemmas.{is_false, is_true, judged_unfilled}
 use Rattle.multi_layout.proofs.pass.Pass.judge_tag.Goals as goal

@@ -1,12 +1,12 @@
 use Rattle.std.proofs.Common.{◌≡◌, None, Some, Option, ℕ, Bool, cond, refl, true, false, subst, sym, ◌∙◌}
 use Rattle.sign_font.specs.declared.parts.LineFill.{LineFill}
+use Rattle.multi_meaning.specs.Meaning.{Shows}
+use Rattle.multi_meaning.specs.Offence.{offence}
+use Rattle.multi_meaning.proofs.OrderlyLemmas.{unsized_if}
 use Rattle.multi_layout.specs.declared.pass.Pass.{Pass}
 use Rattle.multi_layout.specs.kept.AreaReading.{PassesCharacter}
-use Rattle.multi_layout.specs.Meaning.{Shows}
 use Rattle.multi_layout.specs.kept.Run.{IsBehindCharacter}
-use Rattle.multi_layout.specs.Offence.{offence}
 use Rattle.multi_layout.proofs.AreaReadLemmas.{plain_passed}
-use Rattle.multi_layout.proofs.OrderlyLemmas.{unsized_if}
 use Rattle.multi_layout.proofs.PassLemmas.{is_false, is_true, known_judged, state_judged}
 use Rattle.multi_layout.proofs.pass.Pass.pass_cell.Goals as goal
 

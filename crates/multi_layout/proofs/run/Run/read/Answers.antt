@@ -6,7 +6,7 @@ use Rattle.sign_font.specs.Advance.{AreAdvances, ends_run}
 use Rattle.sign_font.specs.Sound.{IsWithin}
 use Rattle.sign_font.specs.Text.{width_in}
 use Rattle.sign_font.proofs.SoundLemmas.{width_sound}
-use Rattle.multi_layout.proofs.FrontLemmas.{front_width}
+use Rattle.multi_meaning.proofs.FrontLemmas.{front_width}
 use Rattle.multi_layout.proofs.run.Run.read.Goals as goal
 
 pub returns-clause-width : goal.returns-clause-width

@@ -1,10 +1,10 @@
 use Rattle.std.proofs.Common.{◌^◌, refl, sym, ap, ◌∙◌, arith}
 use Rattle.std.proofs.lemmas.Bool.{false≢true, le-ltb, leb-false, leb-true, lt-ltb}
+use Rattle.multi_meaning.specs.Address.{in_group}
+use Rattle.multi_meaning.proofs.GroupLemmas.{own_group, placing_group}
 use Rattle.multi_layout.specs.declared.area.Area.{Area}
-use Rattle.multi_layout.specs.Address.{in_group}
 use Rattle.multi_layout.specs.kept.Sums.{group_sum}
 use Rattle.multi_layout.proofs.AreaSumLemmas.{area_with, conflicts_break}
-use Rattle.multi_layout.proofs.GroupSumLemmas.{own_group, placing_group}
 use Rattle.multi_layout.proofs.state.State.put_break.Goals as goal
 
 pub returns-then-not-reach-clause-conflicts : goal.returns-then-not-reach-clause-conflicts

@@ -1,12 +1,13 @@
 use Rattle.std.proofs.Common.{◌^◌, ◌||◌, inl, inr, refl, sym, subst, ap, ◌∙◌, arith}
 use Rattle.std.specs.List.{after_last, list_any}
 use Rattle.std.proofs.lemmas.Bool.{cases_lt, false≢true, le-ltb, leb-false, leb-true, lt-ltb}
+use Rattle.multi_meaning.specs.Address.{area_of, in_group, is_break}
+use Rattle.multi_meaning.specs.Offence.{clashes}
+use Rattle.multi_meaning.proofs.GroupLemmas.{area_placing}
 use Rattle.multi_layout.specs.declared.area.Area.{Area}
-use Rattle.multi_layout.specs.Address.{area_of, in_group, is_break}
 use Rattle.multi_layout.specs.declared.line.Character.{Character}
-use Rattle.multi_layout.specs.Offence.{clashes}
 use Rattle.multi_layout.specs.kept.Adding.{PutsCharacter, character_of}
-use Rattle.multi_layout.proofs.AreaSumLemmas.{area_placing, area_with, conflicts_character}
+use Rattle.multi_layout.proofs.AreaSumLemmas.{area_with, conflicts_character}
 use Rattle.multi_layout.proofs.GroupSumLemmas.{group_character, present_glyphs}
 use Rattle.multi_layout.proofs.state.State.put_character.Goals as goal
 

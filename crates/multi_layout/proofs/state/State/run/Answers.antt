@@ -2,9 +2,9 @@ use Rattle.std.proofs.Common.{◌≡◌, ℕ, ◌+◌, ◌≤◌, sym, ap, ◌�
 use Rattle.std.specs.Prelude.{nat_le}
 use Rattle.std.specs.List.{after_last}
 use Rattle.std.proofs.lemmas.Bool.{leb-true}
-use Rattle.multi_layout.specs.Address.{in_group, is_break}
+use Rattle.multi_meaning.specs.Address.{in_group, is_break}
+use Rattle.multi_meaning.specs.kept.Present.{present_area}
 use Rattle.multi_layout.specs.kept.Run.{line_in_force, kept_fits, lengthened_line}
-use Rattle.multi_layout.specs.kept.State.{present_area}
 use Rattle.multi_layout.proofs.AreaSumLemmas.{own_line}
 use Rattle.multi_layout.proofs.BeforeLemmas.{fits_before}
 use Rattle.multi_layout.proofs.LimitLemmas.{segment_room_fits}

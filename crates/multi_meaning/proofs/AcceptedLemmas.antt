@@ -1,0 +1,56 @@
+-- What an accepted string is, by its one reading.
+use Rattle.std.proofs.Common.{◌≡◌, ℕ, ◌^◌, ◌<◌, List, [], ◌∷◌, ◌++◌, map, length, refl, sym, ap, ◌∙◌, append-nil}
+use Rattle.multi_token.specs.Reading.{reading}
+use Rattle.multi_token.specs.Spelling.{Item, spell}
+use Rattle.multi_token.proofs.SpellingLemmas.{one_reading}
+use Rattle.multi_token.proofs.ReadingLemmas.{each_string_has_a_reading}
+use Rattle.sign_font.specs.Sign.{SignData}
+use Rattle.multi_meaning.specs.LaidItems.{laid_out}
+use Rattle.multi_meaning.specs.Meaning.{meaning, meanings}
+use Rattle.multi_meaning.specs.Times.{cycle, page_times}
+use Rattle.multi_meaning.specs.Verdict.{Accepted, IsVerdict, IsCycle, broken, of_first, offences, pages_of, verdict_on}
+use Rattle.multi_meaning.specs.kept.Fine.{IsAccepted, IsOrderly}
+use Rattle.multi_meaning.proofs.OrderlyLemmas.{orderly_out}
+
+-- accepted means that there is no fault
+no_fault : (pages number : ℕ) (faults : List (ℕ × ℕ)) → Accepted pages ≡ of_first number faults → (pages ≡ number) × (faults ≡ [])
+no_fault pages number [] is = (cc, refl)
+no_fault pages number (fault ∷ faults) is = absurd cc
+
+both_nil : {X : Type 0} (xs ys : List X) → xs ++ ys ≡ [] → (xs ≡ []) × (ys ≡ [])
+both_nil [] ys is = (refl, is)
+both_nil (x ∷ xs) ys is = absurd cc
+
+not_broken : (items : List Item) (rest : List ℕ) → broken items rest ≡ [] → rest ≡ []
+not_broken items [] is = refl
+not_broken items (octet ∷ rest) is = absurd cc
+
+-- the items of an accepted string are those of its reading, and it has so many pages
+pub accepted_is : (sign : SignData) (octets : List ℕ) (pages : ℕ) → IsVerdict sign octets (Accepted pages) → length octets < 2 ^ 32
+    → IsAccepted sign octets (reading octets).items × (pages ≡ pages_of (meanings octets))
+unfolding verdict_on
+accepted_is sign octets pages (items, rest, read, is) short =
+    let all = each_string_has_a_reading octets in
+    let same = one_reading octets items (reading octets).items rest (reading octets).rest read all in
+    let none = no_fault pages (pages_of (map meaning items)) (offences sign items ++ broken items rest) is in
+    let parts = both_nil (offences sign items) (broken items rest) none.1 in
+    let whole : (reading octets).rest ≡ [] = sym same.1 ∙ not_broken items rest parts.1 in (
+      record {
+        each = all.each;
+        spelled = all.spelled ∙ ap (λ l. spell (reading octets).items ++ l) whole ∙ append-nil (spell (reading octets).items);
+        none = ap (offences sign) (sym same.0) ∙ parts.0;
+        short = short;
+      },
+      none.0 ∙ ap (λ l. pages_of (map meaning l)) same.0,
+    )
+
+-- the cycle of a string is that of its reading
+pub cycle_is : (sign : SignData) (octets : List ℕ) (tenths : ℕ) → IsCycle sign octets tenths
+    → tenths ≡ cycle (page_times sign (meanings octets))
+cycle_is sign octets tenths (items, rest, read, is) =
+    let same = one_reading octets items (reading octets).items rest (reading octets).rest read (each_string_has_a_reading octets) in
+    is ∙ ap (λ l. cycle (page_times sign (map meaning l))) same.0
+
+-- none of its items offends, as they are laid out
+pub accepted_orderly : (sign : SignData) (octets : List ℕ) → IsAccepted sign octets (reading octets).items → IsOrderly sign (laid_out sign (meanings octets))
+accepted_orderly sign octets a = orderly_out sign (reading octets).items a.none

@@ -1,0 +1,90 @@
+-- A tag offends behind some items, where lines are filled, just where it does behind the items as they are laid out.
+use Rattle.std.proofs.Common.{◌≡◌, ℕ, ◌+◌, true, false, cond, not, ◌||◌, nat_lt, List, [], ◌∷◌, ◌++◌, Option, Some, refl, sym, ap, subst, ◌∙◌, append-nil}
+use Rattle.std.specs.List.{All, count_by, list_any}
+use Rattle.std.proofs.lemmas.Bool.{eq-eqb}
+use Rattle.std.proofs.lemmas.List.Elements.{All-push, All-weaker}
+use Rattle.multi_tag.specs.declared.tag.Tag.{Tag}
+use Rattle.multi_tag.specs.declared.tag.Tag.TheVariants.{NewPage, NewLine, Font}
+use Rattle.sign_font.specs.declared.parts.LineFill.TheVariants.{Off, Words}
+use Rattle.sign_font.specs.Sign.{SignData}
+use Rattle.multi_meaning.specs.Address.{Break, Put, Spot, Standing, area_of, in_area, spots, standing}
+use Rattle.multi_meaning.specs.Fit as plain
+use Rattle.multi_meaning.specs.Laid.{fill_at, laid, too_big}
+use Rattle.multi_meaning.specs.LaidItems.{laid_items}
+use Rattle.multi_meaning.specs.Meaning.{Meaning, Does, is_new_page}
+use Rattle.multi_meaning.specs.Offence.{first_code, goes_back, offence, offence_by, placing_cases}
+use Rattle.multi_meaning.proofs.CheckLemmas.{group_goes_back}
+use Rattle.multi_meaning.proofs.FilledOnLemmas.{HasWidth, largest_laid, one_more}
+use Rattle.multi_meaning.proofs.GroupLaidLemmas.{in_areas}
+use Rattle.multi_meaning.proofs.LaidFitLemmas.{too_big_laid}
+use Rattle.multi_meaning.proofs.LaidItemLemmas.{are_laid}
+use Rattle.multi_meaning.proofs.LaidTagLemmas.{laid_tag}
+use Rattle.multi_meaning.proofs.RectangleLemmas.{same_rectangle}
+use Rattle.multi_meaning.proofs.SpotsLemmas.{spots_more}
+
+module _ (sign : SignData) (items : List Meaning) where
+  -- the items as they are laid out
+  abbrev pub laid_before : List Meaning
+  laid_before = laid_items Words sign items items
+
+  abbrev all : List Spot
+  all = spots sign items
+
+  here : (standing sign laid_before ≡ standing sign items) × (spots sign laid_before ≡ laid Words all all)
+  here = are_laid Words sign items items [] (sym (append-nil items))
+
+  -- the lines of the area in which the next item stands are filled to one width
+  pub same_width : (put : Put) → HasWidth Words (standing sign items).rectangle.width (standing sign items).area (all ++ record { at = standing sign items; put = put } ∷ [])
+  same_width put =
+      let here = standing sign items in
+      All-push (λ (x : Spot). x.at.area ≡ here.area → fill_at Words x.at ≡ Some here.rectangle.width) all (record { at = here; put = put })
+      (All-weaker (λ (x : Spot). x.at.area ≡ here.area → x.at.rectangle ≡ here.rectangle) (λ (x : Spot). x.at.area ≡ here.area → fill_at Words x.at ≡ Some here.rectangle.width)
+      (λ x h same. ap (λ r. Some r.width) (h same)) all (subst (λ l. All (λ (x : Spot). x.at.area ≡ here.area → x.at.rectangle ≡ here.rectangle) (spots sign l)) (append-nil items) (same_rectangle sign items [])))
+      (λ same. refl)
+
+  -- an `nl` behind them
+  module _ (gap : Option ℕ) where
+    abbrev nl : Spot
+    nl = record { at = standing sign items; put = Break gap }
+
+    placed : in_areas nl.at.area nl ≡ true
+    placed = eq-eqb nl.at.area nl.at.area refl
+
+    -- it goes back among the laid spots just where it does among these
+    goes_back_laid : list_any (goes_back nl) (area_of nl all) ≡ list_any (goes_back nl) (area_of nl (laid Words all all))
+    goes_back_laid =
+        group_goes_back nl (area_of nl all)
+        ∙ ap (λ n. nat_lt nl.at.page_just n) (sym (largest_laid Words nl.at.rectangle.width nl.at.area all all [] (sym (append-nil all))))
+        ∙ sym (group_goes_back nl (area_of nl (laid Words all all)))
+
+    -- the spots with it are laid as those before it, and it
+    laid_with : laid Words (all ++ nl ∷ []) (all ++ nl ∷ []) ≡ laid Words all all ++ nl ∷ []
+    laid_with =
+        let more = items ++ Does (NewLine gap) ∷ [] in
+        ap (λ l. laid Words l l) (sym (spots_more sign items (Does (NewLine gap)) (Break gap) refl))
+        ∙ sym (are_laid Words sign more more [] (sym (append-nil more))).1
+        ∙ ap (spots sign) (laid_tag Words sign items (NewLine gap))
+        ∙ spots_more sign laid_before (Does (NewLine gap)) (Break gap) refl
+        ∙ (λ i. here.1 i ++ record { at = here.0 i; put = Break gap } ∷ [])
+
+    too_big_laid_break : too_big Words all nl ≡ too_big Off (laid Words all all) nl
+    too_big_laid_break =
+        too_big_laid Words nl.at.rectangle.width all nl placed (same_width (Break gap))
+        ∙ ap (λ l. not (plain.area_fits nl.at.rectangle.height (in_area nl.at.area l))) laid_with
+        ∙ ap (λ l. not (plain.area_fits nl.at.rectangle.height l)) (one_more Words nl.at.rectangle.width nl.at.area (laid Words all all) nl ∙ ap (λ b. in_area nl.at.area (laid Words all all) ++ cond b (nl ∷ []) []) placed)
+
+  same_pages : count_by is_new_page items ≡ count_by is_new_page laid_before
+  unfolding standing
+  same_pages = sym (ap (λ (s : Standing). s.page) here.0)
+
+  abbrev OffendsAsLaid : Tag → Type 0
+  OffendsAsLaid tag = offence Words sign items (Does tag) ≡ offence Off sign laid_before (Does tag)
+
+  pub offends_as_laid : (tag : Tag) → OffendsAsLaid tag
+  unfolding offence_by
+  offends_as_laid (NewLine gap) =
+      (λ i. first_code ((goes_back_laid gap i || false, 11) ∷ (too_big_laid_break gap i, 5) ∷ []))
+      ∙ sym (λ i. first_code (placing_cases (too_big Off) (here.1 i) (record { at = here.0 i; put = Break gap })))
+  offends_as_laid NewPage = ap (λ n. first_code ((nat_lt sign.max_pages (n + 2), 12) ∷ [])) same_pages
+  offends_as_laid (Font (Some pick)) = refl
+  offends_as_laid tag = refl

@@ -1,0 +1,106 @@
+-- Worked examples of widths, heights and what fits, computed.
+use Rattle.std.proofs.Common.{◌≡◌, ℕ, Bool, true, false, List, [], ◌∷◌, map, None, refl}
+use Rattle.sign_font.specs.Sample.{sample, small_font}
+use Rattle.multi_meaning.specs.Attributes.{whole_sign}
+use Rattle.multi_meaning.specs.Address.{Standing, Put, Glyph, Break, Cover, Spot}
+use Rattle.multi_meaning.specs.Words.{largest}
+use Rattle.multi_meaning.specs.Line.{glyph_width}
+use Rattle.multi_meaning.specs.Fit.{fit, line_fits, area_fits}
+use Rattle.multi_meaning.specs.Filling.{is_space}
+use Rattle.multi_meaning.specs.Laid.{laid_fits}
+
+-- SPOTS
+
+-- where the first item of the sample sign stands
+abbrev first : Standing
+first = record {
+  page = 0;
+  area = 0;
+  font = small_font;
+  line_just = 3;
+  page_just = 3;
+  spacing = None;
+  fore = 1;
+  back = 0;
+  on = 30;
+  off = 0;
+  flash = None;
+  rectangle = whole_sign sample;
+}
+
+-- a character of a number and a width
+abbrev character : ℕ → ℕ → Put
+character number width = Glyph (record { number = number; width = width; bits = [] })
+
+abbrev standing_first : Put → Spot
+standing_first put = record { at = first; put = put }
+
+only_a_character_has_columns : map (λ put. glyph_width (standing_first put)) (character 65 3 ∷ Break None ∷ Cover 0 1 ∷ []) ≡ 3 ∷ 0 ∷ 0 ∷ []
+only_a_character_has_columns = refl
+
+only_character_32_is_a_space : map (λ put. is_space (standing_first put)) (character 31 2 ∷ character 32 2 ∷ character 33 2 ∷ Break None ∷ Cover 0 1 ∷ [])
+    ≡ false ∷ true ∷ false ∷ false ∷ false ∷ []
+only_character_32_is_a_space = refl
+
+abbrev largest_number : List ℕ → ℕ
+largest_number numbers = largest (λ n. n) numbers
+
+the_largest_number : map largest_number ([] ∷ (2 ∷ 5 ∷ 3 ∷ []) ∷ []) ≡ 0 ∷ 5 ∷ []
+the_largest_number = refl
+
+-- THREE PARTS
+
+parts_with_room_between_them : fit 2 4 2 10 ≡ true
+parts_with_room_between_them = refl
+
+parts_without_room_between_them : fit 3 4 3 10 ≡ true
+parts_without_room_between_them = refl
+
+a_start_reaches_into_the_middle : fit 4 4 0 10 ≡ false
+a_start_reaches_into_the_middle = refl
+
+a_middle_reaches_into_the_end : fit 0 4 4 10 ≡ false
+a_middle_reaches_into_the_end = refl
+
+a_middle_of_1_is_in_the_way : fit 3 1 0 6 ≡ false
+a_middle_of_1_is_in_the_way = refl
+
+a_middle_of_none_is_in_nobodys_way : fit 5 0 2 7 ≡ true
+a_middle_of_none_is_in_nobodys_way = refl
+
+a_start_and_an_end_are_too_long : fit 5 0 3 7 ≡ false
+a_start_and_an_end_are_too_long = refl
+
+a_middle_stands_nearer_to_the_start : fit 3 4 4 11 ∷ fit 4 4 3 11 ∷ [] ≡ true ∷ false ∷ []
+a_middle_stands_nearer_to_the_start = refl
+
+-- LINES AND AREAS
+
+-- whether a character of a width fits 12 columns, with a line justification
+abbrev has_columns_for : ℕ → ℕ → Bool
+has_columns_for width just = line_fits 12 (record { at = record first { line_just = just }; put = character 65 width } ∷ [])
+
+less_than_12_columns_fit : map (has_columns_for 3) (2 ∷ 3 ∷ 4 ∷ 5 ∷ []) ≡ true ∷ true ∷ true ∷ true ∷ []
+less_than_12_columns_fit = refl
+
+all_12_columns_fit : map (has_columns_for 12) (2 ∷ 3 ∷ 4 ∷ 5 ∷ []) ≡ true ∷ true ∷ true ∷ true ∷ []
+all_12_columns_fit = refl
+
+a_13th_column_is_too_many : map (has_columns_for 13) (2 ∷ 3 ∷ 4 ∷ 5 ∷ []) ≡ false ∷ false ∷ false ∷ false ∷ []
+a_13th_column_is_too_many = refl
+
+-- an area of one character, whose font has this many rows, with a page justification
+abbrev area : ℕ → ℕ → List Spot
+area rows just = record { at = record first { page_just = just; font = record small_font { height = rows } }; put = character 65 3 } ∷ []
+
+all_7_rows_fit : map (λ just. area_fits 7 (area 7 just)) (2 ∷ 3 ∷ 4 ∷ []) ≡ true ∷ true ∷ true ∷ []
+all_7_rows_fit = refl
+
+an_8th_row_is_too_many : map (λ just. area_fits 7 (area 8 just)) (2 ∷ 3 ∷ 4 ∷ []) ≡ false ∷ false ∷ false ∷ []
+an_8th_row_is_too_many = refl
+
+all_7_rows_fit_as_laid_out : map (λ just. laid_fits None 7 (area 7 just)) (2 ∷ 3 ∷ 4 ∷ []) ≡ true ∷ true ∷ true ∷ []
+all_7_rows_fit_as_laid_out = refl
+
+an_8th_row_is_too_many_as_laid_out : map (λ just. laid_fits None 7 (area 8 just)) (2 ∷ 3 ∷ 4 ∷ []) ≡ false ∷ false ∷ false ∷ []
+an_8th_row_is_too_many_as_laid_out = refl

@@ -1,0 +1,24 @@
+-- The cell that is found by a number, and whether it is a space.
+use Rattle.std.proofs.Common.{◌≡◌, ℕ, cond, ◌==◌, inl, inr, List, [], ◌∷◌, Some, sym, ap, ◌∙◌}
+use Rattle.std.proofs.lemmas.Bool.{cases_Bool, eqb-true}
+use Rattle.std.proofs.lemmas.Option.{same_Some}
+use Rattle.std.specs.List.{find}
+use Rattle.sign_font.specs.Sign.{SignData, CellData, cell_numbered}
+use Rattle.multi_meaning.specs.Address.{Glyph, standing}
+use Rattle.multi_meaning.specs.Filling.{is_space}
+use Rattle.multi_meaning.specs.Meaning.{Meaning}
+
+-- the cell that was found has the number that was asked for
+pub found_cell : (cells : List CellData) (n : ℕ) (cell : CellData) → find (λ c. c.number == n) cells ≡ Some cell → cell.number ≡ n
+found_cell [] n cell e = cc
+found_cell (c ∷ cells) n cell e = elim (cases_Bool (c.number == n)) [
+  | inl here ↦
+      let is : Some c ≡ Some cell = sym (ap (λ b. cond b (Some c) (find (λ d. d.number == n) cells)) here) ∙ e in
+      ap (λ (d : CellData). d.number) (sym (same_Some c cell is)) ∙ eqb-true c.number n here
+  | inr there ↦ found_cell cells n cell (sym (ap (λ b. cond b (Some c) (find (λ d. d.number == n) cells)) there) ∙ e)
+]
+
+-- it is a space by its number
+pub spaces_is : (sign : SignData) (items : List Meaning) (number : ℕ) (cell : CellData) → cell_numbered (standing sign items).font number ≡ Some cell
+    → is_space (record { at = standing sign items; put = Glyph cell }) ≡ (number == 32)
+spaces_is sign items number cell found = ap (λ n. n == 32) (found_cell (standing sign items).font.cells number cell found)

@@ -1,0 +1,209 @@
+-- What is in force behind the items of an accepted string: the rectangle is inside the sign, and every font is at least one
+-- pixel high, with characters at least one column wide.
+use Rattle.std.proofs.Common.{◌≡◌, ℕ, ◌+◌, ◌-◌, ◌≤◌, Bool, true, false, cond, ◌&&◌, ◌||◌, ◌==◌, List, [], ◌∷◌, ◌++◌, Option, Some, None, refl, sym, subst, ◌∙◌, arith, inl, inr}
+use Rattle.std.specs.Prelude.{IsSome}
+use Rattle.std.specs.List.{All, cons_option, find}
+use Rattle.std.specs.Option.{IfSome, option_map, unwrap_or}
+use Rattle.std.proofs.lemmas.Bool.{cases_Bool, false≢true}
+use Rattle.std.proofs.lemmas.Bool.Decides.{nat_tests}
+use Rattle.std.proofs.lemmas.List.Elements.{All-nil, All-cons, All-head, All-tail, All-append, All-filter, All-weaker}
+use Rattle.multi_tag.specs.declared.tag.Tag.TheVariants.{NewPage, NewLine, Font, Back, Rect}
+use Rattle.sign_font.specs.declared.parts.Defaults.{Defaults}
+use Rattle.sign_font.specs.Sign.{SignData, CellData, FontData, font_numbered, cell_numbered}
+use Rattle.sign_font.specs.Sound.{IsSound, IsSoundCell, IsSoundFont}
+use Rattle.multi_meaning.specs.declared.attributes.Rectangle.{Rectangle}
+use Rattle.multi_meaning.specs.Meaning.{Meaning, Shows, Does}
+use Rattle.multi_meaning.specs.Attributes.{default_font, given_font, given_rectangle, is_inside, rectangle, whole_sign}
+use Rattle.multi_meaning.specs.Address.{Standing, standing, Put, Glyph, Spot, put_at, spot_at, spots, is_glyph, is_break}
+use Rattle.multi_meaning.specs.Line.{glyph_width}
+use Rattle.multi_meaning.specs.Offence.{offence_by}
+use Rattle.multi_meaning.specs.kept.Present.{present_area}
+use Rattle.multi_meaning.specs.Words.{some_after}
+use Rattle.multi_meaning.proofs.LayoutLemmas.{spots_push}
+use Rattle.multi_meaning.proofs.OffenceLemmas.{offence-rectangle}
+use Rattle.multi_meaning.proofs.StandingLemmas.{standing_push}
+use Rattle.multi_meaning.proofs.WordLemmas.{left_nil, none_of, push_ind, right_nil, some_after_push, some_after-append}
+
+-- ---- the items of an accepted string, from the end
+
+module _ (sign : SignData) where
+  -- where no item offends by these errors, none of a front of them does
+  pub none_front : (f : List Meaning → Meaning → Option ℕ) (items behind : List Meaning) → some_after f (items ++ behind) ≡ [] → some_after f items ≡ []
+  none_front f items behind none = left_nil (some_after f items) (some_after (λ more. f (items ++ more)) behind) (sym (some_after-append f items behind) ∙ none)
+
+  -- where no item offends by them, the last one doesn't after those before it
+  pub none_last : (f : List Meaning → Meaning → Option ℕ) (items : List Meaning) (item : Meaning) → some_after f (items ++ item ∷ []) ≡ [] → f items item ≡ None
+  none_last f items item none = none_of (f items item) [] (right_nil (some_after f items) (cons_option (f items item) []) (sym (some_after_push f items item) ∙ none))
+
+  -- what holds before the first item, and behind each that doesn't offend if it holds before it, holds behind them all
+  pub each_ind : (f : List Meaning → Meaning → Option ℕ) (P : List Meaning → Type 0) → P [] → ((before : List Meaning) (x : Meaning) → f before x ≡ None → P before → P (before ++ x ∷ []))
+      → (items : List Meaning) → some_after f items ≡ [] → P items
+  each_ind f P first step = push_ind (λ items. some_after f items ≡ [] → P items) (λ none. first) more
+    where
+      more : (items : List Meaning) (item : Meaning) → (some_after f items ≡ [] → P items) → some_after f (items ++ item ∷ []) ≡ [] → P (items ++ item ∷ [])
+      more items item holds none = step items item (none_last f items item none) (holds (none_front f items (item ∷ []) none))
+
+-- what holds of each value that is given and of the one before holds of the one in force
+in_force_by : {A : Type 0} (P : A → Type 0) (o : Option A) (a : A) → IfSome o P → P a → P (unwrap_or o a)
+in_force_by P None a given old = old
+in_force_by P (Some b) a given old = given
+
+-- ---- the rectangle in force
+
+-- a rectangle is inside the sign
+pub record IsInSign (sign : SignData) (r : Rectangle) : Type 0 where
+  pub across : r.left + r.width ≤ sign.width
+  pub down : r.top + r.height ≤ sign.height
+
+-- one side of a rectangle, whose size of 0 is all that remains
+inside_side : (x w size : ℕ) → 1 ≤ x → x ≤ size → x - 1 + w ≤ size → x - 1 + cond (w == 0) (size - (x - 1)) w ≤ size
+inside_side x w size some at room = elim (cases_Bool (w == 0)) [ inl rest ↦ rw rest (omega arith) | inr given ↦ rw given room ]
+
+-- the four sides of a rectangle that passes
+record Sides (sign : SignData) (x y w h : ℕ) : Type 0 where
+  left : 1 ≤ x
+  top : 1 ≤ y
+  from : x ≤ sign.width
+  from_row : y ≤ sign.height
+  right : x - 1 + w ≤ sign.width
+  bottom : y - 1 + h ≤ sign.height
+
+sides : (sign : SignData) (x y w h : ℕ) → is_inside sign x y w h ≡ true → Sides sign x y w h
+sides sign x y w h passes = record {
+  left = grind (arith, nat_tests);
+  top = grind (arith, nat_tests);
+  from = grind (arith, nat_tests);
+  from_row = grind (arith, nat_tests);
+  right = grind (arith, nat_tests);
+  bottom = grind (arith, nat_tests);
+}
+
+rectangle_in_sign : (sign : SignData) (x y w h : ℕ) → is_inside sign x y w h ≡ true → IsInSign sign (rectangle sign x y w h)
+rectangle_in_sign sign x y w h passes =
+    let s = sides sign x y w h passes in
+    record { across = inside_side x w sign.width s.left s.from s.right; down = inside_side y h sign.height s.top s.from_row s.bottom }
+
+whole_in_sign : (sign : SignData) → IsInSign sign (whole_sign sign)
+whole_in_sign sign = record { across = omega arith; down = omega arith }
+
+-- a test that refuses with an error where it fails
+passed : (b : Bool) (n : ℕ) → cond {A = Option ℕ} b None (Some n) ≡ None → b ≡ true
+passed true n e = refl
+passed false n e = cc
+
+module _ (sign : SignData) (big : List Spot → Spot → Bool) where
+  -- a rectangle that an item gives is inside the sign
+  given_in_sign : (before : List Meaning) (x : Meaning) → offence_by big sign before x ≡ None → IfSome (given_rectangle sign x) (IsInSign sign)
+  given_in_sign before (Does NewPage) none = whole_in_sign sign
+  given_in_sign before (Does (Rect x y w h)) none = rectangle_in_sign sign x y w h (passed (is_inside sign x y w h) 4 (sym (offence-rectangle big sign before x y w h) ∙ none))
+  given_in_sign before x none = tt
+
+  first_in_sign : IsInSign sign (standing sign []).rectangle
+  unfolding standing
+  first_in_sign = whole_in_sign sign
+
+  next_in_sign : (before : List Meaning) (x : Meaning) → offence_by big sign before x ≡ None → IsInSign sign (standing sign before).rectangle → IsInSign sign (standing sign (before ++ x ∷ [])).rectangle
+  next_in_sign before x none old =
+      subst (λ (s : Standing). IsInSign sign s.rectangle) (sym (standing_push sign before x))
+      (in_force_by (IsInSign sign) (given_rectangle sign x) (standing sign before).rectangle (given_in_sign before x none) old)
+
+  -- behind the items of an accepted string the rectangle in force is inside the sign
+  pub rectangle_inside : (items : List Meaning) → some_after (offence_by big sign) items ≡ [] → IsInSign sign (standing sign items).rectangle
+  rectangle_inside = each_ind sign (offence_by big sign) (λ before. IsInSign sign (standing sign before).rectangle) first_in_sign next_in_sign
+
+  -- and so the rectangle in force is no higher than the sign
+  pub rectangle_within : (items : List Meaning) → some_after (offence_by big sign) items ≡ [] → (standing sign items).rectangle.height ≤ sign.height
+  rectangle_within items none = omega (arith, (rectangle_inside items none).down)
+
+  -- and no wider
+  pub rectangle_width_within : (items : List Meaning) → some_after (offence_by big sign) items ≡ [] → (standing sign items).rectangle.width ≤ sign.width
+  rectangle_width_within items none = omega (arith, (rectangle_inside items none).across)
+
+-- ---- the font in force
+
+-- what holds of each holds of the one that is found
+found_each : {X : Type 0} (P : X → Type 0) (p : X → Bool) (xs : List X) → All P xs → IfSome (find p xs) P
+found_each P p [] all = tt
+found_each P p (x ∷ xs) all = elim (cases_Bool (p x)) [
+  | inl here ↦ rw here (All-head P x xs all)
+  | inr there ↦ rw there (found_each P p xs (All-tail P x xs all))
+]
+
+-- a cell of at least one column
+abbrev IsWideCell : CellData → Type 0
+IsWideCell cell = 1 ≤ cell.width
+
+-- a font of at least one row, whose cells have at least one column
+abbrev HighFont : FontData → Type 0
+HighFont font = (1 ≤ font.height) × All IsWideCell font.cells
+
+-- what is put in a font of at least one row is, if it is a character, at least one column wide
+abbrev High : Spot → Type 0
+High s = (1 ≤ s.at.font.height) × (is_glyph s ≡ true → 1 ≤ glyph_width s)
+
+high_numbered : (sign : SignData) (number : ℕ) → IsSound sign → IfSome (font_numbered sign number) HighFont
+high_numbered sign number sound =
+    found_each HighFont (λ font. font.number == number) sign.fonts (All-weaker IsSoundFont HighFont (λ font s. (s.height.0, All-weaker (IsSoundCell font.height) IsWideCell (λ cell k. k.width.0) font.cells s.each)) sign.fonts sound.each)
+
+high_default : (o : Option FontData) (font : FontData) → IsSome o → IfSome o HighFont → HighFont (unwrap_or o font)
+high_default None font some high = absurd (false≢true some)
+high_default (Some found) font some high = high
+
+-- what an item puts where the font in force is high
+high_put : (defaults : Defaults) (here : Standing) (x : Meaning) → HighFont here.font → IfSome (put_at defaults here x) (λ put. let spot : Spot = record { at = here; put = put } in High spot)
+high_put defaults here (Shows number) high = mapped (cell_numbered here.font number) (found_each IsWideCell (λ cell. cell.number == number) here.font.cells high.1)
+  where
+    mapped : (o : Option CellData) → IfSome o IsWideCell → IfSome (option_map Glyph o) (λ put. let spot : Spot = record { at = here; put = put } in High spot)
+    mapped None wide = tt
+    mapped (Some cell) wide = (high.0, λ glyph. wide)
+high_put defaults here (Does NewPage) high = (high.0, λ glyph. absurd (false≢true glyph))
+high_put defaults here (Does (NewLine gap)) high = (high.0, λ glyph. absurd (false≢true glyph))
+high_put defaults here (Does (Back colour)) high = (high.0, λ glyph. absurd (false≢true glyph))
+high_put defaults here x high = tt
+
+high_spot : (here : Standing) (o : Option Put) → IfSome o (λ put. let spot : Spot = record { at = here; put = put } in High spot)
+    → All High (cons_option (option_map (λ p. let s : Spot = record { at = here; put = p } in s) o) [])
+high_spot here None high = All-nil High
+high_spot here (Some put) high = All-cons High (record { at = here; put = put }) [] high (All-nil High)
+
+-- the font in force and all that is put are high
+record IsHigh (sign : SignData) (items : List Meaning) : Type 0 where
+  font : HighFont (standing sign items).font
+  each : All High (spots sign items)
+
+module _ (sign : SignData) (sound : IsSound sign) (some : IsSome (font_numbered sign sign.defaults.font)) where
+  default_high : HighFont (default_font sign)
+  default_high = high_default (font_numbered sign sign.defaults.font) (record { number = 0; version = 0; height = 0; char_spacing = 0; line_spacing = 0; cells = [] }) some (high_numbered sign sign.defaults.font sound)
+
+  -- a font that an item gives is high
+  given_high : (x : Meaning) → IfSome (given_font sign x) HighFont
+  given_high (Does (Font None)) = default_high
+  given_high (Does (Font (Some pick))) = high_numbered sign pick.number sound
+  given_high x = tt
+
+  first_high : IsHigh sign []
+  unfolding standing spots
+  first_high = record { font = default_high; each = All-nil High }
+
+  next_high : (before : List Meaning) (x : Meaning) → IsHigh sign before → IsHigh sign (before ++ x ∷ [])
+  next_high before x old =
+      let here = standing sign before in
+      record {
+        font = subst (λ (s : Standing). HighFont s.font) (sym (standing_push sign before x)) (in_force_by HighFont (given_font sign x) here.font (given_high x) old.font);
+        each = subst (All High) (sym (spots_push sign before x))
+            (All-append High (spots sign before) (cons_option (spot_at sign.defaults here x) []) old.each (high_spot here (put_at sign.defaults here x) (high_put sign.defaults here x old.font)));
+      }
+
+  -- whatever the items are, all that they put is high
+  area_high_all : (items : List Meaning) → All High (present_area sign items)
+  area_high_all items =
+      let area = (standing sign items).area in
+      All-filter (λ t. (is_glyph t || is_break t) && (t.at.area == area)) High (spots sign items) (push_ind (IsHigh sign) first_high next_high items).each
+
+  -- the placing items of the present area are put in fonts of at least one row
+  pub area_high : (items : List Meaning) → All (λ (s : Spot). 1 ≤ s.at.font.height) (present_area sign items)
+  area_high items = All-weaker High (λ (s : Spot). 1 ≤ s.at.font.height) (λ s h. h.0) (present_area sign items) (area_high_all items)
+
+  -- and its characters are at least one column wide
+  pub area_wide : (items : List Meaning) → All (λ (s : Spot). is_glyph s ≡ true → 1 ≤ glyph_width s) (present_area sign items)
+  area_wide items = All-weaker High (λ (s : Spot). is_glyph s ≡ true → 1 ≤ glyph_width s) (λ s h. h.1) (present_area sign items) (area_high_all items)

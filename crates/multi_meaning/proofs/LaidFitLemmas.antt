@@ -1,0 +1,38 @@
+-- Whether a placing item is too big, by the laid items of its area.
+use Rattle.std.proofs.Common.{◌≡◌, ℕ, Bool, true, not, cond, ◌&&◌, ◌||◌, List, [], ◌∷◌, ◌++◌, Some, refl, sym, ap, ◌∙◌}
+use Rattle.std.specs.List.{after_last}
+use Rattle.sign_font.specs.declared.parts.LineFill.{LineFill}
+use Rattle.multi_meaning.specs.Address.{Spot, area_of, in_area, in_group, is_break, is_glyph, lines_of}
+use Rattle.multi_meaning.specs.Filling.{filled}
+use Rattle.multi_meaning.specs.Fit as plain
+use Rattle.multi_meaning.specs.Fit.{fit, line_fits}
+use Rattle.multi_meaning.specs.Laid.{fill_at, laid, laid_group, too_big}
+use Rattle.multi_meaning.specs.Line.{height_of}
+use Rattle.multi_meaning.proofs.FilledOnLemmas.{HasWidth, groups_laid, one_more}
+use Rattle.multi_meaning.proofs.GroupLaidLemmas.{in_areas}
+use Rattle.multi_meaning.proofs.WordLemmas.{All-split}
+
+module _ (setting : LineFill) (width : ℕ) (all : List Spot) (s : Spot) (placed : in_areas s.at.area s ≡ true) (same : HasWidth setting width s.at.area (all ++ s ∷ [])) where
+  -- the laid items of its area
+  abbrev pub laid_with : List Spot
+  laid_with = in_area s.at.area (laid setting (all ++ s ∷ []) (all ++ s ∷ []))
+
+  fill : fill_at setting s.at ≡ Some width
+  fill = (All-split (λ (x : Spot). x.at.area ≡ s.at.area → fill_at setting x.at ≡ Some width) all s same).1 refl
+
+  area_is : area_of s all ++ s ∷ [] ≡ in_area s.at.area (all ++ s ∷ [])
+  area_is = sym (one_more setting width s.at.area all s ∙ ap (λ b. area_of s all ++ cond b (s ∷ []) []) placed)
+
+  -- whether it is too big, by the groups of its area
+  abbrev by_groups : (ℕ → List Spot) → Bool
+  by_groups group =
+      (is_glyph s && not (line_fits s.at.rectangle.width (after_last is_break (group s.at.page_just))))
+      || not (fit (height_of (lines_of (group 2))) (height_of (lines_of (group 3))) (height_of (lines_of (group 4))) s.at.rectangle.height)
+
+  -- it is too big just where, as laid out, its line doesn't fit, or its area
+  pub too_big_laid : too_big setting all s ≡ ((is_glyph s && not (line_fits s.at.rectangle.width (after_last is_break (in_group s.at.page_just laid_with)))) || not (plain.area_fits s.at.rectangle.height laid_with))
+  too_big_laid =
+      let groups : (j : ℕ) → filled (Some width) (in_group j (in_area s.at.area (all ++ s ∷ []))) ≡ in_group j laid_with = λ j. sym (groups_laid setting width s.at.area (all ++ s ∷ []) s refl same j) in
+      ap (λ o. by_groups (λ j. laid_group o j (area_of s all ++ s ∷ []))) fill
+      ∙ ap (λ l. by_groups (λ j. laid_group (Some width) j l)) area_is
+      ∙ (λ i. by_groups (λ j. groups j i))

@@ -1,0 +1,123 @@
+-- The lines of an accepted string are no wider than the sign, and its groups no higher.
+use Rattle.std.proofs.Common.{◌≡◌, ℕ, ◌+◌, ◌≤◌, Bool, true, false, cond, not, ◌&&◌, ◌||◌, ◌==◌, length, List, [], ◌∷◌, ◌++◌, refl, sym, ap, subst, ◌∙◌, arith, inl, inr, append_assoc, append-nil, length-append}
+use Rattle.std.specs.Prelude.{nat_le}
+use Rattle.std.specs.List.{All, after_last, sum_by}
+use Rattle.std.proofs.lemmas.Bool.{and_parts, cases_Bool, cases_eq, false≢true, ne_eqb}
+use Rattle.std.proofs.lemmas.Bool.Decides.{nat_tests}
+use Rattle.std.proofs.lemmas.List.Elements.{All-cons, All-drop, All-filter, All-head, All-nil, All-tail, filter-append}
+use Rattle.sign_font.specs.Sign.{SignData}
+use Rattle.sign_font.specs.Sound.{IsSound}
+use Rattle.sign_font.specs.declared.parts.LineFill.TheVariants.{Off}
+use Rattle.multi_meaning.specs.Laid.{too_big}
+use Rattle.multi_meaning.specs.Address.{Spot, in_group, is_break, is_glyph, lines_of, segment, spots, standing}
+use Rattle.multi_meaning.specs.Fit.{area_fits, fit, line_fits}
+use Rattle.multi_meaning.specs.Line.{glyph_width, height_of, width_of}
+use Rattle.multi_meaning.specs.Meaning.{Meaning}
+use Rattle.multi_meaning.specs.kept.Present.{present_area, IsNarrow, IsNarrowArea}
+use Rattle.multi_meaning.specs.kept.Fine.{IsFine}
+use Rattle.multi_meaning.proofs.BehindLemmas.{after_last_push}
+use Rattle.multi_meaning.proofs.FillLemmas.{nothing_fits, segment_grows}
+use Rattle.multi_meaning.proofs.WordLemmas.{push_ind}
+use Rattle.multi_meaning.proofs.GroupLemmas.{own_group}
+use Rattle.multi_meaning.proofs.InForceLemmas.{area_wide, rectangle_width_within, rectangle_within}
+use Rattle.multi_meaning.proofs.LinesFitLemmas.{each_just, fit_each, part_most, sum_least}
+use Rattle.multi_meaning.proofs.RoomLemmas.{area_fits_always, holds_always}
+
+-- the present line of each group fits a width
+abbrev pub LinesFit : ℕ → List Spot → Type 0
+LinesFit width area = (just : ℕ) → line_fits width (after_last is_break (in_group just area)) ≡ true
+
+-- a character whose line doesn't fit is too big
+pub line_where : (a b : Bool) → (not a || b) ≡ false → a ≡ true
+line_where true b e = refl
+line_where false b e = absurd (false≢true (sym e))
+
+-- the present line of the group that a placing item joins
+joined : (before : List Spot) (area : List Spot) (s : Spot) (big : Bool) (glyph : Bool) → is_glyph s ≡ glyph → (is_glyph s || is_break s) ≡ true
+    → ((glyph && not (line_fits s.at.rectangle.width (after_last is_break (in_group s.at.page_just (area ++ s ∷ []))))) || big) ≡ false
+    → line_fits s.at.rectangle.width (after_last is_break (in_group s.at.page_just (area ++ s ∷ []))) ≡ true
+joined before area s big true g placing small = line_where (line_fits s.at.rectangle.width (after_last is_break (in_group s.at.page_just (area ++ s ∷ [])))) big small
+joined before area s big false g placing small =
+    let broken : is_break s ≡ true = sym (ap (λ b. b || is_break s) g) ∙ placing in
+    let whole : after_last is_break (in_group s.at.page_just (area ++ s ∷ [])) ≡ [] =
+    ap (after_last is_break) (own_group s.at.page_just area s refl) ∙ after_last_push is_break (in_group s.at.page_just area) s ∙ ap (λ b. cond b [] (after_last is_break (in_group s.at.page_just area) ++ s ∷ [])) broken in
+    ap (line_fits s.at.rectangle.width) whole ∙ nothing_fits s.at.rectangle.width
+
+-- behind the items of an accepted string the present line of each group fits the rectangle in force
+pub lines_fit_always : (sign : SignData) (items : List Meaning) → IsFine sign items → LinesFit (standing sign items).rectangle.width (present_area sign items)
+lines_fit_always sign =
+    holds_always sign (λ r area. LinesFit r.width area) (λ r just. nothing_fits r.width)
+    (λ before put placing small old just.
+    let s : Spot = record { at = standing sign before; put = put } in
+    let area = present_area sign before in
+    elim (cases_eq s.at.page_just just) [
+      | inl own ↦ subst (λ n. line_fits s.at.rectangle.width (after_last is_break (in_group n (area ++ s ∷ []))) ≡ true) own (joined (spots sign before) area s _ (is_glyph s) refl placing small)
+      | inr other ↦
+          ap (λ l. line_fits s.at.rectangle.width (after_last is_break l))
+          (filter-append (λ t. t.at.page_just == just) area (s ∷ []) ∙ ap (λ b. in_group just area ++ cond b (s ∷ []) []) (ne_eqb s.at.page_just just other) ∙ append-nil (in_group just area))
+          ∙ old just
+    ])
+
+-- a line that fits a width has no wider segment
+line_each : (a b c d width : ℕ) → (fit a b c width && nat_le d width) ≡ true → (a + b + c ≤ width) × (d ≤ width)
+line_each a b c d width h = (grind (arith, nat_tests), grind (arith, nat_tests))
+
+-- the characters of a segment are at least one column wide
+wide_segment : (just : ℕ) (line : List Spot) → All (λ (s : Spot). is_glyph s ≡ true → 1 ≤ glyph_width s) line → All (λ (s : Spot). 1 ≤ glyph_width s) (segment just line)
+wide_segment just [] all = All-nil (λ (s : Spot). 1 ≤ glyph_width s)
+wide_segment just (s ∷ line) all =
+    let rest = wide_segment just line (All-tail (λ (s : Spot). is_glyph s ≡ true → 1 ≤ glyph_width s) s line all) in
+    elim (cases_Bool (is_glyph s && (s.at.line_just == just))) [
+      | inl own ↦ rw own (All-cons (λ (s : Spot). 1 ≤ glyph_width s) s (segment just line) (All-head (λ (s : Spot). is_glyph s ≡ true → 1 ≤ glyph_width s) s line all (and_parts (is_glyph s) _ own).0) rest)
+      | inr other ↦ rw other rest
+    ]
+
+module _ (sign : SignData) (sound : IsSound sign) (items : List Meaning) (fits : LinesFit (standing sign items).rectangle.width (present_area sign items))
+    (high : area_fits (standing sign items).rectangle.height (present_area sign items) ≡ true) (across : (standing sign items).rectangle.width ≤ sign.width) (down : (standing sign items).rectangle.height ≤ sign.height) where
+  -- the present line of each group is narrow
+  narrow : (just : ℕ) → IsNarrow (after_last is_break (in_group just (present_area sign items)))
+  narrow just =
+      let spots = present_area sign items in
+      let line = after_last is_break (in_group just spots) in
+      let width = (standing sign items).rectangle.width in
+      let within = across in
+      let parts = line_each (width_of (segment 2 line)) (width_of (segment 3 line)) (width_of (segment 4 line)) (width_of (segment 5 line)) width (fits just) in
+      let widest = sound.width.1 in
+      let wide : All (λ (s : Spot). is_glyph s ≡ true → 1 ≤ glyph_width s) line =
+      All-drop (λ (s : Spot). is_glyph s ≡ true → 1 ≤ glyph_width s) _ (in_group just spots)
+      (All-filter (λ t. t.at.page_just == just) (λ (s : Spot). is_glyph s ≡ true → 1 ≤ glyph_width s) spots (area_wide sign sound sound.font items)) in
+      let many : length (segment 5 line) ≤ sum_by glyph_width (segment 5 line) = sum_least glyph_width (segment 5 line) (wide_segment 5 line wide) in
+      record {
+        width = each_just (λ just. width_of (segment just line) ≤ 1024) (omega (arith, parts.0, within, widest)) (omega (arith, parts.0, within, widest)) (omega (arith, parts.0, within, widest)) (omega (arith, parts.1, within, widest));
+        characters = omega (arith, many, parts.1, within, widest);
+      }
+
+  -- and no group is higher than a sign
+  height : (just : ℕ) → 2 ≤ just → just ≤ 4 → height_of (lines_of (in_group just (present_area sign items))) ≤ 1024
+  height just low top =
+      let spots = present_area sign items in
+      let tall = λ (just : ℕ). height_of (lines_of (in_group just spots)) in
+      let most = (standing sign items).rectangle.height in
+      let room : tall just ≤ most = part_most tall just most low top (fit_each (tall 2) (tall 3) (tall 4) most high) in
+      omega (arith, room, down, sound.height.1)
+
+  pub narrow_of : IsNarrowArea (present_area sign items)
+  narrow_of = λ just low top. (narrow just, height just low top)
+
+-- and so is that behind the items of an accepted string
+pub narrow_area : (sign : SignData) → IsSound sign → (items : List Meaning) → IsFine sign items → IsNarrowArea (present_area sign items)
+narrow_area sign sound items none =
+    narrow_of sign sound items (lines_fit_always sign items none) (area_fits_always sign items none)
+    (rectangle_width_within sign (too_big Off) items none) (rectangle_within sign (too_big Off) items none)
+
+-- and the front of a narrow line
+front_width : (just : ℕ) (line behind : List Spot) → width_of (segment just line) ≤ width_of (segment just (line ++ behind))
+front_width just line = push_ind (λ behind. width_of (segment just line) ≤ width_of (segment just (line ++ behind)))
+    (omega (arith, ap (λ l. width_of (segment just l)) (append-nil line)))
+    (λ behind s ih. omega (arith, ih, segment_grows just (line ++ behind) s, ap (λ l. width_of (segment just l)) (append_assoc line behind (s ∷ []))))
+
+pub narrow_front : (line behind : List Spot) → IsNarrow (line ++ behind) → IsNarrow line
+narrow_front line behind whole = record {
+  width = λ just low high. omega (arith, front_width just line behind, whole.width just low high);
+  characters = omega (arith, whole.characters, ap length (filter-append (λ t. is_glyph t && (t.at.line_just == 5)) line behind), length-append (segment 5 line) (segment 5 behind));
+}

@@ -1,0 +1,214 @@
+-- The items of a string as they are laid out offend by nothing but their size, where those of the string don't.
+use Rattle.std.proofs.Common.{◌≡◌, ℕ, ◌+◌, Bool, true, false, cond, ◌&&◌, ◌||◌, nat_lt, inl, inr, List, [], ◌∷◌, ◌++◌, map, Option, Some, None, refl, sym, ap, subst, ◌∙◌, append_assoc, append-nil}
+use Rattle.std.proofs.lemmas.Bool.{or_parts}
+use Rattle.std.specs.List.{after_last, cons_option, count_by, list_any}
+use Rattle.std.specs.Option.{option_map}
+use Rattle.std.proofs.lemmas.List.{map-append}
+use Rattle.std.proofs.lemmas.List.Folds.{list_any-append}
+use Rattle.multi_token.specs.Spelling.{Item}
+use Rattle.multi_tag.specs.declared.tag.Tag.TheVariants.{NewPage, NewLine, Font}
+use Rattle.sign_font.specs.declared.parts.LineFill.{LineFill}
+use Rattle.sign_font.specs.Sign.{SignData, CellData, cell_numbered}
+use Rattle.multi_meaning.specs.Address.{Break, Glyph, Put, Spot, Standing, area_of, in_area, is_break, is_glyph, line_before, put_at, spots, standing}
+use Rattle.multi_meaning.specs.Laid.{laid, laid_spot, too_big}
+use Rattle.multi_meaning.specs.LaidItems.{laid_item, laid_items, laid_of, laid_out}
+use Rattle.multi_meaning.specs.Meaning.{Does, Meaning, Shows, has_place, is_new_page, meaning}
+use Rattle.multi_meaning.specs.Offence.{clashes, conflicts, first_code, goes_back, never_big, offence, offence_by, unsized_offence}
+use Rattle.multi_meaning.specs.Verdict.{offences}
+use Rattle.multi_meaning.specs.kept.Fine.{IsOrderly}
+use Rattle.multi_meaning.specs.Words.{some_after}
+use Rattle.multi_meaning.proofs.BehindLemmas.{after_last_push}
+use Rattle.multi_meaning.proofs.CheckLemmas.{group_goes_back}
+use Rattle.multi_meaning.proofs.FilledOnLemmas.{largest_laid}
+use Rattle.multi_meaning.proofs.GroupLaidLemmas.{is_member, laid_as, members, members_push, same_member}
+use Rattle.multi_meaning.proofs.InForceLemmas.{none_front, none_last}
+use Rattle.multi_meaning.proofs.LaidItemLemmas.{are_laid}
+use Rattle.multi_meaning.proofs.LaidSpotLemmas.{LaidAs}
+use Rattle.multi_meaning.proofs.OffenceLemmas.{offence-break, offence-character, offence-undefined}
+use Rattle.multi_meaning.proofs.UnplacedLemmas.{unplaced_item, no_conflict, sized, last_fine}
+use Rattle.multi_meaning.proofs.SpotsLemmas.{spots_with}
+use Rattle.multi_meaning.proofs.WordLemmas.{each_after_push, push_ind, some_after_push}
+
+-- THE LINE OF A CHARACTER
+
+-- what is no character on the line of a group isn't one on its laid line, which is an end of it
+module _ (setting : LineFill) (all : List Spot) (a j : ℕ) (p : Spot → Bool) where
+  abbrev line : List Spot → List Spot
+  line spots = after_last is_break (members a j spots)
+
+  abbrev None_of : List Spot → Type 0
+  None_of spots = list_any p (line spots) ≡ false → list_any p (line (laid setting all spots)) ≡ false
+
+  one_more : (xs : List Spot) (x : Spot) (b : Bool) → is_member a j x ≡ b → line (xs ++ x ∷ []) ≡ cond b (cond (is_break x) [] (line xs ++ x ∷ [])) (line xs)
+  one_more xs x true e = ap (after_last is_break) (members_push a j xs x true e) ∙ after_last_push is_break (members a j xs) x
+  one_more xs x false e = ap (after_last is_break) (members_push a j xs x false e ∙ append-nil (members a j xs))
+
+  joins : (xs ys : List Spot) (x y : Spot) (b : Bool) → LaidAs x y → (list_any p xs ≡ false → list_any p ys ≡ false) → is_break x ≡ b → list_any p (cond (is_break x) [] (xs ++ x ∷ [])) ≡ false
+      → list_any p (cond (is_break y) [] (ys ++ y ∷ [])) ≡ false
+  joins xs ys x y true (inl same) ih e none = ap (λ z. list_any p (cond (is_break z) [] (ys ++ y ∷ []))) same ∙ ap (λ b. list_any p (cond b [] (ys ++ y ∷ []))) e
+  joins xs ys x y false (inl same) ih e none =
+      let parts = or_parts (list_any p xs) (p x || false) (sym (list_any-append p xs (x ∷ [])) ∙ ap (λ b. list_any p (cond b [] (xs ++ x ∷ []))) (sym e) ∙ none) in
+      ap (λ z. list_any p (cond (is_break z) [] (ys ++ z ∷ []))) same ∙ ap (λ b. list_any p (cond b [] (ys ++ x ∷ []))) e
+      ∙ list_any-append p ys (x ∷ []) ∙ ap (λ b. b || (p x || false)) (ih parts.0) ∙ parts.1
+  joins xs ys x y b (inr (glyph, drop)) ih e none = ap (λ z. list_any p (cond (is_break z) [] (ys ++ y ∷ []))) drop
+
+  step_if : (xs : List Spot) (x y : Spot) (b : Bool) → is_member a j x ≡ b → LaidAs x y → None_of xs → list_any p (line (xs ++ x ∷ [])) ≡ false → list_any p (line (laid setting all xs ++ y ∷ [])) ≡ false
+  step_if xs x y true e as' ih none =
+      ap (list_any p) (one_more (laid setting all xs) y true (same_member a j x y as' ∙ e))
+      ∙ joins (line xs) (line (laid setting all xs)) x y (is_break x) as' ih refl (ap (list_any p) (sym (one_more xs x true e)) ∙ none)
+  step_if xs x y false e as' ih none = ap (list_any p) (one_more (laid setting all xs) y false (same_member a j x y as' ∙ e)) ∙ ih (ap (list_any p) (sym (one_more xs x false e)) ∙ none)
+
+  pub none_laid : (some more : List Spot) → all ≡ some ++ more → None_of some
+  none_laid = push_ind (λ some. (more : List Spot) → all ≡ some ++ more → None_of some) (λ more is none. none) step
+    where
+      step : (some : List Spot) (x : Spot) → ((more : List Spot) → all ≡ some ++ more → None_of some) → (more : List Spot) → all ≡ (some ++ x ∷ []) ++ more → None_of (some ++ x ∷ [])
+      step some x ih more is none =
+          let is' : all ≡ some ++ x ∷ more = is ∙ append_assoc some (x ∷ []) more in
+          ap (λ l. list_any p (line l)) (each_after_push (laid_spot setting all) some x)
+          ∙ step_if some x (laid_spot setting all some x) (is_member a j x) refl (laid_as setting all some more x is') (ih (x ∷ more) is') none
+
+-- A PLACING ITEM
+
+module _ (setting : LineFill) (all some more : List Spot) (is : all ≡ some ++ more) (s : Spot) (apart : conflicts some s ≡ false) where
+  parts : (list_any (goes_back s) (area_of s some) ≡ false) × ((is_glyph s && list_any (clashes s) (line_before some s)) ≡ false)
+  parts = or_parts (list_any (goes_back s) (area_of s some)) (is_glyph s && list_any (clashes s) (line_before some s)) apart
+
+  -- its group doesn't go back among what is laid out
+  pub goes_on : (t : Spot) → t.at ≡ s.at → list_any (goes_back t) (area_of t (laid setting all some)) ≡ false
+  goes_on t at =
+      ap (λ (h : Standing). list_any (λ (u : Spot). nat_lt h.page_just u.at.page_just) (in_area h.area (laid setting all some))) at
+      ∙ group_goes_back s (area_of s (laid setting all some))
+      ∙ ap (λ n. nat_lt s.at.page_just n) (largest_laid setting 0 s.at.area all some more is)
+      ∙ sym (group_goes_back s (area_of s some)) ∙ parts.0
+
+  -- and neither does its segment
+  pub stays_apart : conflicts (laid setting all some) s ≡ false
+  stays_apart = both (is_glyph s) refl
+    where
+      both : (b : Bool) → is_glyph s ≡ b → conflicts (laid setting all some) s ≡ false
+      both true e =
+          let none = none_laid setting all s.at.area s.at.page_just (clashes s) some more is (ap (λ b. b && list_any (clashes s) (line_before some s)) (sym e) ∙ parts.1) in
+          ap (λ b. b || (is_glyph s && list_any (clashes s) (line_before (laid setting all some) s))) (goes_on s refl) ∙ ap (λ b. b && list_any (clashes s) (line_before (laid setting all some) s)) e ∙ none
+      both false e = ap (λ b. b || (is_glyph s && list_any (clashes s) (line_before (laid setting all some) s))) (goes_on s refl) ∙ ap (λ b. b && list_any (clashes s) (line_before (laid setting all some) s)) e
+
+-- THE ITEMS
+
+module _ (setting : LineFill) (sign : SignData) (all : List Meaning) where
+  abbrev before : List Meaning → List Meaning
+  before some = laid_items setting sign all some
+
+  abbrev Fine : List Meaning → Meaning → Type 0
+  Fine some y = unsized_offence sign (before some) y ≡ None
+
+  module _ (some more : List Meaning) (x : Meaning) (is : all ≡ some ++ x ∷ more) where
+    are : (standing sign (before some) ≡ standing sign some) × (spots sign (before some) ≡ laid setting (spots sign all) (spots sign some))
+    are = are_laid setting sign all some (x ∷ more) is
+
+    -- a placing item at this place, which conflicts with nothing that is laid out
+    placed_fine : (put : Put) → conflicts (laid setting (spots sign all) (spots sign some)) (record { at = standing sign some; put = put }) ≡ false
+        → conflicts (spots sign (before some)) (record { at = standing sign (before some); put = put }) ≡ false
+    placed_fine put apart = (λ i. conflicts (are.1 i) (record { at = are.0 i; put = put })) ∙ apart
+
+    break_fine : (gap : Option ℕ) → conflicts (laid setting (spots sign all) (spots sign some)) (record { at = standing sign some; put = Break gap }) ≡ false → Fine some (Does (NewLine gap))
+    break_fine gap apart = offence-break never_big sign (before some) gap ∙ ap (λ b. cond {A = Option ℕ} b (Some 11) None) (placed_fine (Break gap) apart)
+
+    character_fine : (number : ℕ) (cell : CellData) → cell_numbered (standing sign some).font number ≡ Some cell → conflicts (laid setting (spots sign all) (spots sign some)) (record { at = standing sign some; put = Glyph cell }) ≡ false
+        → Fine some (Shows number)
+    character_fine number cell found apart =
+        offence-character never_big sign (before some) number cell (ap (λ (s : Standing). cell_numbered s.font number) are.0 ∙ found)
+        ∙ ap (λ b. cond {A = Option ℕ} b (Some 11) None) (placed_fine (Glyph cell) apart)
+
+    -- an item that puts something
+    put_split : (put : Put) → put_at sign.defaults (standing sign some) x ≡ Some put → (rest : List Spot) × (spots sign all ≡ spots sign some ++ record { at = standing sign some; put = put } ∷ rest)
+    put_split put e = (_, ap (spots sign) is ∙ spots_with sign some x more put e)
+
+  character_if : (some more : List Meaning) (number : ℕ) → all ≡ some ++ Shows number ∷ more → unsized_offence sign some (Shows number) ≡ None → (o : Option CellData) → cell_numbered (standing sign some).font number ≡ o
+      → Fine some (laid_of (Shows number) (option_map (laid_spot setting (spots sign all) (spots sign some)) (option_map (λ put. let s : Spot = record { at = standing sign some; put = put } in s) (option_map Glyph o))))
+  character_if some more number is fine None e = let wrong : ◌≡◌ {A = Option ℕ} (Some 7) None = sym (offence-undefined never_big sign some number e) ∙ fine in absurd cc
+  character_if some more number is fine (Some cell) e =
+      let s : Spot = record { at = standing sign some; put = Glyph cell } in
+      let S = spots sign all in
+      let P = spots sign some in
+      let (rest, split) = put_split some more (Shows number) is (Glyph cell) (ap (option_map Glyph) e) in
+      let apart = no_conflict (conflicts P s) false (sym (offence-character never_big sign some number cell e) ∙ fine) in
+      of (laid_spot setting S P s) (laid_as setting S P rest s split) (character_fine some more (Shows number) is number cell e (stays_apart setting S P (s ∷ rest) split s apart))
+      (break_fine some more (Shows number) is None (ap (λ b. b || false) (goes_on setting S P (s ∷ rest) split s apart (record { at = standing sign some; put = Break None }) refl)))
+    where
+      of : (y : Spot) → LaidAs (record { at = standing sign some; put = Glyph cell }) y → Fine some (Shows number) → Fine some (Does (NewLine None)) → Fine some (laid_of (Shows number) (Some y))
+      of y (inl same) stands drops = ap (λ z. unsized_offence sign (before some) (laid_of (Shows number) (Some z))) same ∙ stands
+      of y (inr (glyph, drop)) stands drops = ap (λ z. unsized_offence sign (before some) (laid_of (Shows number) (Some z))) drop ∙ drops
+
+  -- an item that places nothing offends by its page alone
+  same_offence : (xs ys : List Meaning) → count_by is_new_page xs ≡ count_by is_new_page ys → (x : Meaning) → has_place x ≡ false → unsized_offence sign xs x ≡ unsized_offence sign ys x
+  unfolding offence_by
+  same_offence xs ys pages (Shows number) e = absurd cc
+  same_offence xs ys pages (Does (NewLine gap)) e = absurd cc
+  same_offence xs ys pages (Does NewPage) e = ap (λ n. first_code ((nat_lt sign.max_pages (n + 2), 12) ∷ [])) pages
+  same_offence xs ys pages (Does (Font (Some pick))) e = refl
+  same_offence xs ys pages x e = refl
+
+  pages_same : (some more : List Meaning) → all ≡ some ++ more → count_by is_new_page (before some) ≡ count_by is_new_page some
+  unfolding standing
+  pages_same some more is = ap (λ (s : Standing). s.page) (are_laid setting sign all some more is).0
+
+  laid_fine : (some more : List Meaning) (x : Meaning) → all ≡ some ++ x ∷ more → unsized_offence sign some x ≡ None → (b : Bool) → has_place x ≡ b → Fine some (laid_item setting sign all some x)
+  laid_fine some more x is fine false e =
+      ap (unsized_offence sign (before some)) (unplaced_item setting sign all some x e) ∙ same_offence (before some) some (pages_same some (x ∷ more) is) x e ∙ fine
+  laid_fine some more (Shows number) is fine true e = character_if some more number is fine (cell_numbered (standing sign some).font number) refl
+  laid_fine some more (Does (NewLine gap)) is fine true e =
+      let s : Spot = record { at = standing sign some; put = Break gap } in
+      let (rest, split) = put_split some more (Does (NewLine gap)) is (Break gap) refl in
+      let apart = no_conflict (conflicts (spots sign some) s) false (sym (offence-break never_big sign some gap) ∙ fine) in
+      break_fine some more (Does (NewLine gap)) is gap (stays_apart setting (spots sign all) (spots sign some) (s ∷ rest) split s apart)
+  laid_fine some more _ is fine true e = absurd cc
+
+  pub orderly_laid : ((some more : List Meaning) (x : Meaning) → all ≡ some ++ x ∷ more → unsized_offence sign some x ≡ None) → (some more : List Meaning) → all ≡ some ++ more → IsOrderly sign (before some)
+  orderly_laid fine = push_ind (λ some. (more : List Meaning) → all ≡ some ++ more → IsOrderly sign (before some)) (λ more is. refl) step
+    where
+      step : (some : List Meaning) (x : Meaning) → ((more : List Meaning) → all ≡ some ++ more → IsOrderly sign (before some)) → (more : List Meaning) → all ≡ (some ++ x ∷ []) ++ more → IsOrderly sign (before (some ++ x ∷ []))
+      step some x ih more is =
+          let is' : all ≡ some ++ x ∷ more = is ∙ append_assoc some (x ∷ []) more in
+          let y = laid_item setting sign all some x in
+          subst (IsOrderly sign) (sym (each_after_push (laid_item setting sign all) some x))
+          (some_after_push (unsized_offence sign) (before some) y
+          ∙ ap (λ l. l ++ cons_option (unsized_offence sign (before some) y) []) (ih (x ∷ more) is')
+          ∙ ap (λ o. cons_option o []) (laid_fine some more x is' (fine some more x is') (has_place x) refl))
+
+-- A STRING
+
+-- what doesn't offend doesn't by more than its size
+pub unsized_if : (setting : LineFill) (sign : SignData) (ms : List Meaning) (x : Meaning) → offence setting sign ms x ≡ None → (b : Bool) → has_place x ≡ b → unsized_offence sign ms x ≡ None
+unsized_if setting sign ms x fine false e = sym (sized setting sign ms x e) ∙ fine
+unsized_if setting sign ms (Shows number) fine true e = of (cell_numbered (standing sign ms).font number) refl
+  where
+    of : (o : Option CellData) → cell_numbered (standing sign ms).font number ≡ o → unsized_offence sign ms (Shows number) ≡ None
+    of None none = let wrong : ◌≡◌ {A = Option ℕ} (Some 7) None = sym (offence-undefined (too_big setting) sign ms number none) ∙ fine in absurd cc
+    of (Some cell) found =
+        let s : Spot = record { at = standing sign ms; put = Glyph cell } in
+        let apart = no_conflict (conflicts (spots sign ms) s) (too_big setting (spots sign ms) s) (sym (offence-character (too_big setting) sign ms number cell found) ∙ fine) in
+        offence-character never_big sign ms number cell found ∙ ap (λ b. cond {A = Option ℕ} b (Some 11) None) apart
+unsized_if setting sign ms (Does (NewLine gap)) fine true e =
+    let s : Spot = record { at = standing sign ms; put = Break gap } in
+    let apart = no_conflict (conflicts (spots sign ms) s) (too_big setting (spots sign ms) s) (sym (offence-break (too_big setting) sign ms gap) ∙ fine) in
+    offence-break never_big sign ms gap ∙ ap (λ b. cond {A = Option ℕ} b (Some 11) None) apart
+unsized_if setting sign ms _ fine true e = absurd cc
+
+pub orderly_items : (sign : SignData) (items : List Item) → offences sign items ≡ [] → IsOrderly sign (map meaning items)
+orderly_items sign = push_ind (λ items. offences sign items ≡ [] → IsOrderly sign (map meaning items)) (λ none. refl) step
+  where
+    step : (items : List Item) (item : Item) → (offences sign items ≡ [] → IsOrderly sign (map meaning items)) → offences sign (items ++ item ∷ []) ≡ [] → IsOrderly sign (map meaning (items ++ item ∷ []))
+    step items item ih none =
+        let (earlier, here) = last_fine sign items item none in
+        ap (some_after (unsized_offence sign)) (map-append meaning items (item ∷ []))
+        ∙ some_after_push (unsized_offence sign) (map meaning items) (meaning item)
+        ∙ ap (λ l. l ++ cons_option (unsized_offence sign (map meaning items) (meaning item)) []) (ih earlier)
+        ∙ ap (λ o. cons_option o []) (unsized_if sign.line_fill sign (map meaning items) (meaning item) here (has_place (meaning item)) refl)
+
+-- the items of an accepted string, as they are laid out, don't offend by more than their size
+pub orderly_out : (sign : SignData) (items : List Item) → offences sign items ≡ [] → IsOrderly sign (laid_out sign (map meaning items))
+orderly_out sign items none =
+    let all = map meaning items in
+    let f = unsized_offence sign in
+    let fine : (some more : List Meaning) (x : Meaning) → all ≡ some ++ x ∷ more → f some x ≡ None = λ some more x is.
+    none_last sign f some x (none_front sign f (some ++ x ∷ []) more (subst (IsOrderly sign) (is ∙ sym (append_assoc some (x ∷ []) more)) (orderly_items sign items none))) in
+    orderly_laid sign.line_fill sign all fine all [] (sym (append-nil all))

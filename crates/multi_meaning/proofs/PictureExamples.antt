@@ -1,0 +1,103 @@
+-- Worked examples of pictures and of pages at clocks on the sample sign, computed.
+use Rattle.std.proofs.Common.{◌≡◌, ℕ, true, List, [], ◌∷◌, map, codes, refl}
+use Rattle.std.specs.Prelude.{if◌then◌else◌, nat_eq}
+use Rattle.std.specs.List.{range_with_len, count_by, sum_by}
+use Rattle.sign_font.specs.Sample.{sample}
+use Rattle.sign_font.specs.Sign.{SignData}
+use Rattle.sign_font.specs.declared.parts.LineFill.TheVariants.{Words}
+use Rattle.multi_token.specs.Reading.{reading, read_items, read_item}
+use Rattle.multi_tag.specs.TagOf.{tag_of}
+use Rattle.multi_meaning.specs.Address.{spots, standing}
+use Rattle.multi_meaning.specs.Place.{place_of}
+use Rattle.multi_meaning.specs.Picture.{in_plane, picture, things, things_among}
+use Rattle.multi_meaning.specs.declared.times.Shown.{Shown}
+use Rattle.multi_meaning.specs.declared.times.Shown.TheVariants.{Page, Off}
+use Rattle.multi_meaning.specs.Times.{shown, shown_at, shown_within, page_times}
+
+abbrev sample_classic : SignData
+sample_classic = record sample { classic = true }
+
+-- the sample sign, with its lines filled by words
+abbrev words : SignData
+words = record sample { line_fill = Words }
+
+-- the rows of a sign from the top, with 35 `#` for a pixel that is in a picture, and 46 `.` for another
+unfoldable rows : SignData → List ℕ → ℕ → ℕ → ℕ → List (List ℕ)
+unfolding in_plane things_among things place_of spots standing reading read_items read_item tag_of
+rows sign octets page phase colour =
+    map (λ row. map (λ column. if picture sign octets page phase colour column row then 35 else 46) (range_with_len 0 sign.width)) (range_with_len 0 sign.height)
+
+-- how many pixels are in a picture
+unfoldable lit : SignData → List ℕ → ℕ → ℕ → ℕ → ℕ
+unfolding rows
+lit sign octets page phase colour = sum_by (λ row. count_by (λ c. nat_eq c 35) row) (rows sign octets page phase colour)
+
+one_character : rows sample (codes "A") 0 0 1
+    ≡ codes "............" ∷ codes "............" ∷ codes ".....#......" ∷ codes "....###....." ∷ codes "....#.#....." ∷ codes "............" ∷ codes "............" ∷ []
+unfolding rows
+one_character = refl
+
+two_words_on_two_lines : rows words (codes "AA AA") 0 0 1
+    ≡ codes "...#...#...." ∷ codes "..###.###..." ∷ codes "..#.#.#.#..." ∷ codes "............" ∷ codes "...#...#...." ∷ codes "..###.###..." ∷ codes "..#.#.#.#..." ∷ []
+unfolding rows
+two_words_on_two_lines = refl
+
+flash_on_first : map (λ phase. lit sample (codes "[flt5o5]A[/fl]") 0 phase 1) (0 ∷ 4 ∷ 5 ∷ 9 ∷ 10 ∷ []) ≡ 6 ∷ 6 ∷ 0 ∷ 0 ∷ 6 ∷ []
+unfolding lit
+flash_on_first = refl
+
+an_absent_flash_time_is_the_default : map (λ phase. lit sample (codes "[flt3]A") 0 phase 1) (7 ∷ 8 ∷ []) ≡ 0 ∷ 6 ∷ []
+unfolding lit
+an_absent_flash_time_is_the_default = refl
+
+flash_off_first : map (λ phase. lit sample (codes "[flo5t5]A") 0 phase 1) (0 ∷ 5 ∷ 10 ∷ []) ≡ 0 ∷ 6 ∷ 0 ∷ []
+unfolding lit
+flash_off_first = refl
+
+flash_without_times_is_lit : lit sample (codes "[flt0o0]A") 0 7 1 ≡ 6
+unfolding lit
+flash_without_times_is_lit = refl
+
+a_background_covers_what_stands_before_it : map (lit sample_classic (codes "[cf3]A[pb1]") 0 0) (1 ∷ 3 ∷ []) ≡ 84 ∷ 0 ∷ []
+unfolding lit
+a_background_covers_what_stands_before_it = refl
+
+a_character_covers_the_background : map (lit sample_classic (codes "[pb1][cf3]A") 0 0) (1 ∷ 3 ∷ []) ≡ 78 ∷ 6 ∷ []
+unfolding lit
+a_character_covers_the_background = refl
+
+a_monochrome_sign_shows_one_colour : map (lit sample (codes "[cf3]A") 0 0) (1 ∷ 3 ∷ []) ≡ 6 ∷ 0 ∷ []
+unfolding lit
+a_monochrome_sign_shows_one_colour = refl
+
+a_background_stays_in_force_on_the_next_page : map (λ page. lit sample_classic (codes "A[pb2][np][cf3]A") page 0 2) (0 ∷ 1 ∷ []) ≡ 84 ∷ 78 ∷ []
+unfolding lit
+a_background_stays_in_force_on_the_next_page = refl
+
+unfoldable at_clock : List ℕ → ℕ → Shown
+unfolding shown_at shown_within page_times standing reading read_items read_item tag_of
+at_clock octets clock = shown sample octets clock
+
+pages_and_their_off_times : map (at_clock (codes "[pt10o5]A[np]A")) (9 ∷ 10 ∷ 15 ∷ 29 ∷ 30 ∷ []) ≡ Page 0 9 ∷ Off ∷ Page 1 0 ∷ Off ∷ Page 0 0 ∷ []
+unfolding at_clock
+pages_and_their_off_times = refl
+
+a_cycle_of_none_shows_page_0 : at_clock (codes "[pt0o0]A[np]A") 42 ≡ Page 0 42
+unfolding at_clock
+a_cycle_of_none_shows_page_0 = refl
+
+one_page_is_always_shown : at_clock (codes "[pt0o5]A") 3 ≡ Page 0 3
+unfolding at_clock
+one_page_is_always_shown = refl
+
+an_on_time_of_none_is_skipped : at_clock (codes "[pt0o5]A[np]A") 0 ≡ Off
+unfolding at_clock
+an_on_time_of_none_is_skipped = refl
+
+times_are_those_at_the_end_of_a_page : map (at_clock (codes "A[np]A[pt10]")) (30 ∷ 40 ∷ []) ≡ Page 1 0 ∷ Page 0 0 ∷ []
+unfolding at_clock
+times_are_those_at_the_end_of_a_page = refl
+
+an_absent_page_time_is_the_default : at_clock (codes "[pt10o5]A[pt20][np]A") 20 ≡ Page 1 0
+unfolding at_clock
+an_absent_page_time_is_the_default = refl

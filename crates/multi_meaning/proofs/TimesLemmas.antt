@@ -1,0 +1,206 @@
+-- The times of pages, and the page at a clock.
+use Rattle.std.proofs.Common.{◌≡◌, ℕ, zero, suc, ◌+◌, ◌-◌, ◌%◌, ◌<◌, ◌≤◌, Bool, true, false, ◌||◌, ◌==◌, cond, nat_le, length, take, get_or, List, [], ◌∷◌, ◌++◌, Option, Some, None, refl, sym, ap, ◌∙◌, inl, inr, arith}
+use Rattle.std.specs.List.{find, range_with_len, slice_get, count_by}
+use Rattle.std.specs.Option.{option_map_or}
+use Rattle.std.proofs.lemmas.Bool.{lt-ltb, le-ltb, le-leb, lt-leb, and_left, and_right, and_from, cases_Bool, cases_eq, cases_order, cond-true, cond-false}
+use Rattle.std.proofs.lemmas.List.{append_assoc, append-nil, length-append, take-take}
+use Rattle.std.proofs.lemmas.List.Sums.{sum_by-append, sum_by-cons, sum_by_push, sum_by_more, sum_by-take-le}
+use Rattle.std.proofs.lemmas.Option.{slice_get-get_or}
+use Rattle.std.proofs.Math.Seq.{take-append_seam, get_or-append_seam}
+use Rattle.sign_font.specs.Sign.{SignData}
+use Rattle.multi_tag.specs.declared.tag.Tag.TheVariants.{NewPage}
+use Rattle.multi_meaning.specs.Address.{standing}
+use Rattle.multi_meaning.specs.Meaning.{Meaning, Does, is_new_page, meanings}
+use Rattle.multi_meaning.specs.declared.times.Shown.TheVariants.{Page, Off}
+use Rattle.multi_meaning.specs.Times.{Times, begin, cycle, ended_times, is_on, page_times, shown, shown_at, shown_within, times_at}
+use Rattle.multi_meaning.specs.Verdict.{pages_of}
+use Rattle.multi_meaning.specs.Words.{some_after}
+use Rattle.multi_meaning.proofs.WordLemmas.{some_after-append}
+
+-- THE CYCLE
+
+-- one more page adds its times to the cycle
+pub cycle_push : (before : List Times) (here : Times) → cycle (before ++ here ∷ []) ≡ cycle before + (here.on + here.off)
+cycle_push before here = sum_by_push (λ (t : Times). t.on + t.off) before here
+
+-- each page ends within the cycle
+pub cycle_within : (before after : List Times) (here : Times) → cycle before + (here.on + here.off) ≤ cycle (before ++ here ∷ after)
+cycle_within before after here =
+    let both : Times → ℕ = λ t. t.on + t.off in
+    omega (arith, sum_by-append both before (here ∷ after), sum_by-cons both here after)
+
+-- THE PAGE AT A CLOCK
+
+-- the first number of a range that passes a test is found
+find_first : (p : ℕ → Bool) (a n k : ℕ) → a ≤ k → k < a + n → p k ≡ true → ((j : ℕ) → a ≤ j → j < k → p j ≡ false) → find p (range_with_len a n) ≡ Some k
+find_first p a zero k from below passes fails = absurd (omega arith)
+find_first p a (suc n) k from below passes fails = elim (cases_eq a k) [
+  | inl e ↦ cond-true (p a) (Some a) (find p (range_with_len (a + 1) n)) (ap p e ∙ passes) ∙ ap (λ j. Some j) e
+  | inr e ↦ cond-false (p a) (Some a) (find p (range_with_len (a + 1) n)) (fails a (omega arith) (omega arith))
+      ∙ find_first p (a + 1) n k (omega arith) (omega arith) passes (λ j g. fails j (omega arith))
+]
+
+-- where no number of a range passes a test, none is found
+find_none : (p : ℕ → Bool) (a n : ℕ) → ((j : ℕ) → a ≤ j → j < a + n → p j ≡ false) → find p (range_with_len a n) ≡ None
+find_none p a zero fails = refl
+find_none p a (suc n) fails =
+    cond-false (p a) (Some a) (find p (range_with_len (a + 1) n)) (fails a (omega arith) (omega arith))
+    ∙ find_none p (a + 1) n (λ j g h. fails j (omega arith) (omega arith))
+
+-- a later page begins no earlier
+begins_later : (pages : List Times) (j k : ℕ) → j ≤ k → begin pages j ≤ begin pages k
+begins_later pages j k h = omega (arith, ap cycle (take-take j k pages h), sum_by-take-le (λ (t : Times). t.on + t.off) (take k pages) j)
+
+-- a page isn't on before it begins
+off_before : (pages : List Times) (t k : ℕ) → t < begin pages k → is_on pages t k ≡ false
+off_before pages t k h = and_left (nat_le (begin pages k) t) _ (lt-leb (begin pages k) t h)
+
+-- a page isn't on behind its on time
+off_behind : (pages : List Times) (t k : ℕ) (here : Times) → slice_get pages k ≡ Some here → begin pages k + here.on ≤ t → is_on pages t k ≡ false
+off_behind pages t k here stands h = and_right (nat_le (begin pages k) t) _ (rw stands (le-ltb t (begin pages k + here.on) h))
+
+-- a page isn't on from the next page's begin on
+ended : (pages : List Times) (t k : ℕ) → k < length pages → begin pages (k + 1) ≤ t → is_on pages t k ≡ false
+ended pages t k within h =
+    let none : Times = record { on = 0; off = 0 } in
+    off_behind pages t k (get_or pages k none) (slice_get-get_or pages k none within) (omega (arith, sum_by_more (λ (t : Times). t.on + t.off) pages k none within))
+
+-- one page, or a cycle of 0, always shows page 0
+pub shown_always : (pages : List Times) (clock : ℕ) → ((length pages == 1) || (cycle pages == 0)) ≡ true → shown_at pages clock ≡ Page 0 clock
+unfolding shown_at
+shown_always pages clock always = rw always refl
+
+-- else what is shown is that at the clock modulo the cycle
+pub shown_modulo : (pages : List Times) (clock : ℕ) → ((length pages == 1) || (cycle pages == 0)) ≡ false → shown_at pages clock ≡ shown_within pages (clock % cycle pages)
+unfolding shown_at
+shown_modulo pages clock many = rw many refl
+
+-- pages of which one has some pages before it and some after it
+module _ (pages before after : List Times) (here : Times) (is : pages ≡ before ++ here ∷ after) where
+  within : length before < length pages
+  within = omega (arith, ap length is, length-append before (here ∷ after))
+
+  begins : begin pages (length before) ≡ cycle before
+  begins = ap (λ l. begin l (length before)) is ∙ ap cycle (take-append_seam before (here ∷ after))
+
+  stands : slice_get pages (length before) ≡ Some here
+  stands = slice_get-get_or pages (length before) here within ∙ ap (λ l. Some (get_or l (length before) here)) is ∙ ap (λ x. Some x) (get_or-append_seam before here after here)
+
+  ends : begin pages (length before + 1) ≡ cycle before + (here.on + here.off)
+  ends =
+      let read : get_or pages (length before) here ≡ here = ap (λ l. get_or l (length before) here) is ∙ get_or-append_seam before here after here in
+      sum_by_more (λ (t : Times). t.on + t.off) pages (length before) here within ∙ ap (λ (x : Times). begin pages (length before) + (x.on + x.off)) read ∙ ap (λ b. b + (here.on + here.off)) begins
+
+  -- no earlier page is on from its begin on
+  none_before : (t j : ℕ) → cycle before ≤ t → j < length before → is_on pages t j ≡ false
+  none_before t j from below = ended pages t j (omega (arith, within)) (omega (arith, begins_later pages (j + 1) (length before) (omega arith), begins))
+
+  -- no later page is on before its end
+  none_after : (t j : ℕ) → t < cycle before + (here.on + here.off) → length before < j → is_on pages t j ≡ false
+  none_after t j until above = off_before pages t j (omega (arith, begins_later pages (length before + 1) j (omega arith), ends))
+
+  -- in its on time a page is shown
+  pub shown_on : (t : ℕ) → cycle before ≤ t → t < cycle before + here.on → shown_within pages t ≡ Page (length before) (t - cycle before)
+  unfolding shown_within
+  shown_on t from until =
+      let on : is_on pages t (length before) ≡ true = and_from (nat_le (begin pages (length before)) t) _ (le-leb (begin pages (length before)) t (omega (arith, begins))) (rw stands (lt-ltb t (begin pages (length before) + here.on) (omega (arith, begins)))) in
+      let found = find_first (is_on pages t) 0 (length pages) (length before) (omega arith) (omega (arith, within)) on (λ j _ below. none_before t j from below) in
+      rw (found, begins) refl
+
+  -- in its off time nothing is shown
+  pub shown_off : (t : ℕ) → cycle before + here.on ≤ t → t < cycle before + here.on + here.off → shown_within pages t ≡ Off
+  unfolding shown_within
+  shown_off t from until =
+      let off : (j : ℕ) → is_on pages t j ≡ false = λ j. elim (cases_order j (length before)) [
+        | inl e ↦ ap (is_on pages t) e ∙ off_behind pages t (length before) here stands (omega (arith, begins))
+        | inr (inl below) ↦ none_before t j (omega arith) below
+        | inr (inr above) ↦ none_after t j (omega arith) above
+      ] in
+      rw (find_none (is_on pages t) 0 (length pages) (λ j _ _. off j)) refl
+
+-- THE TIMES OF PAGES
+
+-- behind the last item the present page is the last
+pub times_are_all : (sign : SignData) (before : List Meaning)
+    → page_times sign before ≡ ended_times sign before ++ times_at (standing sign before) ∷ []
+unfolding page_times
+times_are_all sign before = refl
+
+-- where a new page begins the present page ends with the times in force there
+pub times_are : (sign : SignData) (before rest : List Meaning)
+    → (more : List Times) × (page_times sign (before ++ Does NewPage ∷ rest) ≡ ended_times sign before ++ times_at (standing sign before) ∷ more)
+unfolding page_times
+times_are sign before rest =
+    let ends : List Meaning → Meaning → Option Times = λ ms m. cond (is_new_page m) (Some (times_at (standing sign ms))) None in
+    let behind : List Times = some_after (λ ms. ends (before ++ Does NewPage ∷ ms)) rest in
+    let last : List Times = times_at (standing sign (before ++ Does NewPage ∷ rest)) ∷ [] in
+    let here : List Meaning → Times = λ ms. times_at (standing sign ms) in (
+      behind ++ last,
+      ap (λ l. l ++ last) (some_after-append ends before (Does NewPage ∷ rest))
+          ∙ append_assoc (some_after ends before) (here (before ++ []) ∷ behind) last
+          ∙ ap (λ ms. some_after ends before ++ here ms ∷ (behind ++ last)) (append-nil before),
+    )
+
+-- there is one item for each that passes a test
+count_some : {X Y : Type 0} (p : X → Bool) (of : List X → Y) (xs : List X) → length (some_after (λ before x. cond (p x) (Some (of before)) None) xs) ≡ count_by p xs
+count_some p of [] = refl
+count_some p of (x ∷ xs) =
+    let more = count_some p (λ before. of (x ∷ before)) xs in
+    let all = sum_by-cons (λ y. cond (p y) 1 0) x xs in
+    elim (cases_Bool (p x)) [
+      | inl e ↦ rw e (omega (arith, more, rw e at all))
+      | inr e ↦ rw e (omega (arith, more, rw e at all))
+    ]
+
+-- as many pages have ended as new pages have begun
+pub ended_count : (sign : SignData) (before : List Meaning) → length (ended_times sign before) ≡ count_by is_new_page before
+ended_count sign before = count_some is_new_page (λ ms. times_at (standing sign ms)) before
+
+-- there is one page more than new pages begin
+pub times_count : (sign : SignData) (items : List Meaning) → length (page_times sign items) ≡ count_by is_new_page items + 1
+times_count sign items =
+    let times = ended_times sign items in
+    let last = times_at (standing sign items) in
+    omega (arith, ap length (times_are_all sign items), length-append times (last ∷ []), ended_count sign items)
+
+-- THE PAGE AT A CLOCK IS A PAGE
+
+-- what is found in a range is below its end
+found_below : (p : ℕ → Bool) (a n k : ℕ) → find p (range_with_len a n) ≡ Some k → k < a + n
+found_below p a zero k is = absurd cc
+found_below p a (suc n) k is = elim (cases_Bool (p a)) [
+  | inl e ↦
+      let here : Some a ≡ Some k = sym (cond-true (p a) (Some a) (find p (range_with_len (a + 1) n)) e) ∙ is in
+      let same : a ≡ k = cc in
+      omega arith
+  | inr e ↦
+      let below : k < a + 1 + n = found_below p (a + 1) n k (sym (cond-false (p a) (Some a) (find p (range_with_len (a + 1) n)) e) ∙ is) in
+      omega arith
+]
+
+page_found : (pages : List Times) (time page phase : ℕ) (found : Option ℕ) → find (is_on pages time) (range_with_len 0 (length pages)) ≡ found
+    → option_map_or (λ k. Page k (time - begin pages k)) found Off ≡ Page page phase → page < length pages
+page_found pages time page phase None from is = absurd cc
+page_found pages time page phase (Some k) from is =
+    let same : k ≡ page = cc in
+    omega (arith, found_below (is_on pages time) 0 (length pages) k from)
+
+within_below : (pages : List Times) (time page phase : ℕ) → shown_within pages time ≡ Page page phase → page < length pages
+unfolding shown_within
+within_below pages time page phase is = page_found pages time page phase _ refl is
+
+at_below : (pages : List Times) (clock page phase : ℕ) → 0 < length pages → shown_at pages clock ≡ Page page phase → page < length pages
+at_below pages clock page phase some is = elim (cases_Bool ((length pages == 1) || (cycle pages == 0))) [
+  | inl e ↦
+      let first : Page 0 clock ≡ Page page phase = sym (shown_always pages clock e) ∙ is in
+      let same : 0 ≡ page = cc in
+      omega arith
+  | inr e ↦ within_below pages (clock % cycle pages) page phase (sym (shown_modulo pages clock e) ∙ is)
+]
+
+-- a page that is shown is one of the string's
+pub page_below : (sign : SignData) (octets : List ℕ) (clock page phase : ℕ) → shown sign octets clock ≡ Page page phase → page < pages_of (meanings octets)
+page_below sign octets clock page phase is =
+    let count = times_count sign (meanings octets) in
+    let below : page < length (page_times sign (meanings octets)) = at_below (page_times sign (meanings octets)) clock page phase (omega (arith, count)) is in
+    omega (arith, count)

@@ -1,0 +1,38 @@
+-- Items that have no place, and what none of some items offends says of each.
+use Rattle.std.proofs.Common.{◌≡◌, ℕ, Bool, true, false, cond, List, [], ◌∷◌, ◌++◌, length, map, Option, Some, None, refl, sym, ◌∙◌}
+use Rattle.multi_token.specs.Spelling.{Item, spell}
+use Rattle.multi_tag.specs.declared.tag.Tag.TheVariants.{NewLine, Font}
+use Rattle.sign_font.specs.declared.parts.LineFill.{LineFill}
+use Rattle.sign_font.specs.Sign.{SignData}
+use Rattle.multi_meaning.specs.LaidItems.{laid_item}
+use Rattle.multi_meaning.specs.Meaning.{Does, Meaning, Shows, has_place, meaning}
+use Rattle.multi_meaning.specs.Offence.{offence, offence_by, unsized_offence}
+use Rattle.multi_meaning.specs.Verdict.{fault_at, offences}
+use Rattle.multi_meaning.proofs.WordLemmas.{left_nil, none_mapped, none_of, right_nil, some_after_push}
+
+-- what places nothing is laid as itself
+pub unplaced_item : (setting : LineFill) (sign : SignData) (all before : List Meaning) (x : Meaning) → has_place x ≡ false → laid_item setting sign all before x ≡ x
+unplaced_item setting sign all before (Shows number) e = absurd cc
+unplaced_item setting sign all before (Does (NewLine gap)) e = absurd cc
+unplaced_item setting sign all before _ e = refl
+
+-- and where an error is more than its size, it is its error
+pub sized : (setting : LineFill) (sign : SignData) (ms : List Meaning) (x : Meaning) → has_place x ≡ false → offence setting sign ms x ≡ unsized_offence sign ms x
+unfolding offence_by
+sized setting sign ms (Shows number) e = absurd cc
+sized setting sign ms (Does (NewLine gap)) e = absurd cc
+sized setting sign ms (Does (Font (Some pick))) e = refl
+sized setting sign ms x e = refl
+
+-- without an error there is no conflict
+pub no_conflict : (conflict big : Bool) → ◌≡◌ {A = Option ℕ} (cond conflict (Some 11) (cond big (Some 5) None)) None → conflict ≡ false
+no_conflict true big e = absurd (cc)
+no_conflict false big e = refl
+
+-- none of some items offends, so the last doesn't, nor any before it
+pub last_fine : (sign : SignData) (items : List Item) (item : Item) → offences sign (items ++ item ∷ []) ≡ []
+    → (offences sign items ≡ []) × (offence sign.line_fill sign (map meaning items) (meaning item) ≡ None)
+last_fine sign items item none =
+    let parts = sym (some_after_push (fault_at sign) items item) ∙ none in
+    let here = none_of (fault_at sign items item) [] (right_nil (offences sign items) _ parts) in
+    (left_nil (offences sign items) _ parts, none_mapped (λ code. (code, length (spell items))) (offence sign.line_fill sign (map meaning items) (meaning item)) here)

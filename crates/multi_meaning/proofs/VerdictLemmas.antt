@@ -1,0 +1,116 @@
+-- Each string has one verdict, and a refusal for an item stands however the string goes on.
+use Rattle.std.proofs.Common.{◌≡◌, ◌≢◌, inl, inr, ℕ, List, [], ◌∷◌, ◌++◌, map, length, drop, Option, Some, refl, sym, ap, subst, ◌∙◌, append_assoc}
+use Rattle.std.proofs.Math.Seq.{drop-append_seam}
+use Rattle.std.specs.List.{All, cons_option}
+use Rattle.std.specs.Option.{option_map}
+use Rattle.multi_token.specs.Broken.{IsOpen, StaysBroken}
+use Rattle.multi_token.specs.Spelling.{Item, Char, HasNoItem, IsItem, IsReading, spell}
+use Rattle.multi_token.specs.Reading.{reading}
+use Rattle.multi_token.proofs.BrokenLemmas.{open_or_broken}
+use Rattle.multi_token.proofs.SpellingLemmas.{reading_begins, one_reading}
+use Rattle.multi_token.proofs.ReadingLemmas.{each_string_has_a_reading}
+use Rattle.sign_font.specs.Sign.{SignData}
+use Rattle.multi_meaning.specs.Meaning.{meaning}
+use Rattle.multi_meaning.specs.Offence.{offence}
+use Rattle.multi_meaning.specs.Verdict.{BrokenBracketStands, OneVerdict, RefusalStands, Refused, verdict, verdict_on, of_first, broken, fault_at, offences, pages_of}
+use Rattle.multi_meaning.specs.Words.{some_after}
+use Rattle.multi_meaning.proofs.WordLemmas.{some_after-append, some_after_push}
+
+pub one_verdict : OneVerdict
+unfolding verdict
+one_verdict sign octets v = (
+  (λ (items, rest, read, is).
+      let same = one_reading octets items (reading octets).items rest (reading octets).rest read (each_string_has_a_reading octets) in
+      is ∙ ap (λ l. verdict_on sign l rest) same.0 ∙ ap (λ r. verdict_on sign (reading octets).items r) same.1),
+  (λ is. ((reading octets).items, (reading octets).rest, each_string_has_a_reading octets, is)),
+)
+
+-- the offences behind one more item
+pub offences_push : (sign : SignData) (items : List Item) (item : Item) (o : Option ℕ) → offences sign items ≡ [] → offence sign.line_fill sign (map meaning items) (meaning item) ≡ o
+    → offences sign (items ++ item ∷ []) ≡ cons_option (option_map (λ code. (code, length (spell items))) o) []
+offences_push sign items item o none is =
+    some_after_push (fault_at sign) items item
+    ∙ ap (λ l. l ++ cons_option (fault_at sign items item) []) none
+    ∙ ap (λ p. cons_option (option_map (λ code. (code, length (spell items))) p) []) is
+
+-- a refusal for an item stands for every string with the same octets up to the end of that item
+pub item_refused : (sign : SignData) (before : List Item) (item : Item) (code : ℕ) (rest : List ℕ)
+    → All IsItem (before ++ item ∷ []) → offences sign before ≡ [] → offence sign.line_fill sign (map meaning before) (meaning item) ≡ Some code
+    → verdict sign (spell (before ++ item ∷ []) ++ rest) ≡ Refused code (length (spell before))
+unfolding verdict verdict_on
+item_refused sign before item code rest each none offends =
+    let xs = before ++ item ∷ [] in
+    let octets = spell xs ++ rest in
+    let all = each_string_has_a_reading octets in
+    let items = (reading octets).items in
+    let (ws, is, behind) = reading_begins xs items rest (reading octets).rest each all.each all.ends all.spelled in
+    let f = fault_at sign in
+    let front = offences_push sign before item (Some code) none offends in
+    let whole : offences sign items ≡ (code, length (spell before)) ∷ some_after (λ more. f (xs ++ more)) ws =
+    ap (offences sign) is ∙ some_after-append f xs ws ∙ ap (λ l. l ++ some_after (λ more. f (xs ++ more)) ws) front in
+    ap (λ l. of_first (pages_of (map meaning items)) (l ++ broken items (reading octets).rest)) whole
+
+-- where no item offends, a rest is a broken bracket
+broken_refused : (sign : SignData) (items : List Item) (rest : List ℕ) → rest ≢ [] → offences sign items ≡ [] → verdict_on sign items rest ≡ Refused 3 (length (spell items))
+unfolding verdict_on
+broken_refused sign items [] some none = absurd (some refl)
+broken_refused sign items (octet ∷ rest) some none = ap (λ l. of_first (pages_of (map meaning items)) (l ++ broken items (octet ∷ rest))) none
+
+-- what stays broken has an octet
+broken_some : (bracket more : List ℕ) → StaysBroken bracket → bracket ++ more ≢ []
+broken_some [] more stays e = absurd (stays (65 ∷ []) (Char 65) [] (tt, refl))
+broken_some (octet ∷ bracket) more stays e = cc
+
+pub broken_bracket_stands : BrokenBracketStands
+unfolding verdict
+broken_bracket_stands sign before bracket more each none stays =
+    let rest = bracket ++ more in
+    let octets = spell before ++ rest in
+    let read : IsReading octets before rest = record { each = each; spelled = refl; ends = stays more } in
+    let same = one_reading octets (reading octets).items before (reading octets).rest rest (each_string_has_a_reading octets) read in
+    ap (λ l. verdict_on sign l (reading octets).rest) same.0 ∙ ap (λ r. verdict_on sign before r) same.1
+    ∙ broken_refused sign before rest (broken_some bracket more stays) none
+
+-- the first fault of these items, wherever it stands, is that of every string that goes on behind them
+first_stands : (sign : SignData) (items : List Item) (rest more : List ℕ) (fault : ℕ × ℕ) (faults : List (ℕ × ℕ)) → All IsItem items → offences sign items ≡ fault ∷ faults
+    → verdict sign ((spell items ++ rest) ++ more) ≡ Refused fault.0 fault.1
+unfolding verdict verdict_on
+first_stands sign items rest more fault faults each first =
+    let octets = (spell items ++ rest) ++ more in
+    let all = each_string_has_a_reading octets in
+    let read = (reading octets).items in
+    let (ws, is, behind) = reading_begins items read (rest ++ more) (reading octets).rest each all.each all.ends (sym (append_assoc (spell items) rest more) ∙ all.spelled) in
+    let f = fault_at sign in
+    let whole : offences sign read ≡ fault ∷ (faults ++ some_after (λ before. f (items ++ before)) ws) =
+    ap (offences sign) is ∙ some_after-append f items ws ∙ ap (λ l. l ++ some_after (λ before. f (items ++ before)) ws) first in
+    ap (λ l. of_first (pages_of (map meaning read)) (l ++ broken read (reading octets).rest)) whole
+
+same_refusal : (a b code at : ℕ) → Refused a b ≡ Refused code at → (a ≡ code) × (b ≡ at)
+same_refusal a b code at e = (cc, cc)
+
+-- a string of these items and this rest is refused
+stands_by : (sign : SignData) (items : List Item) (rest : List ℕ) (faults : List (ℕ × ℕ)) (code at : ℕ) → All IsItem items → HasNoItem rest → offences sign items ≡ faults
+    → of_first (pages_of (map meaning items)) (faults ++ broken items rest) ≡ Refused code at → ¬ (IsOpen (drop at (spell items ++ rest)))
+    → (more : List ℕ) → verdict sign ((spell items ++ rest) ++ more) ≡ Refused code at
+stands_by sign items rest (fault ∷ faults) code at each ends first e closed more =
+    let (a, b) = same_refusal fault.0 fault.1 code at e in
+    first_stands sign items rest more fault faults each first ∙ ap (λ c. Refused c fault.1) a ∙ ap (Refused code) b
+stands_by sign items [] [] code at each ends none e closed more = absurd cc
+stands_by sign items (octet ∷ rest) [] code at each ends none e closed more =
+    let (a, b) = same_refusal 3 (length (spell items)) code at e in
+    let here : drop at (spell items ++ octet ∷ rest) ≡ octet ∷ rest = ap (λ n. drop n (spell items ++ octet ∷ rest)) (sym b) ∙ drop-append_seam (spell items) (octet ∷ rest) in
+    let stays : StaysBroken (octet ∷ rest) = elim (open_or_broken (octet ∷ rest) (λ e. cc) ends) [
+      | inl open' ↦ absurd (closed (subst IsOpen (sym here) open'))
+      | inr stays ↦ stays
+    ] in
+    ap (verdict sign) (append_assoc (spell items) (octet ∷ rest) more)
+    ∙ broken_bracket_stands sign items (octet ∷ rest) more each none stays ∙ ap (λ c. Refused c (length (spell items))) a ∙ ap (Refused code) b
+
+pub refusal_stands : RefusalStands
+unfolding verdict verdict_on
+refusal_stands sign octets code at e closed more =
+    let read = each_string_has_a_reading octets in
+    let items = (reading octets).items in
+    let rest = (reading octets).rest in
+    ap (λ l. verdict sign (l ++ more)) read.spelled
+    ∙ stands_by sign items rest (offences sign items) code at read.each read.ends refl e (subst (λ l. ¬ (IsOpen (drop at l))) read.spelled closed) more

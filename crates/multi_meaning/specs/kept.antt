@@ -1,0 +1,5 @@
+-- What laws and proofs say of the items so far, which no reader of the public contracts needs.
+pub mod FillOpen
+pub mod Fine
+pub mod ItemAt
+pub mod Present

@@ -1,0 +1,34 @@
+//! What holds of the definitions.
+
+ghost use Rattle.multi_meaning.specs.FillLaw.{KeepsBreaks};
+ghost use Rattle.multi_meaning.specs.Fit.{SmallerFits};
+ghost use Rattle.multi_meaning.specs.Verdict.{BrokenBracketStands, OneVerdict, RefusalStands};
+
+/// A law of the definitions: every string has exactly one verdict.
+pub fn one_verdict()
+    ensures { OneVerdict }
+{}
+
+/// A law of the definitions: a refused string stays refused, with the same error at the same position, whatever is appended to
+/// it. The only exception is a string that ends in an open bracket and is refused for it: what is appended may mend that.
+pub fn refusal_stands()
+    ensures { RefusalStands }
+{}
+
+/// A law of the definitions: if a string is refused for a bracket that stays broken, so is every string with the same octets up
+/// to where nothing can mend it any more.
+pub fn broken_bracket_stands()
+    ensures { BrokenBracketStands }
+{}
+
+/// A law of the definitions: what fits still fits when its parts shrink.
+pub fn smaller_fits()
+    ensures { SmallerFits }
+{}
+
+/// A law of the definitions: one more item, whatever it is, leaves all items before it laid out as they were, and with them
+/// every break of filling. At most one space more ends its line: one on the line of the new item, or the new item itself. The
+/// only premise is that no item before it offends.
+pub fn keeps_breaks()
+    ensures { KeepsBreaks }
+{}
