@@ -1,4 +1,4 @@
-use Rattle.std.proofs.Common.{◌+◌, ◌-◌, ◌*◌, ◌≤◌, arith}
+use Rattle.std.proofs.Common.{◌+◌, ◌-◌, ◌*◌, arith}
 use Rattle.multi_token.proofs.StepLemmas.{rises_then}
 use Rattle.multi_layout.proofs.read.go_on.Goals as goal
 

@@ -1,7 +1,5 @@
-use Rattle.std.proofs.Common.{◌≤◌, ◌==◌, not, map, sym, ◌∙◌, subst, ap, arith}
+use Rattle.std.proofs.Common.{◌==◌, not, map, ◌∙◌, ap, arith}
 use Rattle.multi_meaning.specs.Meaning.{meaning}
-use Rattle.multi_layout.specs.declared.attributes.Attributes.{Attributes}
-use Rattle.sign_font.specs.Text.{AreWidthsOf}
 use Rattle.multi_layout.specs.kept.PassState.{IsPassOf}
 use Rattle.multi_token.proofs.StepLemmas.{charged-charged}
 use Rattle.multi_token.specs.Counted.{Counted, charged}
