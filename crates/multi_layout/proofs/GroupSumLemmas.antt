@@ -17,7 +17,7 @@ use Rattle.multi_layout.specs.declared.area.Ended.{Ended}
 use Rattle.multi_layout.specs.declared.area.Group.{Group}
 use Rattle.multi_layout.specs.kept.Sums.{line_sum, ended_sum, group_sum}
 
--- THE KINDS OF ITEMS
+-- THE GAP AND THE HEIGHT OF A LINE
 
 glyph_gaps : (line : List Spot) → AllPass is_glyph line → filter_map given_gap line ≡ []
 glyph_gaps [] h = refl

@@ -1,4 +1,4 @@
--- The place of a character by the line table of its group, and how many lines a group has.
+-- The place of a character by the line table of its group, and how many ended lines a group has.
 use Rattle.std.proofs.Common.{◌≡◌, ℕ, ◌+◌, ◌-◌, ◌<◌, ◌≤◌, Bool, true, false, cond, ◌&&◌, ◌==◌, length, take, List, [], ◌∷◌, ◌++◌, Some, refl, sym, ap, subst, ◌∙◌, arith}
 use Rattle.std.specs.Prelude.{slice_get, slice_index_or, if◌then◌else◌}
 use Rattle.std.specs.List.{list_any, onto_first, count_by}
@@ -65,7 +65,7 @@ line_is_there g rest s = part_is_there is_break g rest s
 
 -- HOW MANY LINES
 
--- nor more ended lines than lines
+-- a group has no more ended lines than lines
 pub ended_most : (g : List Spot) → length (ended_lines g) ≤ length (lines_of g)
 ended_most g = rw (length-filter (list_any is_break) (lines_of g)) (count_by-le-length (list_any is_break) (lines_of g))
 

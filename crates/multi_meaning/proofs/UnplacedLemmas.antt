@@ -16,7 +16,7 @@ unplaced_item setting sign all before (Shows number) e = absurd cc
 unplaced_item setting sign all before (Does (NewLine gap)) e = absurd cc
 unplaced_item setting sign all before _ e = refl
 
--- and where an error is more than its size, it is its error
+-- and it never offends by its size
 pub sized : (setting : LineFill) (sign : SignData) (ms : List Meaning) (x : Meaning) → has_place x ≡ false → offence setting sign ms x ≡ unsized_offence sign ms x
 unfolding offence_by
 sized setting sign ms (Shows number) e = absurd cc
