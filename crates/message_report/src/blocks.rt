@@ -3,7 +3,7 @@ ghost use Rattle.std.specs.Prelude.{◌≡◌, ◌++◌, ◌+◌, ◌*◌, ◌/�
 ghost use Rattle.page_picture.specs.Colours.{colour_at};
 ghost use Rattle.message_report.specs.Blocks.{block_text, blocks_text, change_text, colour_text, colour_within, goes_on, lines_text, rgb_text, two_rows};
 
-use octet_text::{push_number, push_octets};
+use crate::explanation::{Explanation, push_number, push_octets};
 use page_picture::PageColours;
 use std::alloc::AllocError;
 
@@ -21,10 +21,10 @@ const HALF_BLOCK: &[u8] = &[0xe2, 0x96, 0x80];
 
 /// Appends the red, green and blue of a colour.
 #[tactic(auto, unfolding(crate::specs::Blocks::rgb_text))]
-fn push_rgb(text: &mut Vec<u8>, shares: &[u8], colour: u8) -> Result<(), AllocError>
+fn push_rgb(text: &mut Explanation, shares: &[u8], colour: u8) -> Result<(), AllocError>
     requires shares { length shares.now ≡ 48 }
     requires colour { colour ≤ 9 }
-    ensures { OnOk result (text.new.items ≡ text.old.items ++ rgb_text shares.now colour) }
+    ensures { OnOk result (text.new ≡ text.old ++ rgb_text shares.now colour) }
 {
     let red = 3 * (usize::from(colour) + 1);
     push_number(text, u64::from(shares[red]))?;
@@ -37,14 +37,14 @@ fn push_rgb(text: &mut Vec<u8>, shares: &[u8], colour: u8) -> Result<(), AllocEr
 /// Appends the escape for a colour, as the foreground or as the background.
 #[tactic(auto, unfolding(crate::specs::Blocks::colour_text))]
 fn push_colour(
-    text: &mut Vec<u8>,
+    text: &mut Explanation,
     shares: &[u8],
     rendition: u8,
     colour: u8,
 ) -> Result<(), AllocError>
     requires shares { length shares.now ≡ 48 }
     requires colour { colour ≤ 9 }
-    ensures { OnOk result (text.new.items ≡ text.old.items ++ colour_text shares.now rendition colour) }
+    ensures { OnOk result (text.new ≡ text.old ++ colour_text shares.now rendition colour) }
 {
     push_octets(text, b"\x1b[")?;
     push_number(text, u64::from(rendition))?;
@@ -76,7 +76,7 @@ fn goes_on(colours: &PageColours, row: u16, column: u16) -> bool
 
 /// Appends the escape for a pixel's colour, unless that is the colour of the column to the left.
 fn push_change(
-    text: &mut Vec<u8>,
+    text: &mut Explanation,
     shares: &[u8],
     colours: &PageColours,
     rendition: u8,
@@ -85,7 +85,7 @@ fn push_change(
 ) -> Result<(), AllocError>
     requires shares { length shares.now ≡ 48 }
     requires column { column < colours.now.width }
-    ensures { OnOk result (text.new.items ≡ text.old.items
+    ensures { OnOk result (text.new ≡ text.old
         ++ change_text shares.now rendition (colour_within (colour_at colours.now) colours.now.height row) column) }
 {
     if goes_on(colours, row, column) {
@@ -97,7 +97,7 @@ fn push_change(
 /// Appends two pixels, one above the other.
 #[tactic(auto, unfolding(crate::specs::Blocks::block_text))]
 fn push_block(
-    text: &mut Vec<u8>,
+    text: &mut Explanation,
     shares: &[u8],
     colours: &PageColours,
     row: u16,
@@ -106,7 +106,7 @@ fn push_block(
     requires shares { length shares.now ≡ 48 }
     requires row { row + 1 < 2 ^ 16 }
     requires column { column < colours.now.width }
-    ensures { OnOk result (text.new.items ≡ text.old.items
+    ensures { OnOk result (text.new ≡ text.old
         ++ block_text shares.now (colour_within (colour_at colours.now) colours.now.height row)
         (colour_within (colour_at colours.now) colours.now.height (row + 1)) column) }
 {
@@ -117,14 +117,14 @@ fn push_block(
 
 /// Appends a row of pixels and the one below it.
 fn push_blocks(
-    text: &mut Vec<u8>,
+    text: &mut Explanation,
     shares: &[u8],
     colours: &PageColours,
     row: u16,
 ) -> Result<(), AllocError>
     requires shares { length shares.now ≡ 48 }
     requires row { row + 1 < 2 ^ 16 }
-    ensures { OnOk result (text.new.items ≡ text.old.items
+    ensures { OnOk result (text.new ≡ text.old
         ++ blocks_text shares.now (colour_within (colour_at colours.now) colours.now.height row)
         (colour_within (colour_at colours.now) colours.now.height (row + 1)) colours.now.width) }
 {
@@ -136,14 +136,14 @@ fn push_blocks(
 
 /// Appends a line.
 fn push_two_rows(
-    text: &mut Vec<u8>,
+    text: &mut Explanation,
     shares: &[u8],
     colours: &PageColours,
     line: u16,
 ) -> Result<(), AllocError>
     requires shares { length shares.now ≡ 48 }
     requires line { 2 * line + 1 < 2 ^ 16 }
-    ensures { OnOk result (text.new.items ≡ text.old.items
+    ensures { OnOk result (text.new ≡ text.old
         ++ two_rows shares.now (colour_at colours.now) colours.now.width colours.now.height line) }
 {
     push_blocks(text, shares, colours, 2 * line)?;
@@ -152,12 +152,12 @@ fn push_two_rows(
 
 /// Appends all lines from the top.
 pub(crate) fn push_lines(
-    text: &mut Vec<u8>,
+    text: &mut Explanation,
     shares: &[u8],
     colours: &PageColours,
 ) -> Result<(), AllocError>
     requires shares { length shares.now ≡ 48 }
-    ensures { OnOk result (text.new.items ≡ text.old.items
+    ensures { OnOk result (text.new ≡ text.old
         ++ lines_text shares.now (colour_at colours.now) colours.now.width colours.now.height ((colours.now.height + 1) / 2)) }
 {
     let lines = (colours.height() + 1) / 2;

@@ -6,6 +6,7 @@ ghost use Rattle.message_report.specs.Explanation.{Explains, Tells, TellsTooLong
 ghost use Rattle.message_report.specs.Words.{GrowsBy};
 
 use crate::accepted::AcceptedMessage;
+use crate::explanation::{Explanation, push_octets};
 use crate::format::{Format, Telling, Told};
 use crate::lines::{push_error_line, push_warning_lines};
 use crate::pages::push_told;
@@ -17,7 +18,6 @@ use crate::wording::Wording;
 use message_words::{Refusal, Times, warnings_on};
 use multi_layout::{Checked, check};
 use multi_token::Source;
-use octet_text::push_octets;
 use page_plane::Plane;
 use sign_font::Sign;
 use std::alloc::{AllocError, Global};
@@ -72,13 +72,13 @@ impl Explainer {
 
 /// Appends that a message has too many octets.
 fn push_unjudged(
-    text: &mut Vec<u8>,
+    text: &mut Explanation,
     alloc: Global,
     format: Format,
     name: &[u8],
     line: u32,
 ) -> Result<(), AllocError>
-    ensures { OnOk result (GrowsBy (TellsTooLong format name.now line) text.old.items text.new.items) }
+    ensures { OnOk result (GrowsBy (TellsTooLong format name.now line) text.old text.new) }
 {
     match format {
         Format::Text | Format::Ansi => {
@@ -97,7 +97,7 @@ fn push_unjudged(
 
 /// Appends the explanation of an accepted message.
 fn push_accepted(
-    text: &mut Vec<u8>,
+    text: &mut Explanation,
     name: &[u8],
     message: &AcceptedMessage<'_>,
     checked: Checked<'_>,
@@ -107,7 +107,7 @@ fn push_accepted(
     ensures { OnOk result (GrowsBy
         (Tells message.now.telling message.now.telling.format message.now.sign.now name.now checked.entry.source.octets
         message.now.line (Accepted (page_count checked.entry)))
-        text.old.items text.new.items) }
+        text.old text.new) }
 {
     match message.telling.format {
         Format::Text => push_told(text, message, checked, Picture::Marks),
@@ -119,12 +119,12 @@ fn push_accepted(
 
 /// Appends a refusal in words.
 fn push_refusal_words(
-    text: &mut Vec<u8>,
+    text: &mut Explanation,
     line: u32,
     refusal: &Refusal<'_>,
 ) -> Result<(), AllocError>
     ensures { OnOk result ((words : List ℕ)
-        × (text.new.items ≡ text.old.items ++ (line_head line ++ refused_text refusal.now.code refusal.now.at ++ words))) }
+        × (text.new ≡ text.old ++ (line_head line ++ refused_text refusal.now.code refusal.now.at ++ words))) }
 {
     push_line_head(text, line)?;
     push_refused(text, refusal.code, refusal.at)?;
@@ -134,7 +134,7 @@ fn push_refusal_words(
 
 /// Appends the explanation of a refused message.
 fn push_refusal(
-    text: &mut Vec<u8>,
+    text: &mut Explanation,
     telling: Telling,
     name: &[u8],
     line: u32,
@@ -144,7 +144,7 @@ fn push_refusal(
     ensures { OnOk result (GrowsBy
         (Tells telling telling.format refusal.now.sign.now name.now refusal.now.message.now line
         (Refused refusal.now.code refusal.now.at))
-        text.old.items text.new.items) }
+        text.old text.new) }
 {
     match telling.format {
         Format::Text | Format::Ansi => push_refusal_words(text, line, refusal),
@@ -193,10 +193,10 @@ impl Explainer {
         name: &[u8],
         line: u32,
         message: &[u8],
-        text: &mut Vec<u8>,
+        text: &mut Explanation,
     ) -> Result<Told, AllocError>
         ensures told { OnOk result
-            (GrowsBy (Explains telling self.now name.now line message.now) text.old.items text.new.items) }
+            (GrowsBy (Explains telling self.now name.now line message.now) text.old text.new) }
         ensures taken { IfOk result (λ told. told.is_taken ≡ takes self.now message.now) }
     {
         if message.len() > MAX_MESSAGE {

@@ -8,6 +8,7 @@
 mod accepted;
 mod blocks;
 mod explain;
+mod explanation;
 mod format;
 mod large;
 mod lines;
@@ -20,4 +21,5 @@ mod verdict;
 mod wording;
 
 pub use explain::Explainer;
+pub use explanation::Explanation;
 pub use format::{Format, Telling, Told};

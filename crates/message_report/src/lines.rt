@@ -3,10 +3,10 @@ ghost use Rattle.std.specs.Prelude.{◌≡◌, ◌++◌, ◌∷◌, ◌<◌, ◌
 ghost use Rattle.message_report.specs.Explanation.{IsWarnings, error_text, place_text, warning_text};
 ghost use Rattle.message_report.specs.Words.{GrowsBy, IsOneLine};
 
+use crate::explanation::{Explanation, push_octets};
 use crate::text::push_line;
 use crate::verdict::{push_error, push_place};
 use message_words::Warning;
-use octet_text::push_octets;
 use std::alloc::AllocError;
 
 /// The most octets of a message before the place of a warning (own).
@@ -14,7 +14,7 @@ const LAST: usize = 4_096;
 
 /// Appends the line of a refused message.
 pub(crate) fn push_error_line(
-    text: &mut Vec<u8>,
+    text: &mut Explanation,
     name: &[u8],
     line: u32,
     code: u8,
@@ -23,7 +23,7 @@ pub(crate) fn push_error_line(
 ) -> Result<(), AllocError>
     requires small { at < 2 ^ 63 }
     ensures { OnOk result ((words : List ℕ) × IsOneLine words
-        × (text.new.items ≡ text.old.items
+        × (text.new ≡ text.old
         ++ (place_text name.now line at ++ codes "error: " ++ error_text code ++ codes ": " ++ words ++ 10 ∷ []))) }
 {
     push_place(text, name, line, at)?;
@@ -36,13 +36,13 @@ pub(crate) fn push_error_line(
 
 /// Appends the line of a warning.
 fn push_warning_line(
-    text: &mut Vec<u8>,
+    text: &mut Explanation,
     name: &[u8],
     line: u32,
     warning: &Warning,
 ) -> Result<(), AllocError>
     ensures { OnOk result ((at : ℕ) × (words : List ℕ) × IsOneLine words
-        × (text.new.items ≡ text.old.items ++ warning_text name.now line at words)) }
+        × (text.new ≡ text.old ++ warning_text name.now line at words)) }
 {
     push_place(text, name, line, warning.at.min(LAST))?;
     push_octets(text, b"warning: ")?;
@@ -52,12 +52,12 @@ fn push_warning_line(
 
 /// Appends the lines of all warnings.
 pub(crate) fn push_warning_lines(
-    text: &mut Vec<u8>,
+    text: &mut Explanation,
     name: &[u8],
     line: u32,
     warnings: &[Warning],
 ) -> Result<(), AllocError>
-    ensures { OnOk result (GrowsBy (IsWarnings name.now line) text.old.items text.new.items) }
+    ensures { OnOk result (GrowsBy (IsWarnings name.now line) text.old text.new) }
 {
     for warning in warnings {
         push_warning_line(text, name, line, warning)?;

@@ -5,6 +5,7 @@ ghost use Rattle.page_plane.specs.Plane.{is_lit};
 ghost use Rattle.page_picture.specs.Rows.{marked_rows, row_text, rows_text};
 ghost use Rattle.message_report.specs.Pictures.{mark, mark_at};
 
+use crate::explanation::{Explanation, make_room, push_octet};
 use page_picture::{Mark, PageColours, write_rows};
 use page_plane::Plane;
 use std::alloc::AllocError;
@@ -30,21 +31,23 @@ fn write_marks(line: &mut [u8], colours: &[u8])
     }
 }
 
-/// Appends a row of pixels. The line is made first, so that its pixels are written with no look at the room.
-fn push_row(text: &mut Vec<u8>, colours: &PageColours, row: u16) -> Result<(), AllocError>
+/// Appends a row of pixels, which are written where they stand.
+fn push_row(text: &mut Explanation, colours: &PageColours, row: u16) -> Result<(), AllocError>
     requires { row < colours.now.height }
-    ensures { OnOk result (text.new.items ≡ text.old.items ++ row_text (mark_at colours.now) colours.now.width row) }
+    ensures { OnOk result (text.new ≡ text.old ++ row_text (mark_at colours.now) colours.now.width row) }
 {
     let colours = colours.row(row);
-    let start = text.len();
-    text.resize(start + colours.len() + 1, b'\n')?;
-    write_marks(&mut text[start..], colours);
+    let end = text.len + colours.len();
+    make_room(&mut text.octets, end)?;
+    write_marks(&mut text.octets[text.len..], colours);
+    text.len = end;
+    push_octet(text, b'\n')?;
     Ok(())
 }
 
 /// Appends the rows of pixels from the top.
-pub(crate) fn push_rows(text: &mut Vec<u8>, colours: &PageColours) -> Result<(), AllocError>
-    ensures { OnOk result (text.new.items ≡ text.old.items ++ rows_text (mark_at colours.now) colours.now.width colours.now.height) }
+pub(crate) fn push_rows(text: &mut Explanation, colours: &PageColours) -> Result<(), AllocError>
+    ensures { OnOk result (text.new ≡ text.old ++ rows_text (mark_at colours.now) colours.now.width colours.now.height) }
 {
     for row in 0..colours.height() {
         push_row(text, colours, row)?;
@@ -52,31 +55,14 @@ pub(crate) fn push_rows(text: &mut Vec<u8>, colours: &PageColours) -> Result<(),
     Ok(())
 }
 
-/// How many points are appended at once (own). The C library fills longer parts by an instruction that is repeated for each octet.
-const PART: usize = 2_000;
-
-/// Appends points.
-fn push_points(text: &mut Vec<u8>, count: usize) -> Result<(), AllocError>
-    requires { count < 2 ^ 32 }
-    ensures { OnOk result (text.new.items ≡ text.old.items ++ replicate count 46) }
+/// Appends the rows of pixels of a plane from the top, with the mark of colour 1 for a lit pixel and that of black for another. They are
+/// written where they stand.
+pub(crate) fn push_lit(text: &mut Explanation, plane: &Plane) -> Result<(), AllocError>
+    ensures { OnOk result (text.new ≡ text.old ++ marked_rows 49 (is_lit plane.now) plane.now.width plane.now.height) }
 {
-    let mut left = count;
-    while left > 0 {
-        let part = left.min(PART);
-        text.resize(text.len() + part, b'.')?;
-        left -= part;
-    }
-    Ok(())
-}
-
-/// Appends the rows of pixels of a plane from the top, with the mark of colour 1 for a lit pixel and that of black for another.
-pub(crate) fn push_lit(text: &mut Vec<u8>, plane: &Plane) -> Result<(), AllocError>
-    ensures { OnOk result (text.new.items ≡ text.old.items ++ marked_rows 49 (is_lit plane.now) plane.now.width plane.now.height) }
-{
-    let start = text.len();
     let count = (usize::from(plane.width()) + 1) * usize::from(plane.height());
-    push_points(text, count + 8)?;
-    write_rows(&mut text[start..], plane, Mark::One);
-    text.truncate(start + count);
+    make_room(&mut text.octets, text.len + count + 8)?;
+    write_rows(&mut text.octets[text.len..], plane, Mark::One);
+    text.len += count;
     Ok(())
 }

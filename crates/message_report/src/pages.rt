@@ -6,10 +6,10 @@ ghost use Rattle.message_report.specs.Words.{Grows, GrowsBy};
 ghost use Rattle.message_report.specs.declared.picture.Picture.TheVariants.{Marks};
 
 use crate::accepted::AcceptedMessage;
+use crate::explanation::Explanation;
 use crate::picture::{Picture, push_next_lit, push_picture};
 use crate::text::{push_legend, push_message, push_times, push_warnings};
 use crate::verdict::{push_accepted, push_head, push_line_head};
-use message_words::PageTimes;
 use multi_layout::Checked;
 use page_plane::Plane;
 use std::alloc::AllocError;
@@ -33,7 +33,7 @@ fn plane_of(message: &AcceptedMessage<'_>) -> Result<Plane, AllocError>
 /// Appends all pages of a monochrome sign, each with its times and its picture by marks. They are drawn in turn into one plane, and no
 /// page is looked for.
 fn push_lit_pages(
-    text: &mut Vec<u8>,
+    text: &mut Explanation,
     message: &AcceptedMessage<'_>,
     checked: Checked<'_>,
 ) -> Result<(), AllocError>
@@ -43,16 +43,14 @@ fn push_lit_pages(
     ensures { OnOk result (GrowsBy
         (HasPages (picture_text Marks message.now.sign.now checked.entry.source.octets message.now.telling.phase)
         (page_count checked.entry) (page_count checked.entry))
-        text.old.items text.new.items) }
+        text.old text.new) }
 {
-    let AcceptedMessage { telling, sign, .. } = *message;
     let plane = plane_of(message)?;
     let pages = checked.pages();
-    let mut times = PageTimes::new(sign, message.message);
-    let mut drawn = checked.each_page(telling.phase, 1, plane);
+    let mut drawn = checked.each_page(message.telling.phase, 1, plane);
     for page in 0..pages {
         push_head(text, page, pages)?;
-        push_times(text, message, &mut times, pages)?;
+        push_times(text, message, page, pages)?;
         push_next_lit(text, &mut drawn)?;
     }
     message.plane.set(Some(drawn.finish().1));
@@ -61,7 +59,7 @@ fn push_lit_pages(
 
 /// Appends all pages, each with its times and its picture, as [`push_picture`] draws it.
 fn push_drawn_pages(
-    text: &mut Vec<u8>,
+    text: &mut Explanation,
     message: &AcceptedMessage<'_>,
     checked: Checked<'_>,
     picture: Picture,
@@ -71,7 +69,7 @@ fn push_drawn_pages(
     ensures { OnOk result (GrowsBy
         (HasPages (picture_text picture message.now.sign.now checked.entry.source.octets message.now.telling.phase)
         (page_count checked.entry) (page_count checked.entry))
-        text.old.items text.new.items) }
+        text.old text.new) }
 {
     let AcceptedMessage {
         alloc,
@@ -81,10 +79,9 @@ fn push_drawn_pages(
     } = *message;
     let mut checked = checked;
     let pages = checked.pages();
-    let mut times = PageTimes::new(sign, message.message);
     for page in 0..pages {
         push_head(text, page, pages)?;
-        push_times(text, message, &mut times, pages)?;
+        push_times(text, message, page, pages)?;
         push_picture(
             text,
             alloc,
@@ -100,7 +97,7 @@ fn push_drawn_pages(
 
 /// Appends all pages, each with its times and its picture.
 fn push_pages(
-    text: &mut Vec<u8>,
+    text: &mut Explanation,
     message: &AcceptedMessage<'_>,
     checked: Checked<'_>,
     picture: Picture,
@@ -110,7 +107,7 @@ fn push_pages(
     ensures { OnOk result (GrowsBy
         (HasPages (picture_text picture message.now.sign.now checked.entry.source.octets message.now.telling.phase)
         (page_count checked.entry) (page_count checked.entry))
-        text.old.items text.new.items) }
+        text.old text.new) }
 {
     match picture {
         Picture::Marks if !message.sign.classic() => push_lit_pages(text, message, checked),
@@ -120,12 +117,12 @@ fn push_pages(
 
 /// Appends what stands behind the pages: what their marks mean, the warnings, and an empty line.
 fn push_notes(
-    text: &mut Vec<u8>,
+    text: &mut Explanation,
     message: &AcceptedMessage<'_>,
     is_still: bool,
     picture: Picture,
 ) -> Result<(), AllocError>
-    ensures { OnOk result (Grows text.old.items text.new.items) }
+    ensures { OnOk result (Grows text.old text.new) }
 {
     push_legend(text, message, is_still, picture)?;
     push_warnings(text, message)
@@ -133,7 +130,7 @@ fn push_notes(
 
 /// Appends the explanation of an accepted message with its pages.
 fn push_shown(
-    text: &mut Vec<u8>,
+    text: &mut Explanation,
     message: &AcceptedMessage<'_>,
     checked: Checked<'_>,
     picture: Picture,
@@ -143,7 +140,7 @@ fn push_shown(
     ensures { OnOk result (GrowsBy
         (ShowsPages (picture_text picture message.now.sign.now checked.entry.source.octets message.now.telling.phase)
         message.now.line (page_count checked.entry))
-        text.old.items text.new.items) }
+        text.old text.new) }
 {
     let is_still = checked.pages() > 1 && checked.cycle() == 0;
     push_line_head(text, message.line)?;
@@ -156,11 +153,11 @@ fn push_shown(
 
 /// Appends the warnings on an accepted message, if there are any.
 fn push_warned(
-    text: &mut Vec<u8>,
+    text: &mut Explanation,
     message: &AcceptedMessage<'_>,
     pages: u8,
 ) -> Result<(), AllocError>
-    ensures { OnOk result (GrowsBy (PassesOver message.now.line pages) text.old.items text.new.items) }
+    ensures { OnOk result (GrowsBy (PassesOver message.now.line pages) text.old text.new) }
 {
     if message.found.warnings.is_empty() {
         return Ok(());
@@ -173,7 +170,7 @@ fn push_warned(
 
 /// Appends the explanation of an accepted message in words and pictures.
 pub(crate) fn push_told(
-    text: &mut Vec<u8>,
+    text: &mut Explanation,
     message: &AcceptedMessage<'_>,
     checked: Checked<'_>,
     picture: Picture,
@@ -184,7 +181,7 @@ pub(crate) fn push_told(
         (TellsAccepted message.now.telling.refused_only
         (picture_text picture message.now.sign.now checked.entry.source.octets message.now.telling.phase)
         message.now.line (page_count checked.entry))
-        text.old.items text.new.items) }
+        text.old text.new) }
 {
     if message.telling.refused_only {
         push_warned(text, message, checked.pages())?;

@@ -5,6 +5,7 @@ ghost use Rattle.message_report.specs.Explanation.{picture_text};
 ghost use Rattle.message_report.specs.Pictures.{page_text};
 
 use crate::blocks::push_lines;
+use crate::explanation::Explanation;
 use crate::marks::{push_lit, push_rows};
 use multi_layout::{Checked, Pages, Shown};
 use page_picture::{PageColours, palette_of, show};
@@ -23,7 +24,7 @@ pub(crate) enum Picture {
 
 /// Appends the picture of a page of a monochrome sign at a phase by marks. A pixel has colour 1 or 0, which one plane tells.
 fn push_monochrome(
-    text: &mut Vec<u8>,
+    text: &mut Explanation,
     alloc: Global,
     sign: &Sign,
     checked: &mut Checked<'_>,
@@ -33,7 +34,7 @@ fn push_monochrome(
     requires sign { checked.old.sign ≡ sign.now }
     requires monochrome { sign.now.classic ≡ false }
     requires page { page < page_count checked.old }
-    ensures ok { OnOk result (text.new.items ≡ text.old.items ++ page_text sign.now checked.old.source.octets page phase) }
+    ensures ok { OnOk result (text.new ≡ text.old ++ page_text sign.now checked.old.source.octets page phase) }
     ensures kept { (checked.new.sign ≡ checked.old.sign) × (checked.new.source.octets ≡ checked.old.source.octets) }
 {
     let Ok(mut plane) = Plane::new(alloc, sign.width(), sign.height()) else {
@@ -44,11 +45,11 @@ fn push_monochrome(
 }
 
 /// Appends the picture of the next page of a monochrome sign by marks, of pages that are drawn in colour 1.
-pub(crate) fn push_next_lit(text: &mut Vec<u8>, pages: &mut Pages<'_>) -> Result<(), AllocError>
+pub(crate) fn push_next_lit(text: &mut Explanation, pages: &mut Pages<'_>) -> Result<(), AllocError>
     requires monochrome { pages.old.string.sign.classic ≡ false }
     requires colour { pages.old.colour ≡ 1 }
     requires next { pages.old.next < page_count pages.old.string }
-    ensures ok { OnOk result (text.new.items ≡ text.old.items
+    ensures ok { OnOk result (text.new ≡ text.old
         ++ page_text pages.old.string.sign pages.old.string.source.octets pages.old.next pages.old.phase) }
     ensures next { pages.new.next ≡ pages.old.next + 1 }
     ensures kept { (pages.new.string.sign ≡ pages.old.string.sign) × (pages.new.string.source.octets ≡ pages.old.string.source.octets) }
@@ -63,7 +64,7 @@ pub(crate) fn push_next_lit(text: &mut Vec<u8>, pages: &mut Pages<'_>) -> Result
 
 /// Appends the picture of a page at a phase, in tenths of a second since the page began.
 pub(crate) fn push_picture(
-    text: &mut Vec<u8>,
+    text: &mut Explanation,
     alloc: Global,
     sign: &Sign,
     checked: &mut Checked<'_>,
@@ -74,7 +75,7 @@ pub(crate) fn push_picture(
     requires sign { checked.old.sign ≡ sign.now }
     requires page { page < page_count checked.old }
     ensures ok { OnOk result
-        (text.new.items ≡ text.old.items ++ picture_text picture sign.now checked.old.source.octets phase page) }
+        (text.new ≡ text.old ++ picture_text picture sign.now checked.old.source.octets phase page) }
     ensures kept { (checked.new.sign ≡ checked.old.sign) × (checked.new.source.octets ≡ checked.old.source.octets) }
 {
     if let Picture::Marks = picture {

@@ -11,23 +11,24 @@ ghost use Rattle.message_report.specs.Records.{ArePages, TellsPages, TellsRecord
 ghost use Rattle.message_report.specs.Words.{GrowsBy};
 
 use crate::accepted::AcceptedMessage;
+use crate::explanation::{Explanation, push_octet, push_octets};
 use crate::format::Telling;
 use crate::picture::{Picture, push_picture};
 use crate::verdict::name_of;
-use message_words::{PageTimes, Warning};
+use message_words::Warning;
 use multi_layout::Checked;
 use serde_json::{Value, json};
 use sign_font::Sign;
 use std::alloc::{AllocError, Global};
 
 /// Appends a record as a line.
-fn push_record(text: &mut Vec<u8>, alloc: Global, value: &Value) -> Result<(), AllocError>
+fn push_record(text: &mut Explanation, alloc: Global, value: &Value) -> Result<(), AllocError>
     requires whole { has_float (view value.now) ≡ false }
-    ensures { OnOk result (text.new.items ≡ text.old.items ++ (compact_text (view value.now) ++ 10 ∷ [])) }
+    ensures { OnOk result (text.new ≡ text.old ++ (compact_text (view value.now) ++ 10 ∷ [])) }
 {
     let line = value.to_vec(alloc)?;
-    text.extend_from_slice(&line)?;
-    Ok(text.push(b'\n')?)
+    push_octets(text, &line)?;
+    push_octet(text, b'\n')
 }
 
 /// A message as text, or nothing if its octets are none in UTF-8.
@@ -99,7 +100,7 @@ fn refused_value(
 /// Appends the record of a refused message.
 #[tactic(auto, unfolding(crate::specs::Records::refused_record))]
 pub(crate) fn push_refused_record(
-    text: &mut Vec<u8>,
+    text: &mut Explanation,
     alloc: Global,
     line: u32,
     message: &[u8],
@@ -108,7 +109,7 @@ pub(crate) fn push_refused_record(
     reason: &String,
 ) -> Result<(), AllocError>
     ensures { OnOk result ((shown : Data) × (octets : Data) × (words : List ℕ)
-        × (text.new.items ≡ text.old.items ++ (compact_text (refused_record line shown octets code at words) ++ 10 ∷ []))) }
+        × (text.new ≡ text.old ++ (compact_text (refused_record line shown octets code at words) ++ 10 ∷ []))) }
 {
     let shown = message_value(alloc, message)?;
     let octets = octets_value(alloc, message)?;
@@ -131,11 +132,11 @@ fn too_long_value(alloc: Global, line: u32) -> Result<Value, AllocError>
 /// Appends the record of a message with too many octets.
 #[tactic(auto, unfolding(crate::specs::Records::too_long_record))]
 pub(crate) fn push_too_long_record(
-    text: &mut Vec<u8>,
+    text: &mut Explanation,
     alloc: Global,
     line: u32,
 ) -> Result<(), AllocError>
-    ensures { OnOk result (GrowsBy (TooLongRecord line) text.old.items text.new.items) }
+    ensures { OnOk result (GrowsBy (TooLongRecord line) text.old text.new) }
 {
     let record = too_long_value(alloc, line)?;
     push_record(text, alloc, &record)
@@ -158,7 +159,7 @@ fn picture_value(
     if !telling.pictures {
         return Ok(Value::Null);
     }
-    let mut text = Vec::new(alloc);
+    let mut text = Explanation::new(alloc);
     push_picture(
         &mut text,
         alloc,
@@ -168,7 +169,7 @@ fn picture_value(
         page,
         telling.phase,
     )?;
-    match String::from_utf8(text) {
+    match String::from_utf8(text.into_octets()) {
         Ok(text) => Ok(Value::String(text)),
         // A mark is an octet of ASCII.
         Err(_) => Err(AllocError),
@@ -202,9 +203,8 @@ fn page_values(
     } = *message;
     let mut list = Vec::new(alloc);
     let pages = checked.pages();
-    let mut walk = PageTimes::new(sign, message.message);
     for page in 0..pages {
-        let times = walk.next_page();
+        let times = message.found.times.of(page);
         let picture = picture_value(alloc, telling, sign, checked, page)?;
         let value = page_value(alloc, page, times.on, times.off, picture)?;
         list.push(value)?;
@@ -236,7 +236,7 @@ fn accepted_value(
 
 /// Appends the record of an accepted message with its pages.
 fn push_pages_record(
-    text: &mut Vec<u8>,
+    text: &mut Explanation,
     message: &AcceptedMessage<'_>,
     checked: Checked<'_>,
 ) -> Result<(), AllocError>
@@ -244,7 +244,7 @@ fn push_pages_record(
     requires short { length checked.source.octets < 2 ^ 32 }
     ensures { OnOk result (GrowsBy
         (TellsPages message.now.telling message.now.sign.now checked.entry.source.octets message.now.line (page_count checked.entry))
-        text.old.items text.new.items) }
+        text.old text.new) }
 {
     let mut checked = checked;
     let alloc = message.alloc;
@@ -258,7 +258,7 @@ fn push_pages_record(
 
 /// Appends the record of an accepted message, unless only refused ones are asked for and there is no warning on it.
 pub(crate) fn push_accepted_record(
-    text: &mut Vec<u8>,
+    text: &mut Explanation,
     message: &AcceptedMessage<'_>,
     checked: Checked<'_>,
 ) -> Result<(), AllocError>
@@ -267,7 +267,7 @@ pub(crate) fn push_accepted_record(
     ensures { OnOk result (GrowsBy
         (TellsRecord message.now.telling message.now.sign.now checked.entry.source.octets message.now.line
         (Accepted (page_count checked.entry)))
-        text.old.items text.new.items) }
+        text.old text.new) }
 {
     if message.telling.refused_only && message.found.warnings.is_empty() {
         return Ok(());

@@ -3,15 +3,15 @@ ghost use Rattle.std.specs.Prelude.{◌≢◌, OnOk};
 ghost use Rattle.message_report.specs.Words.{Grows, GrowsByLine, GrowsInLine};
 
 use crate::accepted::AcceptedMessage;
+use crate::explanation::{Explanation, push_number, push_octet, push_octets};
 use crate::picture::Picture;
-use message_words::{FLASHING, MessageLine, NO_TIMES, PageTimes, SHOWN_ALWAYS, Warning, marks_of};
-use octet_text::{push_number, push_octet, push_octets};
+use message_words::{FLASHING, MessageLine, NO_TIMES, SHOWN_ALWAYS, Warning, marks_of};
 use sign_font::Sign;
 use std::alloc::{AllocError, Global};
 
 /// Appends words.
-pub(crate) fn push_words(text: &mut Vec<u8>, words: &String) -> Result<(), AllocError>
-    ensures { OnOk result (Grows text.old.items text.new.items) }
+pub(crate) fn push_words(text: &mut Explanation, words: &String) -> Result<(), AllocError>
+    ensures { OnOk result (Grows text.old text.new) }
 {
     push_octets(text, words.as_bytes())
 }
@@ -24,8 +24,8 @@ fn in_line(octet: u8) -> u8
 }
 
 /// Appends octets, with a question mark in place of a line feed. Few have one.
-fn push_in_line(text: &mut Vec<u8>, octets: &[u8]) -> Result<(), AllocError>
-    ensures { OnOk result (GrowsInLine text.old.items text.new.items) }
+fn push_in_line(text: &mut Explanation, octets: &[u8]) -> Result<(), AllocError>
+    ensures { OnOk result (GrowsInLine text.old text.new) }
 {
     if !octets.contains(&b'\n') {
         return push_octets(text, octets);
@@ -37,8 +37,8 @@ fn push_in_line(text: &mut Vec<u8>, octets: &[u8]) -> Result<(), AllocError>
 }
 
 /// Appends words as one line, with a question mark in place of a line feed.
-pub(crate) fn push_line(text: &mut Vec<u8>, words: &[u8]) -> Result<(), AllocError>
-    ensures { OnOk result (GrowsByLine text.old.items text.new.items) }
+pub(crate) fn push_line(text: &mut Explanation, words: &[u8]) -> Result<(), AllocError>
+    ensures { OnOk result (GrowsByLine text.old text.new) }
 {
     push_in_line(text, words)?;
     push_octet(text, b'\n')
@@ -46,11 +46,11 @@ pub(crate) fn push_line(text: &mut Vec<u8>, words: &[u8]) -> Result<(), AllocErr
 
 /// Appends a message as a line.
 pub(crate) fn push_message(
-    text: &mut Vec<u8>,
+    text: &mut Explanation,
     alloc: Global,
     message: &[u8],
 ) -> Result<(), AllocError>
-    ensures { OnOk result (GrowsByLine text.old.items text.new.items) }
+    ensures { OnOk result (GrowsByLine text.old text.new) }
 {
     let line = MessageLine(message);
     if let Some((front, rest)) = line.as_plain() {
@@ -65,28 +65,29 @@ pub(crate) fn push_message(
     push_line(text, words.as_bytes())
 }
 
-/// Appends how long the next page of so many is shown, and how long the sign is dark after it, to the end of a line.
+/// Appends how long a page of so many is shown, and how long the sign is dark after it, to the end of a line.
 pub(crate) fn push_times(
-    text: &mut Vec<u8>,
+    text: &mut Explanation,
     message: &AcceptedMessage<'_>,
-    times: &mut PageTimes<'_>,
+    page: u8,
     pages: u8,
 ) -> Result<(), AllocError>
-    ensures { OnOk result (GrowsByLine text.old.items text.new.items) }
+    ensures { OnOk result (GrowsByLine text.old text.new) }
 {
     if pages == 1 {
         return push_line(text, SHOWN_ALWAYS.as_bytes());
     }
-    if !message.found.sets_times {
+    let times = &message.found.times;
+    if times.is_usual() {
         return push_line(text, message.usual.as_bytes());
     }
-    let words = times.next_page().words(message.alloc)?;
+    let words = times.of(page).words(message.alloc)?;
     push_line(text, words.as_bytes())
 }
 
 /// Appends what the marks of the pictures mean, if they have marks.
-fn push_marks(text: &mut Vec<u8>, sign: &Sign, picture: Picture) -> Result<(), AllocError>
-    ensures { OnOk result (Grows text.old.items text.new.items) }
+fn push_marks(text: &mut Explanation, sign: &Sign, picture: Picture) -> Result<(), AllocError>
+    ensures { OnOk result (Grows text.old text.new) }
 {
     match picture {
         Picture::Marks => push_octets(text, marks_of(sign).as_bytes()),
@@ -95,15 +96,15 @@ fn push_marks(text: &mut Vec<u8>, sign: &Sign, picture: Picture) -> Result<(), A
 }
 
 /// Appends that pages don't change, if they don't.
-fn push_still(text: &mut Vec<u8>, is_still: bool) -> Result<(), AllocError>
-    ensures { OnOk result (Grows text.old.items text.new.items) }
+fn push_still(text: &mut Explanation, is_still: bool) -> Result<(), AllocError>
+    ensures { OnOk result (Grows text.old text.new) }
 {
     push_octets(text, if is_still { NO_TIMES.as_bytes() } else { b"" })
 }
 
 /// Appends that text flashes, and when its page is drawn.
-fn push_flashing(text: &mut Vec<u8>, phase: u64) -> Result<(), AllocError>
-    ensures { OnOk result (Grows text.old.items text.new.items) }
+fn push_flashing(text: &mut Explanation, phase: u64) -> Result<(), AllocError>
+    ensures { OnOk result (Grows text.old text.new) }
 {
     let [before, behind] = FLASHING;
     push_octets(text, before.as_bytes())?;
@@ -113,12 +114,12 @@ fn push_flashing(text: &mut Vec<u8>, phase: u64) -> Result<(), AllocError>
 
 /// Appends what the marks of the pictures mean, and what pictures don't show: that pages don't change, and that text flashes.
 pub(crate) fn push_legend(
-    text: &mut Vec<u8>,
+    text: &mut Explanation,
     message: &AcceptedMessage<'_>,
     is_still: bool,
     picture: Picture,
 ) -> Result<(), AllocError>
-    ensures { OnOk result (Grows text.old.items text.new.items) }
+    ensures { OnOk result (Grows text.old text.new) }
 {
     push_marks(text, message.sign, picture)?;
     push_still(text, is_still)?;
@@ -129,8 +130,8 @@ pub(crate) fn push_legend(
 }
 
 /// Appends a warning as a line.
-fn push_warning(text: &mut Vec<u8>, warning: &Warning) -> Result<(), AllocError>
-    ensures { OnOk result (Grows text.old.items text.new.items) }
+fn push_warning(text: &mut Explanation, warning: &Warning) -> Result<(), AllocError>
+    ensures { OnOk result (Grows text.old text.new) }
 {
     push_octets(text, b"warning at octet ")?;
     push_number(text, warning.at as u64)?;
@@ -141,10 +142,10 @@ fn push_warning(text: &mut Vec<u8>, warning: &Warning) -> Result<(), AllocError>
 
 /// Appends the warnings on a message, and the empty line that stands behind each explanation.
 pub(crate) fn push_warnings(
-    text: &mut Vec<u8>,
+    text: &mut Explanation,
     message: &AcceptedMessage<'_>,
 ) -> Result<(), AllocError>
-    ensures { OnOk result (Grows text.old.items text.new.items) }
+    ensures { OnOk result (Grows text.old text.new) }
 {
     for warning in &message.found.warnings {
         push_warning(text, warning)?;

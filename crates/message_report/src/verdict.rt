@@ -3,7 +3,7 @@ ghost use Rattle.std.specs.Prelude.{◌≡◌, ◌++◌, ◌<◌, ◌^◌, OnOk}
 ghost use Rattle.message_report.specs.Explanation.{accepted_text, error_text, head_text, line_head, place_text, refused_text, too_long_text};
 ghost use Rattle.message_report.specs.Names.{name_of};
 
-use octet_text::{push_number, push_octets};
+use crate::explanation::{Explanation, push_number, push_octets};
 use std::alloc::AllocError;
 
 /// The name of an error (NTCIP 1203 v03, dmsMultiSyntaxError).
@@ -25,8 +25,8 @@ pub(crate) fn name_of(code: u8) -> &'static str
 
 /// Appends the number of the line of a message.
 #[tactic(auto, unfolding(crate::specs::Explanation::line_head))]
-pub(crate) fn push_line_head(text: &mut Vec<u8>, line: u32) -> Result<(), AllocError>
-    ensures { OnOk result (text.new.items ≡ text.old.items ++ line_head line) }
+pub(crate) fn push_line_head(text: &mut Explanation, line: u32) -> Result<(), AllocError>
+    ensures { OnOk result (text.new ≡ text.old ++ line_head line) }
 {
     push_octets(text, b"line ")?;
     push_number(text, u64::from(line))?;
@@ -36,13 +36,13 @@ pub(crate) fn push_line_head(text: &mut Vec<u8>, line: u32) -> Result<(), AllocE
 /// Appends a place: the name of a file, a line, and the column of an octet, which is counted from 0 here.
 #[tactic(auto, unfolding(crate::specs::Explanation::place_text))]
 pub(crate) fn push_place(
-    text: &mut Vec<u8>,
+    text: &mut Explanation,
     name: &[u8],
     line: u32,
     at: usize,
 ) -> Result<(), AllocError>
     requires small { at < 2 ^ 63 }
-    ensures { OnOk result (text.new.items ≡ text.old.items ++ place_text name.now line at) }
+    ensures { OnOk result (text.new ≡ text.old ++ place_text name.now line at) }
 {
     push_octets(text, name)?;
     push_octets(text, b":")?;
@@ -54,8 +54,8 @@ pub(crate) fn push_place(
 
 /// Appends the name and the number of an error.
 #[tactic(auto, unfolding(crate::specs::Explanation::error_text))]
-pub(crate) fn push_error(text: &mut Vec<u8>, code: u8) -> Result<(), AllocError>
-    ensures { OnOk result (text.new.items ≡ text.old.items ++ error_text code) }
+pub(crate) fn push_error(text: &mut Explanation, code: u8) -> Result<(), AllocError>
+    ensures { OnOk result (text.new ≡ text.old ++ error_text code) }
 {
     push_octets(text, name_of(code).as_bytes())?;
     push_octets(text, b" (")?;
@@ -65,8 +65,8 @@ pub(crate) fn push_error(text: &mut Vec<u8>, code: u8) -> Result<(), AllocError>
 
 /// Appends that a message is refused, with its error and the octet where that stands.
 #[tactic(auto, unfolding(crate::specs::Explanation::refused_text))]
-pub(crate) fn push_refused(text: &mut Vec<u8>, code: u8, at: usize) -> Result<(), AllocError>
-    ensures { OnOk result (text.new.items ≡ text.old.items ++ refused_text code at) }
+pub(crate) fn push_refused(text: &mut Explanation, code: u8, at: usize) -> Result<(), AllocError>
+    ensures { OnOk result (text.new ≡ text.old ++ refused_text code at) }
 {
     push_octets(text, b"refused: ")?;
     push_error(text, code)?;
@@ -77,8 +77,8 @@ pub(crate) fn push_refused(text: &mut Vec<u8>, code: u8, at: usize) -> Result<()
 
 /// Appends that a message is accepted, with the number of its pages.
 #[tactic(auto, unfolding(crate::specs::Explanation::accepted_text))]
-pub(crate) fn push_accepted(text: &mut Vec<u8>, pages: u8) -> Result<(), AllocError>
-    ensures { OnOk result (text.new.items ≡ text.old.items ++ accepted_text pages) }
+pub(crate) fn push_accepted(text: &mut Explanation, pages: u8) -> Result<(), AllocError>
+    ensures { OnOk result (text.new ≡ text.old ++ accepted_text pages) }
 {
     push_octets(text, b"accepted: ")?;
     push_number(text, u64::from(pages))?;
@@ -91,16 +91,16 @@ pub(crate) fn push_accepted(text: &mut Vec<u8>, pages: u8) -> Result<(), AllocEr
 
 /// Appends that a message has too many octets.
 #[tactic(auto, unfolding(crate::specs::Explanation::too_long_text))]
-pub(crate) fn push_too_long(text: &mut Vec<u8>) -> Result<(), AllocError>
-    ensures { OnOk result (text.new.items ≡ text.old.items ++ too_long_text) }
+pub(crate) fn push_too_long(text: &mut Explanation) -> Result<(), AllocError>
+    ensures { OnOk result (text.new ≡ text.old ++ too_long_text) }
 {
     push_octets(text, b"too long: a message has at most 4096 octets\n")
 }
 
 /// Appends the number of a page, which is counted from 0, among the pages.
 #[tactic(auto, unfolding(crate::specs::Explanation::head_text))]
-pub(crate) fn push_head(text: &mut Vec<u8>, page: u8, pages: u8) -> Result<(), AllocError>
-    ensures { OnOk result (text.new.items ≡ text.old.items ++ head_text page pages) }
+pub(crate) fn push_head(text: &mut Explanation, page: u8, pages: u8) -> Result<(), AllocError>
+    ensures { OnOk result (text.new ≡ text.old ++ head_text page pages) }
 {
     push_octets(text, b"page ")?;
     push_number(text, u64::from(page) + 1)?;

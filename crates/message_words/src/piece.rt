@@ -46,23 +46,8 @@ fn plain_front(octets: &[u8]) -> usize {
     octets.iter().position(is_bracket).unwrap_or(octets.len())
 }
 
-/// The next bracket from an offset on behind which one of these names stands, in letters of either case. No doubled bracket is one.
-pub(crate) fn named_from(message: &[u8], from: usize, names: &[&[u8; 2]]) -> Option<usize> {
-    let mut at = from;
-    for _ in 0..message.len() {
-        let plain = message.get(at..)?.iter().position(|octet| *octet == b'[')?;
-        let begin = at.saturating_add(plain);
-        let name = message.get(begin.saturating_add(1)..begin.saturating_add(3))?;
-        if names.iter().any(|other| name.eq_ignore_ascii_case(*other)) {
-            return Some(begin);
-        }
-        // behind a doubled bracket, or within a tag
-        at = begin.saturating_add(2);
-    }
-    None
-}
-
 /// The tag with which octets begin, and how many octets spell it, if they begin with one that means anything.
+#[inline(always)]
 pub(crate) fn tag_of(octets: &[u8]) -> Option<(Tag, usize)> {
     let [b'[', behind @ ..] = octets else {
         return None;
@@ -75,6 +60,9 @@ pub(crate) fn tag_of(octets: &[u8]) -> Option<(Tag, usize)> {
 #[inline(always)]
 pub(crate) fn piece_at(message: &[u8], at: usize) -> Option<(Piece<'_>, usize)> {
     let rest = message.get(at..)?;
+    if rest.is_empty() {
+        return None;
+    }
     let plain = plain_front(rest);
     if plain > 0 {
         return Some((Piece::Text(rest.get(..plain)?), at.saturating_add(plain)));

@@ -1,7 +1,5 @@
 //! The times of the pages of a message.
 
-use crate::piece::{named_from, tag_of};
-use multi_tag::Tag;
 use sign_font::Sign;
 use std::alloc::{AllocError, Global};
 
@@ -55,43 +53,42 @@ fn push_seconds(words: &mut String, tenths: u8) -> Result<(), AllocError> {
     words.push_str(" seconds")
 }
 
-/// The times of the pages of a message that a sign accepts, one page after the other (NTCIP 1203 v03, MULTI tag 'pt').
-#[derive(Clone, Copy)]
-pub struct PageTimes<'a> {
-    sign: &'a Sign,
-    /// What stands behind the pages so far.
-    rest: &'a [u8],
-    /// The times in force.
-    times: Times,
+/// The times of the pages of a message that a sign accepts (NTCIP 1203 v03, MULTI tag 'pt').
+#[derive(Drop)]
+pub struct PageTimes {
+    /// Those of the pages before the first tag that sets them.
+    usual: Times,
+    /// The pages with such a tag, counted from 0, and the times behind it.
+    set: Vec<(u8, Times)>,
 }
 
-impl<'a> PageTimes<'a> {
-    /// Those of a message, before its first page.
-    pub fn new(sign: &'a Sign, message: &'a [u8]) -> PageTimes<'a> {
+impl PageTimes {
+    /// Those of a message in which no tag sets them.
+    pub(crate) fn new(alloc: Global, sign: &Sign) -> PageTimes {
         PageTimes {
-            sign,
-            rest: message,
-            times: Times::usual(sign),
+            usual: Times::usual(sign),
+            set: Vec::new(alloc),
         }
     }
 
-    /// The times of the next page.
-    pub fn next_page(&mut self) -> Times {
-        for _ in 0..self.rest.len() {
-            let Some(begin) = named_from(self.rest, 0, &[b"np", b"pt"]) else {
-                break;
-            };
-            let tag = tag_of(self.rest.get(begin..).unwrap_or(b""));
-            self.rest = self.rest.get(begin.saturating_add(2)..).unwrap_or(b"");
-            match tag {
-                Some((Tag::NewPage, _)) => return self.times,
-                Some((Tag::PageTime { on, off }, _)) => {
-                    self.times = Times::of_tag(self.sign, on, off);
-                }
-                _ => {}
+    /// Sets those of a page, and of the pages after it.
+    pub(crate) fn set(&mut self, page: u8, times: Times) -> Result<(), AllocError> {
+        Ok(self.set.push((page, times))?)
+    }
+
+    /// Whether no tag sets them.
+    pub fn is_usual(&self) -> bool {
+        self.set.is_empty()
+    }
+
+    /// Those of a page, counted from 0.
+    pub fn of(&self, page: u8) -> Times {
+        let mut times = self.usual;
+        for (first, set) in &self.set {
+            if *first <= page {
+                times = *set;
             }
         }
-        self.rest = b"";
-        self.times
+        times
     }
 }

@@ -3,10 +3,10 @@ ghost use Rattle.std.specs.Prelude.{◌≡◌, ◌∷◌, [], ◌++◌, ◌<◌,
 ghost use Rattle.std.specs.List.{Contains};
 ghost use Rattle.message_words.specs.Places.{places};
 
-use crate::piece::{Piece, piece_at};
+use crate::piece::tag_of;
 use crate::plain::is_seen_in;
 use crate::sight::Sight;
-use crate::times::Times;
+use crate::times::{PageTimes, Times};
 use multi_layout::Checked;
 use multi_tag::{FontPick, Tag};
 use multi_token::Source;
@@ -30,8 +30,8 @@ pub struct Findings {
     pub warnings: Vec<Warning>,
     /// Whether a character has a flash with an off time (NTCIP 1203 v03, MULTI tag 'fl').
     pub flashes: bool,
-    /// Whether a tag sets page times (NTCIP 1203 v03, MULTI tag 'pt').
-    pub sets_times: bool,
+    /// The times of its pages.
+    pub times: PageTimes,
 }
 
 /// The least time for which a page is shown without a warning, in tenths of a second (own).
@@ -58,9 +58,10 @@ struct Reading<'a> {
     /// The page, counted from 0, and the octet where it begins.
     page: u8,
     begin: usize,
-    /// The octet of the last tag that set page times, and the times in force.
+    /// The octet of the last tag that set page times, the times in force, and those of the pages.
     times_at: usize,
     times: Times,
+    page_times: PageTimes,
     line_just: u8,
     /// The octet of the space that is the last character of the line so far, if it is one, behind another character.
     space: Option<usize>,
@@ -75,8 +76,6 @@ struct Reading<'a> {
     /// Whether a flash with an off time is in force, and whether a character has one.
     is_flashing: bool,
     flashes: bool,
-    /// Whether a tag set page times.
-    sets_times: bool,
 }
 
 impl<'a> Reading<'a> {
@@ -100,6 +99,7 @@ impl<'a> Reading<'a> {
             begin: 0,
             times_at: 0,
             times: Times::usual(sign),
+            page_times: PageTimes::new(alloc, sign),
             line_just: sign.defaults().line,
             space: None,
             is_begun: false,
@@ -108,7 +108,6 @@ impl<'a> Reading<'a> {
             has_text: false,
             is_flashing: false,
             flashes: false,
-            sets_times: false,
         }
     }
 
@@ -128,6 +127,7 @@ impl<'a> Reading<'a> {
     }
 
     /// Ends a line.
+    #[inline(always)]
     fn end_line(&mut self) -> Result<(), AllocError> {
         if let Some(at) = self.space {
             if self.line_just > LEFT {
@@ -227,9 +227,9 @@ impl<'a> Reading<'a> {
             }
             Tag::LineJust(just) => self.line_just = just.unwrap_or(self.sign.defaults().line),
             Tag::PageTime { on, off } => {
-                self.sets_times = true;
                 self.times_at = at;
                 self.times = Times::of_tag(self.sign, on, off);
+                self.page_times.set(self.page, self.times)?;
             }
             Tag::Font(Some(pick)) => self.pass_font(pick, at)?,
             Tag::HexChar(number) => self.pass_character(number, at),
@@ -264,30 +264,37 @@ impl<'a> Reading<'a> {
         if self.is_one { Ok(()) } else { self.end_page() }
     }
 
-    /// Passes what stands from one offset to another.
-    fn pass(&mut self, piece: Piece<'_>, at: usize, behind: usize) -> Result<(), AllocError> {
-        match piece {
-            Piece::Text(text) => self.pass_text(text, at),
-            Piece::Tag(tag) => {
-                if tag == Tag::NewPage {
-                    self.look_back()?;
-                }
-                self.pass_tag(tag, at, behind)?;
-            }
-            Piece::Unknown => {}
+    /// Passes what begins with a bracket at an offset: a tag, or a doubled bracket. It gives the offset behind it.
+    #[inline(always)]
+    fn pass_bracket(&mut self, rest: &[u8], at: usize) -> Result<usize, AllocError> {
+        let Some((tag, len)) = tag_of(rest) else {
+            self.pass_text(b"[", at);
+            return Ok(at.saturating_add(2));
+        };
+        let behind = at.saturating_add(len);
+        if tag == Tag::NewPage {
+            self.look_back()?;
         }
-        Ok(())
+        self.pass_tag(tag, at, behind)?;
+        Ok(behind)
     }
 
-    /// Reads the message.
+    /// Reads the message. The sign accepts it, so each of its brackets is doubled or stands around a tag.
     fn read(&mut self) -> Result<(), AllocError> {
+        let message = self.message;
         let mut at = 0;
-        for _ in 0..self.message.len() {
-            let Some((piece, behind)) = piece_at(self.message, at) else {
+        for _ in 0..message.len() {
+            let rest = message.get(at..).unwrap_or(b"");
+            let plain = rest.iter().position(|octet| *octet == b'[');
+            let text = plain.unwrap_or(rest.len());
+            if text > 0 {
+                self.pass_text(rest.get(..text).unwrap_or(rest), at);
+            }
+            if plain.is_none() {
                 break;
-            };
-            self.pass(piece, at, behind)?;
-            at = behind;
+            }
+            let begin = at.saturating_add(text);
+            at = self.pass_bracket(rest.get(text..).unwrap_or(b""), begin)?;
         }
         self.end_line()?;
         self.look_back()
@@ -364,12 +371,12 @@ pub fn warnings_on(
     let Reading {
         found,
         flashes,
-        sets_times,
+        page_times,
         ..
     } = reading;
     Ok(Findings {
         warnings: found,
         flashes,
-        sets_times,
+        times: page_times,
     })
 }

@@ -1,7 +1,7 @@
 -- Parts of a text that are written.
 use Rattle.std.proofs.Common.{◌≡◌, ℕ, ◌+◌, ◌-◌, ◌≤◌, List, [], ◌++◌, length, take, drop, sym, ap, ◌∙◌, arith, append_assoc, append-nil}
 use Rattle.std.proofs.Math.Seq.{take-append-add}
-use Rattle.std.proofs.lemmas.List.{drop-append-le, drop_all, drop_at, length-drop, length-take-le, take-append-drop, take-append-le, take_at}
+use Rattle.std.proofs.lemmas.List.{drop-append-le, drop_all, drop_at, length-append, length-drop, length-take-le, take-append-drop, take-append-le, take-take, take_at}
 use borrow.Rule.Slice.PartMut.{mid_of, put_mid}
 
 -- the length of what is lent from a place on
@@ -15,6 +15,25 @@ part_written at n old new rest within enough =
     ap (λ k. take (k + n) (take at old ++ (new ++ rest))) (sym (length-take-le at old within))
     ∙ take-append-add (take at old) (new ++ rest) n
     ∙ ap (λ l. take at old ++ l) (take-append-le n new rest enough)
+
+-- room that is made keeps what is written
+pub room_kept : (old new : List ℕ) (len : ℕ) → len ≤ length old → take (length old) new ≡ old → take len new ≡ take len old
+room_kept old new len within kept = sym (take-take len (length old) new within) ∙ ap (take len) kept
+
+-- what is written behind what there is comes to its end, where room was made for it
+pub written_in_room : (items kept lent new rest behind more : List ℕ) (len n count : ℕ) → len ≤ length items → take (length items) kept ≡ items
+    → lent ≡ kept → count ≡ length lent → len + n ≤ length lent → n ≤ length new → take n new ≡ more
+    → take (len + n) (take count (take len lent ++ (new ++ rest) ++ behind)) ≡ take len items ++ more
+written_in_room items kept lent new rest behind more len n count within room is_lent all long enough is_more =
+    let written = take len lent ++ (new ++ rest) in
+    let front = length-take-le len lent (omega (arith, long)) in
+    let both = length-append (take len lent) (new ++ rest) in
+    let two = length-append new rest in
+    let same : take len lent ≡ take len items = ap (take len) is_lent ∙ room_kept items kept len within room in
+    take-take (len + n) count (written ++ behind) (omega (arith, all, long))
+    ∙ take-append-le (len + n) written behind (omega (arith, front, both, two, enough))
+    ∙ part_written len n lent new rest (omega (arith, long)) enough
+    ∙ ap (λ l. l ++ take n new) same ∙ ap (λ l. take len items ++ l) is_more
 
 -- a piece is written over a part of the rest of a text
 pub put_more : (before piece text new rest : List ℕ) (a k n : ℕ) → text ≡ before ++ rest → length before ≡ a → length piece ≡ n → n ≤ k → k ≤ length rest

@@ -7,7 +7,7 @@ ghost use Rattle.sign_aids.specs.kept.Explaining.{EndsAfter, ExplainsNext, IsFur
 ghost use Rattle.tool_streams.specs.Lines.{IsOneLine, input_limit, text_of};
 ghost use Rattle.tool_streams.specs.Streams.{WritesWhole};
 
-use message_report::{Explainer, Telling, Told};
+use message_report::{Explainer, Explanation, Telling, Told};
 use sign_tool::{Setup, Start, begin};
 use std::alloc::{AllocError, Global};
 use std::io::{Read, Write};
@@ -75,7 +75,7 @@ struct Gathered {
     /// What was told of messages.
     ready: Vec<u8>,
     /// Room for what is told of the next one.
-    text: Vec<u8>,
+    text: Explanation,
 }
 
 /// How many octets are gathered before they are written (own).
@@ -91,7 +91,7 @@ impl Gathered {
     {
         Ok(Gathered {
             ready: Vec::with_capacity(alloc, MAX_READY + LONG_TEXT)?,
-            text: Vec::new(alloc),
+            text: Explanation::new(alloc),
         })
     }
 
@@ -99,7 +99,7 @@ impl Gathered {
     fn write<W: Write>(&mut self, writer: &mut W) -> Result<(), ToolFault>
         ensures written { WritesWhole (W.contents writer.old) (W.contents writer.new) self.old.ready.items result }
         ensures none { OnOk result (self.new.ready.items ≡ []) }
-        ensures text { self.new.text.items ≡ self.old.text.items }
+        ensures text { self.new.text ≡ self.old.text }
     {
         match write_whole(writer, &self.ready) {
             Ok(()) => {
@@ -112,25 +112,25 @@ impl Gathered {
 
     /// Adds the text to what is ready, unless it is long or much is ready. The answer is whether it is added.
     fn gather(&mut self) -> bool
-        ensures ready { self.new.ready.items ≡ (if result then self.old.ready.items ++ self.old.text.items else self.old.ready.items) }
-        ensures text { self.new.text.items ≡ self.old.text.items }
+        ensures ready { self.new.ready.items ≡ (if result then self.old.ready.items ++ self.old.text else self.old.ready.items) }
+        ensures text { self.new.text ≡ self.old.text }
     {
-        if self.text.len() >= LONG_TEXT || self.ready.len() >= MAX_READY {
+        if self.text.octets().len() >= LONG_TEXT || self.ready.len() >= MAX_READY {
             return false;
         }
-        self.ready.extend_from_slice(&self.text).is_ok()
+        self.ready.extend_from_slice(self.text.octets()).is_ok()
     }
 
     /// Adds the text to what is ready, or writes both.
     fn keep<W: Write>(&mut self, writer: &mut W) -> Result<(), ToolFault>
-        ensures { WritesFront (W.contents writer.old) (W.contents writer.new) (self.old.ready.items ++ self.old.text.items)
+        ensures { WritesFront (W.contents writer.old) (W.contents writer.new) (self.old.ready.items ++ self.old.text)
             self.new.ready.items result }
     {
         if self.gather() {
             return Ok(());
         }
         match self.write(writer) {
-            Ok(()) => write_whole(writer, &self.text),
+            Ok(()) => write_whole(writer, self.text.octets()),
             Err(fault) => Err(fault),
         }
     }
@@ -153,7 +153,7 @@ impl Asker {
         alloc: Global,
         number: u32,
         line: &[u8],
-        text: &mut Vec<u8>,
+        text: &mut Explanation,
     ) -> Result<Told, AllocError>
         ensures told { OnOk result
             (Explains self.now.telling self.now.sign self.now.name (number - self.now.before) (text_of line.now) text.new.items) }
@@ -208,7 +208,7 @@ impl Asker {
         let Ok(told) = self.explain(alloc, number, line, &mut gathered.text) else {
             return Err(ToolFault::Memory);
         };
-        match write_whole(writer, &gathered.text) {
+        match write_whole(writer, gathered.text.octets()) {
             Ok(()) => Ok(told),
             Err(fault) => Err(fault),
         }

@@ -1,7 +1,7 @@
 //! Why permanent messages are refused, in words.
 
 use crate::setup::setup_of;
-use message_report::{Explainer, Format, Telling};
+use message_report::{Explainer, Explanation, Format, Telling};
 use message_store::Permanent;
 use sign_words::{PermanentRefusal, Setup};
 use std::alloc::{AllocError, Global};
@@ -26,9 +26,9 @@ fn explanation_of(
         Some(permanent) => permanent.multi.as_slice(),
         None => b"",
     };
-    let mut text = Vec::new(alloc);
+    let mut text = Explanation::new(alloc);
     explainer.explain(alloc, WORDS, b"", 1, message, &mut text)?;
-    let words = str::from_utf8(&text).unwrap_or("");
+    let words = str::from_utf8(text.octets()).unwrap_or("");
     // it is no line of a file of messages
     let words = words.strip_prefix("line 1: ").unwrap_or(words);
     // an empty line stands behind each explanation

@@ -1,13 +1,9 @@
 -- What is written at the front of octets that have room behind it.
 use Rattle.std.proofs.Common.{◌≡◌, ℕ, ◌+◌, ◌≤◌, List, ◌++◌, length, take, drop, sym, ap, ◌∙◌, arith}
-use Rattle.page_picture.proofs.PartLemmas.{part_written}
-use Rattle.std.proofs.lemmas.List.{drop-append-le, length-take-le, take-append-le, take-take, length-append}
+use Rattle.page_picture.proofs.PartLemmas.{written_in_room}
+use Rattle.std.proofs.lemmas.List.{drop-append-le, length-take-le, take-append-le, take-take}
 
--- room that is made keeps what is written
-pub room_kept : (old new : List ℕ) (len : ℕ) → len ≤ length old → take (length old) new ≡ old → take len new ≡ take len old
-room_kept old new len within kept = sym (take-take len (length old) new within) ∙ ap (take len) kept
-
--- and then what was begun has that at its end
+-- what was begun has that at its end
 pub begun_more : (old new more : List ℕ) (end : ℕ) → end ≤ length old → new ≡ old ++ more → drop end new ≡ drop end old ++ more
 begun_more old new more end within is = ap (drop end) is ∙ drop-append-le end old more within
 
@@ -20,16 +16,8 @@ pub grown : (items kept lent new rest behind begun more : List ℕ) (end len n c
     → begun ≡ drop end (take len items) → take n new ≡ more
     → drop end (take (len + n) (take count (take len lent ++ (new ++ rest) ++ behind))) ≡ begun ++ more
 grown items kept lent new rest behind begun more end len n count in_order within room is_lent all long enough is_begun is_more =
-    let written = take len lent ++ (new ++ rest) in
-    let front = length-take-le len lent (omega (arith, long)) in
-    let both = length-append (take len lent) (new ++ rest) in
-    let two = length-append new rest in
     let there = length-take-le len items within in
-    let same : take len lent ≡ take len items = ap (take len) is_lent ∙ room_kept items kept len within room in
-    ap (drop end) (take-take (len + n) count (written ++ behind) (omega (arith, all, long))
-    ∙ take-append-le (len + n) written behind (omega (arith, front, both, two, enough))
-    ∙ part_written len n lent new rest (omega (arith, long)) enough
-    ∙ ap (λ l. l ++ take n new) same ∙ ap (λ l. take len items ++ l) is_more)
+    ap (drop end) (written_in_room items kept lent new rest behind more len n count within room is_lent all long enough is_more)
     ∙ drop-append-le end (take len items) more (omega (arith, there, in_order)) ∙ ap (λ l. l ++ more) (sym is_begun)
 
 -- the same where the first few of some octets are more, for which there was room

@@ -1,4 +1,4 @@
-use message_report::{Explainer, Format, Telling};
+use message_report::{Explainer, Explanation, Format, Telling};
 use sign_font::{Sign, sample_sign};
 use std::alloc::Global;
 use std::test::Fail;
@@ -17,9 +17,9 @@ fn told(alloc: Global, telling: Telling, message: &str) -> Result<Vec<u8>, Fail>
         return Ok(Vec::new(alloc));
     };
     let explainer = Explainer::new(sign, 64);
-    let mut text = Vec::new(alloc);
+    let mut text = Explanation::new(alloc);
     explainer.explain(alloc, telling, b"day", 2, message.as_bytes(), &mut text)?;
-    Ok(text)
+    Ok(Vec::from_slice(alloc, text.octets())?)
 }
 
 #[test]

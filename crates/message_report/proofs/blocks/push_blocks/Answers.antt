@@ -7,7 +7,7 @@ use Rattle.message_report.proofs.blocks.push_blocks.Goals as goal
 
 pub loop-column-init : goal.loop-column-init
 loop-column-init c =
-    let old = c.args.text.now.items in
+    let old = c.args.text.now in
     let colours = c.args.colours.now in
     let none = BlockLemmas.blocks_none c.args.shares.now (colour_within (colour_at colours) colours.height c.args.row) (colour_within (colour_at colours) colours.height (c.args.row + 1)) in
     sym (append-nil old) ∙ ap (λ l. old ++ l) (sym none)

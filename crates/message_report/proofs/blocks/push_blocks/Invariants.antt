@@ -5,4 +5,4 @@ use Rattle.message_report.proofs.blocks.push_blocks.Given as goal
 
 abbrev pub invariant-loop-column : goal.invariant-loop-column
 invariant-loop-column l =
-    l.text.items ≡ l.fn.text.items ++ blocks_text l.shares (colour_within (colour_at l.colours) l.colours.height l.row) (colour_within (colour_at l.colours) l.colours.height (l.row + 1)) l.column
+    l.text ≡ l.fn.text ++ blocks_text l.shares (colour_within (colour_at l.colours) l.colours.height l.row) (colour_within (colour_at l.colours) l.colours.height (l.row + 1)) l.column

@@ -6,7 +6,7 @@ use Rattle.message_report.proofs.blocks.push_lines.Goals as goal
 
 pub loop-line-init : goal.loop-line-init
 loop-line-init c =
-    let old = c.args.text.now.items in
+    let old = c.args.text.now in
     let colours = c.args.colours.now in
     sym (append-nil old) ∙ ap (λ l. old ++ l) (sym (BlockLemmas.lines_none c.args.shares.now (colour_at colours) colours.width colours.height))
 

@@ -4,4 +4,4 @@ use Rattle.message_report.specs.Blocks.{lines_text}
 use Rattle.message_report.proofs.blocks.push_lines.Given as goal
 
 abbrev pub invariant-loop-line : goal.invariant-loop-line
-invariant-loop-line l = l.text.items ≡ l.fn.text.items ++ lines_text l.shares (colour_at l.colours) l.colours.width l.colours.height l.line
+invariant-loop-line l = l.text ≡ l.fn.text ++ lines_text l.shares (colour_at l.colours) l.colours.width l.colours.height l.line

@@ -6,10 +6,10 @@ use Rattle.message_report.proofs.lines.push_warning_line.Goals as goal
 pub returns : goal.returns
 unfolding warning_text
 returns c =
-    let text = c.args.text.now.items in
+    let text = c.args.text.now in
     let at = c.min.result in
     let place = place_text c.args.name.now c.args.line at in
     let told = place ++ codes "warning: " in
-    let first = TextLemmas.grown text c.push_place.new.text.items c.push_octets.new.text.items place (codes "warning: ") told c.in_ok-push_place.ensures c.in_ok-push_octets.ensures refl in
+    let first = TextLemmas.grown text c.push_place.new.text c.push_octets.new.text place (codes "warning: ") told c.in_ok-push_place.ensures c.in_ok-push_octets.ensures refl in
     let (words, one, last) = c.in_ok-push_line.ensures in
-    (at, words, one, TextLemmas.grown text c.push_octets.new.text.items c.push_line.new.text.items told (words ++ 10 ∷ []) _ first last (append_assoc told words (10 ∷ [])))
+    (at, words, one, TextLemmas.grown text c.push_octets.new.text c.push_line.new.text told (words ++ 10 ∷ []) _ first last (append_assoc told words (10 ∷ [])))

@@ -10,4 +10,4 @@ loop-warning-preserved c =
     let line = c.args.line in
     let (told, so_far, are) = c.loop-warning.invariant in
     let (at, words, one, next) = c.in_ok-push_warning_line.ensures in
-    (told ++ warning_text name line at words, TextLemmas.grown c.args.text.now.items c.loop-warning.text.items c.push_warning_line.new.text.items told (warning_text name line at words) _ so_far next refl, ExplanationLemmas.warnings_more name line at told words are one)
+    (told ++ warning_text name line at words, TextLemmas.grown c.args.text.now c.loop-warning.text c.push_warning_line.new.text told (warning_text name line at words) _ so_far next refl, ExplanationLemmas.warnings_more name line at told words are one)

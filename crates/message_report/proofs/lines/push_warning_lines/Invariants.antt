@@ -3,4 +3,4 @@ use Rattle.message_report.specs.Explanation.{IsWarnings}
 use Rattle.message_report.proofs.lines.push_warning_lines.Given as goal
 
 abbrev pub invariant-loop-warning : goal.invariant-loop-warning
-invariant-loop-warning l = (told : List ℕ) × (l.text.items ≡ l.fn.text.items ++ told) × IsWarnings l.fn.name l.line told
+invariant-loop-warning l = (told : List ℕ) × (l.text ≡ l.fn.text ++ told) × IsWarnings l.fn.name l.line told

@@ -1,19 +1,25 @@
-use Rattle.std.proofs.Common.{rules, ◌≡◌, ◌+◌, ◌*◌, ◌∙◌, length, ap, sym}
-use Rattle.std.specs.Vec.{vec_len}
+use Rattle.std.proofs.Common.{◌≡◌, ◌+◌, ◌*◌, ◌∙◌, ◌++◌, length, take, ap, sym, arith}
 use Rattle.page_plane.specs.Plane.{is_lit}
 use Rattle.page_picture.specs.Rows.{marked_rows}
-use Rattle.message_report.proofs.MarkLemmas
+use Rattle.page_picture.proofs.PartLemmas.{lent_length, written_in_room}
 use Rattle.message_report.proofs.marks.push_lit.Goals as goal
 
 pub returns : goal.returns
 returns c =
-    let old = c.args.text.now.items in
+    let d = c.deref_mut.ensures in
+    let a = c.text.inside in
     let plane = c.args.plane.now in
-    let lent = c.deref_mut.ensures in
-    let written = c.write_rows.ensures in
-    let total : vec_len c.args.text.now ≡ length old = search rules in
+    let room = c.in_ok-make_room.ensures in
+    let lent = c.deref_mut.result.now in
+    let new = c.write_rows.new.text in
+    let rows = marked_rows 49 (is_lit plane) plane.width plane.height in
+    let all : c.make_room.new.octets.len ≡ length lent = sym d.len in
+    let value = ap length d.value in
     let size : (c.from.result + 1) * c.from-2.result ≡ (plane.width + 1) * plane.height =
     ap (λ w. (w + 1) * c.from-2.result) (c.from.ensures ∙ c.width.ensures.value) ∙ ap (λ h. (plane.width + 1) * h) (c.from-2.ensures ∙ c.height.ensures.value) in
-    c.truncate.ensures.items ∙ MarkLemmas.lines_added old c.push_points.new.text.items c.deref_mut.result.now c.write_rows.new.text _ _ (marked_rows 49 (is_lit plane) plane.width plane.height) c.len-start.result (vec_len c.args.text.now)
-    ((c.from.result + 1) * c.from-2.result) ((plane.width + 1) * plane.height) c.push_points.new.text.len
-    (c.len-start.ensures ∙ total) total c.in_ok-push_points.ensures lent.value (sym lent.len) written.len size written.written
+    let rest = lent_length a.len lent (omega (arith, value, room.room)) in
+    let long = c.write_rows.ensures.len in
+    written_in_room a.octets.items c.make_room.new.octets.items lent new _ _ rows a.len ((c.from.result + 1) * c.from-2.result) c.make_room.new.octets.len
+    c.text.invariant room.kept d.value all (omega (arith, value, room.room)) (omega (arith, value, room.room, rest, long))
+    (ap (λ n. take n new) size ∙ c.write_rows.ensures.written)
+    ∙ ap (λ l. l ++ rows) c.text.view_is

@@ -6,7 +6,7 @@ use Rattle.message_report.proofs.marks.push_rows.Goals as goal
 
 pub loop-row-init : goal.loop-row-init
 loop-row-init c =
-    let old = c.args.text.now.items in
+    let old = c.args.text.now in
     sym (append-nil old) ∙ ap (λ l. old ++ l) (sym (RowLemmas.rows_none (mark_at c.args.colours.now) c.args.colours.now.width))
 
 pub loop-row-preserved : goal.loop-row-preserved

@@ -21,8 +21,8 @@ loop-page-preserved c =
     let pages = c.pages-pages.result in
     let ((shown, so_far, has), same_sign, same_octets) = c.loop-page.invariant in
     let (words, line, second) = c.in_ok-push_times.ensures in
-    let third = c.in_ok-push_picture.ensures.ok ∙ ap (λ l. c.push_times.new.text.items ++ picture_text c.args.picture message.sign.now l message.telling.phase page) same_octets in
-    let all = ExplanationLemmas.three_more c.args.text.now.items c.loop-page.text.items c.push_head.new.text.items c.push_times.new.text.items c.push_picture.new.text.items shown (head_text page pages) words (picture page) so_far c.in_ok-push_head.ensures second third in
+    let third = c.in_ok-push_picture.ensures.ok ∙ ap (λ l. c.push_times.new.text ++ picture_text c.args.picture message.sign.now l message.telling.phase page) same_octets in
+    let all = ExplanationLemmas.three_more c.args.text.now c.loop-page.text c.push_head.new.text c.push_times.new.text c.push_picture.new.text shown (head_text page pages) words (picture page) so_far c.in_ok-push_head.ensures second third in
     ((shown ++ head_text page pages ++ words ++ 10 ∷ picture page, all, ExplanationLemmas.pages_more picture pages page shown words has line), c.in_ok-push_picture.ensures.kept.0 ∙ same_sign, c.in_ok-push_picture.ensures.kept.1 ∙ same_octets)
 
 pub returns : goal.returns

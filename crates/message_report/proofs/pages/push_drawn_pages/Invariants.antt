@@ -3,6 +3,6 @@ use Rattle.message_report.specs.Explanation.{HasPages, picture_text}
 use Rattle.message_report.proofs.pages.push_drawn_pages.Given as goal
 
 abbrev pub invariant-loop-page : goal.invariant-loop-page
-invariant-loop-page l = ((shown : List ℕ) × (l.text.items ≡ l.fn.text.items ++ shown)
+invariant-loop-page l = ((shown : List ℕ) × (l.text ≡ l.fn.text ++ shown)
     × HasPages (picture_text l.picture l.fn.message.sign.now l.fn.checked.source.octets l.fn.message.telling.phase) l.pages l.page shown)
     × (l.checked.sign ≡ l.fn.checked.sign) × (l.checked.source.octets ≡ l.fn.checked.source.octets)

@@ -42,6 +42,6 @@ loop-page-preserved c =
     ∙ ap (λ l. page_text message.sign.now l drawn.next drawn.phase) same_octets
     ∙ ap (λ n. page_text message.sign.now octets n drawn.phase) next
     ∙ ap (page_text message.sign.now octets page) phase in
-    let third = e.ok ∙ ap (λ l. c.push_times.new.text.items ++ l) shows in
-    let all = ExplanationLemmas.three_more c.args.text.now.items c.loop-page.text.items c.push_head.new.text.items c.push_times.new.text.items c.push_next_lit.new.text.items shown (head_text page pages) words (picture page) so_far c.in_ok-push_head.ensures second third in
+    let third = e.ok ∙ ap (λ l. c.push_times.new.text ++ l) shows in
+    let all = ExplanationLemmas.three_more c.args.text.now c.loop-page.text c.push_head.new.text c.push_times.new.text c.push_next_lit.new.text shown (head_text page pages) words (picture page) so_far c.in_ok-push_head.ensures second third in
     ((shown ++ head_text page pages ++ words ++ 10 ∷ picture page, all, ExplanationLemmas.pages_more picture pages page shown words has line), e.kept.0 ∙ same_sign, e.kept.1 ∙ same_octets, e.next ∙ ap (λ n. n + 1) next, e.layer.0 ∙ phase, e.layer.1 ∙ colour)

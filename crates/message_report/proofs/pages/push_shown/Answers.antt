@@ -7,11 +7,11 @@ use Rattle.message_report.proofs.pages.push_shown.Goals as goal
 pub returns : goal.returns
 returns c =
     let string = c.args.checked in
-    let text = c.args.text.now.items in
+    let text = c.args.text.now in
     let pages = ExplanationLemmas.pages_are string.sign string.source.octets c.pages-2.result c.pages-2.ensures c.requires.short in
-    let first = c.in_ok-push_accepted.ensures ∙ ap (λ n. c.push_line_head.new.text.items ++ accepted_text n) pages in
+    let first = c.in_ok-push_accepted.ensures ∙ ap (λ n. c.push_line_head.new.text ++ accepted_text n) pages in
     let (front, line, between) = c.in_ok-push_message.ensures in
     let (shown, second, has) = c.in_ok-push_pages.ensures in
     let (words, third) = c.in_ok-push_notes.ensures in
-    let all = ExplanationLemmas.three_more text c.push_line_head.new.text.items c.push_accepted.new.text.items c.push_message.new.text.items c.push_pages.new.text.items (line_head c.args.message.now.line) _ front shown c.in_ok-push_line_head.ensures first between second in
-    (_, TextLemmas.grown text c.push_pages.new.text.items c.push_notes.new.text.items _ words _ all third refl, (front, shown, words, has, line, refl))
+    let all = ExplanationLemmas.three_more text c.push_line_head.new.text c.push_accepted.new.text c.push_message.new.text c.push_pages.new.text (line_head c.args.message.now.line) _ front shown c.in_ok-push_line_head.ensures first between second in
+    (_, TextLemmas.grown text c.push_pages.new.text c.push_notes.new.text _ words _ all third refl, (front, shown, words, has, line, refl))

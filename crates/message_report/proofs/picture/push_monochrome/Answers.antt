@@ -11,4 +11,4 @@ returns-clause-ok c =
     let rows = PageLemmas.monochrome_pictured sign octets c.args.page c.args.phase plane c.requires.monochrome
     (lights_by sign c.args.checked.now.sign octets octets c.args.page c.args.phase 1 plane c.requires.sign refl c.show.ensures.drawn)
     (c.show.ensures.size.0 ∙ c.in-Ok.ensures.width ∙ c.width.ensures.width, c.show.ensures.size.1 ∙ c.in-Ok.ensures.height ∙ c.height.ensures.height) in
-    subst (λ l. OnOk c.push_lit.result (c.push_lit.new.text.items ≡ c.args.text.now.items ++ l)) rows c.push_lit.ensures
+    subst (λ l. OnOk c.push_lit.result (c.push_lit.new.text ≡ c.args.text.now ++ l)) rows c.push_lit.ensures

@@ -12,4 +12,4 @@ returns-clause-ok c =
     let plane = c.in-Some.view.plane.now in
     let shows = subst (λ colour. Lights plane (picture sign octets pages.next pages.phase colour)) c.requires.colour c.in-Some.ensures.page.2 in
     let rows = PageLemmas.monochrome_pictured sign octets pages.next pages.phase plane c.requires.monochrome shows c.in-Some.ensures.size in
-    subst (λ l. OnOk c.push_lit.result (c.push_lit.new.text.items ≡ c.args.text.now.items ++ l)) rows c.push_lit.ensures
+    subst (λ l. OnOk c.push_lit.result (c.push_lit.new.text ≡ c.args.text.now ++ l)) rows c.push_lit.ensures

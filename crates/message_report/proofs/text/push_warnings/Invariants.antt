@@ -2,4 +2,4 @@ use Rattle.message_report.specs.Words.{Grows}
 use Rattle.message_report.proofs.text.push_warnings.Given as goal
 
 abbrev pub invariant-loop-warning : goal.invariant-loop-warning
-invariant-loop-warning l = Grows l.fn.text.items l.text.items
+invariant-loop-warning l = Grows l.fn.text l.text
