@@ -50,7 +50,6 @@ impl<'a> Terms<'a> {
     /// The width in pixels: 1 to 1,024.
     pub(crate) fn width(&self) -> u16
         ensures width { result ≡ self.now.width }
-        ensures sound { IsSound self.now }
     {
         self.sign.width()
     }
@@ -58,7 +57,6 @@ impl<'a> Terms<'a> {
     /// The height in pixels: 1 to 128.
     pub(crate) fn height(&self) -> u16
         ensures height { result ≡ self.now.height }
-        ensures sound { IsSound self.now }
     {
         self.sign.height()
     }
@@ -82,7 +80,6 @@ impl<'a> Terms<'a> {
     /// The most pages of a string: 1 to 255.
     pub(crate) fn max_pages(&self) -> u8
         ensures max_pages { result ≡ self.now.max_pages }
-        ensures sound { IsSound self.now }
     {
         self.sign.max_pages()
     }
@@ -120,7 +117,6 @@ impl<'a> Terms<'a> {
         ensures cell { result ≡ cell_in self.now font number }
         ensures size { IfSome result IsSoundSize }
         ensures steps { RisesBetween source.old source.new 1 8 }
-        ensures sound { IsSound self.now }
     {
         self.sign.cell(source, font, number)
     }
@@ -130,7 +126,6 @@ impl<'a> Terms<'a> {
         ensures cells { result ≡ font_numbered self.now font }
         ensures widths { IfSome result (AreWidthsOf self.now font) }
         ensures step { source.new ≡ charged source.old 1 }
-        ensures sound { IsSound self.now }
     {
         self.sign.cells(source, font)
     }
@@ -142,7 +137,6 @@ impl<'a> Terms<'a> {
         ensures size { IfSome result (IsWithin 1 64) }
         ensures step { number ≤ 255 → source.new ≡ charged source.old 1 }
         ensures steps { RisesBetween source.old source.new 1 8 }
-        ensures sound { IsSound self.now }
     {
         self.sign.cell_width(source, font, number)
     }
