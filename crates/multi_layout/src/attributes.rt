@@ -40,8 +40,8 @@ pub(crate) fn whole_sign(sign: &Terms<'_>) -> Rectangle
     Rectangle {
         left: 0,
         top: 0,
-        width: sign.width(),
-        height: sign.height(),
+        width: sign.bare.width(),
+        height: sign.bare.height(),
     }
 }
 

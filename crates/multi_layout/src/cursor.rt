@@ -116,7 +116,7 @@ impl Cursor {
         ensures state { self.new.state ≡ self.old.state }
         ensures steps { RisesBetween source.old source.new 0 (2 * (self.new.at - self.old.at) + 3) }
     {
-        let Some(cells) = sign.cells(source, self.state.attributes.font.number) else {
+        let Some(cells) = sign.bare.cells(source, self.state.attributes.font.number) else {
             return;
         };
         let all = Run {

@@ -119,7 +119,7 @@ fn lay(sign: &Terms<'_>, cursor: &Cursor, lines: &LineTable, next: NextItem) -> 
         → HasCounted (whole_area sign.now before (item ∷ rest)) lines.now → IsItemRead item.item next → IsRead item result }
     ensures len { result.len ≡ next.len }
 {
-    match sign.line_fill() {
+    match sign.bare.line_fill() {
         LineFill::Off => next,
         LineFill::Words => lay_filled(sign, cursor, lines, next),
     }
@@ -224,7 +224,7 @@ fn draw_item(
     match next.item {
         KnownItem::Char(number) => {
             let attributes = cursor.state.attributes;
-            let Some(cell) = sign.cell(source, attributes.font.number, number) else {
+            let Some(cell) = sign.bare.cell(source, attributes.font.number, number) else {
                 // Each character of an accepted string has a cell.
                 unreachable!();
             };
@@ -273,7 +273,7 @@ fn draw_tag(sign: &Terms<'_>, tag: Tag, layer: Layer, plane: &mut Plane)
     ensures height { plane.new.height ≡ plane.old.height }
 {
     if let Tag::Back(colour) = tag {
-        let colour = colour.unwrap_or(sign.defaults().back);
+        let colour = colour.unwrap_or(sign.defaults.back);
         plane.fill(layer.has(sign, colour));
     }
 }

@@ -41,7 +41,7 @@ pub(crate) fn draw_run(
     ensures fills { IsFilledBy sign.now plane.old plane.new (cursor.new.at - cursor.old.at) }
     ensures forward { cursor.old.at ≤ cursor.new.at }
 {
-    let (at, column, next) = match sign.line_fill() {
+    let (at, column, next) = match sign.bare.line_fill() {
         LineFill::Off => draw_beside(sign, source, cursor, place, read, layer, plane),
         LineFill::Words => return None,
     };
@@ -89,7 +89,7 @@ fn draw_beside(
         if is_bracket(octet) {
             return (at, column, Some(octet));
         }
-        let Some(cell) = sign.cell(source, font, u16::from(octet)) else {
+        let Some(cell) = sign.bare.cell(source, font, u16::from(octet)) else {
             // Each character of an accepted string has a cell.
             unreachable!();
         };

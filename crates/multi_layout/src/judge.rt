@@ -42,7 +42,7 @@ pub(crate) fn judge_tag<const WORDS: bool>(
         Tag::Font(pick) => judge_font(sign, state, source, pick),
         Tag::Rect { x, y, w, h } => judge_rectangle(sign, state, x, y, w, h),
         _ => {
-            state.attributes.set(sign.defaults(), tag);
+            state.attributes.set(sign.defaults, tag);
             Ok(())
         }
     }
@@ -110,7 +110,7 @@ fn judge_page(sign: &Terms<'_>, state: &mut State) -> Result<(), SyntaxError>
     ensures judged { Judges sign.now state.old (Does Tag.NewPage) result state.new }
     ensures limited { IsLimited state.old → IsLimited state.new }
 {
-    if state.pages >= sign.max_pages() {
+    if state.pages >= sign.bare.max_pages() {
         return Err(SyntaxError::TooManyPages);
     }
     state.pages += 1;
@@ -133,10 +133,10 @@ fn judge_font(
     ensures steps { RisesBetween source.old source.new 0 1 }
 {
     let Some(pick) = pick else {
-        state.attributes.font = sign.default_font();
+        state.attributes.font = sign.font;
         return Ok(());
     };
-    let Some(font) = sign.font(source, pick.number) else {
+    let Some(font) = sign.bare.font(source, pick.number) else {
         return Err(SyntaxError::FontNotDefined);
     };
     if agrees(pick.version, font.version) {
@@ -170,10 +170,10 @@ fn judge_rectangle(
     ensures judged { Judges sign.now state.old (Does (Tag.Rect x y w h)) result state.new }
     ensures limited { IsLimited state.old → IsLimited state.new }
 {
-    let Some((left, width)) = part_of(sign.width(), x, w) else {
+    let Some((left, width)) = part_of(sign.bare.width(), x, w) else {
         return Err(SyntaxError::UnsupportedTagValue);
     };
-    let Some((top, height)) = part_of(sign.height(), y, h) else {
+    let Some((top, height)) = part_of(sign.bare.height(), y, h) else {
         return Err(SyntaxError::UnsupportedTagValue);
     };
     state.attributes.rectangle = Rectangle {

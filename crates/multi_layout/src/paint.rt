@@ -25,7 +25,7 @@ impl Layer {
         ensures colour { result ≡ (shown_colour sign.now colour == self.now.colour) }
         ensures sound { IsSound sign.now }
     {
-        let shown = if sign.classic() {
+        let shown = if sign.bare.classic() {
             colour
         } else {
             colour.min(1)

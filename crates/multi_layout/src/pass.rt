@@ -130,7 +130,7 @@ impl Pass {
         ensures steps { RisesBetween source.old source.new 0 8 }
     {
         let font = self.state.attributes.font.number;
-        match sign.cell_width(source, font, number) {
+        match sign.bare.cell_width(source, font, number) {
             Some(width) => self.judge_cell::<WORDS>(number, width),
             None => Err(SyntaxError::CharacterNotDefined),
         }

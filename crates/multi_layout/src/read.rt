@@ -72,7 +72,7 @@ pub(crate) fn read_area(
         → IsAreaRead sign.now before behind cursor.now begun read.new source.old source.new }
 {
     read.lines.clear();
-    match sign.line_fill() {
+    match sign.bare.line_fill() {
         LineFill::Off => read_lines::<false>(sign, source, cursor, begun, read),
         LineFill::Words => read_lines::<true>(sign, source, cursor, begun, read),
     }
@@ -147,7 +147,7 @@ fn go_on<const WORDS: bool>(
     if WORDS || !octet {
         return (at, source.read(at));
     }
-    match sign.cells(source, kept.state.attributes.font.number) {
+    match sign.bare.cells(source, kept.state.attributes.font.number) {
         Some(cells) => go_along(sign, &cells, &mut kept.state, source, at),
         None => (at, source.read(at)),
     }
@@ -197,7 +197,7 @@ fn pass_shown<const WORDS: bool>(
     ensures steps { RisesBetween source.old source.new 0 8 }
 {
     let font = kept.state.attributes.font.number;
-    let Some(width) = sign.cell_width(source, font, number) else {
+    let Some(width) = sign.bare.cell_width(source, font, number) else {
         unreachable!();
     };
     if let Some(line) = kept.pass_cell::<WORDS>(number, width) {

@@ -42,12 +42,12 @@ impl State {
         ensures limited { IsLimited result }
         ensures sound { IsSound sign.now }
     {
-        let defaults = sign.defaults();
+        let defaults = sign.defaults;
         State {
             pages: 1,
             cycle: 0,
             attributes: Attributes {
-                font: sign.default_font(),
+                font: sign.font,
                 line_just: defaults.line,
                 page_just: defaults.page,
                 spacing: None,

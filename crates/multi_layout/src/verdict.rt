@@ -196,7 +196,7 @@ fn judge_string(sign: &Terms<'_>, source: &mut Source<'_>) -> Result<Told, Offen
     ensures told { IfOk result (λ told. IsTold sign.now source.old.octets told.pages told.cycle source.new) }
     ensures refused { IfErr result (λ offence. IsRefused sign.now source.old.octets offence source.new) }
 {
-    match sign.line_fill() {
+    match sign.bare.line_fill() {
         LineFill::Off => judge_all::<false>(sign, source),
         LineFill::Words => judge_all::<true>(sign, source),
     }
@@ -283,7 +283,7 @@ fn judge_plain<const WORDS: bool>(
     ensures at { IfOk result (λ next. IsAt sign.now source.old.octets at.new next (IsPassOf WORDS sign.now pass.new) source.new) }
     ensures refused { IfErr result (λ error. IsRefused sign.now source.old.octets (record { error = error; at = at.old }) source.new) }
 {
-    let Some(cells) = sign.cells(source, pass.state.attributes.font.number) else {
+    let Some(cells) = sign.bare.cells(source, pass.state.attributes.font.number) else {
         // The font in force is one of the sign's.
         unreachable!();
     };

@@ -34,7 +34,7 @@ unreachable-requires c =
     let b = h.between in
     let read = h.read_is in
     let shows : meant item ≡ Shows c.in-Char.number = read.meant ∙ ap meant_by c.in-Char.is in
-    let none : cell_in sign c.args.cursor.now.state.attributes.font.number c.in-Char.number ≡ None = sym c.cell.ensures.cell ∙ c.in_default.is in
+    let none : cell_in sign c.args.cursor.now.state.attributes.font.number c.in-Char.number ≡ None = rw (← c.sign.view_is) (sym c.cell.ensures.cell ∙ c.in_default.is) in
     let offends = unsized-undefined sign (map meant before) c.args.cursor.now.state b.state_is c.in-Char.number none in
     let fine = never_offends sign c.args.source.now.octets before rest item c.args.cursor.now b in
     let wrong : ◌≡◌ {A = Option ℕ} (Some 7) None = sym offends ∙ ap (unsized_offence sign (map meant before)) (sym shows) ∙ fine in
@@ -43,7 +43,7 @@ unreachable-requires c =
 pub place_at-place-requires-clause-below : goal.place_at-place-requires-clause-below
 place_at-place-requires-clause-below c =
     let (before, rest, item, h) = c.requires.known in
-    let found : cell_in c.args.sign.now c.args.cursor.now.state.attributes.font.number c.in-Char.number ≡ Some c.in-Some.cell = sym c.cell.ensures.cell ∙ c.in-Some.is in
+    let found : cell_in c.args.sign.now c.args.cursor.now.state.attributes.font.number c.in-Char.number ≡ Some c.in-Some.cell = rw (← c.sign.view_is) (sym c.cell.ensures.cell ∙ c.in-Some.is) in
     let new = c.pass_character.ensures.passed c.args.sign.now c.args.source.now.octets (ap (option_map (λ (c : SizedCell). c.width)) found ∙ ap Some (sym c.width-width.ensures)) before rest item h.between
     (record { meant = h.read_is.meant ∙ ap meant_by c.in-Char.is; known = tt; len = h.read_is.len }) in
     below_more (2 ^ 42) (2 ^ 43) c.pass_character.new.self.state.area (omega arith) (low_between c.args.sign.now c.args.source.now.octets (before ++ item ∷ []) rest c.pass_character.new.self new)
@@ -51,7 +51,7 @@ place_at-place-requires-clause-below c =
 pub returns-in-Some-clause-passed : goal.returns-in-Some-clause-passed
 returns-in-Some-clause-passed c = λ before rest item b read.
     let sign = c.args.sign.now in
-    let found : cell_in sign c.args.cursor.now.state.attributes.font.number c.in-Char.number ≡ Some c.in-Some.cell = sym c.cell.ensures.cell ∙ c.in-Some.is in
+    let found : cell_in sign c.args.cursor.now.state.attributes.font.number c.in-Char.number ≡ Some c.in-Some.cell = rw (← c.sign.view_is) (sym c.cell.ensures.cell ∙ c.in-Some.is) in
     c.pass_character.ensures.passed sign c.args.source.now.octets (ap (option_map (λ (c : SizedCell). c.width)) found ∙ ap Some (sym c.width-width.ensures)) before rest item b (record { meant = read.meant ∙ ap meant_by c.in-Char.is; known = tt; len = read.len })
 
 pub returns-in-Some-clause-drawn : goal.returns-in-Some-clause-drawn
@@ -63,7 +63,7 @@ returns-in-Some-clause-drawn c = λ before rest item h plain.
     let state = c.args.cursor.now.state in
     let number = c.in-Char.number in
     let shows : meant item ≡ Shows number = read.meant ∙ ap meant_by c.in-Char.is in
-    let found : cell_in sign state.attributes.font.number number ≡ Some c.in-Some.cell = sym c.cell.ensures.cell ∙ c.in-Some.is in
+    let found : cell_in sign state.attributes.font.number number ≡ Some c.in-Some.cell = rw (← c.sign.view_is) (sym c.cell.ensures.cell ∙ c.in-Some.is) in
     let k = (standing sign (map meant before)).area in
     let fine = ap (unsized_offence sign (map meant before)) (sym shows) ∙ never_offends sign c.args.source.now.octets before rest item c.args.cursor.now b in
     let lines = subst (λ (ms : List Meaning). HasCounted (in_area k (spots sign ms)) c.args.lines.now) (map_split before rest item (Shows number) shows) counted in
@@ -81,7 +81,7 @@ returns-in-Some-clause-beside c =
     let sign = c.args.sign.now in
     let state = c.args.cursor.now.state in
     let number = c.in-Char.number in
-    let found : cell_in sign state.attributes.font.number number ≡ Some c.in-Some.cell = sym c.cell.ensures.cell ∙ c.in-Some.is in
+    let found : cell_in sign state.attributes.font.number number ≡ Some c.in-Some.cell = rw (← c.sign.view_is) (sym c.cell.ensures.cell ∙ c.in-Some.is) in
     let (before, rest, item, h) = c.requires.known in
     let b = h.between in
     let read = h.read_is in
@@ -123,7 +123,7 @@ returns-in-Some-clause-fills c =
     let (before, rest, item, h) = c.requires.known in
     let b = h.between in
     let read = h.read_is in
-    let found : cell_in sign c.args.cursor.now.state.attributes.font.number c.in-Char.number ≡ Some c.in-Some.cell = sym c.cell.ensures.cell ∙ c.in-Some.is in
+    let found : cell_in sign c.args.cursor.now.state.attributes.font.number c.in-Char.number ≡ Some c.in-Some.cell = rw (← c.sign.view_is) (sym c.cell.ensures.cell ∙ c.in-Some.is) in
     let tall = (cell_height sign (map meant before) c.args.cursor.now.state b.state_is c.in-Char.number c.in-Some.cell found).1 in
     rows_few sign c.args.plane.now c.put_character.new.plane c.args.next.len c.in-Some.cell.height (omega (arith, read.len, spelling_some item.item)) tall
     c.put_character.ensures.counted c.put_character.ensures.steps c.put_character.ensures.width c.put_character.ensures.height

@@ -67,7 +67,7 @@ unreachable-requires-in_default-cell c =
     let here : slice_get octets c.loop-at.at ≡ Some c.in-Some.octet = ap (λ o. slice_get o c.loop-at.at) (sym same) ∙ sym c.read.ensures.octet ∙ c.in-Some.is in
     has_cell sign octets before area rest c.args.read.now.lines c.args.layer _ _ c.args.plane.now c.loop-at.plane r c.args.read.now.end end c.loop-at-test.true c.requires.off c.in-Some.octet
     (omega (arith, h.between.placed.accepted.short)) here (no_bracket c.in-Some.octet (sym c.is_bracket.ensures ∙ c.if-is_bracket.false))
-    (ap (cell_in sign c.args.cursor.now.state.attributes.font.number) (sym c.from.ensures) ∙ sym c.cell.ensures.cell ∙ c.in_default-cell.is)
+    (ap (cell_in sign c.args.cursor.now.state.attributes.font.number) (sym c.from.ensures) ∙ rw (← c.sign.view_is) (sym c.cell.ensures.cell ∙ c.in_default-cell.is))
 
 pub loop-at-preserved : goal.loop-at-preserved
 loop-at-preserved c =
@@ -77,7 +77,7 @@ loop-at-preserved c =
     let state = c.args.cursor.now.state in
     let same : c.loop-at.source.octets ≡ octets = same_octets i.steps.3 in
     let here : slice_get octets c.loop-at.at ≡ Some c.in-Some.octet = ap (λ o. slice_get o c.loop-at.at) (sym same) ∙ sym c.read.ensures.octet ∙ c.in-Some.is in
-    let found : cell_in sign state.attributes.font.number c.in-Some.octet ≡ Some c.in-Some-cell.cell = ap (cell_in sign state.attributes.font.number) (sym c.from.ensures) ∙ sym c.cell.ensures.cell ∙ c.in-Some-cell.is in
+    let found : cell_in sign state.attributes.font.number c.in-Some.octet ≡ Some c.in-Some-cell.cell = ap (cell_in sign state.attributes.font.number) (sym c.from.ensures) ∙ rw (← c.sign.view_is) (sym c.cell.ensures.cell ∙ c.in-Some-cell.is) in
     let wide : c.from-in-loop-at.result ≡ c.in-Some-cell.cell.width = c.from-in-loop-at.ensures ∙ c.width.ensures in
     let size = c.in-Some-cell.ensures.size in
     let gap_is : c.from-gap.result ≡ unwrap_or state.attributes.spacing state.attributes.font.char_spacing = c.from-gap.ensures ∙ c.gap.ensures in

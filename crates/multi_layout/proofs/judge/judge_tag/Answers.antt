@@ -1,5 +1,6 @@
 use Rattle.std.proofs.Common.{◌≡◌, ap, sym, ◌∙◌, arith}
 use Rattle.multi_token.proofs.StepLemmas.{charged-zero}
+use Rattle.sign_font.specs.Sign.{SignData}
 use Rattle.multi_meaning.specs.declared.attributes.Rectangle.{Rectangle}
 use Rattle.multi_meaning.specs.Address.{standing}
 use Rattle.multi_layout.specs.kept.State.{group_room, segment_room}
@@ -10,8 +11,8 @@ pub returns-in_default-clause-judged : goal.returns-in_default-clause-judged
 returns-in_default-clause-judged g c = λ items st unfilled.
     let sign = c.args.sign.now in
     let simple = simple_of c.args.tag c.in_default.not-NewPage c.in_default.not-NewLine c.in_default.not-Font c.in_default.not-Rect in
-    let after = c.set.ensures.set sign (standing sign items) (sym c.defaults.ensures.defaults) st.attributes simple in
-    judged-simple sign items c.args.state.now st c.defaults.ensures.sound c.set.new.self c.args.tag simple c.requires.known after
+    let after = c.set.ensures.set sign (standing sign items) (sym (ap (λ (s : SignData). s.defaults) c.sign.view_is)) st.attributes simple in
+    judged-simple sign items c.args.state.now st (rw (← c.sign.view_is) c.sign.invariant.0) c.set.new.self c.args.tag simple c.requires.known after
 
 pub returns-in_default-clause-limited : goal.returns-in_default-clause-limited
 returns-in_default-clause-limited g c = λ limited.

@@ -16,7 +16,7 @@ judge_run-behind-requires-clause-behind g c =
     let r = c.requires.at.so_far in
     let sign = c.args.sign.now in
     let words = not (g.row.WORDS == 0) in
-    let (fine, of) = c.in-Ok.ensures.judged sign c.in-Some.ensures.widths (map meaning r.items) r.is in
+    let (fine, of) = c.in-Ok.ensures.judged sign (rw (← c.sign.view_is) c.in-Some.ensures.widths) (map meaning r.items) r.is in
     octet_behind sign c.args.source.now.octets c.args.at.now c.args.first (IsPassOf words sign c.args.pass.now) c.args.source.now c.requires.at c.requires.short
     c.requires.plain c.judge_octet.new.source 2 (omega arith) (c.judge_octet.ensures.step ∙ ap (λ (s : Counted). charged s 1) c.cells.ensures.step ∙ charged-charged c.args.source.now 1 1) (IsPassOf words sign c.judge_octet.new.self) fine of
 
@@ -25,6 +25,6 @@ returns-in-Err-clause-refused g c =
     let r = c.requires.at.so_far in
     let sign = c.args.sign.now in
     let words = not (g.row.WORDS == 0) in
-    let offends = c.in-Err.ensures.judged sign c.in-Some.ensures.widths (map meaning r.items) r.is in
+    let offends = c.in-Err.ensures.judged sign (rw (← c.sign.view_is) c.in-Some.ensures.widths) (map meaning r.items) r.is in
     octet_offends sign c.args.source.now.octets c.args.at.now c.args.first (IsPassOf words sign c.args.pass.now) c.args.source.now c.requires.at c.requires.short
     c.requires.plain c.judge_octet.new.source 2 (omega arith) (c.judge_octet.ensures.step ∙ ap (λ (s : Counted). charged s 1) c.cells.ensures.step ∙ charged-charged c.args.source.now 1 1) c.in-Err.error offends
