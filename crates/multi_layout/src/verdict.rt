@@ -1,6 +1,6 @@
 //! The verdict on a string, in one reading from the left with running sums.
 
-ghost use Rattle.std.specs.Prelude.{◌≡◌, ◌≢◌, ℕ, ◌+◌, ◌*◌, ◌^◌, ◌<◌, ◌≤◌, ◌⊎◌, [], length, IfOk, IfErr, OnOk, OnErr, None, Some};
+ghost use Rattle.std.specs.Prelude.{◌≡◌, ℕ, ◌+◌, ◌*◌, ◌^◌, ◌<◌, ◌≤◌, [], length, IfOk, IfErr, OnOk, OnErr, None, Some};
 ghost use Rattle.sign_font.specs.Defaults.{default_fault, under};
 ghost use Rattle.sign_font.specs.Sign.{SignData};
 ghost use Rattle.multi_meaning.specs.Codes.{code_of};
@@ -119,9 +119,7 @@ impl<'a> Judge<'a> {
     pub fn new(sign: &'a Sign) -> Judge<'a>
         ensures { result ≡ sign.now }
     {
-        Judge {
-            terms: Terms::new(sign, sign.defaults()),
-        }
+        Judge::with(sign, sign.defaults())
     }
 
     /// The same by these defaults, which the sign must not refuse.
@@ -261,28 +259,18 @@ fn judge_from<const WORDS: bool>(
     ensures refused { IfErr result (λ error. IsRefused sign.now source.old.octets (record { error = error; at = at.old }) source.new) }
 {
     if is_bracket(first) {
-        return judge_bracket::<WORDS>(sign, pass, source, at, first);
+        let spelled = match read_spelled(source, *at, first) {
+            Ok(spelled) => spelled,
+            Err(error) => return Err(error),
+        };
+        return match pass.judge_item::<WORDS>(sign, source, spelled.item) {
+            Ok(()) => {
+                *at += spelled.len;
+                Ok(source.read(*at))
+            }
+            Err(error) => Err(error),
+        };
     }
-    judge_plain::<WORDS>(sign, pass, source, at, first)
-}
-
-/// Judges a character at an offset, an octet that was read and is no bracket, and those behind it that only lengthen its line. It goes
-/// behind them, and gives the octet read there.
-#[inline(always)]
-fn judge_plain<const WORDS: bool>(
-    sign: &Terms<'_>,
-    pass: &mut Pass,
-    source: &mut Source<'_>,
-    at: &mut usize,
-    first: u8,
-) -> Result<Option<u8>, SyntaxError>
-    requires plain { (first ≢ 91) × (first ≢ 93) }
-    requires short { length source.old.octets < 2 ^ 32 }
-    requires at { IsAt sign.now source.old.octets at.old (Some first) (IsPassOf WORDS sign.now pass.old) source.old }
-    ensures further { OnOk result (at.old < at.new) }
-    ensures at { IfOk result (λ next. IsAt sign.now source.old.octets at.new next (IsPassOf WORDS sign.now pass.new) source.new) }
-    ensures refused { IfErr result (λ error. IsRefused sign.now source.old.octets (record { error = error; at = at.old }) source.new) }
-{
     let Some(cells) = sign.bare.cells(source, pass.state.attributes.font.number) else {
         // The font in force is one of the sign's.
         unreachable!();
@@ -292,35 +280,6 @@ fn judge_plain<const WORDS: bool>(
             let (behind, next) = judge_run::<WORDS>(sign, &cells, pass, source, *at + 1);
             *at = behind;
             Ok(next)
-        }
-        Err(error) => Err(error),
-    }
-}
-
-/// Judges the item that begins with this bracket at an offset, which was read. It goes behind it, and gives the octet read there.
-#[inline(always)]
-fn judge_bracket<const WORDS: bool>(
-    sign: &Terms<'_>,
-    pass: &mut Pass,
-    source: &mut Source<'_>,
-    at: &mut usize,
-    first: u8,
-) -> Result<Option<u8>, SyntaxError>
-    requires bracket { (first ≡ 91) ⊎ (first ≡ 93) }
-    requires short { length source.old.octets < 2 ^ 32 }
-    requires at { IsAt sign.now source.old.octets at.old (Some first) (IsPassOf WORDS sign.now pass.old) source.old }
-    ensures further { OnOk result (at.old < at.new) }
-    ensures at { IfOk result (λ next. IsAt sign.now source.old.octets at.new next (IsPassOf WORDS sign.now pass.new) source.new) }
-    ensures refused { IfErr result (λ error. IsRefused sign.now source.old.octets (record { error = error; at = at.old }) source.new) }
-{
-    let spelled = match read_spelled(source, *at, first) {
-        Ok(spelled) => spelled,
-        Err(error) => return Err(error),
-    };
-    match pass.judge_item::<WORDS>(sign, source, spelled.item) {
-        Ok(()) => {
-            *at += spelled.len;
-            Ok(source.read(*at))
         }
         Err(error) => Err(error),
     }

@@ -1,15 +1,16 @@
-use Rattle.std.proofs.Common.{ℕ, ◌-◌, ◌*◌, ◌==◌, not, map, arith}
-use Rattle.multi_token.specs.Counted.{Counted, RisesBetween}
+use Rattle.std.proofs.Common.{ℕ, ◌-◌, ◌*◌, ◌==◌, not, map, sym, ap, ◌∙◌, arith}
+use Rattle.multi_token.specs.Counted.{Counted, RisesBetween, charged}
 use Rattle.multi_token.proofs.ReadingLemmas.{spelling_some}
 use Rattle.multi_token.specs.Tokens.{item_of}
-use Rattle.multi_token.proofs.StepLemmas.{rises_then}
+use Rattle.multi_token.proofs.StepLemmas.{charged-charged, rises_then}
 use Rattle.multi_meaning.specs.kept.ItemAt.{IsItemAt}
 use Rattle.multi_meaning.specs.Meaning.{Meaning, meaning}
 use Rattle.multi_layout.specs.kept.KnownItem.{meant_by}
 use Rattle.multi_layout.specs.kept.PassState.{IsPassOf}
-use Rattle.multi_layout.proofs.AtLemmas.{fault_refused, item_behind, item_offends}
+use Rattle.multi_layout.proofs.AtLemmas.{fault_refused, item_behind, item_offends, octet_behind, octet_offends}
+use Rattle.multi_layout.proofs.BesideLemmas.{no_bracket}
 use Rattle.multi_layout.proofs.PassLemmas.{pass_ready_here}
-use Rattle.multi_layout.proofs.verdict.judge_bracket.Goals as goal
+use Rattle.multi_layout.proofs.verdict.judge_from.Goals as goal
 
 -- the steps of reading an item and of judging it
 steps_of : (old read judged : Counted) (at len : ℕ) (means : Meaning) → IsItemAt old.octets at len means → RisesBetween old read (len - 1) (9 * len - 9) → RisesBetween read judged 0 8 → RisesBetween old judged (len - 1) (9 * len - 1)
@@ -50,3 +51,25 @@ returns-in-Err-judge_item-clause-refused g c =
     spelled.len (meant_by spelled.item) c.in-Ok.ensures.item c.judge_item.new.source
     (steps_of c.args.source.now c.read_spelled.new.source c.judge_item.new.source c.args.at.now spelled.len (meant_by spelled.item) c.in-Ok.ensures.item c.in-Ok.ensures.steps c.judge_item.ensures.steps)
     c.in-Err-judge_item.error (c.in-Err-judge_item.ensures.judged (map meaning r.items) r.is)
+
+pub judge_octet-requires : goal.judge_octet-requires
+judge_octet-requires g c =
+    record { ready = pass_ready_here c.args.sign.now c.args.source.now.octets c.args.at.now c.args.pass.now (not (g.row.WORDS == 0)) c.requires.at.so_far c.requires.short }
+
+pub judge_run-behind-requires-clause-behind : goal.judge_run-behind-requires-clause-behind
+judge_run-behind-requires-clause-behind g c =
+    let r = c.requires.at.so_far in
+    let sign = c.args.sign.now in
+    let words = not (g.row.WORDS == 0) in
+    let (fine, of) = c.in-Ok-judge_octet.ensures.judged sign (rw (← c.sign.view_is) c.in-Some.ensures.widths) (map meaning r.items) r.is in
+    octet_behind sign c.args.source.now.octets c.args.at.now c.args.first (IsPassOf words sign c.args.pass.now) c.args.source.now c.requires.at c.requires.short
+    (no_bracket c.args.first (sym c.is_bracket.ensures ∙ c.if-is_bracket.false)) c.judge_octet.new.source 2 (omega arith) (c.judge_octet.ensures.step ∙ ap (λ (s : Counted). charged s 1) c.cells.ensures.step ∙ charged-charged c.args.source.now 1 1) (IsPassOf words sign c.judge_octet.new.self) fine of
+
+pub returns-in-Err-judge_octet-clause-refused : goal.returns-in-Err-judge_octet-clause-refused
+returns-in-Err-judge_octet-clause-refused g c =
+    let r = c.requires.at.so_far in
+    let sign = c.args.sign.now in
+    let words = not (g.row.WORDS == 0) in
+    let offends = c.in-Err-judge_octet.ensures.judged sign (rw (← c.sign.view_is) c.in-Some.ensures.widths) (map meaning r.items) r.is in
+    octet_offends sign c.args.source.now.octets c.args.at.now c.args.first (IsPassOf words sign c.args.pass.now) c.args.source.now c.requires.at c.requires.short
+    (no_bracket c.args.first (sym c.is_bracket.ensures ∙ c.if-is_bracket.false)) c.judge_octet.new.source 2 (omega arith) (c.judge_octet.ensures.step ∙ ap (λ (s : Counted). charged s 1) c.cells.ensures.step ∙ charged-charged c.args.source.now 1 1) c.in-Err-judge_octet.error offends
