@@ -324,3 +324,9 @@ module _ {words : Bool} {sign : SignData} {octets : List ℕ} {before behind : L
         steps = steps;
         few = omega (arith, few, long);
       }
+
+-- the first of the items that are left was met, and is no setting
+pub so_met : {words : Bool} {sign : SignData} {octets : List ℕ} {before behind : List LaidItem} {at : ℕ} {kept : Pass} {lines : LineTable} (so : SoFar words sign octets before behind at kept lines)
+    → {octets' : List ℕ} → octets' ≡ octets → (next : NextItem) (state : State) → (state ≡ kept.state) × IsNextAt sign octets' at next
+    → (so' : SoFar words sign octets before behind at (record kept { state = state }) lines) × NextSo so' next
+so_met so same next state met = (met_stays so state met.0, so_read (met_stays so state met.0) same next met.1)

@@ -49,29 +49,14 @@ read_area-requires-clause-begins c =
     let same = same_octets c.pass_settings-begun.ensures.steps.3 ∙ same_octets i.steps.3 in
     (before ++ s.so.done, s.so.left, stands_in same s.so.between, s.begins)
 
-pub draw_area-requires-clause-known : goal.draw_area-requires-clause-known
-draw_area-requires-clause-known c =
+pub draw_area-requires : goal.draw_area-requires
+draw_area-requires c =
     let i = c.loop-read.invariant in
     let (before, behind, b, begins) = c.requires.begins in
     let s = behind_settings (i.so_far before behind b) (same_octets i.steps.3) c.pass_settings-begun.new.self c.pass_settings-begun.ensures.passed in
     let same = same_octets c.pass_settings-begun.ensures.steps.3 ∙ same_octets i.steps.3 in
-    area_known s same c.read_area.ensures.read
-
-pub draw_area-requires-clause-low : goal.draw_area-requires-clause-low
-draw_area-requires-clause-low c =
-    let i = c.loop-read.invariant in
-    let (before, behind, b, begins) = c.requires.begins in
-    let s = behind_settings (i.so_far before behind b) (same_octets i.steps.3) c.pass_settings-begun.new.self c.pass_settings-begun.ensures.passed in
-    let same = same_octets c.pass_settings-begun.ensures.steps.3 ∙ same_octets i.steps.3 in
-    (area_here s same c.read_area.ensures.read).low
-
-pub draw_area-requires-clause-ordered : goal.draw_area-requires-clause-ordered
-draw_area-requires-clause-ordered c =
-    let i = c.loop-read.invariant in
-    let (before, behind, b, begins) = c.requires.begins in
-    let s = behind_settings (i.so_far before behind b) (same_octets i.steps.3) c.pass_settings-begun.new.self c.pass_settings-begun.ensures.passed in
-    let same = same_octets c.pass_settings-begun.ensures.steps.3 ∙ same_octets i.steps.3 in
-    (area_here s same c.read_area.ensures.read).ordered
+    let read = area_here s same c.read_area.ensures.read in
+    record { sound = search rules; known = area_known s same c.read_area.ensures.read; low = read.low; ordered = read.ordered; size = search rules }
 
 pub returns-in_default : goal.returns-in_default
 returns-in_default c =
@@ -107,21 +92,13 @@ returns-in_default c =
       fills = page_filled sign c.args.plane.now plane start cursor _ areas (omega (arith, i.on, c.pass_settings-begun.ensures.on, r.on, r.at)) (omega (arith, if_same cursor.state.pages start.state.pages 4 pages, i.on, r.on, r.at));
     }
 
-pub pass_tag-requires-clause-before : goal.pass_tag-requires-clause-before
-pass_tag-requires-clause-before c =
+pub pass_tag-requires : goal.pass_tag-requires
+pass_tag-requires c =
     let (before, behind, b, begins) = c.requires.begins in
     let i = c.loop-read.invariant in
     let r = round (behind_settings (i.so_far before behind b) (same_octets i.steps.3) c.pass_settings-begun.new.self c.pass_settings-begun.ensures.passed) (same_octets c.pass_settings-begun.ensures.steps.3 ∙ same_octets i.steps.3) c.read_area.ensures.read c.draw_area.ensures.steps c.draw_area.new.cursor c.draw_area.new.plane c.draw_area.ensures.passed c.draw_area.ensures.drawn in
     let n = next_area r c.in-Some.next c.in-Some.is in
-    (before ++ r.so.done, n.rest, n.item, n.here, n.read)
-
-pub pass_tag-requires-clause-tag : goal.pass_tag-requires-clause-tag
-pass_tag-requires-clause-tag c =
-    let (before, behind, b, begins) = c.requires.begins in
-    let i = c.loop-read.invariant in
-    let r = round (behind_settings (i.so_far before behind b) (same_octets i.steps.3) c.pass_settings-begun.new.self c.pass_settings-begun.ensures.passed) (same_octets c.pass_settings-begun.ensures.steps.3 ∙ same_octets i.steps.3) c.read_area.ensures.read c.draw_area.ensures.steps c.draw_area.new.cursor c.draw_area.new.plane c.draw_area.ensures.passed c.draw_area.ensures.drawn in
-    let n = next_area r c.in-Some.next c.in-Some.is in
-    begins_tag c.in-Some.next.item (ap begins_area (sym n.read.meant) ∙ n.begins)
+    record { before = (before ++ r.so.done, n.rest, n.item, n.here, n.read); tag = begins_tag c.in-Some.next.item (ap begins_area (sym n.read.meant) ∙ n.begins) }
 
 pub returns-then-ends_page : goal.returns-then-ends_page
 returns-then-ends_page c =

@@ -5,7 +5,7 @@ use Rattle.multi_layout.specs.declared.item.KnownItem.TheVariants as known
 use Rattle.multi_layout.specs.kept.AreaReading.{GoesOn}
 use Rattle.multi_layout.specs.kept.Cursors.{IsFirst, items_of}
 use Rattle.multi_layout.specs.kept.Settings.{item_steps}
-use Rattle.multi_layout.proofs.AreaLinesLemmas.{all_counted, area_ended, area_read, met_stays, no_more, none_ends, none_known, nothing_read, placed_in, read_on, setting_read, so_advances, so_next, so_read, steps_on, steps_set}
+use Rattle.multi_layout.proofs.AreaLinesLemmas.{all_counted, area_ended, area_read, met_stays, no_more, none_ends, none_known, nothing_read, placed_in, read_on, setting_read, so_advances, so_met, so_next, so_read, steps_on, steps_set}
 use Rattle.multi_layout.proofs.AreaReadLemmas.{read_below, read_lines, read_ready, read_state}
 use Rattle.multi_layout.proofs.PassLemmas.{limited_of}
 use Rattle.multi_layout.proofs.RunLinesLemmas.{gone_forward, gone_within, ready_state, went_on}
@@ -24,17 +24,11 @@ loop-first-init g c =
       few = omega arith;
     }
 
-pub end_area-requires-clause-below : goal.end_area-requires-clause-below
-end_area-requires-clause-below g c =
+pub end_area-requires : goal.end_area-requires
+end_area-requires g c =
     let (before, behind, b, begins) = c.requires.begins in
     let so = c.loop-first.invariant.so_far before behind b begins in
-    read_below c.requires.sound so.read
-
-pub end_area-requires-clause-known : goal.end_area-requires-clause-known
-end_area-requires-clause-known g c =
-    let (before, behind, b, begins) = c.requires.begins in
-    let so = c.loop-first.invariant.so_far before behind b begins in
-    read_lines c.requires.sound so.read
+    record { below = read_below c.requires.sound so.read; ordered = so.read.ordered; known = read_lines c.requires.sound so.read }
 
 pub returns-in_default : goal.returns-in_default
 returns-in_default g c =
@@ -99,21 +93,11 @@ loop-first-preserved-in-Setting g c =
       few = omega (arith, least);
     }
 
-pub end_area-requires-then-begins_area-clause-below : goal.end_area-requires-then-begins_area-clause-below
-end_area-requires-then-begins_area-clause-below g c =
-    let i = c.loop-first.invariant in
+pub end_area-requires-then-begins_area : goal.end_area-requires-then-begins_area
+end_area-requires-then-begins_area g c =
     let (before, behind, b, begins) = c.requires.begins in
-    let so = i.so_far before behind b begins in
-    let so' = met_stays so c.meet_known.new.state c.in-Item.ensures.met.0 in
-    read_below c.requires.sound so'.read
-
-pub end_area-requires-then-begins_area-clause-known : goal.end_area-requires-then-begins_area-clause-known
-end_area-requires-then-begins_area-clause-known g c =
-    let i = c.loop-first.invariant in
-    let (before, behind, b, begins) = c.requires.begins in
-    let so = i.so_far before behind b begins in
-    let so' = met_stays so c.meet_known.new.state c.in-Item.ensures.met.0 in
-    read_lines c.requires.sound so'.read
+    let so = met_stays (c.loop-first.invariant.so_far before behind b begins) c.meet_known.new.state c.in-Item.ensures.met.0 in
+    record { below = read_below c.requires.sound so.read; ordered = so.read.ordered; known = read_lines c.requires.sound so.read }
 
 pub returns-then-begins_area : goal.returns-then-begins_area
 returns-then-begins_area g c =
@@ -136,69 +120,40 @@ pub pass_item-requires-clause-known : goal.pass_item-requires-clause-known
 pass_item-requires-clause-known g c =
     let i = c.loop-first.invariant in
     let (before, behind, b, begins) = c.requires.begins in
-    let so = i.so_far before behind b begins in
-    let (same, is) = c.in-Item.ensures.met in
-    let so' = met_stays so c.meet_known.new.state same in
-    let n = so_read so' (same_octets i.steps.3) c.in-Item.next is in
-    (items_of (before ++ so.pieces), n.piece.item, so'.read, so_next so' n)
+    let (so, n) = so_met (i.so_far before behind b begins) (same_octets i.steps.3) c.in-Item.next c.meet_known.new.state c.in-Item.ensures.met in
+    (items_of (before ++ so.pieces), n.piece.item, so.read, so_next so n)
 
 pub overflow_add-behind : goal.overflow_add-behind
 overflow_add-behind g c =
     let i = c.loop-first.invariant in
     let (before, behind, b, begins) = c.requires.begins in
-    let so = i.so_far before behind b begins in
-    let (same, is) = c.in-Item.ensures.met in
-    let so' = met_stays so c.meet_known.new.state same in
-    let n = so_read so' (same_octets i.steps.3) c.in-Item.next is in
-    let on = so_advances so' n (c.loop-first.at + c.in-Item.next.len) refl in
+    let (so, n) = so_met (i.so_far before behind b begins) (same_octets i.steps.3) c.in-Item.next c.meet_known.new.state c.in-Item.ensures.met in
+    let on = so_advances so n (c.loop-first.at + c.in-Item.next.len) refl in
     omega (arith, on, b.placed.accepted.short)
 
-pub go_on-requires-clause-small : goal.go_on-requires-clause-small
-go_on-requires-clause-small g c =
+pub go_on-requires : goal.go_on-requires
+go_on-requires g c =
     let i = c.loop-first.invariant in
     let (before, behind, b, begins) = c.requires.begins in
-    let so = i.so_far before behind b begins in
-    let (same, is) = c.in-Item.ensures.met in
-    let so' = met_stays so c.meet_known.new.state same in
-    let n = so_read so' (same_octets i.steps.3) c.in-Item.next is in
-    let r = c.pass_item.ensures.known (items_of (before ++ so.pieces)) n.piece.item so'.read (so_next so' n) in
+    let (so, n) = so_met (i.so_far before behind b begins) (same_octets i.steps.3) c.in-Item.next c.meet_known.new.state c.in-Item.ensures.met in
+    let r = c.pass_item.ensures.known (items_of (before ++ so.pieces)) n.piece.item so.read (so_next so n) in
     let octets : c.pass_item.new.source.octets ≡ c.args.source.now.octets = same_octets c.pass_item.ensures.steps.3 ∙ same_octets c.in-Item.ensures.steps.3 ∙ same_octets i.steps.3 in
-    (ready_state (not (g.row.WORDS == 0)) c.pass_item.new.kept (read_ready c.requires.sound r), omega (arith, ap length octets, b.placed.accepted.short))
-
-pub go_on-requires-clause-limited : goal.go_on-requires-clause-limited
-go_on-requires-clause-limited g c = λ off.
-    let i = c.loop-first.invariant in
-    let (before, behind, b, begins) = c.requires.begins in
-    let so = i.so_far before behind b begins in
-    let (same, is) = c.in-Item.ensures.met in
-    let so' = met_stays so c.meet_known.new.state same in
-    let n = so_read so' (same_octets i.steps.3) c.in-Item.next is in
-    let r = c.pass_item.ensures.known (items_of (before ++ so.pieces)) n.piece.item so'.read (so_next so' n) in
-    limited_of (not (g.row.WORDS == 0)) off c.args.sign.now c.pass_item.new.kept _ r.of
-
-pub go_on-requires-clause-within : goal.go_on-requires-clause-within
-go_on-requires-clause-within g c =
-    let i = c.loop-first.invariant in
-    let (before, behind, b, begins) = c.requires.begins in
-    let so = i.so_far before behind b begins in
-    let (same, is) = c.in-Item.ensures.met in
-    let so' = met_stays so c.meet_known.new.state same in
-    let n = so_read so' (same_octets i.steps.3) c.in-Item.next is in
-    let octets : c.pass_item.new.source.octets ≡ c.args.source.now.octets = same_octets c.pass_item.ensures.steps.3 ∙ same_octets c.in-Item.ensures.steps.3 ∙ same_octets i.steps.3 in
-    omega (arith, (so_advances so' n (c.loop-first.at + c.in-Item.next.len) refl).1, ap length octets)
+    record {
+      small = (ready_state (not (g.row.WORDS == 0)) c.pass_item.new.kept (read_ready c.requires.sound r), omega (arith, ap length octets, b.placed.accepted.short));
+      limited = λ off. limited_of (not (g.row.WORDS == 0)) off c.args.sign.now c.pass_item.new.kept _ r.of;
+      behind = λ is off. c.pass_item.ensures.behind (c.is_octet.ensures is) off;
+      within = omega (arith, (so_advances so n (c.loop-first.at + c.in-Item.next.len) refl).1, ap length octets);
+    }
 
 pub loop-first-smaller : goal.loop-first-smaller
 loop-first-smaller g c =
     let i = c.loop-first.invariant in
     let (before, behind, b, begins) = c.requires.begins in
-    let so = i.so_far before behind b begins in
-    let (same, is) = c.in-Item.ensures.met in
-    let so' = met_stays so c.meet_known.new.state same in
-    let n = so_read so' (same_octets i.steps.3) c.in-Item.next is in
+    let (so, n) = so_met (i.so_far before behind b begins) (same_octets i.steps.3) c.in-Item.next c.meet_known.new.state c.in-Item.ensures.met in
     let octets : c.pass_item.new.source.octets ≡ c.args.source.now.octets = same_octets c.pass_item.ensures.steps.3 ∙ same_octets c.in-Item.ensures.steps.3 ∙ same_octets i.steps.3 in
     let at = c.loop-first.at + c.in-Item.next.len in
     let on = gone_forward at c.go_on.result.0 c.pass_item.new.kept c.go_on.new.kept c.go_on.ensures.gone in
-    let within = gone_within {octets = c.pass_item.new.source.octets} at c.go_on.result.0 c.pass_item.new.kept c.go_on.new.kept c.go_on.ensures.gone (omega (arith, (so_advances so' n at refl).1, ap length octets)) in
+    let within = gone_within {octets = c.pass_item.new.source.octets} at c.go_on.result.0 c.pass_item.new.kept c.go_on.new.kept c.go_on.ensures.gone (omega (arith, (so_advances so n at refl).1, ap length octets)) in
     omega (arith, on, within, c.in-Item.ensures.some, ap length octets)
 
 pub loop-first-preserved : goal.loop-first-preserved
@@ -212,12 +167,9 @@ loop-first-preserved g c =
     i.forward on c.in-Item.ensures.some c.go_on.ensures.alone i.steps i.few c.in-Item.ensures.known c.in-Item.ensures.steps c.pass_item.ensures.steps (λ is. c.pass_item.ensures.octet (c.is_octet.ensures is)) c.go_on.ensures.steps in
     record {
       so_far = λ before behind b begins.
-          let so = i.so_far before behind b begins in
-          let (same, is) = c.in-Item.ensures.met in
-          let so' = met_stays so c.meet_known.new.state same in
-          let n = so_read so' (same_octets i.steps.3) c.in-Item.next is in
+          let (so, n) = so_met (i.so_far before behind b begins) (same_octets i.steps.3) c.in-Item.next c.meet_known.new.state c.in-Item.ensures.met in
           let plain = sym c.begins_area.ensures ∙ c.if-begins_area.false in
-          let more = read_on so' n at refl plain c.pass_item.new.kept c.pass_item.new.lines (c.pass_item.ensures.known (items_of (before ++ so.pieces)) n.piece.item so'.read (so_next so' n)) in
+          let more = read_on so n at refl plain c.pass_item.new.kept c.pass_item.new.lines (c.pass_item.ensures.known (items_of (before ++ so.pieces)) n.piece.item so.read (so_next so n)) in
           went_on c.requires.sound (omega (arith, b.placed.accepted.short)) at c.go_on.result.0 c.pass_item.new.kept c.go_on.new.kept c.pass_item.new.lines more gone;
       forward = omega (arith, i.forward, on);
       first = c.go_on.ensures.next ∙ ap (λ o. slice_get o c.go_on.result.0) octets;
