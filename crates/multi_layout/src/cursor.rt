@@ -11,9 +11,9 @@ ghost use Rattle.multi_meaning.specs.Offence.{unsized_offence};
 ghost use Rattle.multi_layout.specs.kept.KnownItem.{IsKnownItem, meant_by};
 ghost use Rattle.multi_layout.specs.kept.Run.{IsBehindCharacter};
 ghost use Rattle.multi_layout.specs.kept.State.{IsReady, IsStateOf};
-ghost use Rattle.multi_layout.specs.kept.Cursors.{GoesBehind, IsBefore, IsBetween, IsWithin, LaidItem};
+ghost use Rattle.multi_layout.specs.kept.Cursors.{GoesBehind, IsBefore, IsBetween, LaidItem};
 ghost use Rattle.multi_layout.specs.kept.Passing.{IsAtStart, IsPageSkipped, IsPassing, IsPassingBefore, IsTextPassed, PassesOn};
-ghost use Rattle.multi_layout.specs.kept.Settings.{AreSettingsPassed, IsBegun, IsMet, IsNextAt, item_steps, met_octets, met_steps};
+ghost use Rattle.multi_layout.specs.kept.Settings.{AreSettingsPassed, IsBegun, IsMet, IsNextAt, MayMeet, item_steps, met_octets, met_steps};
 
 use crate::bracket::{fault_of, is_bracket, said};
 use crate::item::{KnownItem, NextItem};
@@ -214,11 +214,7 @@ pub(crate) fn meet(
     at: usize,
     first: u8,
 ) -> Met
-    requires within { IsWithin sign.now source.old.octets at }
-    requires ready { IsReady state.old }
-    requires behind { (items : List Meaning) × IsStateOf sign.now items state.old }
-    requires stands { slice_get source.old.octets at ≡ Some first }
-    requires room { length source.old.octets < 2 ^ 63 }
+    requires { MayMeet sign.now source.old.octets at first state.old }
     ensures met { IsMet sign.now source.old.octets at state.old result state.new }
     ensures some { 1 ≤ met_octets result }
     ensures steps { RisesBetween source.old source.new 0 (met_steps result) }
@@ -242,11 +238,7 @@ pub(crate) fn meet_known(
     first: u8,
     item: Option<NextItem>,
 ) -> Met
-    requires within { IsWithin sign.now source.old.octets at }
-    requires ready { IsReady state.old }
-    requires behind { (items : List Meaning) × IsStateOf sign.now items state.old }
-    requires stands { slice_get source.old.octets at ≡ Some first }
-    requires room { length source.old.octets < 2 ^ 63 }
+    requires begins { MayMeet sign.now source.old.octets at first state.old }
     requires item { IfSome item (IsNextAt sign.now source.old.octets at) }
     ensures met { IsMet sign.now source.old.octets at state.old result state.new }
     ensures some { 1 ≤ met_octets result }
@@ -269,11 +261,7 @@ fn meet_bracket(
     bracket: u8,
 ) -> Met
     requires bracket { (bracket ≡ 91) ⊎ (bracket ≡ 93) }
-    requires within { IsWithin sign.now source.old.octets at }
-    requires ready { IsReady state.old }
-    requires behind { (items : List Meaning) × IsStateOf sign.now items state.old }
-    requires stands { slice_get source.old.octets at ≡ Some bracket }
-    requires room { length source.old.octets < 2 ^ 63 }
+    requires begins { MayMeet sign.now source.old.octets at bracket state.old }
     ensures met { IsMet sign.now source.old.octets at state.old result state.new }
     ensures some { 1 ≤ met_octets result }
     ensures steps { RisesBetween source.old source.new 0 (met_steps result) }

@@ -1,10 +1,10 @@
 -- Settings: tags that only set values that are in force behind them, met on the way through an accepted string (own).
-use Rattle.std.specs.Prelude.{◌≡◌, ℕ, ◌-◌, ◌*◌, true, List, ◌++◌, Option, Some, None, Ok, IfSome, slice_get}
+use Rattle.std.specs.Prelude.{◌≡◌, ℕ, ◌-◌, ◌*◌, ◌^◌, ◌<◌, true, List, ◌++◌, Option, Some, None, Ok, IfSome, length, slice_get}
 use Rattle.std.specs.List.{All}
 use Rattle.multi_token.specs.Spelling.{Item}
 use Rattle.multi_tag.specs.declared.tag.Tag.{Tag}
 use Rattle.sign_font.specs.Sign.{SignData}
-use Rattle.multi_meaning.specs.Meaning.{Does}
+use Rattle.multi_meaning.specs.Meaning.{Does, Meaning}
 use Rattle.multi_layout.specs.declared.cursor.Begun.{Begun}
 use Rattle.multi_layout.specs.declared.cursor.Cursor.{Cursor}
 use Rattle.multi_layout.specs.declared.cursor.Met.{Met}
@@ -14,8 +14,8 @@ use Rattle.multi_layout.specs.declared.item.KnownItem.TheVariants as known
 use Rattle.multi_layout.specs.declared.item.NextItem.{NextItem}
 use Rattle.multi_layout.specs.declared.state.State.{State}
 use Rattle.multi_layout.specs.kept.KnownItem.{is_setting}
-use Rattle.multi_layout.specs.kept.Cursors.{IsBetween, IsFirst, IsPlaced, LaidItem, meant}
-use Rattle.multi_layout.specs.kept.State.{IsLimited, Judges}
+use Rattle.multi_layout.specs.kept.Cursors.{IsBetween, IsFirst, IsPlaced, IsWithin, LaidItem, meant}
+use Rattle.multi_layout.specs.kept.State.{IsLimited, IsReady, IsStateOf, Judges}
 
 -- what this setting says is put into force: it doesn't offend behind any items, and the new state is that of the items with it (own)
 pub record PutsSetting (sign : SignData) (tag : Tag) (old new : State) : Type 0 where
@@ -26,6 +26,14 @@ pub record PutsSetting (sign : SignData) (tag : Tag) (old new : State) : Type 0 
 -- this is read of the first item behind an offset of an accepted string (own)
 abbrev pub IsNextAt : SignData → List ℕ → ℕ → NextItem → Type 0
 IsNextAt sign octets at next = (before behind : List Item) → IsPlaced sign octets before behind at → IsFirst behind (Some next)
+
+-- an item of an accepted string may be met at an offset, where this octet stands, in the state of some items (own)
+pub record MayMeet (sign : SignData) (octets : List ℕ) (at first : ℕ) (state : State) : Type 0 where
+  pub within : IsWithin sign octets at
+  pub ready : IsReady state
+  pub behind : (items : List Meaning) × IsStateOf sign items state
+  pub stands : slice_get octets at ≡ Some first
+  pub room : length octets < 2 ^ 63
 
 -- that item was met: it is a setting, which is put into force, or this is read of it (own)
 abbrev pub IsMet : SignData → List ℕ → ℕ → State → Met → State → Type 0

@@ -32,23 +32,23 @@ pub returns-then-eq-clause-met : goal.returns-then-eq-clause-met
 returns-then-eq-clause-met c =
     let octets = c.args.source.now.octets in
     let next = sym c.read.ensures.octet ∙ read_is c.read.result c.args.bracket (sym c.if-eq.true ∙ c.eq.ensures) in
-    let stands = doubled_at octets c.args.at c.args.bracket c.requires.room c.requires.bracket c.requires.stands next in
+    let stands = doubled_at octets c.args.at c.args.bracket c.requires.begins.room c.requires.bracket c.requires.begins.stands next in
     (refl, λ before behind p. rw c.from.ensures (item_is c.args.sign.now octets before behind c.args.at p (record { item = known.Char c.args.bracket; len = 2 }) stands tt))
 
 pub unreachable-requires : goal.unreachable-requires
 unreachable-requires c =
-    let (before, behind, p) = c.requires.within in
+    let (before, behind, p) = c.requires.begins.within in
     let octets = c.args.source.now.octets in
     let other = λ (next : slice_get octets (c.args.at + 1) ≡ Some 93). read_not c.read.result c.args.bracket (sym c.if-eq.false ∙ c.eq.ensures) (c.read.ensures.octet ∙ next ∙ ap Some (sym c.if-bracket-eq93.true)) in
-    no_fault c.args.sign.now octets before behind c.args.at 3 p (slice_get_within octets c.args.at c.args.bracket c.requires.stands)
-    (inl (none_closing octets c.args.at (c.requires.stands ∙ ap Some c.if-bracket-eq93.true) other, refl))
+    no_fault c.args.sign.now octets before behind c.args.at 3 p (slice_get_within octets c.args.at c.args.bracket c.requires.begins.stands)
+    (inl (none_closing octets c.args.at (c.requires.begins.stands ∙ ap Some c.if-bracket-eq93.true) other, refl))
 
 pub unreachable-requires-in_default : goal.unreachable-requires-in_default
 unreachable-requires-in_default c =
-    let (before, behind, p) = c.requires.within in
+    let (before, behind, p) = c.requires.begins.within in
     let octets = c.args.source.now.octets in
     let same = ap (λ (s : Counted). s.octets) c.in_default.ensures.steps ∙ ap (λ (s : Counted). s.octets) c.read.ensures.step in
-    no_fault c.args.sign.now octets before behind c.args.at (code_of c.fault_of.result) p (slice_get_within octets c.args.at c.args.bracket c.requires.stands)
+    no_fault c.args.sign.now octets before behind c.args.at (code_of c.fault_of.result) p (slice_get_within octets c.args.at c.args.bracket c.requires.begins.stands)
     (subst (λ (os : List ℕ). IsFaultAt os c.args.at (code_of c.fault_of.result)) same c.fault_of.ensures.fault)
 
 pub returns-then-not-is_setting-clause-met : goal.returns-then-not-is_setting-clause-met
@@ -77,8 +77,8 @@ pub unreachable-requires-in_default-judge_tag : goal.unreachable-requires-in_def
 unreachable-requires-in_default-judge_tag c =
     let sign = c.args.sign.now in
     let octets = c.args.source.now.octets in
-    let (before, behind, p) = c.requires.within in
-    let (items, st) = c.requires.behind in
+    let (before, behind, p) = c.requires.begins.within in
+    let (items, st) = c.requires.begins.behind in
     let next : NextItem = record { item = c.said-item.result; len = c.in-Some.len } in
     let (means, setting) = means_it c.in-Some.tag c.said-item.result c.said-item.ensures.meant (sym c.is_setting.ensures ∙ c.if-not-is_setting.false) in
     let first = tag_first sign octets c.read.new.self.octets c.args.at c.in-Some.tag c.in-Some.len c.said-item.result (ap (λ (s : Counted). s.octets) c.read.ensures.step) c.in-Some.ensures.some c.said-item.ensures.meant c.said-item.ensures.known before behind p in

@@ -1,4 +1,4 @@
-use Rattle.std.proofs.Common.{◌≡◌, ◌+◌, ◌-◌, ◌*◌, ◌≤◌, ◌∷◌, ◌++◌, length, map, slice_get, sym, ap, ◌∙◌, subst, arith}
+use Rattle.std.proofs.Common.{rules, ◌≡◌, ◌+◌, ◌-◌, ◌*◌, ◌≤◌, ◌∷◌, ◌++◌, length, map, slice_get, sym, ap, ◌∙◌, subst, arith}
 use Rattle.std.proofs.lemmas.Option.{IfSome_then}
 use Rattle.multi_token.proofs.StepLemmas.{charged-zero, rises_more, rises_then}
 use Rattle.multi_layout.specs.declared.cursor.Met.TheVariants.{Setting}
@@ -22,11 +22,12 @@ loop-cursor-init c = record {
   fills = subst (IsFilledBy c.args.sign.now c.args.plane.now c.args.plane.now) (omega arith) (filled_none c.args.sign.now c.args.plane.now);
 }
 
-pub meet-requires-clause-ready : goal.meet-requires-clause-ready
-meet-requires-clause-ready c =
+pub meet-requires : goal.meet-requires
+meet-requires c =
     let (before, area, rest, b, plain, ends, counted) = c.requires.known in
     let s = c.loop-cursor.invariant.so_far before area rest b plain ends counted in
-    ready_between c.args.sign.now c.args.source.now.octets (before ++ s.done) (s.left ++ rest) c.loop-cursor.cursor s.between
+    let ready = ready_between c.args.sign.now c.args.source.now.octets (before ++ s.done) (s.left ++ rest) c.loop-cursor.cursor s.between in
+    record { within = search rules; ready = ready; behind = search rules; stands = search rules; room = search rules }
 
 pub unreachable-requires : goal.unreachable-requires
 unreachable-requires c =

@@ -1,4 +1,4 @@
-use Rattle.std.proofs.Common.{◌==◌, not, ◌≡◌, ◌+◌, ◌-◌, ◌*◌, ◌++◌, length, refl, sym, ap, subst, ◌∙◌, arith}
+use Rattle.std.proofs.Common.{rules, ◌==◌, not, ◌≡◌, ◌+◌, ◌-◌, ◌*◌, ◌++◌, length, refl, sym, ap, subst, ◌∙◌, arith}
 use Rattle.std.specs.Prelude.{slice_get}
 use Rattle.multi_token.proofs.StepLemmas.{charged-zero, rises_then}
 use Rattle.multi_layout.specs.declared.item.KnownItem.TheVariants as known
@@ -43,17 +43,12 @@ returns-in_default g c =
           c.end_area.ensures.end.0 (subst (λ n. IsFirst (items_of so.left) n) (sym c.end_area.ensures.end.1) none) i.steps (omega (arith, i.few, known, last));
     }
 
-pub meet_known-requires-clause-ready : goal.meet_known-requires-clause-ready
-meet_known-requires-clause-ready g c =
+pub meet_known-requires-clause-begins : goal.meet_known-requires-clause-begins
+meet_known-requires-clause-begins g c =
     let (before, behind, b, begins) = c.requires.begins in
     let so = c.loop-first.invariant.so_far before behind b begins in
-    ready_state (not (g.row.WORDS == 0)) c.loop-first.kept (read_ready c.requires.sound so.read)
-
-pub meet_known-requires-clause-behind : goal.meet_known-requires-clause-behind
-meet_known-requires-clause-behind g c =
-    let (before, behind, b, begins) = c.requires.begins in
-    let so = c.loop-first.invariant.so_far before behind b begins in
-    (_, read_state c.requires.sound so.read)
+    let ready = ready_state (not (g.row.WORDS == 0)) c.loop-first.kept (read_ready c.requires.sound so.read) in
+    record { within = search rules; ready = ready; behind = (_, read_state c.requires.sound so.read); stands = search rules; room = search rules }
 
 pub overflow_add-at : goal.overflow_add-at
 overflow_add-at g c =

@@ -1,4 +1,4 @@
-use Rattle.std.proofs.Common.{ℕ, ◌+◌, ◌-◌, ◌*◌, ◌++◌, ◌∷◌, [], cond, sym, ap, subst, refl, ◌∙◌, slice_get, arith}
+use Rattle.std.proofs.Common.{rules, ℕ, ◌+◌, ◌-◌, ◌*◌, ◌++◌, ◌∷◌, [], cond, sym, ap, subst, refl, ◌∙◌, slice_get, arith}
 use Rattle.std.proofs.lemmas.Bool.{eq-eqb}
 use Rattle.multi_token.specs.Counted.{RisesBetween}
 use Rattle.multi_token.proofs.StepLemmas.{charged-zero, rises_more, rises_then}
@@ -16,22 +16,18 @@ loop-first-init c = record {
   steps = (0, omega arith, omega arith, sym (charged-zero c.args.source.now));
 }
 
-pub meet-requires-clause-within : goal.meet-requires-clause-within
-meet-requires-clause-within c =
+pub meet-requires : goal.meet-requires
+meet-requires c =
     let i = c.loop-first.invariant in
     let (before, behind, p) = c.requires in
     let s = i.way before behind p in
-    (before ++ s.passed.text, s.passed.rest, placed_here p s (same_octets c.read.ensures.step ∙ same_octets i.steps.3))
-
-pub meet-requires-clause-ready : goal.meet-requires-clause-ready
-meet-requires-clause-ready c =
-    let (before, behind, p) = c.requires in
-    ready_there (c.loop-first.invariant.way before behind p).passed.between
-
-pub meet-requires-clause-behind : goal.meet-requires-clause-behind
-meet-requires-clause-behind c =
-    let (before, behind, p) = c.requires in
-    (_, (c.loop-first.invariant.way before behind p).passed.between.state_is)
+    record {
+      within = (before ++ s.passed.text, s.passed.rest, placed_here p s (same_octets c.read.ensures.step ∙ same_octets i.steps.3));
+      ready = ready_there s.passed.between;
+      behind = (_, s.passed.between.state_is);
+      stands = search rules;
+      room = search rules;
+    }
 
 pub overflow_add-self : goal.overflow_add-self
 overflow_add-self c =

@@ -1,4 +1,4 @@
-use Rattle.std.proofs.Common.{◌≡◌, ◌+◌, ◌++◌, length, slice_get, sym, ap, subst, ◌∙◌, arith}
+use Rattle.std.proofs.Common.{rules, ◌≡◌, ◌+◌, ◌++◌, length, slice_get, sym, ap, subst, ◌∙◌, arith}
 use Rattle.multi_token.proofs.StepLemmas.{charged-zero, rises_more, rises_then}
 use Rattle.multi_layout.specs.declared.cursor.Met.TheVariants.{Setting}
 use Rattle.multi_layout.specs.kept.Settings.{IsMet}
@@ -14,11 +14,12 @@ loop-first-init c = record {
   steps = (0, omega arith, omega arith, sym (charged-zero c.read-first.new.self));
 }
 
-pub meet-requires-clause-ready : goal.meet-requires-clause-ready
-meet-requires-clause-ready c =
+pub meet-requires : goal.meet-requires
+meet-requires c =
     let (before, behind, b) = c.requires in
     let s = c.loop-first.invariant.way before behind (stands_in (same_octets c.read-first.ensures.step) b) in
-    ready_between c.args.sign.now c.read-first.new.self.octets (before ++ s.settings) s.rest c.loop-first.self s.between
+    let ready = ready_between c.args.sign.now c.read-first.new.self.octets (before ++ s.settings) s.rest c.loop-first.self s.between in
+    record { within = search rules; ready = ready; behind = search rules; stands = search rules; room = search rules }
 
 pub overflow_add-self : goal.overflow_add-self
 overflow_add-self c =
