@@ -10,9 +10,8 @@ use Rattle.multi_layout.proofs.bracket.read_spelled.Goals as goal
 
 pub returns-then-eq-clause-item : goal.returns-then-eq-clause-item
 returns-then-eq-clause-item c =
-    let octets = c.args.source.now.octets in
     let next = sym c.read.ensures.octet ∙ read_is c.read.result c.args.bracket (sym c.if-eq.true ∙ c.eq.ensures) in
-    rw c.from.ensures (doubled_at octets c.args.at c.args.bracket c.requires.room c.requires.bracket c.requires.stands next)
+    rw c.from.ensures (doubled_at c.args.source.now.octets c.args.at c.args.bracket c.requires.room c.requires.bracket c.requires.stands next)
 
 pub returns-then-bracket-eq93-clause-fault : goal.returns-then-bracket-eq93-clause-fault
 returns-then-bracket-eq93-clause-fault c =

@@ -68,11 +68,10 @@ loop-cursor-preserved-in-Setting c =
 
 pub lay-next-requires-clause-stands : goal.lay-next-requires-clause-stands
 lay-next-requires-clause-stands c =
-    let sign = c.args.sign.now in
     let (before, area, rest, b, plain, ends, counted) = c.requires.known in
     let s = drawn_there (c.loop-cursor.invariant.so_far before area rest b plain ends counted) c.meet.new.state c.in-Item.ensures.met.0 in
     let end : c.args.read.now.end ≡ length (spell_of before) + length (spell_of area) = omega (arith, ends, b.placed.place) in
-    let (item, more, here) = area_here sign c.args.source.now.octets before area rest c.args.read.now.lines c.args.layer c.args.plane.now _ c.loop-cursor.plane s c.args.read.now.end end c.loop-cursor-test.true in
+    let (item, more, here) = area_here c.args.sign.now c.args.source.now.octets before area rest c.args.read.now.lines c.args.layer c.args.plane.now _ c.loop-cursor.plane s c.args.read.now.end end c.loop-cursor-test.true in
     (c.args.source.now.octets, before ++ s.done, more ++ rest, item, here)
 
 pub draw_next-first-requires-clause-known : goal.draw_next-first-requires-clause-known
@@ -97,13 +96,12 @@ loop-cursor-preserved c =
     let i = c.loop-cursor.invariant in
     let sign = c.args.sign.now in
     let octets = c.args.source.now.octets in
-    let len = c.in-Item.next.len in
     let d = c.draw_next-first.ensures in
     let same : c.octet_at.new.source.octets ≡ octets = same_octets c.octet_at.ensures.step ∙ same_octets i.steps.3 in
     let read_same : c.meet.new.source.octets ≡ octets = same_octets c.in-Item.ensures.steps.3 ∙ same in
     let gone = c.loop-cursor.cursor.at - c.args.cursor.now.at in
     let one = rises_then c.args.source.now c.loop-cursor.source c.octet_at.new.source 0 (9 * gone + octets_read c.loop-cursor.first) 0 (1 - octets_read c.loop-cursor.first) i.steps (1 - octets_read c.loop-cursor.first, omega arith, omega arith, c.octet_at.ensures.step) in
-    let two = rises_then c.args.source.now c.octet_at.new.source c.meet.new.source 0 _ 0 (9 * len - 9) one c.in-Item.ensures.steps in
+    let two = rises_then c.args.source.now c.octet_at.new.source c.meet.new.source 0 _ 0 (9 * c.in-Item.next.len - 9) one c.in-Item.ensures.steps in
     let three = rises_then c.args.source.now c.meet.new.source c.draw_next-first.new.source 0 _ 0 _ two d.steps in
     let forward = d.forward in
     let on : gone + (c.draw_next-first.new.cursor.at - c.loop-cursor.cursor.at) ≡ c.draw_next-first.new.cursor.at - c.args.cursor.now.at = omega (arith, i.on, forward) in

@@ -32,8 +32,7 @@ unreachable-requires c =
     let sign = c.args.sign.now in
     let (before, rest, item, h) = c.requires.known in
     let b = h.between in
-    let read = h.read_is in
-    let shows : meant item ≡ Shows c.in-Char.number = read.meant ∙ ap meant_by c.in-Char.is in
+    let shows : meant item ≡ Shows c.in-Char.number = h.read_is.meant ∙ ap meant_by c.in-Char.is in
     let none : cell_in sign c.args.cursor.now.state.attributes.font.number c.in-Char.number ≡ None = rw (← c.sign.view_is) (sym c.cell.ensures.cell ∙ c.in_default.is) in
     let offends = unsized-undefined sign (map meant before) c.args.cursor.now.state b.state_is c.in-Char.number none in
     let fine = never_offends sign c.args.source.now.octets before rest item c.args.cursor.now b in
@@ -58,7 +57,6 @@ pub returns-in-Some-clause-drawn : goal.returns-in-Some-clause-drawn
 returns-in-Some-clause-drawn c = λ before rest item h plain.
     let b = h.between in
     let read = h.read_is in
-    let counted = h.counted in
     let sign = c.args.sign.now in
     let state = c.args.cursor.now.state in
     let number = c.in-Char.number in
@@ -66,7 +64,7 @@ returns-in-Some-clause-drawn c = λ before rest item h plain.
     let found : cell_in sign state.attributes.font.number number ≡ Some c.in-Some.cell = rw (← c.sign.view_is) (sym c.cell.ensures.cell ∙ c.in-Some.is) in
     let k = (standing sign (map meant before)).area in
     let fine = ap (unsized_offence sign (map meant before)) (sym shows) ∙ never_offends sign c.args.source.now.octets before rest item c.args.cursor.now b in
-    let lines = subst (λ (ms : List Meaning). HasCounted (in_area k (spots sign ms)) c.args.lines.now) (map_split before rest item (Shows number) shows) counted in
+    let lines = subst (λ (ms : List Meaning). HasCounted (in_area k (spots sign ms)) c.args.lines.now) (map_split before rest item (Shows number) shows) h.counted in
     let area = c.pass_character.new.self.state.area in
     let new = c.pass_character.ensures.passed sign c.args.source.now.octets (ap (option_map (λ (c : SizedCell). c.width)) found ∙ ap Some (sym c.width-width.ensures)) before rest item b (record { meant = shows; known = tt; len = read.len }) in
     let placed = subst (λ lines. PlacesCharacter state.attributes area lines c.in-Some.cell.width c.place_at-place.result) c.group-lines.ensures.lines
@@ -94,12 +92,11 @@ returns-in-Some-clause-beside c =
       stands = λ before rest item h.
           let b = h.between in
           let read = h.read_is in
-          let counted = h.counted in
           let items = map meant before in
           let shows : meant item ≡ Shows number = read.meant ∙ ap meant_by c.in-Char.is in
           let all = map_split before rest item (Shows number) shows in
           let fine = ap (unsized_offence sign items) (sym shows) ∙ never_offends sign c.args.source.now.octets before rest item c.args.cursor.now b in
-          let lines = subst (λ (ms : List Meaning). HasCounted (in_area (standing sign items).area (spots sign ms)) c.args.lines.now) all counted in
+          let lines = subst (λ (ms : List Meaning). HasCounted (in_area (standing sign items).area (spots sign ms)) c.args.lines.now) all h.counted in
           let area = c.pass_character.new.self.state.area in
           let new = c.pass_character.ensures.passed sign c.args.source.now.octets (ap (option_map (λ (c : SizedCell). c.width)) found ∙ ap Some (sym c.width-width.ensures)) before rest item b (record { meant = shows; known = tt; len = read.len }) in
           let placed = subst (λ lines. PlacesCharacter state.attributes area lines c.in-Some.cell.width c.place_at-place.result) c.group-lines.ensures.lines
@@ -121,19 +118,16 @@ pub returns-in-Some-clause-fills : goal.returns-in-Some-clause-fills
 returns-in-Some-clause-fills c =
     let sign = c.args.sign.now in
     let (before, rest, item, h) = c.requires.known in
-    let b = h.between in
-    let read = h.read_is in
     let found : cell_in sign c.args.cursor.now.state.attributes.font.number c.in-Char.number ≡ Some c.in-Some.cell = rw (← c.sign.view_is) (sym c.cell.ensures.cell ∙ c.in-Some.is) in
-    let tall = (cell_height sign (map meant before) c.args.cursor.now.state b.state_is c.in-Char.number c.in-Some.cell found).1 in
-    rows_few sign c.args.plane.now c.put_character.new.plane c.args.next.len c.in-Some.cell.height (omega (arith, read.len, spelling_some item.item)) tall
+    let tall = (cell_height sign (map meant before) c.args.cursor.now.state h.between.state_is c.in-Char.number c.in-Some.cell found).1 in
+    rows_few sign c.args.plane.now c.put_character.new.plane c.args.next.len c.in-Some.cell.height (omega (arith, h.read_is.len, spelling_some item.item)) tall
     c.put_character.ensures.counted c.put_character.ensures.steps c.put_character.ensures.width c.put_character.ensures.height
 
 pub returns-in-Tag-clause-drawn : goal.returns-in-Tag-clause-drawn
 returns-in-Tag-clause-drawn c = λ before rest item h plain drawn.
     let b = h.between in
-    let read = h.read_is in
     let sign = c.args.sign.now in
-    let does : meant item ≡ Does c.in-Tag.tag = read.meant ∙ ap meant_by c.in-Tag.is in
+    let does : meant item ≡ Does c.in-Tag.tag = h.read_is.meant ∙ ap meant_by c.in-Tag.is in
     let all = map_split before rest item (Does c.in-Tag.tag) does in
     let one = map_split before [] item (Does c.in-Tag.tag) does in
     let put = tag_drawn sign c.args.layer (map meant before) (map meant rest) c.in-Tag.tag c.args.plane.now c.draw_tag.new.plane (ap begins_area (sym does) ∙ plain) c.draw_tag.ensures.back c.draw_tag.ensures.quiet
@@ -143,11 +137,9 @@ returns-in-Tag-clause-drawn c = λ before rest item h plain drawn.
 
 pub returns-in-Tag-clause-fills : goal.returns-in-Tag-clause-fills
 returns-in-Tag-clause-fills c =
-    let sign = c.args.sign.now in
     let (before, rest, item, h) = c.requires.known in
-    let b = h.between in
     let read = h.read_is in
     let does : meant item ≡ Does c.in-Tag.tag = read.meant ∙ ap meant_by c.in-Tag.is in
-    tag_filled sign c.args.plane.now c.draw_tag.new.plane c.args.next.len c.in-Tag.tag
-    (λ given is. let raw = (itself b (ap has_place (does ∙ ap Does is))).1 in omega (arith, read.len, four_octets item.item c.in-Tag.tag (raw ∙ does)))
+    tag_filled c.args.sign.now c.args.plane.now c.draw_tag.new.plane c.args.next.len c.in-Tag.tag
+    (λ given is. let raw = (itself h.between (ap has_place (does ∙ ap Does is))).1 in omega (arith, read.len, four_octets item.item c.in-Tag.tag (raw ∙ does)))
     c.draw_tag.ensures.counted c.draw_tag.ensures.steps c.draw_tag.ensures.quiet c.draw_tag.ensures.width c.draw_tag.ensures.height

@@ -161,11 +161,9 @@ loop-read-preserved c =
     let (before, behind, b, begins) = c.requires.begins in
     let r = turn before behind b in
     let sign = c.args.sign.now in
-    let octets = c.args.source.now.octets in
     let start = c.args.cursor.now in
     let from = c.pass_settings-begun.new.self in
     let further = c.pass_settings-begun.ensures.on in
-    let cursor = c.draw_area.new.cursor in
     let plane = c.draw_area.new.plane in
     let new = c.pass_tag.new.self in
     let n = next_area r c.in-Some.next c.in-Some.is in
@@ -176,7 +174,7 @@ loop-read-preserved c =
           let n = next_area r c.in-Some.next c.in-Some.is in
           let b' = subst (λ o. IsBetween sign o ((before ++ r.so.done) ++ n.item ∷ []) n.rest new) n.same (c.pass_tag.ensures.passed (before ++ r.so.done) n.rest n.item n.here n.read) in
           let turns : is_new_page (meant n.item) ≡ false = ap is_new_page n.read.meant ∙ sym c.ends_page.ensures ∙ c.if-ends_page.false in
-          page_goes_on sign octets before behind c.args.layer cursor plane r.so n.item n.rest n.is new b' n.begins turns
+          page_goes_on sign c.args.source.now.octets before behind c.args.layer c.draw_area.new.cursor plane r.so n.item n.rest n.is new b' n.begins turns
           (area_no_page sign.defaults (standing sign (map meant (before ++ r.so.done))) (meant n.item) n.begins turns);
       on = omega (arith, i.on, c.pass_settings-begun.ensures.on, r.on, r.at, c.pass_tag.ensures.at);
       steps = subst (λ k. RisesBetween c.args.source.now c.pass_tag.new.source 0 (18 * k)) far

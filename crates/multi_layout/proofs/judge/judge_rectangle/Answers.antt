@@ -27,13 +27,10 @@ returns-clause-judged c = λ items st.
     let across = rw (c.width.ensures.width ∙ ap (λ (s : SignData). s.width) c.sign.view_is) at c.in-Some.ensures.inside in
     let down = rw (c.height.ensures.height ∙ ap (λ (s : SignData). s.height) c.sign.view_is) at c.in-Some-part_of.ensures.inside in
     let fine = inside sign c.args.x c.args.y c.args.w c.args.h across.0 across.1 across.2 down.0 down.1 down.2 in
-    let left = across.3 in
-    let wide = across.4 in
-    let top = down.3 in
     let high = down.4 in (
       judged-rectangle sign items c.args.state.now st c.args.x c.args.y c.args.w c.args.h ∙ ap (λ b. cond {A = Option ℕ} b None (Some 4)) fine,
       state-rectangle sign items c.args.state.now _ c.args.x c.args.y c.args.w c.args.h st refl refl
-          (rw (left, wide, top, high) (ap (λ (a : Attributes). let b : Attributes = record a { rectangle = rectangle sign c.args.x c.args.y c.args.w c.args.h } in b) st.attributes))
+          (rw (across.3, across.4, down.3, high) (ap (λ (a : Attributes). let b : Attributes = record a { rectangle = rectangle sign c.args.x c.args.y c.args.w c.args.h } in b) st.attributes))
           c.new-state.ensures.sum c.requires.line_just c.requires.page_just c.new-state.ensures.below,
     )
 

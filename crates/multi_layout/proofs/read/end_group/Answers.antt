@@ -29,10 +29,9 @@ push-requires-clause-room c =
 
 pub push-requires-clause-last : goal.push-requires-clause-last
 push-requires-clause-last c =
-    let area = c.args.area.now in
     let (spots, placing, sum, known, room, narrow) = c.requires.known in
     let present = ap (λ (a : Area). a.present) sum in
-    behind_empty spots c.args.lines.now area.present (omega (arith, present)) (c.requires.below.some c.if-group.true) known
+    behind_empty spots c.args.lines.now c.args.area.now.present (omega (arith, present)) (c.requires.below.some c.if-group.true) known
 
 pub returns-then-group-clause-known : goal.returns-then-group-clause-known
 returns-then-group-clause-known c = λ present spots later placing sum known.
@@ -45,8 +44,7 @@ returns-then-group-clause-known c = λ present spots later placing sum known.
 
 pub returns-then-group-clause-low : goal.returns-then-group-clause-low
 returns-then-group-clause-low c =
-    let bottom = c.of.ensures.bottom in
-    let low : c.of.result.bottom ≤ 2 ^ 43 = omega (arith, bottom, c.height.ensures.below, c.requires.below.group.closed) in
+    let low : c.of.result.bottom ≤ 2 ^ 43 = omega (arith, c.of.ensures.bottom, c.height.ensures.below, c.requires.below.group.closed) in
     pushed_low c.args.area.now.present c.of.result c.args.lines.now c.push.new.self c.push.ensures.pushed low
 
 pub returns-else-group-clause-known : goal.returns-else-group-clause-known

@@ -27,30 +27,22 @@ returns-then-told-eq1-clause-begins c =
 
 pub find_page-requires-clause-accepted : goal.find_page-requires-clause-accepted
 find_page-requires-clause-accepted c =
-    let sign = c.args.sign.now in
-    let octets = c.args.source.now.octets in
-    let told = c.args.told in
-    (accepted_is sign octets told.pages c.requires.pages c.requires.short).0
+    (accepted_is c.args.sign.now c.args.source.now.octets c.args.told.pages c.requires.pages c.requires.short).0
 
 pub find_page-requires-clause-orderly : goal.find_page-requires-clause-orderly
 find_page-requires-clause-orderly c =
     let sign = c.args.sign.now in
     let octets = c.args.source.now.octets in
-    let told = c.args.told in
-    accepted_orderly sign octets (accepted_is sign octets told.pages c.requires.pages c.requires.short).0
+    accepted_orderly sign octets (accepted_is sign octets c.args.told.pages c.requires.pages c.requires.short).0
 
 pub find_page-requires-clause-within : goal.find_page-requires-clause-within
 find_page-requires-clause-within c =
-    let sign = c.args.sign.now in
-    let octets = c.args.source.now.octets in
     let told = c.args.told in
-    rw c.from.ensures (below_cycle sign octets told.pages told.cycle c.requires.pages c.requires.cycle c.requires.short c.args.clock c.if-told-eq0.false)
+    rw c.from.ensures (below_cycle c.args.sign.now c.args.source.now.octets told.pages told.cycle c.requires.pages c.requires.cycle c.requires.short c.args.clock c.if-told-eq0.false)
 
 pub returns-clause-shown : goal.returns-clause-shown
 returns-clause-shown c =
-    let sign = c.args.sign.now in
-    let octets = c.args.source.now.octets in
     let told = c.args.told in
-    let turn = shown_in_turn sign octets told.pages told.cycle c.requires.pages c.requires.cycle c.requires.short c.args.clock c.if-told-eq1.false c.if-told-eq0.false in
+    let turn = shown_in_turn c.args.sign.now c.args.source.now.octets told.pages told.cycle c.requires.pages c.requires.cycle c.requires.short c.args.clock c.if-told-eq1.false c.if-told-eq0.false in
     let found = rw c.from.ensures at c.find_page.ensures.shown in
     found ∙ sym turn

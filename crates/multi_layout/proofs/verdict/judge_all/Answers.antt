@@ -7,8 +7,7 @@ use Rattle.multi_layout.proofs.verdict.judge_all.Goals as goal
 pub judge_items-requires-clause-start : goal.judge_items-requires-clause-start
 judge_items-requires-clause-start g c =
     let sign = c.args.sign.now in
-    let pass = c.new-pass.result in
-    pass_start sign pass (not (g.row.WORDS == 0)) c.requires.kind (subst (IsStateOf sign []) (sym c.new-pass.ensures.state) c.new.ensures.start)
+    pass_start sign c.new-pass.result (not (g.row.WORDS == 0)) c.requires.kind (subst (IsStateOf sign []) (sym c.new-pass.ensures.state) c.new.ensures.start)
     (subst IsLimited (sym c.new-pass.ensures.state) c.new.ensures.limited)
     (λ st none. c.new-pass.ensures.filled sign [] (subst (IsStateOf sign _) c.new-pass.ensures.state st) none)
 

@@ -16,5 +16,4 @@ returns-in-3-clause-sum c area placing e = rw c.in-3.is (other_height area c.arg
 
 pub returns-in_default-clause-sum : goal.returns-in_default-clause-sum
 returns-in_default-clause-sum c area placing e =
-    let later = c.requires.below.known in
-    ap (λ l. height_of (lines_of l)) (sym (none_of_later_group area c.args.self.now e c.args.page_just (omega (arith, c.requires.known, later, c.if-page_just-self.false))))
+    ap (λ l. height_of (lines_of l)) (sym (none_of_later_group area c.args.self.now e c.args.page_just (omega (arith, c.requires.known, c.requires.below.known, c.if-page_just-self.false))))

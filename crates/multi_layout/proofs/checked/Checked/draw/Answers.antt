@@ -49,7 +49,6 @@ returns-clause-steps c =
 pub returns-clause-plane_steps : goal.returns-clause-plane_steps
 returns-clause-plane_steps c =
     let s = c.self.inside in
-    let e = c.page_start-cursor.ensures in
-    let same : c.page_start-cursor.new.source.octets ≡ s.source.octets = ap (λ (x : Counted). x.octets) e.steps.3 in
+    let same : c.page_start-cursor.new.source.octets ≡ s.source.octets = ap (λ (x : Counted). x.octets) c.page_start-cursor.ensures.steps.3 in
     let t = rw same at c.draw_from.ensures.turned in
     rw (← c.self.view_is) (c.draw_from.ensures.fills.least, drawing_fills s.terms c.args.plane.now c.draw_from.new.plane c.page_start-cursor.result c.draw_from.new.cursor (length s.source.octets) c.draw_from.ensures.fills t.within)

@@ -122,7 +122,6 @@ loop-first-smaller c =
 pub loop-first-preserved : goal.loop-first-preserved
 loop-first-preserved c =
     let i = c.loop-first.invariant in
-    let sign = c.args.sign.now in
     let read = same_octets c.read.ensures.step ∙ same_octets i.steps.3 in
     let met = same_octets c.in-Item.ensures.steps.3 ∙ read in
     let skipped = same_octets c.skip.ensures.steps.3 ∙ met in
@@ -138,7 +137,7 @@ loop-first-preserved c =
           let first = first_here p s' read c.in-Item.next is in
           let more = in_page_more p s' first (passes_here p s' first met c.skip.ensures.passed) (sym c.ends_page.ensures ∙ c.if-ends_page.false) in
           let text = c.skip_text.ensures.passed (before ++ more.passed.text) more.passed.rest (passing_in skipped more.passed.between) in
-          in_page_text p more c.skip_text.new.self c.skip_text.ensures.state (subst (λ o. IsTextPassed sign o (before ++ more.passed.text) more.passed.rest c.skip_text.new.self) skipped text);
+          in_page_text p more c.skip_text.new.self c.skip_text.ensures.state (subst (λ o. IsTextPassed c.args.sign.now o (before ++ more.passed.text) more.passed.rest c.skip_text.new.self) skipped text);
       on = omega (arith, i.on, c.skip.ensures.at, c.skip_text.ensures.on);
       steps = rises_more start c.skip_text.new.source 0 _ _ (omega (arith, i.on, c.skip.ensures.at, c.skip_text.ensures.on, c.in-Item.ensures.some)) all;
     }

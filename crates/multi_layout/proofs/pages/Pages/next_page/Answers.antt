@@ -15,8 +15,7 @@ returns-then-page-pages c =
 
 pub draw_from-requires-clause-begins : goal.draw_from-requires-clause-begins
 draw_from-requires-clause-begins c =
-    let i = c.self.inside in
-    let s = i.string in
+    let s = c.self.inside.string in
     let u = c.self.invariant in
     let count = (accepted_is s.sign s.source.octets c.pages.result c.pages.ensures u.short).1 in
     (u.begins (omega (arith, count, c.if-page-pages.false))).0

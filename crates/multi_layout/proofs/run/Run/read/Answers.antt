@@ -12,10 +12,9 @@ use Rattle.multi_layout.proofs.run.Run.read.Goals as goal
 pub returns-clause-width : goal.returns-clause-width
 returns-clause-width c = λ sign font widths.
     let r = c.read_run.ensures in
-    let cells = c.args.cells.now in
     let octets = drop c.args.at c.args.source.now.octets in
     let word = c.args.word in
-    let sound = λ (octet : ℕ). subst (λ w. IfSome w (IsWithin 1 64)) (sym (widths octet)) (width_sound cells octet c.advances.ensures.sound) in
+    let sound = λ (octet : ℕ). subst (λ w. IfSome w (IsWithin 1 64)) (sym (widths octet)) (width_sound c.args.cells.now octet c.advances.ensures.sound) in
     let tables : AreAdvances (width_in sign font) word c.advances.result.now = λ octet h.
     c.advances.ensures.table octet h ∙ ap (λ (o : Option ℕ). if ends_run word octet then 32768 else unwrap_or o 32768) (sym (widths octet)) in
     let has = front_width (width_in sign font) word sound c.advances.result.now tables
