@@ -1,6 +1,6 @@
 //! The way through an accepted string, from item to item.
 
-ghost use Rattle.std.specs.Prelude.{◌≡◌, false, None, ℕ, ◌+◌, ◌-◌, ◌*◌, ◌<◌, ◌≤◌, ◌==◌, if◌then◌else◌, ◌⊎◌, ◌^◌, [], ◌∷◌, ◌++◌, List, Some, IfSome, length, slice_get};
+ghost use Rattle.std.specs.Prelude.{◌≡◌, false, None, ℕ, ◌+◌, ◌-◌, ◌*◌, ◌<◌, ◌≤◌, ◌==◌, if◌then◌else◌, ◌⊎◌, ◌^◌, [], ◌∷◌, ◌++◌, List, Some, IfSome};
 ghost use Rattle.multi_token.specs.Counted.{RisesBetween};
 ghost use Rattle.multi_token.specs.Spelling as spelled;
 ghost use Rattle.sign_font.specs.Sign.{SignData};

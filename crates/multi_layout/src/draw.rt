@@ -76,7 +76,6 @@ fn draw_area(
     layer: Layer,
     plane: &mut Plane,
 )
-    requires sound { IsSound sign.now }
     requires known { (before area rest : List LaidItem) × IsBetween sign.now source.old.octets before (area ++ rest) cursor.old
         × BeginsNoArea area × (read.now.end ≡ cursor.old.at + length (spell_of area))
         × HasCounted (whole_area sign.now before (area ++ rest)) read.now.lines }
@@ -178,7 +177,6 @@ fn draw_next(
     layer: Layer,
     plane: &mut Plane,
 ) -> Option<u8>
-    requires sound { IsSound sign.now }
     requires known { (before area rest : List LaidItem) × (item : LaidItem) × IsNextDrawn sign.now source.old.octets before area rest item
         next read.now cursor.old }
     requires low { IsLow read.now.lines }
@@ -206,7 +204,6 @@ fn draw_item(
     layer: Layer,
     plane: &mut Plane,
 ) -> Option<Place>
-    requires sound { IsSound sign.now }
     requires known { (before rest : List LaidItem) × (item : LaidItem)
         × IsItemHere sign.now source.old.octets before rest item next lines.now cursor.old }
     requires low { IsLow lines.now }
