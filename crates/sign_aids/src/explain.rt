@@ -156,7 +156,7 @@ impl Asker {
         text: &mut Explanation,
     ) -> Result<Told, AllocError>
         ensures told { OnOk result
-            (Explains self.now.telling self.now.sign self.now.name (number - self.now.before) (text_of line.now) text.new.items) }
+            (Explains self.now.telling self.now.sign self.now.name (number - self.now.before) (text_of line.now) text.new) }
         ensures taken { IfOk result (λ told. told.is_taken ≡ takes self.now.sign (text_of line.now)) }
     {
         text.clear();
