@@ -1,5 +1,5 @@
 //! A page drawn by marks: in all its colours at once, or in the one that a monochrome sign has.
-ghost use Rattle.std.specs.Prelude.{◌≡◌, ◌^◌, ◌++◌, ◌<◌, ◌≤◌, OnOk, drop, length, map, replicate, take};
+ghost use Rattle.std.specs.Prelude.{◌≡◌, ◌++◌, ◌<◌, ◌≤◌, OnOk, drop, length, map, take};
 ghost use Rattle.std.specs.List.{All};
 ghost use Rattle.page_plane.specs.Plane.{is_lit};
 ghost use Rattle.page_picture.specs.Rows.{marked_rows, row_text, rows_text};
