@@ -11,10 +11,10 @@ use Rattle.multi_meaning.specs.Address.{spots, standing, in_area}
 use Rattle.multi_meaning.specs.Meaning.{begins_area}
 use Rattle.multi_meaning.proofs.StateLemmas.{same_area}
 use Rattle.multi_layout.specs.declared.cursor.Cursor.{Cursor}
-use Rattle.multi_layout.specs.declared.item.NextItem.{NextItem}
+use Rattle.multi_judge.specs.declared.item.NextItem.{NextItem}
 use Rattle.multi_layout.specs.declared.paint.Layer.{Layer}
 use Rattle.multi_layout.specs.declared.read.AreaLines.{AreaLines}
-use Rattle.multi_layout.specs.declared.table.LineTable.{LineTable}
+use Rattle.multi_judge.specs.declared.table.LineTable.{LineTable}
 use Rattle.multi_layout.specs.Limits.{plane_octets}
 use Rattle.multi_layout.specs.kept.AreaDrawing.{DrawsOn, HasCounted, IsDrawnTo, IsFilledBy, BeginsNoArea, whole_area}
 use Rattle.multi_layout.specs.kept.RunDrawing.{AreaSoFar, IsNextDrawn, IsReadBehind, octets_read}

@@ -21,33 +21,35 @@ use Rattle.multi_meaning.proofs.LaidItemLemmas.{are_laid}
 use Rattle.multi_meaning.proofs.SpotsLemmas.{area_ends}
 use Rattle.multi_meaning.proofs.StandingLemmas.{standing_push}
 use Rattle.multi_meaning.proofs.WordLemmas.{left_nil, some_after-append}
-use Rattle.multi_layout.specs.declared.area.Area.{Area}
+use Rattle.multi_judge.specs.declared.area.Area.{Area}
 use Rattle.multi_layout.specs.declared.cursor.Begun.{Begun}
 use Rattle.multi_layout.specs.declared.cursor.Cursor.{Cursor}
 use Rattle.multi_layout.specs.declared.cursor.Met.TheVariants.{Setting}
-use Rattle.multi_layout.specs.declared.item.KnownItem.TheVariants as known
-use Rattle.multi_layout.specs.declared.item.NextItem.{NextItem}
-use Rattle.multi_layout.specs.declared.pass.Pass.{Pass}
+use Rattle.multi_judge.specs.declared.item.KnownItem.TheVariants as known
+use Rattle.multi_judge.specs.declared.item.NextItem.{NextItem}
+use Rattle.multi_judge.specs.declared.pass.Pass.{Pass}
 use Rattle.multi_layout.specs.declared.read.AreaLines.{AreaLines}
-use Rattle.multi_layout.specs.declared.state.State.{State}
-use Rattle.multi_layout.specs.declared.table.LineTable.{LineTable}
-use Rattle.multi_layout.specs.kept.AreaReading.{IsNextRead, IsReadOf, laid_area}
-use Rattle.multi_layout.specs.kept.FilledState.{IsFilledOf}
-use Rattle.multi_layout.specs.kept.KnownItem.{meant_by}
+use Rattle.multi_judge.specs.declared.state.State.{State}
+use Rattle.multi_judge.specs.declared.table.LineTable.{LineTable}
+use Rattle.multi_judge.specs.Passed.{laid_area}
+use Rattle.multi_layout.specs.kept.AreaReading.{IsNextRead, IsReadOf}
+use Rattle.multi_judge.specs.FilledState.{IsFilledOf}
+use Rattle.multi_judge.specs.KnownItem.{meant_by}
 use Rattle.multi_layout.specs.kept.AreaDrawing.{BeginsNoArea, HasCounted, HasKnown, IsAreaRead, IsLow, first_steps, next_group, whole_area}
-use Rattle.multi_layout.specs.kept.PassState.{IsPassOf, fill_of}
-use Rattle.multi_layout.specs.kept.State.{IsStateOf}
-use Rattle.multi_layout.specs.kept.Table.{IsOrdered, group_lines, table_of}
+use Rattle.multi_judge.specs.PassState.{IsPassOf, fill_of}
+use Rattle.multi_judge.specs.State.{IsStateOf}
+use Rattle.multi_judge.specs.Table.{IsOrdered, group_lines, table_of}
 use Rattle.multi_layout.specs.kept.Cursors.{IsBetween, IsFirst, IsItemRead, IsPlaced, items_of, laid_meanings, meant, LaidItem, spell_of}
 use Rattle.multi_layout.specs.kept.Settings.{IsMet, IsNextAt, item_steps}
-use Rattle.multi_layout.proofs.AreaReadLemmas.{laid_plain, next_fine, present_placing, read_state}
+use Rattle.multi_layout.proofs.AreaReadLemmas.{next_fine, present_placing, read_state}
+use Rattle.multi_meaning.proofs.UnfilledItemLemmas.{laid_plain}
 use Rattle.multi_layout.proofs.AreaStepLemmas.{step_stays, tag_stays}
 use Rattle.multi_layout.proofs.FilledStartLemmas.{area_empty, laid_empty, state_begins}
 use Rattle.multi_layout.proofs.KnownLinesLemmas.{counted_at_end, known_none}
-use Rattle.multi_layout.specs.kept.Sums.{area_sum}
-use Rattle.multi_layout.proofs.LimitLemmas.{limited_none}
+use Rattle.multi_judge.specs.Sums.{area_sum}
+use Rattle.multi_judge.proofs.LimitLemmas.{limited_none}
 use Rattle.multi_layout.proofs.PieceLemmas.{ends_laid, first_piece, laid_front, plain_laid}
-use Rattle.multi_layout.proofs.ReadLemmas.{at_end}
+use Rattle.multi_judge.proofs.ReadLemmas.{at_end}
 use Rattle.multi_layout.proofs.SettingLemmas.{setting_is, setting_passed}
 use Rattle.multi_layout.proofs.WalkLemmas.{few_placed, fine_items, none_at_end, placed_more, spell_of-append, within}
 use Rattle.multi_layout.proofs.WholeAreaLemmas.{counted_whole}

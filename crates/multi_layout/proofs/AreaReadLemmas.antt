@@ -20,31 +20,32 @@ use Rattle.multi_meaning.proofs.OrderlyLemmas.{unsized_if}
 use Rattle.multi_meaning.proofs.RoomLemmas.{room}
 use Rattle.multi_meaning.proofs.UnplacedLemmas.{last_fine}
 use Rattle.multi_meaning.proofs.WordLemmas.{each_after_length, none_more}
-use Rattle.multi_layout.specs.declared.area.Area.{Area}
-use Rattle.multi_layout.specs.declared.area.Group.{Group}
-use Rattle.multi_layout.specs.declared.pass.Pass.{Pass}
-use Rattle.multi_layout.specs.declared.item.KnownItem.{KnownItem}
-use Rattle.multi_layout.specs.declared.item.KnownItem.TheVariants as known
-use Rattle.multi_layout.specs.declared.item.KnownItem.TheVariants.{Char}
-use Rattle.multi_layout.specs.declared.table.LineTable.{LineTable}
-use Rattle.multi_layout.specs.kept.AreaReading.{IsItemPassed, IsNextRead, IsReadOf, laid_area}
-use Rattle.multi_layout.specs.kept.KnownItem.{meant_by}
+use Rattle.multi_judge.specs.declared.area.Area.{Area}
+use Rattle.multi_judge.specs.declared.area.Group.{Group}
+use Rattle.multi_judge.specs.declared.pass.Pass.{Pass}
+use Rattle.multi_judge.specs.declared.item.KnownItem.{KnownItem}
+use Rattle.multi_judge.specs.declared.item.KnownItem.TheVariants as known
+use Rattle.multi_judge.specs.declared.item.KnownItem.TheVariants.{Char}
+use Rattle.multi_judge.specs.declared.table.LineTable.{LineTable}
+use Rattle.multi_judge.specs.Passed.{IsItemPassed, laid_area}
+use Rattle.multi_layout.specs.kept.AreaReading.{IsNextRead, IsReadOf}
+use Rattle.multi_judge.specs.KnownItem.{meant_by}
 use Rattle.multi_layout.specs.kept.AreaDrawing.{HasKnown, HasRoom, IsLow, next_group}
-use Rattle.multi_layout.specs.kept.PassState.{IsPassOf, IsPassReady, fill_of}
-use Rattle.multi_layout.specs.kept.Run.{kept_height}
-use Rattle.multi_layout.specs.kept.State.{IsLimited, IsStateOf, IsUnfilledOf}
-use Rattle.multi_layout.specs.kept.Sums.{IsBelow, area_sum}
-use Rattle.multi_layout.specs.kept.Table.{IsOrdered}
-use Rattle.multi_layout.proofs.AreaSumLemmas.{group_of_own}
-use Rattle.multi_layout.proofs.BoundLemmas.{below_more}
-use Rattle.multi_layout.proofs.FilledKeptLemmas.{goes_on}
-use Rattle.multi_layout.proofs.FilledReadLemmas.{filled_ready}
+use Rattle.multi_judge.specs.PassState.{IsPassOf, IsPassReady, fill_of}
+use Rattle.multi_judge.specs.Run.{kept_height}
+use Rattle.multi_judge.specs.State.{IsLimited, IsStateOf, IsUnfilledOf}
+use Rattle.multi_judge.specs.Sums.{IsBelow, area_sum}
+use Rattle.multi_judge.specs.Table.{IsOrdered}
+use Rattle.multi_judge.proofs.AreaSumLemmas.{group_of_own}
+use Rattle.multi_judge.proofs.BoundLemmas.{below_more}
+use Rattle.multi_judge.proofs.FilledKeptLemmas.{goes_on}
+use Rattle.multi_judge.proofs.FilledReadLemmas.{filled_ready}
 use Rattle.multi_layout.proofs.FilledRoomLemmas.{laid_narrow, laid_room}
-use Rattle.multi_layout.proofs.KnownStepLemmas as steps
-use Rattle.multi_layout.proofs.JudgedLemmas.{ready}
-use Rattle.multi_layout.proofs.PieceLemmas.{unfilled_items}
-use Rattle.multi_layout.proofs.RunLemmas.{kept_height_is}
-use Rattle.multi_layout.proofs.WalkLemmas.{length-meanings}
+use Rattle.multi_judge.proofs.KnownStepLemmas as steps
+use Rattle.multi_judge.proofs.JudgedLemmas.{ready}
+use Rattle.multi_meaning.proofs.UnfilledItemLemmas.{laid_plain}
+use Rattle.multi_judge.proofs.RunLemmas.{kept_height_is}
+use Rattle.multi_meaning.proofs.VerdictLemmas.{length-meanings}
 
 -- WHAT IS KEPT
 
@@ -68,10 +69,6 @@ closed_below spots area is placing narrow just low high own =
     let most : area.group.closed ≤ kept_height area.group = closed_most area.group in
     omega (arith, most, kept_height_is (in_group just spots) area.group (placing_group just spots placing) sum, tall)
 
--- where lines aren't filled, the items are laid out as they are
-pub laid_plain : (sign : SignData) (items : List Meaning) → laid_items Off sign items items ≡ items
-laid_plain sign items = unfilled_items sign items items [] (sym (append-nil items))
-
 -- the state is that of the items as they are laid out
 pub state_of : (words : Bool) (sign : SignData) (kept : Pass) (items : List Meaning) → IsPassOf words sign kept items → IsStateOf sign (laid_items (fill_of words) sign items items) kept.state
 state_of true sign kept items of = of.of.state_is
@@ -90,22 +87,6 @@ module _ (sign : SignData) (sound : IsSound sign) (items : List Item) (none : of
   pub narrow_of : (words : Bool) (kept : Pass) → IsPassOf words sign kept (map meaning items) → IsNarrowArea (laid_area words sign (map meaning items))
   narrow_of true kept of = laid_narrow sign sound of.words items none kept of.of
   narrow_of false kept of = subst (λ l. IsNarrowArea (present_area sign l)) (sym (laid_plain sign (map meaning items))) (narrow_area sign sound (map meaning items) of.fine)
-
--- a character joins the group in force where lines aren't filled
-pub plain_passed : (sign : SignData) (items : List Meaning) (old new : Pass) → IsUnfilledOf sign old.state items → (number : ℕ) → offence sign.line_fill sign items (Shows number) ≡ None
-    → IsStateOf sign (items ++ Shows number ∷ []) new.state → IsLimited new.state → IsItemPassed false sign items (Shows number) old.state.attributes.page_just old new None
-plain_passed sign items old new of number fine st limited =
-    let fine' = subst (λ setting. offence setting sign items (Shows number) ≡ None) of.off fine in
-    let (present, order, others, own) = steps.glyph_joins sign items old.state of.state_is number (unsized_if Off sign items (Shows number) fine' true refl) new.state st in
-    let same = laid_plain sign items in
-    let same' = laid_plain sign (items ++ Shows number ∷ []) in
-    record {
-      of = record { off = of.off; fine = none_more (offence Off sign) items (Shows number) of.fine fine'; state_is = st; limited = limited };
-      present = present;
-      order = order;
-      others = λ just other. ap (λ l. in_group just (present_area sign l)) same' ∙ others just other ∙ ap (λ l. in_group just (present_area sign l)) (sym same);
-      own = ap (λ l. ended_lines (in_group old.state.attributes.page_just (present_area sign l))) same' ∙ own ∙ ap (λ l. ended_lines (in_group old.state.attributes.page_just (present_area sign l))) (sym same);
-    }
 
 -- WHAT WAS READ
 

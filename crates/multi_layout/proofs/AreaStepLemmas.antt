@@ -12,25 +12,27 @@ use Rattle.multi_meaning.specs.Offence.{offence}
 use Rattle.multi_meaning.specs.kept.Present.{present_area, ended_lines, IsNarrow, IsNarrowArea}
 use Rattle.multi_meaning.proofs.LaidTagLemmas.{laid_tag}
 use Rattle.multi_meaning.proofs.NarrowLemmas.{narrow_front}
-use Rattle.multi_layout.specs.declared.area.Area.{Area}
-use Rattle.multi_layout.specs.declared.area.Group.{Group}
-use Rattle.multi_layout.specs.declared.pass.Pass.{Pass}
-use Rattle.multi_layout.specs.declared.item.KnownItem.{KnownItem}
-use Rattle.multi_layout.specs.kept.KnownItem.{meant_by}
-use Rattle.multi_layout.specs.declared.line.Line.{Line}
-use Rattle.multi_layout.specs.declared.table.CountedLine.{CountedLine}
-use Rattle.multi_layout.specs.declared.table.LineTable.{LineTable}
-use Rattle.multi_layout.specs.kept.FillSums.{EndsLine}
-use Rattle.multi_layout.specs.kept.AreaReading.{IsItemPassed, IsNextRead, IsReadOf, laid_area}
-use Rattle.multi_layout.specs.kept.AreaDrawing.{HasKnown, HasRoom, IsLow, ends_line, next_group}
-use Rattle.multi_layout.specs.kept.PassState.{IsPassOf, fill_of}
-use Rattle.multi_layout.specs.kept.State.{IsStateOf}
-use Rattle.multi_layout.specs.kept.Sums.{area_sum, group_sum, line_sum}
-use Rattle.multi_layout.specs.kept.Table.{IsOrdered, group_lines, line_entry}
-use Rattle.multi_layout.proofs.AreaSumLemmas.{group_of_own}
+use Rattle.multi_judge.specs.declared.area.Area.{Area}
+use Rattle.multi_judge.specs.declared.area.Group.{Group}
+use Rattle.multi_judge.specs.declared.pass.Pass.{Pass}
+use Rattle.multi_judge.specs.declared.item.KnownItem.{KnownItem}
+use Rattle.multi_judge.specs.KnownItem.{meant_by}
+use Rattle.multi_judge.specs.declared.line.Line.{Line}
+use Rattle.multi_judge.specs.declared.table.CountedLine.{CountedLine}
+use Rattle.multi_judge.specs.declared.table.LineTable.{LineTable}
+use Rattle.multi_judge.specs.FillSums.{EndsLine}
+use Rattle.multi_judge.specs.Passed.{IsItemPassed, laid_area}
+use Rattle.multi_layout.specs.kept.AreaReading.{IsNextRead, IsReadOf}
+use Rattle.multi_judge.specs.KnownItem.{ends_line}
+use Rattle.multi_layout.specs.kept.AreaDrawing.{HasKnown, HasRoom, IsLow, next_group}
+use Rattle.multi_judge.specs.PassState.{IsPassOf, fill_of}
+use Rattle.multi_judge.specs.State.{IsStateOf}
+use Rattle.multi_judge.specs.Sums.{area_sum, group_sum, line_sum}
+use Rattle.multi_judge.specs.Table.{IsOrdered, group_lines, line_entry}
+use Rattle.multi_judge.proofs.AreaSumLemmas.{group_of_own}
 use Rattle.multi_layout.proofs.FilledTableLemmas.{entry_ended, known_pushed, known_unchanged, pushed_room}
 use Rattle.multi_layout.proofs.KnownLinesLemmas.{Pushed, behind_empty, pushed_low}
-use Rattle.multi_layout.proofs.KnownStepLemmas as steps
+use Rattle.multi_judge.proofs.KnownStepLemmas as steps
 use Rattle.multi_layout.proofs.AreaReadLemmas.{closed_below, present_placing, state_of, room_of, narrow_of, items_with, tag_unsized}
 
 -- ONE MORE ITEM

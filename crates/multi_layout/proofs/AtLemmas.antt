@@ -17,8 +17,9 @@ use Rattle.multi_meaning.specs.Meaning.{Meaning, Shows, meaning}
 use Rattle.multi_meaning.specs.Offence.{offence}
 use Rattle.multi_meaning.specs.Verdict.{IsVerdict, Refused}
 use Rattle.multi_meaning.proofs.OffenceLemmas.{offence-faulty}
-use Rattle.multi_layout.specs.kept.Judging.{IsAt, IsBehind, IsRefused}
-use Rattle.multi_layout.proofs.ReadLemmas.{nothing_read, read_more, refused_at_bracket, refused_here}
+use Rattle.multi_layout.specs.kept.Told.{IsRefused}
+use Rattle.multi_judge.specs.Judging.{IsAt, IsBehind}
+use Rattle.multi_judge.proofs.ReadLemmas.{nothing_read, read_more, refused_at_bracket, refused_here}
 
 -- the first octet is read
 pub first_read : (sign : SignData) (source : Counted) (IsKept : List Meaning → Type 0) → IsKept [] → source.steps ≡ 0 → (next : Option ℕ) (read : Counted) → next ≡ slice_get source.octets 0 → read ≡ charged source 1

@@ -24,26 +24,26 @@ use Rattle.multi_meaning.proofs.LayoutLemmas.{width_push}
 use Rattle.multi_meaning.proofs.SpotsLemmas.{spots_more}
 use Rattle.multi_meaning.proofs.StandingLemmas.{standing_push}
 use Rattle.multi_meaning.proofs.WordLemmas.{last_or_push}
-use Rattle.multi_layout.specs.declared.attributes.Attributes.{Attributes}
+use Rattle.multi_judge.specs.declared.attributes.Attributes.{Attributes}
 use Rattle.multi_layout.specs.declared.cursor.Cursor.{Cursor}
-use Rattle.multi_layout.specs.declared.item.KnownItem.TheVariants as known
-use Rattle.multi_layout.specs.declared.item.NextItem.{NextItem}
+use Rattle.multi_judge.specs.declared.item.KnownItem.TheVariants as known
+use Rattle.multi_judge.specs.declared.item.NextItem.{NextItem}
 use Rattle.multi_layout.specs.declared.paint.Layer.{Layer}
-use Rattle.multi_layout.specs.declared.state.State.{State}
-use Rattle.multi_layout.specs.declared.table.LineTable.{LineTable}
+use Rattle.multi_judge.specs.declared.state.State.{State}
+use Rattle.multi_judge.specs.declared.table.LineTable.{LineTable}
 use Rattle.multi_layout.specs.kept.AreaDrawing.{BeginsNoArea, HasCounted, whole_area}
 use Rattle.multi_layout.specs.kept.RunDrawing.{DrawsCharacter, AreaSoFar, NextStandsAt}
 use Rattle.multi_layout.specs.kept.Cursors.{IsBetween, IsRead, LaidItem, items_of, meant, spell_of}
-use Rattle.multi_layout.specs.kept.Run.{IsBehindCharacter, lengthened, line_in_force}
-use Rattle.multi_layout.specs.kept.State.{IsStateOf}
+use Rattle.multi_judge.specs.Run.{IsBehindCharacter, lengthened, line_in_force}
+use Rattle.multi_judge.specs.State.{IsStateOf}
 use Rattle.multi_layout.proofs.AreaDrawLemmas.{area_begins, area_left, area_more, area_next, none_first}
 use Rattle.multi_layout.proofs.DrawLemmas.{glyph_drawn, map_split}
-use Rattle.multi_layout.proofs.GroupSumLemmas.{present_push}
-use Rattle.multi_layout.proofs.JudgedLemmas.{unsized-undefined}
+use Rattle.multi_judge.proofs.GroupSumLemmas.{present_push}
+use Rattle.multi_judge.proofs.JudgedLemmas.{unsized-undefined}
 use Rattle.multi_layout.proofs.PaintLemmas.{glyph_found}
 use Rattle.multi_layout.proofs.PieceLemmas.{first_piece, no_piece, read_unfilled}
-use Rattle.multi_layout.proofs.ReadLemmas.{at_end}
-use Rattle.multi_layout.proofs.RunLemmas.{average_same, state_beside}
+use Rattle.multi_judge.proofs.ReadLemmas.{at_end}
+use Rattle.multi_judge.proofs.RunLemmas.{average_same, state_beside}
 use Rattle.multi_layout.proofs.WalkLemmas.{between_more, item_is, never_offends, none_at_end, within}
 
 -- a value that is only there on a full line

@@ -32,15 +32,15 @@ use Rattle.multi_meaning.proofs.MeaningLemmas.{does_tag}
 use Rattle.multi_meaning.proofs.SpotsLemmas.{same_page_behind}
 use Rattle.multi_layout.specs.declared.cursor.Cursor.{Cursor}
 use Rattle.multi_layout.specs.declared.paint.Layer.{Layer}
-use Rattle.multi_layout.specs.declared.state.State.{State}
-use Rattle.multi_layout.specs.declared.attributes.Attributes.{Attributes}
+use Rattle.multi_judge.specs.declared.state.State.{State}
+use Rattle.multi_judge.specs.declared.attributes.Attributes.{Attributes}
 use Rattle.multi_layout.specs.Limits.{plane_octets}
-use Rattle.multi_layout.specs.kept.KnownItem.{is_setting}
+use Rattle.multi_judge.specs.KnownItem.{is_setting}
 use Rattle.multi_layout.specs.kept.AreaDrawing.{DrawsGlyph, DrawsOn, IsDrawnTo, IsFilledBy, IsQuiet}
-use Rattle.multi_layout.specs.kept.State.{IsStateOf}
-use Rattle.multi_layout.specs.kept.Sums.{IsBelow}
+use Rattle.multi_judge.specs.State.{IsStateOf}
+use Rattle.multi_judge.specs.Sums.{IsBelow}
 use Rattle.multi_layout.specs.kept.Cursors.{IsBetween, meant, LaidItem}
-use Rattle.multi_layout.proofs.BoundLemmas.{below_more}
+use Rattle.multi_judge.proofs.BoundLemmas.{below_more}
 use Rattle.multi_layout.proofs.PaintLemmas.{glyph_found}
 use Rattle.multi_layout.proofs.WalkLemmas.{few_between}
 

@@ -27,10 +27,10 @@ use Rattle.multi_meaning.proofs.OrderlyLemmas.{orderly_items}
 use Rattle.multi_meaning.proofs.StandingLemmas.{standing_push}
 use Rattle.multi_meaning.proofs.UnplacedLemmas.{last_fine}
 use Rattle.multi_meaning.proofs.WordLemmas.{push_ind}
-use Rattle.multi_layout.specs.declared.pass.Pass.{Pass}
-use Rattle.multi_layout.specs.kept.FilledState.{IsFilledOf}
+use Rattle.multi_judge.specs.declared.pass.Pass.{Pass}
+use Rattle.multi_judge.specs.FilledState.{IsFilledOf}
 use Rattle.multi_layout.specs.kept.AreaDrawing.{HasRoom}
-use Rattle.multi_layout.proofs.FilledCharacterLemmas.{area_with, offends_by, offends_without, shown}
+use Rattle.multi_judge.proofs.FilledCharacterLemmas.{area_with, offends_by, offends_without, shown}
 use Rattle.multi_layout.proofs.WholeAreaLemmas.{laid_group_is}
 
 module _ (sign : SignData) where

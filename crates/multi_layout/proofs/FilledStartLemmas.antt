@@ -13,9 +13,9 @@ use Rattle.multi_meaning.proofs.GroupLaidLemmas.{in_areas, laid_as}
 use Rattle.multi_meaning.proofs.LaidItemLemmas.{are_laid}
 use Rattle.multi_meaning.proofs.SpotsLemmas.{spots_append}
 use Rattle.multi_meaning.proofs.WordLemmas.{each_after_length, each_after_push, push_ind}
-use Rattle.multi_layout.specs.declared.state.State.{State}
-use Rattle.multi_layout.specs.kept.State.{IsStateOf}
-use Rattle.multi_layout.proofs.FilledStateLemmas.{pages_at, same_times}
+use Rattle.multi_judge.specs.declared.state.State.{State}
+use Rattle.multi_judge.specs.State.{IsStateOf}
+use Rattle.multi_judge.proofs.FilledStateLemmas.{pages_at, same_times}
 use Rattle.multi_layout.proofs.SkipLemmas.{state_moved}
 
 count_if : (xs : List Spot) (x : Spot) (b : Bool) → length (xs ++ cond b (x ∷ []) []) ≡ length xs + cond b 1 0

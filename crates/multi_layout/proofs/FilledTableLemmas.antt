@@ -8,13 +8,13 @@ use Rattle.multi_meaning.specs.Address.{Spot, in_group, is_break, is_glyph, line
 use Rattle.multi_meaning.specs.Line.{height_of, width_of}
 use Rattle.multi_meaning.specs.kept.Present.{ended_lines}
 use Rattle.multi_meaning.proofs.GroupLemmas.{break_put}
-use Rattle.multi_layout.specs.declared.table.CountedLine.{CountedLine}
-use Rattle.multi_layout.specs.declared.table.LineTable.{LineTable}
+use Rattle.multi_judge.specs.declared.table.CountedLine.{CountedLine}
+use Rattle.multi_judge.specs.declared.table.LineTable.{LineTable}
 use Rattle.multi_layout.specs.kept.AreaDrawing.{HasKnown, HasRoom, known_lines}
-use Rattle.multi_layout.specs.kept.Table.{IsOrdered, group_lines, line_entry, table_of}
+use Rattle.multi_judge.specs.Table.{IsOrdered, group_lines, line_entry, table_of}
 use Rattle.multi_layout.proofs.KnownLinesLemmas.{Pushed, known_most, less_total, table_count}
-use Rattle.multi_layout.proofs.PlaceLemmas.{ended_most}
-use Rattle.multi_layout.proofs.TableLemmas.{table_push}
+use Rattle.multi_judge.proofs.PlaceLemmas.{ended_most}
+use Rattle.multi_judge.proofs.TableLemmas.{table_push}
 
 -- what ends a line adds nothing to its entry
 pub entry_ended : (line : List Spot) (s : Spot) (bottom : ℕ) → is_break s ≡ true → line_entry (line ++ s ∷ []) bottom ≡ line_entry line bottom

@@ -23,14 +23,14 @@ use Rattle.multi_meaning.proofs.OffenceLemmas.{offence-undefined}
 use Rattle.multi_meaning.proofs.SpotsLemmas.{spots_behind, spots_with}
 use Rattle.multi_meaning.proofs.StateLemmas.{in_area-append, present_area-placing}
 use Rattle.multi_meaning.proofs.WordLemmas.{All-split}
-use Rattle.multi_layout.specs.declared.attributes.Attributes.{Attributes}
+use Rattle.multi_judge.specs.declared.attributes.Attributes.{Attributes}
 use Rattle.multi_layout.specs.declared.cursor.Cursor.{Cursor}
-use Rattle.multi_layout.specs.declared.table.LineTable.{LineTable}
+use Rattle.multi_judge.specs.declared.table.LineTable.{LineTable}
 use Rattle.multi_layout.specs.kept.AreaDrawing.{HasCounted, whole_area}
-use Rattle.multi_layout.specs.kept.Placing.{TellsEnd}
-use Rattle.multi_layout.specs.kept.Table.{group_lines, table_of}
+use Rattle.multi_judge.specs.Placing.{TellsEnd}
+use Rattle.multi_judge.specs.Table.{group_lines, table_of}
 use Rattle.multi_layout.specs.kept.Cursors.{IsBetween, LaidItem, items_of, meant}
-use Rattle.multi_layout.proofs.KnownStepLemmas.{order}
+use Rattle.multi_judge.proofs.KnownStepLemmas.{order}
 use Rattle.multi_layout.proofs.WalkLemmas.{laid_here, never_offends}
 
 -- a character is laid out as itself, or as an `nl` without a number

@@ -10,17 +10,17 @@ use Rattle.multi_meaning.specs.Line.{height_of}
 use Rattle.multi_meaning.specs.kept.Present.{IsPlacing, ended_lines}
 use Rattle.multi_meaning.specs.Words.{largest}
 use Rattle.multi_meaning.proofs.GroupLemmas.{placing_group}
-use Rattle.multi_layout.specs.declared.area.Area.{Area}
-use Rattle.multi_layout.specs.declared.area.Group.{Group}
-use Rattle.multi_layout.specs.declared.table.CountedLine.{CountedLine}
-use Rattle.multi_layout.specs.declared.table.LineTable.{LineTable}
+use Rattle.multi_judge.specs.declared.area.Area.{Area}
+use Rattle.multi_judge.specs.declared.area.Group.{Group}
+use Rattle.multi_judge.specs.declared.table.CountedLine.{CountedLine}
+use Rattle.multi_judge.specs.declared.table.LineTable.{LineTable}
 use Rattle.multi_layout.specs.kept.AreaDrawing.{HasCounted, HasKnown, HasRoom, IsLow, known_lines}
-use Rattle.multi_layout.specs.kept.Sums.{area_sum, group_sum}
-use Rattle.multi_layout.specs.kept.Table.{IsOrdered, group_lines, table_of}
-use Rattle.multi_layout.proofs.AreaSumLemmas.{group_behind, group_of_own}
-use Rattle.multi_layout.proofs.PlaceLemmas.{ended_most}
-use Rattle.multi_layout.proofs.SplitLemmas.{all_groups, each_group}
-use Rattle.multi_layout.proofs.TableLemmas.{lines_closed, lines_open, open_entry, table_length, table_open}
+use Rattle.multi_judge.specs.Sums.{area_sum, group_sum}
+use Rattle.multi_judge.specs.Table.{IsOrdered, group_lines, table_of}
+use Rattle.multi_judge.proofs.AreaSumLemmas.{group_behind, group_of_own}
+use Rattle.multi_judge.proofs.PlaceLemmas.{ended_most}
+use Rattle.multi_judge.proofs.SplitLemmas.{all_groups, each_group}
+use Rattle.multi_judge.proofs.TableLemmas.{lines_closed, lines_open, open_entry, table_length, table_open}
 
 -- ONE MORE LINE
 

@@ -20,20 +20,20 @@ use Rattle.multi_meaning.proofs.TimesLemmas.{cycle_push, ended_count, shown_off,
 use Rattle.multi_meaning.proofs.StandingLemmas.{standing_push}
 use Rattle.multi_meaning.proofs.WordLemmas.{push_ind}
 use Rattle.multi_layout.proofs.PageDrawLemmas.{new_page_is}
-use Rattle.multi_layout.specs.declared.attributes.Attributes.{Attributes}
+use Rattle.multi_judge.specs.declared.attributes.Attributes.{Attributes}
 use Rattle.multi_layout.specs.declared.cursor.Cursor.{Cursor}
-use Rattle.multi_layout.specs.declared.item.KnownItem.TheVariants as known
-use Rattle.multi_layout.specs.declared.item.NextItem.{NextItem}
-use Rattle.multi_layout.specs.declared.state.State.{State}
-use Rattle.multi_layout.specs.kept.KnownItem.{meant_by}
-use Rattle.multi_layout.specs.kept.State.{IsStateOf, attributes_of}
+use Rattle.multi_judge.specs.declared.item.KnownItem.TheVariants as known
+use Rattle.multi_judge.specs.declared.item.NextItem.{NextItem}
+use Rattle.multi_judge.specs.declared.state.State.{State}
+use Rattle.multi_judge.specs.KnownItem.{meant_by}
+use Rattle.multi_judge.specs.State.{IsStateOf, attributes_of}
 use Rattle.multi_layout.specs.kept.Cursors.{IsFirst, IsPlaced}
 use Rattle.multi_layout.specs.kept.Passing.{IsPageSkipped, IsPassing, IsPassingBefore, IsTextPassed, PassesOn, unplaced}
 use Rattle.multi_layout.specs.kept.Settings.{IsNextAt, PutsSetting}
-use Rattle.multi_layout.proofs.JudgedLemmas.{cycle-grows, ended_times-push, pages_of-push}
+use Rattle.multi_judge.proofs.JudgedLemmas.{cycle-grows, ended_times-push, pages_of-push}
 use Rattle.multi_layout.proofs.SettingLemmas.{setting_is}
 use Rattle.multi_layout.proofs.SkipLemmas.{passing_tag, same_unplaced}
-use Rattle.multi_layout.proofs.ReadLemmas.{at_end}
+use Rattle.multi_judge.proofs.ReadLemmas.{at_end}
 use Rattle.multi_layout.proofs.WalkLemmas.{none_at_end, within}
 
 -- ---- what is kept where the cursor stands

@@ -24,7 +24,7 @@ use Rattle.multi_meaning.specs.kept.Fine.{IsAccepted}
 use Rattle.multi_meaning.proofs.DrawnLemmas.{covered_begins, covered_ends, covered_same}
 use Rattle.multi_meaning.proofs.SpotsLemmas.{same_page_behind, next_page_behind}
 use Rattle.multi_meaning.proofs.StateLemmas.{present_area-new}
-use Rattle.multi_layout.specs.declared.attributes.Attributes.{Attributes}
+use Rattle.multi_judge.specs.declared.attributes.Attributes.{Attributes}
 use Rattle.multi_layout.specs.declared.cursor.Cursor.{Cursor}
 use Rattle.multi_layout.specs.declared.paint.Layer.{Layer}
 use Rattle.multi_layout.specs.Limits.{plane_octets}

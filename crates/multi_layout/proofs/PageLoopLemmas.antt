@@ -8,7 +8,7 @@ use Rattle.multi_meaning.specs.Meaning.{EndsArea, begins_area}
 use Rattle.multi_meaning.specs.kept.Present.{present_area}
 use Rattle.multi_layout.specs.declared.cursor.Begun.{Begun}
 use Rattle.multi_layout.specs.declared.cursor.Cursor.{Cursor}
-use Rattle.multi_layout.specs.declared.item.NextItem.{NextItem}
+use Rattle.multi_judge.specs.declared.item.NextItem.{NextItem}
 use Rattle.multi_layout.specs.declared.paint.Layer.{Layer}
 use Rattle.multi_layout.specs.declared.read.AreaLines.{AreaLines}
 use Rattle.multi_layout.specs.kept.AreaDrawing.{BeginsNoArea, DrawsOn, HasCounted, IsAreaRead, OverArea, first_steps, whole_area}

@@ -21,20 +21,20 @@ use Rattle.multi_meaning.proofs.CellLemmas.{covers}
 use Rattle.multi_meaning.proofs.DrawnLemmas.{covered_glyph}
 use Rattle.multi_meaning.specs.Offence.{unsized_offence}
 use Rattle.multi_meaning.proofs.SpotsLemmas.{area_with_glyph, same_page_behind}
-use Rattle.multi_layout.specs.kept.Sums.{area_sum}
-use Rattle.multi_layout.specs.declared.area.Area.{Area}
-use Rattle.multi_layout.specs.declared.attributes.Attributes.{Attributes}
+use Rattle.multi_judge.specs.Sums.{area_sum}
+use Rattle.multi_judge.specs.declared.area.Area.{Area}
+use Rattle.multi_judge.specs.declared.attributes.Attributes.{Attributes}
 use Rattle.multi_layout.specs.declared.paint.Layer.{Layer}
-use Rattle.multi_layout.specs.declared.state.State.{State}
-use Rattle.multi_layout.specs.declared.table.LineTable.{LineTable}
+use Rattle.multi_judge.specs.declared.state.State.{State}
+use Rattle.multi_judge.specs.declared.table.LineTable.{LineTable}
 use Rattle.multi_layout.specs.kept.AreaDrawing.{HasCounted, IsDrawnTo}
 use Rattle.multi_layout.specs.kept.RunDrawing.{StandsAt}
-use Rattle.multi_layout.specs.kept.Placing.{PlacesCharacter}
-use Rattle.multi_layout.specs.kept.State.{IsStateOf}
-use Rattle.multi_layout.specs.kept.Table.{group_lines, table_of}
-use Rattle.multi_layout.proofs.AreaSumLemmas.{no_back, no_clash}
-use Rattle.multi_layout.proofs.JudgedLemmas.{cell_of_font, no_conflict}
-use Rattle.multi_layout.proofs.PlaceLemmas.{line_is_there}
+use Rattle.multi_judge.specs.Placing.{PlacesCharacter}
+use Rattle.multi_judge.specs.State.{IsStateOf}
+use Rattle.multi_judge.specs.Table.{group_lines, table_of}
+use Rattle.multi_judge.proofs.AreaSumLemmas.{no_back, no_clash}
+use Rattle.multi_judge.proofs.JudgedLemmas.{cell_of_font, no_conflict}
+use Rattle.multi_judge.proofs.PlaceLemmas.{line_is_there}
 
 -- a lit character covers this pixel
 abbrev lit_covers : Bool → cells.SizedCell → ℕ → ℕ → ℕ → ℕ → ℕ → Bool

@@ -21,44 +21,22 @@ use Rattle.multi_meaning.proofs.SpotsLemmas.{spots_with}
 use Rattle.multi_meaning.proofs.UnfilledLemmas.{spot_if}
 use Rattle.multi_meaning.proofs.WordLemmas.{each_after-append, each_after_length, each_after_push, push_ind}
 use Rattle.multi_meaning.proofs.UnplacedLemmas.{unplaced_item}
-use Rattle.multi_layout.specs.kept.State.{IsStateOf}
+use Rattle.multi_judge.specs.State.{IsStateOf}
 use Rattle.multi_layout.specs.declared.cursor.Cursor.{Cursor}
-use Rattle.multi_layout.specs.declared.item.NextItem.{NextItem}
-use Rattle.multi_layout.specs.declared.item.KnownItem.{KnownItem}
-use Rattle.multi_layout.specs.declared.item.KnownItem.TheVariants as items
-use Rattle.multi_layout.specs.declared.item.KnownItem.TheVariants.{Char}
-use Rattle.multi_layout.specs.declared.table.LineTable.{LineTable}
-use Rattle.multi_layout.specs.kept.KnownItem.{meant_by}
+use Rattle.multi_judge.specs.declared.item.NextItem.{NextItem}
+use Rattle.multi_judge.specs.declared.item.KnownItem.{KnownItem}
+use Rattle.multi_judge.specs.declared.item.KnownItem.TheVariants as items
+use Rattle.multi_judge.specs.declared.item.KnownItem.TheVariants.{Char}
+use Rattle.multi_judge.specs.declared.table.LineTable.{LineTable}
+use Rattle.multi_judge.specs.KnownItem.{meant_by}
 use Rattle.multi_layout.specs.kept.AreaDrawing.{HasCounted, whole_area}
 use Rattle.multi_layout.specs.kept.Cursors.{IsBetween, IsFirst, IsItemRead, IsPieceFirst, IsPlaced, IsRead, items_of, laid_meanings, meant, LaidItem, pieces_of}
 use Rattle.multi_layout.specs.kept.Passing.{IsPassing}
-use Rattle.multi_layout.proofs.FilledStateLemmas.{pages_at, same_times}
+use Rattle.multi_judge.proofs.FilledStateLemmas.{pages_at, same_times}
 use Rattle.multi_layout.proofs.SkipLemmas.{settled_at}
-use Rattle.multi_layout.proofs.WalkLemmas.{few_pieces, laid_here, length-meanings}
-
--- AN ITEM AS IT IS LAID OUT
-
--- where lines aren't filled, each is laid as itself
-unfilled_character : (sign : SignData) (all before more : List Meaning) (number : ℕ) → all ≡ before ++ Shows number ∷ more → (o : Option CellData) → cell_numbered (standing sign before).font number ≡ o
-    → laid_of (Shows number) (option_map (laid_spot Off (spots sign all) (spots sign before)) (option_map (λ put. let s : Spot = record { at = standing sign before; put = put } in s) (option_map Glyph o))) ≡ Shows number
-unfilled_character sign all before more number is None e = refl
-unfilled_character sign all before more number is (Some cell) e =
-    let s : Spot = record { at = standing sign before; put = Glyph cell } in
-    let split = spots_with sign before (Shows number) more (Glyph cell) (ap (option_map Glyph) e) in
-    ap (λ y. laid_of (Shows number) (Some y)) (spot_if (spots sign all) (spots sign before) _ s true refl (ap (spots sign) is ∙ split))
-
-pub unfilled_item : (sign : SignData) (all before more : List Meaning) (x : Meaning) → all ≡ before ++ x ∷ more → laid_item Off sign all before x ≡ x
-unfilled_item sign all before more (Shows number) is = unfilled_character sign all before more number is (cell_numbered (standing sign before).font number) refl
-unfilled_item sign all before more (Does (NewLine gap)) is = refl
-unfilled_item sign all before more _ is = refl
-
-pub unfilled_items : (sign : SignData) (all some more : List Meaning) → all ≡ some ++ more → laid_items Off sign all some ≡ some
-unfilled_items sign all = push_ind (λ some. (more : List Meaning) → all ≡ some ++ more → laid_items Off sign all some ≡ some) (λ more is. refl) step
-  where
-    step : (some : List Meaning) (x : Meaning) → ((more : List Meaning) → all ≡ some ++ more → laid_items Off sign all some ≡ some) → (more : List Meaning) → all ≡ (some ++ x ∷ []) ++ more → laid_items Off sign all (some ++ x ∷ []) ≡ some ++ x ∷ []
-    step some x ih more is =
-        let is' : all ≡ some ++ x ∷ more = is ∙ append_assoc some (x ∷ []) more in
-        each_after_push (laid_item Off sign all) some x ∙ (λ i. ih (x ∷ more) is' i ++ unfilled_item sign all some more x is' i ∷ [])
+use Rattle.multi_meaning.proofs.UnfilledItemLemmas.{unfilled_item, unfilled_items}
+use Rattle.multi_meaning.proofs.VerdictLemmas.{length-meanings}
+use Rattle.multi_layout.proofs.WalkLemmas.{few_pieces, laid_here}
 
 -- THE PIECES OF A STRING
 

@@ -15,22 +15,23 @@ use Rattle.sign_font.specs.Sound.{IsSound, IsWithin}
 use Rattle.sign_font.specs.Text.{width_in}
 use Rattle.multi_meaning.specs.Meaning.{Shows, meaning}
 use Rattle.multi_meaning.proofs.OrderlyLemmas.{unsized_if}
-use Rattle.multi_layout.specs.declared.item.KnownItem.TheVariants as known
-use Rattle.multi_layout.specs.declared.item.NextItem.{NextItem}
-use Rattle.multi_layout.specs.declared.pass.Pass.{Pass}
-use Rattle.multi_layout.specs.declared.state.State.{State}
-use Rattle.multi_layout.specs.declared.table.LineTable.{LineTable}
+use Rattle.multi_judge.specs.declared.item.KnownItem.TheVariants as known
+use Rattle.multi_judge.specs.declared.item.NextItem.{NextItem}
+use Rattle.multi_judge.specs.declared.pass.Pass.{Pass}
+use Rattle.multi_judge.specs.declared.state.State.{State}
+use Rattle.multi_judge.specs.declared.table.LineTable.{LineTable}
 use Rattle.multi_layout.specs.kept.AreaReading.{GoesOn, IsReadOf}
 use Rattle.multi_layout.specs.kept.Cursors.{LaidItem, items_of}
-use Rattle.multi_layout.specs.kept.PassState.{IsPassReady}
-use Rattle.multi_layout.specs.kept.State.{IsReady}
-use Rattle.multi_layout.specs.kept.Run.{IsBehindCharacter, IsRunPassed, lengthened, line_in_force}
+use Rattle.multi_judge.specs.PassState.{IsPassReady}
+use Rattle.multi_judge.specs.State.{IsReady}
+use Rattle.multi_judge.specs.Run.{IsBehindCharacter, IsRunPassed, lengthened, line_in_force}
 use Rattle.multi_layout.proofs.AreaLinesLemmas.{SoFar, read_on, so_first, so_next}
-use Rattle.multi_layout.proofs.AreaReadLemmas.{next_fine, plain_passed}
+use Rattle.multi_judge.proofs.PassedLemmas.{plain_passed}
+use Rattle.multi_layout.proofs.AreaReadLemmas.{next_fine}
 use Rattle.multi_layout.proofs.AreaStepLemmas.{step_stays}
-use Rattle.multi_layout.proofs.BeforeLemmas.{unfilled_fits}
-use Rattle.multi_layout.proofs.RunLemmas.{behind_stays, state_beside}
-use Rattle.multi_layout.proofs.RunReadLemmas.{behind_first, cell_of_width}
+use Rattle.multi_judge.proofs.BeforeLemmas.{unfilled_fits}
+use Rattle.multi_judge.proofs.RunLemmas.{behind_stays, state_beside}
+use Rattle.multi_judge.proofs.RunReadLemmas.{behind_first, cell_of_width}
 use Rattle.multi_layout.proofs.WalkLemmas.{item_is}
 
 -- what is kept with another state

@@ -12,18 +12,18 @@ use Rattle.multi_meaning.specs.kept.Present.{present_area}
 use Rattle.multi_meaning.proofs.StateLemmas.{present_area-nothing}
 use Rattle.multi_layout.specs.declared.cursor.Cursor.{Cursor}
 use Rattle.multi_layout.specs.declared.cursor.Met.TheVariants.{Setting}
-use Rattle.multi_layout.specs.declared.item.KnownItem.TheVariants as known
-use Rattle.multi_layout.specs.declared.item.NextItem.{NextItem}
+use Rattle.multi_judge.specs.declared.item.KnownItem.TheVariants as known
+use Rattle.multi_judge.specs.declared.item.NextItem.{NextItem}
 use Rattle.multi_layout.specs.declared.paint.Layer.{Layer}
 use Rattle.multi_layout.specs.declared.read.AreaLines.{AreaLines}
-use Rattle.multi_layout.specs.declared.state.State.{State}
-use Rattle.multi_layout.specs.declared.table.LineTable.{LineTable}
+use Rattle.multi_judge.specs.declared.state.State.{State}
+use Rattle.multi_judge.specs.declared.table.LineTable.{LineTable}
 use Rattle.multi_layout.specs.kept.AreaDrawing.{BeginsNoArea, DrawsOn, IsDrawnTo}
 use Rattle.multi_layout.specs.kept.Cursors.{IsBetween, LaidItem, items_of, meant, spell_of}
 use Rattle.multi_layout.specs.kept.Settings.{AreSettingsPassed, IsMet}
 use Rattle.multi_layout.specs.kept.RunDrawing.{AreaSoFar}
-use Rattle.multi_layout.specs.kept.KnownItem.{is_setting}
-use Rattle.multi_layout.specs.kept.State.{IsStateOf}
+use Rattle.multi_judge.specs.KnownItem.{is_setting}
+use Rattle.multi_judge.specs.State.{IsStateOf}
 use Rattle.multi_layout.proofs.AreaDrawLemmas.{area_first, area_then, next_drawn}
 use Rattle.multi_layout.proofs.DrawLemmas.{map_split, setting_put, setting_unput}
 use Rattle.multi_layout.proofs.PageDrawLemmas.{PageSoFar, page_area}

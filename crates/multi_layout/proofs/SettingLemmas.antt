@@ -13,18 +13,18 @@ use Rattle.multi_meaning.specs.Laid.{too_big}
 use Rattle.multi_meaning.specs.LaidItems.{laid_items}
 use Rattle.multi_meaning.specs.Meaning.{Does, Meaning, begins_area, has_place, meaning, said_by}
 use Rattle.multi_meaning.specs.Offence.{offence, offence_by}
-use Rattle.multi_layout.specs.declared.item.NextItem.{NextItem}
-use Rattle.multi_layout.specs.declared.pass.Pass.{Pass}
-use Rattle.multi_layout.specs.declared.state.State.{State}
-use Rattle.multi_layout.specs.kept.AreaDrawing.{ends_line}
+use Rattle.multi_judge.specs.declared.item.NextItem.{NextItem}
+use Rattle.multi_judge.specs.declared.pass.Pass.{Pass}
+use Rattle.multi_judge.specs.declared.state.State.{State}
+use Rattle.multi_judge.specs.KnownItem.{ends_line}
 use Rattle.multi_layout.specs.kept.Cursors.{IsFirst, IsPlaced}
 use Rattle.multi_layout.specs.kept.Settings.{PutsSetting}
-use Rattle.multi_layout.specs.kept.FilledState.{begins_line}
-use Rattle.multi_layout.specs.kept.KnownItem.{is_setting, meant_by}
-use Rattle.multi_layout.specs.kept.PassState.{IsPassOf}
-use Rattle.multi_layout.specs.kept.State.{IsJudged}
-use Rattle.multi_layout.proofs.FilledBehindLemmas.{judged-stays}
-use Rattle.multi_layout.proofs.PassLemmas.{judged_unfilled}
+use Rattle.multi_judge.specs.FilledState.{begins_line}
+use Rattle.multi_judge.specs.KnownItem.{is_setting, meant_by}
+use Rattle.multi_judge.specs.PassState.{IsPassOf}
+use Rattle.multi_judge.specs.State.{IsJudged}
+use Rattle.multi_judge.proofs.FilledBehindLemmas.{judged-stays}
+use Rattle.multi_judge.proofs.PassLemmas.{judged_unfilled}
 use Rattle.multi_layout.proofs.WalkLemmas.{none_offends}
 
 abbrev Big : Type 0

@@ -4,13 +4,13 @@ use Rattle.std.proofs.lemmas.List.Elements.{All-nil, All-push}
 use Rattle.sign_font.specs.Sign.{SignData}
 use Rattle.multi_layout.specs.declared.cursor.Cursor.{Cursor}
 use Rattle.multi_layout.specs.declared.cursor.Met.TheVariants.{Setting}
-use Rattle.multi_layout.specs.declared.item.KnownItem.TheVariants as known
-use Rattle.multi_layout.specs.declared.item.NextItem.{NextItem}
-use Rattle.multi_layout.specs.declared.state.State.{State}
+use Rattle.multi_judge.specs.declared.item.KnownItem.TheVariants as known
+use Rattle.multi_judge.specs.declared.item.NextItem.{NextItem}
+use Rattle.multi_judge.specs.declared.state.State.{State}
 use Rattle.multi_layout.specs.kept.Cursors.{IsBetween, LaidItem, items_of, meant}
 use Rattle.multi_layout.specs.kept.Settings.{AreSettingsPassed, IsMet}
-use Rattle.multi_layout.specs.kept.KnownItem.{is_setting}
-use Rattle.multi_layout.specs.kept.State.{IsStateOf}
+use Rattle.multi_judge.specs.KnownItem.{is_setting}
+use Rattle.multi_judge.specs.State.{IsStateOf}
 use Rattle.multi_layout.proofs.PieceLemmas.{first_piece, read_unplaced}
 use Rattle.multi_layout.proofs.SettingLemmas.{setting_is}
 use Rattle.multi_layout.proofs.WalkLemmas.{between_more}

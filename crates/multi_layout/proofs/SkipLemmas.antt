@@ -19,16 +19,17 @@ use Rattle.multi_meaning.proofs.StandingLemmas.{standing_push}
 use Rattle.multi_meaning.proofs.StateLemmas.{present_area-new}
 use Rattle.multi_meaning.proofs.WordLemmas.{push_ind}
 use Rattle.multi_layout.specs.declared.cursor.Cursor.{Cursor}
-use Rattle.multi_layout.specs.declared.item.NextItem.{NextItem}
-use Rattle.multi_layout.specs.declared.state.State.{State}
-use Rattle.multi_layout.specs.kept.KnownItem.{meant_by}
-use Rattle.multi_layout.specs.kept.State.{IsReady, IsStateOf, attributes_of}
-use Rattle.multi_layout.specs.kept.Sums.{area_sum}
+use Rattle.multi_judge.specs.declared.item.NextItem.{NextItem}
+use Rattle.multi_judge.specs.declared.state.State.{State}
+use Rattle.multi_judge.specs.KnownItem.{meant_by}
+use Rattle.multi_judge.specs.State.{IsReady, IsStateOf, attributes_of}
+use Rattle.multi_judge.specs.Sums.{area_sum}
 use Rattle.multi_layout.specs.kept.Cursors.{IsItemRead}
 use Rattle.multi_layout.specs.kept.Passing.{IsPassing, unplaced}
-use Rattle.multi_layout.proofs.BoundLemmas.{below_more}
-use Rattle.multi_layout.proofs.JudgedLemmas.{ended_times-push, pages_of-push, ready}
-use Rattle.multi_layout.proofs.WalkLemmas.{few_placed, length-meanings, none_offends, placed_more}
+use Rattle.multi_judge.proofs.BoundLemmas.{below_more}
+use Rattle.multi_judge.proofs.JudgedLemmas.{ended_times-push, pages_of-push, ready}
+use Rattle.multi_layout.proofs.WalkLemmas.{few_placed, none_offends, placed_more}
+use Rattle.multi_meaning.proofs.VerdictLemmas.{length-meanings}
 
 -- where the present area is empty, the state is that of all items with these pages, times and values in force
 pub state_moved : (sign : SignData) (one other : List Meaning) (state : State) → standing sign one ≡ standing sign other → ended_times sign one ≡ ended_times sign other → pages_of one ≡ pages_of other

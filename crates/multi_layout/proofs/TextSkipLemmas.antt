@@ -8,10 +8,10 @@ use Rattle.multi_token.specs.declared.token.Kind.TheVariants as kinds
 use Rattle.multi_token.proofs.PlaceLemmas.{drop_read, read_drop, single_token}
 use Rattle.sign_font.specs.Sign.{SignData}
 use Rattle.multi_layout.specs.declared.cursor.Cursor.{Cursor}
-use Rattle.multi_layout.specs.declared.item.KnownItem.TheVariants as known
-use Rattle.multi_layout.specs.declared.item.NextItem.{NextItem}
+use Rattle.multi_judge.specs.declared.item.KnownItem.TheVariants as known
+use Rattle.multi_judge.specs.declared.item.NextItem.{NextItem}
 use Rattle.multi_layout.specs.kept.Passing.{IsPassing, IsTextPassed}
-use Rattle.multi_layout.proofs.RunReadLemmas.{behind_first}
+use Rattle.multi_judge.proofs.RunReadLemmas.{behind_first}
 use Rattle.multi_layout.proofs.SkipLemmas.{passing_placed}
 use Rattle.multi_layout.proofs.WalkLemmas.{item_is}
 

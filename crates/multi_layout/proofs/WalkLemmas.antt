@@ -22,13 +22,14 @@ use Rattle.multi_meaning.specs.kept.ItemAt.{IsFaultAt, IsItemAt}
 use Rattle.multi_meaning.specs.kept.Fine.{IsAccepted, IsFine, IsOrderly}
 use Rattle.multi_meaning.proofs.InForceLemmas.{none_front, none_last}
 use Rattle.multi_meaning.proofs.OffenceLemmas.{offence-faulty}
+use Rattle.multi_meaning.proofs.VerdictLemmas.{length-meanings}
 use Rattle.multi_meaning.proofs.WordLemmas.{each_after-append, each_after_length, left_nil, none_mapped, none_of, push_ind, right_nil, some_after-append, some_after_push}
 use Rattle.multi_layout.specs.declared.cursor.Cursor.{Cursor}
-use Rattle.multi_layout.specs.declared.item.NextItem.{NextItem}
-use Rattle.multi_layout.specs.kept.State.{IsReady, IsStateOf}
-use Rattle.multi_layout.specs.kept.KnownItem.{IsKnownItem, meant_by}
+use Rattle.multi_judge.specs.declared.item.NextItem.{NextItem}
+use Rattle.multi_judge.specs.State.{IsReady, IsStateOf}
+use Rattle.multi_judge.specs.KnownItem.{IsKnownItem, meant_by}
 use Rattle.multi_layout.specs.kept.Cursors.{IsBetween, IsFirst, IsPlaced, LaidItem, items_of, laid_meanings, meant, spell_of}
-use Rattle.multi_layout.proofs.JudgedLemmas.{ready}
+use Rattle.multi_judge.proofs.JudgedLemmas.{ready}
 
 drop_front : (xs ys : List ℕ) → drop (length xs) (xs ++ ys) ≡ ys
 drop_front [] ys = refl
@@ -45,10 +46,6 @@ spell-append xs ys = flat_map-append spelling xs ys
 pub few : (items : List Item) → length items ≤ length (spell items)
 few [] = omega arith
 few (x ∷ items) = omega (arith, few items, spelling_some x, length-append (spelling x) (spell items))
-
-pub length-meanings : (items : List Item) → length (map meaning items) ≡ length items
-length-meanings [] = refl
-length-meanings (x ∷ items) = ap (λ n. Prim.Native.Nat.suc n) (length-meanings items)
 
 module _ (sign : SignData) (octets : List ℕ) (before behind : List Item) (at : ℕ) (p : IsPlaced sign octets before behind at) where
   -- what stands from the offset on

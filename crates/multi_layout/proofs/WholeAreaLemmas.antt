@@ -13,9 +13,9 @@ use Rattle.multi_meaning.proofs.FilledOnLemmas.{HasWidth, groups_laid}
 use Rattle.multi_meaning.proofs.LaidItemLemmas.{are_laid}
 use Rattle.multi_meaning.proofs.RectangleLemmas.{same_rectangle}
 use Rattle.multi_meaning.proofs.SpotsLemmas.{area_ends}
-use Rattle.multi_layout.specs.declared.table.LineTable.{LineTable}
+use Rattle.multi_judge.specs.declared.table.LineTable.{LineTable}
 use Rattle.multi_layout.specs.kept.AreaDrawing.{HasCounted}
-use Rattle.multi_layout.specs.kept.Table.{table_of}
+use Rattle.multi_judge.specs.Table.{table_of}
 
 module _ (sign : SignData) (items rest : List Meaning) where
   abbrev here : Standing

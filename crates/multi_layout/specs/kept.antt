@@ -1,21 +1,9 @@
 -- What the code keeps on its way, which no reader of the public contracts needs.
-pub mod Adding
 pub mod AreaDrawing
 pub mod AreaReading
 pub mod Cursors
-pub mod FillSums
-pub mod FilledRun
-pub mod FilledState
-pub mod Judging
-pub mod KnownItem
 pub mod PageDrawing
-pub mod PassState
 pub mod Passing
-pub mod Placing
-pub mod Run
 pub mod RunDrawing
 pub mod Settings
-pub mod State
-pub mod Sums
-pub mod Table
-pub mod Text
+pub mod Told

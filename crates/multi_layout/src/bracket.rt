@@ -8,9 +8,9 @@ ghost use Rattle.multi_meaning.specs.Codes.{code_of};
 ghost use Rattle.multi_meaning.specs.kept.ItemAt.{IsFaultAt, IsItemAt};
 ghost use Rattle.multi_meaning.specs.Meaning.{said_by};
 ghost use Rattle.multi_meaning.specs.kept.Present.{IsKnown};
-ghost use Rattle.multi_layout.specs.kept.KnownItem.{IsKnownItem, meant_by};
+ghost use Rattle.multi_judge.specs.KnownItem.{IsKnownItem, meant_by};
 
-use crate::item::{KnownItem, NextItem, tag_error};
+use multi_judge::{KnownItem, NextItem, tag_error};
 use multi_meaning::SyntaxError;
 use multi_tag::{Tag, read_ahead, read_tag};
 use multi_token::{Bracketed, Kind, Source, Token, read_bracket};

@@ -3,7 +3,7 @@
 ghost use Rattle.std.specs.Prelude.{◌≡◌};
 ghost use Rattle.multi_meaning.specs.Verdict.{Accepted, IsVerdict, IsCycle};
 
-use crate::terms::Terms;
+use multi_judge::Terms;
 use multi_token::Source;
 use std::marker::Model;
 

@@ -8,19 +8,15 @@ ghost use Rattle.sign_font.specs.Sound.{IsSound};
 ghost use Rattle.sign_font.specs.Text.{width_in};
 ghost use Rattle.multi_meaning.specs.Meaning.{Meaning, has_place};
 ghost use Rattle.multi_meaning.specs.Offence.{unsized_offence};
-ghost use Rattle.multi_layout.specs.kept.KnownItem.{IsKnownItem, meant_by};
-ghost use Rattle.multi_layout.specs.kept.Run.{IsBehindCharacter};
-ghost use Rattle.multi_layout.specs.kept.State.{IsReady, IsStateOf};
+ghost use Rattle.multi_judge.specs.KnownItem.{IsKnownItem, meant_by};
+ghost use Rattle.multi_judge.specs.Run.{IsBehindCharacter};
+ghost use Rattle.multi_judge.specs.State.{IsReady, IsStateOf};
 ghost use Rattle.multi_layout.specs.kept.Cursors.{GoesBehind, IsBefore, IsBetween, LaidItem};
 ghost use Rattle.multi_layout.specs.kept.Passing.{IsAtStart, IsPageSkipped, IsPassing, IsPassingBefore, IsTextPassed, PassesOn};
 ghost use Rattle.multi_layout.specs.kept.Settings.{AreSettingsPassed, IsBegun, IsMet, IsNextAt, MayMeet, item_steps, met_octets, met_steps};
 
 use crate::bracket::{fault_of, is_bracket, said};
-use crate::item::{KnownItem, NextItem};
-use crate::judge::judge_tag;
-use crate::run::Run;
-use crate::state::State;
-use crate::terms::Terms;
+use multi_judge::{KnownItem, NextItem, Run, State, Terms, judge_tag};
 use multi_tag::{Tag, read_ahead};
 use multi_token::Source;
 

@@ -5,7 +5,7 @@ ghost use Rattle.multi_token.specs.Counted.{RisesBetween};
 ghost use Rattle.sign_font.specs.declared.parts.LineFill.TheVariants.{Off};
 ghost use Rattle.multi_layout.specs.kept.AreaDrawing.{IsFilledBy};
 ghost use Rattle.multi_layout.specs.kept.Cursors.{LaidItem};
-ghost use Rattle.multi_layout.specs.kept.Run.{IsBehindCharacter};
+ghost use Rattle.multi_judge.specs.Run.{IsBehindCharacter};
 ghost use Rattle.multi_layout.specs.kept.RunDrawing.{DrawsRun, IsReadBehind, IsRunHere, cursor_behind, octets_read};
 ghost use Rattle.multi_layout.specs.Pages.{IsSized};
 
@@ -13,7 +13,7 @@ use crate::bracket::is_bracket;
 use crate::cursor::Cursor;
 use crate::paint::{Layer, put_character};
 use crate::read::AreaLines;
-use crate::terms::Terms;
+use multi_judge::Terms;
 use multi_meaning::Place;
 use multi_token::Source;
 use page_plane::Plane;

@@ -6,8 +6,6 @@
 //! for its lines and then for its cells.
 #![tactic(auto)]
 
-mod area;
-mod attributes;
 mod bracket;
 mod cell;
 mod checked;
@@ -15,20 +13,9 @@ mod cursor;
 mod draw;
 mod draw_run;
 mod fault;
-mod fill;
-mod fill_run;
-mod item;
-mod judge;
-mod line;
 mod pages;
 mod paint;
-mod pass;
-mod place;
 mod read;
-mod run;
-mod state;
-mod table;
-mod terms;
 mod times;
 mod verdict;
 

@@ -5,9 +5,8 @@ ghost use Rattle.sign_font.specs.Sound.{IsSound, IsSoundSize};
 ghost use Rattle.multi_meaning.specs.Picture.{is_lit_at, shown_colour};
 ghost use Rattle.multi_layout.specs.kept.RunDrawing.{DrawsCharacter};
 
-use crate::attributes::Attributes;
 use crate::cell::put_cell;
-use crate::terms::Terms;
+use multi_judge::{Attributes, Terms};
 use multi_meaning::{FlashTimes, Place};
 use page_plane::Plane;
 use sign_font::Cell;

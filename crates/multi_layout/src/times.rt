@@ -12,11 +12,9 @@ ghost use Rattle.multi_layout.specs.Limits.{check_limit};
 ghost use Rattle.multi_layout.specs.kept.Passing.{IsAtStart};
 ghost use Rattle.multi_layout.specs.kept.PageDrawing.{IsStartOf};
 
-use crate::attributes::Attributes;
 use crate::checked::{Checked, Told};
 use crate::cursor::Cursor;
-use crate::state::State;
-use crate::terms::Terms;
+use multi_judge::{Attributes, State, Terms};
 use multi_meaning::Shown;
 use multi_token::Source;
 

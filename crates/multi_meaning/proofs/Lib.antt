@@ -53,6 +53,7 @@ pub mod SpotsLemmas
 pub mod StandingLemmas
 pub mod StateLemmas
 pub mod TimesLemmas
+pub mod UnfilledItemLemmas
 pub mod UnfilledLemmas
 pub mod UnplacedLemmas
 pub mod VerdictExamples

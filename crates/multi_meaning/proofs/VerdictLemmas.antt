@@ -114,3 +114,8 @@ refusal_stands sign octets code at e closed more =
     let rest = (reading octets).rest in
     ap (λ l. verdict sign (l ++ more)) read.spelled
     ∙ stands_by sign items rest (offences sign items) code at read.each read.ends refl e (subst (λ l. ¬ (IsOpen (drop at l))) read.spelled closed) more
+
+-- as many are meant as are read
+pub length-meanings : (items : List Item) → length (map meaning items) ≡ length items
+length-meanings [] = refl
+length-meanings (x ∷ items) = ap (λ n. Prim.Native.Nat.suc n) (length-meanings items)

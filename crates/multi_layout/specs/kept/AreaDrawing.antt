@@ -15,17 +15,12 @@ use Rattle.multi_layout.specs.declared.cursor.Begun.{Begun}
 use Rattle.multi_layout.specs.declared.cursor.Cursor.{Cursor}
 use Rattle.multi_layout.specs.declared.paint.Layer.{Layer}
 use Rattle.multi_layout.specs.declared.read.AreaLines.{AreaLines}
-use Rattle.multi_layout.specs.declared.state.State.{State}
-use Rattle.multi_layout.specs.declared.table.LineTable.{LineTable}
+use Rattle.multi_judge.specs.declared.state.State.{State}
+use Rattle.multi_judge.specs.declared.table.LineTable.{LineTable}
 use Rattle.multi_layout.specs.Limits.{plane_octets}
 use Rattle.multi_layout.specs.kept.Cursors.{IsBetween, IsFirst, items_of, meant, LaidItem, spell_of}
 use Rattle.multi_layout.specs.kept.Settings.{item_steps}
-use Rattle.multi_layout.specs.kept.Table.{IsOrdered, group_lines, table_of}
-
--- the item ends a line (NTCIP 1203 v03, MULTI tag 'nl')
-abbrev pub ends_line : Meaning → Bool
-ends_line (Does (NewLine gap)) = true
-ends_line _ = false
+use Rattle.multi_judge.specs.Table.{IsOrdered, group_lines, table_of}
 
 -- the page justification of the group to which the next item belongs, if it has a place, or else that of the present group (own)
 abbrev pub next_group : State → Meaning → ℕ

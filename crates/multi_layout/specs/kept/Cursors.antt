@@ -7,9 +7,9 @@ use Rattle.multi_meaning.specs.Meaning.{Meaning, meaning}
 use Rattle.multi_meaning.specs.Words.{each_after}
 use Rattle.multi_meaning.specs.kept.Fine.{IsAccepted, IsOrderly}
 use Rattle.multi_layout.specs.declared.cursor.Cursor.{Cursor}
-use Rattle.multi_layout.specs.declared.item.NextItem.{NextItem}
-use Rattle.multi_layout.specs.kept.KnownItem.{meant_by, IsKnownItem}
-use Rattle.multi_layout.specs.kept.State.{IsStateOf}
+use Rattle.multi_judge.specs.declared.item.NextItem.{NextItem}
+use Rattle.multi_judge.specs.KnownItem.{meant_by, IsKnownItem}
+use Rattle.multi_judge.specs.State.{IsStateOf}
 
 -- the offset is between these items of an accepted string (own)
 pub record IsPlaced (sign : SignData) (octets : List ℕ) (before behind : List Item) (at : ℕ) : Type 0 where

@@ -7,9 +7,9 @@ use Rattle.multi_meaning.specs.Meaning.{BeginsPage, Meaning, has_place, meaning}
 use Rattle.multi_meaning.specs.kept.Fine.{IsAccepted, IsOrderly}
 use Rattle.multi_meaning.specs.Times.{Times, ended_times, page_times}
 use Rattle.multi_layout.specs.declared.cursor.Cursor.{Cursor}
-use Rattle.multi_layout.specs.declared.item.NextItem.{NextItem}
+use Rattle.multi_judge.specs.declared.item.NextItem.{NextItem}
 use Rattle.multi_layout.specs.kept.Cursors.{IsBetween, IsItemRead, IsPlaced, laid_meanings, pieces_of}
-use Rattle.multi_layout.specs.kept.State.{IsStateOf}
+use Rattle.multi_judge.specs.State.{IsStateOf}
 
 -- without the characters and the `nl`, which alone are laid out (own)
 abbrev pub unplaced : List Meaning → List Meaning

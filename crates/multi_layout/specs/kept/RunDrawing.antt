@@ -7,17 +7,17 @@ use Rattle.multi_meaning.specs.declared.place.Place.{Place}
 use Rattle.multi_meaning.specs.Address.{Glyph, Spot, is_glyph, spots, standing}
 use Rattle.multi_meaning.specs.Meaning.{Meaning, Shows}
 use Rattle.multi_meaning.specs.Place.{place_of}
-use Rattle.multi_layout.specs.declared.attributes.Attributes.{Attributes}
+use Rattle.multi_judge.specs.declared.attributes.Attributes.{Attributes}
 use Rattle.multi_layout.specs.declared.cursor.Cursor.{Cursor}
-use Rattle.multi_layout.specs.declared.item.NextItem.{NextItem}
+use Rattle.multi_judge.specs.declared.item.NextItem.{NextItem}
 use Rattle.multi_layout.specs.declared.paint.Layer.{Layer}
 use Rattle.multi_layout.specs.declared.read.AreaLines.{AreaLines}
-use Rattle.multi_layout.specs.declared.state.State.{State}
-use Rattle.multi_layout.specs.declared.table.LineTable.{LineTable}
+use Rattle.multi_judge.specs.declared.state.State.{State}
+use Rattle.multi_judge.specs.declared.table.LineTable.{LineTable}
 use Rattle.multi_layout.specs.kept.AreaDrawing.{BeginsNoArea, DrawsGlyph, HasCounted, IsDrawnTo, whole_area}
 use Rattle.multi_layout.specs.kept.Cursors.{IsBetween, IsRead, LaidItem, meant, spell_of}
-use Rattle.multi_layout.specs.kept.Run.{IsBehindCharacter, lengthened, line_in_force}
-use Rattle.multi_layout.specs.kept.State.{IsStateOf}
+use Rattle.multi_judge.specs.Run.{IsBehindCharacter, lengthened, line_in_force}
+use Rattle.multi_judge.specs.State.{IsStateOf}
 
 -- these of an area's items are drawn, and those are left (own)
 pub record AreaSoFar (sign : SignData) (octets : List ℕ) (before area rest : List LaidItem) (lines : LineTable) (layer : Layer)

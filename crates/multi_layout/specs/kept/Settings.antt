@@ -10,12 +10,12 @@ use Rattle.multi_layout.specs.declared.cursor.Cursor.{Cursor}
 use Rattle.multi_layout.specs.declared.cursor.Met.{Met}
 use Rattle.multi_layout.specs.declared.cursor.Met.TheVariants as met
 use Rattle.multi_layout.specs.declared.cursor.Met.TheVariants.{Setting}
-use Rattle.multi_layout.specs.declared.item.KnownItem.TheVariants as known
-use Rattle.multi_layout.specs.declared.item.NextItem.{NextItem}
-use Rattle.multi_layout.specs.declared.state.State.{State}
-use Rattle.multi_layout.specs.kept.KnownItem.{is_setting}
+use Rattle.multi_judge.specs.declared.item.KnownItem.TheVariants as known
+use Rattle.multi_judge.specs.declared.item.NextItem.{NextItem}
+use Rattle.multi_judge.specs.declared.state.State.{State}
+use Rattle.multi_judge.specs.KnownItem.{is_setting}
 use Rattle.multi_layout.specs.kept.Cursors.{IsBetween, IsFirst, IsPlaced, IsWithin, LaidItem, meant}
-use Rattle.multi_layout.specs.kept.State.{IsLimited, IsReady, IsStateOf, Judges}
+use Rattle.multi_judge.specs.State.{IsLimited, IsReady, IsStateOf, Judges}
 
 -- what this setting says is put into force: it doesn't offend behind any items, and the new state is that of the items with it (own)
 pub record PutsSetting (sign : SignData) (tag : Tag) (old new : State) : Type 0 where

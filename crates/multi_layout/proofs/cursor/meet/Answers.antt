@@ -3,7 +3,7 @@ use Rattle.std.proofs.lemmas.Bool.{false≢true}
 use Rattle.multi_token.specs.declared.token.Kind.TheVariants as kinds
 use Rattle.multi_token.specs.Spelling.{is_bracket}
 use Rattle.multi_token.proofs.PlaceLemmas.{single_token}
-use Rattle.multi_layout.specs.declared.item.KnownItem.TheVariants as known
+use Rattle.multi_judge.specs.declared.item.KnownItem.TheVariants as known
 use Rattle.multi_layout.proofs.WalkLemmas.{item_is}
 use Rattle.multi_layout.proofs.cursor.meet.Goals as goal
 

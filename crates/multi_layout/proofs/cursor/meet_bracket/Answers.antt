@@ -12,11 +12,11 @@ use Rattle.multi_meaning.specs.Meaning.{Does, said_by}
 use Rattle.multi_meaning.specs.kept.ItemAt.{IsFaultAt}
 use Rattle.multi_meaning.specs.kept.Present.{IsKnown}
 use Rattle.multi_meaning.proofs.ItemAtLemmas.{ahead_steps, doubled_at, read_is, read_not, tag_at}
-use Rattle.multi_layout.specs.declared.item.KnownItem.{KnownItem}
-use Rattle.multi_layout.specs.declared.item.KnownItem.TheVariants as known
-use Rattle.multi_layout.specs.declared.item.NextItem.{NextItem}
+use Rattle.multi_judge.specs.declared.item.KnownItem.{KnownItem}
+use Rattle.multi_judge.specs.declared.item.KnownItem.TheVariants as known
+use Rattle.multi_judge.specs.declared.item.NextItem.{NextItem}
 use Rattle.multi_layout.specs.kept.Settings.{IsNextAt}
-use Rattle.multi_layout.specs.kept.KnownItem.{IsKnownItem, is_setting, meant_by}
+use Rattle.multi_judge.specs.KnownItem.{IsKnownItem, is_setting, meant_by}
 use Rattle.multi_layout.proofs.SettingLemmas.{never_refused, said_setting, setting_fine}
 use Rattle.multi_layout.proofs.WalkLemmas.{item_is, no_fault}
 use Rattle.multi_layout.proofs.cursor.meet_bracket.Goals as goal

@@ -10,18 +10,18 @@ use Rattle.multi_meaning.specs.Place.{place_of}
 use Rattle.multi_meaning.specs.Address.{Glyph, spots, standing, in_area}
 use Rattle.multi_meaning.specs.Meaning.{begins_area, Does, has_place, Meaning, Shows}
 use Rattle.multi_meaning.specs.Offence.{unsized_offence}
-use Rattle.multi_layout.specs.declared.attributes.Attributes.{Attributes}
+use Rattle.multi_judge.specs.declared.attributes.Attributes.{Attributes}
 use Rattle.multi_layout.specs.kept.Cursors.{meant}
-use Rattle.multi_layout.specs.kept.State.{attributes_of}
-use Rattle.multi_layout.specs.kept.Sums.{area_sum}
-use Rattle.multi_layout.specs.kept.Placing.{PlacesCharacter}
-use Rattle.multi_layout.specs.kept.KnownItem.{meant_by}
+use Rattle.multi_judge.specs.State.{attributes_of}
+use Rattle.multi_judge.specs.Sums.{area_sum}
+use Rattle.multi_judge.specs.Placing.{PlacesCharacter}
+use Rattle.multi_judge.specs.KnownItem.{meant_by}
 use Rattle.multi_layout.specs.kept.AreaDrawing.{HasCounted, IsDrawnTo}
 use Rattle.multi_layout.specs.kept.RunDrawing.{NextStandsAt}
 use Rattle.multi_layout.proofs.BesideLemmas.{beside_stands, same_standing}
 use Rattle.multi_layout.proofs.DrawLemmas.{low_between, cell_height, glyph_drawn, map_split, four_octets, tag_drawn, rows_few, tag_filled}
-use Rattle.multi_layout.proofs.BoundLemmas.{below_more}
-use Rattle.multi_layout.proofs.JudgedLemmas.{unsized-undefined}
+use Rattle.multi_judge.proofs.BoundLemmas.{below_more}
+use Rattle.multi_judge.proofs.JudgedLemmas.{unsized-undefined}
 use Rattle.multi_layout.proofs.PaintLemmas.{stands_at}
 use Rattle.multi_layout.proofs.PieceLemmas.{itself}
 use Rattle.multi_layout.proofs.WalkLemmas.{never_offends}

@@ -1,5 +1,5 @@
 use Rattle.std.proofs.Common.{◌∷◌, ◌^◌, arith, sym, ◌∙◌}
-use Rattle.multi_layout.proofs.BoundLemmas.{below_more}
+use Rattle.multi_judge.proofs.BoundLemmas.{below_more}
 use Rattle.multi_layout.proofs.DrawLemmas.{low_between}
 use Rattle.multi_layout.proofs.PieceLemmas.{read_unfilled}
 use Rattle.multi_layout.proofs.draw.lay.Goals as goal

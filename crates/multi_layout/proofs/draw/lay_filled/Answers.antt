@@ -1,6 +1,6 @@
 use Rattle.std.proofs.Common.{sym, ap, subst, ◌∙◌}
-use Rattle.multi_layout.specs.kept.Placing.{TellsEnd}
-use Rattle.multi_layout.specs.kept.KnownItem.{meant_by}
+use Rattle.multi_judge.specs.Placing.{TellsEnd}
+use Rattle.multi_judge.specs.KnownItem.{meant_by}
 use Rattle.multi_layout.proofs.FullLemmas.{laid_end, laid_stays}
 use Rattle.multi_layout.proofs.PieceLemmas.{read_tag}
 use Rattle.multi_layout.proofs.draw.lay_filled.Goals as goal

@@ -6,11 +6,11 @@ use Rattle.multi_meaning.specs.declared.place.Place.{Place}
 use Rattle.multi_layout.specs.declared.cursor.Cursor.{Cursor}
 use Rattle.multi_layout.specs.kept.AreaDrawing.{IsFilledBy}
 use Rattle.multi_layout.specs.kept.Cursors.{meant, spell_of}
-use Rattle.multi_layout.specs.kept.Run.{lengthened, line_in_force}
+use Rattle.multi_judge.specs.Run.{lengthened, line_in_force}
 use Rattle.multi_layout.proofs.AreaDrawLemmas.{filled_none, filled_then}
 use Rattle.multi_layout.proofs.BesideLemmas.{RunSoFar, has_cell, no_bracket, octet_stands, run_begins, run_more}
 use Rattle.multi_layout.proofs.DrawLemmas.{cell_height, rows_few}
-use Rattle.multi_layout.proofs.RunLemmas.{behind_stays}
+use Rattle.multi_judge.proofs.RunLemmas.{behind_stays}
 use Rattle.multi_layout.proofs.WalkLemmas.{same_octets, within_between}
 use Rattle.multi_layout.proofs.draw_run.draw_beside.Goals as goal
 

@@ -2,10 +2,10 @@ use Rattle.std.proofs.Common.{◌+◌, ◌^◌, ◌≤◌, refl, ap, ◌∙◌, 
 use Rattle.std.specs.List.{after_last}
 use Rattle.multi_meaning.specs.Address.{in_group, is_break}
 use Rattle.multi_meaning.proofs.GroupLemmas.{placing_group}
-use Rattle.multi_layout.specs.declared.area.Area.{Area}
-use Rattle.multi_layout.proofs.AreaSumLemmas.{group_of_own, own_line}
+use Rattle.multi_judge.specs.declared.area.Area.{Area}
+use Rattle.multi_judge.proofs.AreaSumLemmas.{group_of_own, own_line}
 use Rattle.multi_layout.proofs.KnownLinesLemmas.{behind_empty, known_later, last_known, last_room, nothing_left, pushed_low}
-use Rattle.multi_layout.proofs.TableLemmas.{open_entry}
+use Rattle.multi_judge.proofs.TableLemmas.{open_entry}
 use Rattle.multi_layout.proofs.read.end_group.Goals as goal
 
 pub of-requires-clause-narrow : goal.of-requires-clause-narrow

@@ -1,6 +1,6 @@
 use Rattle.std.proofs.Common.{◌==◌, not, subst}
 use Rattle.multi_layout.specs.kept.AreaReading.{IsNextRead, IsReadOf}
-use Rattle.multi_layout.specs.kept.KnownItem.{meant_by}
+use Rattle.multi_judge.specs.KnownItem.{meant_by}
 use Rattle.multi_layout.specs.kept.AreaDrawing.{next_group}
 use Rattle.multi_layout.proofs.AreaReadLemmas.{group_left, next_order, read_below, read_lines}
 use Rattle.multi_layout.proofs.read.pass_item.Goals as goal

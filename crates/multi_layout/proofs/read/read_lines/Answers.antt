@@ -1,13 +1,13 @@
 use Rattle.std.proofs.Common.{rules, ◌==◌, not, ◌≡◌, ◌+◌, ◌-◌, ◌*◌, ◌++◌, length, refl, sym, ap, subst, ◌∙◌, arith}
 use Rattle.std.specs.Prelude.{slice_get}
 use Rattle.multi_token.proofs.StepLemmas.{charged-zero, rises_then}
-use Rattle.multi_layout.specs.declared.item.KnownItem.TheVariants as known
+use Rattle.multi_judge.specs.declared.item.KnownItem.TheVariants as known
 use Rattle.multi_layout.specs.kept.AreaReading.{GoesOn}
 use Rattle.multi_layout.specs.kept.Cursors.{IsFirst, items_of}
 use Rattle.multi_layout.specs.kept.Settings.{item_steps}
 use Rattle.multi_layout.proofs.AreaLinesLemmas.{all_counted, area_ended, area_read, met_stays, no_more, none_ends, none_known, nothing_read, placed_in, read_on, setting_read, so_advances, so_met, so_next, so_read, steps_on, steps_set}
 use Rattle.multi_layout.proofs.AreaReadLemmas.{read_below, read_lines, read_ready, read_state}
-use Rattle.multi_layout.proofs.PassLemmas.{limited_of}
+use Rattle.multi_judge.proofs.PassLemmas.{limited_of}
 use Rattle.multi_layout.proofs.RunLinesLemmas.{gone_forward, gone_within, ready_state, went_on}
 use Rattle.multi_layout.proofs.WalkLemmas.{same_octets}
 use Rattle.multi_layout.proofs.read.read_lines.Goals as goal

@@ -2,7 +2,7 @@ use Rattle.std.proofs.Common.{ℕ, ◌^◌, ◌<◌, List, length, sym, subst}
 use Rattle.multi_token.specs.Counted.{Counted}
 use Rattle.sign_font.specs.Sign.{SignData}
 use Rattle.multi_meaning.specs.Verdict.{Accepted, IsCycle, IsVerdict}
-use Rattle.multi_layout.specs.kept.Judging.{IsTold}
+use Rattle.multi_layout.specs.kept.Told.{IsTold}
 use Rattle.multi_layout.proofs.verdict.check_with.Goals as goal
 
 -- what is told of an accepted string holds of the source that comes back

@@ -1,7 +1,8 @@
 use Rattle.std.proofs.Common.{ℕ, ◌==◌, [], not, subst, sym}
-use Rattle.multi_layout.specs.kept.Judging.{IsTold}
-use Rattle.multi_layout.specs.kept.State.{IsLimited, IsStateOf}
-use Rattle.multi_layout.proofs.PassLemmas.{pass_start, pass_told}
+use Rattle.multi_layout.specs.kept.Told.{IsTold}
+use Rattle.multi_judge.specs.State.{IsLimited, IsStateOf}
+use Rattle.multi_layout.proofs.ToldLemmas.{pass_told}
+use Rattle.multi_judge.proofs.PassLemmas.{pass_start}
 use Rattle.multi_layout.proofs.verdict.judge_all.Goals as goal
 
 pub judge_items-requires-clause-start : goal.judge_items-requires-clause-start

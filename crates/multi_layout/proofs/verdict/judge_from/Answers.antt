@@ -5,11 +5,11 @@ use Rattle.multi_token.specs.Tokens.{item_of}
 use Rattle.multi_token.proofs.StepLemmas.{charged-charged, rises_then}
 use Rattle.multi_meaning.specs.kept.ItemAt.{IsItemAt}
 use Rattle.multi_meaning.specs.Meaning.{Meaning, meaning}
-use Rattle.multi_layout.specs.kept.KnownItem.{meant_by}
-use Rattle.multi_layout.specs.kept.PassState.{IsPassOf}
+use Rattle.multi_judge.specs.KnownItem.{meant_by}
+use Rattle.multi_judge.specs.PassState.{IsPassOf}
 use Rattle.multi_layout.proofs.AtLemmas.{fault_refused, item_behind, item_offends, octet_behind, octet_offends}
 use Rattle.multi_layout.proofs.BesideLemmas.{no_bracket}
-use Rattle.multi_layout.proofs.PassLemmas.{pass_ready_here}
+use Rattle.multi_judge.proofs.PassLemmas.{pass_ready_here}
 use Rattle.multi_layout.proofs.verdict.judge_from.Goals as goal
 
 -- the steps of reading an item and of judging it

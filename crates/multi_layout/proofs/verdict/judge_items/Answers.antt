@@ -1,6 +1,6 @@
 use Rattle.std.proofs.Common.{◌==◌, not, subst}
-use Rattle.multi_layout.specs.kept.Judging.{IsAt}
-use Rattle.multi_layout.specs.kept.PassState.{IsPassOf}
+use Rattle.multi_judge.specs.Judging.{IsAt}
+use Rattle.multi_judge.specs.PassState.{IsPassOf}
 use Rattle.multi_layout.proofs.AtLemmas.{first_read}
 use Rattle.multi_layout.proofs.verdict.judge_items.Goals as goal
 

@@ -1,6 +1,6 @@
 use Rattle.std.proofs.Common.{◌-◌, ◌==◌, not, length}
-use Rattle.multi_layout.specs.kept.Judging.{IsAt}
-use Rattle.multi_layout.specs.kept.PassState.{IsPassOf}
+use Rattle.multi_judge.specs.Judging.{IsAt}
+use Rattle.multi_judge.specs.PassState.{IsPassOf}
 use Rattle.multi_layout.proofs.verdict.judge_items.Given as goal
 
 -- the items before this octet are judged

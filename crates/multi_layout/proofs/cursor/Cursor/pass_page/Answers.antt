@@ -2,7 +2,7 @@ use Rattle.std.proofs.Common.{rules, ℕ, ◌+◌, ◌-◌, ◌*◌, ◌++◌, �
 use Rattle.std.proofs.lemmas.Bool.{eq-eqb}
 use Rattle.multi_token.specs.Counted.{RisesBetween}
 use Rattle.multi_token.proofs.StepLemmas.{charged-zero, rises_more, rises_then}
-use Rattle.multi_layout.specs.declared.item.KnownItem.TheVariants as known
+use Rattle.multi_judge.specs.declared.item.KnownItem.TheVariants as known
 use Rattle.multi_layout.specs.kept.Passing.{IsTextPassed}
 use Rattle.multi_layout.proofs.LocateLemmas.{first_here, in_page, in_page_more, in_page_text, met_in, none_here, passed_last, passed_page, passes_here, passing_in, placed_here, set_here, stands, stands_there}
 use Rattle.multi_layout.proofs.SkipLemmas.{ready_there}

@@ -4,10 +4,10 @@ use Rattle.multi_tag.specs.declared.tag.Tag.TheVariants.{NewLine}
 use Rattle.multi_meaning.specs.Meaning.{Does, Meaning, has_place}
 use Rattle.multi_meaning.specs.Offence.{unsized_offence}
 use Rattle.multi_layout.specs.kept.Cursors.{meant}
-use Rattle.multi_layout.specs.kept.KnownItem.{meant_by}
-use Rattle.multi_layout.specs.kept.State.{IsStateOf}
-use Rattle.multi_layout.proofs.JudgedLemmas.{state-limits}
-use Rattle.multi_layout.proofs.PlacingLemmas.{break-accepted, break-free}
+use Rattle.multi_judge.specs.KnownItem.{meant_by}
+use Rattle.multi_judge.specs.State.{IsStateOf}
+use Rattle.multi_judge.proofs.JudgedLemmas.{state-limits}
+use Rattle.multi_judge.proofs.PlacingLemmas.{break-accepted, break-free}
 use Rattle.multi_layout.proofs.SkipLemmas.{tag_unplaced}
 use Rattle.multi_layout.proofs.WalkLemmas.{between_more, never_offends, ready_between}
 use Rattle.multi_layout.proofs.cursor.Cursor.pass_tag.Goals as goal

@@ -4,7 +4,7 @@ use Rattle.multi_meaning.specs.Codes.{code_of}
 use Rattle.multi_meaning.specs.Meaning.{Does, has_place}
 use Rattle.multi_meaning.specs.Offence.{unsized_offence}
 use Rattle.multi_meaning.proofs.UnplacedLemmas.{sized}
-use Rattle.multi_layout.specs.kept.KnownItem.{meant_by}
+use Rattle.multi_judge.specs.KnownItem.{meant_by}
 use Rattle.multi_layout.proofs.cursor.Cursor.skip_tag.Goals as goal
 
 pub unreachable-requires-in-Err : goal.unreachable-requires-in-Err

@@ -1,0 +1,37 @@
+-- The sums of an area at one more character, where lines are filled.
+use Rattle.std.proofs.Common.{◌≡◌, inl, inr, ℕ, ◌<◌, cond, List, [], ◌∷◌, ◌++◌, Option, Some, None, refl, sym, ap, ◌∙◌, arith}
+use Rattle.std.specs.Prelude.{nat_lt}
+use Rattle.std.specs.List.{after_last}
+use Rattle.std.proofs.lemmas.Bool.{cases_lt, le-ltb}
+use Rattle.multi_meaning.specs.Address.{Spot, in_group, is_break, lines_of}
+use Rattle.multi_meaning.specs.Filling.{filled}
+use Rattle.multi_meaning.specs.kept.Present.{IsFilledOn}
+use Rattle.multi_meaning.specs.Line.{height_of}
+use Rattle.multi_judge.specs.declared.area.Area.{Area}
+use Rattle.multi_judge.specs.declared.fill.Split.{Split}
+use Rattle.multi_judge.specs.FillSums.{split_sum}
+use Rattle.multi_judge.specs.Sums.{area_sum, area_sum_in, group_sum, height_before}
+use Rattle.multi_judge.proofs.AreaSumLemmas.{group_behind}
+
+-- an area whose present group is filled with one more character
+pub area_filled : (old new group : List Spot) (s : Spot) (just width : ℕ) → IsFilledOn just width group s old new
+    → (kept r : Area) → kept ≡ area_sum_in just old → r.present ≡ kept.present → r.top ≡ kept.top → r.middle ≡ kept.middle → r.group ≡ group_sum (filled (Some width) (group ++ s ∷ []))
+    → r ≡ area_sum new
+area_filled old new group s just width on kept r is present top middle own =
+    let other : (j : ℕ) → height_before just j old ≡ height_before just j new = λ j. elim (cases_lt j just) [
+      | inl less ↦ ap (λ l. cond (nat_lt j just) (height_of (lines_of l)) 0) (sym (on.others j (λ h. omega (arith, h))))
+      | inr most ↦ rw (le-ltb j just most) refl
+    ] in
+    let top' : r.top ≡ height_before just 2 new = top ∙ ap (λ (a : Area). a.top) is ∙ other 2 in
+    let middle' : r.middle ≡ height_before just 3 new = middle ∙ ap (λ (a : Area). a.middle) is ∙ other 3 in
+    let present' : r.present ≡ just = present ∙ ap (λ (a : Area). a.present) is in
+    let group' : r.group ≡ group_sum (in_group just new) = own ∙ ap group_sum (sym on.after) in
+    let whole : r ≡ area_sum_in just new = rw (← top', ← middle', ← group', ← present') refl in
+    whole ∙ ap (λ n. area_sum_in n new) (sym on.last)
+
+-- a group behind the present one has no line yet
+pub nothing_yet : (old group : List Spot) (just width : ℕ) → in_group just old ≡ filled (Some width) group → (a : Area) → a ≡ area_sum old → a.present < just
+    → ◌≡◌ {A = Option Split} None (split_sum (after_last is_break (filled (Some width) group)))
+nothing_yet old group just width before a e later =
+    let none : filled (Some width) group ≡ [] = sym before ∙ group_behind just old (omega (arith, ap (λ (a : Area). a.present) e, later)) in
+    ap (λ l. split_sum (after_last is_break l)) (sym none)

@@ -1,0 +1,33 @@
+-- Bounds on the sums that are kept: what is below one is below a larger one.
+use Rattle.std.proofs.Common.{ℕ, ◌≤◌, Option, Some, None, arith}
+use Rattle.multi_judge.specs.declared.area.Area.{Area}
+use Rattle.multi_judge.specs.declared.area.Group.{Group}
+use Rattle.multi_judge.specs.declared.fill.Split.{Split}
+use Rattle.multi_judge.specs.declared.line.Line.{Line}
+use Rattle.multi_judge.specs.declared.line.Segment.{Segment}
+use Rattle.multi_judge.specs.FillSums.{IsSplitBelow}
+use Rattle.multi_judge.specs.Sums.{IsBelow, IsGroupBelow, IsLineBelow, IsSegmentBelow}
+
+segment_more : (k m : ℕ) (segment : Segment) → k ≤ m → IsSegmentBelow k segment → IsSegmentBelow m segment
+segment_more k m segment h b = record { width = omega (arith, b.width); count = omega (arith, b.count) }
+
+pub line_more : (k m : ℕ) (line : Line) → k ≤ m → IsLineBelow k line → IsLineBelow m line
+line_more k m line h b = record {
+  left = omega (arith, b.left);
+  centre = omega (arith, b.centre);
+  right = omega (arith, b.right);
+  part = segment_more k m line.part h b.part;
+  known = b.known;
+}
+
+pub group_more : (k m : ℕ) (group : Group) → k ≤ m → IsGroupBelow k group → IsGroupBelow m group
+group_more k m group h b = record { ended = omega (arith, b.ended); closed = omega (arith, b.closed); line = line_more k m group.line h b.line }
+
+-- what is below a bound is below a larger one
+pub below_more : (k m : ℕ) (area : Area) → k ≤ m → IsBelow k area → IsBelow m area
+below_more k m area h b = record { top = omega (arith, h, b.top); middle = omega (arith, h, b.middle); group = group_more k m area.group h b.group; known = b.known; some = b.some; bare = b.bare; empty = b.empty }
+
+-- and so are the parts of a line
+pub split_more : (k m : ℕ) (o : Option Split) → k ≤ m → IsSplitBelow k o → IsSplitBelow m o
+split_more k m None h b = b
+split_more k m (Some split) h b = (line_more k m split.before h b.0, line_more k m split.behind h b.1)

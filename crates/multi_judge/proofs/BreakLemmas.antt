@@ -1,0 +1,30 @@
+-- The sums of a group whose present line is another.
+use Rattle.std.proofs.Common.{◌≡◌, true, List, [], ◌∷◌, ◌++◌, sym, ap, ◌∙◌}
+use Rattle.std.specs.List.{after_last, AllPass}
+use Rattle.std.proofs.lemmas.List.Elements.{All-cons, All-append}
+use Rattle.multi_meaning.specs.Address.{Spot, is_break, is_glyph}
+use Rattle.multi_meaning.proofs.BehindLemmas.{after_last_is, cut_if}
+use Rattle.multi_meaning.proofs.CutLemmas.{Cut, cut, cut_push}
+use Rattle.multi_meaning.proofs.LaidLemmas.{cut_with}
+use Rattle.multi_judge.specs.declared.area.Group.{Group}
+use Rattle.multi_judge.specs.Sums.{group_sum, line_sum}
+use Rattle.multi_judge.proofs.GroupSumLemmas.{cut_sums, sums_are}
+
+-- characters, a character and characters are characters
+pub all_glyphs : (before : List Spot) (x : Spot) (behind : List Spot) → AllPass is_glyph before → is_glyph x ≡ true → AllPass is_glyph behind → AllPass is_glyph (before ++ x ∷ behind)
+all_glyphs before x behind h e k = All-append (λ x. is_glyph x ≡ true) before (x ∷ behind) h (All-cons (λ x. is_glyph x ≡ true) x behind e k)
+
+-- nothing stands behind what ends a line
+pub none_behind : (group : List Spot) (b : Spot) → is_break b ≡ true → after_last is_break (group ++ b ∷ []) ≡ []
+none_behind group b e =
+    after_last_is is_break (group ++ b ∷ [])
+    ∙ ap (λ (c : Cut Spot). c.open') (cut_push is_break group b ∙ ap (λ t. cut_if is_break t (cut is_break group) b) e)
+
+-- a group whose present line is empty, with characters behind it
+pub relined : (front line : List Spot) → after_last is_break front ≡ [] → AllPass is_glyph line → ◌≡◌ {A = Group} (record (group_sum front) { line = line_sum line }) (group_sum (front ++ line))
+relined front line none glyphs =
+    let empty : (cut is_break front).open' ≡ [] = sym (after_last_is is_break front) ∙ none in
+    ap (λ (g : Group). let k : Group = record g { line = line_sum line } in k) (sums_are front)
+    ∙ ap (λ l. let c : Cut Spot = record { closed = (cut is_break front).closed; open' = l ++ line } in cut_sums c) (sym empty)
+    ∙ ap cut_sums (sym (cut_with line front glyphs))
+    ∙ sym (sums_are (front ++ line))

@@ -1,0 +1,190 @@
+-- What is kept behind one more tag, where lines are filled.
+use Rattle.std.proofs.Common.{◌≡◌, ℕ, ◌*◌, ◌≤◌, true, false, inl, inr, List, [], ◌∷◌, ◌++◌, length, Option, Some, None, Result, Ok, Err, refl, sym, ap, subst, ◌∙◌, arith, append-nil}
+use Rattle.std.specs.List.{after_last}
+use Rattle.std.specs.Option.{unwrap_or}
+use Rattle.std.proofs.lemmas.Bool.{cases_eq}
+use Rattle.std.proofs.lemmas.List.{length-append}
+use Rattle.multi_tag.specs.declared.tag.Tag.{Tag}
+use Rattle.multi_tag.specs.declared.tag.Tag.TheVariants.{NewPage, NewLine, Back, Rect}
+use Rattle.sign_font.specs.declared.parts.LineFill.{LineFill}
+use Rattle.sign_font.specs.declared.parts.LineFill.TheVariants.{Off, Words}
+use Rattle.sign_font.specs.Sign.{SignData}
+use Rattle.multi_meaning.specs.declared.fault.SyntaxError.{SyntaxError}
+use Rattle.multi_meaning.specs.Address.{Break, Cover, Spot, Standing, in_area, in_group, is_break, spots, standing}
+use Rattle.multi_meaning.specs.Filling.{filled}
+use Rattle.multi_meaning.specs.Fit.{line_fits}
+use Rattle.multi_meaning.specs.Laid.{too_big}
+use Rattle.multi_meaning.specs.LaidItems.{laid_items}
+use Rattle.multi_meaning.specs.Meaning.{Meaning, Does}
+use Rattle.multi_meaning.specs.Offence.{conflicts, offence}
+use Rattle.multi_meaning.specs.kept.Present.{present_area, standing_behind}
+use Rattle.multi_meaning.specs.Words.{largest}
+use Rattle.multi_meaning.proofs.GroupLemmas.{in_group_other, own_group, placing_group, area_placing}
+use Rattle.multi_meaning.proofs.FillLemmas.{nothing_fits}
+use Rattle.multi_meaning.proofs.FilledOnLemmas.{largest_laid}
+use Rattle.multi_meaning.proofs.FilledTagLemmas.{offends_as_laid}
+use Rattle.multi_meaning.proofs.LaidItemLemmas.{are_laid}
+use Rattle.multi_meaning.proofs.LaidLemmas.{filled_break}
+use Rattle.multi_meaning.proofs.LaidTagLemmas.{laid_tag}
+use Rattle.multi_meaning.proofs.OffenceLemmas.{offence-break}
+use Rattle.multi_meaning.proofs.UnplacedLemmas.{no_conflict}
+use Rattle.multi_meaning.proofs.StandingLemmas.{standing_push}
+use Rattle.multi_meaning.proofs.StateLemmas.{present_area-cover, present_area-new, present_area-nothing, present_area-placing}
+use Rattle.multi_meaning.proofs.BehindLemmas.{after_last_push}
+use Rattle.multi_meaning.proofs.WordLemmas.{largest_push}
+use Rattle.multi_judge.specs.declared.area.Area.{Area}
+use Rattle.multi_judge.specs.declared.pass.Pass.{Pass}
+use Rattle.multi_judge.specs.declared.state.State.{State}
+use Rattle.multi_judge.specs.FilledState.{IsFilledOf, begins_line}
+use Rattle.multi_judge.specs.FillSums.{order_sum, split_sum}
+use Rattle.multi_judge.specs.PassState.{IsItemJudged}
+use Rattle.multi_judge.specs.State.{IsJudged, IsStateOf}
+use Rattle.multi_judge.proofs.AreaSumLemmas.{no_back}
+use Rattle.multi_judge.proofs.BoundLemmas.{split_more}
+
+-- the group that is present is the last one of the items, whether they are laid out or not
+pub present_laid : (sign : SignData) (items : List Meaning) (state : State) → IsStateOf sign (laid_items Words sign items items) state
+    → state.area.present ≡ largest (λ (t : Spot). t.at.page_just) (present_area sign items)
+present_laid sign items state st =
+    let all = spots sign items in
+    let (here, are) = are_laid Words sign items items [] (sym (append-nil items)) in
+    ap (λ (a : Area). a.present) st.area ∙ (λ i. largest (λ (t : Spot). t.at.page_just) (in_area (here i).area (are i)))
+    ∙ largest_laid Words (standing sign items).rectangle.width (standing sign items).area all all [] (sym (append-nil all))
+
+module _ (sign : SignData) (items : List Meaning) (kept : Pass) (of : IsFilledOf sign items kept) (tag : Tag) (state : State)
+    (st : IsStateOf sign (laid_items Words sign items items ++ Does tag ∷ []) state) where
+  abbrev more : List Meaning
+  more = items ++ Does tag ∷ []
+
+  laid_state : IsStateOf sign (laid_items Words sign more more) state
+  laid_state = subst (λ l. IsStateOf sign l state) (sym (laid_tag Words sign items tag)) st
+
+  count : 1024 * length items ≤ 1024 * length more
+  count = omega (arith, length-append items (Does tag ∷ []))
+
+  -- the present area stays
+  stays : present_area sign more ≡ present_area sign items → (standing sign more).rectangle.width ≡ (standing sign items).rectangle.width
+      → IsFilledOf sign more (record { state = state; split = kept.split; order = kept.order })
+  stays area width =
+      let present : state.area.present ≡ kept.state.area.present =
+      present_laid sign more state laid_state ∙ ap (largest (λ (t : Spot). t.at.page_just)) area ∙ sym (present_laid sign items kept.state of.state_is) in
+      record {
+        state_is = laid_state;
+        split_is = of.split_is ∙ sym (λ i. split_sum (after_last is_break (filled (Some (width i)) (in_group (present i) (area i)))));
+        order_is = of.order_is ∙ sym (λ i. order_sum (after_last is_break (in_group (present i) (area i))));
+        split_below = split_more (1024 * length items) (1024 * length more) kept.split count of.split_below;
+        fits = λ j. (λ i. line_fits (width i) (after_last is_break (filled (Some (width i)) (in_group j (area i))))) ∙ of.fits j;
+      }
+
+  -- an area begins
+  begins : present_area sign more ≡ [] → IsFilledOf sign more (record { state = state; split = None; order = order_sum [] })
+  begins area = record {
+    state_is = laid_state;
+    split_is = sym (ap (λ l. split_sum (after_last is_break (filled (Some (standing sign more).rectangle.width) (in_group state.area.present l)))) area);
+    order_is = sym (ap (λ l. order_sum (after_last is_break (in_group state.area.present l))) area);
+    split_below = tt;
+    fits = λ j. ap (λ l. line_fits (standing sign more).rectangle.width (after_last is_break (filled (Some (standing sign more).rectangle.width) (in_group j l)))) area ∙ nothing_fits (standing sign more).rectangle.width;
+  }
+
+-- a line ends
+module _ (sign : SignData) (items : List Meaning) (kept : Pass) (of : IsFilledOf sign items kept) (gap : Option ℕ) (fine : offence Off sign (laid_items Words sign items items) (Does (NewLine gap)) ≡ None)
+    (state : State) (st : IsStateOf sign (laid_items Words sign items items ++ Does (NewLine gap) ∷ []) state) where
+  abbrev nl : Spot
+  nl = record { at = standing sign items; put = Break gap }
+
+  abbrev behind : List Meaning
+  behind = items ++ Does (NewLine gap) ∷ []
+
+  order : kept.state.area.present ≤ nl.at.page_just
+  order =
+      let laid = laid_items Words sign items items in
+      let s : Spot = record { at = standing sign laid; put = Break gap } in
+      let free = no_conflict (conflicts (spots sign laid) s) (too_big Off (spots sign laid) s) (sym (offence-break (too_big Off) sign laid gap) ∙ fine) in
+      let here = ap (λ (t : Standing). t.page_just) (are_laid Words sign items items [] (sym (append-nil items))).0 in
+      omega (arith, here, no_back (spots sign laid) s s.at.page_just kept.state.area.present refl (ap (λ (a : Area). a.present) of.state_is.area) free)
+
+  area_is : present_area sign behind ≡ present_area sign items ++ nl ∷ []
+  area_is = present_area-placing sign items (Does (NewLine gap)) (Break gap) refl refl refl
+
+  present : state.area.present ≡ nl.at.page_just
+  present =
+      omega (
+        arith,
+        order,
+        present_laid sign items kept.state of.state_is,
+        largest_push (λ t. t.at.page_just) (present_area sign items) nl,
+        present_laid sign behind state (laid_state sign items kept of (NewLine gap) state st) ∙ ap (largest (λ (t : Spot). t.at.page_just)) area_is,
+      )
+
+  width : (standing sign behind).rectangle.width ≡ nl.at.rectangle.width
+  width = ap (λ (t : Standing). t.rectangle.width) (standing_push sign items (Does (NewLine gap)))
+
+  own : in_group nl.at.page_just (present_area sign behind) ≡ in_group nl.at.page_just (present_area sign items) ++ nl ∷ []
+  own = ap (in_group nl.at.page_just) area_is ∙ own_group nl.at.page_just (present_area sign items) nl refl
+
+  -- nothing stands on the line behind it
+  hard : after_last is_break (in_group nl.at.page_just (present_area sign behind)) ≡ []
+  hard = ap (after_last is_break) own ∙ after_last_push is_break (in_group nl.at.page_just (present_area sign items)) nl
+
+  soft : after_last is_break (filled (Some (standing sign behind).rectangle.width) (in_group nl.at.page_just (present_area sign behind))) ≡ []
+  soft =
+      let group = in_group nl.at.page_just (present_area sign items) in
+      (λ i. after_last is_break (filled (Some (width i)) (own i)))
+      ∙ ap (after_last is_break) (filled_break nl.at.rectangle.width group nl (placing_group nl.at.page_just (present_area sign items) (area_placing (spots sign items) nl)) refl)
+      ∙ after_last_push is_break (filled (Some nl.at.rectangle.width) group) nl
+
+  ends : IsFilledOf sign behind (record { state = state; split = None; order = order_sum [] })
+  ends = record {
+    state_is = laid_state sign items kept of (NewLine gap) state st;
+    split_is = sym (ap (λ j. split_sum (after_last is_break (filled (Some (standing sign behind).rectangle.width) (in_group j (present_area sign behind))))) present ∙ ap split_sum soft);
+    order_is = sym (ap (λ j. order_sum (after_last is_break (in_group j (present_area sign behind)))) present ∙ ap order_sum hard);
+    split_below = tt;
+    fits = λ j. elim (cases_eq nl.at.page_just j) [
+      | inl same ↦
+          ap (λ j. line_fits (standing sign behind).rectangle.width (after_last is_break (filled (Some (standing sign behind).rectangle.width) (in_group j (present_area sign behind))))) (sym same)
+          ∙ ap (line_fits (standing sign behind).rectangle.width) soft ∙ nothing_fits (standing sign behind).rectangle.width
+      | inr differ ↦
+          (λ i. line_fits (width i) (after_last is_break (filled (Some (width i)) ((ap (in_group j) area_is ∙ in_group_other j (present_area sign items) nl differ) i)))) ∙ of.fits j
+    ];
+  }
+
+-- what is kept behind a tag that is judged behind the items as they are laid out
+module _ (sign : SignData) (items : List Meaning) (kept : Pass) (of : IsFilledOf sign items kept) where
+  abbrev laid : List Meaning
+  laid = laid_items Words sign items items
+
+  width_stays : (tag : Tag) → begins_line tag ≡ false → (standing sign (items ++ Does tag ∷ [])).rectangle.width ≡ (standing sign items).rectangle.width
+  width_stays tag e = ap (λ (t : Standing). t.rectangle.width) (standing_push sign items (Does tag)) ∙ of_tag tag e
+    where
+      of_tag : (tag : Tag) → begins_line tag ≡ false → (standing_behind sign (standing sign items) (Does tag)).rectangle.width ≡ (standing sign items).rectangle.width
+      of_tag NewPage e = cc
+      of_tag (NewLine gap) e = cc
+      of_tag (Rect x y w h) e = cc
+      of_tag tag e = refl
+
+  area_stays : (tag : Tag) → begins_line tag ≡ false → present_area sign (items ++ Does tag ∷ []) ≡ present_area sign items
+  area_stays NewPage e = cc
+  area_stays (NewLine gap) e = cc
+  area_stays (Rect x y w h) e = cc
+  area_stays (Back colour) e = present_area-cover sign items (Does (Back colour)) (Cover (standing sign items).page (unwrap_or colour sign.defaults.back)) refl refl refl
+  area_stays tag e = present_area-nothing sign items (Does tag) refl refl
+
+  as_laid : sign.line_fill ≡ Words → (tag : Tag) → offence sign.line_fill sign items (Does tag) ≡ offence Off sign laid (Does tag)
+  as_laid words tag = ap (λ (setting : LineFill). offence setting sign items (Does tag)) words ∙ offends_as_laid sign items tag
+
+  pub judged-stays : sign.line_fill ≡ Words → (tag : Tag) (result : Result (Unit {0}) SyntaxError) (state : State) → begins_line tag ≡ false → IsJudged sign laid (Does tag) result state
+      → IsItemJudged true sign items (Does tag) result (record { state = state; split = kept.split; order = kept.order })
+  judged-stays words tag (Err error) state e j = as_laid words tag ∙ j
+  judged-stays words tag (Ok done) state e j = (as_laid words tag ∙ j.0, record { words = words; of = stays sign items kept of tag state j.1 (area_stays tag e) (width_stays tag e) })
+
+  begins_of : (tag : Tag) (state : State) → begins_line tag ≡ true → offence Off sign laid (Does tag) ≡ None → IsStateOf sign (laid ++ Does tag ∷ []) state
+      → IsFilledOf sign (items ++ Does tag ∷ []) (record { state = state; split = None; order = order_sum [] })
+  begins_of NewPage state e fine st = begins sign items kept of NewPage state st (present_area-new sign items (Does NewPage) refl)
+  begins_of (NewLine gap) state e fine st = ends sign items kept of gap fine state st
+  begins_of (Rect x y w h) state e fine st = begins sign items kept of (Rect x y w h) state st (present_area-new sign items (Does (Rect x y w h)) refl)
+  begins_of tag state e fine st = cc
+
+  pub judged-begins : sign.line_fill ≡ Words → (tag : Tag) (result : Result (Unit {0}) SyntaxError) (state : State) → begins_line tag ≡ true → IsJudged sign laid (Does tag) result state
+      → IsItemJudged true sign items (Does tag) result (record { state = state; split = None; order = order_sum [] })
+  judged-begins words tag (Err error) state e j = as_laid words tag ∙ j
+  judged-begins words tag (Ok done) state e j = (as_laid words tag ∙ j.0, record { words = words; of = begins_of tag state e j.0 j.1 })

@@ -1,0 +1,149 @@
+-- One more character is judged where lines are filled, by what is kept of the items before it.
+use Rattle.std.proofs.Common.{◌≡◌, ℕ, Bool, true, false, cond, not, ◌&&◌, ◌||◌, ◌==◌, nat_lt, List, [], ◌∷◌, ◌++◌, Option, Some, None, refl, sym, ap, subst, ◌∙◌, append-nil}
+use Rattle.std.specs.List.{All, after_last, list_any}
+use Rattle.sign_font.specs.declared.parts.LineFill.TheVariants.{Words}
+use Rattle.sign_font.specs.Cell.{SizedCell}
+use Rattle.sign_font.specs.Sign.{SignData, CellData, cell_in, cell_numbered}
+use Rattle.multi_meaning.specs.Address.{Glyph, Spot, Standing, area_of, group_of, in_group, is_break, spots, standing}
+use Rattle.multi_meaning.specs.Filling.{filled, is_space}
+use Rattle.multi_meaning.specs.Fit.{area_fits, line_fits}
+use Rattle.multi_meaning.specs.LaidItems.{laid_items}
+use Rattle.multi_meaning.specs.Meaning.{Meaning, Shows}
+use Rattle.multi_meaning.specs.Offence.{clashes, conflicts, first_code, never_big, offence, unsized_offence}
+use Rattle.multi_meaning.specs.kept.Present.{present_area, IsPlacing}
+use Rattle.multi_meaning.proofs.GroupLemmas.{area_placing, placing_group}
+use Rattle.multi_meaning.proofs.LaidItemLemmas.{are_laid}
+use Rattle.multi_meaning.proofs.OffenceLemmas.{offence-character}
+use Rattle.multi_judge.specs.declared.area.Area.{Area}
+use Rattle.multi_judge.specs.declared.fill.Split.{Split}
+use Rattle.multi_judge.specs.declared.line.Character.{Character}
+use Rattle.multi_judge.specs.declared.line.Line.{Line}
+use Rattle.multi_judge.specs.declared.attributes.Attributes.{Attributes}
+use Rattle.multi_judge.specs.declared.pass.Pass.{Pass}
+use Rattle.multi_judge.specs.FillSums.{EndsLine, FillsArea, order_sum, split_sum}
+use Rattle.multi_judge.specs.FilledState.{IsFilledOf}
+use Rattle.multi_judge.specs.State.{attributes_of}
+use Rattle.multi_judge.specs.Sums.{IsCharacter, area_sum, line_sum}
+use Rattle.multi_judge.proofs.AreaSumLemmas.{both_fit, no_back, no_clash}
+use Rattle.multi_judge.proofs.FilledCharacterLemmas.{area_with, conflicts_by, doesn't_fit, goes_behind, offends_by, offends_without, present_is, shown}
+use Rattle.multi_judge.proofs.FilledOrderLemmas.{no_clash_filled}
+use Rattle.multi_judge.proofs.JudgedLemmas.{cell_found, cell_missing}
+
+not_not : (a b : Bool) → not a ≡ not b → a ≡ b
+not_not true true e = refl
+not_not true false e = sym e
+not_not false true e = sym e
+not_not false false e = refl
+
+size_by : (fits big : Bool) → fits ≡ not big → first_code ((false, 11) ∷ (big, 5) ∷ []) ≡ cond fits None (Some 5)
+size_by true true e = cc
+size_by true false e = refl
+size_by false true e = refl
+size_by false false e = cc
+
+module _ (sign : SignData) (items : List Meaning) (kept : Pass) (of : IsFilledOf sign items kept) where
+  -- the next item stands where it does among the items as they are laid out
+  here : standing sign (laid_items Words sign items items) ≡ standing sign items
+  here = (are_laid Words sign items items [] (sym (append-nil items))).0
+
+  pub attributes_here : kept.state.attributes ≡ attributes_of (standing sign items)
+  attributes_here = of.state_is.attributes ∙ ap attributes_of here
+
+  -- its cell is one of the font in force
+  pub found_here : (number : ℕ) (c : SizedCell) → cell_in sign kept.state.attributes.font.number number ≡ Some c
+      → (cell : CellData) × (cell_numbered (standing sign items).font number ≡ Some cell) × (c.width ≡ cell.width)
+  found_here number c some =
+      let (cell, found, width) = cell_found sign (laid_items Words sign items items) kept.state of.state_is number c some in
+      (cell, ap (λ (s : Standing). cell_numbered s.font number) (sym here) ∙ found, width)
+
+  -- it has none
+  pub filled_undefined : (number : ℕ) → cell_in sign kept.state.attributes.font.number number ≡ None → offence Words sign items (Shows number) ≡ Some 7
+  filled_undefined number none =
+      let without = cell_missing sign (laid_items Words sign items items) kept.state of.state_is number none in
+      offends_without sign items number (ap (λ (s : Standing). cell_numbered s.font number) (sym here) ∙ without)
+
+  module _ (number : ℕ) (c : SizedCell) (some : cell_in sign kept.state.attributes.font.number number ≡ Some c) (clash : Bool)
+      (clashing : (line : List Spot) (s : Spot) → kept.order ≡ order_sum line → s.at.line_just ≡ kept.state.attributes.line_just → clash ≡ list_any (clashes s) line) where
+    -- whether it conflicts is told by what is kept
+    pub conflict_is : (cell : CellData) (found : cell_numbered (standing sign items).font number ≡ Some cell) → conflicts (spots sign items) (shown sign items number cell found)
+        ≡ (nat_lt kept.state.attributes.page_just kept.state.area.present || ((kept.state.attributes.page_just == kept.state.area.present) && clash))
+    conflict_is cell found =
+        sym (conflicts_by sign items number cell found kept.state of.state_is clash (clashing _ (shown sign items number cell found) of.order_is (sym (ap (λ (a : Attributes). a.line_just) attributes_here))))
+        ∙ ap (λ j. nat_lt j kept.state.area.present || ((j == kept.state.area.present) && clash)) (sym (ap (λ (a : Attributes). a.page_just) attributes_here))
+
+    -- it conflicts with what is before it
+    pub filled_conflict : (nat_lt kept.state.attributes.page_just kept.state.area.present || ((kept.state.attributes.page_just == kept.state.area.present) && clash)) ≡ true
+        → offence Words sign items (Shows number) ≡ Some 11
+    filled_conflict is =
+        let (cell, found, width) = found_here number c some in
+        offends_by sign items number cell found ∙ ap (λ b. first_code ((b, 11) ∷ (doesn't_fit sign items number cell found, 5) ∷ [])) (conflict_is cell found ∙ is)
+
+    -- or it doesn't
+    pub filled_free : (nat_lt kept.state.attributes.page_just kept.state.area.present || ((kept.state.attributes.page_just == kept.state.area.present) && clash)) ≡ false
+        → unsized_offence sign items (Shows number) ≡ None
+    filled_free is =
+        let (cell, found, width) = found_here number c some in
+        offence-character never_big sign items number cell found ∙ ap {B = Option ℕ} (λ b. cond b (Some 11) None) (conflict_is cell found ∙ is)
+
+  module _ (number : ℕ) (c : SizedCell) (some : cell_in sign kept.state.attributes.font.number number ≡ Some c) where
+    -- what is read of it is what it is
+    pub shown_character : (cell : CellData) (found : cell_numbered (standing sign items).font number ≡ Some cell) → c.width ≡ cell.width
+        → (character : Character) → character.just ≡ kept.state.attributes.line_just → character.spacing ≡ kept.state.attributes.spacing → character.width ≡ c.width → character.font ≡ kept.state.attributes.font
+        → IsCharacter (shown sign items number cell found) character
+    shown_character cell found width character just spacing wide font = record {
+      glyph = refl;
+      just = just ∙ ap (λ (a : Attributes). a.line_just) attributes_here;
+      spacing = spacing ∙ ap (λ (a : Attributes). a.spacing) attributes_here;
+      width = wide ∙ width;
+      font = font ∙ ap (λ (a : Attributes). a.font) attributes_here;
+    }
+
+    -- what `Area::fill_character` says of the area and the split behind it, by its page justification and the width of its rectangle
+    abbrev pub Fills : Character → Bool → Area → Option Split → Option Line → ℕ → ℕ → Type 0
+    Fills character space area' split' ended just width = FillsArea just width kept.state.area kept.split character space area' split' ended
+
+    module _ (cell : CellData) (found : cell_numbered (standing sign items).font number ≡ Some cell) (apart : conflicts (spots sign items) (shown sign items number cell found) ≡ false)
+        (character : Character) (is : IsCharacter (shown sign items number cell found) character) (space : Bool) (spaces : is_space (shown sign items number cell found) ≡ space)
+        (area' : Area) (split' : Option Split) (ended : Option Line) (fills : Fills character space area' split' ended kept.state.attributes.page_just kept.state.attributes.rectangle.width) where
+      pub filled_grown : (area' ≡ area_sum (area_with sign items number cell found))
+          × (split' ≡ split_sum (after_last is_break (filled (Some (standing sign items).rectangle.width) (group_of (shown sign items number cell found) (spots sign items) ++ shown sign items number cell found ∷ []))))
+          × EndsLine (filled (Some (standing sign items).rectangle.width) (group_of (shown sign items number cell found) (spots sign items)))
+          (filled (Some (standing sign items).rectangle.width) (group_of (shown sign items number cell found) (spots sign items) ++ shown sign items number cell found ∷ [])) ended
+      filled_grown =
+          let all = spots sign items in
+          let s : Spot = shown sign items number cell found in
+          let laid = laid_items Words sign items items in
+          let behind : Spot = record { at = standing sign laid; put = Glyph cell } in
+          let placing = placing_group s.at.page_just (area_of s all) (area_placing all s) in
+          let fills' : Fills character space area' split' ended s.at.page_just s.at.rectangle.width = subst (λ (a : Attributes). Fills character space area' split' ended a.page_just a.rectangle.width) attributes_here fills in
+          fills' (present_area sign laid) (area_with sign items number cell found) (group_of s all) s
+          (area_placing (spots sign laid) behind) placing of.state_is.area
+          (no_back all s s.at.page_just kept.state.area.present refl (present_is sign items number cell found kept.state of.state_is) apart)
+          (goes_behind sign items number cell found apart) is spaces (of.fits s.at.page_just)
+          (no_clash_filled s.at.rectangle.width (group_of s all) s placing (no_clash all s s.at.page_just refl refl apart))
+          (λ e. of.split_is ∙ ap (λ j. split_sum (after_last is_break (filled (Some s.at.rectangle.width) (in_group j (present_area sign items))))) e)
+
+      module _ (f h : Bool) (line : (l : List Spot) → area'.group.line ≡ line_sum l → f ≡ line_fits kept.state.attributes.rectangle.width l)
+          (height : (l : List Spot) → All IsPlacing l → area' ≡ area_sum l → h ≡ area_fits kept.state.attributes.rectangle.height l) where
+        fits_is : (f && h) ≡ not (doesn't_fit sign items number cell found)
+        fits_is =
+            let s : Spot = shown sign items number cell found in
+            let more = laid_items Words sign (items ++ Shows number ∷ []) (items ++ Shows number ∷ []) in
+            let new = area_with sign items number cell found in
+            let sum = filled_grown.0 in
+            let line_is : area'.group.line ≡ line_sum (after_last is_break (in_group s.at.page_just new)) =
+            ap (λ (a : Area). a.group.line) sum ∙ ap (λ j. line_sum (after_last is_break (in_group j new))) (goes_behind sign items number cell found apart).last in
+            let last : Spot = record { at = standing sign more; put = Glyph cell } in
+            let wide = line (after_last is_break (in_group s.at.page_just new)) line_is ∙ ap (λ (a : Attributes). line_fits a.rectangle.width (after_last is_break (in_group s.at.page_just new))) attributes_here in
+            let high = height new (area_placing (spots sign more) last) sum ∙ ap (λ (a : Attributes). area_fits a.rectangle.height new) attributes_here in
+            (λ i. wide i && high i) ∙ both_fit (line_fits s.at.rectangle.width (after_last is_break (in_group s.at.page_just new))) (area_fits s.at.rectangle.height new)
+
+        -- so its size is told
+        pub filled_size : offence Words sign items (Shows number) ≡ cond (f && h) None (Some 5)
+        filled_size =
+            offends_by sign items number cell found
+            ∙ ap (λ b. first_code ((b, 11) ∷ (doesn't_fit sign items number cell found, 5) ∷ [])) apart
+            ∙ size_by (f && h) (doesn't_fit sign items number cell found) fits_is
+
+        pub filled_fit : (f && h) ≡ true → doesn't_fit sign items number cell found ≡ false
+        filled_fit is = not_not (doesn't_fit sign items number cell found) false (sym fits_is ∙ is)

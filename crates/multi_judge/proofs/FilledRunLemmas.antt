@@ -1,0 +1,215 @@
+-- A character with the attributes of the one before it, where lines are filled: it only lengthens what is kept.
+use Rattle.std.proofs.Common.{◌≡◌, ℕ, ◌+◌, ◌-◌, ◌*◌, ◌^◌, ◌<◌, ◌≤◌, Bool, true, false, cond, ◌&&◌, ◌||◌, ◌==◌, List, [], ◌∷◌, ◌++◌, length, map, slice_get, Option, Some, None, refl, sym, ap, subst, ◌∙◌, arith}
+use Rattle.std.specs.Prelude.{nat_lt}
+use Rattle.std.specs.List.{AllPass, after_last, list_any}
+use Rattle.std.specs.Option.{option_map, unwrap_or}
+use Rattle.std.proofs.lemmas.Bool.{and_from, and_right, eq-eqb, false≢true, le-leb, le-ltb}
+use Rattle.std.proofs.lemmas.List.Elements.{All-head, All-nil}
+use Rattle.multi_token.specs.declared.token.Token.{Token}
+use Rattle.multi_token.specs.declared.token.Kind.TheVariants as kinds
+use Rattle.multi_token.specs.Spelling.{IsPlain}
+use Rattle.multi_token.proofs.PlaceLemmas.{single_token}
+use Rattle.sign_font.specs.Cell.{SizedCell}
+use Rattle.sign_font.specs.Sign.{SignData, cell_in}
+use Rattle.multi_meaning.specs.Address.{Spot, is_break, is_glyph}
+use Rattle.multi_meaning.specs.Filling.{filled, is_space}
+use Rattle.multi_meaning.specs.Fit.{line_fits}
+use Rattle.multi_meaning.specs.Meaning.{meaning}
+use Rattle.multi_meaning.specs.Offence.{clashes}
+use Rattle.multi_judge.specs.declared.area.Area.{Area}
+use Rattle.multi_judge.specs.declared.attributes.Attributes.{Attributes}
+use Rattle.multi_judge.specs.declared.fill.Split.{Split}
+use Rattle.multi_judge.specs.declared.pass.Pass.{Pass}
+use Rattle.multi_judge.specs.declared.line.Character.{Character}
+use Rattle.multi_judge.specs.declared.line.Line.{Line}
+use Rattle.multi_judge.specs.declared.line.Segment.{Segment}
+use Rattle.multi_judge.specs.FilledRun.{GoesOnBehind, IsFilledRun, even_line, longer_line, with_run, with_run_behind}
+use Rattle.multi_judge.specs.FilledState.{IsFilledFor}
+use Rattle.multi_judge.specs.FillSums.{FillsArea, IsSplitBelow, split_sum}
+use Rattle.multi_judge.specs.Judging.{ReadSoFar}
+use Rattle.multi_judge.specs.Run.{IsBehindOne, IsRun, kept_fits, kept_fits_height, lengthened, lengthened_area, lengthened_line, line_in_force}
+use Rattle.multi_judge.specs.Sums.{IsBelow, IsCharacter, IsLineBelow, area_sum_in, group_sum, line_sum, segment_sum}
+use Rattle.multi_judge.proofs.AreaFillLemmas.{area_filled}
+use Rattle.multi_judge.proofs.AreaSumLemmas.{group_of_own}
+use Rattle.multi_judge.proofs.FillGroupLemmas.{present_glyphs, present_line, stands_ended, stands_line, stands_sum}
+use Rattle.multi_judge.proofs.FillSplitLemmas.{line_below, split_none, split_space, split_word}
+use Rattle.multi_judge.proofs.FilledJudgedLemmas.{filled_free}
+use Rattle.multi_judge.proofs.FilledKeptLemmas.{filled_put, laid_count}
+use Rattle.multi_judge.proofs.FilledOrderLemmas.{order_apart, order_stays}
+use Rattle.multi_judge.proofs.ReadLemmas.{read_more}
+use Rattle.multi_judge.proofs.LineSumLemmas.{cond_zero, line_with, segment_own}
+use Rattle.multi_judge.proofs.RunLemmas.{kept_area_fits, kept_fits_is, line_lengthened, longer_below}
+use Rattle.multi_judge.proofs.RunReadLemmas.{cell_of_width}
+
+-- characters of which there is none
+none_there : (line : List Spot) → AllPass is_glyph line → list_any is_glyph line ≡ false → line ≡ []
+none_there [] glyphs none = refl
+none_there (t ∷ line) glyphs none = absurd (false≢true (sym none ∙ ap (λ b. b || list_any is_glyph line) (All-head (λ x. is_glyph x ≡ true) t line glyphs)))
+
+-- a character with these attributes
+abbrev pub seen : Attributes → ℕ → Character
+seen here width = record { just = here.line_just; spacing = here.spacing; width = width; font = here.font }
+
+-- a line of characters is lengthened
+pub run_some : (here : Attributes) (gap pixels count : ℕ) (line : Line) → line.any ≡ true → with_run here gap pixels count line ≡ longer_line pixels count line
+run_some here gap pixels count line some = ap (λ b. cond b (longer_line pixels count line) (cond (count == 0) line (even_line here (pixels - gap) count line))) some
+
+module _ (here : Attributes) (width : ℕ) where
+  -- a line of one
+  pub first_line : (s : Spot) → IsCharacter s (seen here width) → even_line here width 1 (line_sum []) ≡ line_sum (s ∷ [])
+  first_line s is =
+      let none = line_sum [] in
+      let part : ◌≡◌ {A = Segment} (record { width = width; count = 1; last = Some here.font.char_spacing }) (segment_sum here.line_just (s ∷ [])) =
+      let wide : 0 + (0 + width) ≡ width = omega arith in
+      rw wide at (segment_own here.line_just [] s (seen here width) is refl (segment_sum here.line_just []) 0 width refl refl refl) in
+      line_with [] s (seen here width) (All-nil (λ x. is_glyph x ≡ true)) is none refl (omega arith) (even_line here width 1 none) refl
+      (sym (cond_zero (nat_lt 2 here.line_just) 0 refl)) (sym (cond_zero (nat_lt 3 here.line_just) 0 refl)) (sym (cond_zero (nat_lt 4 here.line_just) 0 refl)) part refl (omega arith) (omega arith) refl
+
+  -- a line with one more, if its last one has these attributes
+  pub line_more : (gap : ℕ) → gap ≡ unwrap_or here.spacing here.font.char_spacing → (kept : Line) → (kept.any ≡ true → IsBehindOne here.line_just here.font kept) → (line : List Spot) (s : Spot) → AllPass is_glyph line
+      → IsCharacter s (seen here width) → kept ≡ line_sum line → with_run here gap (gap + width) 1 kept ≡ line_sum (line ++ s ∷ [])
+  line_more gap gap_is kept on line s glyphs is e = by_any kept.any refl
+    where
+      by_any : (b : Bool) → kept.any ≡ b → with_run here gap (gap + width) 1 kept ≡ line_sum (line ++ s ∷ [])
+      by_any true some =
+          let one = on some in
+          run_some here gap (gap + width) 1 kept some
+          ∙ line_lengthened line s (seen here width) glyphs is kept e one.segment one.parts one.any one.height one.spacing one.last gap gap_is
+      by_any false none =
+          let nothing : line ≡ [] = none_there line glyphs (sym (ap (λ (l : Line). l.any) e) ∙ none) in
+          let wide : gap + width - gap ≡ width = omega arith in
+          rw (none, nothing, wide, e ∙ ap line_sum nothing) (first_line s is)
+
+-- the parts of a line around its last space, with one more character: a space or another
+abbrev pub split_one : Attributes → ℕ → ℕ → Bool → Line → Option Split → Option Split
+split_one here gap width true line split = Some (record { before = line; font = here.font; behind = line_sum [] })
+split_one here gap width false line split = option_map (with_run_behind here gap (gap + width) 1) split
+
+module _ (here : Attributes) (gap width : ℕ) (gap_is : gap ≡ unwrap_or here.spacing here.font.char_spacing) where
+  pub split_more : (space : Bool) (split : Option Split) → GoesOnBehind here split → (line : Line) (open' : List Spot) (s : Spot) → AllPass is_glyph open' → IsCharacter s (seen here width) → is_space s ≡ space
+      → list_any (clashes s) open' ≡ false → line ≡ line_sum open' → split ≡ split_sum open' → split_one here gap width space line split ≡ split_sum (open' ++ s ∷ [])
+  split_more true split on line open' s glyphs is space apart e o = split_space open' s (seen here width) is space line (line_sum []) e refl
+  split_more false None on line open' s glyphs is space apart e o = split_none open' s space o
+  split_more false (Some parts) on line open' s glyphs is space apart e o =
+      split_word open' s (seen here width) glyphs is space apart parts (with_run here gap (gap + width) 1 parts.behind) o (λ l t glyphs is e apart. line_more here width gap gap_is parts.behind on l t glyphs is e)
+
+  -- a character behind it would have these attributes too
+  pub split_goes_on : (space : Bool) (line : Line) (split : Option Split) → GoesOnBehind here split → GoesOnBehind here (split_one here gap width space line split)
+  split_goes_on true line split on = λ some. absurd (false≢true some)
+  split_goes_on false line None on = tt
+  split_goes_on false line (Some parts) on = λ some. by_any parts.behind.any refl
+    where
+      by_any : (b : Bool) → parts.behind.any ≡ b → IsBehindOne here.line_just here.font (with_run here gap (gap + width) 1 parts.behind)
+      by_any true some =
+          let one = on some in
+          subst (IsBehindOne here.line_just here.font) (sym (run_some here gap (gap + width) 1 parts.behind some))
+          (record { segment = one.segment; parts = one.parts; any = one.any; height = one.height; spacing = one.spacing; last = one.last })
+      by_any false none = rw none (record { segment = refl; parts = refl; any = refl; height = omega arith; spacing = omega arith; last = refl })
+
+  -- its numbers grow by no more than the character's
+  pub split_grows : (k : ℕ) (space : Bool) (line : Line) (split : Option Split) → here.line_just ≤ 5 → gap ≤ 255 → width ≤ 64 → IsLineBelow k line → IsSplitBelow k split → IsSplitBelow (k + 1024) (split_one here gap width space line split)
+  split_grows k true line split known narrow small below b =
+      (line_below k line below, record { left = omega arith; centre = omega arith; right = omega arith; part = record { width = omega arith; count = omega arith }; known = omega arith })
+  split_grows k false line None known narrow small below b = tt
+  split_grows k false line (Some parts) known narrow small below b = (line_below k parts.before b.0, by_any parts.behind.any refl)
+    where
+      by_any : (a : Bool) → parts.behind.any ≡ a → IsLineBelow (k + 1024) (with_run here gap (gap + width) 1 parts.behind)
+      by_any true some =
+          let l = b.1 in
+          rw some (record {
+            left = omega (arith, l.left);
+            centre = omega (arith, l.centre);
+            right = omega (arith, l.right);
+            part = record { width = omega (arith, l.part.width, narrow, small); count = omega (arith, l.part.count) };
+            known = l.known;
+          })
+      by_any false none = let l = b.1 in rw none (record { left = omega (arith, l.left); centre = omega (arith, l.centre); right = omega (arith, l.right); part = record { width = omega (arith, small); count = omega arith }; known = known })
+
+-- what is kept with one more character of this width
+abbrev pub with_one : ℕ → ℕ → Bool → Pass → Pass
+with_one gap width space kept = record {
+  state = lengthened ((line_in_force kept.state).part.width + (gap + width)) ((line_in_force kept.state).part.count + 1) kept.state;
+  split = split_one kept.state.attributes gap width space (line_in_force kept.state) kept.split;
+  order = kept.order;
+}
+
+module _ (kept : Pass) (run : IsFilledRun kept) (gap room : ℕ) (runs : IsRun kept.state gap room) (width : ℕ) (some : 1 ≤ width) (fits : (line_in_force kept.state).part.width + (gap + width) ≤ room) (space : Bool) where
+  abbrev here : Attributes
+  here = kept.state.attributes
+
+  abbrev line : Line
+  line = line_in_force kept.state
+
+  abbrev longer : Line
+  longer = lengthened_line (line.part.width + (gap + width)) (line.part.count + 1) line
+
+  abbrev area' : Area
+  area' = lengthened_area (line.part.width + (gap + width)) (line.part.count + 1) kept.state.area
+
+  still_fits : kept_fits here.rectangle.width longer ≡ true
+  still_fits = runs.room_is (line.part.width + (gap + width)) (line.part.count + 1) (omega (arith, some)) ∙ le-leb (line.part.width + (gap + width)) room fits
+
+  -- what is kept with it is that of a run
+  pub one_goes_on : IsFilledRun (with_one gap width space kept)
+  one_goes_on =
+      let one = run.behind.line in
+      record {
+        behind = record {
+          group = run.behind.group;
+          line = record { segment = one.segment; parts = one.parts; any = one.any; height = one.height; spacing = one.spacing; last = one.last };
+        };
+        fits = record { width = still_fits; height = run.fits.height };
+        order = run.order;
+        split = split_goes_on here gap width runs.gap_is space line kept.split run.split;
+      }
+
+  -- the group grows by it
+  fills_one : line.present ≤ 5 → FillsArea here.page_just here.rectangle.width kept.state.area kept.split (seen here width) space area' (split_one here gap width space line kept.split) None
+  fills_one known old new group s placing placing' e order on is spaces fits' apart o =
+      let w = here.rectangle.width in
+      let area = kept.state.area in
+      let own : area.group ≡ group_sum (filled (Some w) group) = group_of_own old area e here.page_just (sym run.behind.group) ∙ ap group_sum on.before in
+      let glyphs = present_glyphs w group s (seen here width) placing' is fits' apart area.group own in
+      let line_is = present_line w group s (seen here width) placing' is fits' apart area.group own in
+      let one = run.behind.line in
+      let grown = line_lengthened (after_last is_break (filled (Some w) group)) s (seen here width) glyphs is line line_is one.segment one.parts one.any one.height one.spacing one.last gap runs.gap_is in
+      let fits_so : (l : List Spot) → longer ≡ line_sum l → true ≡ line_fits w l = λ l is. sym still_fits ∙ kept_fits_is l longer w is known in
+      let turned : area ≡ area_sum_in here.page_just old = e ∙ ap (λ n. area_sum_in n old) (sym (ap (λ (a : Area). a.present) e) ∙ run.behind.group) in (
+        area_filled old new group s here.page_just w on area area' turned refl refl refl (stands_sum w group s (seen here width) placing' is fits' apart area.group own longer grown true fits_so refl),
+        split_more here gap width runs.gap_is space kept.split run.split line (after_last is_break (filled (Some w) group)) s glyphs is spaces apart line_is (o run.behind.group)
+            ∙ ap split_sum (sym (stands_line w group s (seen here width) placing' is fits' apart area.group own longer grown true fits_so refl)),
+        stands_ended w group s (seen here width) placing' is fits' apart area.group own longer grown true fits_so refl,
+      )
+
+-- one more octet of a run
+module _ (sign : SignData) (octets : List ℕ) (at : ℕ) (kept : Pass) (r : ReadSoFar sign octets at (IsFilledFor sign kept)) (octet : ℕ) (short : length octets < 2 ^ 63) (here : slice_get octets at ≡ Some octet) (plain : IsPlain octet)
+    (run : IsFilledRun kept) (gap room : ℕ) (runs : IsRun kept.state gap room) (wide : ℕ) (some : 1 ≤ wide) (small : wide ≤ 64)
+    (width_is : Some wide ≡ option_map (λ (c : SizedCell). c.width) (cell_in sign kept.state.attributes.font.number octet)) (fits : (line_in_force kept.state).part.width + (gap + wide) ≤ room) where
+  pub one_taken : ReadSoFar sign octets (at + 1) (IsFilledFor sign (with_one gap wide (octet == 32) kept))
+  one_taken =
+      let (cell, found, is) = cell_of_width (cell_in sign kept.state.attributes.font.number octet) wide width_is in
+      let items = map meaning r.items in
+      let of = r.is.of in
+      let st = of.state_is in
+      let attributes = kept.state.attributes in
+      let line = line_in_force kept.state in
+      let known = st.below.group.line.known in
+      let below = subst (λ n. IsBelow (1024 * n) kept.state.area) (laid_count sign items) st.below in
+      let longer = lengthened_line (line.part.width + (gap + wide)) (line.part.count + 1) line in
+      let area : Area = lengthened_area (line.part.width + (gap + wide)) (line.part.count + 1) kept.state.area in
+      let put = filled_put sign items kept r.is octet cell found
+      (filled_free sign items kept of octet cell found false
+      (λ line s e just. sym (order_apart line s kept.order e (run.order.0 ∙ sym just) (run.order.1 ∙ ap (λ n. nat_lt n 5) (sym just))))
+      (ap (λ b. b || ((attributes.page_just == kept.state.area.present) && false)) (le-ltb attributes.page_just kept.state.area.present (omega (arith, run.behind.group))) ∙ and_right (attributes.page_just == kept.state.area.present) false refl))
+      true (sym (eq-eqb attributes.page_just kept.state.area.present (sym run.behind.group)))
+      (seen attributes wide) refl refl is refl area (split_one attributes gap wide (octet == 32) line kept.split) None
+      (λ cell found. fills_one kept run gap room runs wide some fits (octet == 32) known)
+      (kept_fits attributes.rectangle.width longer) (kept_fits_height attributes.rectangle.height area)
+      (λ l e. kept_fits_is l longer attributes.rectangle.width e known) (λ l placing e. kept_area_fits l area attributes.rectangle.height placing e (omega (arith, st.below.known)))
+      kept.order (λ line s just apart goes stays. order_stays line s kept.order (goes refl) (run.order.0 ∙ sym just) (run.order.1 ∙ ap (λ n. nat_lt n 5) (sym just)))
+      (longer_below (1024 * length items) (line.part.width + (gap + wide)) (line.part.count + 1) kept.state.area below (omega (arith, below.group.line.part.width, runs.narrow, small)) (omega (arith, below.group.line.part.count)))
+      (split_grows attributes gap wide runs.gap_is (1024 * length items) (octet == 32) line kept.split st.line_just.1 runs.narrow small below.group.line of.split_below) in
+      let fits' = and_from (kept_fits attributes.rectangle.width longer) (kept_fits_height attributes.rectangle.height area) (still_fits kept run gap room runs wide some fits (octet == 32)) run.fits.height in
+      let token : Token = record { at = at; len = 1; kind = kinds.Char octet } in
+      read_more sign octets at (IsFilledFor sign kept) r token refl (single_token octets at octet short here plain) (IsFilledFor sign (with_one gap wide (octet == 32) kept))
+      (put.size ∙ ap {B = Option ℕ} (λ b. cond b None (Some 5)) fits') (put.passed fits').of

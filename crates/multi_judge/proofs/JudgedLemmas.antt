@@ -1,0 +1,348 @@
+-- The state of the items read so far, at one more item.
+use Rattle.std.proofs.Common.{◌≡◌, ℕ, ◌+◌, ◌*◌, ◌^◌, ◌≤◌, Bool, true, false, cond, inl, inr, List, [], ◌∷◌, ◌++◌, length, Option, Some, None, refl, sym, ap, ◌∙◌, subst, arith, append-nil}
+use Rattle.std.specs.Prelude.{nat_lt, ◌==◌}
+use Rattle.std.specs.List.{count_by, cons_option, find}
+use Rattle.std.specs.Option.{option_map, option_and_then, unwrap_or}
+use Rattle.std.proofs.lemmas.Bool.{cases_Bool, eqb-true}
+use Rattle.std.proofs.lemmas.Option.{same_Some}
+use Rattle.std.proofs.lemmas.List.{length-append}
+use Rattle.std.proofs.lemmas.List.Sums.{sum_by_push, sum_by-append}
+use Rattle.multi_tag.specs.declared.tag.Tag.TheVariants.{NewPage, NewLine, Back, Rect}
+use Rattle.sign_font.specs.declared.parts.LineFill.TheVariants.{Off}
+use Rattle.multi_meaning.specs.Laid.{too_big}
+use Rattle.sign_font.specs.Cell.{SizedCell}
+use Rattle.sign_font.specs.Sign.{SignData, CellData, FontData, cell_in, cell_numbered, font_numbered, info_of, sized}
+use Rattle.sign_font.specs.declared.font.FontInfo.{FontInfo}
+use Rattle.sign_font.specs.Sound.{IsSound}
+use Rattle.multi_meaning.specs.Attributes.{default_font, whole_sign}
+use Rattle.multi_meaning.specs.Address.{Break, Cover, Glyph, Standing, put_at, spots, standing}
+use Rattle.multi_meaning.specs.Meaning.{Meaning, Shows, Does, begins_area, is_new_page}
+use Rattle.multi_meaning.specs.Offence.{conflicts, never_big, offence, unsized_offence}
+use Rattle.multi_meaning.specs.kept.Present.{present_area, standing_behind}
+use Rattle.multi_meaning.specs.Times.{Times, cycle, ended_times, times_at}
+use Rattle.multi_meaning.specs.Verdict.{pages_of}
+use Rattle.multi_meaning.proofs.OffenceLemmas.{offence-undefined, offence-character, offence-break, offence-page, offence-rectangle}
+use Rattle.multi_meaning.proofs.StandingLemmas.{standing_push}
+use Rattle.multi_meaning.proofs.StateLemmas.{present_area-placing, present_area-nothing, present_area-cover, present_area-new}
+use Rattle.multi_meaning.proofs.WordLemmas.{some_after_push}
+use Rattle.multi_judge.specs.declared.area.Area.{Area}
+use Rattle.multi_judge.specs.declared.attributes.Attributes.{Attributes}
+use Rattle.multi_judge.specs.declared.state.Limits.{Limits}
+use Rattle.multi_judge.specs.declared.state.State.{State}
+use Rattle.multi_judge.specs.State.{IsReady, IsStateOf, attributes_of}
+use Rattle.multi_judge.specs.Sums.{IsBelow, area_sum}
+use Rattle.multi_judge.proofs.BoundLemmas.{below_more}
+
+-- ---- pages and times
+
+pub pages_of-push : (items : List Meaning) (x : Meaning) → pages_of (items ++ x ∷ []) ≡ pages_of items + cond (is_new_page x) 1 0
+pages_of-push items x = omega (arith, sum_by_push (λ y. cond (is_new_page y) 1 0) items x)
+
+pub ended_times-push : (sign : SignData) (items : List Meaning) (x : Meaning)
+    → ended_times sign (items ++ x ∷ []) ≡ ended_times sign items ++ cons_option (cond (is_new_page x) (Some (times_at (standing sign items))) None) []
+ended_times-push sign items x = some_after_push (λ before item. cond (is_new_page item) (Some (times_at (standing sign before))) None) items x
+
+cycle-append : (a b : List Times) → cycle (a ++ b) ≡ cycle a + cycle b
+cycle-append a b = sum_by-append (λ (t : Times). t.on + t.off) a b
+
+pub cycle-stays : (sign : SignData) (items : List Meaning) (x : Meaning) → is_new_page x ≡ false → cycle (ended_times sign (items ++ x ∷ [])) ≡ cycle (ended_times sign items)
+cycle-stays sign items x same =
+    let old = ended_times sign items in
+    ap cycle (ended_times-push sign items x ∙ ap (λ b. old ++ cons_option (cond b (Some (times_at (standing sign items))) None) []) same ∙ append-nil old)
+
+pub cycle-grows : (sign : SignData) (items : List Meaning) (x : Meaning) → is_new_page x ≡ true
+    → cycle (ended_times sign (items ++ x ∷ [])) ≡ cycle (ended_times sign items) + ((standing sign items).on + (standing sign items).off)
+cycle-grows sign items x new =
+    let old = ended_times sign items in
+    let all : cycle (ended_times sign (items ++ x ∷ [])) ≡ cycle (old ++ times_at (standing sign items) ∷ []) =
+    ap cycle (ended_times-push sign items x ∙ ap (λ b. old ++ cons_option (cond b (Some (times_at (standing sign items))) None) []) new) in
+    omega (arith, all, cycle-append old (times_at (standing sign items) ∷ []))
+
+-- the number of items rises by one
+length-push : (items : List Meaning) (x : Meaning) → 1024 * length (items ++ x ∷ []) ≡ 1024 * length items + 1024
+length-push items x = omega (arith, length-append items (x ∷ []))
+
+-- ---- a font in force is one of the sign's
+
+-- the font that was found has the number that was asked for
+found_number : (fonts : List FontData) (n : ℕ) (font : FontData) → find (λ f. f.number == n) fonts ≡ Some font → font.number ≡ n
+found_number [] n font e = cc
+found_number (f ∷ fonts) n font e = elim (cases_Bool (f.number == n)) [
+  | inl here ↦
+      let is : Some f ≡ Some font = sym (ap (λ b. cond b (Some f) (find (λ g. g.number == n) fonts)) here) ∙ e in
+      ap (λ (g : FontData). g.number) (sym (same_Some f font is)) ∙ eqb-true f.number n here
+  | inr there ↦ found_number fonts n font (sym (ap (λ b. cond b (Some f) (find (λ g. g.number == n) fonts)) there) ∙ e)
+]
+
+pub found_again : (sign : SignData) (n : ℕ) (font : FontData) → font_numbered sign n ≡ Some font → font_numbered sign font.number ≡ Some font
+found_again sign n font e = ap (font_numbered sign) (found_number sign.fonts n font e) ∙ e
+
+-- the cell of the font in force
+pub cell_of_font : (sign : SignData) (font : FontData) (number : ℕ) → font_numbered sign font.number ≡ Some font → cell_in sign font.number number ≡ option_map (sized font) (cell_numbered font number)
+cell_of_font sign font number e = ap (option_and_then (λ f. option_map (sized f) (cell_numbered f number))) e
+
+none_mapped : (font : FontData) (o : Option CellData) → option_map (sized font) o ≡ None → o ≡ None
+none_mapped font None e = refl
+none_mapped font (Some cell) e = cc
+
+some_mapped : (font : FontData) (o : Option CellData) (c : SizedCell) → option_map (sized font) o ≡ Some c → (cell : CellData) × (o ≡ Some cell) × (c.width ≡ cell.width)
+some_mapped font None c e = cc
+some_mapped font (Some cell) c e = (cell, refl, ap (λ (z : SizedCell). z.width) (sym (same_Some (sized font cell) c e)))
+
+-- ---- one more item that begins no page
+
+-- the state behind an item that begins no page, from what it makes of the values in force and of the present area
+state-same_page : (sign : SignData) (items : List Meaning) (state new : State) (x : Meaning) → IsStateOf sign items state → is_new_page x ≡ false
+    → new.pages ≡ state.pages → new.cycle ≡ state.cycle
+    → new.attributes ≡ attributes_of (standing_behind sign (standing sign items) x)
+    → new.area ≡ area_sum (present_area sign (items ++ x ∷ []))
+    → font_numbered sign (standing_behind sign (standing sign items) x).font.number ≡ Some (standing_behind sign (standing sign items) x).font
+    → (2 ≤ new.attributes.line_just) × (new.attributes.line_just ≤ 5) → (2 ≤ new.attributes.page_just) × (new.attributes.page_just ≤ 4)
+    → IsBelow (1024 * length items + 1024) new.area → IsStateOf sign (items ++ x ∷ []) new
+state-same_page sign items state new x st same pages times attributes area font line page below =
+    let none : cond {A = ℕ} (is_new_page x) 1 0 ≡ 0 = ap (λ b. cond b 1 0) same in
+    let push = standing_push sign items x in
+    record {
+      pages = omega (arith, pages, st.pages, pages_of-push items x, none);
+      times = times ∙ st.times ∙ sym (cycle-stays sign items x same);
+      attributes = attributes ∙ sym (ap attributes_of push);
+      area = area;
+      font = subst (λ (s : Standing). font_numbered sign s.font.number ≡ Some s.font) (sym push) font;
+      line_just = line;
+      page_just = page;
+      below = subst (λ n. IsBelow n new.area) (sym (length-push items x)) below;
+      short = omega (arith, st.short, pages, times);
+    }
+
+-- an item that puts nothing and begins neither a page nor an area, as a tag that sets an attribute
+pub state-attribute : (sign : SignData) (items : List Meaning) (state : State) (attributes : Attributes) (x : Meaning) → IsStateOf sign items state
+    → is_new_page x ≡ false → begins_area x ≡ false → put_at sign.defaults (standing sign items) x ≡ None
+    → attributes ≡ attributes_of (standing_behind sign (standing sign items) x)
+    → font_numbered sign (standing_behind sign (standing sign items) x).font.number ≡ Some (standing_behind sign (standing sign items) x).font
+    → (2 ≤ attributes.line_just) × (attributes.line_just ≤ 5) → (2 ≤ attributes.page_just) × (attributes.page_just ≤ 4)
+    → IsBelow (1024 * length items + 1024) state.area
+    → IsStateOf sign (items ++ x ∷ []) (record state { attributes = attributes })
+state-attribute sign items state attributes x st page area put is font line just below =
+    state-same_page sign items state (record state { attributes = attributes }) x st page refl refl is
+    (st.area ∙ ap area_sum (sym (present_area-nothing sign items x area put))) font line just below
+
+-- what the items so far make of a state doesn't hang on its limits
+pub state-limits : (sign : SignData) (items : List Meaning) (state new : State) → new ≡ record state { area = new.area; limits = new.limits } → IsStateOf sign items (record state { area = new.area }) → IsStateOf sign items new
+state-limits sign items state new same st =
+    subst (IsStateOf sign items) (sym same) (record {
+      pages = st.pages;
+      times = st.times;
+      attributes = st.attributes;
+      area = st.area;
+      font = st.font;
+      line_just = st.line_just;
+      page_just = st.page_just;
+      below = st.below;
+      short = st.short;
+    })
+
+-- ---- placing items
+
+-- the two cases of a placing item
+case_11 : (a b : Bool) → a ≡ true → cond {A = Option ℕ} a (Some 11) (cond b (Some 5) None) ≡ Some 11
+case_11 a b p = ap (λ c. cond {A = Option ℕ} c (Some 11) (cond b (Some 5) None)) p
+
+case_5 : (a b : Bool) → a ≡ false → b ≡ true → cond {A = Option ℕ} a (Some 11) (cond b (Some 5) None) ≡ Some 5
+case_5 a b p q = ap (λ c. cond {A = Option ℕ} c (Some 11) (cond b (Some 5) None)) p ∙ ap (λ c. cond {A = Option ℕ} c (Some 5) None) q
+
+case_none : (a b : Bool) → a ≡ false → b ≡ false → cond {A = Option ℕ} a (Some 11) (cond b (Some 5) None) ≡ None
+case_none a b p q = ap (λ c. cond {A = Option ℕ} c (Some 11) (cond b (Some 5) None)) p ∙ ap (λ c. cond {A = Option ℕ} c (Some 5) None) q
+
+-- a character that doesn't offend doesn't conflict
+pub no_conflict : (sign : SignData) (items : List Meaning) (number : ℕ) (cell : CellData) → cell_numbered (standing sign items).font number ≡ Some cell → unsized_offence sign items (Shows number) ≡ None
+    → conflicts (spots sign items) (record { at = standing sign items; put = Glyph cell }) ≡ false
+no_conflict sign items number cell found fine = none_first _ _ (sym (offence-character never_big sign items number cell found) ∙ fine)
+  where
+    none_first : (a : Bool) (o : Option ℕ) → cond {A = Option ℕ} a (Some 11) o ≡ None → a ≡ false
+    none_first true o e = cc
+    none_first false o e = refl
+
+module _ (sign : SignData) (items : List Meaning) (state : State) (st : IsStateOf sign items state) where
+  -- the font in force
+  font_number : state.attributes.font.number ≡ (standing sign items).font.number
+  font_number = ap (λ (a : Attributes). a.font.number) st.attributes
+
+  cell_is : (number : ℕ) → cell_in sign state.attributes.font.number number ≡ option_map (sized (standing sign items).font) (cell_numbered (standing sign items).font number)
+  cell_is number = ap (λ n. cell_in sign n number) font_number ∙ cell_of_font sign (standing sign items).font number st.font
+
+  pub cell_missing : (number : ℕ) → cell_in sign state.attributes.font.number number ≡ None → cell_numbered (standing sign items).font number ≡ None
+  cell_missing number none =
+      let font = (standing sign items).font in
+      none_mapped font (cell_numbered font number) (sym (cell_is number) ∙ none)
+
+  pub judged-undefined : (number : ℕ) → cell_in sign state.attributes.font.number number ≡ None → offence Off sign items (Shows number) ≡ Some 7
+  judged-undefined number none = offence-undefined (too_big Off) sign items number (cell_missing number none)
+
+  pub unsized-undefined : (number : ℕ) → cell_in sign state.attributes.font.number number ≡ None → unsized_offence sign items (Shows number) ≡ Some 7
+  unsized-undefined number none = offence-undefined never_big sign items number (cell_missing number none)
+
+  pub cell_found : (number : ℕ) (c : SizedCell) → cell_in sign state.attributes.font.number number ≡ Some c
+      → (cell : CellData) × (cell_numbered (standing sign items).font number ≡ Some cell) × (c.width ≡ cell.width)
+  cell_found number c some =
+      let font = (standing sign items).font in
+      some_mapped font (cell_numbered font number) c (sym (cell_is number) ∙ some)
+
+  module _ (number : ℕ) (cell : CellData) (found : cell_numbered (standing sign items).font number ≡ Some cell) where
+    pub character-conflict : conflicts (spots sign items) (record { at = standing sign items; put = Glyph cell }) ≡ true → offence Off sign items (Shows number) ≡ Some 11
+    character-conflict p = offence-character (too_big Off) sign items number cell found ∙ case_11 _ _ p
+
+    pub character-too_big : conflicts (spots sign items) (record { at = standing sign items; put = Glyph cell }) ≡ false → too_big Off (spots sign items) (record { at = standing sign items; put = Glyph cell }) ≡ true
+        → offence Off sign items (Shows number) ≡ Some 5
+    character-too_big p q = offence-character (too_big Off) sign items number cell found ∙ case_5 _ _ p q
+
+    pub character-fits : conflicts (spots sign items) (record { at = standing sign items; put = Glyph cell }) ≡ false → too_big Off (spots sign items) (record { at = standing sign items; put = Glyph cell }) ≡ false
+        → offence Off sign items (Shows number) ≡ None
+    character-fits p q = offence-character (too_big Off) sign items number cell found ∙ case_none _ _ p q
+
+    pub state-character : (area : Area) → area ≡ area_sum (present_area sign items ++ record { at = standing sign items; put = Glyph cell } ∷ []) → IsBelow (1024 * length items + 1024) area
+        → IsStateOf sign (items ++ Shows number ∷ []) (record state { area = area })
+    state-character area sum below =
+        let puts : put_at sign.defaults (standing sign items) (Shows number) ≡ Some (Glyph cell) = ap (option_map Glyph) found in
+        state-same_page sign items state (record state { area = area }) (Shows number) st refl refl refl st.attributes
+        (sum ∙ ap area_sum (sym (present_area-placing sign items (Shows number) (Glyph cell) refl puts refl)))
+        st.font st.line_just st.page_just below
+
+  module _ (gap : Option ℕ) where
+    pub break-conflict : conflicts (spots sign items) (record { at = standing sign items; put = Break gap }) ≡ true → offence Off sign items (Does (NewLine gap)) ≡ Some 11
+    break-conflict p = offence-break (too_big Off) sign items gap ∙ case_11 _ _ p
+
+    pub break-too_big : conflicts (spots sign items) (record { at = standing sign items; put = Break gap }) ≡ false → too_big Off (spots sign items) (record { at = standing sign items; put = Break gap }) ≡ true
+        → offence Off sign items (Does (NewLine gap)) ≡ Some 5
+    break-too_big p q = offence-break (too_big Off) sign items gap ∙ case_5 _ _ p q
+
+    pub break-fits : conflicts (spots sign items) (record { at = standing sign items; put = Break gap }) ≡ false → too_big Off (spots sign items) (record { at = standing sign items; put = Break gap }) ≡ false
+        → offence Off sign items (Does (NewLine gap)) ≡ None
+    break-fits p q = offence-break (too_big Off) sign items gap ∙ case_none _ _ p q
+
+    pub state-break : (area : Area) → area ≡ area_sum (present_area sign items ++ record { at = standing sign items; put = Break gap } ∷ []) → IsBelow (1024 * length items + 1024) area
+        → IsStateOf sign (items ++ Does (NewLine gap) ∷ []) (record state { area = area })
+    state-break area sum below =
+        state-same_page sign items state (record state { area = area }) (Does (NewLine gap)) st refl refl refl st.attributes
+        (sum ∙ ap area_sum (sym (present_area-placing sign items (Does (NewLine gap)) (Break gap) refl refl refl)))
+        st.font st.line_just st.page_just below
+
+  -- ---- new pages and rectangles
+
+  pages_are : count_by is_new_page items + 2 ≡ state.pages + 1
+  pages_are = omega (arith, st.pages)
+
+  pub judged-page : offence Off sign items (Does NewPage) ≡ cond (nat_lt sign.max_pages (state.pages + 1)) (Some 12) None
+  judged-page = offence-page (too_big Off) sign items ∙ ap (λ n. cond (nat_lt sign.max_pages n) (Some 12) None) pages_are
+
+  -- a new page: the times of the one before are ended, and the whole sign and an empty area begin
+  pub state-page : (new : State) → new.pages ≡ state.pages + 1 → new.cycle ≡ state.cycle + (state.attributes.on + state.attributes.off)
+      → new.attributes ≡ record state.attributes { rectangle = whole_sign sign } → new.area ≡ area_sum [] → IsBelow 0 new.area
+      → state.attributes.on ≤ 255 → state.attributes.off ≤ 255
+      → IsStateOf sign (items ++ Does NewPage ∷ []) new
+  state-page new pages times attributes area below on_bound off_bound =
+      let x = Does NewPage in
+      let push = standing_push sign items x in
+      let on : state.attributes.on ≡ (standing sign items).on = ap (λ (a : Attributes). a.on) st.attributes in
+      let off : state.attributes.off ≡ (standing sign items).off = ap (λ (a : Attributes). a.off) st.attributes in
+      let line : new.attributes.line_just ≡ state.attributes.line_just = ap (λ (a : Attributes). a.line_just) attributes in
+      let page : new.attributes.page_just ≡ state.attributes.page_just = ap (λ (a : Attributes). a.page_just) attributes in
+      let whole : new.attributes ≡ attributes_of (standing_behind sign (standing sign items) x) =
+      attributes ∙ ap (λ (a : Attributes). let b : Attributes = record a { rectangle = whole_sign sign } in b) st.attributes in
+      record {
+        pages = omega (arith, pages, st.pages, pages_of-push items x);
+        times = omega (arith, times, st.times, on, off, cycle-grows sign items x refl);
+        attributes = whole ∙ sym (ap attributes_of push);
+        area = area ∙ ap area_sum (sym (present_area-new sign items x refl));
+        font = subst (λ (s : Standing). font_numbered sign s.font.number ≡ Some s.font) (sym push) st.font;
+        line_just = (omega (arith, st.line_just.0, line), omega (arith, st.line_just.1, line));
+        page_just = (omega (arith, st.page_just.0, page), omega (arith, st.page_just.1, page));
+        below = below_more 0 (1024 * length (items ++ x ∷ [])) new.area (omega arith) below;
+        short = omega (arith, st.short, pages, times, on_bound, off_bound);
+      }
+
+  pub judged-rectangle : (x y w h : ℕ) → offence Off sign items (Does (Rect x y w h)) ≡ cond (Rattle.multi_meaning.specs.Attributes.is_inside sign x y w h) None (Some 4)
+  judged-rectangle x y w h = offence-rectangle (too_big Off) sign items x y w h
+
+-- ---- the start
+
+pub font_of_info : (o : Option FontData) (info : FontInfo) → option_map info_of o ≡ Some info → (font : FontData) × (o ≡ Some font) × (info ≡ info_of font)
+font_of_info None info e = cc
+font_of_info (Some font) info e = (font, refl, sym (same_Some (info_of font) info e))
+
+-- the state before the first item
+pub state-start : (sign : SignData) (info : FontInfo) (area : Area) (limits : Limits) → IsSound sign → option_map info_of (font_numbered sign sign.defaults.font) ≡ Some info → area ≡ area_sum [] → IsBelow 0 area
+    → IsStateOf sign [] (record {
+      pages = 1;
+      cycle = 0;
+      attributes = record {
+        font = info;
+        line_just = sign.defaults.line;
+        page_just = sign.defaults.page;
+        spacing = None;
+        fore = sign.defaults.fore;
+        back = sign.defaults.back;
+        on = sign.defaults.page_on;
+        off = sign.defaults.page_off;
+        flash = None;
+        rectangle = whole_sign sign;
+      };
+      area = area;
+      limits = limits;
+    })
+unfolding standing spots
+state-start sign info area limits sound is sum below =
+    let (font, found, same) = font_of_info (font_numbered sign sign.defaults.font) info is in
+    let none : FontData = record { number = 0; version = 0; height = 0; char_spacing = 0; line_spacing = 0; cells = [] } in
+    let default : default_font sign ≡ font = ap (λ o. unwrap_or o none) found in
+    record {
+      pages = refl;
+      times = refl;
+      attributes = λ i. record {
+        font = (same ∙ ap info_of (sym default)) i;
+        line_just = sign.defaults.line;
+        page_just = sign.defaults.page;
+        spacing = None;
+        fore = sign.defaults.fore;
+        back = sign.defaults.back;
+        on = sign.defaults.page_on;
+        off = sign.defaults.page_off;
+        flash = None;
+        rectangle = whole_sign sign;
+      };
+      area = sum;
+      font = subst (λ (f : FontData). font_numbered sign f.number ≡ Some f) (sym default) (found_again sign sign.defaults.font font found);
+      line_just = sound.line;
+      page_just = sound.page;
+      below = below;
+      short = omega arith;
+    }
+
+-- a state within these bounds has room for one more item
+pub ready : (sign : SignData) (items : List Meaning) (state : State) → IsStateOf sign items state → length items ≤ 2 ^ 32 → IsReady state
+ready sign items state st few = record {
+  line_just = st.line_just;
+  page_just = st.page_just;
+  below = below_more (1024 * length items) (2 ^ 62) state.area (omega arith) st.below;
+  short = st.short;
+}
+
+-- a `pb`, which covers the page and places nothing
+pub state-cover : (sign : SignData) (items : List Meaning) (state : State) (attributes : Attributes) (colour : Option ℕ) → IsStateOf sign items state
+    → attributes ≡ attributes_of (standing_behind sign (standing sign items) (Does (Back colour)))
+    → (2 ≤ attributes.line_just) × (attributes.line_just ≤ 5) → (2 ≤ attributes.page_just) × (attributes.page_just ≤ 4)
+    → IsBelow (1024 * length items + 1024) state.area
+    → IsStateOf sign (items ++ Does (Back colour) ∷ []) (record state { attributes = attributes })
+state-cover sign items state attributes colour st is line just below =
+    state-same_page sign items state (record state { attributes = attributes }) (Does (Back colour)) st refl refl refl is
+    (st.area ∙ ap area_sum (sym (present_area-cover sign items (Does (Back colour)) (Cover (standing sign items).page (unwrap_or colour sign.defaults.back)) refl refl refl))) st.font line just below
+
+-- a rectangle, in which an empty area begins
+pub state-rectangle : (sign : SignData) (items : List Meaning) (state new : State) (x y w h : ℕ) → IsStateOf sign items state
+    → new.pages ≡ state.pages → new.cycle ≡ state.cycle
+    → new.attributes ≡ attributes_of (standing_behind sign (standing sign items) (Does (Rect x y w h)))
+    → new.area ≡ area_sum [] → (2 ≤ new.attributes.line_just) × (new.attributes.line_just ≤ 5) → (2 ≤ new.attributes.page_just) × (new.attributes.page_just ≤ 4) → IsBelow 0 new.area
+    → IsStateOf sign (items ++ Does (Rect x y w h) ∷ []) new
+state-rectangle sign items state new x y w h st pages times attributes area line page below =
+    state-same_page sign items state new (Does (Rect x y w h)) st refl pages times attributes
+    (area ∙ ap area_sum (sym (present_area-new sign items (Does (Rect x y w h)) refl))) st.font line page
+    (below_more 0 (1024 * length items + 1024) new.area (omega arith) below)

@@ -1,0 +1,179 @@
+-- The place of a character by the line table of its group, and how many ended lines a group has.
+use Rattle.std.proofs.Common.{◌≡◌, ℕ, ◌+◌, ◌-◌, ◌<◌, ◌≤◌, Bool, true, false, cond, ◌&&◌, ◌==◌, length, take, List, [], ◌∷◌, ◌++◌, Some, refl, sym, ap, subst, ◌∙◌, arith}
+use Rattle.std.specs.Prelude.{slice_get, slice_index_or, if◌then◌else◌}
+use Rattle.std.specs.List.{list_any, onto_first, count_by}
+use Rattle.std.proofs.lemmas.Bool.{eq-eqb, eqb-true}
+use Rattle.std.proofs.lemmas.List.{length-append}
+use Rattle.std.proofs.lemmas.List.Sums.{sum_by-cons, length-filter, count_by-le-length}
+use Rattle.std.proofs.lemmas.Option.{slice_get_within}
+use Rattle.multi_meaning.specs.Words.{cut_behind, largest}
+use Rattle.multi_meaning.specs.Address.{Spot, area_of, is_glyph, is_break, segment, group_of, lines_of, line_before}
+use Rattle.multi_meaning.specs.Line.{height_of, width_of, glyph_width}
+use Rattle.multi_meaning.specs.declared.place.Place.{Place}
+use Rattle.multi_meaning.specs.Offence.{clashes}
+use Rattle.multi_meaning.specs.Place.{place_of, start, spread}
+use Rattle.multi_meaning.specs.kept.Present.{ended_lines}
+use Rattle.multi_meaning.proofs.WordLemmas.{largest_push}
+use Rattle.multi_meaning.proofs.GroupLemmas.{own_group, filter_yes}
+use Rattle.multi_meaning.proofs.EndedLemmas.{ended_count, ended_glyph}
+use Rattle.multi_meaning.proofs.LinesFitLemmas.{each_just}
+use Rattle.multi_judge.specs.declared.area.Area.{Area}
+use Rattle.multi_judge.specs.declared.area.Group.{Group}
+use Rattle.multi_judge.specs.declared.attributes.Attributes.{Attributes}
+use Rattle.multi_judge.specs.declared.line.Line.{Line}
+use Rattle.multi_judge.specs.declared.line.Segment.{Segment}
+use Rattle.multi_judge.specs.declared.table.CountedLine.{CountedLine}
+use Rattle.multi_judge.specs.State.{attributes_of}
+use Rattle.multi_judge.specs.Sums.{area_sum, group_sum, line_sum, segment_sum}
+use Rattle.multi_judge.specs.Table.{counted_line, table_of, width_in, column_in}
+use Rattle.multi_judge.proofs.AreaSumLemmas.{group_of_own}
+use Rattle.multi_judge.proofs.GroupSumLemmas.{present_push}
+use Rattle.multi_judge.proofs.LineSumLemmas.{in_order}
+use Rattle.multi_judge.proofs.TableLemmas.{look_up, look_up_bottom, table_length}
+
+-- THE LINE OF AN ITEM
+
+count_cons : {X : Type 0} (p : X → Bool) (x : X) (xs : List X) → count_by p (x ∷ xs) ≡ cond (p x) 1 0 + count_by p xs
+count_cons p x xs = sum_by-cons (λ x. cond (p x) 1 0) x xs
+
+onto_length : {X : Type 0} (x : X) (parts : List (List X)) → length parts ≤ length (onto_first x parts)
+onto_length x [] = omega arith
+onto_length x (part ∷ parts) = omega arith
+
+onto_some : {X : Type 0} (x : X) (parts : List (List X)) → 0 < length (onto_first x parts)
+onto_some x [] = omega arith
+onto_some x (part ∷ parts) = omega arith
+
+some_if : {X : Type 0} (b : Bool) (x : X) (parts : List (List X)) → 0 < length (cond b ((x ∷ []) ∷ parts) (onto_first x parts))
+some_if true x parts = omega arith
+some_if false x parts = onto_some x parts
+
+more_if : {X : Type 0} (b : Bool) (x : X) (parts : List (List X)) (n : ℕ) → n < length parts → cond b 1 0 + n < length (cond b ((x ∷ []) ∷ parts) (onto_first x parts))
+more_if true x parts n h = omega arith
+more_if false x parts n h = omega (arith, onto_length x parts)
+
+-- the part of an item is one of the parts of a cut list
+pub part_is_there : {X : Type 0} (p : X → Bool) (xs rest : List X) (x : X) → count_by p xs < length (cut_behind p (xs ++ x ∷ rest))
+part_is_there p [] rest x = some_if (p x) x (cut_behind p rest)
+part_is_there p (y ∷ xs) rest x =
+    subst (λ n. n < length (cut_behind p (y ∷ (xs ++ x ∷ rest)))) (sym (count_cons p y xs))
+    (more_if (p y) y (cut_behind p (xs ++ x ∷ rest)) (count_by p xs) (part_is_there p xs rest x))
+
+-- the line of an item is one of the lines of its group
+pub line_is_there : (g rest : List Spot) (s : Spot) → count_by is_break g < length (lines_of (g ++ s ∷ rest))
+line_is_there g rest s = part_is_there is_break g rest s
+
+-- HOW MANY LINES
+
+-- a group has no more ended lines than lines
+pub ended_most : (g : List Spot) → length (ended_lines g) ≤ length (lines_of g)
+ended_most g = rw (length-filter (list_any is_break) (lines_of g)) (count_by-le-length (list_any is_break) (lines_of g))
+
+-- THE PLACE OF A CHARACTER
+
+width_by : (f : ℕ → ℕ) (just : ℕ) → 2 ≤ just → just ≤ 5 → (if just == 2 then f 2 else (if just == 3 then f 3 else (if just == 4 then f 4 else f 5))) ≡ f just
+width_by f = each_just (λ just. (if just == 2 then f 2 else (if just == 3 then f 3 else (if just == 4 then f 4 else f 5))) ≡ f just) refl refl refl refl
+
+-- the entry of a line has the width of each of its segments
+pub width_in_is : (before : List (List Spot)) (line : List Spot) (just : ℕ) → 2 ≤ just → just ≤ 5 → width_in just (counted_line before line) ≡ width_of (segment just line)
+width_in_is before line = width_by (λ just. width_of (segment just line))
+
+spread_if : (full : Bool) (j k k' spare : ℕ) → (full ≡ true → k ≡ k') → (if full then spread j k spare else 0) ≡ (if full then spread j k' spare else 0)
+spread_if true j k k' spare h = ap (λ k. spread j k spare) (h refl)
+spread_if false j k k' spare h = refl
+
+-- a place, by what is kept of the line and the group
+abbrev place_by : Spot → List Spot → ℕ → ℕ → ℕ → ℕ → Place
+place_by spot part_before height width moved bottom = record {
+  column = spot.at.rectangle.left + start spot.at.line_just spot.at.rectangle.width width + (width_of (part_before ++ spot ∷ []) - glyph_width spot) + moved;
+  row = spot.at.rectangle.top + start spot.at.page_just spot.at.rectangle.height height + (bottom - spot.at.font.height);
+}
+
+some_same : {X : Type 0} (x y : X) → Some x ≡ Some y → x ≡ y
+some_same x y e = cc
+
+-- a character's place, from the entry of its line
+pub place_is : (before all : List Spot) (spot : Spot) (line : CountedLine) → 2 ≤ spot.at.line_just → spot.at.line_just ≤ 5
+    → slice_get (table_of (lines_of (group_of spot all))) (count_by is_break (group_of spot before)) ≡ Some line
+    → place_of before all spot ≡ record {
+      column = column_in line (line_before before spot) spot;
+      row = spot.at.rectangle.top + start spot.at.page_just spot.at.rectangle.height (height_of (lines_of (group_of spot all))) + (line.bottom - spot.at.font.height);
+    }
+unfolding place_of
+place_is before all spot line low high found =
+    let just = spot.at.line_just in
+    let spare = λ (width : ℕ). spot.at.rectangle.width - width in
+    let k = count_by is_break (group_of spot before) in
+    let lines = lines_of (group_of spot all) in
+    let own = slice_index_or lines k [] in
+    let part = segment just own in
+    let part_before = segment just (line_before before spot) in
+    let height = height_of lines in
+    let moved = λ (characters width : ℕ). if just == 5 then spread (length part_before) characters (spare width) else 0 in
+    let within : k < length lines = subst (λ n. k < n) (table_length lines) (slice_get_within (table_of lines) k line found) in
+    let is : line ≡ counted_line (take k lines) own = some_same line (counted_line (take k lines) own) (sym found ∙ look_up lines k within) in
+    let width : width_of part ≡ width_in just line = sym (width_in_is (take k lines) own just low high) ∙ ap (width_in just) (sym is) in
+    let characters : just == 5 ≡ true → length part ≡ line.characters =
+    λ five. ap (λ n. length (segment n own)) (eqb-true just 5 five) ∙ ap (λ (l : CountedLine). l.characters) (sym is) in
+    let bottom : height_of (take (k + 1) lines) ≡ line.bottom = sym (look_up_bottom lines k within) ∙ ap (λ (l : CountedLine). l.bottom) (sym is) in
+    ap (λ n. place_by spot part_before height (width_of part) (moved (length part) (width_of part)) n) bottom
+    ∙ ap (λ n. place_by spot part_before height n (moved (length part) n) line.bottom) width
+    ∙ ap (λ n. place_by spot part_before height (width_in just line) n line.bottom) (spread_if (just == 5) (length part_before) (length part) line.characters (spare (width_in just line)) characters)
+
+-- the width of a segment with one more character, from the segment's sum
+pub width_with : (earlier : List Spot) (spot : Spot) (just : ℕ) (part : Segment) → is_glyph spot ≡ true → just ≡ spot.at.line_just → part ≡ segment_sum just (earlier ++ spot ∷ []) → part.width ≡ width_of (segment spot.at.line_just earlier ++ spot ∷ [])
+width_with earlier spot just part glyph own sum =
+    let passes : (is_glyph spot && (spot.at.line_just == spot.at.line_just)) ≡ true = ap (λ b. b && (spot.at.line_just == spot.at.line_just)) glyph ∙ eq-eqb spot.at.line_just spot.at.line_just refl in
+    ap (λ (p : Segment). p.width) sum
+    ∙ ap (λ just. width_of (segment just (earlier ++ spot ∷ []))) own
+    ∙ ap width_of (filter_yes (λ t. is_glyph t && (t.at.line_just == spot.at.line_just)) earlier spot passes)
+
+-- the present segment of a line whose last character this is
+pub part_with : (earlier : List Spot) (spot : Spot) (line : Line) → is_glyph spot ≡ true → line ≡ line_sum (earlier ++ spot ∷ []) → list_any (clashes spot) earlier ≡ false
+    → (line.part.width ≡ width_of (segment spot.at.line_just earlier ++ spot ∷ [])) × (line.part.count - 1 ≡ length (segment spot.at.line_just earlier))
+part_with earlier spot line glyph is apart =
+    let just = spot.at.line_just in
+    let all = earlier ++ spot ∷ [] in
+    let seen : line.present ≡ largest (λ (t : Spot). t.at.line_just) all = ap (λ (l : Line). l.present) is in
+    let present : line.present ≡ just = omega (arith, seen, largest_push (λ t. t.at.line_just) earlier spot, in_order earlier spot (line_sum earlier) refl apart) in
+    let part : line.part ≡ segment_sum just all = ap (λ (l : Line). l.part) is ∙ ap (λ n. segment_sum n all) (sym seen ∙ present) in
+    let passes : (is_glyph spot && (spot.at.line_just == spot.at.line_just)) ≡ true = ap (λ b. b && (spot.at.line_just == spot.at.line_just)) glyph ∙ eq-eqb spot.at.line_just spot.at.line_just refl in
+    let more : segment just all ≡ segment just earlier ++ spot ∷ [] = filter_yes (λ t. is_glyph t && (t.at.line_just == just)) earlier spot passes in
+    (width_with earlier spot just line.part glyph refl part, omega (arith, ap (λ (p : Segment). p.count) part, ap length more, length-append (segment just earlier) (spot ∷ [])))
+
+-- a character's column, from the columns of its segment before it and their number
+pub column_is : (line : CountedLine) (earlier : List Spot) (spot : Spot) (a : Attributes) (columns before : ℕ)
+    → a ≡ attributes_of spot.at → columns ≡ width_of (segment spot.at.line_just earlier ++ spot ∷ []) - glyph_width spot → before ≡ length (segment spot.at.line_just earlier)
+    → a.rectangle.left + start a.line_just a.rectangle.width (width_in a.line_just line) + columns
+    + (if a.line_just == 5 then spread before line.characters (a.rectangle.width - width_in a.line_just line) else 0)
+    ≡ column_in line earlier spot
+column_is line earlier spot a columns before at wide count = rw (wide, count, at) refl
+
+-- a character's place, by the sums of its group and the entries of its group's lines
+pub place_from : (before all : List Spot) (spot : Spot) (a : Attributes) (group : Group) (lines : List CountedLine) (line : CountedLine) (column row height : ℕ)
+    → a ≡ attributes_of spot.at → (2 ≤ a.line_just) × (a.line_just ≤ 5) → group.ended ≡ count_by is_break (group_of spot before) → lines ≡ table_of (lines_of (group_of spot all))
+    → count_by is_break (group_of spot before) < length (lines_of (group_of spot all)) → ((l : CountedLine) → slice_get lines group.ended ≡ Some l → line ≡ l)
+    → column ≡ column_in line (line_before before spot) spot → height ≡ height_of (lines_of (group_of spot all))
+    → row ≡ a.rectangle.top + start a.page_just a.rectangle.height height + (line.bottom - a.font.height)
+    → ◌≡◌ {A = Place} (record { column = column; row = row }) (place_of before all spot)
+place_from before all spot a group lines line column row height at known ended table there found wide high down =
+    let all_lines = lines_of (group_of spot all) in
+    let k = count_by is_break (group_of spot before) in
+    let just : a.line_just ≡ spot.at.line_just = ap (λ (a : Attributes). a.line_just) at in
+    let own : slice_get (table_of all_lines) k ≡ Some (counted_line (take k all_lines) (slice_index_or all_lines k [])) = look_up all_lines k there in
+    let is : line ≡ counted_line (take k all_lines) (slice_index_or all_lines k []) = found (counted_line (take k all_lines) (slice_index_or all_lines k [])) (rw (table, ended) own) in
+    let place = place_is before all spot line (omega arith) (omega arith) (own ∙ ap Some (sym is)) in
+    rw (wide, down, high, at) (sym place)
+
+-- the present group of an area whose last item is this character, and its present line
+pub group_with : (before : List Spot) (spot : Spot) (area : Area) → is_glyph spot ≡ true → area ≡ area_sum (area_of spot before ++ spot ∷ []) → largest (λ (t : Spot). t.at.page_just) (area_of spot before) ≤ spot.at.page_just
+    → (area.group.ended ≡ count_by is_break (group_of spot before)) × (area.group.line ≡ line_sum (line_before before spot ++ spot ∷ []))
+group_with before spot area glyph is order =
+    let page = spot.at.page_just in
+    let all = area_of spot before ++ spot ∷ [] in
+    let seen : area.present ≡ largest (λ (t : Spot). t.at.page_just) all = ap (λ (a : Area). a.present) is in
+    let present : page ≡ area.present = omega (arith, seen, largest_push (λ t. t.at.page_just) (area_of spot before) spot, order) in
+    let group : area.group ≡ group_sum (group_of spot before ++ spot ∷ []) = group_of_own all area is page present ∙ ap group_sum (own_group page (area_of spot before) spot refl) in (
+      ap (λ (g : Group). g.ended) group ∙ ap length (ended_glyph (group_of spot before) spot glyph) ∙ ended_count (group_of spot before),
+      ap (λ (g : Group). g.line) group ∙ ap line_sum (present_push (group_of spot before) spot glyph),
+    )

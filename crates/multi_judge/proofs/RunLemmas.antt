@@ -1,0 +1,252 @@
+-- A character that only lengthens its segment.
+use Rattle.std.proofs.Common.{◌≡◌, ℕ, ◌+◌, ◌*◌, ◌≤◌, Bool, true, false, not, ◌&&◌, ◌||◌, ◌==◌, inl, inr, List, [], ◌∷◌, ◌++◌, length, Some, None, refl, sym, ap, ◌∙◌, arith}
+use Rattle.std.specs.Prelude.{nat_le, nat_lt}
+use Rattle.std.specs.List.{All, AllPass, after_last, list_any}
+use Rattle.std.specs.Option.{option_map_or, unwrap_or}
+use Rattle.std.proofs.lemmas.Bool.{cases_eq, eq-eqb, le-leb, le-ltb, ne_eqb}
+use Rattle.sign_font.specs.declared.parts.LineFill.TheVariants.{Off}
+use Rattle.multi_meaning.specs.Laid.{too_big}
+use Rattle.sign_font.specs.Cell.{SizedCell}
+use Rattle.sign_font.specs.Sign.{SignData, cell_in}
+use Rattle.multi_meaning.specs.Address.{Spot, area_of, in_group, is_break, is_glyph, lines_of, segment, spots, standing}
+use Rattle.multi_meaning.specs.Fit.{FitsWithout, area_fits, fit, line_fits}
+use Rattle.multi_meaning.specs.Line.{average, height_of, width_of}
+use Rattle.multi_meaning.specs.Meaning.{Meaning, Shows}
+use Rattle.multi_meaning.specs.Offence.{clashes, conflicts, offence, unsized_offence}
+use Rattle.multi_meaning.specs.kept.Present.{IsPlacing}
+use Rattle.multi_meaning.specs.Words.{largest}
+use Rattle.multi_judge.specs.declared.area.Area.{Area}
+use Rattle.multi_judge.specs.declared.area.Group.{Group}
+use Rattle.multi_judge.specs.declared.line.Character.{Character}
+use Rattle.multi_judge.specs.declared.line.Line.{Line}
+use Rattle.multi_judge.specs.declared.line.Segment.{Segment}
+use Rattle.multi_judge.specs.declared.state.State.{State}
+use Rattle.multi_judge.specs.Adding.{character_of}
+use Rattle.multi_judge.specs.Run.{IsBehindCharacter, IsRun, kept_fits, kept_group_height, kept_height, kept_width, lengthened, lengthened_area, lengthened_line, line_in_force}
+use Rattle.multi_judge.specs.State.{IsStateOf}
+use Rattle.multi_judge.specs.Sums.{IsBelow, IsCharacter, area_sum, group_sum, height_before, line_sum, segment_sum, width_before}
+use Rattle.multi_judge.proofs.AreaSumLemmas.{area_stays, area_with, conflicts_kept, fits_character, group_of_own, other_height, present_height, none_of_later_group, own_line, placing_character}
+use Rattle.multi_judge.proofs.GroupHeightLemmas.{height_ended, height_present}
+use Rattle.multi_judge.proofs.GroupSumLemmas.{group_character, present_glyphs}
+use Rattle.multi_judge.proofs.LineSumLemmas.{line_clashes, line_with, none_of_later, segment_own, width_other_of, width_present}
+use Rattle.multi_judge.proofs.PlacingLemmas.{character-accepted, character-exit-fits}
+
+-- ---- what is kept of a line and of a group
+
+-- the width of a segment
+pub kept_width_is : (spots : List Spot) (line : Line) → line ≡ line_sum spots → line.present ≤ 5 → (just : ℕ) → 2 ≤ just → just ≤ 5 → kept_width just line ≡ width_of (segment just spots)
+kept_width_is spots line e known just low high = elim (cases_eq just line.present) [
+  | inl own ↦ rw (eq-eqb just line.present own) (width_present spots line e just own)
+  | inr other ↦ rw (ne_eqb just line.present other) (elim (cases_eq just 2) [
+    | inl two ↦ rw (eq-eqb just 2 two) (width_other_of spots line e just line.left (ap (λ (l : Line). l.left) e ∙ ap (λ n. width_before (line_sum spots).present n spots) (sym two)) other)
+    | inr not2 ↦ rw (ne_eqb just 2 not2) (elim (cases_eq just 3) [
+      | inl three ↦ rw (eq-eqb just 3 three) (width_other_of spots line e just line.centre (ap (λ (l : Line). l.centre) e ∙ ap (λ n. width_before (line_sum spots).present n spots) (sym three)) other)
+      | inr not3 ↦ rw (ne_eqb just 3 not3) (elim (cases_eq just 4) [
+        | inl four ↦ rw (eq-eqb just 4 four) (width_other_of spots line e just line.right (ap (λ (l : Line). l.right) e ∙ ap (λ n. width_before (line_sum spots).present n spots) (sym four)) other)
+        | inr not4 ↦ rw (ne_eqb just 4 not4) (sym (ap width_of (none_of_later spots line e just (omega (arith, not2, not3, not4, other)))))
+      ])
+    ])
+  ])
+]
+
+pub kept_fits_is : (spots : List Spot) (line : Line) (width : ℕ) → line ≡ line_sum spots → line.present ≤ 5 → kept_fits width line ≡ line_fits width spots
+kept_fits_is spots line width e known =
+    let kept = kept_width_is spots line e known in
+    rw (kept 2 (omega arith) (omega arith), kept 3 (omega arith) (omega arith), kept 4 (omega arith) (omega arith), kept 5 (omega arith) (omega arith)) refl
+
+pub kept_height_is : (spots : List Spot) (group : Group) → All IsPlacing spots → group ≡ group_sum spots → kept_height group ≡ height_of (lines_of spots)
+kept_height_is spots group placing e = by_any group.line.any refl
+  where
+    by_any : (b : Bool) → group.line.any ≡ b → kept_height group ≡ height_of (lines_of spots)
+    by_any true some = rw some (height_present spots placing group e some _ group.line.height refl refl)
+    by_any false none = rw none (height_ended spots placing group e none)
+
+-- the height of a group
+pub kept_group_height_is : (spots : List Spot) (area : Area) (just : ℕ) → All IsPlacing spots → area ≡ area_sum spots → 2 ≤ just → just ≤ 4 → area.present ≤ 4 → kept_group_height just area ≡ height_of (lines_of (in_group just spots))
+kept_group_height_is spots area just placing e low high known = elim (cases_eq just area.present) [
+  | inl own ↦ rw (eq-eqb just area.present own) (present_height spots area e placing just (kept_height area.group) own (λ group placing e. kept_height_is group area.group placing e))
+  | inr other ↦ rw (ne_eqb just area.present other) (elim (cases_eq just 2) [
+    | inl two ↦ rw (eq-eqb just 2 two) (other_height spots area e just area.top (ap (λ (a : Area). a.top) e ∙ ap (λ n. height_before (area_sum spots).present n spots) (sym two)) other)
+    | inr not2 ↦ rw (ne_eqb just 2 not2) (elim (cases_eq just 3) [
+      | inl three ↦ rw (eq-eqb just 3 three) (other_height spots area e just area.middle (ap (λ (a : Area). a.middle) e ∙ ap (λ n. height_before (area_sum spots).present n spots) (sym three)) other)
+      | inr not3 ↦ rw (ne_eqb just 3 not3) (sym (ap (λ l. height_of (lines_of l)) (none_of_later_group spots area e just (omega (arith, not2, not3, other, known, low, high)))))
+    ])
+  ])
+]
+
+pub kept_area_fits : (spots : List Spot) (area : Area) (height : ℕ) → All IsPlacing spots → area ≡ area_sum spots → area.present ≤ 4
+    → fit (kept_group_height 2 area) (kept_group_height 3 area) (kept_group_height 4 area) height ≡ area_fits height spots
+kept_area_fits spots area height placing e known =
+    let is = λ (just : ℕ) (low : 2 ≤ just) (high : just ≤ 4). kept_group_height_is spots area just placing e low high known in
+    rw (is 2 (omega arith) (omega arith), is 3 (omega arith) (omega arith), is 4 (omega arith) (omega arith)) refl
+
+-- ---- one more character of the segment
+
+pub or_same : (b : Bool) → b ≡ (b || b)
+or_same true = refl
+or_same false = refl
+
+and_true : (b : Bool) → (b && true) ≡ b
+and_true true = refl
+and_true false = refl
+
+and_none : (b : Bool) → (b && false) ≡ false
+and_none true = refl
+and_none false = refl
+
+-- the average of a number with itself
+pub average_same : (n : ℕ) → average n n ≡ n
+average_same n = omega arith
+
+module _ (line : List Spot) (s : Spot) (c : Character) (glyphs : AllPass is_glyph line) (is : IsCharacter s c) (l : Line) (e : l ≡ line_sum line)
+    (segment_is : l.present ≡ c.just) (parts : l.has_parts ≡ nat_lt c.just 5) (any : l.any ≡ true) (height : c.font.height ≤ l.height) (spacing : c.font.line_spacing ≤ l.spacing)
+    (last : l.part.last ≡ Some c.font.char_spacing) (gap : ℕ) (gap_is : gap ≡ unwrap_or c.spacing c.font.char_spacing) where
+  -- the line is lengthened by the gap and the character's width
+  pub line_lengthened : lengthened_line (l.part.width + (gap + c.width)) (l.part.count + 1) l ≡ line_sum (line ++ s ∷ [])
+  line_lengthened =
+      let most : l.present ≡ largest (λ (t : Spot). t.at.line_just) line = ap (λ (l : Line). l.present) e in
+      let present : largest (λ (t : Spot). t.at.line_just) line ≡ c.just = sym most ∙ segment_is in
+      let between : gap ≡ option_map_or (λ earlier. unwrap_or c.spacing (average earlier c.font.char_spacing)) l.part.last 0 =
+      gap_is ∙ ap (unwrap_or c.spacing) (sym (average_same c.font.char_spacing))
+      ∙ ap (λ o. option_map_or (λ earlier. unwrap_or c.spacing (average earlier c.font.char_spacing)) o 0) (sym last) in
+      let part : l.part ≡ segment_sum c.just line = ap (λ (l : Line). l.part) e ∙ ap (λ n. segment_sum n line) present in
+      let own : ◌≡◌ {A = Segment} (record { width = l.part.width + (gap + c.width); count = l.part.count + 1; last = Some c.font.char_spacing }) (segment_sum c.just (line ++ s ∷ [])) =
+      segment_own c.just line s c is refl l.part gap c.width part between refl in
+      let kept : ◌≡◌ {A = Segment} (record { width = l.part.width + (gap + c.width); count = l.part.count + 1; last = l.part.last }) (segment_sum c.just (line ++ s ∷ [])) =
+      ap (λ o. let g : Segment = record { width = l.part.width + (gap + c.width); count = l.part.count + 1; last = o } in g) last ∙ own in
+      line_with line s c glyphs is l e (omega (arith, segment_is)) _ segment_is
+      (ap (λ (l : Line). l.left) e ∙ ap (λ n. width_before n 2 line) present)
+      (ap (λ (l : Line). l.centre) e ∙ ap (λ n. width_before n 3 line) present)
+      (ap (λ (l : Line). l.right) e ∙ ap (λ n. width_before n 4 line) present)
+      kept (or_same l.has_parts ∙ ap (λ b. l.has_parts || b) parts) (omega (arith, height)) (omega (arith, spacing)) any
+
+-- the area is lengthened where its present line is
+pub area_lengthened : (xs : List Spot) (s : Spot) (area : Area) (page width count : ℕ) → area ≡ area_sum xs → is_glyph s ≡ true → s.at.page_just ≡ page → area.present ≡ page
+    → lengthened_line width count area.group.line ≡ line_sum (after_last is_break (in_group page xs) ++ s ∷ []) → lengthened_area width count area ≡ area_sum (xs ++ s ∷ [])
+area_lengthened xs s area page width count e glyph own present line =
+    area_with xs s page own area e (omega (arith, present)) area _ (area_stays xs page area e (omega (arith, present)) (omega (arith, present))) refl refl refl
+    (group_character page xs s own glyph area.group (lengthened_line width count area.group.line) (group_of_own xs area e page (sym present)) line)
+
+-- the run goes on with what is lengthened
+pub run_stays : (state : State) (gap room width count : ℕ) → IsRun state gap room → IsRun (lengthened width count state) gap room
+run_stays state gap room width count run = record {
+  group = run.group;
+  line = record { segment = run.line.segment; parts = run.line.parts; any = run.line.any; height = run.line.height; spacing = run.line.spacing; last = run.line.last };
+  gap_is = run.gap_is;
+  narrow = run.narrow;
+  heights = run.heights;
+  room_is = run.room_is;
+}
+
+-- the area's numbers grow by no more than the segment's
+pub longer_below : (k width count : ℕ) (area : Area) → IsBelow k area → width ≤ k + 1024 → count ≤ k + 1024 → IsBelow (k + 1024) (lengthened_area width count area)
+longer_below k width count area below wide many = record {
+  top = omega (arith, below.top);
+  middle = omega (arith, below.middle);
+  group = record {
+    ended = omega (arith, below.group.ended);
+    closed = omega (arith, below.group.closed);
+    line = record {
+      left = omega (arith, below.group.line.left);
+      centre = omega (arith, below.group.line.centre);
+      right = omega (arith, below.group.line.right);
+      part = record { width = wide; count = many };
+      known = below.group.line.known;
+    };
+  };
+  known = below.known;
+  some = below.some;
+  bare = λ none. below.bare none;
+  empty = λ none. let e = below.empty none in record { top = e.top; middle = e.middle; ended = e.ended; closed = e.closed; last = e.last };
+}
+
+-- a number below 5 isn't 5
+pub not_full : (n : ℕ) → ((n == 5) && nat_lt n 5) ≡ false
+not_full n = elim (cases_eq n 5) [
+  | inl five ↦ rw five refl
+  | inr other ↦ rw (ne_eqb n 5 other) refl
+]
+
+-- ---- a character beside one with the same attributes
+
+-- the area with it
+abbrev pub longer_by : State → ℕ → SizedCell → Area
+longer_by state gap cell = lengthened_area ((line_in_force state).part.width + (gap + cell.width)) ((line_in_force state).part.count + 1) state.area
+
+-- what stands behind a character still does when its segment is lengthened
+pub behind_stays : (state : State) (width count : ℕ) → IsBehindCharacter state → IsBehindCharacter (lengthened width count state)
+behind_stays state width count b = record {
+  group = b.group;
+  line = record { segment = b.line.segment; parts = b.line.parts; any = b.line.any; height = b.line.height; spacing = b.line.spacing; last = b.line.last };
+}
+
+module _ (state : State) (behind : IsBehindCharacter state) (gap : ℕ) (gap_is : gap ≡ unwrap_or state.attributes.spacing state.attributes.font.char_spacing) (cell : SizedCell) where
+  pub area_beside : (xs : List Spot) (s : Spot) → All IsPlacing xs → state.area ≡ area_sum xs → IsCharacter s (character_of state.attributes cell.width) → s.at.page_just ≡ state.attributes.page_just → state.area.present ≤ state.attributes.page_just
+      → list_any (clashes s) (after_last is_break (in_group state.attributes.page_just xs)) ≡ false → longer_by state gap cell ≡ area_sum (xs ++ s ∷ [])
+  area_beside xs s placing e is page order apart =
+      let spots = after_last is_break (in_group state.attributes.page_just xs) in
+      let here : line_in_force state ≡ line_sum spots = own_line xs state.area e ∙ ap (λ n. line_sum (after_last is_break (in_group n xs))) behind.group in
+      let grown = line_lengthened spots s (character_of state.attributes cell.width) (present_glyphs state.attributes.page_just xs placing) is (line_in_force state) here
+      behind.line.segment behind.line.parts behind.line.any behind.line.height behind.line.spacing behind.line.last gap gap_is in
+      area_lengthened xs s state.area state.attributes.page_just ((line_in_force state).part.width + (gap + cell.width)) ((line_in_force state).part.count + 1) e is.glyph page behind.group grown
+
+  -- a character that doesn't offend lengthens the state
+  pub state_beside : (sign : SignData) (items : List Meaning) → IsStateOf sign items state → (number : ℕ) → cell_in sign state.attributes.font.number number ≡ Some cell → gap ≤ 255 → cell.width ≤ 64
+      → unsized_offence sign items (Shows number) ≡ None
+      → IsStateOf sign (items ++ Shows number ∷ []) (lengthened ((line_in_force state).part.width + (gap + cell.width)) ((line_in_force state).part.count + 1) state)
+  state_beside sign items st number found narrow small fine =
+      let below = longer_below (1024 * length items) ((line_in_force state).part.width + (gap + cell.width)) ((line_in_force state).part.count + 1) state.area st.below
+      (omega (arith, st.below.group.line.part.width, narrow, small)) (omega (arith, st.below.group.line.part.count)) in
+      character-accepted sign items state st number cell found (character_of state.attributes cell.width) refl refl refl refl (longer_by state gap cell) area_beside below fine
+
+-- ---- what a character of the run does
+
+module _ (sign : SignData) (items : List Meaning) (state : State) (st : IsStateOf sign items state) (gap room : ℕ) (run : IsRun state gap room)
+    (number : ℕ) (cell : SizedCell) (found : cell_in sign state.attributes.font.number number ≡ Some cell) (wide : 1 ≤ cell.width)
+    (without : (s : Spot) → s.at ≡ standing sign items → FitsWithout (spots sign items) s) where
+  abbrev longer : Area
+  longer = longer_by state gap cell
+
+  abbrev seen : Character
+  seen = character_of state.attributes cell.width
+
+  -- it doesn't conflict
+  agrees : (before : List Spot) (s : Spot) → state.area ≡ area_sum (area_of s before) → is_glyph s ≡ true → s.at.page_just ≡ state.attributes.page_just → s.at.line_just ≡ state.attributes.line_just
+      → false ≡ conflicts before s
+  agrees before s sum glyph page line =
+      let spots = after_last is_break (in_group state.area.present (area_of s before)) in
+      let here : line_in_force state ≡ line_sum spots = own_line (area_of s before) state.area sum in
+      let present : largest (λ (t : Spot). t.at.line_just) spots ≡ state.attributes.line_just = sym (ap (λ (l : Line). l.present) here) ∙ run.line.segment in
+      let parts : list_any (λ (t : Spot). nat_lt t.at.line_just 5) spots ≡ nat_lt state.attributes.line_just 5 = sym (ap (λ (l : Line). l.has_parts) here) ∙ run.line.parts in
+      let clash : list_any (clashes s) spots ≡ false =
+      line_clashes spots s
+      ∙ ap (λ n. nat_lt n (largest (λ (t : Spot). t.at.line_just) spots) || ((n == 5) && list_any (λ (t : Spot). nat_lt t.at.line_just 5) spots)) line
+      ∙ ap (λ n. nat_lt state.attributes.line_just n || ((state.attributes.line_just == 5) && list_any (λ (t : Spot). nat_lt t.at.line_just 5) spots)) present
+      ∙ ap (λ b. nat_lt state.attributes.line_just state.attributes.line_just || ((state.attributes.line_just == 5) && b)) parts
+      ∙ ap (λ b. b || ((state.attributes.line_just == 5) && nat_lt state.attributes.line_just 5)) (le-ltb state.attributes.line_just state.attributes.line_just (omega arith))
+      ∙ not_full state.attributes.line_just in
+      let whole = conflicts_kept before s state.attributes.page_just state.area.present false glyph page (ap (λ (a : Area). a.present) sum) (sym clash) in
+      sym (and_none (state.attributes.page_just == state.area.present))
+      ∙ ap (λ b. b || ((state.attributes.page_just == state.area.present) && false)) (sym (le-ltb state.attributes.page_just state.area.present (omega (arith, run.group))))
+      ∙ whole
+
+  -- whether it fits
+  fits_behind : (before : List Spot) (s : Spot) → is_glyph s ≡ true → longer ≡ area_sum (area_of s before ++ s ∷ []) → longer.present ≡ s.at.page_just
+      → s.at.rectangle.width ≡ state.attributes.rectangle.width → s.at.rectangle.height ≡ state.attributes.rectangle.height
+      → nat_le ((line_in_force state).part.width + (gap + cell.width)) room ≡ not (too_big Off before s)
+  fits_behind before s glyph sum present w h =
+      let more = area_of s before ++ s ∷ [] in
+      let line = lengthened_line ((line_in_force state).part.width + (gap + cell.width)) ((line_in_force state).part.count + 1) (line_in_force state) in
+      let same : line ≡ line_sum (after_last is_break (in_group s.at.page_just more)) = own_line more longer sum ∙ ap (λ n. line_sum (after_last is_break (in_group n more))) present in
+      let room_left = run.room_is ((line_in_force state).part.width + (gap + cell.width)) ((line_in_force state).part.count + 1) (omega (arith, wide)) in
+      let fits_line = sym room_left ∙ kept_fits_is (after_last is_break (in_group s.at.page_just more)) line state.attributes.rectangle.width same (omega (arith, run.line.segment, st.line_just.1)) in
+      let fits_area = sym run.heights ∙ kept_area_fits more longer state.attributes.rectangle.height (placing_character before s glyph) sum (omega (arith, st.below.known)) in
+      sym (and_true (nat_le ((line_in_force state).part.width + (gap + cell.width)) room))
+      ∙ fits_character before s s.at.page_just state.attributes.rectangle.width state.attributes.rectangle.height
+      (nat_le ((line_in_force state).part.width + (gap + cell.width)) room) true glyph refl w h fits_line fits_area
+
+  pub run_goes_on : (line_in_force state).part.width + (gap + cell.width) ≤ room → IsBelow (1024 * length items + 1024) longer
+      → (offence Off sign items (Shows number) ≡ None) × IsStateOf sign (items ++ Shows number ∷ []) (lengthened ((line_in_force state).part.width + (gap + cell.width)) ((line_in_force state).part.count + 1) state)
+  run_goes_on fits below =
+      character-exit-fits sign items state st number cell found false agrees seen longer refl refl refl refl (area_beside state (record { group = run.group; line = run.line }) gap run.gap_is cell)
+      (nat_le ((line_in_force state).part.width + (gap + cell.width)) room) (λ before s glyph sum present line w h alone. fits_behind before s glyph sum present w h) without refl (le-leb ((line_in_force state).part.width + (gap + cell.width)) room fits) below

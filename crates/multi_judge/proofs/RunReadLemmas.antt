@@ -1,0 +1,115 @@
+-- One more octet of a run, in the string that is read.
+use Rattle.std.proofs.Common.{◌≡◌, ℕ, suc, ◌+◌, ◌*◌, ◌^◌, ◌<◌, ◌≤◌, List, [], ◌∷◌, ◌++◌, length, map, drop, take, slice_get, Option, Some, None, refl, sym, ◌∙◌, arith}
+use Rattle.std.specs.List.{All, sum_by}
+use Rattle.std.specs.Option.{option_map}
+use Rattle.std.proofs.lemmas.List.{length-drop, length-take-le, take-append-drop}
+use Rattle.std.proofs.lemmas.List.Elements.{All-head, All-tail}
+use Rattle.std.proofs.lemmas.List.Sums.{sum_by-append}
+use Rattle.multi_token.specs.Spelling.{IsPlain}
+use Rattle.multi_token.specs.declared.token.Token.{Token}
+use Rattle.multi_token.specs.declared.token.Kind.TheVariants as kinds
+use Rattle.multi_token.specs.Tokens.{IsTokenOf}
+use Rattle.multi_token.proofs.PlaceLemmas.{drop_read, read_drop, single_token}
+use Rattle.sign_font.specs.Cell.{SizedCell}
+use Rattle.sign_font.specs.Sign.{SignData, cell_in}
+use Rattle.sign_font.specs.Sound.{IsWithin}
+use Rattle.sign_font.specs.Text.{HasWidth, width_in}
+use Rattle.multi_meaning.specs.Meaning.{meaning}
+use Rattle.multi_judge.specs.declared.state.State.{State}
+use Rattle.multi_judge.specs.Judging.{ReadSoFar}
+use Rattle.multi_judge.specs.Run.{IsRun, lengthened, line_in_force}
+use Rattle.multi_judge.specs.State.{IsUnfilledOf}
+use Rattle.multi_judge.specs.Sums.{IsBelow}
+use Rattle.multi_judge.proofs.BeforeLemmas.{fits_without}
+use Rattle.multi_judge.proofs.ReadLemmas.{unfilled_more}
+use Rattle.multi_judge.proofs.RunLemmas.{longer_below, run_goes_on, run_stays}
+
+-- a cell of which the width is known
+pub cell_of_width : (o : Option SizedCell) (width : ℕ) → Some width ≡ option_map (λ (c : SizedCell). c.width) o → (c : SizedCell) × (o ≡ Some c) × (width ≡ c.width)
+cell_of_width None width e = absurd (cc)
+cell_of_width (Some c) width e = (c, refl, cc)
+
+pub no_cell : (o : Option SizedCell) → None ≡ option_map (λ (c : SizedCell). c.width) o → o ≡ None
+no_cell None e = refl
+no_cell (Some c) e = absurd (cc)
+
+module _ (sign : SignData) (octets : List ℕ) (at : ℕ) (state : State) (r : ReadSoFar sign octets at (IsUnfilledOf sign state)) (octet : ℕ)
+    (short : length octets < 2 ^ 63) (here : slice_get octets at ≡ Some octet) (plain : IsPlain octet) where
+  abbrev token : Token
+  token = record { at = at; len = 1; kind = kinds.Char octet }
+
+  stands : IsTokenOf octets token
+  stands = single_token octets at octet short here plain
+
+  module _ (gap room : ℕ) (run : IsRun state gap room) (wide : ℕ) (some : 1 ≤ wide) (width_is : Some wide ≡ option_map (λ (c : SizedCell). c.width) (cell_in sign state.attributes.font.number octet)) where
+    pub octet_goes_on : wide ≤ 64 → (line_in_force state).part.width + (gap + wide) ≤ room
+        → ReadSoFar sign octets (at + 1) (IsUnfilledOf sign (lengthened ((line_in_force state).part.width + (gap + wide)) ((line_in_force state).part.count + 1) state))
+    octet_goes_on narrow fits =
+        let (cell, found, is) = cell_of_width (cell_in sign state.attributes.font.number octet) wide width_is in
+        let st = r.is.state_is in
+        let below : IsBelow (1024 * length (map meaning r.items) + 1024) (lengthened ((line_in_force state).part.width + (gap + cell.width)) ((line_in_force state).part.count + 1) state).area =
+        longer_below (1024 * length (map meaning r.items)) ((line_in_force state).part.width + (gap + cell.width)) ((line_in_force state).part.count + 1) state.area st.below
+        (omega (arith, st.below.group.line.part.width, run.narrow, narrow, is)) (omega (arith, st.below.group.line.part.count)) in
+        let behind = run_goes_on sign (map meaning r.items) state st gap room run octet cell found (omega (arith, some, is)) (fits_without sign (map meaning r.items) r.is.fine) (omega (arith, fits, is)) below in
+        let longer = unfilled_more sign octets at state r token refl stands (lengthened ((line_in_force state).part.width + (gap + cell.width)) ((line_in_force state).part.count + 1) state) behind.0 behind.1
+        (record { width = r.is.limited.width; height = r.is.limited.height }) in
+        rw is longer
+
+-- the same, where the run began in a state whose segment has been lengthened since
+module _ (sign : SignData) (octets : List ℕ) (at : ℕ) (state : State) (width count : ℕ) (r : ReadSoFar sign octets at (IsUnfilledOf sign (lengthened width count state))) where
+  module _ (octet : ℕ) (short : length octets < 2 ^ 63) (here : slice_get octets at ≡ Some octet) (plain : IsPlain octet)
+      (gap room : ℕ) (run : IsRun state gap room) (wide : ℕ) (some : 1 ≤ wide) (width_is : Some wide ≡ option_map (λ (c : SizedCell). c.width) (cell_in sign state.attributes.font.number octet)) where
+    pub more_goes_on : wide ≤ 64 → width + (gap + wide) ≤ room → ReadSoFar sign octets (at + 1) (IsUnfilledOf sign (lengthened (width + (gap + wide)) (count + 1) state))
+    more_goes_on narrow fits =
+        octet_goes_on sign octets at (lengthened width count state) r octet short here plain gap room (run_stays state gap room width count run) wide some width_is narrow fits
+
+pub behind_first : {x y : ℕ} {xs ys : List ℕ} → x ∷ xs ≡ y ∷ ys → xs ≡ ys
+behind_first e = cc
+
+-- a text of a run: octets without brackets, each with a cell, all within the room
+module _ (sign : SignData) (octets : List ℕ) (state : State) (short : length octets < 2 ^ 63) (gap room : ℕ) (run : IsRun state gap room) where
+  pub text_goes_on : (text rest widths : List ℕ) (at width count : ℕ) → ReadSoFar sign octets at (IsUnfilledOf sign (lengthened width count state)) → drop at octets ≡ text ++ rest → All IsPlain text
+      → map (width_in sign state.attributes.font.number) text ≡ map Some widths → All (IsWithin 1 64) widths → width + sum_by (λ w. gap + w) widths ≤ room
+      → ReadSoFar sign octets (at + length text) (IsUnfilledOf sign (lengthened (width + sum_by (λ w. gap + w) widths) (count + length text) state))
+  text_goes_on [] rest [] at width count r e plain each within fits =
+      let to : at + 0 ≡ at = omega arith in
+      let wider : width + 0 ≡ width = omega arith in
+      let number : count + 0 ≡ count = omega arith in
+      rw (to, wider, number) r
+  text_goes_on [] rest (w ∷ widths) at width count r e plain each within fits = absurd (cc)
+  text_goes_on (octet ∷ text) rest [] at width count r e plain each within fits = absurd (cc)
+  text_goes_on (octet ∷ text) rest (w ∷ widths) at width count r e plain each within fits =
+      let first = All-head IsPlain octet text plain in
+      let others = All-tail IsPlain octet text plain in
+      let wide = All-head (IsWithin 1 64) w widths within in
+      let narrow = All-tail (IsWithin 1 64) w widths within in
+      let here : slice_get octets at ≡ Some octet = read_drop octets at octet (text ++ rest) e in
+      let is : Some w ≡ width_in sign state.attributes.font.number octet = cc in
+      let more : map (width_in sign state.attributes.font.number) text ≡ map Some widths = cc in
+      let behind : drop (at + 1) octets ≡ text ++ rest = behind_first (sym (drop_read octets at octet here) ∙ e) in
+      let total : sum_by (λ v. gap + v) (w ∷ widths) ≡ 0 + (gap + w) + sum_by (λ v. gap + v) widths = sum_by-append (λ v. gap + v) (w ∷ []) widths in
+      let one = more_goes_on sign octets at state width count r octet short here first gap room run w wide.0 is wide.1 (omega (arith, total)) in
+      let all = text_goes_on text rest widths (at + 1) (width + (gap + w)) (count + 1) one behind others more narrow (omega (arith, total)) in
+      let to : at + 1 + length text ≡ at + suc (length text) = omega arith in
+      let wider : width + (gap + w) + sum_by (λ v. gap + v) widths ≡ width + sum_by (λ v. gap + v) (w ∷ widths) = omega (arith, total) in
+      let number : count + 1 + length text ≡ count + suc (length text) = omega arith in
+      rw (← to, ← wider, ← number) all
+
+-- a text behind a character with the same attributes
+module _ (sign : SignData) (octets : List ℕ) (at : ℕ) (state : State) (r : ReadSoFar sign octets at (IsUnfilledOf sign state)) (short : length octets < 2 ^ 63) (gap left : ℕ)
+    (run : IsRun state gap ((line_in_force state).part.width + left)) where
+  abbrev width_of : ℕ → Option ℕ
+  width_of = width_in sign state.attributes.font.number
+
+  text_read : (text rest : List ℕ) → drop at octets ≡ text ++ rest → All IsPlain text → (pixels : ℕ) → HasWidth width_of gap text pixels → pixels ≤ left
+      → ReadSoFar sign octets (at + length text) (IsUnfilledOf sign (lengthened ((line_in_force state).part.width + pixels) ((line_in_force state).part.count + length text) state))
+  text_read text rest here plain pixels has narrow =
+      let together = has.together in
+      rw together (text_goes_on sign octets state short gap ((line_in_force state).part.width + left) run text rest has.widths at (line_in_force state).part.width (line_in_force state).part.count r here plain has.each has.within (omega (arith, narrow, together)))
+
+  -- the same for the front of what stands there
+  pub front_read : (len pixels : ℕ) → at + len ≤ length octets → All IsPlain (take len (drop at octets)) → HasWidth width_of gap (take len (drop at octets)) pixels → pixels ≤ left
+      → ReadSoFar sign octets (at + len) (IsUnfilledOf sign (lengthened ((line_in_force state).part.width + pixels) ((line_in_force state).part.count + len) state))
+  front_read len pixels within plain has narrow =
+      let size : length (take len (drop at octets)) ≡ len = length-take-le len (drop at octets) (rw (length-drop at octets) (omega (arith, within))) in
+      rw size at (text_read (take len (drop at octets)) (drop len (drop at octets)) (sym (take-append-drop len (drop at octets))) plain pixels has narrow)

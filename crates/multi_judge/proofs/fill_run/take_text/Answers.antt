@@ -1,0 +1,50 @@
+use Rattle.std.proofs.Common.{ℕ, ◌+◌, ◌^◌, List, length, map, ap, subst, arith}
+use Rattle.sign_font.specs.declared.parts.LineFill.TheVariants.{Words}
+use Rattle.multi_meaning.specs.LaidItems.{laid_items}
+use Rattle.multi_meaning.specs.Meaning.{meaning}
+use Rattle.multi_judge.specs.FilledState.{IsFilledFor}
+use Rattle.multi_judge.specs.Judging.{IsAt}
+use Rattle.multi_judge.specs.Text.{IsInText}
+use Rattle.multi_judge.proofs.BoundLemmas.{below_more}
+use Rattle.multi_judge.proofs.FilledReadLemmas.{filled_ready_here}
+use Rattle.multi_judge.proofs.fill_run.take_text.Goals as goal
+
+pub room-most-requires : goal.room-most-requires
+room-most-requires c =
+    let ready = (filled_ready_here c.args.sign.now c.args.source.now.octets c.args.at c.args.pass.now c.requires.behind.so_far c.requires.short).state in
+    record { below = (below_more (2 ^ 62) (2 ^ 62 + 1024) c.args.pass.now.state.area (omega arith) ready.below).group.line }
+
+pub loop-behind-init : goal.loop-behind-init
+loop-behind-init c =
+    let r = c.requires.behind.so_far in
+    let items = map meaning r.items in (
+      record {
+        behind = c.requires.behind;
+        fits = c.requires.run;
+        runs = c.run-run.ensures.run (laid_items Words c.args.sign.now items items) c.args.sign.now r.is.of.state_is c.requires.run.fits;
+        left = omega (arith, c.run-run.ensures.left, c.room-most.ensures.most);
+        widths = c.requires.cells;
+      },
+      omega arith,
+    )
+
+pub loop-behind-smaller : goal.loop-behind-smaller
+loop-behind-smaller c =
+    let (further, text) = c.take_word.ensures.spaced c.in-Spaced.behind c.in-Spaced.is in
+    let same = ap length c.loop-behind.invariant.0.behind.same in
+    omega (arith, further, text.behind.so_far.within, same)
+
+pub loop-behind-preserved : goal.loop-behind-preserved
+loop-behind-preserved c =
+    let (further, text) = c.take_word.ensures.spaced c.in-Spaced.behind c.in-Spaced.is in
+    (subst (λ (os : List ℕ). IsInText c.args.sign.now c.args.cells.now os c.in-Spaced.behind c.take_word.new.run c.take_word.new.pass c.take_word.new.source) c.loop-behind.invariant.0.behind.same text, omega (arith, further, c.loop-behind.invariant.1))
+
+pub returns-in-Ended-clause-further : goal.returns-in-Ended-clause-further
+returns-in-Ended-clause-further c =
+    let (further, _at) = c.take_word.ensures.ended c.in-Ended.behind c.in-Ended.next c.in-Ended.is in
+    omega (arith, further, c.loop-behind.invariant.1)
+
+pub returns-in-Ended-clause-at : goal.returns-in-Ended-clause-at
+returns-in-Ended-clause-at c =
+    subst (λ (os : List ℕ). IsAt c.args.sign.now os c.in-Ended.behind c.in-Ended.next (IsFilledFor c.args.sign.now c.take_word.new.pass) c.take_word.new.source) c.loop-behind.invariant.0.behind.same
+    (c.take_word.ensures.ended c.in-Ended.behind c.in-Ended.next c.in-Ended.is).1

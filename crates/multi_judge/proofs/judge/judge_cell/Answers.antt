@@ -1,0 +1,47 @@
+use Rattle.std.proofs.Common.{◌*◌, ◌^◌, ◌++◌, ◌∷◌, [], not, length, refl, ap, sym, ◌∙◌}
+use Rattle.sign_font.specs.Sign.{cell_in}
+use Rattle.multi_meaning.specs.Meaning.{Shows}
+use Rattle.multi_judge.specs.Adding.{character_of}
+use Rattle.multi_judge.proofs.BeforeLemmas.{fits_without}
+use Rattle.multi_judge.proofs.JudgedLemmas.{state-limits}
+use Rattle.multi_judge.proofs.LimitLemmas.{added_fits, behind_added}
+use Rattle.multi_judge.proofs.PlacingLemmas.{character-exit-conflict, character-exit-too_big, character-exit-fits}
+use Rattle.multi_judge.proofs.RunReadLemmas.{cell_of_width}
+use Rattle.multi_judge.proofs.judge.judge_cell.Goals as goal
+
+pub returns-then-not-put_character-clause-judged : goal.returns-then-not-put_character-clause-judged
+returns-then-not-put_character-clause-judged c = λ sign items of own.
+    let (cell, some, wide) = cell_of_width (cell_in sign c.args.state.now.attributes.font.number c.args.number) c.args.width (sym own) in
+    character-exit-conflict sign items c.args.state.now of.state_is c.args.number cell some (not c.put_character.result) c.put_character.ensures.conflicts
+    (ap not c.if-not-put_character.true)
+
+pub is_within-requires : goal.is_within-requires
+is_within-requires c = record { below = (c.put_character.ensures.added c.if-not-put_character.false).grows (2 ^ 62) c.requires.below }
+
+pub returns-then-is_within-clause-judged : goal.returns-then-is_within-clause-judged
+returns-then-is_within-clause-judged c = λ sign items of own.
+    let (cell, some, wide) = cell_of_width (cell_in sign c.args.state.now.attributes.font.number c.args.number) c.args.width (sym own) in
+    let state = c.args.state.now in
+    let new = c.put_character.new.self in
+    let added = c.put_character.ensures.added c.if-not-put_character.false in
+    let fits = added_fits state new c.args.width added of.limited c.requires.line_just c.requires.page_just in
+    let (fine, st) = character-exit-fits sign items state of.state_is c.args.number cell some (not c.put_character.result) c.put_character.ensures.conflicts
+    (character_of state.attributes c.args.width) new.area refl refl wide refl added.sum c.is_within.result
+    (λ before s glyph sum on own w h without. c.is_within.ensures ∙ fits before s glyph sum on own w h without) (fits_without sign items of.fine)
+    (ap not c.if-not-put_character.false) c.if-is_within.true (added.grows (1024 * length items) of.state_is.below) in
+    (fine, state-limits sign (items ++ Shows c.args.number ∷ []) state new added.same st)
+
+pub returns-else-is_within-clause-judged : goal.returns-else-is_within-clause-judged
+returns-else-is_within-clause-judged c = λ sign items of own.
+    let (cell, some, wide) = cell_of_width (cell_in sign c.args.state.now.attributes.font.number c.args.number) c.args.width (sym own) in
+    let state = c.args.state.now in
+    let new = c.put_character.new.self in
+    let added = c.put_character.ensures.added c.if-not-put_character.false in
+    let fits = added_fits state new c.args.width added of.limited c.requires.line_just c.requires.page_just in
+    character-exit-too_big sign items state of.state_is c.args.number cell some (not c.put_character.result) c.put_character.ensures.conflicts
+    (character_of state.attributes c.args.width) new.area refl refl wide refl added.sum c.is_within.result
+    (λ before s glyph sum on own w h without. c.is_within.ensures ∙ fits before s glyph sum on own w h without) (fits_without sign items of.fine)
+    (ap not c.if-not-put_character.false) c.if-is_within.false
+
+pub returns-then-is_within-clause-behind : goal.returns-then-is_within-clause-behind
+returns-then-is_within-clause-behind c = behind_added c.args.state.now c.put_character.new.self c.args.width (c.put_character.ensures.added c.if-not-put_character.false)

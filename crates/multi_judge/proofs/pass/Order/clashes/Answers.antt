@@ -1,0 +1,6 @@
+use Rattle.std.proofs.Common.{sym}
+use Rattle.multi_judge.proofs.LineSumLemmas.{line_clashes}
+use Rattle.multi_judge.proofs.pass.Order.clashes.Goals as goal
+
+pub returns : goal.returns
+returns c line s e j = rw (e, ← j) (sym (line_clashes line s))

@@ -1,0 +1,26 @@
+use Rattle.std.proofs.Common.{None, ap, cond, sym, ◌∙◌, Option, ℕ, Some}
+use Rattle.sign_font.specs.declared.parts.LineFill.{LineFill}
+use Rattle.sign_font.specs.Sign.{cell_in}
+use Rattle.multi_meaning.specs.Meaning.{Shows}
+use Rattle.multi_meaning.specs.Offence.{offence}
+use Rattle.multi_judge.proofs.FilledJudgedLemmas.{filled_conflict, filled_free}
+use Rattle.multi_judge.proofs.RunReadLemmas.{cell_of_width}
+use Rattle.multi_judge.proofs.pass.Pass.fill_cell.Goals as goal
+
+pub returns-then-page_just-present-clause-judged : goal.returns-then-page_just-present-clause-judged
+returns-then-page_just-present-clause-judged c = λ sign items is own.
+    let (cell, some, wide) = cell_of_width (cell_in sign c.args.self.now.state.attributes.font.number c.args.number) c.args.width (sym own) in
+    ap (λ (setting : LineFill). offence setting sign items (Shows c.args.number)) is.words
+    ∙ filled_conflict sign items c.args.self.now is.of c.args.number cell some c.clashes.result c.clashes.ensures c.if-page_just-present.true
+
+pub returns-then-put_filled-clause-judged : goal.returns-then-put_filled-clause-judged
+returns-then-put_filled-clause-judged c = λ sign items is own.
+    let (cell, some, wide) = cell_of_width (cell_in sign c.args.self.now.state.attributes.font.number c.args.number) c.args.width (sym own) in
+    let put = c.put_filled.ensures.put sign items is own (filled_free sign items c.args.self.now is.of c.args.number cell some c.clashes.result c.clashes.ensures c.if-page_just-present.false) in
+    (put.size ∙ ap {B = Option ℕ} (λ b. cond b None (Some 5)) c.if-put_filled.true, (put.passed c.if-put_filled.true).of)
+
+pub returns-else-put_filled-clause-judged : goal.returns-else-put_filled-clause-judged
+returns-else-put_filled-clause-judged c = λ sign items is own.
+    let (cell, some, wide) = cell_of_width (cell_in sign c.args.self.now.state.attributes.font.number c.args.number) c.args.width (sym own) in
+    let put = c.put_filled.ensures.put sign items is own (filled_free sign items c.args.self.now is.of c.args.number cell some c.clashes.result c.clashes.ensures c.if-page_just-present.false) in
+    put.size ∙ ap {B = Option ℕ} (λ b. cond b None (Some 5)) c.if-put_filled.false

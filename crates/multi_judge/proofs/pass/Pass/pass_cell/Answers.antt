@@ -1,0 +1,34 @@
+use Rattle.std.proofs.Common.{◌≡◌, None, Some, Option, ℕ, Bool, cond, refl, true, false, subst, sym, ◌∙◌}
+use Rattle.sign_font.specs.declared.parts.LineFill.{LineFill}
+use Rattle.multi_meaning.specs.Meaning.{Shows}
+use Rattle.multi_meaning.specs.Offence.{offence}
+use Rattle.multi_meaning.proofs.OrderlyLemmas.{unsized_if}
+use Rattle.multi_judge.specs.declared.pass.Pass.{Pass}
+use Rattle.multi_judge.specs.Passed.{PassesCharacter}
+use Rattle.multi_judge.specs.Run.{IsBehindCharacter}
+use Rattle.multi_judge.proofs.PassedLemmas.{plain_passed}
+use Rattle.multi_judge.proofs.PassLemmas.{is_false, is_true, known_judged, state_judged}
+use Rattle.multi_judge.proofs.pass.Pass.pass_cell.Goals as goal
+
+-- what has no error fits
+fits_if : (fits : Bool) → ◌≡◌ {A = Option ℕ} (cond fits None (Some 5)) None → fits ≡ true
+fits_if true e = refl
+fits_if false e = cc
+
+pub returns-then-this-ne0-clause-passed : goal.returns-then-this-ne0-clause-passed
+returns-then-this-ne0-clause-passed g c =
+    subst (λ w. PassesCharacter w c.args.number c.args.width c.args.self.now c.put_filled.new.self c.put_filled.result.ended) (sym (is_true g.row.WORDS c.if-this-ne0.true))
+    (λ sign items is own fine.
+    let put = c.put_filled.ensures.put sign items is own (unsized_if sign.line_fill sign items (Shows c.args.number) fine true refl) in
+    (put.passed (fits_if c.put_filled.result.fits (sym put.size ∙ fine)), λ off. absurd cc))
+
+pub returns-else-this-ne0-clause-passed : goal.returns-else-this-ne0-clause-passed
+returns-else-this-ne0-clause-passed g c =
+    let new : Pass = record { state = c.judge_cell.new.state; split = c.args.self.now.split; order = c.args.self.now.order } in
+    subst (λ w. PassesCharacter w c.args.number c.args.width c.args.self.now new None) (sym (is_false g.row.WORDS c.if-this-ne0.false))
+    (λ sign items kept own fine.
+    let plain = subst (λ (setting : LineFill). offence setting sign items (Shows c.args.number) ≡ None) kept.off fine in
+    let judged = c.judge_cell.ensures.judged sign items kept own in (
+      plain_passed sign items c.args.self.now new kept c.args.number fine (state_judged sign items (Shows c.args.number) c.judge_cell.result new.state judged plain) (c.judge_cell.ensures.limited kept.limited),
+      λ off. known_judged sign items (Shows c.args.number) c.judge_cell.result new.state (IsBehindCharacter new.state) c.judge_cell.ensures.behind judged plain,
+    ))

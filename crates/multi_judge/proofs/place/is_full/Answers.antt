@@ -1,0 +1,30 @@
+use Rattle.std.proofs.Common.{◌≡◌, ◌∷◌, ◌++◌, ◌==◌, ◌^◌, [], ap, ◌∙◌, take}
+use Rattle.std.specs.Prelude.{slice_index_or}
+use Rattle.std.specs.List.{after_last, count_by}
+use Rattle.multi_meaning.specs.Address.{is_break, lines_of}
+use Rattle.multi_meaning.proofs.DroppedLemmas.{full_known}
+use Rattle.multi_meaning.proofs.EndedLemmas.{ended_count}
+use Rattle.multi_judge.specs.declared.area.Group.{Group}
+use Rattle.multi_judge.specs.Sums.{group_sum}
+use Rattle.multi_judge.specs.Table.{counted_line, width_in}
+use Rattle.multi_judge.proofs.PlaceLemmas.{line_is_there, width_in_is}
+use Rattle.multi_judge.proofs.TableLemmas.{look_up}
+use Rattle.multi_judge.proofs.place.is_full.Goals as goal
+
+pub width-requires-clause-known : goal.width-requires-clause-known
+width-requires-clause-known c = (c.group_for-group.ensures.below (2 ^ 43) c.requires.below).line.known
+
+pub returns : goal.returns
+returns c = record {
+  full = λ front back spots y area order own lines placing stands.
+      let just = c.args.attributes.now.line_just in
+      let all_lines = lines_of (front ++ y ∷ back) in
+      let k = count_by is_break front in
+      let sum : c.group_for-group.result ≡ group_sum front = c.group_for-group.ensures.sum spots area order ∙ ap group_sum own in
+      let ended : c.group_for-group.result.ended ≡ k = ap (λ (g : Group). g.ended) sum ∙ ended_count front in
+      let entry = counted_line (take k all_lines) (slice_index_or all_lines k []) in
+      let line : c.line_at-line.result ≡ entry = c.line_at-line.ensures.line entry (rw (lines, ended) (look_up all_lines k (line_is_there front back y))) in
+      let wide = c.width.ensures.sum (after_last is_break front) (ap (λ (g : Group). g.line) sum) in
+      let there = c.width-2.ensures ∙ ap (width_in just) line ∙ width_in_is (take k all_lines) (slice_index_or all_lines k []) just c.requires.line_just.0 c.requires.line_just.1 in
+      (λ i. wide i == there i) ∙ full_known just front y back placing stands;
+}

@@ -1,0 +1,31 @@
+use Rattle.std.proofs.Common.{◌≡◌, ℕ, ◌+◌, ◌-◌, ◌*◌, ◌≤◌, drop, take, length, Option, sym, ap, subst, ◌∙◌, arith}
+use Rattle.std.specs.Prelude.{IfSome, if◌then◌else◌, min, unwrap_or}
+use Rattle.std.proofs.lemmas.List.{length-drop}
+use Rattle.multi_token.specs.Run.{taken}
+use Rattle.sign_font.specs.Advance.{AreAdvances, ends_run}
+use Rattle.sign_font.specs.Sound.{IsWithin}
+use Rattle.sign_font.specs.Text.{width_in}
+use Rattle.sign_font.proofs.SoundLemmas.{width_sound}
+use Rattle.multi_meaning.proofs.FrontLemmas.{front_width}
+use Rattle.multi_judge.proofs.run.Run.read.Goals as goal
+
+pub returns-clause-width : goal.returns-clause-width
+returns-clause-width c = λ sign font widths.
+    let r = c.read_run.ensures in
+    let octets = drop c.args.at c.args.source.now.octets in
+    let word = c.args.word in
+    let sound = λ (octet : ℕ). subst (λ w. IfSome w (IsWithin 1 64)) (sym (widths octet)) (width_sound c.args.cells.now octet c.advances.ensures.sound) in
+    let tables : AreAdvances (width_in sign font) word c.advances.result.now = λ octet h.
+    c.advances.ensures.table octet h ∙ ap (λ (o : Option ℕ). if ends_run word octet then 32768 else unwrap_or o 32768) (sym (widths octet)) in
+    let has = front_width (width_in sign font) word sound c.advances.result.now tables
+    c.from.result c.min-room.result octets c.read_run.result.len r.run (omega (arith, c.min-room.ensures)) r.octets in
+    let wide : c.read_run.result.width ≡ taken c.advances.result.now c.from.result (take c.read_run.result.len octets) = omega (arith, r.width) in
+    rw (← c.from.ensures, wide) has
+
+pub returns-clause-steps : goal.returns-clause-steps
+returns-clause-steps c =
+    let r = c.read_run.ensures in
+    let all = c.args.source.now.octets in
+    let len = c.read_run.result.len in
+    let within : len ≤ length all - c.args.at = rw (← length-drop c.args.at all) r.run.within in
+    (min (2 * len + 2) (2 * (length all - c.args.at) + 1), omega arith, omega arith, r.steps)

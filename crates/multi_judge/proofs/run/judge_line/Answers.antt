@@ -1,0 +1,36 @@
+use Rattle.std.proofs.Common.{◌≡◌, ℕ, ◌+◌, ◌-◌, map, sym, ap, subst, arith}
+use Rattle.multi_token.specs.Counted.{Counted, charged}
+use Rattle.multi_meaning.specs.Meaning.{meaning}
+use Rattle.multi_judge.specs.declared.state.State.{State}
+use Rattle.multi_judge.specs.Judging.{ReadSoFar}
+use Rattle.multi_judge.specs.State.{IsUnfilledOf}
+use Rattle.multi_judge.proofs.BeforeLemmas.{unfilled_fits}
+use Rattle.multi_judge.proofs.ReadLemmas.{ready_here}
+use Rattle.multi_judge.proofs.RunReadLemmas.{front_read}
+use Rattle.multi_judge.proofs.run.judge_line.Goals as goal
+
+pub go_along-requires-clause-small : goal.go_along-requires-clause-small
+go_along-requires-clause-small c =
+    (ready_here c.args.sign.now c.args.source.now.octets c.args.at c.args.state.now c.requires.behind.so_far c.requires.short, c.requires.short)
+
+pub returns-clause-at : goal.returns-clause-at
+returns-clause-at c =
+    let sign = c.args.sign.now in
+    let xs = c.args.source.now.octets in
+    let at = c.args.at in
+    let state = c.args.state.now in
+    let r = c.requires.behind.so_far in
+    let p = c.go_along.ensures.run in
+    let to = c.go_along.result.0 in
+    let run = p.run (map meaning r.items) sign r.is.state_is (unfilled_fits sign (map meaning r.items) state r.is) in
+    let here : at + (to - at) ≡ to = omega (arith, p.forward) in
+    let front = front_read sign xs at state r (omega (arith, c.requires.short)) p.gap p.left run (to - at) p.pixels (omega (arith, p.forward, p.within)) p.plain p.width p.narrow in
+    let k = c.go_along.ensures.steps in
+    let rises : c.go_along.new.source.steps ≡ (charged c.args.source.now k.0).steps = ap (λ (s : Counted). s.steps) k.3 in
+    record {
+      so_far = subst (λ (x : ℕ × State). ReadSoFar sign xs x.0 (IsUnfilledOf sign x.1)) (λ i. (here i, sym p.is i)) front;
+      octet = c.go_along.ensures.next;
+      same = ap (λ (s : Counted). s.octets) k.3;
+      least = omega (arith, rises, k.1, c.requires.behind.least, p.forward, p.within, c.requires.short);
+      most = omega (arith, rises, k.2, c.requires.behind.most, p.forward, p.within, c.requires.short);
+    }

@@ -1,0 +1,80 @@
+-- What is kept of an open line where lines are filled: the sums around its last space.
+use Rattle.std.specs.Prelude.{◌≡◌, ℕ, ◌≤◌, Bool, true, false, nat_lt, List, [], ◌∷◌, ◌++◌, Option, None, Some}
+use Rattle.std.specs.List.{All, AllPass, after_last, list_any}
+use Rattle.std.specs.Option.{IfSome, option_map}
+use Rattle.sign_font.specs.Sign.{info_of}
+use Rattle.multi_meaning.specs.Address.{Spot, is_break, is_glyph}
+use Rattle.multi_meaning.specs.Filling.{CutAt, cut_at_last, dropped, filled, is_space}
+use Rattle.multi_meaning.specs.Fit.{line_fits}
+use Rattle.multi_meaning.specs.Offence.{clashes}
+use Rattle.multi_meaning.specs.Words.{largest}
+use Rattle.multi_meaning.specs.kept.Present.{IsPlacing, ended_lines, IsFilledOn}
+use Rattle.multi_judge.specs.declared.area.Area.{Area}
+use Rattle.multi_judge.specs.declared.area.Group.{Group}
+use Rattle.multi_judge.specs.declared.fill.Split.{Split}
+use Rattle.multi_judge.specs.declared.pass.Order.{Order}
+use Rattle.multi_judge.specs.declared.line.Character.{Character}
+use Rattle.multi_judge.specs.declared.line.Line.{Line}
+use Rattle.multi_judge.specs.Sums.{IsCharacter, IsLineBelow, area_sum, group_sum, line_sum}
+
+-- the sums around a space of a line: of the characters before it, its font, and of those behind it (own)
+abbrev pub parts_sum : CutAt Spot → Split
+parts_sum cut = record { before = line_sum cut.before; font = info_of cut.item.at.font; behind = line_sum cut.behind }
+
+-- the sums around a line's last space, if it has one (own)
+abbrev pub split_sum : List Spot → Option Split
+split_sum line = option_map parts_sum (cut_at_last is_space line)
+
+-- what the order of the justifications of these characters is judged by: the largest, and whether a character isn't full (own)
+abbrev pub order_sum : List Spot → Order
+order_sum line = record {
+  largest = largest (λ t. t.at.line_just) line;
+  has_parts = list_any (λ t. nat_lt t.at.line_just 5) line;
+}
+
+-- the numbers of the parts of a line are at most k (own)
+abbrev pub IsSplitBelow : ℕ → Option Split → Type 0
+IsSplitBelow k split = IfSome split (λ s. IsLineBelow k s.before × IsLineBelow k s.behind)
+
+-- a group has the ended lines that it had, or one more, whose characters begin the line that was the present one, and have these sums (own)
+abbrev pub EndsLine : List Spot → List Spot → Option Line → Type 0
+EndsLine old new None = ended_lines new ≡ ended_lines old
+EndsLine old new (Some line) =
+    (characters : List Spot) × (end : Spot) × (line ≡ line_sum characters)
+    × ((behind : List Spot) × (after_last is_break old ≡ characters ++ behind))
+    × (is_break end ≡ true) × (ended_lines new ≡ ended_lines old ++ (characters ++ end ∷ []) ∷ [])
+
+-- a character joins a group whose lines are filled to this width, where these are the sums of the group and of its open line's
+-- parts before it: if the open line fits and the character clashes with none of it, then group and split are those with it, and the
+-- line is ended that is (own)
+abbrev pub FillsGroup : ℕ → Group → Option Split → Character → Bool → Group → Option Split → Option Line → Type 0
+FillsGroup width old split character space new split' ended =
+    (group : List Spot) (s : Spot) → All IsPlacing group → IsCharacter s character → is_space s ≡ space
+    → line_fits width (after_last is_break (filled (Some width) group)) ≡ true
+    → list_any (clashes s) (after_last is_break (filled (Some width) group)) ≡ false
+    → old ≡ group_sum (filled (Some width) group) → split ≡ split_sum (after_last is_break (filled (Some width) group))
+    → (new ≡ group_sum (filled (Some width) (group ++ s ∷ [])))
+    × (split' ≡ split_sum (after_last is_break (filled (Some width) (group ++ s ∷ []))))
+    × EndsLine (filled (Some width) group) (filled (Some width) (group ++ s ∷ [])) ended
+
+-- a character joins the group of an area with this page justification, where lines are filled to this width: if the open line fits
+-- and the character clashes with none of it, then area and split are those with it, and the line is ended that is (own)
+abbrev pub FillsArea : ℕ → ℕ → Area → Option Split → Character → Bool → Area → Option Split → Option Line → Type 0
+FillsArea just width area split character space area' split' ended =
+    (old new group : List Spot) (s : Spot) → All IsPlacing old → All IsPlacing group → area ≡ area_sum old → area.present ≤ just
+    → IsFilledOn just width group s old new → IsCharacter s character → is_space s ≡ space
+    → line_fits width (after_last is_break (filled (Some width) group)) ≡ true
+    → list_any (clashes s) (after_last is_break (filled (Some width) group)) ≡ false
+    → (area.present ≡ just → split ≡ split_sum (after_last is_break (filled (Some width) group)))
+    → (area' ≡ area_sum new) × (split' ≡ split_sum (after_last is_break (filled (Some width) (group ++ s ∷ []))))
+    × EndsLine (filled (Some width) group) (filled (Some width) (group ++ s ∷ [])) ended
+
+-- a group is broken at the last space of its present line, where these are the sums of the group and of that line's parts around the
+-- space: it is then the group with that space dropped (own)
+abbrev pub BreaksGroup : Group → Split → Group → Type 0
+BreaksGroup old split new =
+    (front before behind : List Spot) (space : Spot) → All IsPlacing (front ++ before) → after_last is_break front ≡ []
+    → AllPass is_glyph before → AllPass is_glyph behind → is_glyph space ≡ true
+    → old ≡ group_sum (front ++ (before ++ space ∷ behind))
+    → split.before ≡ line_sum before → split.font ≡ info_of space.at.font → split.behind ≡ line_sum behind
+    → new ≡ group_sum (((front ++ before) ++ dropped space ∷ []) ++ behind)

@@ -1,0 +1,67 @@
+-- A run where lines are filled: characters behind one with the same attributes, as long as they stay on its line (own).
+use Rattle.std.specs.Prelude.{◌≡◌, ℕ, ◌+◌, ◌-◌, true, ◌==◌, nat_lt, [], Option, Some, if◌then◌else◌}
+use Rattle.std.specs.Option.{IfSome, option_map}
+use Rattle.multi_judge.specs.declared.attributes.Attributes.{Attributes}
+use Rattle.multi_judge.specs.declared.fill.Split.{Split}
+use Rattle.multi_judge.specs.declared.pass.Pass.{Pass}
+use Rattle.multi_judge.specs.declared.pass.Order.{Order}
+use Rattle.multi_judge.specs.declared.line.Line.{Line}
+use Rattle.multi_judge.specs.Sums.{line_sum}
+use Rattle.multi_judge.specs.Run.{Fits, IsBehindCharacter, IsBehindOne, lengthened, lengthened_line, line_in_force}
+
+-- the order is that of characters of which the last has this line justification (own)
+abbrev pub IsOrderOf : ℕ → Order → Type 0
+IsOrderOf just order = (order.largest ≡ just) × (order.has_parts ≡ nat_lt just 5)
+
+-- the characters behind the last space of the line, if there are some, end with one of these attributes (own)
+abbrev pub GoesOnBehind : Attributes → Option Split → Type 0
+GoesOnBehind here split = IfSome split (λ s. s.behind.any ≡ true → IsBehindOne here.line_just here.font s.behind)
+
+-- the last character was put into the present area with the attributes in force, what is there fits, and so a character here only
+-- lengthens what is kept (own)
+pub record IsFilledRun (kept : Pass) : Type 0 where
+  pub behind : IsBehindCharacter kept.state
+  pub fits : Fits kept.state
+  pub order : IsOrderOf kept.state.attributes.line_just kept.order
+  pub split : GoesOnBehind kept.state.attributes kept.split
+
+-- a line whose present segment has so many more pixels and characters (own)
+abbrev pub longer_line : ℕ → ℕ → Line → Line
+longer_line pixels count line = lengthened_line (line.part.width + pixels) (line.part.count + count) line
+
+-- a line of no character, begun with so many characters with these attributes, of so many pixels (own)
+abbrev pub even_line : Attributes → ℕ → ℕ → Line → Line
+even_line here pixels count line = record line {
+  present = here.line_just;
+  part = record { width = pixels; count = count; last = Some here.font.char_spacing };
+  has_parts = nat_lt here.line_just 5;
+  height = here.font.height;
+  spacing = here.font.line_spacing;
+  any = true;
+}
+
+-- a line with so many more characters with these attributes, of so many pixels with this gap before each: on a line of no character
+-- the first one has none (own)
+abbrev pub with_run : Attributes → ℕ → ℕ → ℕ → Line → Line
+with_run here gap pixels count line =
+    if line.any then longer_line pixels count line else (if count == 0 then line else even_line here (pixels - gap) count line)
+
+-- the parts of a line around its last space, with so many more characters behind it (own)
+abbrev pub with_run_behind : Attributes → ℕ → ℕ → ℕ → Split → Split
+with_run_behind here gap pixels count split = record split { behind = with_run here gap pixels count split.behind }
+
+-- what is kept with so many more characters of a run, of so many pixels with this gap before each; none is a space (own)
+abbrev pub with_word : ℕ → ℕ → ℕ → Pass → Pass
+with_word gap pixels count kept = record {
+  state = lengthened ((line_in_force kept.state).part.width + pixels) ((line_in_force kept.state).part.count + count) kept.state;
+  split = option_map (with_run_behind kept.state.attributes gap pixels count) kept.split;
+  order = kept.order;
+}
+
+-- what is kept with a space behind a run, of so many pixels with the gap before it: the line may be broken there (own)
+abbrev pub with_space : ℕ → Pass → Pass
+with_space pixels kept = record {
+  state = lengthened ((line_in_force kept.state).part.width + pixels) ((line_in_force kept.state).part.count + 1) kept.state;
+  split = Some (record { before = line_in_force kept.state; font = kept.state.attributes.font; behind = line_sum [] });
+  order = kept.order;
+}

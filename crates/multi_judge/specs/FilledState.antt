@@ -1,0 +1,46 @@
+-- What is kept of the items that were read, where lines are filled (own).
+use Rattle.std.specs.Prelude.{◌≡◌, Bool, true, false, ◌*◌, ◌^◌, List, length, Some}
+use Rattle.std.specs.List.{after_last}
+use Rattle.multi_tag.specs.declared.tag.Tag.{Tag}
+use Rattle.multi_tag.specs.declared.tag.Tag.TheVariants.{NewPage, NewLine, Rect}
+use Rattle.sign_font.specs.declared.parts.LineFill.TheVariants.{Words}
+use Rattle.sign_font.specs.Sign.{SignData}
+use Rattle.multi_meaning.specs.Address.{in_group, is_break, standing}
+use Rattle.multi_meaning.specs.Filling.{filled}
+use Rattle.multi_meaning.specs.kept.FillOpen.{AllOpenFit}
+use Rattle.multi_meaning.specs.LaidItems.{laid_items}
+use Rattle.multi_meaning.specs.Meaning.{Meaning}
+use Rattle.multi_meaning.specs.kept.Present.{present_area}
+use Rattle.multi_judge.specs.declared.pass.Pass.{Pass}
+use Rattle.multi_judge.specs.FillSums.{IsSplitBelow, order_sum, split_sum}
+use Rattle.multi_judge.specs.State.{IsReady, IsStateOf}
+
+-- it is what is kept of these items: the state of the items as they are laid out, the parts of the present line around its last
+-- space, and the order of all characters of the present group since the last `nl`; no sum overflows, and the open lines fit (own)
+pub record IsFilledOf (sign : SignData) (items : List Meaning) (kept : Pass) : Type 0 where
+  pub state_is : IsStateOf sign (laid_items Words sign items items) kept.state
+  pub split_is :
+      kept.split
+      ≡ split_sum
+      (after_last is_break
+      (filled (Some (standing sign items).rectangle.width) (in_group kept.state.area.present (present_area sign items))))
+  pub order_is : kept.order ≡ order_sum (after_last is_break (in_group kept.state.area.present (present_area sign items)))
+  pub split_below : IsSplitBelow (1024 * length items) kept.split
+  pub fits : AllOpenFit (Some (standing sign items).rectangle.width) (present_area sign items)
+
+-- lines are filled, and this is what is kept of these items (own)
+pub record IsFilledFor (sign : SignData) (kept : Pass) (items : List Meaning) : Type 0 where
+  pub words : sign.line_fill ≡ Words
+  pub of : IsFilledOf sign items kept
+
+-- it is small enough that no sum overflows, and its justifications are known ones (own)
+pub record IsFilledReady (kept : Pass) : Type 0 where
+  pub state : IsReady kept.state
+  pub split : IsSplitBelow (2 ^ 62) kept.split
+
+-- a line begins behind what this tag says (NTCIP 1203 v03, MULTI tags 'nl', 'np' and 'tr')
+abbrev pub begins_line : Tag → Bool
+begins_line NewPage = true
+begins_line (NewLine gap) = true
+begins_line (Rect x y w h) = true
+begins_line tag = false

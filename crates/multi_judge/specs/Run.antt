@@ -1,0 +1,125 @@
+-- A run: characters behind one with the same attributes, which only lengthen their segment.
+use Rattle.std.specs.Prelude.{◌≡◌, ℕ, ◌+◌, ◌-◌, ◌≤◌, Bool, true, false, ◌&&◌, ◌==◌, nat_le, nat_lt, List, Some, length, slice_range, if◌then◌else◌}
+use Rattle.std.specs.List.{All}
+use Rattle.std.specs.Option.{option_map_or, unwrap_or}
+use Rattle.multi_token.specs.Spelling.{IsPlain}
+use Rattle.sign_font.specs.declared.font.FontInfo.{FontInfo}
+use Rattle.sign_font.specs.Sign.{SignData}
+use Rattle.sign_font.specs.Text.{HasWidth, width_in}
+use Rattle.multi_meaning.specs.Fit.{fit}
+use Rattle.multi_meaning.specs.Line.{average}
+use Rattle.multi_meaning.specs.Meaning.{Meaning}
+use Rattle.multi_judge.specs.declared.area.Area.{Area}
+use Rattle.multi_judge.specs.declared.area.Group.{Group}
+use Rattle.multi_judge.specs.declared.line.Line.{Line}
+use Rattle.multi_judge.specs.declared.state.State.{State}
+use Rattle.multi_judge.specs.State.{IsStateOf}
+
+-- the width of the characters with a line justification, by what is kept of the line: left 2, centre 3, right 4, full 5 (own)
+abbrev pub kept_width : ℕ → Line → ℕ
+kept_width just line =
+    if just
+    == line.present then line.part.width else
+    (if just == 2 then line.left else (if just == 3 then line.centre else (if just == 4 then line.right else 0)))
+
+-- a line fits a width, by what is kept of it (own)
+abbrev pub kept_fits : ℕ → Line → Bool
+kept_fits width line = fit (kept_width 2 line) (kept_width 3 line) (kept_width 4 line) width && nat_le (kept_width 5 line) width
+
+-- the height of a group, by what is kept of it (own)
+abbrev pub kept_height : Group → ℕ
+kept_height group =
+    if group.line.any then group.closed + option_map_or (λ ended. unwrap_or ended.gap (average ended.spacing group.line.spacing)) group.last
+    0 + group.line.height
+    else group.closed
+
+-- the height of the group with a page justification, by what is kept of the area: top 2, middle 3, bottom 4 (own)
+abbrev pub kept_group_height : ℕ → Area → ℕ
+kept_group_height just area =
+    if just == area.present then kept_height area.group else (if just == 2 then area.top else (if just == 3 then area.middle else 0))
+
+-- the groups of an area stand apart within a height, by what is kept of the area (own)
+abbrev pub kept_fits_height : ℕ → Area → Bool
+kept_fits_height height area = fit (kept_group_height 2 area) (kept_group_height 3 area) (kept_group_height 4 area) height
+
+-- a line whose present segment has this width and number of characters (own)
+abbrev pub lengthened_line : ℕ → ℕ → Line → Line
+lengthened_line width count line = record line { part = record line.part { width = width; count = count } }
+
+-- by what is kept of a line, its segments before the present one fit a width (own)
+abbrev pub FitsBefore : ℕ → Line → Type 0
+FitsBefore width line = kept_fits width (lengthened_line 0 0 line) ≡ true
+
+-- the height of the group with a page justification, if it is before the present one, by what is kept of the area (own)
+abbrev pub kept_before : ℕ → Area → ℕ
+kept_before just area = if just == area.present then 0 else (if just == 2 then area.top else (if just == 3 then area.middle else 0))
+
+-- by what is kept of an area, its groups before the present one fit a height (own)
+abbrev pub GroupsFitBefore : ℕ → Area → Type 0
+GroupsFitBefore height area = fit (kept_before 2 area) (kept_before 3 area) (kept_before 4 area) height ≡ true
+
+-- by what is kept of a line, a character with a line justification may stand on it (own)
+abbrev pub IsOpen : ℕ → Line → Type 0
+IsOpen just line = (line.present ≤ just) × (just ≡ 5 → line.has_parts ≡ false)
+
+-- the last character of a line has this line justification and font (own)
+pub record IsBehindOne (just : ℕ) (font : FontInfo) (line : Line) : Type 0 where
+  pub segment : line.present ≡ just
+  pub parts : line.has_parts ≡ nat_lt just 5
+  pub any : line.any ≡ true
+  pub height : font.height ≤ line.height
+  pub spacing : font.line_spacing ≤ line.spacing
+  pub last : line.part.last ≡ Some font.char_spacing
+
+-- a group whose present segment has this width and number of characters (own)
+abbrev pub lengthened_group : ℕ → ℕ → Group → Group
+lengthened_group width count group = record group { line = lengthened_line width count group.line }
+
+-- an area whose present segment has this width and number of characters (own)
+abbrev pub lengthened_area : ℕ → ℕ → Area → Area
+lengthened_area width count area = record area { group = lengthened_group width count area.group }
+
+-- a state whose present segment has this width and number of characters (own)
+abbrev pub lengthened : ℕ → ℕ → State → State
+lengthened width count state = record state { area = lengthened_area width count state.area }
+
+-- the line in force (own)
+abbrev pub line_in_force : State → Line
+line_in_force state = state.area.group.line
+
+-- the last character was put into the present area with the attributes in force (own)
+pub record IsBehindCharacter (state : State) : Type 0 where
+  pub group : state.area.present ≡ state.attributes.page_just
+  pub line : IsBehindOne state.attributes.line_just state.attributes.font (line_in_force state)
+
+-- by what is kept, the present line and the present area fit the rectangle in force (own)
+pub record Fits (state : State) : Type 0 where
+  pub width : kept_fits state.attributes.rectangle.width (line_in_force state) ≡ true
+  pub height : kept_fits_height state.attributes.rectangle.height state.area ≡ true
+
+-- a character here has the attributes of the one before it, so that it only lengthens their segment: by its width and this gap,
+-- and it fits where the segment then has at most so much room (own)
+pub record IsRun (state : State) (gap room : ℕ) : Type 0 where
+  pub group : state.area.present ≡ state.attributes.page_just
+  pub line : IsBehindOne state.attributes.line_just state.attributes.font (line_in_force state)
+  pub gap_is : gap ≡ unwrap_or state.attributes.spacing state.attributes.font.char_spacing
+  pub narrow : gap ≤ 255
+  pub heights : kept_fits_height state.attributes.rectangle.height state.area ≡ true
+  pub room_is :
+      (width count : ℕ) → 1 ≤ width
+      → kept_fits state.attributes.rectangle.width (lengthened_line width count (line_in_force state)) ≡ nat_le width room
+
+-- the octets between two offsets are characters that lengthen the segment of the one before them, by these pixels: they go into what is
+-- left where the line fits, and the new state is the old one with them (own)
+pub record IsRunPassed (sign : SignData) (octets : List ℕ) (at : ℕ) (state : State) (at' : ℕ) (state' : State) : Type 0 where
+  pub gap : ℕ
+  pub left : ℕ
+  pub pixels : ℕ
+  pub forward : at ≤ at'
+  pub within : at' ≤ length octets
+  pub plain : All IsPlain (slice_range octets at at')
+  pub width : HasWidth (width_in sign state.attributes.font.number) gap (slice_range octets at at') pixels
+  pub narrow : pixels ≤ left
+  pub run : (items : List Meaning) (sign : SignData) → IsStateOf sign items state → Fits state
+      → IsRun state gap ((line_in_force state).part.width + left)
+  pub is : state' ≡ lengthened ((line_in_force state).part.width + pixels) ((line_in_force state).part.count + (at' - at)) state

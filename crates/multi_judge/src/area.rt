@@ -1,0 +1,271 @@
+//! The running sums of an area's groups.
+
+ghost use Rattle.std.specs.Prelude.{◌≡◌, ◌≢◌, ℕ, ◌+◌, ◌^◌, ◌<◌, ◌≤◌, ◌&&◌, true, false, nat_le, not, List, [], ◌∷◌, ◌++◌};
+ghost use Rattle.std.specs.List.{All};
+ghost use Rattle.std.specs.Option.{option_map_or, unwrap_or};
+ghost use Rattle.sign_font.specs.declared.parts.LineFill.TheVariants.{Off};
+ghost use Rattle.multi_meaning.specs.Address.{Spot, is_break, area_of, in_group, lines_of};
+ghost use Rattle.multi_meaning.specs.Fit.{area_fits};
+ghost use Rattle.multi_meaning.specs.Laid.{too_big};
+ghost use Rattle.multi_meaning.specs.Line.{average, height_of};
+ghost use Rattle.multi_meaning.specs.kept.Present.{IsPlacing};
+ghost use Rattle.multi_judge.specs.Adding.{ReachesGroup};
+ghost use Rattle.multi_judge.specs.Run.{kept_fits_height, kept_group_height, kept_height, lengthened_area};
+ghost use Rattle.multi_judge.specs.State.{group_room};
+ghost use Rattle.multi_judge.specs.Sums.{IsBare, group_sum, area_sum, area_sum_in, IsBreak, IsGroupBelow, IsBelow};
+
+use crate::line::{Line, gap_or_average, parts_fit, room_for};
+use sign_font::FontInfo;
+
+/// The last line that an `nl` ended.
+#[derive(Clone, Copy)]
+pub(crate) struct Ended {
+    /// The gap that its `nl` gave, in pixels, if it gave one.
+    pub(crate) gap: Option<u8>,
+    /// The line's spacing, in pixels.
+    pub(crate) spacing: u8,
+}
+
+/// The placing items of an area with one page justification.
+#[derive(Clone, Copy)]
+pub struct Group {
+    /// How many lines an `nl` ended.
+    pub(crate) ended: u64,
+    /// The height of the ended lines in pixels, with the gaps between them.
+    pub closed: u64,
+    /// The last ended line, if there is one.
+    pub(crate) last: Option<Ended>,
+    /// What stands behind the last `nl`.
+    pub line: Line,
+}
+
+/// The placing items of an area. Page justifications don't go back in an area, so only one group grows, and of those before it
+/// only the heights are kept.
+#[derive(Clone, Copy)]
+pub struct Area {
+    /// The page justification of the present group, the largest so far; 0 where there is no item.
+    pub present: u8,
+    /// The heights in pixels of the groups before the present one.
+    pub(crate) top: u64,
+    pub(crate) middle: u64,
+    /// The present group.
+    pub group: Group,
+}
+
+impl Group {
+    /// A group of no item.
+    pub(crate) fn new() -> Group
+        ensures sum { result ≡ group_sum [] }
+        ensures below { IsGroupBelow 0 result }
+    {
+        Group {
+            ended: 0,
+            closed: 0,
+            last: None,
+            line: Line::new(),
+        }
+    }
+
+    /// Adds an `nl` of this group.
+    #[inline(always)]
+    pub(crate) fn add_break(&mut self, gap: Option<u8>, font: &FontInfo)
+        requires below { IsGroupBelow (2 ^ 62) self.old }
+        ensures sum { (group : List Spot) (s : Spot) → All IsPlacing group → self.old ≡ group_sum group → IsBreak s gap font.now
+            → self.new ≡ group_sum (group ++ s ∷ []) }
+        ensures grows { (k : ℕ) → IsGroupBelow k self.old → IsGroupBelow (k + 1024) self.new }
+        ensures none { self.new.line.any ≡ false }
+        ensures bare { IsBare self.new.line }
+    {
+        let height = self.line.ended_height(font);
+        let spacing = self.line.ended_spacing(font);
+        self.ended += 1;
+        self.closed += u64::from(self.gap(spacing)) + u64::from(height);
+        self.last = Some(Ended { gap, spacing });
+        self.line = Line::new();
+    }
+
+    /// The pixels between the last ended line and the present one with this spacing, 0 where none is ended.
+    fn gap(&self, spacing: u8) -> u8
+        ensures { result ≡ option_map_or
+            (λ ended. unwrap_or ended.gap (average ended.spacing spacing)) self.now.last 0 }
+    {
+        match self.last {
+            Some(ended) => gap_or_average(ended.gap, ended.spacing, spacing),
+            None => 0,
+        }
+    }
+
+    /// The height of the group's lines in pixels, with the gaps between them.
+    #[inline(always)]
+    pub fn height(self) -> u64
+        requires below { self.closed ≤ 2 ^ 62 + 1024 }
+        ensures sum { (group : List Spot) → All IsPlacing group → self ≡ group_sum group
+            → result ≡ height_of (lines_of group) }
+        ensures kept { result ≡ kept_height self }
+        ensures below { result ≤ self.closed + 1024 }
+    {
+        if !self.line.any {
+            return self.closed;
+        }
+        self.closed + u64::from(self.gap(self.line.spacing)) + u64::from(self.line.height)
+    }
+}
+
+impl Area {
+    /// An area of no item.
+    pub(crate) fn new() -> Area
+        ensures sum { result ≡ area_sum [] }
+        ensures below { IsBelow 0 result }
+    {
+        Area {
+            present: 0,
+            top: 0,
+            middle: 0,
+            group: Group::new(),
+        }
+    }
+
+    /// Goes on to the group with a page justification, which isn't before that of the present one.
+    #[inline(always)]
+    pub(crate) fn go_on(&mut self, page_just: u8)
+        requires page_just { (2 ≤ page_just) × (page_just ≤ 4) }
+        requires below { IsBelow (2 ^ 62) self.old }
+        ensures sum { (area : List Spot) → All IsPlacing area → self.old ≡ area_sum area → self.old.present ≤ page_just
+            → self.new ≡ area_sum_in page_just area }
+        ensures grows { (k : ℕ) → IsBelow k self.old
+            → (self.new.top ≤ k + 1024) × (self.new.middle ≤ k + 1024) × IsGroupBelow k self.new.group × (2 ≤ self.new.present)
+            × (self.new.present ≤ 4) × IsBare self.new.group.line }
+        ensures present { self.old.present ≤ page_just → self.new.present ≡ page_just }
+        ensures begins { self.old.present < page_just → self.new.group.line.any ≡ false }
+    {
+        if page_just <= self.present {
+            return;
+        }
+        let (before, height) = (self.present, self.group.height());
+        self.group = Group::new();
+        self.present = page_just;
+        match before {
+            2 => self.top = height,
+            3 => self.middle = height,
+            _ => {}
+        }
+    }
+
+    /// Goes on to the group with a page justification, unless it is before that of the present one, and works out the most that the group
+    /// may have then within a height in pixels. The answer is whether it isn't before.
+    #[inline(always)]
+    pub(crate) fn reach(&mut self, page_just: u8, height: u16, most: &mut u64) -> bool
+        requires page_just { (2 ≤ page_just) × (page_just ≤ 4) }
+        requires below { IsBelow (2 ^ 62) self.old }
+        ensures reached { ReachesGroup page_just height self.old most.old result self.new most.new }
+    {
+        if page_just == self.present {
+            return true;
+        }
+        if self.present == 0 {
+            self.present = page_just;
+            *most = u64::from(height);
+            return true;
+        }
+        self.leave(page_just, height, most)
+    }
+
+    /// The same from a group of some items. It isn't put into its callers' code, since areas of several groups are few.
+    #[inline(never)]
+    fn leave(&mut self, page_just: u8, height: u16, most: &mut u64) -> bool
+        requires page_just { (2 ≤ page_just) × (page_just ≤ 4) }
+        requires below { IsBelow (2 ^ 62) self.old }
+        requires other { page_just ≢ self.old.present }
+        ensures reached { ReachesGroup page_just height self.old most.old result self.new most.new }
+    {
+        if page_just < self.present {
+            return false;
+        }
+        self.go_on(page_just);
+        *most = self.room(height);
+        true
+    }
+
+    /// The group with this page justification, top 2, middle 3 or bottom 4, which isn't before the present one.
+    pub fn group_for(&self, page_just: u8) -> Group
+        ensures sum { (area : List Spot) → self.now ≡ area_sum area → self.now.present ≤ page_just
+            → result ≡ group_sum (in_group page_just area) }
+        ensures below { (k : ℕ) → IsBelow k self.now → IsGroupBelow k result }
+    {
+        if page_just == self.present {
+            self.group
+        } else {
+            Group::new()
+        }
+    }
+
+    /// The height of the group with a page justification, in pixels: top 2, middle 3, bottom 4.
+    #[inline(always)]
+    pub(crate) fn height(&self, page_just: u8) -> u64
+        requires known { (2 ≤ page_just) × (page_just ≤ 4) }
+        requires below { IsBelow (2 ^ 62 + 1024) self.now }
+        ensures sum { (area : List Spot) → All IsPlacing area → self.now ≡ area_sum area
+            → result ≡ height_of (lines_of (in_group page_just area)) }
+        ensures kept { result ≡ kept_group_height page_just self.now }
+        ensures below { result ≤ 2 ^ 62 + 2048 }
+    {
+        if page_just == self.present {
+            return self.group.height();
+        }
+        match page_just {
+            2 => self.top,
+            3 => self.middle,
+            _ => 0,
+        }
+    }
+
+    /// The most pixels that the present group may have within a height, into which those before it fit.
+    pub(crate) fn room(&self, height: u16) -> u64
+        requires below { IsBelow (2 ^ 62 + 1024) self.now }
+        ensures { result ≡ group_room self.now height }
+    {
+        room_for(self.present, self.top, self.middle, height)
+    }
+
+    /// Whether the present segment has at most this width, and the present group at most this height, in pixels.
+    #[inline(always)]
+    pub(crate) fn is_within(&self, width: u64, height: u64) -> bool
+        requires below { IsBelow (2 ^ 62 + 1024) self.now }
+        ensures { result ≡ nat_le self.now.group.line.part.width width && nat_le (kept_height self.now.group) height }
+    {
+        (self.group.line.part.width <= width) & (self.group.height() <= height)
+    }
+
+    /// Whether the area fits a rectangle of this height in pixels, as far as its last item goes: an `nl`.
+    #[inline(always)]
+    pub(crate) fn fits_with_break(&self, height: u16) -> bool
+        requires below { IsBelow (2 ^ 62 + 1024) self.now }
+        ensures { (before : List Spot) (s : Spot) → is_break s ≡ true → self.now ≡ area_sum (area_of s before ++ s ∷ [])
+            → s.at.rectangle.height ≡ height → result ≡ not (too_big Off before s) }
+    {
+        self.fits_height(height)
+    }
+
+    /// Gives the present segment of the present group this width and number of characters.
+    pub(crate) fn lengthen(&mut self, width: u64, count: u64)
+        ensures { self.new ≡ lengthened_area width count self.old }
+    {
+        self.group.line.lengthen(width, count);
+    }
+
+    /// Whether the groups stand apart within a height in pixels.
+    #[inline(always)]
+    pub(crate) fn fits_height(&self, height: u16) -> bool
+        requires below { IsBelow (2 ^ 62 + 1024) self.now }
+        ensures sum { (area : List Spot) → All IsPlacing area → self.now ≡ area_sum area
+            → result ≡ area_fits height area }
+        ensures kept { result ≡ kept_fits_height height self.now }
+    {
+        parts_fit(
+            self.height(2),
+            self.height(3),
+            self.height(4),
+            u64::from(height),
+        )
+    }
+}

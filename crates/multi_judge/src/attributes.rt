@@ -1,0 +1,100 @@
+//! The attributes in force.
+
+ghost use Rattle.std.specs.Prelude.{◌≡◌};
+ghost use Rattle.std.specs.Option.{unwrap_or};
+ghost use Rattle.sign_font.specs.Sign.{SignData};
+ghost use Rattle.multi_meaning.specs.Address.{Standing};
+ghost use Rattle.multi_meaning.specs.Attributes.{whole_sign};
+ghost use Rattle.multi_meaning.specs.Meaning.{Does};
+
+use crate::line::Character;
+use crate::terms::Terms;
+use multi_meaning::{FlashTimes, Rectangle};
+use multi_tag::Tag;
+use sign_font::{Defaults, FontInfo};
+
+/// The values in force behind the items so far (NTCIP 1203 v03, MULTI).
+#[derive(Clone, Copy)]
+pub struct Attributes {
+    pub font: FontInfo,
+    /// Left 2, centre 3, right 4, full 5.
+    pub line_just: u8,
+    /// Top 2, middle 3, bottom 4.
+    pub page_just: u8,
+    /// Pixels between characters, where the text gives them.
+    pub spacing: Option<u8>,
+    /// The colours of characters and of the page: 0 to 9.
+    pub fore: u8,
+    pub back: u8,
+    /// The page's on time and off time, in tenths of a second.
+    pub on: u8,
+    pub off: u8,
+    pub flash: Option<FlashTimes>,
+    pub rectangle: Rectangle,
+}
+
+/// The whole sign.
+pub(crate) fn whole_sign(sign: &Terms<'_>) -> Rectangle
+    ensures { result ≡ whole_sign sign.now }
+{
+    Rectangle {
+        left: 0,
+        top: 0,
+        width: sign.bare.width(),
+        height: sign.bare.height(),
+    }
+}
+
+impl Attributes {
+    ghost use Rattle.multi_meaning.specs.kept.Present.{standing_behind};
+    ghost use Rattle.multi_judge.specs.Adding.{character_of};
+    ghost use Rattle.multi_judge.specs.State.{IsSimple, attributes_of};
+
+    /// A character of this width in pixels, as its line sees it.
+    pub(crate) fn character(&self, width: u8) -> Character
+        ensures { result ≡ character_of self.now width }
+    {
+        Character {
+            just: self.line_just,
+            spacing: self.spacing,
+            width,
+            font: self.font,
+        }
+    }
+
+    /// The pixels between two characters with these attributes.
+    pub fn gap(&self) -> u8
+        ensures { result ≡ unwrap_or self.now.spacing self.now.font.char_spacing }
+    {
+        self.spacing.unwrap_or(self.font.char_spacing)
+    }
+
+    /// Puts the values in force behind a tag that begins nothing, places nothing and asks for no font.
+    pub(crate) fn set(&mut self, defaults: Defaults, tag: Tag)
+        ensures set { (sign : SignData) (at : Standing) → sign.defaults ≡ defaults → self.old ≡ attributes_of at → IsSimple tag
+            → self.new ≡ attributes_of (standing_behind sign at (Does tag)) }
+        ensures rectangle { self.new.rectangle ≡ self.old.rectangle }
+    {
+        match tag {
+            Tag::LineJust(just) => self.line_just = just.unwrap_or(defaults.line),
+            Tag::PageJust(just) => self.page_just = just.unwrap_or(defaults.page),
+            Tag::CharSpacing(pixels) => self.spacing = Some(pixels),
+            Tag::CharSpacingEnd => self.spacing = None,
+            Tag::PageTime { on, off } => {
+                self.on = on.unwrap_or(defaults.page_on);
+                self.off = off.unwrap_or(defaults.page_off);
+            }
+            Tag::Fore(colour) => self.fore = colour.unwrap_or(defaults.fore),
+            Tag::Back(colour) => self.back = colour.unwrap_or(defaults.back),
+            Tag::Flash { off_first, on, off } => {
+                self.flash = Some(FlashTimes {
+                    off_first,
+                    on: on.unwrap_or(defaults.flash_on),
+                    off: off.unwrap_or(defaults.flash_off),
+                });
+            }
+            Tag::FlashEnd => self.flash = None,
+            _ => {}
+        }
+    }
+}

@@ -1,0 +1,79 @@
+//! The items of a string, as they are read.
+
+ghost use Rattle.std.specs.Prelude.{◌≡◌, Err, true};
+ghost use Rattle.multi_meaning.specs.Codes.{code_of};
+ghost use Rattle.multi_meaning.specs.Meaning.{begins_area, Faulty, has_place, is_new_page, meaning_of_tag};
+ghost use Rattle.multi_judge.specs.KnownItem.{IsOctet, is_setting, meant_by};
+
+use multi_meaning::SyntaxError;
+use multi_tag::{Tag, TagFault};
+
+/// An item of a string: a character by its number, or what a tag says (NTCIP 1203 v03, MULTI).
+#[derive(Clone, Copy)]
+pub enum KnownItem {
+    Char(u16),
+    Tag(Tag),
+}
+
+/// What is read of an item: the item, and the number of octets that spell it, its brackets with them.
+#[derive(Clone, Copy)]
+pub struct NextItem {
+    pub item: KnownItem,
+    pub len: usize,
+}
+
+impl KnownItem {
+    /// Whether a page ends before the item.
+    pub fn ends_page(self) -> bool
+        ensures { result ≡ is_new_page (meant_by self) }
+    {
+        matches!(self, KnownItem::Tag(Tag::NewPage))
+    }
+
+    /// Whether an area begins behind the item.
+    pub fn begins_area(self) -> bool
+        ensures { result ≡ begins_area (meant_by self) }
+    {
+        matches!(self, KnownItem::Tag(Tag::NewPage | Tag::Rect { .. }))
+    }
+
+    /// Whether the item has a place in a group: a character or the end of a line.
+    pub fn has_place(self) -> bool
+        ensures { result ≡ has_place (meant_by self) }
+    {
+        matches!(self, KnownItem::Char(_) | KnownItem::Tag(Tag::NewLine(_)))
+    }
+
+    /// Whether the item only sets values that are in force behind it: a tag that puts nothing and begins nothing.
+    pub fn is_setting(self) -> bool
+        ensures { result ≡ is_setting (meant_by self) }
+    {
+        match self {
+            KnownItem::Char(_) => false,
+            KnownItem::Tag(tag) => !matches!(
+                tag,
+                Tag::NewPage | Tag::NewLine(_) | Tag::Rect { .. } | Tag::Back(_)
+            ),
+        }
+    }
+
+    /// Whether the item is a character whose number is that of an octet.
+    pub fn is_octet(self) -> bool
+        ensures { result ≡ true → IsOctet self }
+    {
+        match self {
+            KnownItem::Char(number) => number <= 255,
+            KnownItem::Tag(_) => false,
+        }
+    }
+}
+
+/// The error of a tag at fault.
+pub fn tag_error(fault: TagFault) -> SyntaxError
+    ensures { meaning_of_tag (Err fault) ≡ Faulty (code_of result) }
+{
+    match fault {
+        TagFault::Unsupported => SyntaxError::UnsupportedTag,
+        TagFault::Value => SyntaxError::UnsupportedTagValue,
+    }
+}

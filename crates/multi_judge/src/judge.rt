@@ -1,0 +1,207 @@
+//! The verdict on a string, in one reading from the left with running sums.
+
+ghost use Rattle.std.specs.Prelude.{◌≡◌, ◌+◌, ◌-◌, ◌≤◌, ◌==◌, if◌then◌else◌, length, List, IfSome, IfNone, OnOk, Some, true, false, not, nat_le, [], ◌∷◌, ◌++◌, ◌^◌};
+ghost use Rattle.std.specs.Option.{option_map_or};
+ghost use Rattle.multi_token.specs.Counted.{RisesBetween};
+ghost use Rattle.sign_font.specs.Sign.{SignData};
+ghost use Rattle.sign_font.specs.Text.{width_in};
+ghost use Rattle.sign_font.specs.declared.parts.LineFill.TheVariants.{Off};
+ghost use Rattle.multi_meaning.specs.Address.{Spot, area_of, is_break};
+ghost use Rattle.multi_meaning.specs.Laid.{too_big};
+ghost use Rattle.multi_meaning.specs.Meaning.{Does, Meaning, Shows};
+ghost use Rattle.multi_meaning.specs.kept.Present.{IsKnown};
+ghost use Rattle.multi_judge.specs.Run.{IsBehindCharacter};
+ghost use Rattle.multi_judge.specs.Sums.{IsBelow, area_sum};
+ghost use Rattle.multi_judge.specs.State.{IsJudged, JudgesTag, IsLimited, IsReady, IsUnfilledOf, Judges};
+
+use crate::area::Area;
+use crate::attributes::whole_sign;
+use crate::state::{Limits, State};
+use crate::terms::Terms;
+use multi_meaning::{Rectangle, SyntaxError};
+use multi_tag::{FontPick, Tag};
+use multi_token::Source;
+
+/// Judges what a tag says. `WORDS` says whether lines are filled, where the limits aren't known.
+#[inline(always)]
+pub fn judge_tag<const WORDS: bool>(
+    sign: &Terms<'_>,
+    state: &mut State,
+    source: &mut Source<'_>,
+    tag: Tag,
+) -> Result<(), SyntaxError>
+    requires ready { IsReady state.old }
+    requires known { IsKnown tag }
+    ensures judged { JudgesTag WORDS sign.now state.old (Does tag) result state.new }
+    ensures limited { IsLimited state.old → IsLimited state.new }
+    ensures steps { RisesBetween source.old source.new 0 1 }
+{
+    match tag {
+        Tag::NewPage => judge_page(sign, state),
+        Tag::NewLine(gap) => judge_break::<WORDS>(state, gap),
+        Tag::Font(pick) => judge_font(sign, state, source, pick),
+        Tag::Rect { x, y, w, h } => judge_rectangle(sign, state, x, y, w, h),
+        _ => {
+            state.attributes.set(sign.defaults, tag);
+            Ok(())
+        }
+    }
+}
+
+/// Judges a character whose cell has this width in pixels.
+#[inline(always)]
+pub(crate) fn judge_cell(state: &mut State, number: u16, width: u8) -> Result<(), SyntaxError>
+    requires { IsReady state.old }
+    ensures judged { (sign : SignData) (items : List Meaning) → IsUnfilledOf sign state.old items
+        → width_in sign state.old.attributes.font.number number ≡ Some width → IsJudged sign items (Shows number) result state.new }
+    ensures limited { IsLimited state.old → IsLimited state.new }
+    ensures behind { OnOk result (IsBehindCharacter state.new) }
+    ensures same { OnOk result (state.new.attributes ≡ state.old.attributes) }
+{
+    if !state.put_character(width) {
+        return Err(SyntaxError::TagConflict);
+    }
+    let Limits { width, height } = state.limits;
+    if state.area.is_within(width, height) {
+        Ok(())
+    } else {
+        Err(SyntaxError::TextTooBig)
+    }
+}
+
+/// Judges the end of a line.
+#[inline(always)]
+fn judge_break<const WORDS: bool>(state: &mut State, gap: Option<u8>) -> Result<(), SyntaxError>
+    requires { IsReady state.old }
+    ensures judged { (sign : SignData) → JudgesTag WORDS sign state.old (Does (Tag.NewLine gap)) result state.new }
+    ensures limited { IsLimited state.old → IsLimited state.new }
+{
+    if !state.put_break(gap) {
+        return Err(SyntaxError::TagConflict);
+    }
+    if fits_with_break::<WORDS>(state) {
+        Ok(())
+    } else {
+        Err(SyntaxError::TextTooBig)
+    }
+}
+
+/// Whether the area fits as far as its last item goes, an `nl`: by the limit, or where lines are filled by the sums.
+#[inline(always)]
+fn fits_with_break<const WORDS: bool>(state: &State) -> bool
+    requires below { IsBelow (2 ^ 62 + 1024) state.now.area }
+    ensures sums { WORDS ≡ true → (before : List Spot) (s : Spot) → is_break s ≡ true
+        → state.now.area ≡ area_sum (area_of s before ++ s ∷ [])
+        → s.at.rectangle.height ≡ state.now.attributes.rectangle.height → result ≡ not (too_big Off before s) }
+    ensures limits { WORDS ≡ false → result ≡ nat_le state.now.area.group.closed state.now.limits.height }
+{
+    if WORDS {
+        state
+            .area
+            .fits_with_break(state.attributes.rectangle.height)
+    } else {
+        state.area.group.closed <= state.limits.height
+    }
+}
+
+/// Judges a new page, which has the whole sign.
+fn judge_page(sign: &Terms<'_>, state: &mut State) -> Result<(), SyntaxError>
+    requires { IsReady state.old }
+    ensures judged { Judges sign.now state.old (Does Tag.NewPage) result state.new }
+    ensures limited { IsLimited state.old → IsLimited state.new }
+{
+    if state.pages >= sign.bare.max_pages() {
+        return Err(SyntaxError::TooManyPages);
+    }
+    state.pages += 1;
+    state.cycle += u32::from(state.attributes.on) + u32::from(state.attributes.off);
+    state.attributes.rectangle = whole_sign(sign);
+    state.area = Area::new();
+    Ok(())
+}
+
+/// Judges a font that a tag asks for, and the version that it must have; without a number it is the default.
+fn judge_font(
+    sign: &Terms<'_>,
+    state: &mut State,
+    source: &mut Source<'_>,
+    pick: Option<FontPick>,
+) -> Result<(), SyntaxError>
+    requires { IsReady state.old }
+    ensures judged { Judges sign.now state.old (Does (Tag.Font pick)) result state.new }
+    ensures limited { IsLimited state.old → IsLimited state.new }
+    ensures steps { RisesBetween source.old source.new 0 1 }
+{
+    let Some(pick) = pick else {
+        state.attributes.font = sign.font;
+        return Ok(());
+    };
+    let Some(font) = sign.bare.font(source, pick.number) else {
+        return Err(SyntaxError::FontNotDefined);
+    };
+    if agrees(pick.version, font.version) {
+        state.attributes.font = font;
+        Ok(())
+    } else {
+        Err(SyntaxError::FontVersionId)
+    }
+}
+
+/// Whether a font has the version that is asked for, if one is.
+fn agrees(wanted: Option<u16>, version: u16) -> bool
+    ensures { result ≡ option_map_or (λ v. v == version) wanted true }
+{
+    match wanted {
+        Some(wanted) => wanted == version,
+        None => true,
+    }
+}
+
+/// Judges a rectangle, whose upper left pixel is counted from 1.
+fn judge_rectangle(
+    sign: &Terms<'_>,
+    state: &mut State,
+    x: u32,
+    y: u32,
+    w: u32,
+    h: u32,
+) -> Result<(), SyntaxError>
+    requires { IsReady state.old }
+    ensures judged { Judges sign.now state.old (Does (Tag.Rect x y w h)) result state.new }
+    ensures limited { IsLimited state.old → IsLimited state.new }
+{
+    let Some((left, width)) = part_of(sign.bare.width(), x, w) else {
+        return Err(SyntaxError::UnsupportedTagValue);
+    };
+    let Some((top, height)) = part_of(sign.bare.height(), y, h) else {
+        return Err(SyntaxError::UnsupportedTagValue);
+    };
+    state.attributes.rectangle = Rectangle {
+        left,
+        top,
+        width,
+        height,
+    };
+    state.area = Area::new();
+    Ok(())
+}
+
+/// A part of the sign's width or height, which begins at a pixel counted from 1: its first pixel, counted from
+/// 0, and its pixels; a length of 0 reaches to the end. None where the part isn't inside.
+fn part_of(whole: u16, from: u32, length: u32) -> Option<(u16, u16)>
+    ensures inside { IfSome result (λ part. (1 ≤ from) × (from ≤ whole) × (from - 1 + length ≤ whole) × (part.0 ≡ from - 1)
+        × (part.1 ≡ (if length == 0 then whole - (from - 1) else length))) }
+    ensures outside { IfNone result (1 ≤ from → from ≤ whole → from - 1 + length ≤ whole → ⊥) }
+{
+    let whole = u64::from(whole);
+    let (from, length) = (u64::from(from), u64::from(length));
+    if from == 0 || from > whole || from - 1 + length > whole {
+        return None;
+    }
+    let first = from - 1;
+    if length == 0 {
+        Some((first as u16, (whole - first) as u16))
+    } else {
+        Some((first as u16, length as u16))
+    }
+}

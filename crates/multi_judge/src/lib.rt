@@ -1,0 +1,32 @@
+//! What is kept of the items of a string, from the left: whether the next one offends, and where a character stands.
+//!
+//! [`Pass`] keeps the attributes in force and the running sums of the present area. By them it judges one item, or all characters
+//! behind one that only lengthen its line. [`LineTable`] has the lines of a whole area, by which [`place_at`] places a character.
+//! `multi_layout` reads strings with them.
+#![tactic(auto)]
+
+mod area;
+mod attributes;
+mod fill;
+mod fill_run;
+mod item;
+mod judge;
+mod line;
+mod pass;
+mod place;
+mod run;
+mod state;
+mod table;
+mod terms;
+
+pub use area::{Area, Group};
+pub use attributes::Attributes;
+pub use item::{KnownItem, NextItem, tag_error};
+pub use judge::judge_tag;
+pub use line::Line;
+pub use pass::Pass;
+pub use place::{is_full, place_at};
+pub use run::{Run, go_along, judge_run};
+pub use state::State;
+pub use table::{CountedLine, LineTable};
+pub use terms::Terms;

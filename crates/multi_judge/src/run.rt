@@ -1,0 +1,152 @@
+//! Characters behind one with the same attributes: each only lengthens the line that they share.
+
+ghost use Rattle.std.specs.Prelude.{◌≡◌, ◌+◌, ◌-◌, ◌*◌, ◌^◌, ◌<◌, ◌≤◌, ℕ, true, All, List, drop, length, slice_get, take};
+ghost use Rattle.multi_token.specs.Counted.{RisesBetween};
+ghost use Rattle.multi_token.specs.Spelling.{IsPlain};
+ghost use Rattle.sign_font.specs.Sign.{SignData};
+ghost use Rattle.sign_font.specs.Text.{AreWidthsOf, HasWidth, IsNoSpace, width_in};
+ghost use Rattle.multi_meaning.specs.Meaning.{Meaning};
+ghost use Rattle.multi_judge.specs.PassState.{IsPassBehind, IsPassOf};
+ghost use Rattle.multi_judge.specs.Judging.{IsAt, IsBehind};
+ghost use Rattle.multi_judge.specs.Run.{Fits, IsBehindCharacter, IsRun, IsRunPassed, lengthened, line_in_force};
+ghost use Rattle.multi_judge.specs.State.{IsLimited, IsReady, IsStateOf, IsUnfilledOf, segment_room};
+
+use crate::fill_run::judge_text;
+use crate::pass::Pass;
+use crate::state::State;
+use crate::terms::Terms;
+use multi_token::{Run as Front, Source};
+use sign_font::FontCells;
+
+/// What the characters of a run are judged by, in pixels.
+#[derive(Clone, Copy)]
+pub struct Run {
+    /// Between one and the next.
+    pub gap: u8,
+    /// What is left for them.
+    pub left: u64,
+}
+
+impl Run {
+    /// The octets from an offset on that the run can take in the font of these cells: none is a bracket nor, if it is a word, a space,
+    /// each has a cell, and together they go into what is left. Each of these octets takes two steps, and so does the octet behind them;
+    /// the end takes one.
+    pub fn read(
+        self,
+        cells: &FontCells<'_>,
+        source: &mut Source<'_>,
+        at: usize,
+        word: bool,
+    ) -> Front
+        requires { at ≤ length source.old.octets }
+        ensures within { at + result.len ≤ length source.old.octets }
+        ensures plain { All IsPlain (take result.len (drop at source.old.octets)) }
+        ensures word { word ≡ true → All IsNoSpace (take result.len (drop at source.old.octets)) }
+        ensures width { (sign : SignData) (font : ℕ) → AreWidthsOf sign font cells.now
+            → HasWidth (width_in sign font) self.gap (take result.len (drop at source.old.octets)) result.width }
+        ensures left { result.width ≤ self.left }
+        ensures next { result.next ≡ slice_get source.old.octets (at + result.len) }
+        ensures steps { RisesBetween source.old source.new (2 * result.len + 1) (2 * result.len + 2) }
+        ensures room { length source.old.octets < 2 ^ 63 }
+    {
+        // no line has as many pixels
+        let room = self.left.min(0x7fff) as u32;
+        source.read_run(at, cells.advances(word), u32::from(self.gap), 0, room)
+    }
+}
+
+impl State {
+    /// The run that goes on behind the last character, whose segment may have so many pixels.
+    pub(crate) fn run(&self, most: u64) -> Run
+        requires behind { IsBehindCharacter self.now }
+        requires most { most ≡ segment_room (line_in_force self.now) self.now.attributes.rectangle.width }
+        ensures run { (items : List Meaning) (sign : SignData) → IsStateOf sign items self.now → Fits self.now
+            → IsRun self.now result.gap ((line_in_force self.now).part.width + result.left) }
+        ensures left { result.left ≤ most }
+    {
+        Run {
+            gap: self.attributes.gap(),
+            left: most.saturating_sub(self.area.group.line.part.width),
+        }
+    }
+
+    /// Adds a width and a number of characters to the present segment.
+    pub fn lengthen(&mut self, width: u64, count: u64)
+        requires width { (line_in_force self.old).part.width + width < 2 ^ 64 }
+        requires count { (line_in_force self.old).part.count + count < 2 ^ 64 }
+        ensures { self.new
+            ≡ lengthened ((line_in_force self.old).part.width + width) ((line_in_force self.old).part.count + count) self.old }
+    {
+        let part = &self.area.group.line.part;
+        let (width, count) = (part.width + width, part.count + count);
+        self.area.lengthen(width, count);
+    }
+}
+
+/// Judges the characters behind one that only lengthen its line: the offset behind them, and the octet read there. It is a
+/// bracket, has no cell or doesn't fit, or is the end.
+#[inline(always)]
+pub fn judge_run<const WORDS: bool>(
+    sign: &Terms<'_>,
+    cells: &FontCells<'_>,
+    pass: &mut Pass,
+    source: &mut Source<'_>,
+    at: usize,
+) -> (usize, Option<u8>)
+    requires short { length source.old.octets < 2 ^ 32 }
+    requires behind { IsBehind sign.now source.old.octets at (IsPassOf WORDS sign.now pass.old) source.old }
+    requires character { IsPassBehind WORDS pass.old }
+    requires cells { AreWidthsOf sign.now pass.old.state.attributes.font.number cells.now }
+    ensures further { at ≤ result.0 }
+    ensures at { IsAt sign.now source.old.octets result.0 result.1 (IsPassOf WORDS sign.now pass.new) source.new }
+{
+    if WORDS {
+        judge_text(sign, cells, pass, source, at)
+    } else {
+        judge_line(sign, cells, &mut pass.state, source, at)
+    }
+}
+
+/// The same where lines aren't filled.
+#[inline(always)]
+fn judge_line(
+    sign: &Terms<'_>,
+    cells: &FontCells<'_>,
+    state: &mut State,
+    source: &mut Source<'_>,
+    at: usize,
+) -> (usize, Option<u8>)
+    requires short { length source.old.octets < 2 ^ 32 }
+    requires behind { IsBehind sign.now source.old.octets at (IsUnfilledOf sign.now state.old) source.old }
+    requires character { IsBehindCharacter state.old }
+    requires cells { AreWidthsOf sign.now state.old.attributes.font.number cells.now }
+    ensures further { at ≤ result.0 }
+    ensures at { IsAt sign.now source.old.octets result.0 result.1 (IsUnfilledOf sign.now state.new) source.new }
+{
+    go_along(sign, cells, state, source, at)
+}
+
+/// Goes behind the characters from an offset on that only lengthen the line of the one before them: the offset behind them, and the
+/// octet read there.
+#[inline(always)]
+pub fn go_along(
+    sign: &Terms<'_>,
+    cells: &FontCells<'_>,
+    state: &mut State,
+    source: &mut Source<'_>,
+    at: usize,
+) -> (usize, Option<u8>)
+    requires character { IsBehindCharacter state.old }
+    requires limited { IsLimited state.old }
+    requires small { (IsReady state.old) × (length source.old.octets < 2 ^ 32) }
+    requires within { at ≤ length source.old.octets }
+    requires cells { AreWidthsOf sign.now state.old.attributes.font.number cells.now }
+    ensures run { IsRunPassed sign.now source.old.octets at state.old result.0 state.new }
+    ensures next { result.1 ≡ slice_get source.old.octets result.0 }
+    ensures steps { RisesBetween source.old source.new (2 * (result.0 - at) + 1) (2 * (result.0 - at) + 2) }
+{
+    let run = state.run(state.limits.width);
+    let front = run.read(cells, source, at, false);
+    state.lengthen(u64::from(front.width), front.len as u64);
+    (at + front.len, front.next)
+}

@@ -1,0 +1,117 @@
+//! What is kept of the items that were read.
+
+ghost use Rattle.std.specs.Prelude.{◌≡◌, ◌*◌, ◌≤◌, []};
+ghost use Rattle.sign_font.specs.Sound.{IsSound};
+
+use crate::area::Area;
+use crate::attributes::{Attributes, whole_sign};
+use crate::terms::Terms;
+use multi_meaning::Rectangle;
+
+/// The running state behind some items of a string.
+#[derive(Clone, Copy)]
+pub struct State {
+    /// The pages so far, the present one with them: 1 to the sign's limit.
+    pub pages: u8,
+    /// The times of the pages before the present one, in tenths of a second.
+    pub cycle: u32,
+    pub attributes: Attributes,
+    pub area: Area,
+    /// What may stand in that area, where lines aren't filled.
+    pub(crate) limits: Limits,
+}
+
+/// The most that the present segment of a line and the present group of an area may have, in pixels.
+#[derive(Clone, Copy)]
+pub(crate) struct Limits {
+    pub(crate) width: u64,
+    pub(crate) height: u64,
+}
+
+impl State {
+    ghost use Rattle.std.specs.Prelude.{List, true, false, not};
+    ghost use Rattle.multi_meaning.specs.Address.{Spot, area_of, is_glyph};
+    ghost use Rattle.multi_meaning.specs.Offence.{conflicts};
+    ghost use Rattle.multi_judge.specs.Adding.{AddsBreak, AddsCharacter};
+    ghost use Rattle.multi_judge.specs.Sums.{area_sum};
+    ghost use Rattle.multi_judge.specs.State.{IsLimited, IsReady, IsStateOf, whole_times};
+
+    /// The state before the first item.
+    pub fn new(sign: &Terms<'_>) -> State
+        ensures start { IsStateOf sign.now [] result }
+        ensures limited { IsLimited result }
+        ensures sound { IsSound sign.now }
+    {
+        let defaults = sign.defaults;
+        State {
+            pages: 1,
+            cycle: 0,
+            attributes: Attributes {
+                font: sign.font,
+                line_just: defaults.line,
+                page_just: defaults.page,
+                spacing: None,
+                fore: defaults.fore,
+                back: defaults.back,
+                on: defaults.page_on,
+                off: defaults.page_off,
+                flash: None,
+                rectangle: whole_sign(sign),
+            },
+            area: Area::new(),
+            // known where there is a character, and where there is a group
+            limits: Limits {
+                width: 0,
+                height: 0,
+            },
+        }
+    }
+
+    /// Puts a character whose cell has this width in pixels, if it doesn't conflict with the items before it: whether it doesn't.
+    #[inline(always)]
+    pub fn put_character(&mut self, cell_width: u8) -> bool
+        requires ready { IsReady self.old }
+        ensures conflicts { (before : List Spot) (s : Spot) → self.old.area ≡ area_sum (area_of s before) → is_glyph s ≡ true
+            → s.at.page_just ≡ self.old.attributes.page_just → s.at.line_just ≡ self.old.attributes.line_just
+            → not result ≡ conflicts before s }
+        ensures added { result ≡ true → AddsCharacter self.old cell_width self.new }
+        ensures limited { IsLimited self.old → IsLimited self.new }
+    {
+        let Rectangle { width, height, .. } = self.attributes.rectangle;
+        let page_just = self.attributes.page_just;
+        if !self.area.reach(page_just, height, &mut self.limits.height) {
+            return false;
+        }
+        let character = self.attributes.character(cell_width);
+        self.area
+            .group
+            .line
+            .put(&character, width, &mut self.limits.width)
+    }
+
+    /// Puts an `nl` with the gap that it gives, if it doesn't conflict with the items before it: whether it doesn't.
+    #[inline(always)]
+    pub fn put_break(&mut self, gap: Option<u8>) -> bool
+        requires ready { IsReady self.old }
+        ensures conflicts { (before : List Spot) (s : Spot) → self.old.area ≡ area_sum (area_of s before) → is_glyph s ≡ false
+            → s.at.page_just ≡ self.old.attributes.page_just → not result ≡ conflicts before s }
+        ensures added { result ≡ true → AddsBreak self.old gap self.new }
+        ensures limited { IsLimited self.old → IsLimited self.new }
+    {
+        let height = self.attributes.rectangle.height;
+        let page_just = self.attributes.page_just;
+        if !self.area.reach(page_just, height, &mut self.limits.height) {
+            return false;
+        }
+        self.area.group.add_break(gap, &self.attributes.font);
+        true
+    }
+
+    /// The times of all pages of a string that ends here, in tenths of a second.
+    pub fn whole_cycle(self) -> u32
+        requires short { self.cycle ≤ 510 * self.pages }
+        ensures { result ≡ whole_times self }
+    {
+        self.cycle + u32::from(self.attributes.on) + u32::from(self.attributes.off)
+    }
+}

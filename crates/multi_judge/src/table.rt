@@ -1,0 +1,123 @@
+//! The counted lines of an area, as drawing needs them.
+
+ghost use Rattle.std.specs.Prelude.{◌≡◌, ℕ, ◌<◌, ◌≤◌, ◌==◌, length, List, [], ◌∷◌, ◌++◌, if◌then◌else◌};
+ghost use Rattle.multi_meaning.specs.Address.{Spot};
+ghost use Rattle.multi_meaning.specs.kept.Present.{IsNarrow};
+ghost use Rattle.multi_judge.specs.Sums.{line_sum};
+ghost use Rattle.multi_judge.specs.Table.{IsOrdered, width_in, group_lines, line_entry};
+
+use crate::line::Line;
+use arrayvec::ArrayVec;
+
+/// What is kept of a counted line, in pixels.
+#[derive(Clone, Copy, Default)]
+pub struct CountedLine {
+    /// The widths of its segments.
+    pub(crate) left: u16,
+    pub(crate) centre: u16,
+    pub(crate) right: u16,
+    pub(crate) full: u16,
+    /// How many characters its full segment has.
+    pub(crate) characters: u16,
+    /// The height of its group down to its bottom.
+    pub(crate) bottom: u16,
+}
+
+/// The counted lines of an area: those of the top group, of the middle one and of the bottom one.
+#[derive(Drop)]
+pub struct LineTable {
+    lines: ArrayVec<CountedLine, 128>,
+    /// Where the lines of the middle group begin, and those of the bottom one.
+    middle: usize,
+    bottom: usize,
+}
+
+impl CountedLine {
+    /// What is kept of a line with this height of its group down to its bottom.
+    pub fn of(line: &Line, bottom: u64) -> CountedLine
+        requires known { line.now.present ≤ 5 }
+        requires narrow { (spots : List Spot) × (line.now ≡ line_sum spots) × IsNarrow spots }
+        requires low { bottom ≤ 1024 }
+        ensures entry { (spots : List Spot) → line.now ≡ line_sum spots → result ≡ line_entry spots bottom }
+        ensures bottom { result.bottom ≡ bottom }
+    {
+        CountedLine {
+            left: line.width(2) as u16,
+            centre: line.width(3) as u16,
+            right: line.width(4) as u16,
+            full: line.width(5) as u16,
+            characters: line.full_count() as u16,
+            bottom: bottom as u16,
+        }
+    }
+
+    /// The width of its segment with this line justification: left 2, centre 3, right 4, full 5.
+    pub(crate) fn width(&self, just: u8) -> u64
+        ensures { result ≡ width_in just self.now }
+    {
+        match just {
+            2 => u64::from(self.left),
+            3 => u64::from(self.centre),
+            4 => u64::from(self.right),
+            _ => u64::from(self.full),
+        }
+    }
+}
+
+impl LineTable {
+    /// A table of no line.
+    pub fn new() -> LineTable {
+        LineTable {
+            lines: ArrayVec::new(),
+            middle: 0,
+            bottom: 0,
+        }
+    }
+
+    /// Takes all lines out.
+    pub fn clear(&mut self)
+        ensures none { (just : ℕ) → group_lines just self.new ≡ [] }
+        ensures ordered { IsOrdered self.new }
+    {
+        self.lines.clear();
+        self.middle = 0;
+        self.bottom = 0;
+    }
+
+    /// Puts a line behind those of the group with this page justification, top 2, middle 3 or bottom 4. No group behind it has
+    /// a line.
+    pub fn push(&mut self, page_just: u8, line: CountedLine)
+        requires known { (2 ≤ page_just) × (page_just ≤ 4) }
+        requires room { length self.old.lines.items < 128 }
+        requires ordered { IsOrdered self.old }
+        requires last { (just : ℕ) → page_just < just → just ≤ 4 → group_lines just self.old ≡ [] }
+        ensures pushed { (just : ℕ) → (2 ≤ just) × (just ≤ 4) → group_lines just self.new
+            ≡ (if just == page_just then group_lines just self.old ++ line ∷ [] else group_lines just self.old) }
+        ensures ordered { IsOrdered self.new }
+    {
+        self.lines.push(line);
+        match page_just {
+            2 => {
+                self.middle = self.lines.len();
+                self.bottom = self.lines.len();
+            }
+            3 => self.bottom = self.lines.len(),
+            _ => {}
+        }
+    }
+
+    /// The lines of the group with this page justification: top 2, middle 3, bottom 4.
+    pub fn group(&self, page_just: u8) -> &[CountedLine]
+        requires known { (2 ≤ page_just) × (page_just ≤ 4) }
+        requires ordered { IsOrdered self.now }
+        ensures lines { result.now ≡ group_lines page_just self.now }
+        ensures few { length result.now ≤ 128 }
+    {
+        let lines = self.lines.as_slice();
+        match page_just {
+            2 => &lines[..self.middle],
+            3 => &lines[self.middle..self.bottom],
+            _ => &lines[self.bottom..],
+        }
+    }
+}

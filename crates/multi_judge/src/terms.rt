@@ -1,0 +1,45 @@
+//! The sign that a string is for, with the defaults in force for that string.
+
+ghost use Rattle.std.specs.Prelude.{◌≡◌, None};
+ghost use Rattle.sign_font.specs.Defaults.{default_fault, under};
+
+use sign_font::{Defaults, FontInfo, Sign};
+use std::marker::Model;
+
+/// A sign, seen with these defaults in place of its own. It doesn't refuse them.
+#[derive(Drop)]
+pub struct Terms<'a> {
+    /// The sign, with defaults of its own.
+    pub bare: &'a Sign,
+    /// The defaults in force, and their font.
+    pub defaults: Defaults,
+    pub font: FontInfo,
+}
+
+impl<'a> Model for Terms<'a> {
+    ghost use Rattle.std.specs.Prelude.{◌≡◌, Some, option_map};
+    ghost use Rattle.sign_font.specs.Defaults.{under};
+    ghost use Rattle.sign_font.specs.Sign.{SignData, font_numbered, info_of};
+    ghost use Rattle.sign_font.specs.Sound.{IsSound, IsWithin};
+
+    ghost Value = { SignData };
+
+    ghost view = { λ t. under t.bare.now t.defaults };
+
+    ghost invariant = { λ t. IsSound (under t.bare.now t.defaults)
+        × (option_map info_of (font_numbered t.bare.now t.defaults.font) ≡ Some t.font) × IsWithin 1 64 t.font.height };
+}
+
+impl<'a> Terms<'a> {
+    /// The sign under defaults that it doesn't refuse.
+    pub fn new(sign: &'a Sign, defaults: Defaults) -> Terms<'a>
+        requires { default_fault sign.now defaults ≡ None }
+        ensures { result ≡ under sign.now defaults }
+    {
+        Terms {
+            bare: sign,
+            defaults,
+            font: sign.font_of(&defaults),
+        }
+    }
+}

@@ -1,6 +1,0 @@
-use Rattle.std.proofs.Common.{sym}
-use Rattle.multi_layout.proofs.LineSumLemmas.{line_clashes}
-use Rattle.multi_layout.proofs.line.Line.clashes.Goals as goal
-
-pub returns-clause-clashes : goal.returns-clause-clashes
-returns-clause-clashes c line s e j = rw (e, ← j) (sym (line_clashes line s))

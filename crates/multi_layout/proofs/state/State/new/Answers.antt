@@ -1,9 +1,0 @@
-use Rattle.std.proofs.Common.{ap}
-use Rattle.sign_font.specs.Sign.{SignData}
-use Rattle.multi_layout.proofs.JudgedLemmas.{state-start}
-use Rattle.multi_layout.proofs.state.State.new.Goals as goal
-
-pub returns-clause-start : goal.returns-clause-start
-returns-clause-start c =
-    rw (ap (λ (s : SignData). s.defaults) c.sign.view_is, c.whole_sign.ensures)
-    (state-start c.args.sign.now c.sign.inside.font c.new.result _ (rw (← c.sign.view_is) c.sign.invariant.0) (rw (← c.sign.view_is) c.sign.invariant.1) c.new.ensures.sum c.new.ensures.below)
