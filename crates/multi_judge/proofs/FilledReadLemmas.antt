@@ -1,7 +1,6 @@
 -- The verdict from the items read so far, where lines are filled.
 use Rattle.std.proofs.Common.{◌≡◌, ℕ, ◌*◌, ◌^◌, ◌<◌, ◌≤◌, List, [], length, map, Some, None, sym, ap, subst, ◌∙◌, arith, append-nil}
 use Rattle.std.specs.List.{after_last}
-use Rattle.multi_token.specs.Counted.{Counted}
 use Rattle.sign_font.specs.declared.parts.LineFill.TheVariants.{Words}
 use Rattle.sign_font.specs.Sign.{SignData}
 use Rattle.multi_meaning.specs.Address.{Spot, Standing, in_group, is_break, standing}
@@ -18,14 +17,13 @@ use Rattle.multi_judge.specs.declared.pass.Pass.{Pass}
 use Rattle.multi_judge.specs.declared.state.State.{State}
 use Rattle.multi_judge.specs.FillSums.{order_sum, split_sum}
 use Rattle.multi_judge.specs.FilledState.{IsFilledFor, IsFilledOf, IsFilledReady}
-use Rattle.multi_judge.specs.Judging.{IsAt, ReadSoFar}
-use Rattle.multi_judge.specs.State.{IsStateOf, whole_times}
+use Rattle.multi_judge.specs.Judging.{ReadSoFar}
+use Rattle.multi_judge.specs.State.{IsStateOf}
 use Rattle.multi_judge.proofs.BoundLemmas.{split_more}
-use Rattle.multi_judge.proofs.FilledJudgedLemmas.{attributes_here}
 use Rattle.multi_judge.proofs.FilledKeptLemmas.{laid_count}
 use Rattle.multi_judge.proofs.FilledStateLemmas.{pages_at, same_times}
 use Rattle.multi_judge.proofs.JudgedLemmas.{ready}
-use Rattle.multi_judge.proofs.ReadLemmas.{accepted_at_end, at_end, cycle_at_end, few_here}
+use Rattle.multi_judge.proofs.ReadLemmas.{few_here}
 
 -- what is kept where an area begins
 pub filled_start : (sign : SignData) (items : List Meaning) (state : State) → IsStateOf sign (laid_items Words sign items items) state → present_area sign items ≡ []

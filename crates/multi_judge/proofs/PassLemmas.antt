@@ -2,7 +2,6 @@
 use Rattle.std.proofs.Common.{◌≡◌, ℕ, ◌^◌, ◌<◌, Bool, true, false, List, [], ◌∷◌, ◌++◌, length, Some, None, Result, Ok, Err, not, ◌==◌, refl, ap, sym, subst, ◌∙◌}
 use Rattle.std.proofs.lemmas.Bool.{eq-eqb, ne_eqb}
 use Rattle.std.specs.Prelude.{OnOk}
-use Rattle.multi_token.specs.Counted.{Counted}
 use Rattle.sign_font.specs.declared.parts.LineFill.{LineFill}
 use Rattle.sign_font.specs.declared.parts.LineFill.TheVariants.{Off, Words}
 use Rattle.sign_font.specs.Sign.{SignData, cell_in}
@@ -19,8 +18,8 @@ use Rattle.multi_judge.specs.declared.pass.Pass.{Pass}
 use Rattle.multi_judge.specs.declared.state.State.{State}
 use Rattle.multi_judge.specs.FilledState.{IsFilledOf}
 use Rattle.multi_judge.specs.PassState.{IsItemJudged, IsPassOf, IsPassReady, fill_of}
-use Rattle.multi_judge.specs.Judging.{IsAt, ReadSoFar}
-use Rattle.multi_judge.specs.State.{IsJudged, IsLimited, IsStateOf, whole_times}
+use Rattle.multi_judge.specs.Judging.{ReadSoFar}
+use Rattle.multi_judge.specs.State.{IsJudged, IsLimited, IsStateOf}
 use Rattle.multi_judge.proofs.FilledJudgedLemmas.{filled_undefined}
 use Rattle.multi_judge.proofs.FilledReadLemmas.{filled_ready_here}
 use Rattle.multi_judge.proofs.JudgedLemmas.{judged-undefined}

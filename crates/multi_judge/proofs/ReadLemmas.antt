@@ -7,7 +7,6 @@ use Rattle.std.proofs.lemmas.List.{length-append, length-drop, drop_all, map-app
 use Rattle.std.proofs.lemmas.List.Concat.{flat_map-append}
 use Rattle.std.proofs.lemmas.List.Elements.{All-push, All-nil}
 use Rattle.std.proofs.lemmas.List.Sums.{sum_by-append}
-use Rattle.multi_token.specs.Counted.{Counted}
 use Rattle.multi_token.specs.declared.token.Token.{Token}
 use Rattle.multi_token.specs.Spelling.{Item, IsItem, spelling, spell, HasNoItem, IsReading}
 use Rattle.multi_token.specs.Tokens.{IsTokenOf, item_of}
@@ -23,8 +22,8 @@ use Rattle.multi_meaning.proofs.VerdictLemmas.{item_refused, length-meanings, of
 use Rattle.multi_meaning.proofs.WordLemmas.{none_more}
 use Rattle.multi_judge.specs.declared.attributes.Attributes.{Attributes}
 use Rattle.multi_judge.specs.declared.state.State.{State}
-use Rattle.multi_judge.specs.Judging.{IsAt, ReadSoFar}
-use Rattle.multi_judge.specs.State.{IsLimited, IsReady, IsStateOf, IsUnfilledOf, attributes_of, whole_times}
+use Rattle.multi_judge.specs.Judging.{ReadSoFar}
+use Rattle.multi_judge.specs.State.{IsLimited, IsReady, IsStateOf, IsUnfilledOf, attributes_of}
 use Rattle.multi_judge.proofs.JudgedLemmas.{ready}
 
 -- where no octet stands is the end

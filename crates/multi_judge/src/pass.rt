@@ -1,6 +1,6 @@
 //! One pass over a string from the left: what is kept of its items, and how each of them is judged.
 
-ghost use Rattle.std.specs.Prelude.{◌≡◌, ◌+◌, ◌^◌, ◌≤◌, true, false, List, [], ◌∷◌, ◌++◌, IfSome, OnOk};
+ghost use Rattle.std.specs.Prelude.{◌≡◌, ◌+◌, ◌^◌, true, false, List, [], ◌∷◌, ◌++◌, IfSome, OnOk};
 ghost use Rattle.std.specs.List.{list_any};
 ghost use Rattle.multi_token.specs.Counted.{RisesBetween, charged};
 ghost use Rattle.sign_font.specs.declared.parts.LineFill.TheVariants.{Words};

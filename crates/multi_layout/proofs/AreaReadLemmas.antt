@@ -1,5 +1,5 @@
 -- The first reading of an area, at one more item.
-use Rattle.std.proofs.Common.{◌≡◌, ℕ, Bool, append-nil, ◌*◌, ◌^◌, ◌≤◌, true, false, List, [], ◌∷◌, ◌++◌, length, map, None, refl, sym, ap, subst, ◌∙◌, arith}
+use Rattle.std.proofs.Common.{◌≡◌, ℕ, Bool, ◌*◌, ◌^◌, ◌≤◌, true, false, List, [], ◌∷◌, ◌++◌, length, map, None, refl, sym, ap, subst, ◌∙◌, arith}
 use Rattle.std.specs.List.{All}
 use Rattle.std.proofs.lemmas.List.{map-append}
 use Rattle.multi_token.specs.Spelling.{Item}
@@ -11,7 +11,7 @@ use Rattle.multi_meaning.specs.Address.{Break, Spot, in_group, spots, standing}
 use Rattle.multi_meaning.specs.LaidItems.{laid_item, laid_items}
 use Rattle.multi_meaning.specs.Meaning.{Does, Meaning, Shows, has_place, meaning}
 use Rattle.multi_meaning.specs.Offence.{offence, unsized_offence}
-use Rattle.multi_meaning.specs.kept.Present.{present_area, IsPlacing, ended_lines, IsNarrowArea}
+use Rattle.multi_meaning.specs.kept.Present.{present_area, IsPlacing, IsNarrowArea}
 use Rattle.multi_meaning.specs.Verdict.{offences}
 use Rattle.multi_meaning.proofs.GroupLemmas.{area_placing, placing_group}
 use Rattle.multi_meaning.proofs.FilledTagLemmas.{offends_as_laid}
@@ -19,7 +19,7 @@ use Rattle.multi_meaning.proofs.NarrowLemmas.{narrow_area}
 use Rattle.multi_meaning.proofs.OrderlyLemmas.{unsized_if}
 use Rattle.multi_meaning.proofs.RoomLemmas.{room}
 use Rattle.multi_meaning.proofs.UnplacedLemmas.{last_fine}
-use Rattle.multi_meaning.proofs.WordLemmas.{each_after_length, none_more}
+use Rattle.multi_meaning.proofs.WordLemmas.{each_after_length}
 use Rattle.multi_judge.specs.declared.area.Area.{Area}
 use Rattle.multi_judge.specs.declared.area.Group.{Group}
 use Rattle.multi_judge.specs.declared.pass.Pass.{Pass}
@@ -27,13 +27,13 @@ use Rattle.multi_judge.specs.declared.item.KnownItem.{KnownItem}
 use Rattle.multi_judge.specs.declared.item.KnownItem.TheVariants as known
 use Rattle.multi_judge.specs.declared.item.KnownItem.TheVariants.{Char}
 use Rattle.multi_judge.specs.declared.table.LineTable.{LineTable}
-use Rattle.multi_judge.specs.Passed.{IsItemPassed, laid_area}
+use Rattle.multi_judge.specs.Passed.{laid_area}
 use Rattle.multi_layout.specs.kept.AreaReading.{IsNextRead, IsReadOf}
 use Rattle.multi_judge.specs.KnownItem.{meant_by}
 use Rattle.multi_layout.specs.kept.AreaDrawing.{HasKnown, HasRoom, IsLow, next_group}
 use Rattle.multi_judge.specs.PassState.{IsPassOf, IsPassReady, fill_of}
 use Rattle.multi_judge.specs.Run.{kept_height}
-use Rattle.multi_judge.specs.State.{IsLimited, IsStateOf, IsUnfilledOf}
+use Rattle.multi_judge.specs.State.{IsStateOf}
 use Rattle.multi_judge.specs.Sums.{IsBelow, area_sum}
 use Rattle.multi_judge.specs.Table.{IsOrdered}
 use Rattle.multi_judge.proofs.AreaSumLemmas.{group_of_own}

@@ -16,14 +16,13 @@ use Rattle.multi_judge.specs.declared.area.Area.{Area}
 use Rattle.multi_judge.specs.declared.area.Group.{Group}
 use Rattle.multi_judge.specs.declared.pass.Pass.{Pass}
 use Rattle.multi_judge.specs.declared.item.KnownItem.{KnownItem}
-use Rattle.multi_judge.specs.KnownItem.{meant_by}
+use Rattle.multi_judge.specs.KnownItem.{meant_by, ends_line}
 use Rattle.multi_judge.specs.declared.line.Line.{Line}
 use Rattle.multi_judge.specs.declared.table.CountedLine.{CountedLine}
 use Rattle.multi_judge.specs.declared.table.LineTable.{LineTable}
 use Rattle.multi_judge.specs.FillSums.{EndsLine}
 use Rattle.multi_judge.specs.Passed.{IsItemPassed, laid_area}
 use Rattle.multi_layout.specs.kept.AreaReading.{IsNextRead, IsReadOf}
-use Rattle.multi_judge.specs.KnownItem.{ends_line}
 use Rattle.multi_layout.specs.kept.AreaDrawing.{HasKnown, HasRoom, IsLow, next_group}
 use Rattle.multi_judge.specs.PassState.{IsPassOf, fill_of}
 use Rattle.multi_judge.specs.State.{IsStateOf}

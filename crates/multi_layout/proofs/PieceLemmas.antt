@@ -1,5 +1,5 @@
 -- The pieces of an accepted string: what each of its items is laid out as.
-use Rattle.std.proofs.Common.{◌≡◌, ℕ, Bool, true, false, cond, inl, inr, List, [], ◌∷◌, ◌++◌, length, map, Option, Some, None, refl, sym, ap, subst, ◌∙◌, arith, append_assoc, append-nil}
+use Rattle.std.proofs.Common.{◌≡◌, ℕ, Bool, true, false, cond, inl, inr, List, [], ◌∷◌, ◌++◌, length, map, Option, Some, None, refl, sym, ap, subst, ◌∙◌, arith, append-nil}
 use Rattle.std.specs.Option.{option_map}
 use Rattle.std.proofs.lemmas.List.{map-append}
 use Rattle.multi_token.specs.Spelling.{Item}
@@ -7,8 +7,8 @@ use Rattle.multi_tag.specs.declared.tag.Tag.{Tag}
 use Rattle.multi_tag.specs.declared.tag.Tag.TheVariants.{NewPage, NewLine}
 use Rattle.sign_font.specs.declared.parts.LineFill.{LineFill}
 use Rattle.sign_font.specs.declared.parts.LineFill.TheVariants.{Off}
-use Rattle.sign_font.specs.Sign.{SignData, CellData, cell_numbered}
-use Rattle.multi_meaning.specs.Address.{Glyph, Spot, Standing, is_break, spot_at, spots, standing}
+use Rattle.sign_font.specs.Sign.{SignData}
+use Rattle.multi_meaning.specs.Address.{Spot, Standing, is_break, spot_at, spots, standing}
 use Rattle.multi_meaning.specs.Laid.{laid_spot}
 use Rattle.multi_meaning.specs.LaidItems.{laid_item, laid_items, laid_of, laid_out}
 use Rattle.multi_meaning.specs.Line.{given_gap}
@@ -17,9 +17,7 @@ use Rattle.multi_meaning.specs.Verdict.{pages_of}
 use Rattle.multi_meaning.specs.kept.Fine.{IsOrderly}
 use Rattle.multi_meaning.specs.Words.{each_after}
 use Rattle.multi_meaning.proofs.LaidItemLemmas.{are_laid}
-use Rattle.multi_meaning.proofs.SpotsLemmas.{spots_with}
-use Rattle.multi_meaning.proofs.UnfilledLemmas.{spot_if}
-use Rattle.multi_meaning.proofs.WordLemmas.{each_after-append, each_after_length, each_after_push, push_ind}
+use Rattle.multi_meaning.proofs.WordLemmas.{each_after-append, each_after_length, each_after_push}
 use Rattle.multi_meaning.proofs.UnplacedLemmas.{unplaced_item}
 use Rattle.multi_judge.specs.State.{IsStateOf}
 use Rattle.multi_layout.specs.declared.cursor.Cursor.{Cursor}
@@ -34,7 +32,7 @@ use Rattle.multi_layout.specs.kept.Cursors.{IsBetween, IsFirst, IsItemRead, IsPi
 use Rattle.multi_layout.specs.kept.Passing.{IsPassing}
 use Rattle.multi_judge.proofs.FilledStateLemmas.{pages_at, same_times}
 use Rattle.multi_layout.proofs.SkipLemmas.{settled_at}
-use Rattle.multi_meaning.proofs.UnfilledItemLemmas.{unfilled_item, unfilled_items}
+use Rattle.multi_meaning.proofs.UnfilledItemLemmas.{unfilled_item}
 use Rattle.multi_meaning.proofs.VerdictLemmas.{length-meanings}
 use Rattle.multi_layout.proofs.WalkLemmas.{few_pieces, laid_here}
 

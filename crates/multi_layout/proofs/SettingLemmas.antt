@@ -16,11 +16,10 @@ use Rattle.multi_meaning.specs.Offence.{offence, offence_by}
 use Rattle.multi_judge.specs.declared.item.NextItem.{NextItem}
 use Rattle.multi_judge.specs.declared.pass.Pass.{Pass}
 use Rattle.multi_judge.specs.declared.state.State.{State}
-use Rattle.multi_judge.specs.KnownItem.{ends_line}
+use Rattle.multi_judge.specs.KnownItem.{ends_line, is_setting, meant_by}
 use Rattle.multi_layout.specs.kept.Cursors.{IsFirst, IsPlaced}
 use Rattle.multi_layout.specs.kept.Settings.{PutsSetting}
 use Rattle.multi_judge.specs.FilledState.{begins_line}
-use Rattle.multi_judge.specs.KnownItem.{is_setting, meant_by}
 use Rattle.multi_judge.specs.PassState.{IsPassOf}
 use Rattle.multi_judge.specs.State.{IsJudged}
 use Rattle.multi_judge.proofs.FilledBehindLemmas.{judged-stays}

@@ -1,5 +1,5 @@
 -- What is told of a string, from what is kept where all its items are read.
-use Rattle.std.proofs.Common.{◌≡◌, ℕ, Bool, true, false, List, map, None, sym, arith}
+use Rattle.std.proofs.Common.{ℕ, Bool, true, false, List, map, None, sym, arith}
 use Rattle.multi_token.specs.Counted.{Counted}
 use Rattle.sign_font.specs.Sign.{SignData}
 use Rattle.multi_meaning.specs.Meaning.{meaning}

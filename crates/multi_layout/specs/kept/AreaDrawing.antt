@@ -1,15 +1,15 @@
 -- The two readings of an area: one for the table of its lines, one to put its cells.
-use Rattle.std.specs.Prelude.{◌≡◌, ℕ, ◌+◌, ◌-◌, ◌*◌, ◌^◌, ◌≤◌, Bool, true, false, nat_lt, List, [], ◌∷◌, ◌++◌, map, length, if◌then◌else◌}
+use Rattle.std.specs.Prelude.{◌≡◌, ℕ, ◌+◌, ◌-◌, ◌*◌, ◌^◌, ◌≤◌, false, nat_lt, List, [], ◌∷◌, ◌++◌, map, length, if◌then◌else◌}
 use Rattle.std.specs.List.{All}
 use Rattle.multi_token.specs.Counted.{Counted, RisesBetween}
 use Rattle.multi_token.specs.Spelling.{Item, spelling}
 use Rattle.multi_tag.specs.declared.tag.Tag.{Tag}
-use Rattle.multi_tag.specs.declared.tag.Tag.TheVariants.{Back, NewLine}
+use Rattle.multi_tag.specs.declared.tag.Tag.TheVariants.{Back}
 use Rattle.page_plane.specs.Plane.{BitPlane}
 use Rattle.sign_font.specs.Sign.{SignData, tallest}
 use Rattle.multi_meaning.specs.Address.{Spot, spots, standing, in_group, lines_of, in_area}
 use Rattle.multi_meaning.specs.Drawn.{Lights, has_colour}
-use Rattle.multi_meaning.specs.Meaning.{Meaning, Does, Shows, EndsArea, begins_area, has_place}
+use Rattle.multi_meaning.specs.Meaning.{Meaning, Shows, EndsArea, begins_area, has_place}
 use Rattle.multi_meaning.specs.kept.Present.{ended_lines}
 use Rattle.multi_layout.specs.declared.cursor.Begun.{Begun}
 use Rattle.multi_layout.specs.declared.cursor.Cursor.{Cursor}

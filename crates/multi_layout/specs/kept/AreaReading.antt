@@ -1,8 +1,8 @@
 -- The first reading of an area, for the table of its lines (own).
-use Rattle.std.specs.Prelude.{◌≡◌, ℕ, ◌^◌, ◌≤◌, Bool, true, false, if◌then◌else◌, ◌⊎◌, List, [], ◌∷◌, ◌++◌, Option, Some, None, map, length}
+use Rattle.std.specs.Prelude.{◌≡◌, ℕ, ◌^◌, ◌≤◌, Bool, false, ◌⊎◌, List, [], ◌∷◌, ◌++◌, map, length}
 use Rattle.multi_token.specs.Spelling.{Item}
 use Rattle.sign_font.specs.Sign.{SignData}
-use Rattle.multi_meaning.specs.Meaning.{Meaning, Shows, meaning}
+use Rattle.multi_meaning.specs.Meaning.{meaning}
 use Rattle.multi_meaning.specs.Verdict.{offences}
 use Rattle.multi_judge.specs.declared.pass.Pass.{Pass}
 use Rattle.multi_judge.specs.declared.item.KnownItem.{KnownItem}
@@ -11,7 +11,7 @@ use Rattle.multi_judge.specs.declared.table.LineTable.{LineTable}
 use Rattle.multi_judge.specs.KnownItem.{IsKnownItem, meant_by}
 use Rattle.multi_judge.specs.Passed.{laid_area}
 use Rattle.multi_layout.specs.kept.AreaDrawing.{HasKnown, IsLow}
-use Rattle.multi_judge.specs.PassState.{IsPassOf, fill_of}
+use Rattle.multi_judge.specs.PassState.{IsPassOf}
 use Rattle.multi_judge.specs.Run.{IsBehindCharacter, IsRunPassed}
 use Rattle.multi_judge.specs.Table.{IsOrdered}
 
