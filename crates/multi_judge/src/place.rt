@@ -20,12 +20,7 @@ use multi_meaning::Place;
 
 /// Where a character with these attributes in force stands whose cell has this width in pixels, the last item of its area so far;
 /// `lines` are the counted lines of its group.
-pub fn place_at(
-    attributes: &Attributes,
-    area: &Area,
-    lines: &[CountedLine],
-    width: u8,
-) -> Place
+pub fn place_at(attributes: &Attributes, area: &Area, lines: &[CountedLine], width: u8) -> Place
     requires line_just { (2 ≤ attributes.now.line_just) × (attributes.now.line_just ≤ 5) }
     requires page_just { (2 ≤ attributes.now.page_just) × (attributes.now.page_just ≤ 4) }
     requires below { IsBelow (2 ^ 43) area.now }

@@ -22,7 +22,9 @@ ghost use Rattle.multi_layout.specs.kept.Cursors.{IsBetween, meant, LaidItem};
 ghost use Rattle.multi_layout.specs.kept.Settings.{IsBegun};
 
 use crate::cursor::{Begun, Cursor, Met, meet_known};
-use multi_judge::{Area, CountedLine, KnownItem, LineTable, NextItem, Pass, State, Terms, go_along};
+use multi_judge::{
+    Area, CountedLine, KnownItem, LineTable, NextItem, Pass, State, Terms, go_along,
+};
 use multi_tag::Tag;
 use multi_token::Source;
 use sign_font::LineFill;
