@@ -8,8 +8,8 @@ use Rattle.message_report.specs.declared.format.Told.{Told}
 use Rattle.tool_streams.specs.declared.fault.ToolFault.{ToolFault}
 use Rattle.tool_streams.specs.declared.fault.ToolFault.TheVariants as faults
 use Rattle.tool_streams.specs.declared.lines.LineStart.{LineStart}
-use Rattle.sign_aids.specs.Explain.{Asking, BeginsToExplain, ExplainsLines, IsMessageFault, refused_one}
-use Rattle.sign_aids.specs.kept.Explaining.{BeginsAfter, EndsAfter, Explained, ExplainsLast, TellsLast, TellsMessage}
+use Rattle.sign_aids.specs.Explain.{Asking, BeginsAfter, ExplainsLines, IsMessageFault, refused_one}
+use Rattle.sign_aids.specs.kept.Explaining.{EndsAfter, Explained, ExplainsLast, TellsLast, TellsMessage}
 use Rattle.tool_streams.specs.Blocks.{EndsWith, IsLineEnd}
 use Rattle.tool_streams.specs.Lines.{IsOneLine, octets_of, text_of}
 use Rattle.tool_streams.specs.Streams.{WritesWhole}
@@ -22,7 +22,7 @@ module _ (asking : Asking) where
 
   -- lines, and then a fault
   pub begins_more : (place place' : LineStart) (input between input' output middle output' : Option (List ℕ)) → (ready : List ℕ) (messages refused : ℕ) (fault : ToolFault) → Explained asking place place' input between output middle [] ready messages refused
-      → BeginsAfter asking place' between input' middle output' ready fault → BeginsToExplain asking place input input' output output' fault
+      → BeginsAfter asking place' between input' middle output' ready fault → BeginsAfter asking place input input' output output' [] fault
   begins_more place place' input between input' output middle output' ready messages refused fault e f = record {
     lines = e.lines ++ f.lines;
     more = f.more;
@@ -38,10 +38,10 @@ module _ (asking : Asking) where
         let number : place'.number + length f.lines ≡ place.number + length (e.lines ++ f.lines) = let both = length-append e.lines f.lines in omega (arith, both, e.number) in
         subst (λ n. IsMessageFault n f.left f.more input' fault) number f.fault;
     last = f.last;
-    explains =
-        let all = lines_more asking place.number e.lines (f.lines ++ f.told) e.text f.text e.explains (subst (λ n. ExplainsLines asking n (f.lines ++ f.told) f.text) e.number f.explains) in
-        subst (λ l. ExplainsLines asking place.number l ((e.sent ++ f.sent) ++ f.unsent)) (sym (append_assoc e.lines f.lines f.told))
-        (subst (ExplainsLines asking place.number (e.lines ++ (f.lines ++ f.told))) (sym (parts_more e.sent f.sent [] ready f.unsent e.text f.text e.parts f.parts)) all);
+    text = e.text ++ f.text;
+    explains = subst (λ l. ExplainsLines asking place.number l (e.text ++ f.text)) (sym (append_assoc e.lines f.lines f.told))
+        (lines_more asking place.number e.lines (f.lines ++ f.told) e.text f.text e.explains (subst (λ n. ExplainsLines asking n (f.lines ++ f.told) f.text) e.number f.explains));
+    parts = parts_more e.sent f.sent [] ready f.unsent e.text f.text e.parts f.parts;
     writes = Appends-trans output middle output' e.sent f.sent e.writes f.writes;
     whole = f.whole;
   }
@@ -135,11 +135,12 @@ module _ (asking : Asking) where
   }
 
   -- no memory for the sign
-  pub begins_none : (place : LineStart) (input output : Option (List ℕ)) → BeginsToExplain asking place input input output output faults.Memory
+  pub begins_none : (place : LineStart) (input output : Option (List ℕ)) → BeginsAfter asking place input input output output [] faults.Memory
   begins_none place input output = record {
     lines = [];
     more = [];
     told = [];
+    text = [];
     sent = [];
     unsent = [];
     left = place.left;
@@ -150,6 +151,7 @@ module _ (asking : Asking) where
     last = inl refl;
     explains = refl;
     writes = Appends-nil output;
+    parts = refl;
     whole = λ other. refl;
   }
 

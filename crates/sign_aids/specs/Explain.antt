@@ -47,25 +47,27 @@ IsMessageFault number left more input (faults.LineTooLong line) =
     ⊎ ((line ≡ number) × IsOneLine more × (length more ≤ left) × IsAtEnd input × (8300 < length more))
 IsMessageFault number left more input e = IsLineFault number left more input e
 
--- some lines are read, from this place on, and perhaps more, which has this fault, and their explanations
--- are written, or their beginning, if the writer fails, also at what stands behind the last line feed. No more is read than what shows that
--- an input is too long (own)
-pub record BeginsToExplain (asking : Asking) (place : LineStart) (input input' output output' : Option (List ℕ)) (e : ToolFault) : Type 0
-  where
-    pub lines : List (List ℕ)
-    pub more : List ℕ
-    pub told : List (List ℕ)
-    pub sent : List ℕ
-    pub unsent : List ℕ
-    pub left : ℕ
-    pub reads : Consumes input input' (octets_of lines ++ more)
-    pub room : length (octets_of lines) + left ≡ place.left
-    pub most : length more ≤ left + 1
-    pub fault : IsMessageFault (place.number + length lines) left more input' e
-    pub last : (told ≡ []) ⊎ ((told ≡ more ∷ []) × (e ≡ faults.Write) × IsAtEnd input')
-    pub explains : ExplainsLines asking place.number (lines ++ told) (sent ++ unsent)
-    pub writes : Appends output output' sent
-    pub whole : e ≢ faults.Write → unsent ≡ []
+-- some lines are read, from this place on, and perhaps more, which has this fault, and what was ready and their explanations are written,
+-- or their beginning, if the writer fails, also at what stands behind the last line feed. No more is read than what shows that an input is
+-- too long (own)
+pub record BeginsAfter (asking : Asking) (place : LineStart) (input input' output output' : Option (List ℕ)) (ready : List ℕ)
+    (e : ToolFault) : Type 0 where
+  pub lines : List (List ℕ)
+  pub more : List ℕ
+  pub told : List (List ℕ)
+  pub text : List ℕ
+  pub sent : List ℕ
+  pub unsent : List ℕ
+  pub left : ℕ
+  pub reads : Consumes input input' (octets_of lines ++ more)
+  pub room : length (octets_of lines) + left ≡ place.left
+  pub most : length more ≤ left + 1
+  pub fault : IsMessageFault (place.number + length lines) left more input' e
+  pub last : (told ≡ []) ⊎ ((told ≡ more ∷ []) × (e ≡ faults.Write) × IsAtEnd input')
+  pub explains : ExplainsLines asking place.number (lines ++ told) text
+  pub writes : Appends output output' sent
+  pub parts : sent ++ unsent ≡ ready ++ text
+  pub whole : e ≢ faults.Write → unsent ≡ []
 
 -- all messages that are left are read and explained, with what stands behind the last line feed, and counted (own)
 pub record ExplainedAll (asking : Asking) (place : LineStart) (input input' output output' : Option (List ℕ)) (counts : Counts) : Type 0
@@ -84,7 +86,7 @@ pub record ExplainedAll (asking : Asking) (place : LineStart) (input input' outp
 abbrev pub ExplainsRest :
     Asking → LineStart → Option (List ℕ) → Option (List ℕ) → Option (List ℕ) → Option (List ℕ) → Result Counts ToolFault → Type 0
 ExplainsRest asking place input input' output output' (Ok counts) = ExplainedAll asking place input input' output output' counts
-ExplainsRest asking place input input' output output' (Err e) = BeginsToExplain asking place input input' output output' e
+ExplainsRest asking place input input' output output' (Err e) = BeginsAfter asking place input input' output output' [] e
 
 -- what is taken leads to a sign, and the messages behind that are explained on it; or it leads to none, for the same reason as in the
 -- other modes, and nothing is written (own)

@@ -1,5 +1,5 @@
 -- One message after the other, of those that are explained.
-use Rattle.std.specs.Prelude.{◌≡◌, ◌≢◌, ◌⊎◌, ℕ, ◌+◌, ◌-◌, ◌<◌, ◌≤◌, List, [], ◌∷◌, ◌++◌, length, take, Option, Result, Ok, Err, if◌then◌else◌}
+use Rattle.std.specs.Prelude.{◌≡◌, ◌⊎◌, ℕ, ◌+◌, ◌-◌, ◌<◌, ◌≤◌, List, [], ◌∷◌, ◌++◌, length, take, Option, Result, Ok, Err, if◌then◌else◌}
 use Rattle.std.specs.Io.KnownBytes.{Appends, Consumes, IsAtEnd, prepend_known}
 use Rattle.message_report.specs.Explanation.{Explains, takes}
 use Rattle.message_report.specs.declared.format.Told.{Told}
@@ -10,7 +10,7 @@ use Rattle.tool_streams.specs.Lines.{IsOneLine, input_limit, octets_of, text_of}
 use Rattle.tool_streams.specs.Streams.{WritesWhole}
 use Rattle.sign_aids.specs.declared.explain.NextTold.{NextTold}
 use Rattle.sign_aids.specs.declared.explain.NextTold.TheVariants as tells
-use Rattle.sign_aids.specs.Explain.{Asking, ExplainsLines, IsMessageFault, refused_of, refused_one}
+use Rattle.sign_aids.specs.Explain.{Asking, BeginsAfter, ExplainsLines, refused_of, refused_one}
 
 -- ---- what is held and what is ready
 
@@ -46,27 +46,6 @@ pub record Explained (asking : Asking) (place place' : LineStart) (input input' 
   pub parts : sent ++ ready' ≡ ready ++ text
   pub messages_is : messages ≡ length lines
   pub refused_is : refused ≡ refused_of asking.sign lines
-
--- some lines are read, and perhaps more, which has this fault, and what was ready and their explanations are written, or their
--- beginning (own)
-pub record BeginsAfter (asking : Asking) (place : LineStart) (input input' output output' : Option (List ℕ)) (ready : List ℕ)
-    (e : ToolFault) : Type 0 where
-  pub lines : List (List ℕ)
-  pub more : List ℕ
-  pub told : List (List ℕ)
-  pub text : List ℕ
-  pub sent : List ℕ
-  pub unsent : List ℕ
-  pub left : ℕ
-  pub reads : Consumes input input' (octets_of lines ++ more)
-  pub room : length (octets_of lines) + left ≡ place.left
-  pub most : length more ≤ left + 1
-  pub fault : IsMessageFault (place.number + length lines) left more input' e
-  pub last : (told ≡ []) ⊎ ((told ≡ more ∷ []) × (e ≡ faults.Write) × IsAtEnd input')
-  pub explains : ExplainsLines asking place.number (lines ++ told) text
-  pub writes : Appends output output' sent
-  pub parts : sent ++ unsent ≡ ready ++ text
-  pub whole : e ≢ faults.Write → unsent ≡ []
 
 -- the message of a line, which has this number in the input, is explained; or memory was refused and what was ready is written, or the
 -- writer fails (own)
