@@ -59,7 +59,8 @@ impl KnownItem {
 
     /// Whether the item is a character whose number is that of an octet.
     pub fn is_octet(self) -> bool
-        ensures { result ≡ true → IsOctet self }
+        ensures octet { result ≡ true → IsOctet self }
+        ensures all { IsOctet self → result ≡ true }
     {
         match self {
             KnownItem::Char(number) => number <= 255,

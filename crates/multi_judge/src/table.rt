@@ -66,7 +66,10 @@ impl CountedLine {
 
 impl LineTable {
     /// A table of no line.
-    pub fn new() -> LineTable {
+    pub fn new() -> LineTable
+        ensures none { (just : ℕ) → group_lines just result ≡ [] }
+        ensures ordered { IsOrdered result }
+    {
         LineTable {
             lines: ArrayVec::new(),
             middle: 0,

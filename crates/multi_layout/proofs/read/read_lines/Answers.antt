@@ -136,7 +136,7 @@ go_on-requires g c =
     record {
       small = (ready_state (not (g.row.WORDS == 0)) c.pass_item.new.kept (read_ready c.requires.sound r), omega (arith, ap length octets, b.placed.accepted.short));
       limited = λ off. limited_of (not (g.row.WORDS == 0)) off c.args.sign.now c.pass_item.new.kept _ r.of;
-      behind = λ is off. c.pass_item.ensures.behind (c.is_octet.ensures is) off;
+      behind = λ is off. c.pass_item.ensures.behind (c.is_octet.ensures.octet is) off;
       within = omega (arith, (so_advances so n (c.loop-first.at + c.in-Item.next.len) refl).1, ap length octets);
     }
 
@@ -159,7 +159,7 @@ loop-first-preserved g c =
     let gone = subst (λ o. GoesOn (not (g.row.WORDS == 0)) c.args.sign.now o at c.pass_item.new.kept c.go_on.result.0 c.go_on.new.kept) octets c.go_on.ensures.gone in
     let on = gone_forward at c.go_on.result.0 c.pass_item.new.kept c.go_on.new.kept gone in
     let steps = steps_on c.args.source.now c.loop-first.source c.meet_known.new.source c.pass_item.new.source c.go_on.new.source c.args.cursor.now.at c.loop-first.at c.in-Item.next.len c.go_on.result.0 i.taken (item_steps c.loop-first.item) (item_steps c.args.begun.item) c.is_octet.result
-    i.forward on c.in-Item.ensures.some c.go_on.ensures.alone i.steps i.few c.in-Item.ensures.known c.in-Item.ensures.steps c.pass_item.ensures.steps (λ is. c.pass_item.ensures.octet (c.is_octet.ensures is)) c.go_on.ensures.steps in
+    i.forward on c.in-Item.ensures.some c.go_on.ensures.alone i.steps i.few c.in-Item.ensures.known c.in-Item.ensures.steps c.pass_item.ensures.steps (λ is. c.pass_item.ensures.octet (c.is_octet.ensures.octet is)) c.go_on.ensures.steps in
     record {
       so_far = λ before behind b begins.
           let (so, n) = so_met (i.so_far before behind b begins) (same_octets i.steps.3) c.in-Item.next c.meet_known.new.state c.in-Item.ensures.met in
