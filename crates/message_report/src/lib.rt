@@ -7,6 +7,7 @@
 
 mod accepted;
 mod blocks;
+mod desk;
 mod explain;
 mod explanation;
 mod format;
