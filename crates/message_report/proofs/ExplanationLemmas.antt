@@ -1,7 +1,8 @@
 -- The parts of an explanation, one behind the other.
-use Rattle.std.proofs.Common.{◌≡◌, ℕ, suc, ◌+◌, ◌<◌, ◌^◌, ◌≤◌, ◌≢◌, false, List, [], ◌∷◌, ◌++◌, length, refl, sym, ap, ◌∙◌, arith, subst, append_assoc, append-nil}
-use Rattle.std.proofs.lemmas.List.Elements.{All-append, All-push}
-use Rattle.std.proofs.lemmas.Bool.{le-ltb, lt-ltb}
+use Rattle.std.proofs.Common.{◌≡◌, ℕ, suc, ◌+◌, ◌%◌, ◌<◌, ◌^◌, ◌≤◌, ◌≢◌, Bool, false, ◌||◌, ◌==◌, List, [], ◌∷◌, ◌++◌, length, refl, sym, ap, ◌∙◌, arith, subst, append_assoc, append-nil, decimal}
+use Rattle.std.proofs.lemmas.List.Elements.{All-append, All-cons, All-nil, All-push}
+use Rattle.std.proofs.lemmas.Bool.{eqb-false, le-ltb, lt-ltb, or_parts}
+use Rattle.std.proofs.lemmas.Fmt.{decimal_by_steps}
 use Rattle.std.proofs.lemmas.Grind.{flat_map-append}
 use Rattle.std.specs.List.{flat_map}
 use Rattle.sign_font.specs.Sign.{SignData}
@@ -10,7 +11,7 @@ use Rattle.multi_meaning.specs.Verdict.{Accepted, IsVerdict, Verdict, pages_of, 
 use Rattle.multi_meaning.proofs.AcceptedLemmas.{accepted_is}
 use Rattle.multi_meaning.proofs.VerdictLemmas.{one_verdict}
 use Rattle.octet_text.proofs.TextLemmas.{grown}
-use Rattle.message_report.specs.Words.{GrowsByLine, IsOneLine}
+use Rattle.message_report.specs.Words.{GrowsByLine, GrowsInLine, IsOneLine}
 use Rattle.message_report.specs.declared.format.Telling.{Telling}
 use Rattle.message_report.specs.Explanation.{Explains, HasPages, IsWarnings, Tells, TellsTooLong, accepts, head_text, takes, warning_text}
 
@@ -78,3 +79,25 @@ taken_by sign octets message v short same is =
 pub not_taken : (sign : SignData) (message : List ℕ) → 4096 < length message → false ≡ takes sign message
 unfolding takes
 not_taken sign message long = rw (lt-ltb _ _ long) refl
+
+-- words have no line feed if none is found in them
+abbrev pub has_feed : List ℕ → Bool
+has_feed [] = false
+has_feed (c ∷ words) = (c == 10) || has_feed words
+
+pub feedless : (words : List ℕ) → has_feed words ≡ false → IsOneLine words
+feedless [] none = All-nil (λ c. c ≢ 10)
+feedless (c ∷ words) none = let parts = or_parts (c == 10) (has_feed words) none in All-cons (λ c. c ≢ 10) c words (eqb-false c 10 parts.0) (feedless words parts.1)
+
+-- and no number has one
+pub number_in_line : (n : ℕ) → n < 2 ^ 64 → IsOneLine (decimal n)
+number_in_line n small =
+    decimal_by_steps (λ n words. IsOneLine words)
+    (λ n few. All-cons (λ c. c ≢ 10) (48 + n) [] (λ e. omega (arith, e)) (All-nil (λ c. c ≢ 10)))
+    (λ n words more is. All-push (λ c. c ≢ 10) words (48 + n % 10) is (λ e. omega (arith, e)))
+    n small
+
+-- what is appended in a line, piece by piece
+pub in_line_more : (start now new more : List ℕ) → GrowsInLine start now → IsOneLine more → new ≡ now ++ more → GrowsInLine start new
+in_line_more start now new more (line, is, so_far) other next =
+    (line ++ more, All-append (λ n. n ≢ 10) line more is other, grown start now new line more _ so_far next refl)

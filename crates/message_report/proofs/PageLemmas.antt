@@ -1,13 +1,19 @@
 -- The rows of a page's marks.
-use Rattle.std.proofs.Common.{◌≡◌, ℕ, ◌<◌, Bool, false, List, ap, ◌∙◌, arith, inl, inr, refl}
-use Rattle.std.proofs.lemmas.Bool.{cases_Bool}
+use Rattle.std.proofs.Common.{◌≡◌, ℕ, ◌<◌, ◌==◌, Bool, false, List, length, ap, ◌∙◌, arith, eq-eqb, inl, inr, refl, subst}
+use Rattle.std.proofs.lemmas.Bool.{cases_Bool, or_left}
 use Rattle.page_plane.specs.Plane.{BitPlane, is_lit}
 use Rattle.sign_font.specs.Sign.{SignData}
 use Rattle.multi_meaning.specs.Drawn.{Lights}
-use Rattle.multi_meaning.specs.Picture.{picture}
+use Rattle.multi_meaning.specs.Meaning.{meanings}
+use Rattle.multi_meaning.specs.Picture.{picture, pixel_at}
+use Rattle.multi_meaning.specs.Times.{page_times, shown}
+use Rattle.multi_meaning.specs.Verdict.{pages_of}
+use Rattle.multi_meaning.specs.declared.times.Shown.{Shown}
+use Rattle.multi_meaning.proofs.TimesLemmas.{shown_always, times_count}
 use Rattle.multi_layout.specs.Pages.{IsSized}
 use Rattle.page_picture.specs.Colours.{ColourData, IsPage, colour_by, page_colour}
 use Rattle.page_picture.specs.Rows.{mark_of, marked_rows, rows_text}
+use Rattle.page_picture.proofs.ColourLemmas.{lights_by}
 use Rattle.page_picture.proofs.RowLemmas.{rows_same}
 use Rattle.page_picture.proofs.WriteLemmas.{monochrome_dark}
 use Rattle.message_report.specs.Pictures.{mark, mark_at, page_text}
@@ -39,3 +45,18 @@ monochrome_pictured sign octets page phase plane plain shows sized =
     ∙ one_mark (λ colour. picture sign octets page phase colour column row) (λ colour more. monochrome_dark sign octets page phase colour column row plain more))
     ∙ ap (λ w. rows_text marks w plane.height) sized.0
     ∙ ap (rows_text marks sign.width) sized.1
+
+-- a string of one page shows it at each clock, with the clock as its phase
+pub only_page : (sign : SignData) (octets : List ℕ) (clock colour : ℕ) (plane : BitPlane) (is : Shown) → pages_of (meanings octets) ≡ 1 → is ≡ shown sign octets clock
+    → Lights plane (pixel_at sign (meanings octets) is colour) → Lights plane (picture sign octets 0 clock colour)
+only_page sign octets clock colour plane is one found lights =
+    let times = page_times sign (meanings octets) in
+    let always = shown_always times clock (or_left (length times == 1) _ (eq-eqb (length times) 1 (times_count sign (meanings octets) ∙ one))) in
+    subst (λ s. Lights plane (pixel_at sign (meanings octets) s colour)) (found ∙ always) lights
+
+-- and the plane of its colour 1 is the picture of that page, if the sign is monochrome
+pub only_pictured : (sign other : SignData) (octets : List ℕ) (clock : ℕ) (plane : BitPlane) (is : Shown) → sign.classic ≡ false → other ≡ sign → pages_of (meanings octets) ≡ 1
+    → is ≡ shown other octets clock → Lights plane (pixel_at other (meanings octets) is 1) → IsSized plane sign
+    → marked_rows 49 (is_lit plane) plane.width plane.height ≡ page_text sign octets 0 clock
+only_pictured sign other octets clock plane is plain same one found lights sized =
+    monochrome_pictured sign octets 0 clock plane plain (lights_by sign other octets octets 0 clock 1 plane same refl (only_page other octets clock 1 plane is one found lights)) sized

@@ -1,8 +1,8 @@
 //! An accepted message that is told of.
 
+use crate::canvas::Canvas;
 use crate::format::Telling;
 use message_words::Findings;
-use page_plane::Plane;
 use sign_font::Sign;
 use std::alloc::Global;
 use std::cell::Cell;
@@ -21,8 +21,6 @@ pub(crate) struct AcceptedMessage<'a> {
     pub(crate) message: &'a [u8],
     /// What is found in it.
     pub(crate) found: &'a Findings,
-    /// How long a page is shown whose times no tag sets, for the end of a line.
-    pub(crate) usual: &'a String,
-    /// A plane for its pages, if there is one.
-    pub(crate) plane: &'a Cell<Option<Plane>>,
+    /// What its pages are drawn with, if there is something.
+    pub(crate) canvas: &'a Cell<Option<Box<Canvas>>>,
 }

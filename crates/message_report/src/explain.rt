@@ -6,6 +6,7 @@ ghost use Rattle.message_report.specs.Explanation.{Explains, Tells, TellsTooLong
 ghost use Rattle.message_report.specs.Words.{GrowsBy};
 
 use crate::accepted::AcceptedMessage;
+use crate::canvas::Canvas;
 use crate::explanation::{Explanation, push_octets};
 use crate::format::{Format, Telling, Told};
 use crate::lines::{push_error_line, push_warning_lines};
@@ -15,10 +16,9 @@ use crate::record::{push_accepted_record, push_refused_record, push_too_long_rec
 use crate::text::push_words;
 use crate::verdict::{push_line_head, push_place, push_refused, push_too_long};
 use crate::wording::Wording;
-use message_words::{Refusal, Times, warnings_on};
+use message_words::{Refusal, warnings_on};
 use multi_layout::{Checked, check};
 use multi_token::Source;
-use page_plane::Plane;
 use sign_font::Sign;
 use std::alloc::{AllocError, Global};
 use std::cell::{Cell, OnceCell};
@@ -39,10 +39,8 @@ pub struct Explainer {
     sign: Sign,
     /// What the words of its refusals are taken from, once there was one.
     wording: OnceCell<Wording>,
-    /// How long a page is shown whose times no tag sets, for the end of a line, once it was asked for.
-    usual: OnceCell<String>,
-    /// The plane that pages are drawn into, once one was drawn.
-    plane: Cell<Option<Plane>>,
+    /// What pages are drawn with, once one was drawn.
+    canvas: Cell<Option<Box<Canvas>>>,
     /// The most octets of a text that its message table takes.
     max_string: u16,
 }
@@ -63,14 +61,14 @@ impl Explainer {
         Explainer {
             sign,
             wording: OnceCell::new(),
-            usual: OnceCell::new(),
-            plane: Cell::new(None),
+            canvas: Cell::new(None),
             max_string,
         }
     }
 }
 
 /// Appends that a message has too many octets.
+#[inline(never)]
 fn push_unjudged(
     text: &mut Explanation,
     alloc: Global,
@@ -96,6 +94,7 @@ fn push_unjudged(
 }
 
 /// Appends the explanation of an accepted message.
+#[inline(always)]
 fn push_accepted(
     text: &mut Explanation,
     name: &[u8],
@@ -174,10 +173,35 @@ impl Explainer {
             .get_or_try_init(|| Wording::new(alloc, &self.sign))
     }
 
-    /// How long a page is shown whose times no tag sets. The words are made once. The error says that memory was refused.
-    fn usual(&self, alloc: Global) -> Result<&String, AllocError> {
-        self.usual
-            .get_or_try_init(|| Times::usual(&self.sign).words(alloc))
+    /// Appends the explanation of a message that the sign refuses with this error at an octet.
+    #[inline(never)]
+    fn push_fault(
+        &self,
+        alloc: Global,
+        telling: Telling,
+        name: &[u8],
+        line: u32,
+        message: &[u8],
+        code: u8,
+        at: usize,
+        text: &mut Explanation,
+    ) -> Result<(), AllocError>
+        requires small { at < 2 ^ 63 }
+        ensures { OnOk result (GrowsBy
+            (Tells telling telling.format self.now name.now message.now line (Refused code at))
+            text.old text.new) }
+    {
+        let wording = self.wording(alloc)?;
+        let refusal = Refusal {
+            alloc,
+            sign: &self.sign,
+            large: wording.large.as_ref(),
+            fonts: &wording.fonts,
+            message,
+            code,
+            at,
+        };
+        push_refusal(text, telling, name, line, &refusal)
     }
 
     /// Appends the explanation of the message of a line, as it is asked for: the sign's verdict on it, and where it is refused and why, or
@@ -214,8 +238,7 @@ impl Explainer {
                     line,
                     message,
                     found: &found,
-                    usual: self.usual(alloc)?,
-                    plane: &self.plane,
+                    canvas: &self.canvas,
                 };
                 push_accepted(text, name, &accepted, checked)?;
                 Ok(Told {
@@ -224,17 +247,9 @@ impl Explainer {
                 })
             }
             Err(fault) => {
-                let wording = self.wording(alloc)?;
-                let refusal = Refusal {
-                    alloc,
-                    sign,
-                    large: wording.large.as_ref(),
-                    fonts: &wording.fonts,
-                    message,
-                    code: fault.code,
-                    at: fault.at,
-                };
-                push_refusal(text, telling, name, line, &refusal)?;
+                self.push_fault(
+                    alloc, telling, name, line, message, fault.code, fault.at, text,
+                )?;
                 Ok(NOT_TAKEN)
             }
         }

@@ -89,6 +89,7 @@ pub(crate) fn make_room(octets: &mut Vec<u8>, count: usize) -> Result<(), AllocE
 }
 
 /// Appends octets. The error says that memory was refused.
+#[inline(always)]
 pub(crate) fn push_octets(text: &mut Explanation, octets: &[u8]) -> Result<(), AllocError>
     ensures { OnOk result (text.new ≡ text.old ++ octets.now) }
 {
@@ -100,6 +101,7 @@ pub(crate) fn push_octets(text: &mut Explanation, octets: &[u8]) -> Result<(), A
 }
 
 /// Appends an octet. The error says that memory was refused.
+#[inline(always)]
 pub(crate) fn push_octet(text: &mut Explanation, octet: u8) -> Result<(), AllocError>
     ensures { OnOk result (text.new ≡ text.old ++ octet ∷ []) }
 {
@@ -110,11 +112,20 @@ pub(crate) fn push_octet(text: &mut Explanation, octet: u8) -> Result<(), AllocE
 }
 
 /// Appends a number in decimal. The error says that memory was refused.
+#[inline(always)]
 pub(crate) fn push_number(text: &mut Explanation, number: u64) -> Result<(), AllocError>
     ensures { OnOk result (text.new ≡ text.old ++ decimal number) }
 {
     if number < 10 {
         return push_octet(text, b'0' + number as u8);
     }
+    push_digits(text, number)
+}
+
+/// The same by room for all digits that there can be. Most numbers have one.
+#[inline(never)]
+fn push_digits(text: &mut Explanation, number: u64) -> Result<(), AllocError>
+    ensures { OnOk result (text.new ≡ text.old ++ decimal number) }
+{
     push_octets(text, Buffer::new().format(number).as_bytes())
 }

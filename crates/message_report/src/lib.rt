@@ -7,6 +7,7 @@
 
 mod accepted;
 mod blocks;
+mod canvas;
 mod explain;
 mod explanation;
 mod format;

@@ -51,6 +51,7 @@ fn push_warning_line(
 }
 
 /// Appends the lines of all warnings.
+#[inline(never)]
 pub(crate) fn push_warning_lines(
     text: &mut Explanation,
     name: &[u8],

@@ -1,12 +1,15 @@
 //! Accepted messages in words and pictures.
-ghost use Rattle.std.specs.Prelude.{◌≡◌, ◌<◌, ◌^◌, false, length, IfOk, OnOk};
+ghost use Rattle.std.specs.Prelude.{◌≡◌, ◌++◌, ◌<◌, ◌^◌, false, length, IfOk, OnOk};
 ghost use Rattle.multi_layout.specs.Pages.{IsSized, page_count};
 ghost use Rattle.message_report.specs.Explanation.{HasPages, PassesOver, ShowsPages, TellsAccepted, picture_text};
+ghost use Rattle.message_report.specs.Pictures.{page_text};
 ghost use Rattle.message_report.specs.Words.{Grows, GrowsBy};
 ghost use Rattle.message_report.specs.declared.picture.Picture.TheVariants.{Marks};
 
 use crate::accepted::AcceptedMessage;
+use crate::canvas::{Canvas, new_plane};
 use crate::explanation::Explanation;
+use crate::marks::push_lit;
 use crate::picture::{Picture, push_next_lit, push_picture};
 use crate::text::{push_legend, push_message, push_times, push_warnings};
 use crate::verdict::{push_accepted, push_head, push_line_head};
@@ -14,24 +17,83 @@ use multi_layout::Checked;
 use page_plane::Plane;
 use std::alloc::AllocError;
 
-/// A plane of the sign's size: the one that there is, or a new one. The error says that memory was refused.
-fn plane_of(message: &AcceptedMessage<'_>) -> Result<Plane, AllocError>
+/// A plane of the sign's size: that of a canvas, which it leaves, or a new one. The error says that memory was refused.
+#[inline(always)]
+fn plane_of(message: &AcceptedMessage<'_>, canvas: &mut Canvas) -> Result<Plane, AllocError>
     ensures { IfOk result (λ plane. IsSized plane message.now.sign.now) }
 {
     let (width, height) = (message.sign.width(), message.sign.height());
-    if let Some(plane) = message.plane.take() {
+    if let Some(plane) = canvas.plane.take() {
         if plane.width() == width && plane.height() == height {
             return Ok(plane);
         }
     }
-    match Plane::new(message.alloc, width, height) {
-        Ok(plane) => Ok(plane),
-        Err(_) => Err(AllocError),
+    new_plane(message.alloc, message.sign)
+}
+
+/// The canvas that there is, or a new one. The error says that memory was refused.
+#[inline(always)]
+fn canvas_of(message: &AcceptedMessage<'_>) -> Result<Box<Canvas>, AllocError> {
+    match message.canvas.take() {
+        Some(canvas) => Ok(canvas),
+        None => Canvas::new(message.alloc),
     }
+}
+
+/// Draws the only page of a message for a monochrome sign on a canvas, and appends its picture by marks. It is shown at each clock.
+#[inline(always)]
+fn push_only_picture(
+    text: &mut Explanation,
+    message: &AcceptedMessage<'_>,
+    checked: &mut Checked<'_>,
+    canvas: &mut Canvas,
+) -> Result<(), AllocError>
+    requires sign { checked.old.sign ≡ message.now.sign.now }
+    requires monochrome { message.now.sign.now.classic ≡ false }
+    requires one { page_count checked.old ≡ 1 }
+    ensures { OnOk result (text.new ≡ text.old
+        ++ page_text message.now.sign.now checked.old.source.octets 0 message.now.telling.phase) }
+{
+    let (width, height) = (message.sign.width(), message.sign.height());
+    let Canvas { plane, lines } = canvas;
+    if let Some(plane) = plane {
+        if plane.width() == width && plane.height() == height {
+            checked.draw_shown(message.telling.phase, 1, lines, plane);
+            return push_lit(text, plane);
+        }
+    }
+    let mut new = new_plane(message.alloc, message.sign)?;
+    checked.draw_shown(message.telling.phase, 1, lines, &mut new);
+    push_lit(text, &new)?;
+    *plane = Some(new);
+    Ok(())
+}
+
+/// Appends the only page of a message for a monochrome sign, with its times and its picture by marks.
+fn push_only_page(
+    text: &mut Explanation,
+    message: &AcceptedMessage<'_>,
+    checked: &mut Checked<'_>,
+) -> Result<(), AllocError>
+    requires sign { checked.old.sign ≡ message.now.sign.now }
+    requires monochrome { message.now.sign.now.classic ≡ false }
+    requires one { page_count checked.old ≡ 1 }
+    ensures { OnOk result (GrowsBy
+        (HasPages (picture_text Marks message.now.sign.now checked.old.source.octets message.now.telling.phase)
+        (page_count checked.old) (page_count checked.old))
+        text.old text.new) }
+{
+    let mut canvas = canvas_of(message)?;
+    push_head(text, 0, 1)?;
+    push_times(text, message, 0, 1)?;
+    push_only_picture(text, message, checked, &mut canvas)?;
+    message.canvas.set(Some(canvas));
+    Ok(())
 }
 
 /// Appends all pages of a monochrome sign, each with its times and its picture by marks. They are drawn in turn into one plane, and no
 /// page is looked for.
+#[inline(never)]
 fn push_lit_pages(
     text: &mut Explanation,
     message: &AcceptedMessage<'_>,
@@ -45,7 +107,8 @@ fn push_lit_pages(
         (page_count checked.entry) (page_count checked.entry))
         text.old text.new) }
 {
-    let plane = plane_of(message)?;
+    let mut canvas = canvas_of(message)?;
+    let plane = plane_of(message, &mut canvas)?;
     let pages = checked.pages();
     let mut drawn = checked.each_page(message.telling.phase, 1, plane);
     for page in 0..pages {
@@ -53,11 +116,13 @@ fn push_lit_pages(
         push_times(text, message, page, pages)?;
         push_next_lit(text, &mut drawn)?;
     }
-    message.plane.set(Some(drawn.finish().1));
+    canvas.plane = Some(drawn.finish().1);
+    message.canvas.set(Some(canvas));
     Ok(())
 }
 
 /// Appends all pages, each with its times and its picture, as [`push_picture`] draws it.
+#[inline(never)]
 fn push_drawn_pages(
     text: &mut Explanation,
     message: &AcceptedMessage<'_>,
@@ -96,6 +161,7 @@ fn push_drawn_pages(
 }
 
 /// Appends all pages, each with its times and its picture.
+#[inline(always)]
 fn push_pages(
     text: &mut Explanation,
     message: &AcceptedMessage<'_>,
@@ -110,12 +176,20 @@ fn push_pages(
         text.old text.new) }
 {
     match picture {
-        Picture::Marks if !message.sign.classic() => push_lit_pages(text, message, checked),
+        Picture::Marks if !message.sign.classic() => {
+            let mut checked = checked;
+            if checked.pages() == 1 {
+                push_only_page(text, message, &mut checked)
+            } else {
+                push_lit_pages(text, message, checked)
+            }
+        }
         _ => push_drawn_pages(text, message, checked, picture),
     }
 }
 
 /// Appends what stands behind the pages: what their marks mean, the warnings, and an empty line.
+#[inline(always)]
 fn push_notes(
     text: &mut Explanation,
     message: &AcceptedMessage<'_>,
@@ -129,6 +203,7 @@ fn push_notes(
 }
 
 /// Appends the explanation of an accepted message with its pages.
+#[inline(always)]
 fn push_shown(
     text: &mut Explanation,
     message: &AcceptedMessage<'_>,
@@ -152,6 +227,7 @@ fn push_shown(
 }
 
 /// Appends the warnings on an accepted message, if there are any.
+#[inline(never)]
 fn push_warned(
     text: &mut Explanation,
     message: &AcceptedMessage<'_>,
@@ -169,6 +245,7 @@ fn push_warned(
 }
 
 /// Appends the explanation of an accepted message in words and pictures.
+#[inline(always)]
 pub(crate) fn push_told(
     text: &mut Explanation,
     message: &AcceptedMessage<'_>,

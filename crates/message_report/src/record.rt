@@ -257,6 +257,7 @@ fn push_pages_record(
 }
 
 /// Appends the record of an accepted message, unless only refused ones are asked for and there is no warning on it.
+#[inline(never)]
 pub(crate) fn push_accepted_record(
     text: &mut Explanation,
     message: &AcceptedMessage<'_>,

@@ -5,7 +5,9 @@ ghost use Rattle.message_report.specs.Words.{Grows, GrowsByLine, GrowsInLine};
 use crate::accepted::AcceptedMessage;
 use crate::explanation::{Explanation, push_number, push_octet, push_octets};
 use crate::picture::Picture;
-use message_words::{FLASHING, MessageLine, NO_TIMES, SHOWN_ALWAYS, Warning, marks_of};
+use message_words::{
+    COLOUR_MARKS, FLASHING, MORE, MessageLine, NO_TIMES, PIXEL_MARKS, Times, Warning,
+};
 use sign_font::Sign;
 use std::alloc::{AllocError, Global};
 
@@ -44,6 +46,18 @@ pub(crate) fn push_line(text: &mut Explanation, words: &[u8]) -> Result<(), Allo
     push_octet(text, b'\n')
 }
 
+/// Appends that more octets of a message stand behind those that are shown, if they do.
+#[inline(always)]
+fn push_more(text: &mut Explanation, more: bool) -> Result<(), AllocError>
+    ensures { OnOk result (GrowsInLine text.old text.new) }
+{
+    if more {
+        push_octets(text, MORE.as_bytes())
+    } else {
+        Ok(())
+    }
+}
+
 /// Appends a message as a line.
 pub(crate) fn push_message(
     text: &mut Explanation,
@@ -53,19 +67,54 @@ pub(crate) fn push_message(
     ensures { OnOk result (GrowsByLine text.old text.new) }
 {
     let line = MessageLine(message);
-    if let Some((front, rest)) = line.as_plain() {
-        if rest.is_empty() {
-            return push_line(text, front);
-        }
-        push_in_line(text, front)?;
-        push_line(text, rest.as_bytes())?;
+    let Some((front, more)) = line.as_plain() else {
+        let words = line.to_string(alloc)?;
+        return push_line(text, words.as_bytes());
+    };
+    push_octets(text, front)?;
+    push_more(text, more)?;
+    push_octet(text, b'\n')?;
+    Ok(())
+}
+
+/// Appends a time, which is given in tenths of a second, in seconds.
+#[inline(always)]
+fn push_seconds(text: &mut Explanation, tenths: u8) -> Result<(), AllocError>
+    ensures { OnOk result (GrowsInLine text.old text.new) }
+{
+    push_number(text, u64::from(tenths / 10))?;
+    push_octet(text, b'.')?;
+    push_number(text, u64::from(tenths % 10))?;
+    push_octets(text, b" seconds")?;
+    Ok(())
+}
+
+/// Appends how long the sign is dark after a page, unless it isn't.
+#[inline(always)]
+fn push_dark_for(text: &mut Explanation, off: u8) -> Result<(), AllocError>
+    ensures { OnOk result (GrowsInLine text.old text.new) }
+{
+    if off == 0 {
         return Ok(());
     }
-    let words = line.to_string(alloc)?;
-    push_line(text, words.as_bytes())
+    push_octets(text, b", then dark for ")?;
+    push_seconds(text, off)?;
+    Ok(())
+}
+
+/// Appends how long a page is shown, and how long the sign is dark after it, to the end of a line.
+fn push_shown_for(text: &mut Explanation, times: Times) -> Result<(), AllocError>
+    ensures { OnOk result (GrowsByLine text.old text.new) }
+{
+    push_octets(text, b"shown for ")?;
+    push_seconds(text, times.on)?;
+    push_dark_for(text, times.off)?;
+    push_octets(text, b":\n")?;
+    Ok(())
 }
 
 /// Appends how long a page of so many is shown, and how long the sign is dark after it, to the end of a line.
+#[inline(always)]
 pub(crate) fn push_times(
     text: &mut Explanation,
     message: &AcceptedMessage<'_>,
@@ -74,15 +123,11 @@ pub(crate) fn push_times(
 ) -> Result<(), AllocError>
     ensures { OnOk result (GrowsByLine text.old text.new) }
 {
-    if pages == 1 {
-        return push_line(text, SHOWN_ALWAYS.as_bytes());
+    if pages != 1 {
+        return push_shown_for(text, message.found.times.of(page));
     }
-    let times = &message.found.times;
-    if times.is_usual() {
-        return push_line(text, message.usual.as_bytes());
-    }
-    let words = times.of(page).words(message.alloc)?;
-    push_line(text, words.as_bytes())
+    push_octets(text, b"shown all the time:\n")?;
+    Ok(())
 }
 
 /// Appends what the marks of the pictures mean, if they have marks.
@@ -90,16 +135,10 @@ fn push_marks(text: &mut Explanation, sign: &Sign, picture: Picture) -> Result<(
     ensures { OnOk result (Grows text.old text.new) }
 {
     match picture {
-        Picture::Marks => push_octets(text, marks_of(sign).as_bytes()),
+        Picture::Marks if sign.classic() => push_octets(text, COLOUR_MARKS.as_bytes()),
+        Picture::Marks => push_octets(text, PIXEL_MARKS.as_bytes()),
         Picture::Blocks => Ok(()),
     }
-}
-
-/// Appends that pages don't change, if they don't.
-fn push_still(text: &mut Explanation, is_still: bool) -> Result<(), AllocError>
-    ensures { OnOk result (Grows text.old text.new) }
-{
-    push_octets(text, if is_still { NO_TIMES.as_bytes() } else { b"" })
 }
 
 /// Appends that text flashes, and when its page is drawn.
@@ -122,7 +161,9 @@ pub(crate) fn push_legend(
     ensures { OnOk result (Grows text.old text.new) }
 {
     push_marks(text, message.sign, picture)?;
-    push_still(text, is_still)?;
+    if is_still {
+        push_octets(text, NO_TIMES.as_bytes())?;
+    }
     if message.found.flashes {
         push_flashing(text, message.telling.phase)?;
     }
@@ -140,15 +181,27 @@ fn push_warning(text: &mut Explanation, warning: &Warning) -> Result<(), AllocEr
     push_octet(text, b'\n')
 }
 
+/// Appends all warnings. Most messages have none.
+#[inline(never)]
+fn push_each_warning(text: &mut Explanation, warnings: &[Warning]) -> Result<(), AllocError>
+    ensures { OnOk result (Grows text.old text.new) }
+{
+    for warning in warnings {
+        push_warning(text, warning)?;
+    }
+    Ok(())
+}
+
 /// Appends the warnings on a message, and the empty line that stands behind each explanation.
+#[inline(always)]
 pub(crate) fn push_warnings(
     text: &mut Explanation,
     message: &AcceptedMessage<'_>,
 ) -> Result<(), AllocError>
     ensures { OnOk result (Grows text.old text.new) }
 {
-    for warning in &message.found.warnings {
-        push_warning(text, warning)?;
+    if !message.found.warnings.is_empty() {
+        push_each_warning(text, &message.found.warnings)?;
     }
     push_octet(text, b'\n')
 }

@@ -25,6 +25,7 @@ pub(crate) fn name_of(code: u8) -> &'static str
 
 /// Appends the number of the line of a message.
 #[tactic(auto, unfolding(crate::specs::Explanation::line_head))]
+#[inline(always)]
 pub(crate) fn push_line_head(text: &mut Explanation, line: u32) -> Result<(), AllocError>
     ensures { OnOk result (text.new ≡ text.old ++ line_head line) }
 {
@@ -77,6 +78,7 @@ pub(crate) fn push_refused(text: &mut Explanation, code: u8, at: usize) -> Resul
 
 /// Appends that a message is accepted, with the number of its pages.
 #[tactic(auto, unfolding(crate::specs::Explanation::accepted_text))]
+#[inline(always)]
 pub(crate) fn push_accepted(text: &mut Explanation, pages: u8) -> Result<(), AllocError>
     ensures { OnOk result (text.new ≡ text.old ++ accepted_text pages) }
 {
@@ -99,6 +101,7 @@ pub(crate) fn push_too_long(text: &mut Explanation) -> Result<(), AllocError>
 
 /// Appends the number of a page, which is counted from 0, among the pages.
 #[tactic(auto, unfolding(crate::specs::Explanation::head_text))]
+#[inline(always)]
 pub(crate) fn push_head(text: &mut Explanation, page: u8, pages: u8) -> Result<(), AllocError>
     ensures { OnOk result (text.new ≡ text.old ++ head_text page pages) }
 {

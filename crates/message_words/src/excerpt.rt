@@ -1,6 +1,8 @@
 //! A message as a line, with a caret under a place.
+ghost use Rattle.std.specs.Prelude.{◌≢◌, ◌≤◌, All, IfSome};
 
 use crate::utf8::{encoded_at, is_shown};
+use crate::words::MORE;
 use std::alloc::AllocError;
 use std::fmt;
 use std::fmt::{Formatter, Write};
@@ -35,20 +37,29 @@ fn plain_front(message: &[u8]) -> &str {
     str::from_utf8(front).unwrap_or("")
 }
 
-/// The octets of a message that are shown and what stands behind them, if each of these is shown as itself. All are looked at, several at
-/// once.
-pub(crate) fn plain_line(message: &[u8]) -> Option<(&[u8], &'static str)> {
+/// The octets of a message that are shown and whether more stand behind them, if each of these is shown as itself. All are looked at,
+/// several at once.
+pub(crate) fn plain_line(message: &[u8]) -> Option<(&[u8], bool)>
+    ensures { IfSome result (λ (front, more). All (λ c. c ≢ 10) front.now) }
+{
     let front = message.get(..MOST).unwrap_or(message);
-    let is_plain = front.iter().fold(
-        true,
-        |plain, octet| plain & (b' ' <= *octet) & (*octet <= b'~'),
-    );
-    let rest = if front.len() < message.len() {
-        " .."
-    } else {
-        ""
-    };
-    is_plain.then_some((front, rest))
+    let (least, most) = reach(front);
+    if least < b' ' || most > b'~' {
+        return None;
+    }
+    Some((front, front.len() < message.len()))
+}
+
+/// The least octet and the largest, or `~` and a space where none is less or larger.
+fn reach(octets: &[u8]) -> (u8, u8)
+    ensures { All (λ c. result.0 ≤ c) octets.now }
+{
+    let (mut least, mut most) = (b'~', b' ');
+    for octet in octets {
+        least = least.min(*octet);
+        most = most.max(*octet);
+    }
+    (least, most)
 }
 
 /// Writes the first characters of a message.
@@ -64,7 +75,7 @@ pub(crate) fn write_message<W: Write>(f: &mut Formatter<W>, message: &[u8]) -> f
         f.write_char(character)?;
         at = next;
     }
-    f.write_str(if message.len() > at { " .." } else { "" })
+    f.write_str(if message.len() > at { MORE } else { "" })
 }
 
 /// Writes the characters of a message around a place, and under them a caret at the place.

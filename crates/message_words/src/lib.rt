@@ -22,6 +22,6 @@ mod words;
 
 pub use characters::{CharacterRun, FontCharacters};
 pub use room::{LARGE_COLUMNS, LARGE_ROWS};
-pub use times::{PageTimes, SHOWN_ALWAYS, Times};
+pub use times::{PageTimes, Times};
 pub use warnings::{Findings, Warning, warnings_on};
-pub use words::{FLASHING, MessageLine, NO_TIMES, Refusal, marks_of};
+pub use words::{COLOUR_MARKS, FLASHING, MORE, MessageLine, NO_TIMES, PIXEL_MARKS, Refusal};

@@ -1,5 +1,7 @@
 //! What stands in a message, item by item or in longer pieces.
 
+ghost use Rattle.std.specs.Prelude.{◌≤◌, IfSome, length};
+
 use multi_tag::{Tag, read_closed};
 use multi_token::{Kind, Source, next_token};
 
@@ -48,12 +50,14 @@ fn plain_front(octets: &[u8]) -> usize {
 
 /// The tag with which octets begin, and how many octets spell it, if they begin with one that means anything.
 #[inline(always)]
-pub(crate) fn tag_of(octets: &[u8]) -> Option<(Tag, usize)> {
+pub(crate) fn tag_of(octets: &[u8]) -> Option<(Tag, usize)>
+    ensures { IfSome result (λ (tag, len). (1 ≤ len) × (len ≤ length octets.now)) }
+{
     let [b'[', behind @ ..] = octets else {
         return None;
     };
     let (tag, len) = read_closed(behind)?;
-    Some((tag, len.saturating_add(1)))
+    Some((tag, len + 1))
 }
 
 /// The longest piece at an offset and the offset behind it, if one is spelled there.

@@ -1,5 +1,5 @@
 //! What the writer of an accepted message can't have meant.
-ghost use Rattle.std.specs.Prelude.{◌≡◌, ◌∷◌, [], ◌++◌, ◌<◌, IfOk, OnOk, length};
+ghost use Rattle.std.specs.Prelude.{◌≡◌, ◌∷◌, [], ◌++◌, ◌<◌, ◌≤◌, IfOk, OnOk, length};
 ghost use Rattle.std.specs.List.{Contains};
 ghost use Rattle.message_words.specs.Places.{places};
 
@@ -49,19 +49,16 @@ struct Reading<'a> {
     alloc: Global,
     sign: &'a Sign,
     message: &'a [u8],
-    /// The sum of the times of its pages, and whether it has one page.
+    /// The sum of the times of its pages, and how many it has.
     cycle: u32,
-    is_one: bool,
-    /// The pages, counted from 0, on which nothing is lit.
-    dark: Vec<u8>,
-    found: Vec<Warning>,
+    pages: u8,
+    found: Findings,
     /// The page, counted from 0, and the octet where it begins.
     page: u8,
     begin: usize,
-    /// The octet of the last tag that set page times, the times in force, and those of the pages.
+    /// The octet of the last tag that set page times, and the times in force.
     times_at: usize,
     times: Times,
-    page_times: PageTimes,
     line_just: u8,
     /// The octet of the space that is the last character of the line so far, if it is one, behind another character.
     space: Option<usize>,
@@ -73,54 +70,50 @@ struct Reading<'a> {
     is_plain: bool,
     /// Whether this page has one.
     has_text: bool,
-    /// Whether a flash with an off time is in force, and whether a character has one.
+    /// Whether a flash with an off time is in force.
     is_flashing: bool,
-    flashes: bool,
 }
 
 impl<'a> Reading<'a> {
-    /// A message before its first item, of which these pages are dark.
-    fn new(
-        alloc: Global,
-        sign: &'a Sign,
-        message: &'a [u8],
-        checked: &Checked<'_>,
-        dark: Vec<u8>,
-    ) -> Reading<'a> {
+    /// A message before its first item.
+    #[inline(always)]
+    fn new(alloc: Global, sign: &'a Sign, message: &'a [u8], cycle: u32, pages: u8) -> Reading<'a> {
+        let defaults = sign.defaults();
         Reading {
             alloc,
             sign,
             message,
-            cycle: checked.cycle(),
-            is_one: checked.pages() == 1,
-            dark,
-            found: Vec::new(alloc),
+            cycle,
+            pages,
+            found: Findings {
+                warnings: Vec::new(alloc),
+                flashes: false,
+                times: PageTimes::new(alloc, sign),
+            },
             page: 0,
             begin: 0,
             times_at: 0,
             times: Times::usual(sign),
-            page_times: PageTimes::new(alloc, sign),
-            line_just: sign.defaults().line,
+            line_just: defaults.line,
             space: None,
             is_begun: false,
             is_asked: false,
-            is_plain: is_seen_in(sign, sign.defaults().fore),
+            is_plain: is_seen_in(sign, defaults.fore),
             has_text: false,
             is_flashing: false,
-            flashes: false,
         }
     }
 
     /// Adds a warning.
     fn warn(&mut self, at: usize, words: String) -> Result<(), AllocError>
-        ensures { OnOk result (places self.new.found.items ≡ places self.old.found.items ++ at ∷ []) }
+        ensures { OnOk result (places self.new.found.warnings.items ≡ places self.old.found.warnings.items ++ at ∷ []) }
     {
-        Ok(self.found.push(Warning { at, words })?)
+        Ok(self.found.warnings.push(Warning { at, words })?)
     }
 
     /// Adds a warning in these words.
     fn say(&mut self, at: usize, words: &str) -> Result<(), AllocError>
-        ensures { OnOk result (places self.new.found.items ≡ places self.old.found.items ++ at ∷ []) }
+        ensures { OnOk result (places self.new.found.warnings.items ≡ places self.old.found.warnings.items ++ at ∷ []) }
     {
         let words = String::from_str(self.alloc, words)?;
         self.warn(at, words)
@@ -143,6 +136,7 @@ impl<'a> Reading<'a> {
     }
 
     /// Ends a page of a message of more than one.
+    #[inline(never)]
     fn end_page(&mut self) -> Result<(), AllocError> {
         let Times { on, .. } = self.times;
         if on >= LEAST || self.cycle == 0 {
@@ -160,7 +154,9 @@ impl<'a> Reading<'a> {
 
     /// Passes a character.
     fn pass_character(&mut self, number: u16, at: usize) {
-        self.flashes = self.flashes || self.is_flashing;
+        if self.is_flashing {
+            self.found.flashes = true;
+        }
         if number != SPACE {
             self.has_text = true;
             self.is_begun = true;
@@ -170,9 +166,12 @@ impl<'a> Reading<'a> {
         }
     }
 
-    /// Passes characters that aren't written by their numbers.
-    fn pass_text(&mut self, text: &[u8], at: usize) {
-        self.flashes = self.flashes || self.is_flashing;
+    /// Passes characters that aren't written by their numbers, where the last octets of the message begin with them.
+    #[inline(always)]
+    fn pass_text(&mut self, text: &[u8], rest: &[u8]) {
+        if self.is_flashing {
+            self.found.flashes = true;
+        }
         let last = text.iter().rposition(|octet| *octet != b' ');
         let end = last.map_or(0, |last| last.saturating_add(1));
         if end > 0 {
@@ -181,11 +180,12 @@ impl<'a> Reading<'a> {
             self.space = None;
         }
         if end < text.len() && self.is_begun && self.space.is_none() {
-            self.space = Some(at.saturating_add(end));
+            self.space = Some(self.offset(rest).saturating_add(end));
         }
     }
 
     /// Passes a font that is asked for.
+    #[inline(never)]
     fn pass_font(&mut self, pick: FontPick, at: usize) -> Result<(), AllocError> {
         let mut source = Source::new(b"");
         let (Some(font), None, false) = (
@@ -196,23 +196,39 @@ impl<'a> Reading<'a> {
             return Ok(());
         };
         self.is_asked = true;
-        let mut words = String::new(self.alloc);
-        write!(
-            words,
-            "any version of font {} is taken; [fo{},{:X}] asks for this one",
-            pick.number, pick.number, font.version
-        )?;
+        let mut digits = itoa::Buffer::new();
+        let number = digits.format(pick.number);
+        let mut words = String::with_capacity(self.alloc, 80)?;
+        words.push_str("any version of font ")?;
+        words.push_str(number)?;
+        words.push_str(" is taken; [fo")?;
+        words.push_str(number)?;
+        write!(words, ",{:X}] asks for this one", font.version)?;
         self.warn(at, words)
     }
 
-    /// Passes a tag.
-    fn pass_tag(&mut self, tag: Tag, at: usize, behind: usize) -> Result<(), AllocError> {
+    /// The offset at which the last octets of the message begin.
+    #[inline(always)]
+    fn offset(&self, rest: &[u8]) -> usize {
+        self.message.len().saturating_sub(rest.len())
+    }
+
+    /// Passes the tag with which the last octets of the message begin, and behind which these stand. On these pages nothing is lit.
+    #[inline(always)]
+    fn pass_tag(
+        &mut self,
+        tag: Tag,
+        rest: &[u8],
+        behind: &[u8],
+        dark: &[u8],
+    ) -> Result<(), AllocError> {
         match tag {
             Tag::NewPage => {
+                self.look_back(dark)?;
                 self.end_line()?;
                 self.is_plain = self.is_plain && self.has_text;
                 self.has_text = false;
-                self.begin = behind;
+                self.begin = self.offset(behind);
                 self.page = self.page.saturating_add(1);
             }
             Tag::NewLine(_) => self.end_line()?,
@@ -220,19 +236,24 @@ impl<'a> Reading<'a> {
                 self.is_plain = false;
                 self.end_line()?;
             }
-            Tag::Back(_) => self.is_plain = false,
+            Tag::Back(colour) => {
+                // the same background hides nothing where no text stands before it
+                let usual = self.sign.defaults().back;
+                let is_same = colour.unwrap_or(usual) == usual;
+                self.is_plain = self.is_plain && is_same && !self.has_text;
+            }
             Tag::Fore(colour) => {
                 let fore = colour.unwrap_or(self.sign.defaults().fore);
                 self.is_plain = self.is_plain && is_seen_in(self.sign, fore);
             }
             Tag::LineJust(just) => self.line_just = just.unwrap_or(self.sign.defaults().line),
             Tag::PageTime { on, off } => {
-                self.times_at = at;
+                self.times_at = self.offset(rest);
                 self.times = Times::of_tag(self.sign, on, off);
-                self.page_times.set(self.page, self.times)?;
+                self.found.times.set(self.page, self.times)?;
             }
-            Tag::Font(Some(pick)) => self.pass_font(pick, at)?,
-            Tag::HexChar(number) => self.pass_character(number, at),
+            Tag::Font(Some(pick)) => self.pass_font(pick, self.offset(rest))?,
+            Tag::HexChar(number) => self.pass_character(number, self.offset(rest)),
             Tag::Flash { on, off, .. } => {
                 let defaults = self.sign.defaults();
                 self.is_flashing = off.unwrap_or(defaults.flash_off) > 0;
@@ -244,9 +265,10 @@ impl<'a> Reading<'a> {
         Ok(())
     }
 
-    /// Warns of a page on which nothing is lit.
-    fn look_at_page(&mut self) -> Result<(), AllocError> {
-        if !self.dark.contains(&self.page) {
+    /// Warns of a page if it is one of those on which nothing is lit.
+    #[inline(never)]
+    fn look_at_page(&mut self, dark: &[u8]) -> Result<(), AllocError> {
+        if !dark.contains(&self.page) {
             return Ok(());
         }
         let mut words = String::new(self.alloc);
@@ -258,46 +280,61 @@ impl<'a> Reading<'a> {
         self.warn(self.begin, words)
     }
 
-    /// Warns at the end of a page.
-    fn look_back(&mut self) -> Result<(), AllocError> {
-        self.look_at_page()?;
-        if self.is_one { Ok(()) } else { self.end_page() }
+    /// Warns at the end of a page. On these pages nothing is lit.
+    #[inline(always)]
+    fn look_back(&mut self, dark: &[u8]) -> Result<(), AllocError> {
+        if !dark.is_empty() {
+            self.look_at_page(dark)?;
+        }
+        let Times { on, .. } = self.times;
+        if self.pages == 1 || on >= LEAST {
+            Ok(())
+        } else {
+            self.end_page()
+        }
     }
 
-    /// Passes what begins with a bracket at an offset: a tag, or a doubled bracket. It gives the offset behind it.
+    /// Passes what begins with a bracket: a tag, or a doubled bracket. It gives what stands behind it. On these pages nothing is lit.
     #[inline(always)]
-    fn pass_bracket(&mut self, rest: &[u8], at: usize) -> Result<usize, AllocError> {
+    fn pass_bracket(&mut self, rest: &'a [u8], dark: &[u8]) -> Result<&'a [u8], AllocError>
+        requires { 1 ≤ length rest.now }
+        ensures { IfOk result (λ behind. length behind.now < length rest.now) }
+    {
         let Some((tag, len)) = tag_of(rest) else {
-            self.pass_text(b"[", at);
-            return Ok(at.saturating_add(2));
+            self.pass_text(b"[", rest);
+            return Ok(rest.get(2..).unwrap_or(b""));
         };
-        let behind = at.saturating_add(len);
-        if tag == Tag::NewPage {
-            self.look_back()?;
-        }
-        self.pass_tag(tag, at, behind)?;
+        let behind = &rest[len..];
+        self.pass_tag(tag, rest, behind, dark)?;
         Ok(behind)
     }
 
-    /// Reads the message. The sign accepts it, so each of its brackets is doubled or stands around a tag.
-    fn read(&mut self) -> Result<(), AllocError> {
-        let message = self.message;
-        let mut at = 0;
-        for _ in 0..message.len() {
-            let rest = message.get(at..).unwrap_or(b"");
-            let plain = rest.iter().position(|octet| *octet == b'[');
-            let text = plain.unwrap_or(rest.len());
-            if text > 0 {
-                self.pass_text(rest.get(..text).unwrap_or(rest), at);
-            }
-            if plain.is_none() {
-                break;
-            }
-            let begin = at.saturating_add(text);
-            at = self.pass_bracket(rest.get(text..).unwrap_or(b""), begin)?;
+    /// Passes the octet with which the last octets of the message begin, and those up to the next opening bracket. It gives what stands
+    /// behind them.
+    #[inline(always)]
+    fn pass_run(&mut self, rest: &'a [u8]) -> &'a [u8]
+        requires { 1 ≤ length rest.now }
+        ensures { length result.now < length rest.now }
+    {
+        let others = &rest[1..];
+        let plain = others.iter().position(|octet| *octet == b'[');
+        let len = 1 + plain.unwrap_or(others.len());
+        self.pass_text(&rest[..len], rest);
+        &rest[len..]
+    }
+
+    /// Reads the message. The sign accepts it, so each of its brackets is doubled or stands around a tag. On these pages nothing is lit.
+    fn read(&mut self, dark: &[u8]) -> Result<(), AllocError> {
+        let mut rest = self.message;
+        while let [first, ..] = rest {
+            rest = if *first == b'[' {
+                self.pass_bracket(rest, dark)?
+            } else {
+                self.pass_run(rest)
+            };
         }
         self.end_line()?;
-        self.look_back()
+        self.look_back(dark)
     }
 
     /// Warns of text that isn't seen.
@@ -318,9 +355,29 @@ impl<'a> Reading<'a> {
         Ok(())
     }
 
+    /// Looks at pages without text, and at text that tags can hide. Few messages have any.
+    #[inline(never)]
+    fn look_closely(&mut self) -> Result<(), AllocError> {
+        let Reading {
+            alloc,
+            sign,
+            message,
+            cycle,
+            pages,
+            ..
+        } = *self;
+        let sight = Sight::of(alloc, sign, message)?;
+        let dark = sight.dark_pages(pages)?;
+        if !dark.is_empty() {
+            *self = Reading::new(alloc, sign, message, cycle, pages);
+            self.read(&dark)?;
+        }
+        self.look_at_text(&sight)
+    }
+
     /// Warns of a message of so many octets that the message table doesn't take it, and of an off time that no page has.
     fn look_at_whole(&mut self, octets: usize, max_string: u16) -> Result<(), AllocError>
-        ensures { OnOk result (max_string < octets → Contains (places self.new.found.items) max_string) }
+        ensures { OnOk result (max_string < octets → Contains (places self.new.found.warnings.items) max_string) }
     {
         let most = usize::from(max_string);
         if octets > most {
@@ -332,7 +389,7 @@ impl<'a> Reading<'a> {
             self.warn(most, words)?;
         }
         let Times { off, .. } = self.times;
-        if self.is_one && off > 0 && off != self.sign.defaults().page_off {
+        if self.pages == 1 && off > 0 && off != self.sign.defaults().page_off {
             self.say(
                 self.times_at,
                 "the off time does nothing: a message of one page is shown all the time",
@@ -355,28 +412,11 @@ pub fn warnings_on(
 ) -> Result<Findings, AllocError>
     ensures { IfOk result (λ found. max_string < length message.now → Contains (places found.warnings.items) max_string) }
 {
-    let mut reading = Reading::new(alloc, sign, message, checked, Vec::new(alloc));
-    reading.read()?;
-    // few messages have text that can be hidden or a page without text, and no other is looked at
+    let mut reading = Reading::new(alloc, sign, message, checked.cycle(), checked.pages());
+    reading.read(b"")?;
     if !reading.is_plain || !reading.has_text {
-        let sight = Sight::of(alloc, sign, message)?;
-        let dark = sight.dark_pages(checked.pages())?;
-        if !dark.is_empty() {
-            reading = Reading::new(alloc, sign, message, checked, dark);
-            reading.read()?;
-        }
-        reading.look_at_text(&sight)?;
+        reading.look_closely()?;
     }
     reading.look_at_whole(message.len(), max_string)?;
-    let Reading {
-        found,
-        flashes,
-        page_times,
-        ..
-    } = reading;
-    Ok(Findings {
-        warnings: found,
-        flashes,
-        times: page_times,
-    })
+    Ok(reading.found)
 }

@@ -1,4 +1,5 @@
 //! The words on a message, each written by `Display`.
+ghost use Rattle.std.specs.Prelude.{◌≢◌, All, IfSome};
 
 use crate::characters::FontCharacters;
 use crate::excerpt::{plain_line, write_excerpt, write_message};
@@ -8,14 +9,19 @@ use std::alloc::{AllocError, Global};
 use std::fmt;
 use std::fmt::{Display, Formatter, Write};
 
+/// What tells that more octets of a message stand behind those that are shown (own).
+pub const MORE: &str = " ..";
+
 /// The first octets of a message, for a line: each as itself, or as `?` if it isn't a sign or a space of ASCII (own). Written by
 /// `Display`.
 #[derive(Clone, Copy)]
 pub struct MessageLine<'a>(pub &'a [u8]);
 
 impl<'a> MessageLine<'a> {
-    /// The octets that are shown and what stands behind them, if each is shown as it is.
-    pub fn as_plain(&self) -> Option<(&'a [u8], &'static str)> {
+    /// The octets that are shown and whether more stand behind them, which [`MORE`] tells, if each is shown as it is.
+    pub fn as_plain(&self) -> Option<(&'a [u8], bool)>
+        ensures { IfSome result (λ (front, more). All (λ c. c ≢ 10) front.now) }
+    {
         plain_line(self.0)
     }
 }
@@ -96,11 +102,9 @@ pub const FLASHING: [&str; 2] = [
     " tenths of a second after its page began\n",
 ];
 
-/// What the marks of the pictures of a sign's pages mean (own): a line.
-pub fn marks_of(sign: &Sign) -> &'static str {
-    if sign.classic() {
-        "colours: 1 red, 2 yellow, 3 green, 4 cyan, 5 blue, 6 magenta, 7 white, 8 orange, 9 amber, . black\n"
-    } else {
-        "pixels: 1 lit, . dark\n"
-    }
-}
+/// What the marks of the pictures of a classic sign's pages mean (own): a line.
+pub const COLOUR_MARKS: &str =
+    "colours: 1 red, 2 yellow, 3 green, 4 cyan, 5 blue, 6 magenta, 7 white, 8 orange, 9 amber, . black\n";
+
+/// The same of a monochrome sign (own).
+pub const PIXEL_MARKS: &str = "pixels: 1 lit, . dark\n";

@@ -1,8 +1,12 @@
+use Rattle.std.proofs.Common.{refl}
+use Rattle.octet_text.proofs.TextLemmas
+use Rattle.message_report.specs.Words.{GrowsInLine}
 use Rattle.message_report.proofs.ExplanationLemmas
 use Rattle.message_report.proofs.text.push_message.Goals as goal
 
-pub returns-in-Some : goal.returns-in-Some
-returns-in-Some c =
-    let (front, one, first) = c.in_ok-push_in_line.ensures in
-    let (rest, other, last) = c.in_ok-push_line.ensures in
-    ExplanationLemmas.line_joined _ _ _ front rest one other first last
+pub returns : goal.returns
+returns c =
+    let first : GrowsInLine c.args.text.now c.push_octets.new.text = (_, c.in-Some.ensures, c.in_ok-push_octets.ensures) in
+    let (rest, other, last) = c.in_ok-push_more.ensures in
+    let (line, is, all) = ExplanationLemmas.in_line_more _ _ _ rest first other last in
+    (line, is, TextLemmas.grown _ _ _ line _ _ all c.in_ok-push_octet.ensures refl)

@@ -38,23 +38,20 @@ returns-in_ok-push_accepted-in-Ok-clause-taken c =
     ExplanationLemmas.taken_by c.self.inside.sign _ c.args.message.now (Accepted pages) (omega (arith, c.if-message-gt-MAX_MESSAGE.false)) (ap (λ (s : Counted). s.octets) c.new.ensures) accepted
     ∙ ap (λ s. takes s c.args.message.now) c.self.view_is
 
-pub returns-in_ok-push_refusal-in-Err-clause-told :
-    goal.returns-in_ok-push_refusal-in-Err-clause-told
-returns-in_ok-push_refusal-in-Err-clause-told c =
-    let sign = c.self.inside.sign in
+pub returns-in_ok-push_fault-in-Err-clause-told :
+    goal.returns-in_ok-push_fault-in-Err-clause-told
+returns-in_ok-push_fault-in-Err-clause-told c =
+    let sign = c.args.self.now in
     let message = c.args.message.now in
     let fault = c.in-Err.fault in
     let given = ap (λ (s : Counted). s.octets) c.new.ensures in
-    let on_message : IsVerdict sign message (Refused fault.code fault.at) = subst (λ l. IsVerdict sign l (Refused fault.code fault.at)) given c.in-Err.ensures.refused in
-    let (told, is, tells) = c.in_ok-push_refusal-in-Err.ensures in (
-      told,
-      is,
-      subst (λ s. Explains c.args.telling s c.args.name.now c.args.line message told) c.self.view_is
-          (ExplanationLemmas.explained c.args.telling sign c.args.name.now message message c.args.line _ told (omega (arith, c.if-message-gt-MAX_MESSAGE.false)) refl on_message tells),
-    )
+    let on_message : IsVerdict c.self.inside.sign message (Refused fault.code fault.at) = subst (λ l. IsVerdict c.self.inside.sign l (Refused fault.code fault.at)) given c.in-Err.ensures.refused in
+    let on_sign : IsVerdict sign message (Refused fault.code fault.at) = subst (λ s. IsVerdict s message (Refused fault.code fault.at)) c.self.view_is on_message in
+    let (told, is, tells) = c.in_ok-push_fault-in-Err.ensures in
+    (told, is, ExplanationLemmas.explained c.args.telling sign c.args.name.now message message c.args.line _ told (omega (arith, c.if-message-gt-MAX_MESSAGE.false)) refl on_sign tells)
 
-pub returns-in_ok-push_refusal-in-Err-clause-taken :
-    goal.returns-in_ok-push_refusal-in-Err-clause-taken
-returns-in_ok-push_refusal-in-Err-clause-taken c =
+pub returns-in_ok-push_fault-in-Err-clause-taken :
+    goal.returns-in_ok-push_fault-in-Err-clause-taken
+returns-in_ok-push_fault-in-Err-clause-taken c =
     ExplanationLemmas.taken_by c.self.inside.sign _ c.args.message.now (Refused c.in-Err.fault.code c.in-Err.fault.at) (omega (arith, c.if-message-gt-MAX_MESSAGE.false)) (ap (λ (s : Counted). s.octets) c.new.ensures) c.in-Err.ensures.refused
     ∙ ap (λ s. takes s c.args.message.now) c.self.view_is

@@ -15,12 +15,12 @@ still old new at other is there = subst (λ l. Contains l at) (sym is) (Contains
 
 pub returns-in_ok-say : goal.returns-in_ok-say
 returns-in_ok-say c = λ long. still _ _ c.args.max_string _ c.in_ok-say.ensures (elim c.if-octets-most.branch [
-  | then-octets-most+in_ok-write+in_ok-warn w ↦ last _ _ c.args.max_string _ (ap (λ (s : Reading). places s.found.items) w.self-is ∙ w.in_ok-warn.ensures) c.from-most.ensures
+  | then-octets-most+in_ok-write+in_ok-warn w ↦ last _ _ c.args.max_string _ (ap (λ (s : Reading). places s.found.warnings.items) w.self-is ∙ w.in_ok-warn.ensures) c.from-most.ensures
   | else-octets-most w ↦ let few = w.if-octets-most.false in let same = c.from-most.ensures in absurd (omega (arith, long, few, same))
 ])
 
-pub returns-else-self : goal.returns-else-self
-returns-else-self c = λ long. elim c.if-octets-most.branch [
-  | then-octets-most+in_ok-write+in_ok-warn w ↦ last _ _ c.args.max_string _ (ap (λ (s : Reading). places s.found.items) w.self-is ∙ w.in_ok-warn.ensures) c.from-most.ensures
+pub returns-else-self-eq1 : goal.returns-else-self-eq1
+returns-else-self-eq1 c = λ long. elim c.if-octets-most.branch [
+  | then-octets-most+in_ok-write+in_ok-warn w ↦ last _ _ c.args.max_string _ (ap (λ (s : Reading). places s.found.warnings.items) w.self-is ∙ w.in_ok-warn.ensures) c.from-most.ensures
   | else-octets-most w ↦ let few = w.if-octets-most.false in let same = c.from-most.ensures in absurd (omega (arith, long, few, same))
 ]
