@@ -82,6 +82,20 @@ pub(crate) fn push_message(
 fn push_seconds(text: &mut Explanation, tenths: u8) -> Result<(), AllocError>
     ensures { OnOk result (GrowsInLine text.old text.new) }
 {
+    if tenths >= 100 {
+        return push_long_seconds(text, tenths);
+    }
+    let mut words = *b"0.0 seconds";
+    words[0] = b'0' + tenths / 10;
+    words[2] = b'0' + tenths % 10;
+    push_octets(text, &words)
+}
+
+/// The same for ten seconds and more.
+#[inline(never)]
+fn push_long_seconds(text: &mut Explanation, tenths: u8) -> Result<(), AllocError>
+    ensures { OnOk result (GrowsInLine text.old text.new) }
+{
     push_number(text, u64::from(tenths / 10))?;
     push_octet(text, b'.')?;
     push_number(text, u64::from(tenths % 10))?;

@@ -100,9 +100,23 @@ pub(crate) fn push_too_long(text: &mut Explanation) -> Result<(), AllocError>
 }
 
 /// Appends the number of a page, which is counted from 0, among the pages.
-#[tactic(auto, unfolding(crate::specs::Explanation::head_text))]
 #[inline(always)]
 pub(crate) fn push_head(text: &mut Explanation, page: u8, pages: u8) -> Result<(), AllocError>
+    ensures { OnOk result (text.new ≡ text.old ++ head_text page pages) }
+{
+    if page >= 9 || pages >= 10 {
+        return push_long_head(text, page, pages);
+    }
+    let mut head = *b"page 1 of 1, ";
+    head[5] = b'1' + page;
+    head[10] = b'0' + pages;
+    push_octets(text, &head)
+}
+
+/// The same where a number may have more digits than one.
+#[tactic(auto, unfolding(crate::specs::Explanation::head_text))]
+#[inline(never)]
+fn push_long_head(text: &mut Explanation, page: u8, pages: u8) -> Result<(), AllocError>
     ensures { OnOk result (text.new ≡ text.old ++ head_text page pages) }
 {
     push_octets(text, b"page ")?;

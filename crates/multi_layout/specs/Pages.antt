@@ -11,6 +11,7 @@ use Rattle.multi_meaning.specs.Picture.{pixel_at}
 use Rattle.multi_meaning.specs.Times.{shown}
 use Rattle.multi_meaning.specs.Verdict.{pages_of}
 use Rattle.multi_layout.specs.declared.cursor.Cursor.{Cursor}
+use Rattle.multi_layout.specs.declared.pages.NextPage.{NextPage}
 use Rattle.multi_layout.specs.CheckedData.{CheckedData}
 use Rattle.multi_layout.specs.Limits.{plane_limit, plane_octets, reading_limit}
 use Rattle.multi_layout.specs.kept.PageDrawing.{IsPageStart}
@@ -39,6 +40,11 @@ pub record IsTurned (sign : SignData) (octets : List ℕ) (old new : Cursor) : T
   pub within : new.at ≤ length octets
   pub ends : ((old.state.pages ≡ pages_of (meanings octets)) × (new.state.pages ≡ old.state.pages))
       ⊎ ((old.state.pages < pages_of (meanings octets)) × (new.state.pages ≡ old.state.pages + 1) × IsPageStart sign octets new)
+
+-- the page of this number is next to be drawn, if there is one (own)
+abbrev pub IsNextPage : SignData → List ℕ → NextPage → ℕ → Type 0
+IsNextPage sign octets next page =
+    page < pages_of (meanings octets) → IsPageStart sign octets next.cursor × (next.cursor.state.pages ≡ page + 1)
 
 -- the next page begins at the cursor, and the octets before it are all that was read and drawn so far (own)
 pub record IsUnderWay (pages : PagesState) (cursor : Cursor) : Type 0 where

@@ -25,6 +25,6 @@ pub use multi_meaning::{
     Shown, SyntaxError, broken_bracket_stands, keeps_breaks, one_verdict, refusal_stands,
     smaller_fits,
 };
-pub use pages::{PageView, Pages};
+pub use pages::{NextPage, PageView, Pages};
 pub use read::AreaLines;
 pub use verdict::{Judge, Offence, check, check_with};
