@@ -85,15 +85,7 @@ fn push_drawn_pages(
     for page in 0..pages {
         push_head(text, page, pages)?;
         push_times(text, message, page, pages)?;
-        push_picture(
-            text,
-            alloc,
-            sign,
-            checked,
-            picture,
-            page,
-            telling.phase,
-        )?;
+        push_picture(text, alloc, sign, checked, picture, page, telling.phase)?;
     }
     Ok(())
 }
@@ -114,9 +106,7 @@ fn push_pages(
         text.old text.new) }
 {
     match picture {
-        Picture::Marks if !message.sign.classic() => {
-            push_lit_pages(text, message, checked)
-        }
+        Picture::Marks if !message.sign.classic() => { push_lit_pages(text, message, checked) }
         _ => push_drawn_pages(text, message, checked, picture),
     }
 }

@@ -59,6 +59,7 @@ fn push_more(text: &mut Explanation, more: bool) -> Result<(), AllocError>
 }
 
 /// Appends a message as a line.
+#[inline(always)]
 pub(crate) fn push_message(
     text: &mut Explanation,
     alloc: Global,
@@ -117,6 +118,7 @@ fn push_dark_for(text: &mut Explanation, off: u8) -> Result<(), AllocError>
 }
 
 /// Appends how long a page is shown, and how long the sign is dark after it, to the end of a line.
+#[inline(always)]
 fn push_shown_for(text: &mut Explanation, times: Times) -> Result<(), AllocError>
     ensures { OnOk result (GrowsByLine text.old text.new) }
 {
@@ -166,6 +168,7 @@ fn push_flashing(text: &mut Explanation, phase: u64) -> Result<(), AllocError>
 }
 
 /// Appends what the marks of the pictures mean, and what pictures don't show: that pages don't change, and that text flashes.
+#[inline(always)]
 pub(crate) fn push_legend(
     text: &mut Explanation,
     message: &AcceptedMessage<'_>,

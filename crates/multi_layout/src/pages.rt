@@ -86,7 +86,7 @@ pub struct NextPage {
 }
 
 impl<'a> Checked<'a> {
-    ghost use Rattle.multi_layout.specs.Pages.{IsNextPage, PagesState};
+    ghost use Rattle.multi_layout.specs.Pages.{IsNextPage, IsReadOn, PagesState};
 
     /// Draws one page in one colour at a phase: the plane gets the pixels of the page that have the colour then.
     ///
@@ -159,15 +159,15 @@ impl<'a> Checked<'a> {
     pub fn first_page(&self) -> NextPage
         ensures { IsNextPage self.now.sign self.now.source.octets result 0 }
     {
-        NextPage {
-            cursor: Cursor::new(&self.terms),
-        }
+        let cursor = Cursor::new(&self.terms);
+        NextPage { cursor }
     }
 
     /// Draws the next page as [`Checked::draw`] does, and goes on to the one behind it. The room for the lines of an area is lent. The
     /// plane must have the sign's size.
     ///
-    /// Reading goes on where the page before ended, so that no page is looked for.
+    /// Reading goes on where the page before ended, so that all pages together take no more steps over the string than [`Checked::draw`]
+    /// may take for one.
     pub fn draw_next(
         &mut self,
         next: &mut NextPage,
@@ -184,6 +184,7 @@ impl<'a> Checked<'a> {
             → IsNextPage self.old.sign self.old.source.octets next.new (page + 1) }
         ensures kept { self.new.sign ≡ self.old.sign }
         ensures size { (plane.new.width ≡ plane.old.width) × (plane.new.height ≡ plane.old.height) }
+        ensures on { IsReadOn self.old.source self.new.source next.old next.new }
         ensures steps { RisesBetween self.old.source self.new.source 0 (reading_limit (length self.old.source.octets)) }
         ensures plane_steps { (plane.old.steps ≤ plane.new.steps)
             × (plane.new.steps ≤ plane.old.steps + plane_limit self.old.sign (length self.old.source.octets)) }
