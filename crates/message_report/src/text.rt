@@ -147,6 +147,7 @@ pub(crate) fn push_times(
 }
 
 /// Appends what the marks of the pictures mean, if they have marks.
+#[inline(always)]
 fn push_marks(text: &mut Explanation, sign: &Sign, picture: Picture) -> Result<(), AllocError>
     ensures { OnOk result (Grows text.old text.new) }
 {
