@@ -26,8 +26,9 @@ use Rattle.multi_meaning.specs.Verdict.{pages_of}
 use Rattle.multi_meaning.specs.kept.Fine.{IsAccepted, IsOrderly}
 use Rattle.multi_layout.specs.declared.cursor.Cursor.{Cursor}
 use Rattle.multi_layout.specs.Limits.{drawing_limit, plane_limit, plane_octets, reading_limit}
-use Rattle.multi_layout.specs.declared.pages.NextPage.{NextPage}
-use Rattle.multi_layout.specs.Pages.{IsNextPage, IsTurned}
+use Rattle.multi_layout.specs.declared.next_page.NextPage.{NextPage}
+use Rattle.multi_layout.specs.NextPage.{IsNextPage}
+use Rattle.multi_layout.specs.Pages.{IsTurned}
 use Rattle.multi_layout.specs.kept.PageDrawing.{IsFilledFew, IsPagePassed, IsPageStart, IsReadTwice, IsStartOf}
 use Rattle.multi_layout.specs.kept.Cursors.{IsBetween, IsPlaced, items_of, laid_meanings, meant, LaidItem}
 use Rattle.multi_layout.specs.kept.Passing.{IsPageSkipped, IsPassing}

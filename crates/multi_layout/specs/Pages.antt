@@ -1,6 +1,6 @@
 -- The pages of an accepted string, drawn one after the other into one plane.
 use Rattle.std.specs.Prelude.{◌≡◌, ◌⊎◌, ℕ, ◌+◌, ◌*◌, ◌^◌, ◌<◌, ◌≤◌, ◌==◌, List, length, if◌then◌else◌}
-use Rattle.multi_token.specs.Counted.{Counted, RisesBetween}
+use Rattle.multi_token.specs.Counted.{RisesBetween}
 use Rattle.page_plane.specs.Plane.{BitPlane}
 use Rattle.sign_font.specs.Sign.{SignData, tallest}
 use Rattle.sign_font.specs.Sound.{IsSound}
@@ -11,10 +11,9 @@ use Rattle.multi_meaning.specs.Picture.{pixel_at}
 use Rattle.multi_meaning.specs.Times.{shown}
 use Rattle.multi_meaning.specs.Verdict.{pages_of}
 use Rattle.multi_layout.specs.declared.cursor.Cursor.{Cursor}
-use Rattle.multi_layout.specs.declared.pages.NextPage.{NextPage}
 use Rattle.multi_layout.specs.CheckedData.{CheckedData}
 use Rattle.multi_layout.specs.Limits.{plane_limit, plane_octets, reading_limit}
-use Rattle.multi_layout.specs.kept.PageDrawing.{IsPageStart, IsReadTwice}
+use Rattle.multi_layout.specs.kept.PageDrawing.{IsPageStart}
 
 -- the string and the plane as they are, what is drawn, the page that comes next, and both counts at the start (own)
 pub record PagesState : Type 0 where
@@ -40,16 +39,6 @@ pub record IsTurned (sign : SignData) (octets : List ℕ) (old new : Cursor) : T
   pub within : new.at ≤ length octets
   pub ends : ((old.state.pages ≡ pages_of (meanings octets)) × (new.state.pages ≡ old.state.pages))
       ⊎ ((old.state.pages < pages_of (meanings octets)) × (new.state.pages ≡ old.state.pages + 1) × IsPageStart sign octets new)
-
--- the page of this number is next to be drawn, if there is one (own)
-abbrev pub IsNextPage : SignData → List ℕ → NextPage → ℕ → Type 0
-IsNextPage sign octets next page =
-    page < pages_of (meanings octets) → IsPageStart sign octets next.cursor × (next.cursor.state.pages ≡ page + 1)
-
--- the octets of a page alone were read to draw it, each at most twice for its lines and twice for its cells (own)
-abbrev pub IsReadOn : Counted → Counted → NextPage → NextPage → Type 0
-IsReadOn source source' old new = (old.cursor.at ≤ new.cursor.at) × (new.cursor.at ≤ length source.octets)
-    × IsReadTwice source source' old.cursor new.cursor
 
 -- the next page begins at the cursor, and the octets before it are all that was read and drawn so far (own)
 pub record IsUnderWay (pages : PagesState) (cursor : Cursor) : Type 0 where

@@ -1,6 +1,6 @@
 //! The drawing of one page of an accepted string, or of all its pages in order into one plane.
 
-ghost use Rattle.std.specs.Prelude.{◌≡◌, ℕ, ◌+◌, ◌-◌, ◌*◌, ◌<◌, ◌≤◌, true, false, nat_lt, length, IfSome, MatchOption};
+ghost use Rattle.std.specs.Prelude.{◌≡◌, ◌+◌, ◌-◌, ◌*◌, ◌<◌, ◌≤◌, true, false, nat_lt, length, IfSome, MatchOption};
 ghost use Rattle.std.specs.Borrow.{sem};
 ghost use Rattle.multi_token.specs.Counted.{RisesBetween};
 ghost use Rattle.multi_token.specs.Reading.{reading};
@@ -79,14 +79,8 @@ impl<'a> Model for Pages<'a> {
     }) p.cursor };
 }
 
-/// Where the page of a string begins that is drawn next. It serves that string alone.
-#[derive(Drop)]
-pub struct NextPage {
-    pub(crate) cursor: Cursor,
-}
-
 impl<'a> Checked<'a> {
-    ghost use Rattle.multi_layout.specs.Pages.{IsNextPage, IsReadOn, PagesState};
+    ghost use Rattle.multi_layout.specs.Pages.{PagesState};
 
     /// Draws one page in one colour at a phase: the plane gets the pixels of the page that have the colour then.
     ///
@@ -155,45 +149,8 @@ impl<'a> Checked<'a> {
         shown
     }
 
-    /// The first page of the string, which [`Checked::draw_next`] draws. This takes no step.
-    pub fn first_page(&self) -> NextPage
-        ensures { IsNextPage self.now.sign self.now.source.octets result 0 }
-    {
-        let cursor = Cursor::new(&self.terms);
-        NextPage { cursor }
-    }
-
-    /// Draws the next page as [`Checked::draw`] does, and goes on to the one behind it. The room for the lines of an area is lent. The
-    /// plane must have the sign's size.
-    ///
-    /// Reading goes on where the page before ended, so that all pages together take no more steps over the string than [`Checked::draw`]
-    /// may take for one.
-    pub fn draw_next(
-        &mut self,
-        next: &mut NextPage,
-        phase: u64,
-        colour: u8,
-        lines: &mut AreaLines,
-        plane: &mut Plane,
-    )
-        requires page { (page : ℕ) × (page < page_count self.old) × IsNextPage self.old.sign self.old.source.octets next.old page }
-        requires size { IsSized plane.old self.old.sign }
-        ensures drawn { (page : ℕ) → page < page_count self.old → IsNextPage self.old.sign self.old.source.octets next.old page
-            → Lights plane.new (picture self.old.sign self.old.source.octets page phase colour) }
-        ensures next { (page : ℕ) → IsNextPage self.old.sign self.old.source.octets next.old page
-            → IsNextPage self.old.sign self.old.source.octets next.new (page + 1) }
-        ensures kept { self.new.sign ≡ self.old.sign }
-        ensures size { (plane.new.width ≡ plane.old.width) × (plane.new.height ≡ plane.old.height) }
-        ensures on { IsReadOn self.old.source self.new.source next.old next.new }
-        ensures steps { RisesBetween self.old.source self.new.source 0 (reading_limit (length self.old.source.octets)) }
-        ensures plane_steps { (plane.old.steps ≤ plane.new.steps)
-            × (plane.new.steps ≤ plane.old.steps + plane_limit self.old.sign (length self.old.source.octets)) }
-    {
-        self.draw_from(&mut next.cursor, Layer { phase, colour }, lines, plane);
-    }
-
     /// Draws the page that begins at a cursor, and goes behind it.
-    fn draw_from(
+    pub(crate) fn draw_from(
         &mut self,
         cursor: &mut Cursor,
         layer: Layer,

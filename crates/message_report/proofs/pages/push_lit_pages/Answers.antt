@@ -1,7 +1,8 @@
 use Rattle.std.proofs.Common.{◌≡◌, ◌<◌, ◌∷◌, ◌++◌, ap, ◌∙◌, arith, subst}
 use Rattle.multi_meaning.specs.Meaning.{meanings}
 use Rattle.multi_meaning.specs.Verdict.{pages_of}
-use Rattle.multi_layout.specs.Pages.{IsNextPage, page_count}
+use Rattle.multi_layout.specs.NextPage.{IsNextPage}
+use Rattle.multi_layout.specs.Pages.{page_count}
 use Rattle.message_report.specs.Explanation.{HasPages, head_text, picture_text}
 use Rattle.message_report.specs.declared.picture.Picture.TheVariants.{Marks}
 use Rattle.message_report.proofs.ExplanationLemmas

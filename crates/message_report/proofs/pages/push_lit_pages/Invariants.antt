@@ -1,5 +1,6 @@
 use Rattle.std.proofs.Common.{◌≡◌, ◌++◌, ℕ, List}
-use Rattle.multi_layout.specs.Pages.{IsNextPage, IsSized}
+use Rattle.multi_layout.specs.NextPage.{IsNextPage}
+use Rattle.multi_layout.specs.Pages.{IsSized}
 use Rattle.message_report.specs.Explanation.{HasPages, picture_text}
 use Rattle.message_report.specs.declared.picture.Picture.TheVariants.{Marks}
 use Rattle.message_report.proofs.pages.push_lit_pages.Given as goal
