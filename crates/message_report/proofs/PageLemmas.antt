@@ -46,17 +46,8 @@ monochrome_pictured sign octets page phase plane plain shows sized =
     ∙ ap (λ w. rows_text marks w plane.height) sized.0
     ∙ ap (rows_text marks sign.width) sized.1
 
--- a string of one page shows it at each clock, with the clock as its phase
-pub only_page : (sign : SignData) (octets : List ℕ) (clock colour : ℕ) (plane : BitPlane) (is : Shown) → pages_of (meanings octets) ≡ 1 → is ≡ shown sign octets clock
-    → Lights plane (pixel_at sign (meanings octets) is colour) → Lights plane (picture sign octets 0 clock colour)
-only_page sign octets clock colour plane is one found lights =
-    let times = page_times sign (meanings octets) in
-    let always = shown_always times clock (or_left (length times == 1) _ (eq-eqb (length times) 1 (times_count sign (meanings octets) ∙ one))) in
-    subst (λ s. Lights plane (pixel_at sign (meanings octets) s colour)) (found ∙ always) lights
-
--- and the plane of its colour 1 is the picture of that page, if the sign is monochrome
-pub only_pictured : (sign other : SignData) (octets : List ℕ) (clock : ℕ) (plane : BitPlane) (is : Shown) → sign.classic ≡ false → other ≡ sign → pages_of (meanings octets) ≡ 1
-    → is ≡ shown other octets clock → Lights plane (pixel_at other (meanings octets) is 1) → IsSized plane sign
-    → marked_rows 49 (is_lit plane) plane.width plane.height ≡ page_text sign octets 0 clock
-only_pictured sign other octets clock plane is plain same one found lights sized =
-    monochrome_pictured sign octets 0 clock plane plain (lights_by sign other octets octets 0 clock 1 plane same refl (only_page other octets clock 1 plane is one found lights)) sized
+-- and so is the plane of a page that is drawn of the same string
+pub next_pictured : (sign other : SignData) (octets others : List ℕ) (page phase : ℕ) (plane : BitPlane) → sign.classic ≡ false → other ≡ sign → others ≡ octets
+    → Lights plane (picture other others page phase 1) → IsSized plane sign → marked_rows 49 (is_lit plane) plane.width plane.height ≡ page_text sign octets page phase
+next_pictured sign other octets others page phase plane plain same_sign same_octets lights sized =
+    monochrome_pictured sign octets page phase plane plain (lights_by sign other octets others page phase 1 plane same_sign same_octets lights) sized

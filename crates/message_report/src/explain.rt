@@ -99,13 +99,13 @@ fn push_accepted(
     text: &mut Explanation,
     name: &[u8],
     message: &AcceptedMessage<'_>,
-    checked: Checked<'_>,
+    checked: &mut Checked<'_>,
 ) -> Result<(), AllocError>
-    requires sign { checked.sign ≡ message.now.sign.now }
-    requires short { length checked.source.octets < 2 ^ 32 }
+    requires sign { checked.old.sign ≡ message.now.sign.now }
+    requires short { length checked.old.source.octets < 2 ^ 32 }
     ensures { OnOk result (GrowsBy
-        (Tells message.now.telling message.now.telling.format message.now.sign.now name.now checked.entry.source.octets
-        message.now.line (Accepted (page_count checked.entry)))
+        (Tells message.now.telling message.now.telling.format message.now.sign.now name.now checked.old.source.octets
+        message.now.line (Accepted (page_count checked.old)))
         text.old text.new) }
 {
     match message.telling.format {
@@ -229,7 +229,7 @@ impl Explainer {
         }
         let sign = &self.sign;
         match check(sign, Source::new(message)) {
-            Ok(checked) => {
+            Ok(mut checked) => {
                 let found = warnings_on(alloc, sign, message, &checked, self.max_string)?;
                 let accepted = AcceptedMessage {
                     alloc,
@@ -240,7 +240,7 @@ impl Explainer {
                     found: &found,
                     canvas: &self.canvas,
                 };
-                push_accepted(text, name, &accepted, checked)?;
+                push_accepted(text, name, &accepted, &mut checked)?;
                 Ok(Told {
                     is_taken: true,
                     warnings: found.warnings.len().min(MAX_MESSAGE) as u32,

@@ -7,116 +7,55 @@ ghost use Rattle.message_report.specs.Words.{Grows, GrowsBy};
 ghost use Rattle.message_report.specs.declared.picture.Picture.TheVariants.{Marks};
 
 use crate::accepted::AcceptedMessage;
-use crate::canvas::{Canvas, new_plane};
+use crate::canvas::Canvas;
 use crate::explanation::Explanation;
 use crate::marks::push_lit;
-use crate::picture::{Picture, push_next_lit, push_picture};
+use crate::picture::{Picture, push_picture};
 use crate::text::{push_legend, push_message, push_times, push_warnings};
 use crate::verdict::{push_accepted, push_head, push_line_head};
 use multi_layout::Checked;
-use page_plane::Plane;
 use std::alloc::AllocError;
 
-/// A plane of the sign's size: that of a canvas, which it leaves, or a new one. The error says that memory was refused.
+/// A canvas of the sign's size: the one that there is, or a new one. The error says that memory was refused.
 #[inline(always)]
-fn plane_of(message: &AcceptedMessage<'_>, canvas: &mut Canvas) -> Result<Plane, AllocError>
-    ensures { IfOk result (λ plane. IsSized plane message.now.sign.now) }
+fn canvas_of(message: &AcceptedMessage<'_>) -> Result<Box<Canvas>, AllocError>
+    ensures { IfOk result (λ canvas. IsSized canvas.plane message.now.sign.now) }
 {
     let (width, height) = (message.sign.width(), message.sign.height());
-    if let Some(plane) = canvas.plane.take() {
-        if plane.width() == width && plane.height() == height {
-            return Ok(plane);
+    if let Some(canvas) = message.canvas.take() {
+        if canvas.plane.width() == width && canvas.plane.height() == height {
+            return Ok(canvas);
         }
     }
-    new_plane(message.alloc, message.sign)
+    Canvas::new(message.alloc, message.sign)
 }
 
-/// The canvas that there is, or a new one. The error says that memory was refused.
-#[inline(always)]
-fn canvas_of(message: &AcceptedMessage<'_>) -> Result<Box<Canvas>, AllocError> {
-    match message.canvas.take() {
-        Some(canvas) => Ok(canvas),
-        None => Canvas::new(message.alloc),
-    }
-}
-
-/// Draws the only page of a message for a monochrome sign on a canvas, and appends its picture by marks. It is shown at each clock.
-#[inline(always)]
-fn push_only_picture(
-    text: &mut Explanation,
-    message: &AcceptedMessage<'_>,
-    checked: &mut Checked<'_>,
-    canvas: &mut Canvas,
-) -> Result<(), AllocError>
-    requires sign { checked.old.sign ≡ message.now.sign.now }
-    requires monochrome { message.now.sign.now.classic ≡ false }
-    requires one { page_count checked.old ≡ 1 }
-    ensures { OnOk result (text.new ≡ text.old
-        ++ page_text message.now.sign.now checked.old.source.octets 0 message.now.telling.phase) }
-{
-    let (width, height) = (message.sign.width(), message.sign.height());
-    let Canvas { plane, lines } = canvas;
-    if let Some(plane) = plane {
-        if plane.width() == width && plane.height() == height {
-            checked.draw_shown(message.telling.phase, 1, lines, plane);
-            return push_lit(text, plane);
-        }
-    }
-    let mut new = new_plane(message.alloc, message.sign)?;
-    checked.draw_shown(message.telling.phase, 1, lines, &mut new);
-    push_lit(text, &new)?;
-    *plane = Some(new);
-    Ok(())
-}
-
-/// Appends the only page of a message for a monochrome sign, with its times and its picture by marks.
-fn push_only_page(
+/// Appends all pages of a monochrome sign, each with its times and its picture by marks. They are drawn in turn on a canvas, and no page is
+/// looked for.
+#[inline(never)]
+fn push_lit_pages(
     text: &mut Explanation,
     message: &AcceptedMessage<'_>,
     checked: &mut Checked<'_>,
 ) -> Result<(), AllocError>
     requires sign { checked.old.sign ≡ message.now.sign.now }
     requires monochrome { message.now.sign.now.classic ≡ false }
-    requires one { page_count checked.old ≡ 1 }
+    requires short { length checked.old.source.octets < 2 ^ 32 }
     ensures { OnOk result (GrowsBy
         (HasPages (picture_text Marks message.now.sign.now checked.old.source.octets message.now.telling.phase)
         (page_count checked.old) (page_count checked.old))
         text.old text.new) }
 {
     let mut canvas = canvas_of(message)?;
-    push_head(text, 0, 1)?;
-    push_times(text, message, 0, 1)?;
-    push_only_picture(text, message, checked, &mut canvas)?;
-    message.canvas.set(Some(canvas));
-    Ok(())
-}
-
-/// Appends all pages of a monochrome sign, each with its times and its picture by marks. They are drawn in turn into one plane, and no
-/// page is looked for.
-#[inline(never)]
-fn push_lit_pages(
-    text: &mut Explanation,
-    message: &AcceptedMessage<'_>,
-    checked: Checked<'_>,
-) -> Result<(), AllocError>
-    requires sign { checked.sign ≡ message.now.sign.now }
-    requires monochrome { message.now.sign.now.classic ≡ false }
-    requires short { length checked.source.octets < 2 ^ 32 }
-    ensures { OnOk result (GrowsBy
-        (HasPages (picture_text Marks message.now.sign.now checked.entry.source.octets message.now.telling.phase)
-        (page_count checked.entry) (page_count checked.entry))
-        text.old text.new) }
-{
-    let mut canvas = canvas_of(message)?;
-    let plane = plane_of(message, &mut canvas)?;
+    let Canvas { plane, lines } = &mut *canvas;
     let pages = checked.pages();
-    let mut drawn = checked.each_page(message.telling.phase, 1, plane);
+    let mut next = checked.first_page();
     for page in 0..pages {
         push_head(text, page, pages)?;
         push_times(text, message, page, pages)?;
-        push_next_lit(text, &mut drawn)?;
+        checked.draw_next(&mut next, message.telling.phase, 1, lines, plane);
+        push_lit(text, plane)?;
     }
-    canvas.plane = Some(drawn.finish().1);
     message.canvas.set(Some(canvas));
     Ok(())
 }
@@ -126,14 +65,14 @@ fn push_lit_pages(
 fn push_drawn_pages(
     text: &mut Explanation,
     message: &AcceptedMessage<'_>,
-    checked: Checked<'_>,
+    checked: &mut Checked<'_>,
     picture: Picture,
 ) -> Result<(), AllocError>
-    requires sign { checked.sign ≡ message.now.sign.now }
-    requires short { length checked.source.octets < 2 ^ 32 }
+    requires sign { checked.old.sign ≡ message.now.sign.now }
+    requires short { length checked.old.source.octets < 2 ^ 32 }
     ensures { OnOk result (GrowsBy
-        (HasPages (picture_text picture message.now.sign.now checked.entry.source.octets message.now.telling.phase)
-        (page_count checked.entry) (page_count checked.entry))
+        (HasPages (picture_text picture message.now.sign.now checked.old.source.octets message.now.telling.phase)
+        (page_count checked.old) (page_count checked.old))
         text.old text.new) }
 {
     let AcceptedMessage {
@@ -142,20 +81,11 @@ fn push_drawn_pages(
         sign,
         ..
     } = *message;
-    let mut checked = checked;
     let pages = checked.pages();
     for page in 0..pages {
         push_head(text, page, pages)?;
         push_times(text, message, page, pages)?;
-        push_picture(
-            text,
-            alloc,
-            sign,
-            &mut checked,
-            picture,
-            page,
-            telling.phase,
-        )?;
+        push_picture(text, alloc, sign, checked, picture, page, telling.phase)?;
     }
     Ok(())
 }
@@ -165,25 +95,18 @@ fn push_drawn_pages(
 fn push_pages(
     text: &mut Explanation,
     message: &AcceptedMessage<'_>,
-    checked: Checked<'_>,
+    checked: &mut Checked<'_>,
     picture: Picture,
 ) -> Result<(), AllocError>
-    requires sign { checked.sign ≡ message.now.sign.now }
-    requires short { length checked.source.octets < 2 ^ 32 }
+    requires sign { checked.old.sign ≡ message.now.sign.now }
+    requires short { length checked.old.source.octets < 2 ^ 32 }
     ensures { OnOk result (GrowsBy
-        (HasPages (picture_text picture message.now.sign.now checked.entry.source.octets message.now.telling.phase)
-        (page_count checked.entry) (page_count checked.entry))
+        (HasPages (picture_text picture message.now.sign.now checked.old.source.octets message.now.telling.phase)
+        (page_count checked.old) (page_count checked.old))
         text.old text.new) }
 {
     match picture {
-        Picture::Marks if !message.sign.classic() => {
-            let mut checked = checked;
-            if checked.pages() == 1 {
-                push_only_page(text, message, &mut checked)
-            } else {
-                push_lit_pages(text, message, checked)
-            }
-        }
+        Picture::Marks if !message.sign.classic() => { push_lit_pages(text, message, checked) }
         _ => push_drawn_pages(text, message, checked, picture),
     }
 }
@@ -207,14 +130,14 @@ fn push_notes(
 fn push_shown(
     text: &mut Explanation,
     message: &AcceptedMessage<'_>,
-    checked: Checked<'_>,
+    checked: &mut Checked<'_>,
     picture: Picture,
 ) -> Result<(), AllocError>
-    requires sign { checked.sign ≡ message.now.sign.now }
-    requires short { length checked.source.octets < 2 ^ 32 }
+    requires sign { checked.old.sign ≡ message.now.sign.now }
+    requires short { length checked.old.source.octets < 2 ^ 32 }
     ensures { OnOk result (GrowsBy
-        (ShowsPages (picture_text picture message.now.sign.now checked.entry.source.octets message.now.telling.phase)
-        message.now.line (page_count checked.entry))
+        (ShowsPages (picture_text picture message.now.sign.now checked.old.source.octets message.now.telling.phase)
+        message.now.line (page_count checked.old))
         text.old text.new) }
 {
     let is_still = checked.pages() > 1 && checked.cycle() == 0;
@@ -249,15 +172,15 @@ fn push_warned(
 pub(crate) fn push_told(
     text: &mut Explanation,
     message: &AcceptedMessage<'_>,
-    checked: Checked<'_>,
+    checked: &mut Checked<'_>,
     picture: Picture,
 ) -> Result<(), AllocError>
-    requires sign { checked.sign ≡ message.now.sign.now }
-    requires short { length checked.source.octets < 2 ^ 32 }
+    requires sign { checked.old.sign ≡ message.now.sign.now }
+    requires short { length checked.old.source.octets < 2 ^ 32 }
     ensures { OnOk result (GrowsBy
         (TellsAccepted message.now.telling.refused_only
-        (picture_text picture message.now.sign.now checked.entry.source.octets message.now.telling.phase)
-        message.now.line (page_count checked.entry))
+        (picture_text picture message.now.sign.now checked.old.source.octets message.now.telling.phase)
+        message.now.line (page_count checked.old))
         text.old text.new) }
 {
     if message.telling.refused_only {

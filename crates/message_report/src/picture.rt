@@ -7,7 +7,7 @@ ghost use Rattle.message_report.specs.Pictures.{page_text};
 use crate::blocks::push_lines;
 use crate::explanation::Explanation;
 use crate::marks::{push_lit, push_rows};
-use multi_layout::{Checked, Pages, Shown};
+use multi_layout::{Checked, Shown};
 use page_picture::{PageColours, palette_of, show};
 use page_plane::Plane;
 use sign_font::Sign;
@@ -42,24 +42,6 @@ fn push_monochrome(
     };
     show(checked, Shown::Page { page, phase }, 1, &mut plane);
     push_lit(text, &plane)
-}
-
-/// Appends the picture of the next page of a monochrome sign by marks, of pages that are drawn in colour 1.
-pub(crate) fn push_next_lit(text: &mut Explanation, pages: &mut Pages<'_>) -> Result<(), AllocError>
-    requires monochrome { pages.old.string.sign.classic ≡ false }
-    requires colour { pages.old.colour ≡ 1 }
-    requires next { pages.old.next < page_count pages.old.string }
-    ensures ok { OnOk result (text.new ≡ text.old
-        ++ page_text pages.old.string.sign pages.old.string.source.octets pages.old.next pages.old.phase) }
-    ensures next { pages.new.next ≡ pages.old.next + 1 }
-    ensures kept { (pages.new.string.sign ≡ pages.old.string.sign) × (pages.new.string.source.octets ≡ pages.old.string.source.octets) }
-    ensures layer { (pages.new.phase ≡ pages.old.phase) × (pages.new.colour ≡ pages.old.colour) }
-{
-    let Some(view) = pages.next_page() else {
-        // There is a next page.
-        unreachable!();
-    };
-    push_lit(text, view.plane)
 }
 
 /// Appends the picture of a page at a phase, in tenths of a second since the page began.

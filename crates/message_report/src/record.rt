@@ -238,19 +238,18 @@ fn accepted_value(
 fn push_pages_record(
     text: &mut Explanation,
     message: &AcceptedMessage<'_>,
-    checked: Checked<'_>,
+    checked: &mut Checked<'_>,
 ) -> Result<(), AllocError>
-    requires sign { checked.sign ≡ message.now.sign.now }
-    requires short { length checked.source.octets < 2 ^ 32 }
+    requires sign { checked.old.sign ≡ message.now.sign.now }
+    requires short { length checked.old.source.octets < 2 ^ 32 }
     ensures { OnOk result (GrowsBy
-        (TellsPages message.now.telling message.now.sign.now checked.entry.source.octets message.now.line (page_count checked.entry))
+        (TellsPages message.now.telling message.now.sign.now checked.old.source.octets message.now.line (page_count checked.old))
         text.old text.new) }
 {
-    let mut checked = checked;
     let alloc = message.alloc;
     let shown = message_value(alloc, message.message)?;
     let octets = octets_value(alloc, message.message)?;
-    let pages = page_values(message, &mut checked)?;
+    let pages = page_values(message, checked)?;
     let all = warning_values(alloc, &message.found.warnings)?;
     let record = accepted_value(alloc, message.line, shown, octets, pages, all)?;
     push_record(text, alloc, &record)
@@ -261,13 +260,13 @@ fn push_pages_record(
 pub(crate) fn push_accepted_record(
     text: &mut Explanation,
     message: &AcceptedMessage<'_>,
-    checked: Checked<'_>,
+    checked: &mut Checked<'_>,
 ) -> Result<(), AllocError>
-    requires sign { checked.sign ≡ message.now.sign.now }
-    requires short { length checked.source.octets < 2 ^ 32 }
+    requires sign { checked.old.sign ≡ message.now.sign.now }
+    requires short { length checked.old.source.octets < 2 ^ 32 }
     ensures { OnOk result (GrowsBy
-        (TellsRecord message.now.telling message.now.sign.now checked.entry.source.octets message.now.line
-        (Accepted (page_count checked.entry)))
+        (TellsRecord message.now.telling message.now.sign.now checked.old.source.octets message.now.line
+        (Accepted (page_count checked.old)))
         text.old text.new) }
 {
     if message.telling.refused_only && message.found.warnings.is_empty() {

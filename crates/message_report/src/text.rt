@@ -59,6 +59,7 @@ fn push_more(text: &mut Explanation, more: bool) -> Result<(), AllocError>
 }
 
 /// Appends a message as a line.
+#[inline(always)]
 pub(crate) fn push_message(
     text: &mut Explanation,
     alloc: Global,
@@ -82,6 +83,20 @@ pub(crate) fn push_message(
 fn push_seconds(text: &mut Explanation, tenths: u8) -> Result<(), AllocError>
     ensures { OnOk result (GrowsInLine text.old text.new) }
 {
+    if tenths >= 100 {
+        return push_long_seconds(text, tenths);
+    }
+    let mut words = *b"0.0 seconds";
+    words[0] = b'0' + tenths / 10;
+    words[2] = b'0' + tenths % 10;
+    push_octets(text, &words)
+}
+
+/// The same for ten seconds and more.
+#[inline(never)]
+fn push_long_seconds(text: &mut Explanation, tenths: u8) -> Result<(), AllocError>
+    ensures { OnOk result (GrowsInLine text.old text.new) }
+{
     push_number(text, u64::from(tenths / 10))?;
     push_octet(text, b'.')?;
     push_number(text, u64::from(tenths % 10))?;
@@ -103,6 +118,7 @@ fn push_dark_for(text: &mut Explanation, off: u8) -> Result<(), AllocError>
 }
 
 /// Appends how long a page is shown, and how long the sign is dark after it, to the end of a line.
+#[inline(always)]
 fn push_shown_for(text: &mut Explanation, times: Times) -> Result<(), AllocError>
     ensures { OnOk result (GrowsByLine text.old text.new) }
 {
@@ -131,6 +147,7 @@ pub(crate) fn push_times(
 }
 
 /// Appends what the marks of the pictures mean, if they have marks.
+#[inline(always)]
 fn push_marks(text: &mut Explanation, sign: &Sign, picture: Picture) -> Result<(), AllocError>
     ensures { OnOk result (Grows text.old text.new) }
 {
@@ -152,6 +169,7 @@ fn push_flashing(text: &mut Explanation, phase: u64) -> Result<(), AllocError>
 }
 
 /// Appends what the marks of the pictures mean, and what pictures don't show: that pages don't change, and that text flashes.
+#[inline(always)]
 pub(crate) fn push_legend(
     text: &mut Explanation,
     message: &AcceptedMessage<'_>,

@@ -1,5 +1,5 @@
 //! The first lines of an explanation.
-ghost use Rattle.std.specs.Prelude.{◌≡◌, ◌++◌, ◌<◌, ◌^◌, OnOk};
+ghost use Rattle.std.specs.Prelude.{◌≡◌, ◌++◌, ◌<◌, ◌≤◌, ◌^◌, OnOk};
 ghost use Rattle.message_report.specs.Explanation.{accepted_text, error_text, head_text, line_head, place_text, refused_text, too_long_text};
 ghost use Rattle.message_report.specs.Names.{name_of};
 
@@ -77,18 +77,31 @@ pub(crate) fn push_refused(text: &mut Explanation, code: u8, at: usize) -> Resul
 }
 
 /// Appends that a message is accepted, with the number of its pages.
-#[tactic(auto, unfolding(crate::specs::Explanation::accepted_text))]
 #[inline(always)]
 pub(crate) fn push_accepted(text: &mut Explanation, pages: u8) -> Result<(), AllocError>
     ensures { OnOk result (text.new ≡ text.old ++ accepted_text pages) }
 {
+    if pages == 1 {
+        return push_octets(text, b"accepted: 1 page\n");
+    }
+    if pages >= 10 {
+        return push_many_pages(text, pages);
+    }
+    let mut words = *b"accepted: 0 pages\n";
+    words[10] = b'0' + pages;
+    push_octets(text, &words)
+}
+
+/// The same where the number has more digits than one.
+#[tactic(auto, unfolding(crate::specs::Explanation::accepted_text))]
+#[inline(never)]
+fn push_many_pages(text: &mut Explanation, pages: u8) -> Result<(), AllocError>
+    requires many { 10 ≤ pages }
+    ensures { OnOk result (text.new ≡ text.old ++ accepted_text pages) }
+{
     push_octets(text, b"accepted: ")?;
     push_number(text, u64::from(pages))?;
-    if pages == 1 {
-        push_octets(text, b" page\n")
-    } else {
-        push_octets(text, b" pages\n")
-    }
+    push_octets(text, b" pages\n")
 }
 
 /// Appends that a message has too many octets.
@@ -100,9 +113,23 @@ pub(crate) fn push_too_long(text: &mut Explanation) -> Result<(), AllocError>
 }
 
 /// Appends the number of a page, which is counted from 0, among the pages.
-#[tactic(auto, unfolding(crate::specs::Explanation::head_text))]
 #[inline(always)]
 pub(crate) fn push_head(text: &mut Explanation, page: u8, pages: u8) -> Result<(), AllocError>
+    ensures { OnOk result (text.new ≡ text.old ++ head_text page pages) }
+{
+    if page >= 9 || pages >= 10 {
+        return push_long_head(text, page, pages);
+    }
+    let mut head = *b"page 1 of 1, ";
+    head[5] = b'1' + page;
+    head[10] = b'0' + pages;
+    push_octets(text, &head)
+}
+
+/// The same where a number may have more digits than one.
+#[tactic(auto, unfolding(crate::specs::Explanation::head_text))]
+#[inline(never)]
+fn push_long_head(text: &mut Explanation, page: u8, pages: u8) -> Result<(), AllocError>
     ensures { OnOk result (text.new ≡ text.old ++ head_text page pages) }
 {
     push_octets(text, b"page ")?;

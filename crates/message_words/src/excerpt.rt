@@ -39,6 +39,7 @@ fn plain_front(message: &[u8]) -> &str {
 
 /// The octets of a message that are shown and whether more stand behind them, if each of these is shown as itself. All are looked at,
 /// several at once.
+#[inline(always)]
 pub(crate) fn plain_line(message: &[u8]) -> Option<(&[u8], bool)>
     ensures { IfSome result (λ (front, more). All (λ c. c ≢ 10) front.now) }
 {

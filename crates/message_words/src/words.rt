@@ -19,6 +19,7 @@ pub struct MessageLine<'a>(pub &'a [u8]);
 
 impl<'a> MessageLine<'a> {
     /// The octets that are shown and whether more stand behind them, which [`MORE`] tells, if each is shown as it is.
+    #[inline(always)]
     pub fn as_plain(&self) -> Option<(&'a [u8], bool)>
         ensures { IfSome result (λ (front, more). All (λ c. c ≢ 10) front.now) }
     {

@@ -16,7 +16,7 @@ use Rattle.multi_layout.specs.Pages.{IsSized, IsTurned, IsUnderWay, PagesState, 
 use Rattle.multi_layout.specs.kept.PageDrawing.{IsFilledFew, IsPageStart, IsReadTwice}
 use Rattle.multi_layout.specs.kept.Cursors.{IsBetween, LaidItem}
 use Rattle.multi_layout.proofs.WalkLemmas.{within_between}
-use Rattle.multi_layout.proofs.PagesLemmas.{at_most, drawing_few, drawing_fills, plane_few}
+use Rattle.multi_layout.proofs.PagesLemmas.{at_most, drawing_few, drawing_fills, first_next, plane_few, turns_to}
 
 -- what was judged is its parts
 judged_is : (a b : CheckedData) → a.sign ≡ b.sign → a.source ≡ b.source → a ≡ b
@@ -31,7 +31,7 @@ under_way_first pages cursor sound short size first read drawn items b = record 
   short = short;
   size = size;
   next_most = omega (arith, first);
-  begins = λ h. (([], items, b, inl refl), omega (arith, first, b.state_is.pages));
+  begins = rw first (first_next pages.string.sign pages.string.source.octets cursor items b);
   within = within_between pages.string.sign pages.string.source.octets [] items cursor b;
   read_least = omega (arith, read);
   read_most = omega (arith, read);
@@ -66,10 +66,7 @@ module _ (old : PagesState) (cursor cursor' : Cursor) (u : IsUnderWay old cursor
   none_yet n = ap (λ b. cond b n 0) (not_all old.next (page_count old.string) more)
 
   begins_next : old.next + 1 < page_count old.string → IsPageStart old.string.sign old.string.source.octets cursor' × (cursor'.state.pages ≡ old.next + 1 + 1)
-  begins_next h = elim t.ends [
-    | inl last ↦ absurd (omega (arith, begun, last.0, h))
-    | inr then ↦ (then.2, omega (arith, begun, then.1))
-  ]
+  begins_next = turns_to old.string.sign old.string.source.octets (record { cursor = cursor }) cursor' old.next u.begins t
 
   -- behind one more page
   module _ (string : CheckedData) (plane : BitPlane) (sign_kept : string.sign ≡ old.string.sign) (size_kept : (plane.width ≡ old.plane.width) × (plane.height ≡ old.plane.height))

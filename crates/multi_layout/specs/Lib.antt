@@ -1,5 +1,6 @@
 pub mod CheckedData
 pub mod Lending
 pub mod Limits
+pub mod NextPage
 pub mod Pages
 pub mod kept

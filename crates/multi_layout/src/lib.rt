@@ -13,6 +13,7 @@ mod cursor;
 mod draw;
 mod draw_run;
 mod fault;
+mod next_page;
 mod pages;
 mod paint;
 mod read;
@@ -25,6 +26,7 @@ pub use multi_meaning::{
     Shown, SyntaxError, broken_bracket_stands, keeps_breaks, one_verdict, refusal_stands,
     smaller_fits,
 };
+pub use next_page::NextPage;
 pub use pages::{PageView, Pages};
 pub use read::AreaLines;
 pub use verdict::{Judge, Offence, check, check_with};

@@ -150,7 +150,7 @@ impl<'a> Checked<'a> {
     }
 
     /// Draws the page that begins at a cursor, and goes behind it.
-    fn draw_from(
+    pub(crate) fn draw_from(
         &mut self,
         cursor: &mut Cursor,
         layer: Layer,

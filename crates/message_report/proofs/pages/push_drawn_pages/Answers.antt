@@ -7,7 +7,7 @@ use Rattle.message_report.proofs.pages.push_drawn_pages.Goals as goal
 
 pub push_picture-requires-clause-page : goal.push_picture-requires-clause-page
 push_picture-requires-clause-page c =
-    let string = c.args.checked in
+    let string = c.args.checked.now in
     let pages = ExplanationLemmas.pages_are string.sign string.source.octets c.pages-pages.result c.pages-pages.ensures c.requires.short in
     let here = ap (λ l. pages_of (meanings l)) c.loop-page.invariant.2 in
     omega (arith, c.loop-page-test.true, pages, here)
@@ -15,7 +15,7 @@ push_picture-requires-clause-page c =
 pub loop-page-preserved : goal.loop-page-preserved
 loop-page-preserved c =
     let message = c.args.message.now in
-    let octets = c.args.checked.source.octets in
+    let octets = c.args.checked.now.source.octets in
     let picture = picture_text c.args.picture message.sign.now octets message.telling.phase in
     let page = c.loop-page.page in
     let pages = c.pages-pages.result in
@@ -27,7 +27,7 @@ loop-page-preserved c =
 
 pub returns : goal.returns
 returns c =
-    let string = c.args.checked in
+    let string = c.args.checked.now in
     let message = c.args.message.now in
     let picture = picture_text c.args.picture message.sign.now string.source.octets message.telling.phase in
     let pages = ExplanationLemmas.pages_are string.sign string.source.octets c.pages-pages.result c.pages-pages.ensures c.requires.short in

@@ -1,23 +1,26 @@
-use Rattle.std.proofs.Common.{◌≡◌, ◌∷◌, ◌++◌, ◌+◌, ap, ◌∙◌, arith, subst}
+use Rattle.std.proofs.Common.{◌≡◌, ◌<◌, ◌∷◌, ◌++◌, ap, ◌∙◌, arith, subst}
 use Rattle.multi_meaning.specs.Meaning.{meanings}
 use Rattle.multi_meaning.specs.Verdict.{pages_of}
+use Rattle.multi_layout.specs.NextPage.{IsNextPage}
+use Rattle.multi_layout.specs.Pages.{page_count}
 use Rattle.message_report.specs.Explanation.{HasPages, head_text, picture_text}
 use Rattle.message_report.specs.declared.picture.Picture.TheVariants.{Marks}
-use Rattle.message_report.specs.Pictures.{page_text}
 use Rattle.message_report.proofs.ExplanationLemmas
+use Rattle.message_report.proofs.PageLemmas
 use Rattle.message_report.proofs.pages.push_lit_pages.Goals as goal
 
-pub push_next_lit-requires-clause-next : goal.push_next_lit-requires-clause-next
-push_next_lit-requires-clause-next c =
-    let string = c.args.checked in
-    let (has, same_sign, same_octets, next, phase, colour) = c.loop-page.invariant in
+pub draw_next-requires : goal.draw_next-requires
+draw_next-requires c =
+    let string = c.args.checked.now in
+    let (has, same_sign, same_octets, next, size) = c.loop-page.invariant in
     let pages = ExplanationLemmas.pages_are string.sign string.source.octets c.pages-pages.result c.pages-pages.ensures c.requires.short in
     let here = ap (λ l. pages_of (meanings l)) same_octets in
-    omega (arith, c.loop-page-test.true, pages, here, next)
+    let more : c.loop-page.page < page_count c.loop-page.checked = omega (arith, c.loop-page-test.true, pages, here) in
+    record { page = (c.loop-page.page, more, next); size = rw same_sign size }
 
 pub returns : goal.returns
 returns c =
-    let string = c.args.checked in
+    let string = c.args.checked.now in
     let message = c.args.message.now in
     let picture = picture_text Marks message.sign.now string.source.octets message.telling.phase in
     let pages = ExplanationLemmas.pages_are string.sign string.source.octets c.pages-pages.result c.pages-pages.ensures c.requires.short in
@@ -29,19 +32,22 @@ returns c =
 pub loop-page-preserved : goal.loop-page-preserved
 loop-page-preserved c =
     let message = c.args.message.now in
-    let octets = c.args.checked.source.octets in
-    let picture = picture_text Marks message.sign.now octets message.telling.phase in
+    let sign = message.sign.now in
+    let string = c.args.checked.now in
+    let here = c.loop-page.checked in
+    let octets = string.source.octets in
+    let picture = picture_text Marks sign octets message.telling.phase in
     let page = c.loop-page.page in
     let pages = c.pages-pages.result in
-    let ((shown, so_far, has), same_sign, same_octets, next, phase, colour) = c.loop-page.invariant in
+    let ((shown, so_far, has), same_sign, same_octets, next, size) = c.loop-page.invariant in
     let (words, line, second) = c.in_ok-push_times.ensures in
-    let e = c.in_ok-push_next_lit.ensures in
-    let drawn = c.loop-page.drawn in
-    let shows : page_text drawn.string.sign drawn.string.source.octets drawn.next drawn.phase ≡ picture page =
-    ap (λ s. page_text s drawn.string.source.octets drawn.next drawn.phase) (same_sign ∙ c.requires.sign)
-    ∙ ap (λ l. page_text message.sign.now l drawn.next drawn.phase) same_octets
-    ∙ ap (λ n. page_text message.sign.now octets n drawn.phase) next
-    ∙ ap (page_text message.sign.now octets page) phase in
-    let third = e.ok ∙ ap (λ l. c.push_times.new.text ++ l) shows in
-    let all = ExplanationLemmas.three_more c.args.text.now c.loop-page.text c.push_head.new.text c.push_times.new.text c.push_next_lit.new.text shown (head_text page pages) words (picture page) so_far c.in_ok-push_head.ensures second third in
-    ((shown ++ head_text page pages ++ words ++ 10 ∷ picture page, all, ExplanationLemmas.pages_more picture pages page shown words has line), e.kept.0 ∙ same_sign, e.kept.1 ∙ same_octets, e.next ∙ ap (λ n. n + 1) next, e.layer.0 ∙ phase, e.layer.1 ∙ colour)
+    let e = c.draw_next.ensures in
+    let count = ExplanationLemmas.pages_are string.sign octets pages c.pages-pages.ensures c.requires.short in
+    let more : page < page_count here = omega (arith, c.loop-page-test.true, count, ap (λ l. pages_of (meanings l)) same_octets) in
+    let sized = (e.size.0 ∙ size.0 ∙ ap (λ s. s.width) c.requires.sign, e.size.1 ∙ size.1 ∙ ap (λ s. s.height) c.requires.sign) in
+    let rows = PageLemmas.next_pictured sign here.sign octets here.source.octets page message.telling.phase c.draw_next.new.plane c.requires.monochrome (same_sign ∙ c.requires.sign) same_octets (e.drawn page more next) sized in
+    let third = c.in_ok-push_lit.ensures ∙ ap (λ l. c.push_times.new.text ++ l) rows in
+    let all = ExplanationLemmas.three_more c.args.text.now c.loop-page.text c.push_head.new.text c.push_times.new.text c.push_lit.new.text shown (head_text page pages) words (picture page) so_far c.in_ok-push_head.ensures second third in
+    let octets_kept = ap (λ s. s.octets) e.steps.3 in
+    let further = subst (λ s. IsNextPage s c.draw_next.new.checked.source.octets c.draw_next.new.next (page + 1)) e.kept (subst (λ l. IsNextPage here.sign l c.draw_next.new.next (page + 1)) octets_kept (e.next page next)) in
+    ((shown ++ head_text page pages ++ words ++ 10 ∷ picture page, all, ExplanationLemmas.pages_more picture pages page shown words has line), e.kept ∙ same_sign, octets_kept ∙ same_octets, further, (e.size.0 ∙ size.0, e.size.1 ∙ size.1))

@@ -6,7 +6,7 @@ use Rattle.message_report.proofs.pages.push_shown.Goals as goal
 
 pub returns : goal.returns
 returns c =
-    let string = c.args.checked in
+    let string = c.args.checked.now in
     let text = c.args.text.now in
     let pages = ExplanationLemmas.pages_are string.sign string.source.octets c.pages-2.result c.pages-2.ensures c.requires.short in
     let first = c.in_ok-push_accepted.ensures ∙ ap (λ n. c.push_line_head.new.text ++ accepted_text n) pages in
