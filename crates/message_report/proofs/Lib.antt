@@ -3,3 +3,4 @@ pub mod ExplanationLemmas
 pub mod MarkLemmas
 pub mod PageLemmas
 pub mod RecordLemmas
+pub mod VerdictLemmas

@@ -19,7 +19,7 @@ impl Canvas {
     /// A canvas of a sign's size. The error says that memory was refused.
     #[inline(never)]
     pub(crate) fn new(alloc: Global, sign: &Sign) -> Result<Box<Canvas>, AllocError>
-        ensures { IfOk result (λ canvas. IsSized canvas.plane sign.now) }
+        ensures { IfOk result (λ canvas. IsSized canvas.value.plane sign.now) }
     {
         let Ok(plane) = Plane::new(alloc, sign.width(), sign.height()) else {
             return Err(AllocError);

@@ -17,7 +17,7 @@ use crate::text::push_words;
 use crate::verdict::{push_line_head, push_place, push_refused, push_too_long};
 use crate::wording::Wording;
 use message_words::{Refusal, warnings_on};
-use multi_layout::{Checked, check};
+use multi_layout::{Checked, Fault, check};
 use multi_token::Source;
 use sign_font::Sign;
 use std::alloc::{AllocError, Global};
@@ -173,7 +173,7 @@ impl Explainer {
             .get_or_try_init(|| Wording::new(alloc, &self.sign))
     }
 
-    /// Appends the explanation of a message that the sign refuses with this error at an octet.
+    /// Appends the explanation of a message that the sign refuses so.
     #[inline(never)]
     fn push_fault(
         &self,
@@ -182,13 +182,12 @@ impl Explainer {
         name: &[u8],
         line: u32,
         message: &[u8],
-        code: u8,
-        at: usize,
+        fault: &Fault<'_>,
         text: &mut Explanation,
     ) -> Result<(), AllocError>
-        requires small { at < 2 ^ 63 }
+        requires small { fault.now.at < 2 ^ 63 }
         ensures { OnOk result (GrowsBy
-            (Tells telling telling.format self.now name.now message.now line (Refused code at))
+            (Tells telling telling.format self.now name.now message.now line (Refused fault.now.code fault.now.at))
             text.old text.new) }
     {
         let wording = self.wording(alloc)?;
@@ -198,8 +197,8 @@ impl Explainer {
             large: wording.large.as_ref(),
             fonts: &wording.fonts,
             message,
-            code,
-            at,
+            code: fault.code,
+            at: fault.at,
         };
         push_refusal(text, telling, name, line, &refusal)
     }
@@ -247,9 +246,7 @@ impl Explainer {
                 })
             }
             Err(fault) => {
-                self.push_fault(
-                    alloc, telling, name, line, message, fault.code, fault.at, text,
-                )?;
+                self.push_fault(alloc, telling, name, line, message, &fault, text)?;
                 Ok(NOT_TAKEN)
             }
         }

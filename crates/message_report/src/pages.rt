@@ -19,7 +19,7 @@ use std::alloc::AllocError;
 /// A canvas of the sign's size: the one that there is, or a new one. The error says that memory was refused.
 #[inline(always)]
 fn canvas_of(message: &AcceptedMessage<'_>) -> Result<Box<Canvas>, AllocError>
-    ensures { IfOk result (λ canvas. IsSized canvas.plane message.now.sign.now) }
+    ensures { IfOk result (λ canvas. IsSized canvas.value.plane message.now.sign.now) }
 {
     let (width, height) = (message.sign.width(), message.sign.height());
     if let Some(canvas) = message.canvas.take() {

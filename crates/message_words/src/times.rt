@@ -14,7 +14,7 @@ pub struct Times {
 
 impl Times {
     /// The times of the pages of a message in which no tag sets them.
-    pub fn usual(sign: &Sign) -> Times {
+    pub(crate) fn usual(sign: &Sign) -> Times {
         Times::of_tag(sign, None, None)
     }
 

@@ -1,8 +1,8 @@
-use Rattle.std.proofs.Common.{◌≡◌, ◌<◌, ◌∷◌, ◌++◌, ap, ◌∙◌, arith, subst}
+use Rattle.std.proofs.Common.{◌≡◌, ◌+◌, ◌<◌, ◌∷◌, ◌++◌, ap, ◌∙◌, arith, subst, sym}
 use Rattle.multi_meaning.specs.Meaning.{meanings}
 use Rattle.multi_meaning.specs.Verdict.{pages_of}
 use Rattle.multi_layout.specs.NextPage.{IsNextPage}
-use Rattle.multi_layout.specs.Pages.{page_count}
+use Rattle.multi_layout.specs.Pages.{IsSized, page_count}
 use Rattle.message_report.specs.Explanation.{HasPages, head_text, picture_text}
 use Rattle.message_report.specs.declared.picture.Picture.TheVariants.{Marks}
 use Rattle.message_report.proofs.ExplanationLemmas
@@ -44,10 +44,10 @@ loop-page-preserved c =
     let e = c.draw_next.ensures in
     let count = ExplanationLemmas.pages_are string.sign octets pages c.pages-pages.ensures c.requires.short in
     let more : page < page_count here = omega (arith, c.loop-page-test.true, count, ap (λ l. pages_of (meanings l)) same_octets) in
-    let sized = (e.size.0 ∙ size.0 ∙ ap (λ s. s.width) c.requires.sign, e.size.1 ∙ size.1 ∙ ap (λ s. s.height) c.requires.sign) in
+    let sized : IsSized c.draw_next.new.plane sign = (e.size.0 ∙ size.0 ∙ ap (λ s. s.width) c.requires.sign, e.size.1 ∙ size.1 ∙ ap (λ s. s.height) c.requires.sign) in
     let rows = PageLemmas.next_pictured sign here.sign octets here.source.octets page message.telling.phase c.draw_next.new.plane c.requires.monochrome (same_sign ∙ c.requires.sign) same_octets (e.drawn page more next) sized in
     let third = c.in_ok-push_lit.ensures ∙ ap (λ l. c.push_times.new.text ++ l) rows in
     let all = ExplanationLemmas.three_more c.args.text.now c.loop-page.text c.push_head.new.text c.push_times.new.text c.push_lit.new.text shown (head_text page pages) words (picture page) so_far c.in_ok-push_head.ensures second third in
     let octets_kept = ap (λ s. s.octets) e.steps.3 in
-    let further = subst (λ s. IsNextPage s c.draw_next.new.checked.source.octets c.draw_next.new.next (page + 1)) e.kept (subst (λ l. IsNextPage here.sign l c.draw_next.new.next (page + 1)) octets_kept (e.next page next)) in
+    let further = subst (λ s. IsNextPage s c.draw_next.new.self.source.octets c.draw_next.new.next (page + 1)) (sym e.kept) (subst (λ l. IsNextPage here.sign l c.draw_next.new.next (page + 1)) (sym octets_kept) (e.next page next)) in
     ((shown ++ head_text page pages ++ words ++ 10 ∷ picture page, all, ExplanationLemmas.pages_more picture pages page shown words has line), e.kept ∙ same_sign, octets_kept ∙ same_octets, further, (e.size.0 ∙ size.0, e.size.1 ∙ size.1))

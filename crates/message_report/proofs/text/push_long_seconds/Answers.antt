@@ -1,7 +1,7 @@
 use Rattle.std.proofs.Common.{◌∷◌, [], arith, codes, refl}
 use Rattle.message_report.specs.Words.{GrowsInLine}
 use Rattle.message_report.proofs.ExplanationLemmas.{feedless, in_line_more, number_in_line}
-use Rattle.message_report.proofs.text.push_seconds.Goals as goal
+use Rattle.message_report.proofs.text.push_long_seconds.Goals as goal
 
 pub returns : goal.returns
 returns c =
