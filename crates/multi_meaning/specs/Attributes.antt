@@ -2,8 +2,9 @@
 -- other defaults a sign is the same sign with those.
 use Rattle.std.specs.Prelude.{ℕ, ◌+◌, ◌-◌, Bool, ◌&&◌, ◌==◌, nat_le, List, [], Option, Some, None, if◌then◌else◌}
 use Rattle.std.specs.List.{filter_map, last_or}
-use Rattle.std.specs.Option.{unwrap_or}
+use Rattle.std.specs.Option.{option_map_or, unwrap_or}
 use Rattle.multi_tag.specs.declared.tag.Tag.TheVariants.{NewPage, LineJust, PageJust, Font, CharSpacing, CharSpacingEnd, PageTime, Flash, FlashEnd, Fore, Back, Rect}
+use Rattle.multi_tag.specs.Just.{line_number, page_number}
 use Rattle.sign_font.specs.declared.parts.Defaults.{Defaults}
 use Rattle.sign_font.specs.Sign.{SignData, FontData, font_numbered}
 use Rattle.multi_meaning.specs.declared.attributes.FlashTimes.{FlashTimes}
@@ -27,14 +28,14 @@ given_font sign (Does (Font None)) = Some (default_font sign)
 given_font sign (Does (Font (Some pick))) = font_numbered sign pick.number
 given_font sign _ = None
 
--- the line justification that an item gives: left 2, centre 3, right 4, full 5 (NTCIP 1203 v03, MULTI tag 'jl')
+-- the number of the line justification that an item gives (NTCIP 1203 v03, MULTI tag 'jl')
 abbrev pub given_line_just : Defaults → Meaning → Option ℕ
-given_line_just defaults (Does (LineJust just)) = Some (unwrap_or just defaults.line)
+given_line_just defaults (Does (LineJust just)) = Some (option_map_or line_number just defaults.line)
 given_line_just defaults _ = None
 
--- the page justification that an item gives: top 2, middle 3, bottom 4 (NTCIP 1203 v03, MULTI tag 'jp')
+-- the number of the page justification that an item gives (NTCIP 1203 v03, MULTI tag 'jp')
 abbrev pub given_page_just : Defaults → Meaning → Option ℕ
-given_page_just defaults (Does (PageJust just)) = Some (unwrap_or just defaults.page)
+given_page_just defaults (Does (PageJust just)) = Some (option_map_or page_number just defaults.page)
 given_page_just defaults _ = None
 
 -- the character spacing that an item gives, in pixels; at its end none (NTCIP 1203 v03, MULTI tags 'sc' and '/sc')

@@ -2,8 +2,6 @@
 use Rattle.std.specs.Prelude.{◌≡◌, ℕ, ◌+◌, ◌≤◌, true, List, [], ◌∷◌, ◌++◌, length, Some, if◌then◌else◌, ◌⊎◌}
 use Rattle.std.specs.Option.{unwrap_or}
 use Rattle.std.specs.List.{filter, list_any, after_last}
-use Rattle.multi_tag.specs.declared.tag.Tag.{Tag}
-use Rattle.multi_tag.specs.declared.tag.Tag.TheVariants.{LineJust, PageJust}
 use Rattle.sign_font.specs.Sign.{SignData}
 use Rattle.multi_meaning.specs.Attributes.{given_font, given_line_just, given_page_just, given_spacing, given_fore, given_back, given_on, given_off, given_flash, given_rectangle}
 use Rattle.multi_meaning.specs.Meaning.{Meaning, begins_area, is_new_page}
@@ -32,12 +30,6 @@ standing_behind sign here x = record {
   flash = unwrap_or (given_flash sign.defaults x) here.flash;
   rectangle = unwrap_or (given_rectangle sign x) here.rectangle;
 }
-
--- the justification that a tag gives is a known one (NTCIP 1203 v03, MULTI tags 'jl' and 'jp')
-abbrev pub IsKnown : Tag → Type 0
-IsKnown (LineJust (Some just)) = (2 ≤ just) × (just ≤ 5)
-IsKnown (PageJust (Some just)) = (2 ≤ just) × (just ≤ 4)
-IsKnown tag = Unit {0}
 
 -- a placing item: a character or the end of a line (NTCIP 1203 v03, MULTI tag 'nl')
 abbrev pub IsPlacing : Spot → Type 0
