@@ -4,8 +4,7 @@ use Rattle.std.specs.Prelude.{slice_range}
 use Rattle.std.proofs.lemmas.Bool.{cases_eq}
 use Rattle.std.proofs.lemmas.List.{drop-append-le, length-drop, length-take, length_push, take-append-le, take_all}
 use Rattle.multi_judge.specs.declared.table.CountedLine.{CountedLine}
-use Rattle.multi_judge.specs.declared.table.LineTable.{LineTable}
-use Rattle.multi_judge.specs.Table.{IsOrdered, group_lines}
+use Rattle.multi_judge.specs.Table.{TableLines, IsOrdered, split_lines}
 
 -- what holds of the page justifications top, middle and bottom
 pub each_group : (P : ℕ → Type 0) → P 2 → P 3 → P 4 → (just : ℕ) → 2 ≤ just → just ≤ 4 → P just
@@ -42,52 +41,39 @@ module _ {X : Type 0} (xs : List X) where
 empty_range : {X : Type 0} (xs : List X) (i j : ℕ) → i ≤ j → j ≤ length xs → slice_range xs i j ≡ [] → i ≡ j
 empty_range xs i j low high none = omega (arith, range_length xs i j high, ap length none)
 
-module _ (old : LineTable) (ordered : IsOrdered old) (line : CountedLine) where
-  items : List CountedLine
-  items = old.lines.items
+-- one more line
+module _ (xs : List CountedLine) (middle bottom : ℕ) (ordered : IsOrdered xs middle bottom) (line : CountedLine) (ys : List CountedLine) (more : ys ≡ xs ++ line ∷ []) (middle' bottom' : ℕ) where
+  abbrev old : TableLines
+  old = split_lines xs middle bottom
 
-  -- a line of the top group, where the others have none
-  pub pushed_top : (new : LineTable) → new.lines.items ≡ old.lines.items ++ line ∷ [] → new.middle ≡ length old.lines.items + 1 → new.bottom ≡ length old.lines.items + 1
-      → group_lines 3 old ≡ [] → group_lines 4 old ≡ []
-      → (group_lines 2 new ≡ group_lines 2 old ++ line ∷ []) × (group_lines 3 new ≡ group_lines 3 old) × (group_lines 4 new ≡ group_lines 4 old)
-  pushed_top new all middle bottom none3 none4 =
-      let xs = old.lines.items in
-      let low : old.bottom ≡ length xs = empty_range xs old.bottom (length xs) ordered.bottom (omega arith) none4 in
-      let mid : old.middle ≡ old.bottom = empty_range xs old.middle old.bottom ordered.middle ordered.bottom none3 in
-      let long : length new.lines.items ≡ length xs + 1 = ap length all ∙ length_push xs line in (
-        ap (λ l. slice_range l 0 new.middle) all ∙ ap (slice_range (xs ++ line ∷ []) 0) middle ∙ range_more xs line 0 (omega arith) ∙ ap (λ n. slice_range xs 0 n ++ line ∷ []) (sym low ∙ sym mid),
-        ap (λ n. slice_range new.lines.items n new.bottom) (middle ∙ sym bottom) ∙ range_none new.lines.items new.bottom ∙ sym none3,
-        ap (slice_range new.lines.items new.bottom) (long ∙ sym bottom) ∙ range_none new.lines.items new.bottom ∙ sym none4,
+  abbrev new : TableLines
+  new = split_lines ys middle' bottom'
+
+  long : length ys ≡ length xs + 1
+  long = ap length more ∙ length_push xs line
+
+  most : middle ≤ length xs
+  most = omega (arith, ordered.0, ordered.1)
+
+  bottom_none : bottom' ≡ length ys → new.bottom ≡ []
+  bottom_none from = ap (slice_range ys bottom') (sym from) ∙ range_none ys bottom'
+
+  -- it is put into the top group, where the others have none
+  pub pushed_top : middle' ≡ length ys → bottom' ≡ length ys → old.middle ≡ [] → old.bottom ≡ [] → (new.top ≡ old.top ++ line ∷ []) × (new.middle ≡ old.middle) × (new.bottom ≡ old.bottom)
+  pushed_top from_middle from_bottom none3 none4 =
+      let low : bottom ≡ length xs = empty_range xs bottom (length xs) ordered.1 (omega arith) none4 in
+      let mid : middle ≡ bottom = empty_range xs middle bottom ordered.0 ordered.1 none3 in (
+        ap (λ l. slice_range l 0 middle') more ∙ ap (slice_range (xs ++ line ∷ []) 0) (from_middle ∙ long) ∙ range_more xs line 0 (omega arith) ∙ ap (λ n. slice_range xs 0 n ++ line ∷ []) (sym low ∙ sym mid),
+        ap (λ n. slice_range ys n bottom') (from_middle ∙ sym from_bottom) ∙ range_none ys bottom' ∙ sym none3,
+        bottom_none from_bottom ∙ sym none4,
       )
 
-  pub pushed_middle : (new : LineTable) → new.lines.items ≡ old.lines.items ++ line ∷ [] → new.middle ≡ old.middle → new.bottom ≡ length old.lines.items + 1 → group_lines 4 old ≡ []
-      → (group_lines 2 new ≡ group_lines 2 old) × (group_lines 3 new ≡ group_lines 3 old ++ line ∷ []) × (group_lines 4 new ≡ group_lines 4 old)
-  pushed_middle new all middle bottom none4 =
-      let xs = old.lines.items in
-      let low : old.bottom ≡ length xs = empty_range xs old.bottom (length xs) ordered.bottom (omega arith) none4 in
-      let long : length new.lines.items ≡ length xs + 1 = ap length all ∙ length_push xs line in
-      let most : old.middle ≤ length xs = omega (arith, ordered.middle, ordered.bottom) in (
-        ap (λ l. slice_range l 0 new.middle) all ∙ ap (slice_range (xs ++ line ∷ []) 0) middle ∙ range_kept xs line 0 old.middle (omega arith) most,
-        ap (λ l. slice_range l new.middle new.bottom) all ∙ ap (λ n. slice_range (xs ++ line ∷ []) n new.bottom) middle ∙ ap (slice_range (xs ++ line ∷ []) old.middle) bottom ∙ range_more xs line old.middle most
-            ∙ ap (λ n. slice_range xs old.middle n ++ line ∷ []) (sym low),
-        ap (slice_range new.lines.items new.bottom) (long ∙ sym bottom) ∙ range_none new.lines.items new.bottom ∙ sym none4,
+  -- into the middle one, where the bottom one has none
+  pub pushed_middle : middle' ≡ middle → bottom' ≡ length ys → old.bottom ≡ [] → (new.top ≡ old.top) × (new.middle ≡ old.middle ++ line ∷ []) × (new.bottom ≡ old.bottom)
+  pushed_middle from_middle from_bottom none4 =
+      let low : bottom ≡ length xs = empty_range xs bottom (length xs) ordered.1 (omega arith) none4 in (
+        ap (λ l. slice_range l 0 middle') more ∙ ap (slice_range (xs ++ line ∷ []) 0) from_middle ∙ range_kept xs line 0 middle (omega arith) most,
+        ap (λ l. slice_range l middle' bottom') more ∙ ap (λ n. slice_range (xs ++ line ∷ []) n bottom') from_middle ∙ ap (slice_range (xs ++ line ∷ []) middle) (from_bottom ∙ long) ∙ range_more xs line middle most
+            ∙ ap (λ n. slice_range xs middle n ++ line ∷ []) (sym low),
+        bottom_none from_bottom ∙ sym none4,
       )
-
-  pub pushed_bottom : (new : LineTable) → new.lines.items ≡ old.lines.items ++ line ∷ [] → new.middle ≡ old.middle → new.bottom ≡ old.bottom
-      → (group_lines 2 new ≡ group_lines 2 old) × (group_lines 3 new ≡ group_lines 3 old) × (group_lines 4 new ≡ group_lines 4 old ++ line ∷ [])
-  pushed_bottom new all middle bottom =
-      let xs = old.lines.items in
-      let long : length new.lines.items ≡ length xs + 1 = ap length all ∙ length_push xs line in
-      let most : old.middle ≤ length xs = omega (arith, ordered.middle, ordered.bottom) in (
-        ap (λ l. slice_range l 0 new.middle) all ∙ ap (slice_range (xs ++ line ∷ []) 0) middle ∙ range_kept xs line 0 old.middle (omega arith) most,
-        ap (λ l. slice_range l new.middle new.bottom) all ∙ ap (λ n. slice_range (xs ++ line ∷ []) n new.bottom) middle ∙ ap (slice_range (xs ++ line ∷ []) old.middle) bottom
-            ∙ range_kept xs line old.middle old.bottom ordered.middle ordered.bottom,
-        ap (λ n. slice_range new.lines.items n (length new.lines.items)) bottom ∙ ap (λ l. slice_range l old.bottom (length new.lines.items)) all ∙ ap (slice_range (xs ++ line ∷ []) old.bottom) long
-            ∙ range_more xs line old.bottom ordered.bottom,
-      )
-
--- the lines of all groups are all lines
-pub all_groups : (table : LineTable) → IsOrdered table → length (group_lines 2 table) + length (group_lines 3 table) + length (group_lines 4 table) ≡ length table.lines.items
-all_groups table ordered =
-    let xs = table.lines.items in
-    omega (arith, ordered.middle, ordered.bottom, range_length xs 0 table.middle (omega (arith, ordered.middle, ordered.bottom)), range_length xs table.middle table.bottom ordered.bottom, range_length xs table.bottom (length xs) (omega arith))

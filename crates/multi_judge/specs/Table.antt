@@ -5,7 +5,6 @@ use Rattle.multi_meaning.specs.Line.{height_of, width_of, glyph_width}
 use Rattle.multi_meaning.specs.Place.{start, spread}
 use Rattle.multi_meaning.specs.Words.{each_after}
 use Rattle.multi_judge.specs.declared.table.CountedLine.{CountedLine}
-use Rattle.multi_judge.specs.declared.table.LineTable.{LineTable}
 
 -- what is kept of a line whose group has this height down to the line's bottom: that height, the widths of the line's
 -- segments, and how many characters are full (own)
@@ -31,19 +30,31 @@ table_of lines = each_after counted_line lines
 abbrev pub width_in : ℕ → CountedLine → ℕ
 width_in just line = if just == 2 then line.left else (if just == 3 then line.centre else (if just == 4 then line.right else line.full))
 
--- the counted lines of the group with a page justification: top 2, middle 3, bottom 4 (own)
-abbrev pub group_lines : ℕ → LineTable → List CountedLine
-group_lines just table =
-    if just == 2 then slice_range table.lines.items 0 table.middle
-    else
-    (if just
-    == 3 then slice_range table.lines.items table.middle table.bottom else slice_range table.lines.items table.bottom
-    (length table.lines.items))
+-- the counted lines of an area: those of the top group, of the middle one and of the bottom one (own)
+pub record TableLines : Type 0 where
+  pub top : List CountedLine
+  pub middle : List CountedLine
+  pub bottom : List CountedLine
 
--- the groups of the table are in order (own)
-pub record IsOrdered (table : LineTable) : Type 0 where
-  pub middle : table.middle ≤ table.bottom
-  pub bottom : table.bottom ≤ length table.lines.items
+-- one list of lines, split where those of the middle group begin, and those of the bottom one (own)
+abbrev pub split_lines : List CountedLine → ℕ → ℕ → TableLines
+split_lines lines middle bottom = record {
+  top = slice_range lines 0 middle;
+  middle = slice_range lines middle bottom;
+  bottom = slice_range lines bottom (length lines);
+}
+
+-- the groups of the list are in order (own)
+abbrev pub IsOrdered : List CountedLine → ℕ → ℕ → Type 0
+IsOrdered lines middle bottom = (middle ≤ bottom) × (bottom ≤ length lines)
+
+-- the counted lines of the group with a page justification: top 2, middle 3, bottom 4 (own)
+abbrev pub group_lines : ℕ → TableLines → List CountedLine
+group_lines just table = if just == 2 then table.top else (if just == 3 then table.middle else table.bottom)
+
+-- how many lines a table has (own)
+abbrev pub line_count : TableLines → ℕ
+line_count table = length table.top + length table.middle + length table.bottom
 
 -- the column of a character behind those of its line, by what is kept of the line (own)
 abbrev pub column_in : CountedLine → List Spot → Spot → ℕ

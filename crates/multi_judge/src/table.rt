@@ -4,10 +4,11 @@ ghost use Rattle.std.specs.Prelude.{◌≡◌, ℕ, ◌<◌, ◌≤◌, ◌==◌
 ghost use Rattle.multi_meaning.specs.Address.{Spot};
 ghost use Rattle.multi_meaning.specs.kept.Present.{IsNarrow};
 ghost use Rattle.multi_judge.specs.Sums.{line_sum};
-ghost use Rattle.multi_judge.specs.Table.{IsOrdered, width_in, group_lines, line_entry};
+ghost use Rattle.multi_judge.specs.Table.{width_in, group_lines, line_count, line_entry};
 
 use crate::line::Line;
 use arrayvec::ArrayVec;
+use std::marker::Model;
 
 /// What is kept of a counted line, in pixels.
 #[derive(Clone, Copy, Default)]
@@ -30,6 +31,16 @@ pub struct LineTable {
     /// Where the lines of the middle group begin, and those of the bottom one.
     middle: usize,
     bottom: usize,
+}
+
+impl Model for LineTable {
+    ghost use Rattle.multi_judge.specs.Table.{TableLines, IsOrdered, split_lines};
+
+    ghost Value = { TableLines };
+
+    ghost view = { λ t. split_lines t.lines.items t.middle t.bottom };
+
+    ghost invariant = { λ t. IsOrdered t.lines.items t.middle t.bottom };
 }
 
 impl CountedLine {
@@ -68,7 +79,6 @@ impl LineTable {
     /// A table of no line.
     pub fn new() -> LineTable
         ensures none { (just : ℕ) → group_lines just result ≡ [] }
-        ensures ordered { IsOrdered result }
     {
         LineTable {
             lines: ArrayVec::new(),
@@ -80,7 +90,6 @@ impl LineTable {
     /// Takes all lines out.
     pub fn clear(&mut self)
         ensures none { (just : ℕ) → group_lines just self.new ≡ [] }
-        ensures ordered { IsOrdered self.new }
     {
         self.lines.clear();
         self.middle = 0;
@@ -91,12 +100,10 @@ impl LineTable {
     /// a line.
     pub fn push(&mut self, page_just: u8, line: CountedLine)
         requires known { (2 ≤ page_just) × (page_just ≤ 4) }
-        requires room { length self.old.lines.items < 128 }
-        requires ordered { IsOrdered self.old }
+        requires room { line_count self.old < 128 }
         requires last { (just : ℕ) → page_just < just → just ≤ 4 → group_lines just self.old ≡ [] }
         ensures pushed { (just : ℕ) → (2 ≤ just) × (just ≤ 4) → group_lines just self.new
             ≡ (if just == page_just then group_lines just self.old ++ line ∷ [] else group_lines just self.old) }
-        ensures ordered { IsOrdered self.new }
     {
         self.lines.push(line);
         match page_just {
@@ -112,7 +119,6 @@ impl LineTable {
     /// The lines of the group with this page justification: top 2, middle 3, bottom 4.
     pub fn group(&self, page_just: u8) -> &[CountedLine]
         requires known { (2 ≤ page_just) × (page_just ≤ 4) }
-        requires ordered { IsOrdered self.now }
         ensures lines { result.now ≡ group_lines page_just self.now }
         ensures few { length result.now ≤ 128 }
     {
