@@ -6,6 +6,7 @@ use Rattle.std.proofs.lemmas.Bool.Decides.{nat_tests}
 use Rattle.multi_tag.specs.declared.tag.FontPick.{FontPick}
 use Rattle.multi_tag.specs.declared.tag.Tag.{Tag}
 use Rattle.multi_tag.specs.declared.tag.Tag.TheVariants.{NewPage, NewLine, LineJust, PageJust, Font, Back, Rect}
+use Rattle.multi_tag.proofs.JustLemmas.{line_known, page_known}
 use Rattle.sign_font.specs.declared.parts.LineFill.TheVariants.{Off}
 use Rattle.sign_font.specs.declared.font.FontInfo.{FontInfo}
 use Rattle.sign_font.specs.Sign.{SignData, FontData, font_numbered, info_of}
@@ -15,7 +16,7 @@ use Rattle.multi_meaning.specs.Address.{standing}
 use Rattle.multi_meaning.specs.Attributes.{is_inside}
 use Rattle.multi_meaning.specs.Meaning.{Meaning, Does}
 use Rattle.multi_meaning.specs.Offence.{offence, offence_by}
-use Rattle.multi_meaning.specs.kept.Present.{IsKnown, standing_behind}
+use Rattle.multi_meaning.specs.kept.Present.{standing_behind}
 use Rattle.multi_meaning.proofs.OffenceLemmas.{offence-font, offence-no_font}
 use Rattle.multi_judge.specs.declared.attributes.Attributes.{Attributes}
 use Rattle.multi_judge.specs.declared.state.State.{State}
@@ -31,14 +32,6 @@ simple_of (NewLine gap) a b c d = b gap refl
 simple_of (Font pick) a b c d = c pick refl
 simple_of (Rect x y w h) a b c d = d x y w h refl
 simple_of tag a b c d = tt
-
-known_line : (just : Option ℕ) (default : ℕ) → IsKnown (LineJust just) → (2 ≤ default) × (default ≤ 5) → (2 ≤ unwrap_or just default) × (unwrap_or just default ≤ 5)
-known_line None default k d = d
-known_line (Some just) default k d = k
-
-known_page : (just : Option ℕ) (default : ℕ) → IsKnown (PageJust just) → (2 ≤ default) × (default ≤ 4) → (2 ≤ unwrap_or just default) × (unwrap_or just default ≤ 4)
-known_page None default k d = d
-known_page (Some just) default k d = k
 
 module _ (sign : SignData) (items : List Meaning) (state : State) (st : IsStateOf sign items state) (sound : IsSound sign) (attributes : Attributes) where
   below : IsBelow (1024 * length items + 1024) state.area
@@ -65,28 +58,28 @@ module _ (sign : SignData) (items : List Meaning) (state : State) (st : IsStateO
   CheckedData tag = (offence Off sign items (Does tag) ≡ None) × IsStateOf sign (items ++ Does tag ∷ []) (record state { attributes = attributes })
 
   -- a simple tag: it doesn't offend, and the values in force change
-  pub judged-simple : (tag : Tag) → IsSimple tag → IsKnown tag → After tag → CheckedData tag
+  pub judged-simple : (tag : Tag) → IsSimple tag → After tag → CheckedData tag
   unfolding offence_by
-  judged-simple NewPage s k is = absurd s
-  judged-simple (NewLine gap) s k is = absurd s
-  judged-simple (Font pick) s k is = absurd s
-  judged-simple (Rect x y w h) s k is = absurd s
-  judged-simple (LineJust just) s k is = (
+  judged-simple NewPage s is = absurd s
+  judged-simple (NewLine gap) s is = absurd s
+  judged-simple (Font pick) s is = absurd s
+  judged-simple (Rect x y w h) s is = absurd s
+  judged-simple (LineJust just) s is = (
     refl,
     state-attribute sign items state attributes (Does (LineJust just)) st refl refl refl is st.font
-        (along_line _ (ap (λ (a : Attributes). a.line_just) is) (known_line just sign.defaults.line k sound.line)) (along_page _ (ap (λ (a : Attributes). a.page_just) is) page) below,
+        (along_line _ (ap (λ (a : Attributes). a.line_just) is) (line_known just sign.defaults.line sound.line)) (along_page _ (ap (λ (a : Attributes). a.page_just) is) page) below,
   )
-  judged-simple (PageJust just) s k is = (
+  judged-simple (PageJust just) s is = (
     refl,
     state-attribute sign items state attributes (Does (PageJust just)) st refl refl refl is st.font
-        (along_line _ (ap (λ (a : Attributes). a.line_just) is) line) (along_page _ (ap (λ (a : Attributes). a.page_just) is) (known_page just sign.defaults.page k sound.page)) below,
+        (along_line _ (ap (λ (a : Attributes). a.line_just) is) line) (along_page _ (ap (λ (a : Attributes). a.page_just) is) (page_known just sign.defaults.page sound.page)) below,
   )
-  judged-simple (Back colour) s k is = (
+  judged-simple (Back colour) s is = (
     refl,
     state-cover sign items state attributes colour st is
         (along_line _ (ap (λ (a : Attributes). a.line_just) is) line) (along_page _ (ap (λ (a : Attributes). a.page_just) is) page) below,
   )
-  judged-simple tag s k is = (
+  judged-simple tag s is = (
     refl,
     state-attribute sign items state attributes (Does tag) st refl refl refl is st.font
         (along_line _ (ap (λ (a : Attributes). a.line_just) is) line) (along_page _ (ap (λ (a : Attributes). a.page_just) is) page) below,

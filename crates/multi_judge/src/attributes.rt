@@ -10,7 +10,7 @@ ghost use Rattle.multi_meaning.specs.Meaning.{Does};
 use crate::line::Character;
 use crate::terms::Terms;
 use multi_meaning::{FlashTimes, Rectangle};
-use multi_tag::Tag;
+use multi_tag::{LineJust, PageJust, Tag};
 use sign_font::{Defaults, FontInfo};
 
 /// The values in force behind the items so far (NTCIP 1203 v03, MULTI).
@@ -76,8 +76,8 @@ impl Attributes {
         ensures rectangle { self.new.rectangle ≡ self.old.rectangle }
     {
         match tag {
-            Tag::LineJust(just) => self.line_just = just.unwrap_or(defaults.line),
-            Tag::PageJust(just) => self.page_just = just.unwrap_or(defaults.page),
+            Tag::LineJust(just) => self.line_just = just.map_or(defaults.line, LineJust::number),
+            Tag::PageJust(just) => self.page_just = just.map_or(defaults.page, PageJust::number),
             Tag::CharSpacing(pixels) => self.spacing = Some(pixels),
             Tag::CharSpacingEnd => self.spacing = None,
             Tag::PageTime { on, off } => {

@@ -10,11 +10,11 @@ ghost use Rattle.multi_meaning.specs.Address.{Spot};
 ghost use Rattle.multi_meaning.specs.LaidItems.{laid_items};
 ghost use Rattle.multi_meaning.specs.Meaning.{Does, Meaning, Shows};
 ghost use Rattle.multi_meaning.specs.Offence.{clashes};
-ghost use Rattle.multi_meaning.specs.kept.Present.{IsKnown, present_area};
+ghost use Rattle.multi_meaning.specs.kept.Present.{present_area};
 ghost use Rattle.multi_judge.specs.Passed.{PassesCharacter, PutsFilled};
 ghost use Rattle.multi_judge.specs.FilledState.{IsFilledOf, IsFilledReady, begins_line};
 ghost use Rattle.multi_judge.specs.FillSums.{order_sum};
-ghost use Rattle.multi_judge.specs.KnownItem.{IsKnownItem, meant_by};
+ghost use Rattle.multi_judge.specs.KnownItem.{meant_by};
 ghost use Rattle.multi_judge.specs.Run.{Fits};
 ghost use Rattle.multi_judge.specs.PassState.{IsPassBehind, IsPassReady, JudgesCell, JudgesItem};
 ghost use Rattle.multi_judge.specs.State.{IsStateOf};
@@ -107,7 +107,6 @@ impl Pass {
         item: KnownItem,
     ) -> Result<(), SyntaxError>
         requires ready { IsPassReady WORDS self.old }
-        requires known { IsKnownItem item }
         ensures judged { JudgesItem WORDS sign.now self.old (meant_by item) result self.new }
         ensures steps { RisesBetween source.old source.new 0 8 }
     {
@@ -181,7 +180,6 @@ impl Pass {
         tag: Tag,
     ) -> Result<(), SyntaxError>
         requires ready { IsPassReady WORDS self.old }
-        requires known { IsKnown tag }
         ensures judged { JudgesItem WORDS sign.now self.old (Does tag) result self.new }
         ensures steps { RisesBetween source.old source.new 0 1 }
     {

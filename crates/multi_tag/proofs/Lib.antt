@@ -1,5 +1,4 @@
 mod Examples
-mod JustExamples
 pub mod AheadLemmas
 pub mod BodyLemmas
 pub mod ClosedLemmas
@@ -7,6 +6,7 @@ pub mod ClosedTagLemmas
 pub mod CutLemmas
 pub mod FontLemmas
 pub mod FormLemmas
+pub mod JustLemmas
 pub mod LongLemmas
 pub mod NameLemmas
 pub mod NumberLemmas
