@@ -1,4 +1,5 @@
 mod Examples
+mod JustExamples
 pub mod AheadLemmas
 pub mod BodyLemmas
 pub mod ClosedLemmas
