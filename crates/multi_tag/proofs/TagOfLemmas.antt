@@ -1,18 +1,14 @@
 -- The table as a function gives what the table spells.
-use Rattle.std.proofs.Common.{◌≡◌, ℕ, ◌≤◌, List, Option, Some, None, Result, Ok, Err, length, drop, refl, sym, ap, subst, ◌∙◌, inl, inr}
+use Rattle.std.proofs.Common.{◌≡◌, ℕ, List, Option, Some, None, Result, Ok, Err, length, drop, refl, sym, ap, ◌∙◌}
 use Rattle.std.specs.Prelude.{◌↔◌, IfOk, ok_or}
 use Rattle.std.specs.Str.{str_to_ascii_lowercase}
 use Rattle.std.proofs.lemmas.Option.{none-some}
 use Rattle.multi_tag.specs.declared.name.Name.{Name}
-use Rattle.multi_tag.specs.declared.name.Name.TheVariants as names
 use Rattle.multi_tag.specs.declared.tag.Tag.{Tag}
-use Rattle.multi_tag.specs.declared.tag.Tag.TheVariants.{NewPage, NewLine, LineJust, PageJust, Font, CharSpacing, CharSpacingEnd, PageTime, Flash, FlashEnd, Fore, Back, Rect, HexChar}
 use Rattle.multi_tag.specs.declared.tag.TagFault.{TagFault}
 use Rattle.multi_tag.specs.declared.tag.TagFault.TheVariants.{Unsupported, Value}
-use Rattle.multi_tag.specs.Form.{d?}
 use Rattle.multi_tag.specs.Body.{table, Spells, SpellsSmall, HasName, HasNameAtFront, SpellsNoTag}
 use Rattle.multi_tag.specs.TagOf.{read_rest, listed, name_at_front, tag_behind, tag_of, TagOfIsTheTable}
-use Rattle.multi_tag.proofs.FormLemmas.{d?_d}
 use Rattle.multi_tag.proofs.TagRowLemmas.{rest_read, named, behind, begun, found}
 
 -- a tag is given where a name and a rest spell it
