@@ -38,7 +38,7 @@ use Rattle.multi_judge.specs.KnownItem.{meant_by}
 use Rattle.multi_layout.specs.kept.AreaDrawing.{BeginsNoArea, HasCounted, HasKnown, IsAreaRead, IsLow, first_steps, next_group, whole_area}
 use Rattle.multi_judge.specs.PassState.{IsPassOf, fill_of}
 use Rattle.multi_judge.specs.State.{IsStateOf}
-use Rattle.multi_judge.specs.Table.{IsOrdered, group_lines, table_of}
+use Rattle.multi_judge.specs.Table.{group_lines, table_of}
 use Rattle.multi_layout.specs.kept.Cursors.{IsBetween, IsFirst, IsItemRead, IsPlaced, items_of, laid_meanings, meant, LaidItem, spell_of}
 use Rattle.multi_layout.specs.kept.Settings.{IsMet, IsNextAt, item_steps}
 use Rattle.multi_layout.proofs.AreaReadLemmas.{next_fine, present_placing, read_state}
@@ -130,8 +130,8 @@ module _ (words : Bool) {sign : SignData} (kind : sign.line_fill ≡ fill_of wor
 
   pub nothing_read : (kept : Pass) → kept.state ≡ cursor.state
       → ((sign : SignData) (items : List Meaning) → IsStateOf sign (laid_items Words sign items items) cursor.state → present_area sign items ≡ [] → IsFilledOf sign items kept)
-      → (lines : LineTable) → ((just : ℕ) → group_lines just lines ≡ []) → IsOrdered lines → SoFar words sign octets before behind cursor.at kept lines
-  nothing_read kept same made lines empty ordered =
+      → (lines : LineTable) → ((just : ℕ) → group_lines just lines ≡ []) → SoFar words sign octets before behind cursor.at kept lines
+  nothing_read kept same made lines empty =
       let fine = left_nil (offences sign (items_of before)) _ (sym (some_after-append (fault_at sign) (items_of before) (items_of behind)) ∙ b.placed.accepted.none) in
       let all : before ++ [] ≡ before = append-nil before in
       record {
@@ -149,7 +149,6 @@ module _ (words : Bool) {sign : SignData} (kind : sign.line_fill ≡ fill_of wor
           };
           of = made_of kept same (made sign ms) fine words kind state;
           known = subst (λ a. HasKnown kept.state.area.present a lines) (sym no_laid) (λ just least most. empty just ∙ ap table_of (sym (known_none kept.state.area.present just [] refl)));
-          ordered = ordered;
           low = λ just least most. subst (All (λ l. l.bottom ≤ 2 ^ 43)) (sym (empty just)) (All-nil (λ l. l.bottom ≤ 2 ^ 43));
         });
       }
@@ -298,9 +297,9 @@ module _ {words : Bool} {sign : SignData} {octets : List ℕ} {before behind : L
 
   -- the end of the area
   pub area_read : sign.line_fill ≡ fill_of words → (start : Cursor) (begun : Begun) (read : AreaLines) (source source' : Counted) (taken : ℕ) → start.at ≡ length (spell_of before) → EndsArea (map meaning (items_of so.left))
-      → HasCounted (present_area sign (laid_items (fill_of words) sign (map meaning (items_of done)) (map meaning (items_of done)))) read.lines → IsOrdered read.lines → IsLow read.lines → read.end ≡ at → IsFirst (items_of so.left) read.next
+      → HasCounted (present_area sign (laid_items (fill_of words) sign (map meaning (items_of done)) (map meaning (items_of done)))) read.lines → IsLow read.lines → read.end ≡ at → IsFirst (items_of so.left) read.next
       → RisesBetween source source' 0 taken → taken + 1 + item_steps begun.item ≤ 9 * (at - start.at) + first_steps (items_of so.left) → IsAreaRead sign before behind start begun read source source'
-  area_read kind start begun read source source' taken place ends counted ordered low end first steps few =
+  area_read kind start begun read source source' taken place ends counted low end first steps few =
       let ms = map meaning (items_of done) in
       let rest = map meaning (items_of so.left) in
       let octets_of : length (spell_of done) ≡ length (spell_of before) + length (spell_of so.pieces) = ap length (spell_of-append before so.pieces) ∙ length-append (spell_of before) (spell_of so.pieces) in
@@ -320,7 +319,6 @@ module _ {words : Bool} {sign : SignData} {octets : List ℕ} {before behind : L
         end = end ∙ long;
         next = first;
         table = subst (λ a. HasCounted a read.lines) (sym whole) (counted_among words sign ms rest ends read.lines counted);
-        ordered = ordered;
         low = low;
         taken = taken;
         steps = steps;

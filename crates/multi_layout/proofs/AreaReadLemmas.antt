@@ -35,7 +35,6 @@ use Rattle.multi_judge.specs.PassState.{IsPassOf, IsPassReady, fill_of}
 use Rattle.multi_judge.specs.Run.{kept_height}
 use Rattle.multi_judge.specs.State.{IsStateOf}
 use Rattle.multi_judge.specs.Sums.{IsBelow, area_sum}
-use Rattle.multi_judge.specs.Table.{IsOrdered}
 use Rattle.multi_judge.proofs.AreaSumLemmas.{group_of_own}
 use Rattle.multi_judge.proofs.BoundLemmas.{below_more}
 use Rattle.multi_judge.proofs.FilledKeptLemmas.{goes_on}
@@ -117,15 +116,14 @@ module _ {words : Bool} {sign : SignData} (sound : IsSound sign) {items : List I
 -- the group before the item is left, if the item belongs to a later one
 pub group_left : {words : Bool} {sign : SignData} {items : List Item} {kept : Pass} {lines : LineTable} → IsReadOf words sign items kept.state.area.present kept lines → (x : Meaning) (lines' : LineTable)
     → ((spots : List Spot) → All IsPlacing spots → kept.state.area ≡ area_sum spots → HasKnown kept.state.area.present spots lines → HasKnown (next_group kept.state x) spots lines')
-    → IsOrdered lines' → (IsLow lines → IsLow lines') → IsReadOf words sign items (next_group kept.state x) kept lines'
-group_left {words} {sign} {items} {kept} {lines} r x lines' known ordered low =
+    → (IsLow lines → IsLow lines') → IsReadOf words sign items (next_group kept.state x) kept lines'
+group_left {words} {sign} {items} {kept} {lines} r x lines' known low =
     let ms = map meaning items in
     let laid = laid_items (fill_of words) sign ms ms in
     record {
       fine = r.fine;
       of = r.of;
       known = known (present_area sign laid) (present_placing sign laid) (state_of words sign kept ms r.of).area r.known;
-      ordered = ordered;
       low = low r.low;
     }
 

@@ -1,5 +1,5 @@
 -- The first reading of an area, behind one more character or tag.
-use Rattle.std.proofs.Common.{◌≡◌, ℕ, Bool, ◌<◌, ◌≤◌, true, false, cond, List, [], ◌∷◌, ◌++◌, length, map, Option, None, Some, refl, sym, ap, subst, ◌∙◌, arith}
+use Rattle.std.proofs.Common.{◌≡◌, ℕ, Bool, ◌<◌, ◌≤◌, true, false, cond, List, [], ◌∷◌, ◌++◌, map, Option, None, Some, refl, sym, ap, subst, ◌∙◌, arith}
 use Rattle.multi_token.specs.Spelling.{Item}
 use Rattle.multi_tag.specs.declared.tag.Tag.{Tag}
 use Rattle.sign_font.specs.Sign.{SignData}
@@ -27,7 +27,7 @@ use Rattle.multi_layout.specs.kept.AreaDrawing.{HasKnown, HasRoom, IsLow, next_g
 use Rattle.multi_judge.specs.PassState.{IsPassOf, fill_of}
 use Rattle.multi_judge.specs.State.{IsStateOf}
 use Rattle.multi_judge.specs.Sums.{area_sum, group_sum, line_sum}
-use Rattle.multi_judge.specs.Table.{IsOrdered, group_lines, line_entry}
+use Rattle.multi_judge.specs.Table.{group_lines, line_count, line_entry}
 use Rattle.multi_judge.proofs.AreaSumLemmas.{group_of_own}
 use Rattle.multi_layout.proofs.FilledTableLemmas.{entry_ended, known_pushed, known_unchanged, pushed_room}
 use Rattle.multi_layout.proofs.KnownLinesLemmas.{Pushed, behind_empty, pushed_low}
@@ -60,18 +60,17 @@ module _ {words : Bool} {sign : SignData} (sound : IsSound sign) {items : List I
   of_more = subst (IsPassOf words sign new) (sym (items_with next)) b.of
 
   -- a table with the lines that are known then
-  known_more : (lines' : LineTable) → HasKnown page area_more lines' → IsOrdered lines' → IsLow lines' → IsReadOf words sign (items ++ item ∷ []) new.state.area.present new lines'
-  known_more lines' known ordered low = record {
+  known_more : (lines' : LineTable) → HasKnown page area_more lines' → IsLow lines' → IsReadOf words sign (items ++ item ∷ []) new.state.area.present new lines'
+  known_more lines' known low = record {
     fine = next.fine;
     of = of_more;
     known = subst (λ l. HasKnown new.state.area.present (laid_area words sign l) lines') (sym (items_with next)) (subst (λ n. HasKnown n area_more lines') (sym b.present) known);
-    ordered = ordered;
     low = low;
   }
 
   -- it ends no line
   pub step_stays : ended ≡ None → IsReadOf words sign (items ++ item ∷ []) new.state.area.present new lines
-  step_stays none = known_more lines (known_unchanged page area area_more b.others (subst (EndsLine (in_group page area) (in_group page area_more)) none b.own) lines r.known) r.ordered r.low
+  step_stays none = known_more lines (known_unchanged page area area_more b.others (subst (EndsLine (in_group page area) (in_group page area_more)) none b.own) lines r.known) r.low
 
   -- it ends one of the group in force
   module _ (at : page ≡ old.state.attributes.page_just) (line : Line) (is : ended ≡ Some line) where
@@ -98,9 +97,9 @@ module _ {words : Bool} {sign : SignData} (sound : IsSound sign) {items : List I
     step_last just later high = behind_empty area lines page (omega (arith, ap (λ (a : Area). a.present) old_state.area, b.order)) low_page r.known just (omega (arith, b.present, later)) high
 
     -- there is room for its line
-    pub step_room : length lines.lines.items < 128
+    pub step_room : line_count lines < 128
     step_room =
-        pushed_room page area area_more b.others (characters ++ own_line.1 ∷ []) lines low_page high_page own_line.5 r.ordered r.known
+        pushed_room page area area_more b.others (characters ++ own_line.1 ∷ []) lines low_page high_page own_line.5 r.known
         (subst (λ l. HasRoom (laid_area words sign l)) (items_with next) (room_of sign sound (items ++ item ∷ []) next.fine.none words new of_more))
 
     pub step_narrow : (spots : List Spot) × (line ≡ line_sum spots) × IsNarrow spots
@@ -111,15 +110,15 @@ module _ {words : Bool} {sign : SignData} (sound : IsSound sign) {items : List I
 
     -- it is put into the table
     pub step_ended : (entry : CountedLine) (lines' : LineTable) → ((spots : List Spot) → line ≡ line_sum spots → entry ≡ line_entry spots new.state.area.group.closed) → entry.bottom ≡ new.state.area.group.closed
-        → Pushed new.state.area.present entry lines lines' → IsOrdered lines' → IsReadOf words sign (items ++ item ∷ []) new.state.area.present new lines'
-    step_ended entry lines' made bottom pushed ordered =
+        → Pushed new.state.area.present entry lines lines' → IsReadOf words sign (items ++ item ∷ []) new.state.area.present new lines'
+    step_ended entry lines' made bottom pushed =
         let group = group_of_own area_more new.state.area new_state.area page (sym b.present) in
         let height : new.state.area.group.closed ≡ height_of (ended_lines (in_group page area_more)) = ap (λ (g : Group). g.closed) group in
         known_more lines'
         (known_pushed page area area_more b.others (characters ++ own_line.1 ∷ []) entry lines lines' low_page high_page own_line.5
         (made characters own_line.2 ∙ ap (line_entry characters) height ∙ sym (entry_ended characters own_line.1 (height_of (ended_lines (in_group page area_more))) own_line.4))
         (subst (λ n. Pushed n entry lines lines') b.present pushed) r.known)
-        ordered (pushed_low new.state.area.present entry lines lines' pushed (omega (arith, bottom, step_closed)) r.low)
+        (pushed_low new.state.area.present entry lines lines' pushed (omega (arith, bottom, step_closed)) r.low)
 
 -- A TAG
 

@@ -11,7 +11,7 @@ use Rattle.multi_meaning.proofs.GroupLemmas.{break_put}
 use Rattle.multi_judge.specs.declared.table.CountedLine.{CountedLine}
 use Rattle.multi_judge.specs.declared.table.LineTable.{LineTable}
 use Rattle.multi_layout.specs.kept.AreaDrawing.{HasKnown, HasRoom, known_lines}
-use Rattle.multi_judge.specs.Table.{IsOrdered, group_lines, line_entry, table_of}
+use Rattle.multi_judge.specs.Table.{group_lines, line_count, line_entry, table_of}
 use Rattle.multi_layout.proofs.KnownLinesLemmas.{Pushed, known_most, less_total, table_count}
 use Rattle.multi_judge.proofs.PlaceLemmas.{ended_most}
 use Rattle.multi_judge.proofs.TableLemmas.{table_push}
@@ -66,9 +66,9 @@ module _ (just : ℕ) (old new : List Spot) (others : (j : ℕ) → (j ≡ just 
           ∙ ap table_of (sym more ∙ sym (own_known new))
 
   -- and there is room for it
-  pub pushed_room : (line : List Spot) (table : LineTable) → 2 ≤ just → just ≤ 4 → ended_lines (in_group just new) ≡ ended_lines (in_group just old) ++ line ∷ [] → IsOrdered table → HasKnown just old table
-      → HasRoom new → length table.lines.items < 128
-  pushed_room line table low high more ordered has room =
+  pub pushed_room : (line : List Spot) (table : LineTable) → 2 ≤ just → just ≤ 4 → ended_lines (in_group just new) ≡ ended_lines (in_group just old) ++ line ∷ [] → HasKnown just old table
+      → HasRoom new → line_count table < 128
+  pushed_room line table low high more has room =
       let f = λ (j : ℕ). length (known_lines just j old) in
       let g = λ (j : ℕ). length (lines_of (in_group j new)) in
       let less : f just < g just = omega (arith, ap length (own_known old), ap length more, length_push (ended_lines (in_group just old)) line, ended_most (in_group just new)) in
@@ -76,4 +76,4 @@ module _ (just : ℕ) (old new : List Spot) (others : (j : ℕ) → (j ≡ just 
         | inl own ↦ subst (λ n. f n ≤ g n) (sym own) (omega (arith, less))
         | inr differ ↦ omega (arith, known_most just j old, ap (λ l. length (lines_of l)) (others j differ))
       ] in
-      omega (arith, room, table_count old table just ordered has, less_total f g just low high (each 2) (each 3) (each 4) less)
+      omega (arith, room, table_count old table just has, less_total f g just low high (each 2) (each 3) (each 4) less)

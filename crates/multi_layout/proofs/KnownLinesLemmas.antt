@@ -16,10 +16,10 @@ use Rattle.multi_judge.specs.declared.table.CountedLine.{CountedLine}
 use Rattle.multi_judge.specs.declared.table.LineTable.{LineTable}
 use Rattle.multi_layout.specs.kept.AreaDrawing.{HasCounted, HasKnown, HasRoom, IsLow, known_lines}
 use Rattle.multi_judge.specs.Sums.{area_sum, group_sum}
-use Rattle.multi_judge.specs.Table.{IsOrdered, group_lines, table_of}
+use Rattle.multi_judge.specs.Table.{group_lines, line_count, table_of}
 use Rattle.multi_judge.proofs.AreaSumLemmas.{group_behind, group_of_own}
 use Rattle.multi_judge.proofs.PlaceLemmas.{ended_most}
-use Rattle.multi_judge.proofs.SplitLemmas.{all_groups, each_group}
+use Rattle.multi_judge.proofs.SplitLemmas.{each_group}
 use Rattle.multi_judge.proofs.TableLemmas.{lines_closed, lines_open, open_entry, table_length, table_open}
 
 -- ONE MORE LINE
@@ -87,10 +87,10 @@ module _ (area : List Spot) (table : LineTable) where
   behind_empty present on some has just behind high = has just (omega arith) high ∙ ap table_of (known_none present just area (group_behind just area (omega arith)))
 
   -- how many the table has
-  pub table_count : (present : ℕ) → IsOrdered table → HasKnown present area table → length table.lines.items ≡ length (known_lines present 2 area) + length (known_lines present 3 area) + length (known_lines present 4 area)
-  table_count present ordered has =
+  pub table_count : (present : ℕ) → HasKnown present area table → line_count table ≡ length (known_lines present 2 area) + length (known_lines present 3 area) + length (known_lines present 4 area)
+  table_count present has =
       let count = λ (just : ℕ) (low : 2 ≤ just) (high : just ≤ 4). ap length (has just low high) ∙ table_length (known_lines present just area) in
-      omega (arith, all_groups table ordered, count 2 (omega arith) (omega arith), count 3 (omega arith) (omega arith), count 4 (omega arith) (omega arith))
+      omega (arith, count 2 (omega arith) (omega arith), count 3 (omega arith) (omega arith), count 4 (omega arith) (omega arith))
 
 -- a sum over the groups is less where one group's is
 pub less_total : (f g : ℕ → ℕ) (p : ℕ) → 2 ≤ p → p ≤ 4 → f 2 ≤ g 2 → f 3 ≤ g 3 → f 4 ≤ g 4 → f p < g p → f 2 + f 3 + f 4 < g 2 + g 3 + g 4
@@ -142,11 +142,11 @@ module _ (area : List Spot) (a : Area) (e : a ≡ area_sum area) where
     ]
 
     -- there is room for it
-    pub last_room : IsOrdered old → HasRoom area → length old.lines.items < 128
-    last_room ordered room =
+    pub last_room : HasRoom area → line_count old < 128
+    last_room room =
         let f = λ (just : ℕ). length (known_lines a.present just area) in
         let g = λ (just : ℕ). length (lines_of (in_group just area)) in
         let spots = in_group a.present area in
         let less : f a.present < g a.present =
         omega (arith, ap length (known_from a.present a.present area (omega arith)), ap length (lines_open spots (any_is true some)), length_push (ended_lines spots) (after_last is_break spots)) in
-        omega (arith, room, table_count area old a.present ordered has, less_total f g a.present low high (known_most a.present 2 area) (known_most a.present 3 area) (known_most a.present 4 area) less)
+        omega (arith, room, table_count area old a.present has, less_total f g a.present low high (known_most a.present 2 area) (known_most a.present 3 area) (known_most a.present 4 area) less)

@@ -13,7 +13,6 @@ ghost use Rattle.multi_layout.specs.kept.PageDrawing.{IsFilledFew, IsPagePassed,
 ghost use Rattle.multi_layout.specs.kept.AreaDrawing.{DrawsOn, HasCounted, IsFilledBy, OverArea, IsLow, BeginsNoArea, IsQuiet, whole_area};
 ghost use Rattle.multi_layout.specs.kept.RunDrawing.{AreaSoFar, IsItemHere, IsNextDrawn, IsReadBehind, PlacesNext, octets_read};
 ghost use Rattle.multi_layout.specs.Limits.{plane_octets};
-ghost use Rattle.multi_judge.specs.Table.{IsOrdered};
 ghost use Rattle.multi_layout.specs.kept.Cursors.{GoesBehind, IsBetween, IsItemRead, IsRead, meant, LaidItem, spell_of};
 
 use crate::cursor::{Cursor, Met, meet};
@@ -76,7 +75,6 @@ fn draw_area(
         × BeginsNoArea area × (read.now.end ≡ cursor.old.at + length (spell_of area))
         × HasCounted (whole_area sign.now before (area ++ rest)) read.now.lines }
     requires low { IsLow read.now.lines }
-    requires ordered { IsOrdered read.now.lines }
     requires size { IsSized plane.old sign.now }
     ensures passed { OverArea sign.now source.old.octets cursor.old read.now
         (λ before area rest. IsBetween sign.now source.old.octets (before ++ area) rest cursor.new) }
@@ -106,7 +104,6 @@ fn draw_area(
 
 /// The next item as it is laid out: a space that is dropped is the end of its line.
 fn lay(sign: &Terms<'_>, cursor: &Cursor, lines: &LineTable, next: NextItem) -> NextItem
-    requires ordered { IsOrdered lines.now }
     requires stands { (octets : List ℕ) × (before rest : List LaidItem) × (item : LaidItem)
         × IsBetween sign.now octets before (item ∷ rest) cursor.now }
     ensures read { (octets : List ℕ) (before rest : List LaidItem) (item : LaidItem)
@@ -123,7 +120,6 @@ fn lay(sign: &Terms<'_>, cursor: &Cursor, lines: &LineTable, next: NextItem) -> 
 /// The same where lines are filled.
 fn lay_filled(sign: &Terms<'_>, cursor: &Cursor, lines: &LineTable, next: NextItem) -> NextItem
     requires sound { IsSound sign.now }
-    requires ordered { IsOrdered lines.now }
     requires line_just { (2 ≤ cursor.now.state.attributes.line_just) × (cursor.now.state.attributes.line_just ≤ 5) }
     requires page_just { (2 ≤ cursor.now.state.attributes.page_just) × (cursor.now.state.attributes.page_just ≤ 4) }
     requires below { IsBelow (2 ^ 43) cursor.now.state.area }
@@ -176,7 +172,6 @@ fn draw_next(
     requires known { (before area rest : List LaidItem) × (item : LaidItem) × IsNextDrawn sign.now source.old.octets before area rest item
         next read.now cursor.old }
     requires low { IsLow read.now.lines }
-    requires ordered { IsOrdered read.now.lines }
     requires size { IsSized plane.old sign.now }
     ensures so_far { (before area rest : List LaidItem) (item : LaidItem)
         → IsNextDrawn sign.now source.old.octets before area rest item next read.now cursor.old
@@ -203,7 +198,6 @@ fn draw_item(
     requires known { (before rest : List LaidItem) × (item : LaidItem)
         × IsItemHere sign.now source.old.octets before rest item next lines.now cursor.old }
     requires low { IsLow lines.now }
-    requires ordered { IsOrdered lines.now }
     requires size { IsSized plane.old sign.now }
     ensures passed { GoesBehind sign.now source.old.octets next cursor.old cursor.new }
     ensures drawn { (before rest : List LaidItem) (item : LaidItem)

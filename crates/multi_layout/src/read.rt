@@ -17,7 +17,7 @@ ghost use Rattle.multi_judge.specs.Run.{IsBehindCharacter};
 ghost use Rattle.multi_layout.specs.kept.AreaDrawing.{HasKnown, HasRoom, IsAreaRead, IsLow, next_group};
 ghost use Rattle.multi_judge.specs.State.{IsLimited, IsReady};
 ghost use Rattle.multi_judge.specs.Sums.{IsBelow, area_sum};
-ghost use Rattle.multi_judge.specs.Table.{IsOrdered, group_lines};
+ghost use Rattle.multi_judge.specs.Table.{group_lines};
 ghost use Rattle.multi_layout.specs.kept.Cursors.{IsBetween, meant, LaidItem};
 ghost use Rattle.multi_layout.specs.kept.Settings.{IsBegun};
 
@@ -86,7 +86,6 @@ fn read_lines<const WORDS: bool>(
     requires kind { sign.now.line_fill ≡ fill_of WORDS }
     requires begun { IsBegun sign.now source.old.octets cursor.now.at begun }
     requires none { (just : ℕ) → group_lines just read.old.lines ≡ [] }
-    requires ordered { IsOrdered read.old.lines }
     requires begins { (before behind : List LaidItem) × IsBetween sign.now source.old.octets before behind cursor.now
         × (present_area sign.now (map meant before) ≡ []) }
     ensures read { (before behind : List LaidItem) → IsBetween sign.now source.old.octets before behind cursor.now
@@ -234,7 +233,6 @@ fn pass_tag<const WORDS: bool>(
 /// Puts the last line of the present group into the table, if the item belongs to a later group.
 fn leave_group(lines: &mut LineTable, item: KnownItem, state: &State)
     requires below { IsBelow (2 ^ 42) state.now.area }
-    requires ordered { IsOrdered lines.old }
     requires known { (spots : List Spot) × All IsPlacing spots × (state.now.area ≡ area_sum spots)
         × HasKnown state.now.area.present spots lines.old
         × HasRoom spots × IsNarrowArea spots }
@@ -242,7 +240,6 @@ fn leave_group(lines: &mut LineTable, item: KnownItem, state: &State)
     ensures known { (spots : List Spot) → All IsPlacing spots → state.now.area ≡ area_sum spots
         → HasKnown state.now.area.present spots lines.old
         → HasKnown (next_group state.now (meant_by item)) spots lines.new }
-    ensures ordered { IsOrdered lines.new }
     ensures low { IsLow lines.old → IsLow lines.new }
 {
     if item.has_place() && state.area.present < state.attributes.page_just {
@@ -253,12 +250,10 @@ fn leave_group(lines: &mut LineTable, item: KnownItem, state: &State)
 /// Puts the last line of the present group into the table, if it has characters.
 fn end_group(lines: &mut LineTable, area: &Area)
     requires below { IsBelow (2 ^ 42) area.now }
-    requires ordered { IsOrdered lines.old }
     requires known { (spots : List Spot) × All IsPlacing spots × (area.now ≡ area_sum spots) × HasKnown area.now.present spots lines.old
         × HasRoom spots × IsNarrowArea spots }
     ensures known { (present : ℕ) (spots : List Spot) → area.now.present < present → All IsPlacing spots → area.now ≡ area_sum spots
         → HasKnown area.now.present spots lines.old → HasKnown present spots lines.new }
-    ensures ordered { IsOrdered lines.new }
     ensures low { IsLow lines.old → IsLow lines.new }
 {
     let group = &area.group;
@@ -270,12 +265,10 @@ fn end_group(lines: &mut LineTable, area: &Area)
 /// Ends the table of an area with its last line, if it has characters, at this offset, where this item stands, if the string goes on.
 fn end_area(read: &mut AreaLines, area: &Area, at: usize, next: Option<NextItem>)
     requires below { IsBelow (2 ^ 42) area.now }
-    requires ordered { IsOrdered read.old.lines }
     requires known { (spots : List Spot) × All IsPlacing spots × (area.now ≡ area_sum spots)
         × HasKnown area.now.present spots read.old.lines × HasRoom spots × IsNarrowArea spots }
     ensures known { (present : ℕ) (spots : List Spot) → area.now.present < present → All IsPlacing spots → area.now ≡ area_sum spots
         → HasKnown area.now.present spots read.old.lines → HasKnown present spots read.new.lines }
-    ensures ordered { IsOrdered read.new.lines }
     ensures low { IsLow read.old.lines → IsLow read.new.lines }
     ensures end { (read.new.end ≡ at) × (read.new.next ≡ next) }
 {

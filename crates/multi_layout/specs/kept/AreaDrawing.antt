@@ -20,7 +20,7 @@ use Rattle.multi_judge.specs.declared.table.LineTable.{LineTable}
 use Rattle.multi_layout.specs.Limits.{plane_octets}
 use Rattle.multi_layout.specs.kept.Cursors.{IsBetween, IsFirst, items_of, meant, LaidItem, spell_of}
 use Rattle.multi_layout.specs.kept.Settings.{item_steps}
-use Rattle.multi_judge.specs.Table.{IsOrdered, group_lines, table_of}
+use Rattle.multi_judge.specs.Table.{group_lines, table_of}
 
 -- the page justification of the group to which the next item belongs, if it has a place, or else that of the present group (own)
 abbrev pub next_group : State → Meaning → ℕ
@@ -76,7 +76,6 @@ pub record IsAreaRead (sign : SignData) (before behind : List LaidItem) (cursor 
   pub end : read.end ≡ cursor.at + length (spell_of area)
   pub next : IsFirst (items_of rest) read.next
   pub table : HasCounted (whole_area sign before behind) read.lines
-  pub ordered : IsOrdered read.lines
   pub low : IsLow read.lines
   pub taken : ℕ
   pub steps : RisesBetween source source' 0 taken

@@ -13,7 +13,6 @@ use Rattle.multi_judge.specs.Passed.{laid_area}
 use Rattle.multi_layout.specs.kept.AreaDrawing.{HasKnown, IsLow}
 use Rattle.multi_judge.specs.PassState.{IsPassOf}
 use Rattle.multi_judge.specs.Run.{IsBehindCharacter, IsRunPassed}
-use Rattle.multi_judge.specs.Table.{IsOrdered}
 
 -- some items of which none offends, and which a string can have (own)
 pub record AreFine (sign : SignData) (items : List Item) : Type 0 where
@@ -26,7 +25,6 @@ pub record IsReadOf (words : Bool) (sign : SignData) (items : List Item) (presen
   pub fine : AreFine sign items
   pub of : IsPassOf words sign kept (map meaning items)
   pub known : HasKnown present (laid_area words sign (map meaning items)) lines
-  pub ordered : IsOrdered lines
   pub low : IsLow lines
 
 -- this is read of one more item, and none offends with it (own)

@@ -66,13 +66,13 @@ loop-cursor-preserved-in-Setting c =
       fills = filled_longer c.args.sign.now c.args.plane.now c.loop-cursor.plane gone _ (omega (arith, i.on)) i.fills;
     }
 
-pub lay-next-requires-clause-stands : goal.lay-next-requires-clause-stands
-lay-next-requires-clause-stands c =
+pub lay-next-requires : goal.lay-next-requires
+lay-next-requires c =
     let (before, area, rest, b, plain, ends, counted) = c.requires.known in
     let s = drawn_there (c.loop-cursor.invariant.so_far before area rest b plain ends counted) c.meet.new.state c.in-Item.ensures.met.0 in
     let end : c.args.read.now.end ≡ length (spell_of before) + length (spell_of area) = omega (arith, ends, b.placed.place) in
     let (item, more, here) = area_here c.args.sign.now c.args.source.now.octets before area rest c.args.read.now.lines c.args.layer c.args.plane.now _ c.loop-cursor.plane s c.args.read.now.end end c.loop-cursor-test.true in
-    (c.args.source.now.octets, before ++ s.done, more ++ rest, item, here)
+    record { stands = (c.args.source.now.octets, before ++ s.done, more ++ rest, item, here) }
 
 pub draw_next-first-requires-clause-known : goal.draw_next-first-requires-clause-known
 draw_next-first-requires-clause-known c =

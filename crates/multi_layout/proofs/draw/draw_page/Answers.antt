@@ -56,7 +56,7 @@ draw_area-requires c =
     let s = behind_settings (i.so_far before behind b) (same_octets i.steps.3) c.pass_settings-begun.new.self c.pass_settings-begun.ensures.passed in
     let same = same_octets c.pass_settings-begun.ensures.steps.3 ∙ same_octets i.steps.3 in
     let read = area_here s same c.read_area.ensures.read in
-    record { known = area_known s same c.read_area.ensures.read; low = read.low; ordered = read.ordered; size = search rules }
+    record { known = area_known s same c.read_area.ensures.read; low = read.low; size = search rules }
 
 pub returns-in_default : goal.returns-in_default
 returns-in_default c =

@@ -25,7 +25,7 @@ of-requires-clause-low c =
 pub push-requires-clause-room : goal.push-requires-clause-room
 push-requires-clause-room c =
     let (spots, placing, sum, known, room, narrow) = c.requires.known in
-    last_room spots c.args.area.now sum c.if-group.true (c.requires.below.some c.if-group.true) c.requires.below.known c.args.lines.now known c.requires.ordered room
+    last_room spots c.args.area.now sum c.if-group.true (c.requires.below.some c.if-group.true) c.requires.below.known c.args.lines.now known room
 
 pub push-requires-clause-last : goal.push-requires-clause-last
 push-requires-clause-last c =

@@ -34,12 +34,12 @@ push-requires g c =
     let (b, on) = c.pass_cell.ensures.passed c.args.sign.now (map meaning before) r.of (rw (← c.sign.view_is) (sym c.cell_width.ensures.width ∙ c.in-Some.is)) (next_fine next) in
     let line = c.in-Some-pass_cell.line in
     let is = c.in-Some-pass_cell.is in
-    record { known = step_just c.requires.sound r next b refl line is; room = step_room c.requires.sound r next b refl line is; ordered = r.ordered; last = step_last c.requires.sound r next b refl line is }
+    record { known = step_just c.requires.sound r next b refl line is; room = step_room c.requires.sound r next b refl line is; last = step_last c.requires.sound r next b refl line is }
 
 pub returns-in-Some-pass_cell-clause-known : goal.returns-in-Some-pass_cell-clause-known
 returns-in-Some-pass_cell-clause-known g c = λ before item r next.
     let (b, on) = c.pass_cell.ensures.passed c.args.sign.now (map meaning before) r.of (rw (← c.sign.view_is) (sym c.cell_width.ensures.width ∙ c.in-Some.is)) (next_fine next) in
-    step_ended c.requires.sound r next b refl c.in-Some-pass_cell.line c.in-Some-pass_cell.is c.of.result c.push.new.self c.of.ensures.entry c.of.ensures.bottom c.push.ensures.pushed c.push.ensures.ordered
+    step_ended c.requires.sound r next b refl c.in-Some-pass_cell.line c.in-Some-pass_cell.is c.of.result c.push.new.self c.of.ensures.entry c.of.ensures.bottom c.push.ensures.pushed
 
 pub returns-in_default-pass_cell-clause-known : goal.returns-in_default-pass_cell-clause-known
 returns-in_default-pass_cell-clause-known g c = λ before item r next.

@@ -15,7 +15,7 @@ use Rattle.multi_layout.proofs.read.read_lines.Goals as goal
 pub loop-first-init : goal.loop-first-init
 loop-first-init g c =
     record {
-      so_far = λ before behind b begins. nothing_read (not (g.row.WORDS == 0)) c.requires.kind b begins c.new-kept.result c.new-kept.ensures.state c.new-kept.ensures.filled c.args.read.now.lines c.requires.none c.requires.ordered;
+      so_far = λ before behind b begins. nothing_read (not (g.row.WORDS == 0)) c.requires.kind b begins c.new-kept.result c.new-kept.ensures.state c.new-kept.ensures.filled c.args.read.now.lines c.requires.none;
       forward = omega arith;
       first = c.requires.begun.first;
       item = c.requires.begun.item;
@@ -28,7 +28,7 @@ pub end_area-requires : goal.end_area-requires
 end_area-requires g c =
     let (before, behind, b, begins) = c.requires.begins in
     let so = c.loop-first.invariant.so_far before behind b begins in
-    record { below = read_below c.requires.sound so.read; ordered = so.read.ordered; known = read_lines c.requires.sound so.read }
+    record { below = read_below c.requires.sound so.read; known = read_lines c.requires.sound so.read }
 
 pub returns-in_default : goal.returns-in_default
 returns-in_default g c =
@@ -39,7 +39,7 @@ returns-in_default g c =
           let none = no_more so (sym i.first ∙ c.in_default.is) in
           let (known, last) = none_known so none c.loop-first.item i.item in
           let counted = all_counted so c.requires.sound c.end_area.new.read.lines c.end_area.ensures.known in
-          area_read so c.requires.kind c.args.cursor.now c.args.begun c.end_area.new.read c.args.source.now c.loop-first.source i.taken b.placed.place (none_ends so none) counted c.end_area.ensures.ordered (c.end_area.ensures.low so.read.low)
+          area_read so c.requires.kind c.args.cursor.now c.args.begun c.end_area.new.read c.args.source.now c.loop-first.source i.taken b.placed.place (none_ends so none) counted (c.end_area.ensures.low so.read.low)
           c.end_area.ensures.end.0 (subst (λ n. IsFirst (items_of so.left) n) (sym c.end_area.ensures.end.1) none) i.steps (omega (arith, i.few, known, last));
     }
 
@@ -92,7 +92,7 @@ pub end_area-requires-then-begins_area : goal.end_area-requires-then-begins_area
 end_area-requires-then-begins_area g c =
     let (before, behind, b, begins) = c.requires.begins in
     let so = met_stays (c.loop-first.invariant.so_far before behind b begins) c.meet_known.new.state c.in-Item.ensures.met.0 in
-    record { below = read_below c.requires.sound so.read; ordered = so.read.ordered; known = read_lines c.requires.sound so.read }
+    record { below = read_below c.requires.sound so.read; known = read_lines c.requires.sound so.read }
 
 pub returns-then-begins_area : goal.returns-then-begins_area
 returns-then-begins_area g c =
@@ -106,7 +106,7 @@ returns-then-begins_area g c =
           let (ends, last) = area_ended so' c.in-Item.next first (sym c.begins_area.ensures ∙ c.if-begins_area.true) in
           let counted = all_counted so' c.requires.sound c.end_area-then-begins_area.new.read.lines c.end_area-then-begins_area.ensures.known in
           let steps = rises_then c.args.source.now c.loop-first.source c.meet_known.new.source 0 i.taken 0 _ i.steps c.in-Item.ensures.steps in
-          area_read so' c.requires.kind c.args.cursor.now c.args.begun c.end_area-then-begins_area.new.read c.args.source.now c.meet_known.new.source _ b.placed.place ends counted c.end_area-then-begins_area.ensures.ordered (c.end_area-then-begins_area.ensures.low so.read.low)
+          area_read so' c.requires.kind c.args.cursor.now c.args.begun c.end_area-then-begins_area.new.read c.args.source.now c.meet_known.new.source _ b.placed.place ends counted (c.end_area-then-begins_area.ensures.low so.read.low)
           c.end_area-then-begins_area.ensures.end.0 (subst (λ n. IsFirst (items_of so.left) n) (sym c.end_area-then-begins_area.ensures.end.1) first) steps
           (omega (arith, i.few, last, c.in-Item.ensures.known, c.in-Item.ensures.some));
     }
