@@ -30,7 +30,7 @@ pub enum PageJust {
 impl LineJust {
     /// The justification of a number from 2 to 5.
     #[inline(always)]
-    pub(crate) fn of(number: u8) -> LineJust
+    pub fn of(number: u8) -> LineJust
         ensures { result ≡ line_just_of number }
     {
         match number {
@@ -59,7 +59,7 @@ impl LineJust {
 impl PageJust {
     /// The justification of a number from 2 to 4.
     #[inline(always)]
-    pub(crate) fn of(number: u8) -> PageJust
+    pub fn of(number: u8) -> PageJust
         ensures { result ≡ page_just_of number }
     {
         match number {
