@@ -1,7 +1,7 @@
 //! What is in force behind some items of a message, as far as words tell it.
 
 use crate::piece::{Piece, piece_at};
-use multi_tag::Tag;
+use multi_tag::{LineJust, PageJust, Tag};
 use sign_font::Sign;
 
 /// What is in force behind some items.
@@ -119,8 +119,8 @@ impl Standing {
     fn set(&mut self, sign: &Sign, tag: Tag) {
         let defaults = sign.defaults();
         match tag {
-            Tag::LineJust(just) => self.line_just = just.unwrap_or(defaults.line),
-            Tag::PageJust(just) => self.page_just = just.unwrap_or(defaults.page),
+            Tag::LineJust(just) => self.line_just = just.map_or(defaults.line, LineJust::number),
+            Tag::PageJust(just) => self.page_just = just.map_or(defaults.page, PageJust::number),
             Tag::Font(pick) => self.font = pick.map_or(defaults.font, |pick| pick.number),
             _ => {}
         }
@@ -211,7 +211,7 @@ impl Part {
                 }
                 Piece::Tag(tag) if self.ends_before(tag, page_just == group) => return Some(at),
                 Piece::Tag(Tag::PageJust(just)) => {
-                    page_just = just.unwrap_or(sign.defaults().page);
+                    page_just = just.map_or(sign.defaults().page, PageJust::number);
                 }
                 _ => {}
             }

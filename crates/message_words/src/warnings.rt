@@ -8,7 +8,7 @@ use crate::plain::is_seen_in;
 use crate::sight::Sight;
 use crate::times::{PageTimes, Times};
 use multi_layout::Checked;
-use multi_tag::{FontPick, Tag};
+use multi_tag::{FontPick, LineJust, Tag};
 use multi_token::Source;
 use sign_font::Sign;
 use std::alloc::{AllocError, Global};
@@ -246,7 +246,9 @@ impl<'a> Reading<'a> {
                 let fore = colour.unwrap_or(self.sign.defaults().fore);
                 self.is_plain = self.is_plain && is_seen_in(self.sign, fore);
             }
-            Tag::LineJust(just) => self.line_just = just.unwrap_or(self.sign.defaults().line),
+            Tag::LineJust(just) => {
+                self.line_just = just.map_or(self.sign.defaults().line, LineJust::number);
+            }
             Tag::PageTime { on, off } => {
                 self.times_at = self.offset(rest);
                 self.times = Times::of_tag(self.sign, on, off);

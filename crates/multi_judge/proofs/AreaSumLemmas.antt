@@ -1,5 +1,6 @@
 -- The sums of an area after one more placing item, and what is judged by them.
 use Rattle.std.proofs.Common.{◌≡◌, inl, inr, ℕ, ◌<◌, ◌≤◌, Bool, true, false, cond, not, ◌&&◌, ◌||◌, ◌==◌, List, [], ◌∷◌, ◌++◌, refl, sym, ap, ◌∙◌, arith}
+use Rattle.multi_tag.specs.Just.{page_number}
 use Rattle.multi_meaning.specs.Words.{largest}
 use Rattle.std.specs.Prelude.{nat_lt}
 use Rattle.std.specs.List.{list_any, after_last, All}
@@ -24,11 +25,11 @@ use Rattle.multi_judge.specs.Sums.{group_sum, area_sum, area_sum_in, height_befo
 use Rattle.multi_judge.proofs.GroupSumLemmas.{present_push}
 
 -- no item of an area is in a group behind the one with the largest justification
-pub group_behind : (just : ℕ) (area : List Spot) → largest (λ (t : Spot). t.at.page_just) area < just → in_group just area ≡ []
+pub group_behind : (just : ℕ) (area : List Spot) → largest (λ (t : Spot). page_number t.at.page_just) area < just → in_group just area ≡ []
 group_behind just area less =
-    filter_none (λ t. t.at.page_just == just) area
-    (All-weaker (λ (t : Spot). t.at.page_just ≤ largest (λ (t : Spot). t.at.page_just) area) (λ t. (t.at.page_just == just) ≡ false)
-    (λ t most. ne_eqb t.at.page_just just (λ e. omega arith)) area (largest_most (λ t. t.at.page_just) area))
+    filter_none (λ t. page_number t.at.page_just == just) area
+    (All-weaker (λ (t : Spot). page_number t.at.page_just ≤ largest (λ (t : Spot). page_number t.at.page_just) area) (λ t. (page_number t.at.page_just == just) ≡ false)
+    (λ t most. ne_eqb (page_number t.at.page_just) just (λ e. omega arith)) area (largest_most (λ t. page_number t.at.page_just) area))
 
 -- what answers the height of whatever group it is of
 abbrev pub IsHeightOf : Group → ℕ → Type 0
@@ -36,17 +37,17 @@ IsHeightOf group height = (spots : List Spot) → All IsPlacing spots → group 
 
 -- an area whose present group becomes a later one
 module _ (area : List Spot) (just : ℕ) (a : Area) (e : a ≡ area_sum area) (later : a.present < just) where
-  present_is : a.present ≡ largest (λ (t : Spot). t.at.page_just) area
+  present_is : a.present ≡ largest (λ (t : Spot). page_number t.at.page_just) area
   present_is = ap (λ (a : Area). a.present) e
 
   -- the height of a group that isn't the present one stays as it was kept
-  kept : (j h : ℕ) → h ≡ height_before (largest (λ (t : Spot). t.at.page_just) area) j area → (a.present ≡ j → ⊥) → h ≡ height_before just j area
+  kept : (j h : ℕ) → h ≡ height_before (largest (λ (t : Spot). page_number t.at.page_just) area) j area → (a.present ≡ j → ⊥) → h ≡ height_before just j area
   kept j h is other = elim (cases_lt j a.present) [
     | inl before ↦
-        is ∙ ap (λ b. cond b (height_of (lines_of (in_group j area))) 0) (lt-ltb j (largest (λ (t : Spot). t.at.page_just) area) (omega (arith, present_is)) ∙ sym (lt-ltb j just (omega arith)))
+        is ∙ ap (λ b. cond b (height_of (lines_of (in_group j area))) 0) (lt-ltb j (largest (λ (t : Spot). page_number t.at.page_just) area) (omega (arith, present_is)) ∙ sym (lt-ltb j just (omega arith)))
     | inr behind ↦
         let none : height_of (lines_of (in_group j area)) ≡ 0 = ap (λ l. height_of (lines_of l)) (group_behind j area (omega (arith, present_is, other))) in
-        is ∙ ap (λ b. cond b (height_of (lines_of (in_group j area))) 0) (le-ltb j (largest (λ (t : Spot). t.at.page_just) area) (omega (arith, present_is)))
+        is ∙ ap (λ b. cond b (height_of (lines_of (in_group j area))) 0) (le-ltb j (largest (λ (t : Spot). page_number t.at.page_just) area) (omega (arith, present_is)))
         ∙ sym (cond_zero (nat_lt j just) (height_of (lines_of (in_group j area))) none)
   ]
 
@@ -72,15 +73,15 @@ module _ (area : List Spot) (just : ℕ) (a : Area) (e : a ≡ area_sum area) (l
 -- an area that stays in its present group
 pub area_stays : (area : List Spot) (just : ℕ) (a : Area) → a ≡ area_sum area → just ≤ a.present → a.present ≤ just → a ≡ area_sum_in just area
 area_stays area just a e low high =
-    let same : largest (λ (t : Spot). t.at.page_just) area ≡ just = omega (arith, ap (λ (a : Area). a.present) e) in
+    let same : largest (λ (t : Spot). page_number t.at.page_just) area ≡ just = omega (arith, ap (λ (a : Area). a.present) e) in
     e ∙ ap (λ n. area_sum_in n area) same
 
 -- an area after one more item of the present group
-pub area_with : (area : List Spot) (s : Spot) (just : ℕ) → s.at.page_just ≡ just → (a : Area) → a ≡ area_sum area → a.present ≤ just
+pub area_with : (area : List Spot) (s : Spot) (just : ℕ) → page_number s.at.page_just ≡ just → (a : Area) → a ≡ area_sum area → a.present ≤ just
     → (kept r : Area) → kept ≡ area_sum_in just area → r.present ≡ kept.present → r.top ≡ kept.top → r.middle ≡ kept.middle → r.group ≡ group_sum (in_group just (area ++ s ∷ []))
     → r ≡ area_sum (area ++ s ∷ [])
 area_with area s just own a e order kept r is present top middle group =
-    let more : largest (λ (t : Spot). t.at.page_just) (area ++ s ∷ []) ≡ just = omega (arith, ap (λ (a : Area). a.present) e, largest_push (λ t. t.at.page_just) area s, own, order) in
+    let more : largest (λ (t : Spot). page_number t.at.page_just) (area ++ s ∷ []) ≡ just = omega (arith, ap (λ (a : Area). a.present) e, largest_push (λ t. page_number t.at.page_just) area s, own, order) in
     let other : (j : ℕ) → height_before just j area ≡ height_before just j (area ++ s ∷ []) = λ j. elim (cases_lt j just) [
       | inl less ↦ ap (λ l. cond (nat_lt j just) (height_of (lines_of l)) 0) (sym (in_group_other j area s (λ h. omega (arith, own, h))))
       | inr most ↦ rw (le-ltb j just most) refl
@@ -92,22 +93,22 @@ area_with area s just own a e order kept r is present top middle group =
     whole ∙ ap (λ n. area_sum_in n (area ++ s ∷ [])) (sym more)
 
 -- behind an item that isn't before the present group, the present group is that item's
-pub present_behind : (area : List Spot) (s : Spot) (a b : Area) → a ≡ area_sum area → b ≡ area_sum (area ++ s ∷ []) → a.present ≤ s.at.page_just → b.present ≡ s.at.page_just
-present_behind area s a b e f order = omega (arith, ap (λ (a : Area). a.present) e, ap (λ (a : Area). a.present) f, largest_push (λ t. t.at.page_just) area s, order)
+pub present_behind : (area : List Spot) (s : Spot) (a b : Area) → a ≡ area_sum area → b ≡ area_sum (area ++ s ∷ []) → a.present ≤ page_number s.at.page_just → b.present ≡ page_number s.at.page_just
+present_behind area s a b e f order = omega (arith, ap (λ (a : Area). a.present) e, ap (λ (a : Area). a.present) f, largest_push (λ t. page_number t.at.page_just) area s, order)
 
 -- the height of a group, by what is kept of the area
 module _ (area : List Spot) (a : Area) (e : a ≡ area_sum area) where
-  most_is : a.present ≡ largest (λ (t : Spot). t.at.page_just) area
+  most_is : a.present ≡ largest (λ (t : Spot). page_number t.at.page_just) area
   most_is = ap (λ (a : Area). a.present) e
 
   pub present_height : All IsPlacing area → (just height : ℕ) → just ≡ a.present → IsHeightOf a.group height → height ≡ height_of (lines_of (in_group just area))
   present_height placing just height own answer =
       answer (in_group just area) (placing_group just area placing) (ap (λ (a : Area). a.group) e ∙ ap (λ n. group_sum (in_group n area)) (sym (own ∙ most_is)))
 
-  pub other_height : (just h : ℕ) → h ≡ height_before (largest (λ (t : Spot). t.at.page_just) area) just area → (just ≡ a.present → ⊥) → h ≡ height_of (lines_of (in_group just area))
+  pub other_height : (just h : ℕ) → h ≡ height_before (largest (λ (t : Spot). page_number t.at.page_just) area) just area → (just ≡ a.present → ⊥) → h ≡ height_of (lines_of (in_group just area))
   other_height just h is other = elim (cases_lt just a.present) [
-    | inl before ↦ is ∙ ap (λ b. cond b (height_of (lines_of (in_group just area))) 0) (lt-ltb just (largest (λ (t : Spot). t.at.page_just) area) (omega (arith, most_is)))
-    | inr behind ↦ is ∙ ap (λ b. cond b (height_of (lines_of (in_group just area))) 0) (le-ltb just (largest (λ (t : Spot). t.at.page_just) area) (omega (arith, most_is)))
+    | inl before ↦ is ∙ ap (λ b. cond b (height_of (lines_of (in_group just area))) 0) (lt-ltb just (largest (λ (t : Spot). page_number t.at.page_just) area) (omega (arith, most_is)))
+    | inr behind ↦ is ∙ ap (λ b. cond b (height_of (lines_of (in_group just area))) 0) (le-ltb just (largest (λ (t : Spot). page_number t.at.page_just) area) (omega (arith, most_is)))
         ∙ sym (ap (λ l. height_of (lines_of l)) (group_behind just area (omega (arith, most_is, other))))
   ]
 
@@ -127,11 +128,11 @@ module _ (area : List Spot) (a : Area) (e : a ≡ area_sum area) where
 
 -- CONFLICTS
 
-back : (before : List Spot) (s : Spot) (page_just most : ℕ) → s.at.page_just ≡ page_just → most ≡ largest (λ t. t.at.page_just) (area_of s before) → nat_lt page_just most ≡ list_any (goes_back s) (area_of s before)
-back before s page_just most page e = ap (λ n. nat_lt n most) (sym page) ∙ ap (nat_lt s.at.page_just) e ∙ sym (group_goes_back s (area_of s before))
+back : (before : List Spot) (s : Spot) (page_just most : ℕ) → page_number s.at.page_just ≡ page_just → most ≡ largest (λ t. page_number t.at.page_just) (area_of s before) → nat_lt page_just most ≡ list_any (goes_back s) (area_of s before)
+back before s page_just most page e = ap (λ n. nat_lt n most) (sym page) ∙ ap (nat_lt (page_number s.at.page_just)) e ∙ sym (group_goes_back s (area_of s before))
 
 -- a character conflicts if its group is before the present one, or it clashes with one on the present line of its group
-pub conflicts_character : (before : List Spot) (s : Spot) (page_just present : ℕ) → is_glyph s ≡ true → s.at.page_just ≡ page_just → present ≡ largest (λ t. t.at.page_just) (area_of s before)
+pub conflicts_character : (before : List Spot) (s : Spot) (page_just present : ℕ) → is_glyph s ≡ true → page_number s.at.page_just ≡ page_just → present ≡ largest (λ t. page_number t.at.page_just) (area_of s before)
     → (nat_lt page_just present || list_any (clashes s) (after_last is_break (in_group page_just (area_of s before)))) ≡ conflicts before s
 conflicts_character before s page_just present g page e =
     let goes = list_any (goes_back s) (area_of s before) in
@@ -141,7 +142,7 @@ conflicts_character before s page_just present g page e =
     ∙ ap (λ b. goes || (b && list_any (clashes s) (line_before before s))) (sym g)
 
 -- a character on a line with this clash, if its group is the present one
-clash_by : (before : List Spot) (s : Spot) (page_just present : ℕ) (clash : Bool) → present ≡ largest (λ (t : Spot). t.at.page_just) (area_of s before)
+clash_by : (before : List Spot) (s : Spot) (page_just present : ℕ) (clash : Bool) → present ≡ largest (λ (t : Spot). page_number t.at.page_just) (area_of s before)
     → clash ≡ list_any (clashes s) (after_last is_break (in_group present (area_of s before)))
     → (nat_lt page_just present || ((page_just == present) && clash)) ≡ (nat_lt page_just present || list_any (clashes s) (after_last is_break (in_group page_just (area_of s before))))
 clash_by before s page_just present clash e c = elim (cases_eq page_just present) [
@@ -156,12 +157,12 @@ clash_by before s page_just present clash e c = elim (cases_eq page_just present
   ]
 ]
 
-pub conflicts_kept : (before : List Spot) (s : Spot) (page_just present : ℕ) (clash : Bool) → is_glyph s ≡ true → s.at.page_just ≡ page_just → present ≡ largest (λ t. t.at.page_just) (area_of s before)
+pub conflicts_kept : (before : List Spot) (s : Spot) (page_just present : ℕ) (clash : Bool) → is_glyph s ≡ true → page_number s.at.page_just ≡ page_just → present ≡ largest (λ t. page_number t.at.page_just) (area_of s before)
     → clash ≡ list_any (clashes s) (after_last is_break (in_group present (area_of s before))) → (nat_lt page_just present || ((page_just == present) && clash)) ≡ conflicts before s
 conflicts_kept before s page_just present clash g page e c = clash_by before s page_just present clash e c ∙ conflicts_character before s page_just present g page e
 
 -- an item that doesn't conflict isn't before the present group
-pub no_back : (before : List Spot) (s : Spot) (page_just present : ℕ) → s.at.page_just ≡ page_just → present ≡ largest (λ t. t.at.page_just) (area_of s before) → conflicts before s ≡ false → present ≤ page_just
+pub no_back : (before : List Spot) (s : Spot) (page_just present : ℕ) → page_number s.at.page_just ≡ page_just → present ≡ largest (λ t. page_number t.at.page_just) (area_of s before) → conflicts before s ≡ false → present ≤ page_just
 no_back before s page_just present page e none = elim (cases_lt page_just present) [
   | inl goes ↦ absurd (false≢true (sym (left _ _ none) ∙ sym (back before s page_just present page e) ∙ lt-ltb page_just present goes))
   | inr on ↦ on
@@ -171,7 +172,7 @@ no_back before s page_just present page e none = elim (cases_lt page_just presen
     left true b h = absurd (false≢true (sym h))
     left false b h = refl
 
-pub conflicts_break : (before : List Spot) (s : Spot) (page_just most : ℕ) → is_glyph s ≡ false → s.at.page_just ≡ page_just → most ≡ largest (λ t. t.at.page_just) (area_of s before)
+pub conflicts_break : (before : List Spot) (s : Spot) (page_just most : ℕ) → is_glyph s ≡ false → page_number s.at.page_just ≡ page_just → most ≡ largest (λ t. page_number t.at.page_just) (area_of s before)
     → nat_lt page_just most ≡ conflicts before s
 conflicts_break before s page_just most g page e =
     let goes = list_any (goes_back s) (area_of s before) in
@@ -180,7 +181,7 @@ conflicts_break before s page_just most g page e =
     ∙ ap (λ b. goes || (b && list_any (clashes s) (line_before before s))) (sym g)
 
 -- a character that doesn't conflict clashes with none on the present line of its group
-pub no_clash : (before : List Spot) (s : Spot) (page_just : ℕ) → is_glyph s ≡ true → s.at.page_just ≡ page_just → conflicts before s ≡ false
+pub no_clash : (before : List Spot) (s : Spot) (page_just : ℕ) → is_glyph s ≡ true → page_number s.at.page_just ≡ page_just → conflicts before s ≡ false
     → list_any (clashes s) (after_last is_break (in_group page_just (area_of s before))) ≡ false
 no_clash before s page_just g page none =
     ap (λ n. list_any (clashes s) (after_last is_break (in_group n (area_of s before)))) (sym page)
@@ -203,16 +204,16 @@ no_line true = refl
 no_line false = refl
 
 -- the present line of a character's group is its line
-pub present_line : (before : List Spot) (s : Spot) (page_just : ℕ) → is_glyph s ≡ true → s.at.page_just ≡ page_just → after_last is_break (in_group page_just (area_of s before ++ s ∷ [])) ≡ line_before before s ++ s ∷ []
+pub present_line : (before : List Spot) (s : Spot) (page_just : ℕ) → is_glyph s ≡ true → page_number s.at.page_just ≡ page_just → after_last is_break (in_group page_just (area_of s before ++ s ∷ [])) ≡ line_before before s ++ s ∷ []
 present_line before s page_just g page =
     ap (λ n. after_last is_break (in_group n (area_of s before ++ s ∷ []))) (sym page)
-    ∙ ap (after_last is_break) (own_group s.at.page_just (area_of s before) s refl)
-    ∙ present_push (in_group s.at.page_just (area_of s before)) s g
+    ∙ ap (after_last is_break) (own_group (page_number s.at.page_just) (area_of s before) s refl)
+    ∙ present_push (in_group (page_number s.at.page_just) (area_of s before)) s g
 
-pub fits_character : (before : List Spot) (s : Spot) (page_just width height : ℕ) (line area : Bool) → is_glyph s ≡ true → s.at.page_just ≡ page_just → s.at.rectangle.width ≡ width → s.at.rectangle.height ≡ height
+pub fits_character : (before : List Spot) (s : Spot) (page_just width height : ℕ) (line area : Bool) → is_glyph s ≡ true → page_number s.at.page_just ≡ page_just → s.at.rectangle.width ≡ width → s.at.rectangle.height ≡ height
     → line ≡ line_fits width (after_last is_break (in_group page_just (area_of s before ++ s ∷ []))) → area ≡ area_fits height (area_of s before ++ s ∷ []) → (line && area) ≡ not (too_big Off before s)
 fits_character before s page_just width height line area g page w h l a =
-    let more = after_last is_break (in_group s.at.page_just (area_of s before ++ s ∷ [])) in
+    let more = after_last is_break (in_group (page_number s.at.page_just) (area_of s before ++ s ∷ [])) in
     let line' : line ≡ line_fits s.at.rectangle.width more = l ∙ ap (λ n. line_fits width (after_last is_break (in_group n (area_of s before ++ s ∷ [])))) (sym page) ∙ ap (λ n. line_fits n more) (sym w) in
     let area' : area ≡ area_fits s.at.rectangle.height (area_of s before ++ s ∷ []) = a ∙ ap (λ n. area_fits n (area_of s before ++ s ∷ [])) (sym h) in
     ap (λ b. b && area) line' ∙ ap (λ b. line_fits s.at.rectangle.width more && b) area'
@@ -221,7 +222,7 @@ fits_character before s page_just width height line area g page w h l a =
 
 pub fits_break : (before : List Spot) (s : Spot) (height : ℕ) (area : Bool) → is_break s ≡ true → s.at.rectangle.height ≡ height → area ≡ area_fits height (area_of s before ++ s ∷ []) → area ≡ not (too_big Off before s)
 fits_break before s height area b h a =
-    let more = after_last is_break (in_group s.at.page_just (area_of s before ++ s ∷ [])) in
+    let more = after_last is_break (in_group (page_number s.at.page_just) (area_of s before ++ s ∷ [])) in
     a ∙ ap (λ n. area_fits n (area_of s before ++ s ∷ [])) (sym h)
     ∙ no_line (area_fits s.at.rectangle.height (area_of s before ++ s ∷ []))
     ∙ ap (λ b. not ((b && not (line_fits s.at.rectangle.width more)) || not (area_fits s.at.rectangle.height (area_of s before ++ s ∷ [])))) (sym (break_put s.at s.put b))

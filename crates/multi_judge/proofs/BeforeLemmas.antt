@@ -1,5 +1,6 @@
 -- What fits behind one more character, where what was before it fits: only the present segment and the present group can be too much.
 use Rattle.std.proofs.Common.{◌≡◌, ℕ, ◌≤◌, true, inl, inr, List, [], ◌∷◌, ◌++◌, None, refl, sym, ap, subst, ◌∙◌, arith}
+use Rattle.multi_tag.specs.Just.{line_number, page_number}
 use Rattle.multi_meaning.proofs.FillLemmas.{le_test}
 use Rattle.std.specs.Prelude.{nat_le}
 use Rattle.std.specs.List.{All, after_last}
@@ -33,7 +34,7 @@ use Rattle.multi_judge.proofs.RunLemmas.{kept_area_fits, kept_fits_is, kept_grou
 
 -- ---- the line of a character
 
-module _ (width : ℕ) (line : List Spot) (s : Spot) (l : Line) (e : l ≡ line_sum (line ++ s ∷ [])) (own : l.present ≡ s.at.line_just) (known : l.present ≤ 5) (fits : line_fits width line ≡ true) where
+module _ (width : ℕ) (line : List Spot) (s : Spot) (l : Line) (e : l ≡ line_sum (line ++ s ∷ [])) (own : l.present ≡ line_number s.at.line_just) (known : l.present ≤ 5) (fits : line_fits width line ≡ true) where
   -- the other segments are as wide as without the character
   no_wider : (just : ℕ) → 2 ≤ just → just ≤ 5 → kept_width just (lengthened_line 0 0 l) ≤ width_of (segment just line)
   no_wider just low high = elim (cases_eq just l.present) [
@@ -65,7 +66,7 @@ fits_before width l fits =
 
 -- ---- the area of a character
 
-module _ (height : ℕ) (area : List Spot) (s : Spot) (a : Area) (e : a ≡ area_sum (area ++ s ∷ [])) (placing : All IsPlacing (area ++ s ∷ [])) (own : a.present ≡ s.at.page_just) (known : a.present ≤ 4)
+module _ (height : ℕ) (area : List Spot) (s : Spot) (a : Area) (e : a ≡ area_sum (area ++ s ∷ [])) (placing : All IsPlacing (area ++ s ∷ [])) (own : a.present ≡ page_number s.at.page_just) (known : a.present ≤ 4)
     (fits : area_fits height area ≡ true) where
   -- the other groups are as high as without the character
   no_higher : (just : ℕ) → 2 ≤ just → just ≤ 4 → kept_before just a ≤ height_of (lines_of (in_group just area))
@@ -106,8 +107,8 @@ module _ (sign : SignData) (items : List Meaning) (none : some_after (offence Of
   pub fits_without : (s : Spot) → s.at ≡ standing sign items → FitsWithout (spots sign items) s
   fits_without s at =
       let before = spots sign items in
-      subst (λ (t : Standing). (line_fits t.rectangle.width (after_last is_break (in_group t.page_just (in_area t.area before))) ≡ true) × (area_fits t.rectangle.height (in_area t.area before) ≡ true)) (sym at)
-      (lines_fit_always sign items none (standing sign items).page_just, area_fits_always sign items none)
+      subst (λ (t : Standing). (line_fits t.rectangle.width (after_last is_break (in_group (page_number t.page_just) (in_area t.area before))) ≡ true) × (area_fits t.rectangle.height (in_area t.area before) ≡ true)) (sym at)
+      (lines_fit_always sign items none (page_number (standing sign items).page_just), area_fits_always sign items none)
 
 -- by what is kept too
 pub unfilled_fits : (sign : SignData) (items : List Meaning) (state : State) → IsUnfilledOf sign state items → Fits state

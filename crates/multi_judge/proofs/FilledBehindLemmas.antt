@@ -6,6 +6,7 @@ use Rattle.std.proofs.lemmas.Bool.{cases_eq}
 use Rattle.std.proofs.lemmas.List.{length-append}
 use Rattle.multi_tag.specs.declared.tag.Tag.{Tag}
 use Rattle.multi_tag.specs.declared.tag.Tag.TheVariants.{NewPage, NewLine, Back, Rect}
+use Rattle.multi_tag.specs.Just.{page_number}
 use Rattle.sign_font.specs.declared.parts.LineFill.{LineFill}
 use Rattle.sign_font.specs.declared.parts.LineFill.TheVariants.{Off, Words}
 use Rattle.sign_font.specs.Sign.{SignData}
@@ -44,11 +45,11 @@ use Rattle.multi_judge.proofs.BoundLemmas.{split_more}
 
 -- the group that is present is the last one of the items, whether they are laid out or not
 pub present_laid : (sign : SignData) (items : List Meaning) (state : State) → IsStateOf sign (laid_items Words sign items items) state
-    → state.area.present ≡ largest (λ (t : Spot). t.at.page_just) (present_area sign items)
+    → state.area.present ≡ largest (λ (t : Spot). page_number t.at.page_just) (present_area sign items)
 present_laid sign items state st =
     let all = spots sign items in
     let (here, are) = are_laid Words sign items items [] (sym (append-nil items)) in
-    ap (λ (a : Area). a.present) st.area ∙ (λ i. largest (λ (t : Spot). t.at.page_just) (in_area (here i).area (are i)))
+    ap (λ (a : Area). a.present) st.area ∙ (λ i. largest (λ (t : Spot). page_number t.at.page_just) (in_area (here i).area (are i)))
     ∙ largest_laid Words (standing sign items).rectangle.width (standing sign items).area all all [] (sym (append-nil all))
 
 module _ (sign : SignData) (items : List Meaning) (kept : Pass) (of : IsFilledOf sign items kept) (tag : Tag) (state : State)
@@ -67,7 +68,7 @@ module _ (sign : SignData) (items : List Meaning) (kept : Pass) (of : IsFilledOf
       → IsFilledOf sign more (record { state = state; split = kept.split; order = kept.order })
   stays area width =
       let present : state.area.present ≡ kept.state.area.present =
-      present_laid sign more state laid_state ∙ ap (largest (λ (t : Spot). t.at.page_just)) area ∙ sym (present_laid sign items kept.state of.state_is) in
+      present_laid sign more state laid_state ∙ ap (largest (λ (t : Spot). page_number t.at.page_just)) area ∙ sym (present_laid sign items kept.state of.state_is) in
       record {
         state_is = laid_state;
         split_is = of.split_is ∙ sym (λ i. split_sum (after_last is_break (filled (Some (width i)) (in_group (present i) (area i)))));
@@ -95,42 +96,42 @@ module _ (sign : SignData) (items : List Meaning) (kept : Pass) (of : IsFilledOf
   abbrev behind : List Meaning
   behind = items ++ Does (NewLine gap) ∷ []
 
-  order : kept.state.area.present ≤ nl.at.page_just
+  order : kept.state.area.present ≤ page_number nl.at.page_just
   order =
       let laid = laid_items Words sign items items in
       let s : Spot = record { at = standing sign laid; put = Break gap } in
       let free = no_conflict (conflicts (spots sign laid) s) (too_big Off (spots sign laid) s) (sym (offence-break (too_big Off) sign laid gap) ∙ fine) in
       let here = ap (λ (t : Standing). t.page_just) (are_laid Words sign items items [] (sym (append-nil items))).0 in
-      omega (arith, here, no_back (spots sign laid) s s.at.page_just kept.state.area.present refl (ap (λ (a : Area). a.present) of.state_is.area) free)
+      omega (arith, ap page_number here, no_back (spots sign laid) s (page_number s.at.page_just) kept.state.area.present refl (ap (λ (a : Area). a.present) of.state_is.area) free)
 
   area_is : present_area sign behind ≡ present_area sign items ++ nl ∷ []
   area_is = present_area-placing sign items (Does (NewLine gap)) (Break gap) refl refl refl
 
-  present : state.area.present ≡ nl.at.page_just
+  present : state.area.present ≡ page_number nl.at.page_just
   present =
       omega (
         arith,
         order,
         present_laid sign items kept.state of.state_is,
-        largest_push (λ t. t.at.page_just) (present_area sign items) nl,
-        present_laid sign behind state (laid_state sign items kept of (NewLine gap) state st) ∙ ap (largest (λ (t : Spot). t.at.page_just)) area_is,
+        largest_push (λ t. page_number t.at.page_just) (present_area sign items) nl,
+        present_laid sign behind state (laid_state sign items kept of (NewLine gap) state st) ∙ ap (largest (λ (t : Spot). page_number t.at.page_just)) area_is,
       )
 
   width : (standing sign behind).rectangle.width ≡ nl.at.rectangle.width
   width = ap (λ (t : Standing). t.rectangle.width) (standing_push sign items (Does (NewLine gap)))
 
-  own : in_group nl.at.page_just (present_area sign behind) ≡ in_group nl.at.page_just (present_area sign items) ++ nl ∷ []
-  own = ap (in_group nl.at.page_just) area_is ∙ own_group nl.at.page_just (present_area sign items) nl refl
+  own : in_group (page_number nl.at.page_just) (present_area sign behind) ≡ in_group (page_number nl.at.page_just) (present_area sign items) ++ nl ∷ []
+  own = ap (in_group (page_number nl.at.page_just)) area_is ∙ own_group (page_number nl.at.page_just) (present_area sign items) nl refl
 
   -- nothing stands on the line behind it
-  hard : after_last is_break (in_group nl.at.page_just (present_area sign behind)) ≡ []
-  hard = ap (after_last is_break) own ∙ after_last_push is_break (in_group nl.at.page_just (present_area sign items)) nl
+  hard : after_last is_break (in_group (page_number nl.at.page_just) (present_area sign behind)) ≡ []
+  hard = ap (after_last is_break) own ∙ after_last_push is_break (in_group (page_number nl.at.page_just) (present_area sign items)) nl
 
-  soft : after_last is_break (filled (Some (standing sign behind).rectangle.width) (in_group nl.at.page_just (present_area sign behind))) ≡ []
+  soft : after_last is_break (filled (Some (standing sign behind).rectangle.width) (in_group (page_number nl.at.page_just) (present_area sign behind))) ≡ []
   soft =
-      let group = in_group nl.at.page_just (present_area sign items) in
+      let group = in_group (page_number nl.at.page_just) (present_area sign items) in
       (λ i. after_last is_break (filled (Some (width i)) (own i)))
-      ∙ ap (after_last is_break) (filled_break nl.at.rectangle.width group nl (placing_group nl.at.page_just (present_area sign items) (area_placing (spots sign items) nl)) refl)
+      ∙ ap (after_last is_break) (filled_break nl.at.rectangle.width group nl (placing_group (page_number nl.at.page_just) (present_area sign items) (area_placing (spots sign items) nl)) refl)
       ∙ after_last_push is_break (filled (Some nl.at.rectangle.width) group) nl
 
   ends : IsFilledOf sign behind (record { state = state; split = None; order = order_sum [] })
@@ -139,7 +140,7 @@ module _ (sign : SignData) (items : List Meaning) (kept : Pass) (of : IsFilledOf
     split_is = sym (ap (λ j. split_sum (after_last is_break (filled (Some (standing sign behind).rectangle.width) (in_group j (present_area sign behind))))) present ∙ ap split_sum soft);
     order_is = sym (ap (λ j. order_sum (after_last is_break (in_group j (present_area sign behind)))) present ∙ ap order_sum hard);
     split_below = tt;
-    fits = λ j. elim (cases_eq nl.at.page_just j) [
+    fits = λ j. elim (cases_eq (page_number nl.at.page_just) j) [
       | inl same ↦
           ap (λ j. line_fits (standing sign behind).rectangle.width (after_last is_break (filled (Some (standing sign behind).rectangle.width) (in_group j (present_area sign behind))))) (sym same)
           ∙ ap (line_fits (standing sign behind).rectangle.width) soft ∙ nothing_fits (standing sign behind).rectangle.width

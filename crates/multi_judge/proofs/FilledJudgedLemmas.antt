@@ -1,6 +1,7 @@
 -- One more character is judged where lines are filled, by what is kept of the items before it.
 use Rattle.std.proofs.Common.{◌≡◌, ℕ, Bool, true, false, cond, not, ◌&&◌, ◌||◌, ◌==◌, nat_lt, List, [], ◌∷◌, ◌++◌, Option, Some, None, refl, sym, ap, subst, ◌∙◌, append-nil}
 use Rattle.std.specs.List.{All, after_last, list_any}
+use Rattle.multi_tag.specs.Just.{page_number}
 use Rattle.sign_font.specs.declared.parts.LineFill.TheVariants.{Words}
 use Rattle.sign_font.specs.Cell.{SizedCell}
 use Rattle.sign_font.specs.Sign.{SignData, CellData, cell_in, cell_numbered}
@@ -66,20 +67,20 @@ module _ (sign : SignData) (items : List Meaning) (kept : Pass) (of : IsFilledOf
       (clashing : (line : List Spot) (s : Spot) → kept.order ≡ order_sum line → s.at.line_just ≡ kept.state.attributes.line_just → clash ≡ list_any (clashes s) line) where
     -- whether it conflicts is told by what is kept
     pub conflict_is : (cell : CellData) (found : cell_numbered (standing sign items).font number ≡ Some cell) → conflicts (spots sign items) (shown sign items number cell found)
-        ≡ (nat_lt kept.state.attributes.page_just kept.state.area.present || ((kept.state.attributes.page_just == kept.state.area.present) && clash))
+        ≡ (nat_lt (page_number kept.state.attributes.page_just) kept.state.area.present || ((page_number kept.state.attributes.page_just == kept.state.area.present) && clash))
     conflict_is cell found =
         sym (conflicts_by sign items number cell found kept.state of.state_is clash (clashing _ (shown sign items number cell found) of.order_is (sym (ap (λ (a : Attributes). a.line_just) attributes_here))))
-        ∙ ap (λ j. nat_lt j kept.state.area.present || ((j == kept.state.area.present) && clash)) (sym (ap (λ (a : Attributes). a.page_just) attributes_here))
+        ∙ ap (λ j. nat_lt j kept.state.area.present || ((j == kept.state.area.present) && clash)) (sym (ap (λ (a : Attributes). page_number a.page_just) attributes_here))
 
     -- it conflicts with what is before it
-    pub filled_conflict : (nat_lt kept.state.attributes.page_just kept.state.area.present || ((kept.state.attributes.page_just == kept.state.area.present) && clash)) ≡ true
+    pub filled_conflict : (nat_lt (page_number kept.state.attributes.page_just) kept.state.area.present || ((page_number kept.state.attributes.page_just == kept.state.area.present) && clash)) ≡ true
         → offence Words sign items (Shows number) ≡ Some 11
     filled_conflict is =
         let (cell, found, width) = found_here number c some in
         offends_by sign items number cell found ∙ ap (λ b. first_code ((b, 11) ∷ (doesn't_fit sign items number cell found, 5) ∷ [])) (conflict_is cell found ∙ is)
 
     -- or it doesn't
-    pub filled_free : (nat_lt kept.state.attributes.page_just kept.state.area.present || ((kept.state.attributes.page_just == kept.state.area.present) && clash)) ≡ false
+    pub filled_free : (nat_lt (page_number kept.state.attributes.page_just) kept.state.area.present || ((page_number kept.state.attributes.page_just == kept.state.area.present) && clash)) ≡ false
         → unsized_offence sign items (Shows number) ≡ None
     filled_free is =
         let (cell, found, width) = found_here number c some in
@@ -104,7 +105,7 @@ module _ (sign : SignData) (items : List Meaning) (kept : Pass) (of : IsFilledOf
 
     module _ (cell : CellData) (found : cell_numbered (standing sign items).font number ≡ Some cell) (apart : conflicts (spots sign items) (shown sign items number cell found) ≡ false)
         (character : Character) (is : IsCharacter (shown sign items number cell found) character) (space : Bool) (spaces : is_space (shown sign items number cell found) ≡ space)
-        (area' : Area) (split' : Option Split) (ended : Option Line) (fills : Fills character space area' split' ended kept.state.attributes.page_just kept.state.attributes.rectangle.width) where
+        (area' : Area) (split' : Option Split) (ended : Option Line) (fills : Fills character space area' split' ended (page_number kept.state.attributes.page_just) kept.state.attributes.rectangle.width) where
       pub filled_grown : (area' ≡ area_sum (area_with sign items number cell found))
           × (split' ≡ split_sum (after_last is_break (filled (Some (standing sign items).rectangle.width) (group_of (shown sign items number cell found) (spots sign items) ++ shown sign items number cell found ∷ []))))
           × EndsLine (filled (Some (standing sign items).rectangle.width) (group_of (shown sign items number cell found) (spots sign items)))
@@ -114,13 +115,13 @@ module _ (sign : SignData) (items : List Meaning) (kept : Pass) (of : IsFilledOf
           let s : Spot = shown sign items number cell found in
           let laid = laid_items Words sign items items in
           let behind : Spot = record { at = standing sign laid; put = Glyph cell } in
-          let placing = placing_group s.at.page_just (area_of s all) (area_placing all s) in
-          let fills' : Fills character space area' split' ended s.at.page_just s.at.rectangle.width = subst (λ (a : Attributes). Fills character space area' split' ended a.page_just a.rectangle.width) attributes_here fills in
+          let placing = placing_group (page_number s.at.page_just) (area_of s all) (area_placing all s) in
+          let fills' : Fills character space area' split' ended (page_number s.at.page_just) s.at.rectangle.width = subst (λ (a : Attributes). Fills character space area' split' ended (page_number a.page_just) a.rectangle.width) attributes_here fills in
           fills' (present_area sign laid) (area_with sign items number cell found) (group_of s all) s
           (area_placing (spots sign laid) behind) placing of.state_is.area
-          (no_back all s s.at.page_just kept.state.area.present refl (present_is sign items number cell found kept.state of.state_is) apart)
-          (goes_behind sign items number cell found apart) is spaces (of.fits s.at.page_just)
-          (no_clash_filled s.at.rectangle.width (group_of s all) s placing (no_clash all s s.at.page_just refl refl apart))
+          (no_back all s (page_number s.at.page_just) kept.state.area.present refl (present_is sign items number cell found kept.state of.state_is) apart)
+          (goes_behind sign items number cell found apart) is spaces (of.fits (page_number s.at.page_just))
+          (no_clash_filled s.at.rectangle.width (group_of s all) s placing (no_clash all s (page_number s.at.page_just) refl refl apart))
           (λ e. of.split_is ∙ ap (λ j. split_sum (after_last is_break (filled (Some s.at.rectangle.width) (in_group j (present_area sign items))))) e)
 
       module _ (f h : Bool) (line : (l : List Spot) → area'.group.line ≡ line_sum l → f ≡ line_fits kept.state.attributes.rectangle.width l)
@@ -131,12 +132,12 @@ module _ (sign : SignData) (items : List Meaning) (kept : Pass) (of : IsFilledOf
             let more = laid_items Words sign (items ++ Shows number ∷ []) (items ++ Shows number ∷ []) in
             let new = area_with sign items number cell found in
             let sum = filled_grown.0 in
-            let line_is : area'.group.line ≡ line_sum (after_last is_break (in_group s.at.page_just new)) =
+            let line_is : area'.group.line ≡ line_sum (after_last is_break (in_group (page_number s.at.page_just) new)) =
             ap (λ (a : Area). a.group.line) sum ∙ ap (λ j. line_sum (after_last is_break (in_group j new))) (goes_behind sign items number cell found apart).last in
             let last : Spot = record { at = standing sign more; put = Glyph cell } in
-            let wide = line (after_last is_break (in_group s.at.page_just new)) line_is ∙ ap (λ (a : Attributes). line_fits a.rectangle.width (after_last is_break (in_group s.at.page_just new))) attributes_here in
+            let wide = line (after_last is_break (in_group (page_number s.at.page_just) new)) line_is ∙ ap (λ (a : Attributes). line_fits a.rectangle.width (after_last is_break (in_group (page_number s.at.page_just) new))) attributes_here in
             let high = height new (area_placing (spots sign more) last) sum ∙ ap (λ (a : Attributes). area_fits a.rectangle.height new) attributes_here in
-            (λ i. wide i && high i) ∙ both_fit (line_fits s.at.rectangle.width (after_last is_break (in_group s.at.page_just new))) (area_fits s.at.rectangle.height new)
+            (λ i. wide i && high i) ∙ both_fit (line_fits s.at.rectangle.width (after_last is_break (in_group (page_number s.at.page_just) new))) (area_fits s.at.rectangle.height new)
 
         -- so its size is told
         pub filled_size : offence Words sign items (Shows number) ≡ cond (f && h) None (Some 5)

@@ -4,6 +4,7 @@ use Rattle.std.specs.List.{All, after_last, list_any}
 use Rattle.std.specs.Option.{option_map}
 use Rattle.std.proofs.lemmas.Bool.{cases_eq, eq-eqb, eqb-true, false≢true}
 use Rattle.std.proofs.lemmas.List.{length-append}
+use Rattle.multi_tag.specs.Just.{page_number}
 use Rattle.sign_font.specs.declared.parts.LineFill.{LineFill}
 use Rattle.sign_font.specs.declared.parts.LineFill.TheVariants.{Words}
 use Rattle.sign_font.specs.Cell.{SizedCell}
@@ -61,46 +62,46 @@ module _ (sign : SignData) (items : List Meaning) (number : ℕ) (cell : CellDat
       present_area-placing sign items (Shows number) (Glyph cell) refl puts refl
 
   -- its group grows by it, and the others stay
-  own : in_group s.at.page_just (present_area sign more) ≡ group_of s (spots sign items) ++ s ∷ []
-  own = ap (in_group s.at.page_just) present_more ∙ own_group s.at.page_just (present_area sign items) s refl
+  own : in_group (page_number s.at.page_just) (present_area sign more) ≡ group_of s (spots sign items) ++ s ∷ []
+  own = ap (in_group (page_number s.at.page_just)) present_more ∙ own_group (page_number s.at.page_just) (present_area sign items) s refl
 
-  other : (j : ℕ) → (s.at.page_just ≡ j → ⊥) → in_group j (present_area sign more) ≡ in_group j (present_area sign items)
+  other : (j : ℕ) → (page_number s.at.page_just ≡ j → ⊥) → in_group j (present_area sign more) ≡ in_group j (present_area sign items)
   other j apart = ap (in_group j) present_more ∙ in_group_other j (present_area sign items) s apart
 
   width_more : (standing sign more).rectangle.width ≡ s.at.rectangle.width
   width_more = ap (λ (t : Standing). t.rectangle.width) (standing_push sign items (Shows number))
 
   module _ (kept : Pass) (of : IsFilledOf sign items kept) (apart : conflicts (spots sign items) (shown sign items number cell found) ≡ false) where
-    back : kept.state.area.present ≤ s.at.page_just
-    back = no_back (spots sign items) s s.at.page_just kept.state.area.present refl (present_is sign items number cell found kept.state of.state_is) apart
+    back : kept.state.area.present ≤ page_number s.at.page_just
+    back = no_back (spots sign items) s (page_number s.at.page_just) kept.state.area.present refl (present_is sign items number cell found kept.state of.state_is) apart
 
     -- the order of the characters since the hard break
-    pub order_with : (goes_on : Bool) → goes_on ≡ (kept.state.attributes.page_just == kept.state.area.present) → kept.state.attributes.page_just ≡ s.at.page_just
+    pub order_with : (goes_on : Bool) → goes_on ≡ (page_number kept.state.attributes.page_just == kept.state.area.present) → kept.state.attributes.page_just ≡ s.at.page_just
         → (character : Character) → IsCharacter s character → (order' : Order)
         → ((line : List Spot) (s : Spot) → s.at.line_just ≡ character.just → list_any (clashes s) line ≡ false
         → (goes_on ≡ true → kept.order ≡ order_sum line) → (goes_on ≡ false → line ≡ []) → order' ≡ order_sum (line ++ s ∷ []))
-        → order' ≡ order_sum (after_last is_break (in_group s.at.page_just (present_area sign more)))
+        → order' ≡ order_sum (after_last is_break (in_group (page_number s.at.page_just) (present_area sign more)))
     order_with goes_on goes at character is order' sum =
         let all = spots sign items in
-        let just = s.at.page_just in
+        let just = page_number s.at.page_just in
         let line = after_last is_break (group_of s all) in
         sum line s (sym is.just) (no_clash all s just refl refl apart)
-        (λ e. of.order_is ∙ ap (λ j. order_sum (after_last is_break (in_group j (present_area sign items)))) (sym (eqb-true kept.state.attributes.page_just kept.state.area.present (sym goes ∙ e)) ∙ at))
-        (λ e. ap (after_last is_break) (group_behind just (present_area sign items) (elim (cases_eq kept.state.attributes.page_just kept.state.area.present) [
-          | inl same ↦ absurd (false≢true (sym e ∙ goes ∙ eq-eqb kept.state.attributes.page_just kept.state.area.present same))
-          | inr differ ↦ omega (arith, back, at, differ, present_is sign items number cell found kept.state of.state_is)
+        (λ e. of.order_is ∙ ap (λ j. order_sum (after_last is_break (in_group j (present_area sign items)))) (sym (eqb-true (page_number kept.state.attributes.page_just) kept.state.area.present (sym goes ∙ e)) ∙ ap page_number at))
+        (λ e. ap (after_last is_break) (group_behind just (present_area sign items) (elim (cases_eq (page_number kept.state.attributes.page_just) kept.state.area.present) [
+          | inl same ↦ absurd (false≢true (sym e ∙ goes ∙ eq-eqb (page_number kept.state.attributes.page_just) kept.state.area.present same))
+          | inr differ ↦ omega (arith, back, ap page_number at, differ, present_is sign items number cell found kept.state of.state_is)
         ])))
         ∙ ap order_sum (sym (present_push (group_of s all) s refl) ∙ ap (after_last is_break) (sym own))
 
     -- what is kept is that of the items with it
     pub kept_with : (area' : Area) (split' : Option Split) (order' : Order) → area' ≡ area_sum (area_with sign items number cell found)
         → split' ≡ split_sum (after_last is_break (filled (Some s.at.rectangle.width) (group_of s (spots sign items) ++ s ∷ [])))
-        → order' ≡ order_sum (after_last is_break (in_group s.at.page_just (present_area sign more)))
+        → order' ≡ order_sum (after_last is_break (in_group (page_number s.at.page_just) (present_area sign more)))
         → IsBelow (1024 * length items + 1024) area' → IsSplitBelow (1024 * length items + 1024) split'
         → line_fits s.at.rectangle.width (after_last is_break (filled (Some s.at.rectangle.width) (group_of s (spots sign items) ++ s ∷ []))) ≡ true
         → IsFilledOf sign more (record { state = record kept.state { area = area' }; split = split'; order = order' })
     kept_with area' split' order' area split order below split_below fits =
-        let present : area'.present ≡ s.at.page_just = ap (λ (a : Area). a.present) area ∙ (goes_behind sign items number cell found apart).last in
+        let present : area'.present ≡ page_number s.at.page_just = ap (λ (a : Area). a.present) area ∙ (goes_behind sign items number cell found apart).last in
         let count : 1024 * length more ≡ 1024 * length items + 1024 = omega (arith, length-append items (Shows number ∷ [])) in
         let laid : 1024 * length (laid_items Words sign more more) ≡ 1024 * length items + 1024 = ap (λ n. 1024 * n) (laid_count sign more) ∙ count in
         let group_is : in_group area'.present (present_area sign more) ≡ group_of s (spots sign items) ++ s ∷ [] = ap (λ j. in_group j (present_area sign more)) present ∙ own in
@@ -109,7 +110,7 @@ module _ (sign : SignData) (items : List Meaning) (number : ℕ) (cell : CellDat
           split_is = split ∙ sym (λ i. split_sum (after_last is_break (filled (Some (width_more i)) (group_is i))));
           order_is = order ∙ ap (λ j. order_sum (after_last is_break (in_group j (present_area sign more)))) (sym present);
           split_below = subst (λ n. IsSplitBelow n split') (sym count) split_below;
-          fits = λ j. elim (cases_eq s.at.page_just j) [
+          fits = λ j. elim (cases_eq (page_number s.at.page_just) j) [
             | inl same ↦
                 let group : in_group j (present_area sign more) ≡ group_of s (spots sign items) ++ s ∷ [] = ap (λ j. in_group j (present_area sign more)) (sym same) ∙ own in
                 (λ i. line_fits (width_more i) (after_last is_break (filled (Some (width_more i)) (group i)))) ∙ fits
@@ -119,22 +120,22 @@ module _ (sign : SignData) (items : List Meaning) (number : ℕ) (cell : CellDat
 
 -- a character that doesn't offend isn't before the present group
 module _ (sign : SignData) (items : List Meaning) (kept : Pass) (of : IsFilledOf sign items kept) (number : ℕ) (fine : offence Words sign items (Shows number) ≡ None) where
-  on_by : (o : Option CellData) → cell_numbered (standing sign items).font number ≡ o → kept.state.area.present ≤ kept.state.attributes.page_just
+  on_by : (o : Option CellData) → cell_numbered (standing sign items).font number ≡ o → kept.state.area.present ≤ page_number kept.state.attributes.page_just
   on_by None found = let wrong : ◌≡◌ {A = Option ℕ} (Some 7) None = sym (offends_without sign items number found) ∙ fine in absurd cc
   on_by (Some cell) found =
-      let at = ap (λ (a : Attributes). a.page_just) (attributes_here sign items kept of) in
+      let at = ap (λ (a : Attributes). page_number a.page_just) (attributes_here sign items kept of) in
       let apart = (none_of_both (conflicts (spots sign items) (shown sign items number cell found)) (doesn't_fit sign items number cell found) (sym (offends_by sign items number cell found) ∙ fine)).0 in
       omega (arith, at, back sign items number cell found kept of apart)
 
-  pub goes_on : kept.state.area.present ≤ kept.state.attributes.page_just
+  pub goes_on : kept.state.area.present ≤ page_number kept.state.attributes.page_just
   goes_on = on_by (cell_numbered (standing sign items).font number) refl
 
 -- a character is put whose cell was found and which doesn't offend by more than its size
 module _ (sign : SignData) (items : List Meaning) (kept : Pass) (is : IsFilledFor sign kept items) (number : ℕ) (c : SizedCell) (some : cell_in sign kept.state.attributes.font.number number ≡ Some c)
-    (fine : unsized_offence sign items (Shows number) ≡ None) (goes_on : Bool) (goes : goes_on ≡ (kept.state.attributes.page_just == kept.state.area.present))
+    (fine : unsized_offence sign items (Shows number) ≡ None) (goes_on : Bool) (goes : goes_on ≡ (page_number kept.state.attributes.page_just == kept.state.area.present))
     (character : Character) (just : character.just ≡ kept.state.attributes.line_just) (spacing : character.spacing ≡ kept.state.attributes.spacing) (wide : character.width ≡ c.width)
     (font : character.font ≡ kept.state.attributes.font) (area' : Area) (split' : Option Split) (ended : Option Line)
-    (fills : (cell : CellData) (found : cell_numbered (standing sign items).font number ≡ Some cell) → Fills sign items kept is.of number c some character (number == 32) area' split' ended kept.state.attributes.page_just kept.state.attributes.rectangle.width)
+    (fills : (cell : CellData) (found : cell_numbered (standing sign items).font number ≡ Some cell) → Fills sign items kept is.of number c some character (number == 32) area' split' ended (page_number kept.state.attributes.page_just) kept.state.attributes.rectangle.width)
     (f h : Bool) (line : (l : List Spot) → area'.group.line ≡ line_sum l → f ≡ line_fits kept.state.attributes.rectangle.width l)
     (height : (l : List Spot) → All IsPlacing l → area' ≡ area_sum l → h ≡ area_fits kept.state.attributes.rectangle.height l)
     (order' : Order) (sum : (line : List Spot) (s : Spot) → s.at.line_just ≡ character.just → list_any (clashes s) line ≡ false
@@ -152,6 +153,7 @@ module _ (sign : SignData) (items : List Meaning) (kept : Pass) (is : IsFilledFo
       let w = s.at.rectangle.width in
       let group = group_of s (spots sign items) in
       let at = ap (λ (a : Attributes). a.page_just) (attributes_here sign items kept of) in
+      let page = ap page_number at in
       let apart = no_conflict sign items number cell found fine in
       let is' = shown_character sign items kept of number c some cell found width character just spacing wide font in
       let space = spaces_is sign items number cell found in
@@ -163,14 +165,14 @@ module _ (sign : SignData) (items : List Meaning) (kept : Pass) (is : IsFilledFo
             ∙ filled_size sign items kept of number c some cell found apart character is' (number == 32) space area' split' ended (fills cell found) f h line height;
         passed = λ both.
             let fit = filled_fit sign items kept of number c some cell found apart character is' (number == 32) space area' split' ended (fills cell found) f h line height both in
-            let line_fits' = ap (λ l. line_fits w (after_last is_break l)) (sym on.after) ∙ first_of (line_fits w (after_last is_break (in_group s.at.page_just new))) (area_fits s.at.rectangle.height new) fit in
+            let line_fits' = ap (λ l. line_fits w (after_last is_break l)) (sym on.after) ∙ first_of (line_fits w (after_last is_break (in_group (page_number s.at.page_just) new))) (area_fits s.at.rectangle.height new) fit in
             let order = order_with sign items number cell found kept of apart goes_on goes at character is' order' sum in
             record {
               of = record { words = is.words; of = kept_with sign items number cell found kept of apart area' split' order' area split order below split_below line_fits' };
-              present = ap (λ (a : Area). a.present) area ∙ on.last ∙ sym at;
-              order = omega (arith, at, back sign items number cell found kept of apart);
-              others = λ j other. on.others j (λ e. other (e ∙ sym at));
-              own = subst (λ j. EndsLine (in_group j (present_area sign (laid_items Words sign items items))) (in_group j new) ended) (sym at)
-                  (subst (λ l. EndsLine l (in_group s.at.page_just new) ended) (sym on.before) (subst (λ l. EndsLine (filled (Some w) group) l ended) (sym on.after) line_ended));
+              present = ap (λ (a : Area). a.present) area ∙ on.last ∙ sym page;
+              order = omega (arith, page, back sign items number cell found kept of apart);
+              others = λ j other. on.others j (λ e. other (e ∙ sym page));
+              own = subst (λ j. EndsLine (in_group j (present_area sign (laid_items Words sign items items))) (in_group j new) ended) (sym page)
+                  (subst (λ l. EndsLine l (in_group (page_number s.at.page_just) new) ended) (sym on.before) (subst (λ l. EndsLine (filled (Some w) group) l ended) (sym on.after) line_ended));
             };
       }

@@ -4,6 +4,7 @@ use Rattle.std.proofs.Common.{◌≡◌, ℕ, Bool, true, false, ◌&&◌, ◌||
 use Rattle.std.specs.Prelude.{nat_lt}
 use Rattle.std.specs.List.{after_last, list_any, All}
 use Rattle.std.proofs.lemmas.Bool.{le-ltb, or_parts}
+use Rattle.multi_tag.specs.Just.{line_number}
 use Rattle.multi_meaning.specs.Address.{Spot, is_break}
 use Rattle.multi_meaning.specs.Filling.{CutAt, soft_break, filled}
 use Rattle.multi_meaning.specs.Offence.{clashes}
@@ -47,14 +48,14 @@ module _ (width : ℕ) where
       ∙ none_behind (clashes s) front (open_line width g) (ap (list_any (clashes s)) (sym is ∙ sym (after_last_is is_break g)) ∙ apart)
 
 -- the order with one more character, which isn't before the others
-pub order_more : (line : List Spot) (s : Spot) (just : ℕ) (parts : Bool) → s.at.line_just ≡ just → list_any (clashes s) line ≡ false → parts ≡ list_any (λ (t : Spot). nat_lt t.at.line_just 5) line
+pub order_more : (line : List Spot) (s : Spot) (just : ℕ) (parts : Bool) → line_number s.at.line_just ≡ just → list_any (clashes s) line ≡ false → parts ≡ list_any (λ (t : Spot). nat_lt (line_number t.at.line_just) 5) line
     → ◌≡◌ {A = Order} (record { largest = just; has_parts = nat_lt just 5 || parts }) (order_sum (line ++ s ∷ []))
 order_more line s just parts is apart e =
-    let most : largest (λ (t : Spot). t.at.line_just) (line ++ s ∷ []) ≡ just =
+    let most : largest (λ (t : Spot). line_number t.at.line_just) (line ++ s ∷ []) ≡ just =
     let least = in_order line s (line_sum line) refl apart in
-    omega (arith, least, is, largest_push (λ (t : Spot). t.at.line_just) line s) in
-    let some : list_any (λ (t : Spot). nat_lt t.at.line_just 5) (line ++ s ∷ []) ≡ (nat_lt just 5 || parts) =
-    any_more (λ (t : Spot). nat_lt t.at.line_just 5) line s ∙ ap (λ b. b || nat_lt s.at.line_just 5) (sym e) ∙ ap (λ n. parts || nat_lt n 5) is ∙ either_way parts (nat_lt just 5) in
+    omega (arith, least, is, largest_push (λ (t : Spot). line_number t.at.line_just) line s) in
+    let some : list_any (λ (t : Spot). nat_lt (line_number t.at.line_just) 5) (line ++ s ∷ []) ≡ (nat_lt just 5 || parts) =
+    any_more (λ (t : Spot). nat_lt (line_number t.at.line_just) 5) line s ∙ ap (λ b. b || nat_lt (line_number s.at.line_just) 5) (sym e) ∙ ap (λ n. parts || nat_lt n 5) is ∙ either_way parts (nat_lt just 5) in
     rw (most, some) refl
   where
     either_way : (a b : Bool) → (a || b) ≡ (b || a)
@@ -64,16 +65,16 @@ order_more line s just parts is apart e =
     either_way false false = refl
 
 -- a character with the justification of the last one clashes with none
-pub order_apart : (line : List Spot) (s : Spot) (order : Order) → order ≡ order_sum line → order.largest ≡ s.at.line_just → order.has_parts ≡ nat_lt s.at.line_just 5 → list_any (clashes s) line ≡ false
+pub order_apart : (line : List Spot) (s : Spot) (order : Order) → order ≡ order_sum line → order.largest ≡ line_number s.at.line_just → order.has_parts ≡ nat_lt (line_number s.at.line_just) 5 → list_any (clashes s) line ≡ false
 order_apart line s order e largest_is parts =
     line_clashes line s
-    ∙ ap (λ n. nat_lt s.at.line_just n || ((s.at.line_just == 5) && list_any (λ (t : Spot). nat_lt t.at.line_just 5) line)) (ap (λ (o : Order). o.largest) (sym e) ∙ largest_is)
-    ∙ ap (λ b. nat_lt s.at.line_just s.at.line_just || ((s.at.line_just == 5) && b)) (ap (λ (o : Order). o.has_parts) (sym e) ∙ parts)
-    ∙ ap (λ b. b || ((s.at.line_just == 5) && nat_lt s.at.line_just 5)) (le-ltb s.at.line_just s.at.line_just (omega arith))
-    ∙ not_full s.at.line_just
+    ∙ ap (λ n. nat_lt (line_number s.at.line_just) n || ((line_number s.at.line_just == 5) && list_any (λ (t : Spot). nat_lt (line_number t.at.line_just) 5) line)) (ap (λ (o : Order). o.largest) (sym e) ∙ largest_is)
+    ∙ ap (λ b. nat_lt (line_number s.at.line_just) (line_number s.at.line_just) || ((line_number s.at.line_just == 5) && b)) (ap (λ (o : Order). o.has_parts) (sym e) ∙ parts)
+    ∙ ap (λ b. b || ((line_number s.at.line_just == 5) && nat_lt (line_number s.at.line_just) 5)) (le-ltb (line_number s.at.line_just) (line_number s.at.line_just) (omega arith))
+    ∙ not_full (line_number s.at.line_just)
 
 -- and leaves it as it is
-pub order_stays : (line : List Spot) (s : Spot) (order : Order) → order ≡ order_sum line → order.largest ≡ s.at.line_just → order.has_parts ≡ nat_lt s.at.line_just 5 → order ≡ order_sum (line ++ s ∷ [])
+pub order_stays : (line : List Spot) (s : Spot) (order : Order) → order ≡ order_sum line → order.largest ≡ line_number s.at.line_just → order.has_parts ≡ nat_lt (line_number s.at.line_just) 5 → order ≡ order_sum (line ++ s ∷ [])
 order_stays line s order e largest_is parts =
-    (λ i. let o : Order = record { largest = largest_is i; has_parts = (parts ∙ or_same (nat_lt s.at.line_just 5)) i } in o)
-    ∙ order_more line s s.at.line_just (nat_lt s.at.line_just 5) refl (order_apart line s order e largest_is parts) (sym parts ∙ ap (λ (o : Order). o.has_parts) e)
+    (λ i. let o : Order = record { largest = largest_is i; has_parts = (parts ∙ or_same (nat_lt (line_number s.at.line_just) 5)) i } in o)
+    ∙ order_more line s (line_number s.at.line_just) (nat_lt (line_number s.at.line_just) 5) refl (order_apart line s order e largest_is parts) (sym parts ∙ ap (λ (o : Order). o.has_parts) e)

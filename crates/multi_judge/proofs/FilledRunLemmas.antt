@@ -9,6 +9,7 @@ use Rattle.multi_token.specs.declared.token.Token.{Token}
 use Rattle.multi_token.specs.declared.token.Kind.TheVariants as kinds
 use Rattle.multi_token.specs.Spelling.{IsPlain}
 use Rattle.multi_token.proofs.PlaceLemmas.{single_token}
+use Rattle.multi_tag.specs.Just.{line_number, page_number}
 use Rattle.sign_font.specs.Cell.{SizedCell}
 use Rattle.sign_font.specs.Sign.{SignData, cell_in}
 use Rattle.multi_meaning.specs.Address.{Spot, is_break, is_glyph}
@@ -16,6 +17,7 @@ use Rattle.multi_meaning.specs.Filling.{filled, is_space}
 use Rattle.multi_meaning.specs.Fit.{line_fits}
 use Rattle.multi_meaning.specs.Meaning.{meaning}
 use Rattle.multi_meaning.specs.Offence.{clashes}
+use Rattle.multi_meaning.proofs.JustLemmas.{line_number_known}
 use Rattle.multi_judge.specs.declared.area.Area.{Area}
 use Rattle.multi_judge.specs.declared.attributes.Attributes.{Attributes}
 use Rattle.multi_judge.specs.declared.fill.Split.{Split}
@@ -59,11 +61,11 @@ module _ (here : Attributes) (width : ℕ) where
   pub first_line : (s : Spot) → IsCharacter s (seen here width) → even_line here width 1 (line_sum []) ≡ line_sum (s ∷ [])
   first_line s is =
       let none = line_sum [] in
-      let part : ◌≡◌ {A = Segment} (record { width = width; count = 1; last = Some here.font.char_spacing }) (segment_sum here.line_just (s ∷ [])) =
+      let part : ◌≡◌ {A = Segment} (record { width = width; count = 1; last = Some here.font.char_spacing }) (segment_sum (line_number here.line_just) (s ∷ [])) =
       let wide : 0 + (0 + width) ≡ width = omega arith in
-      rw wide at (segment_own here.line_just [] s (seen here width) is refl (segment_sum here.line_just []) 0 width refl refl refl) in
+      rw wide at (segment_own (line_number here.line_just) [] s (seen here width) is refl (segment_sum (line_number here.line_just) []) 0 width refl refl refl) in
       line_with [] s (seen here width) (All-nil (λ x. is_glyph x ≡ true)) is none refl (omega arith) (even_line here width 1 none) refl
-      (sym (cond_zero (nat_lt 2 here.line_just) 0 refl)) (sym (cond_zero (nat_lt 3 here.line_just) 0 refl)) (sym (cond_zero (nat_lt 4 here.line_just) 0 refl)) part refl (omega arith) (omega arith) refl
+      (sym (cond_zero (nat_lt 2 (line_number here.line_just)) 0 refl)) (sym (cond_zero (nat_lt 3 (line_number here.line_just)) 0 refl)) (sym (cond_zero (nat_lt 4 (line_number here.line_just)) 0 refl)) part refl (omega arith) (omega arith) refl
 
   -- a line with one more, if its last one has these attributes
   pub line_more : (gap : ℕ) → gap ≡ unwrap_or here.spacing here.font.char_spacing → (kept : Line) → (kept.any ≡ true → IsBehindOne here.line_just here.font kept) → (line : List Spot) (s : Spot) → AllPass is_glyph line
@@ -107,11 +109,11 @@ module _ (here : Attributes) (gap width : ℕ) (gap_is : gap ≡ unwrap_or here.
       by_any false none = rw none (record { segment = refl; parts = refl; any = refl; height = omega arith; spacing = omega arith; last = refl })
 
   -- its numbers grow by no more than the character's
-  pub split_grows : (k : ℕ) (space : Bool) (line : Line) (split : Option Split) → here.line_just ≤ 5 → gap ≤ 255 → width ≤ 64 → IsLineBelow k line → IsSplitBelow k split → IsSplitBelow (k + 1024) (split_one here gap width space line split)
-  split_grows k true line split known narrow small below b =
+  pub split_grows : (k : ℕ) (space : Bool) (line : Line) (split : Option Split) → gap ≤ 255 → width ≤ 64 → IsLineBelow k line → IsSplitBelow k split → IsSplitBelow (k + 1024) (split_one here gap width space line split)
+  split_grows k true line split narrow small below b =
       (line_below k line below, record { left = omega arith; centre = omega arith; right = omega arith; part = record { width = omega arith; count = omega arith }; known = omega arith })
-  split_grows k false line None known narrow small below b = tt
-  split_grows k false line (Some parts) known narrow small below b = (line_below k parts.before b.0, by_any parts.behind.any refl)
+  split_grows k false line None narrow small below b = tt
+  split_grows k false line (Some parts) narrow small below b = (line_below k parts.before b.0, by_any parts.behind.any refl)
     where
       by_any : (a : Bool) → parts.behind.any ≡ a → IsLineBelow (k + 1024) (with_run here gap (gap + width) 1 parts.behind)
       by_any true some =
@@ -123,7 +125,7 @@ module _ (here : Attributes) (gap width : ℕ) (gap_is : gap ≡ unwrap_or here.
             part = record { width = omega (arith, l.part.width, narrow, small); count = omega (arith, l.part.count) };
             known = l.known;
           })
-      by_any false none = let l = b.1 in rw none (record { left = omega (arith, l.left); centre = omega (arith, l.centre); right = omega (arith, l.right); part = record { width = omega (arith, small); count = omega arith }; known = known })
+      by_any false none = let l = b.1 in rw none (record { left = omega (arith, l.left); centre = omega (arith, l.centre); right = omega (arith, l.right); part = record { width = omega (arith, small); count = omega arith }; known = (line_number_known here.line_just).1 })
 
 -- what is kept with one more character of this width
 abbrev pub with_one : ℕ → ℕ → Bool → Pass → Pass
@@ -164,18 +166,18 @@ module _ (kept : Pass) (run : IsFilledRun kept) (gap room : ℕ) (runs : IsRun k
       }
 
   -- the group grows by it
-  fills_one : line.present ≤ 5 → FillsArea here.page_just here.rectangle.width kept.state.area kept.split (seen here width) space area' (split_one here gap width space line kept.split) None
+  fills_one : line.present ≤ 5 → FillsArea (page_number here.page_just) here.rectangle.width kept.state.area kept.split (seen here width) space area' (split_one here gap width space line kept.split) None
   fills_one known old new group s placing placing' e order on is spaces fits' apart o =
       let w = here.rectangle.width in
       let area = kept.state.area in
-      let own : area.group ≡ group_sum (filled (Some w) group) = group_of_own old area e here.page_just (sym run.behind.group) ∙ ap group_sum on.before in
+      let own : area.group ≡ group_sum (filled (Some w) group) = group_of_own old area e (page_number here.page_just) (sym run.behind.group) ∙ ap group_sum on.before in
       let glyphs = present_glyphs w group s (seen here width) placing' is fits' apart area.group own in
       let line_is = present_line w group s (seen here width) placing' is fits' apart area.group own in
       let one = run.behind.line in
       let grown = line_lengthened (after_last is_break (filled (Some w) group)) s (seen here width) glyphs is line line_is one.segment one.parts one.any one.height one.spacing one.last gap runs.gap_is in
       let fits_so : (l : List Spot) → longer ≡ line_sum l → true ≡ line_fits w l = λ l is. sym still_fits ∙ kept_fits_is l longer w is known in
-      let turned : area ≡ area_sum_in here.page_just old = e ∙ ap (λ n. area_sum_in n old) (sym (ap (λ (a : Area). a.present) e) ∙ run.behind.group) in (
-        area_filled old new group s here.page_just w on area area' turned refl refl refl (stands_sum w group s (seen here width) placing' is fits' apart area.group own longer grown true fits_so refl),
+      let turned : area ≡ area_sum_in (page_number here.page_just) old = e ∙ ap (λ n. area_sum_in n old) (sym (ap (λ (a : Area). a.present) e) ∙ run.behind.group) in (
+        area_filled old new group s (page_number here.page_just) w on area area' turned refl refl refl (stands_sum w group s (seen here width) placing' is fits' apart area.group own longer grown true fits_so refl),
         split_more here gap width runs.gap_is space kept.split run.split line (after_last is_break (filled (Some w) group)) s glyphs is spaces apart line_is (o run.behind.group)
             ∙ ap split_sum (sym (stands_line w group s (seen here width) placing' is fits' apart area.group own longer grown true fits_so refl)),
         stands_ended w group s (seen here width) placing' is fits' apart area.group own longer grown true fits_so refl,
@@ -199,16 +201,16 @@ module _ (sign : SignData) (octets : List ℕ) (at : ℕ) (kept : Pass) (r : Rea
       let area : Area = lengthened_area (line.part.width + (gap + wide)) (line.part.count + 1) kept.state.area in
       let put = filled_put sign items kept r.is octet cell found
       (filled_free sign items kept of octet cell found false
-      (λ line s e just. sym (order_apart line s kept.order e (run.order.0 ∙ sym just) (run.order.1 ∙ ap (λ n. nat_lt n 5) (sym just))))
-      (ap (λ b. b || ((attributes.page_just == kept.state.area.present) && false)) (le-ltb attributes.page_just kept.state.area.present (omega (arith, run.behind.group))) ∙ and_right (attributes.page_just == kept.state.area.present) false refl))
-      true (sym (eq-eqb attributes.page_just kept.state.area.present (sym run.behind.group)))
+      (λ line s e just. sym (order_apart line s kept.order e (run.order.0 ∙ ap line_number (sym just)) (run.order.1 ∙ ap (λ j. nat_lt (line_number j) 5) (sym just))))
+      (ap (λ b. b || ((page_number attributes.page_just == kept.state.area.present) && false)) (le-ltb (page_number attributes.page_just) kept.state.area.present (omega (arith, run.behind.group))) ∙ and_right (page_number attributes.page_just == kept.state.area.present) false refl))
+      true (sym (eq-eqb (page_number attributes.page_just) kept.state.area.present (sym run.behind.group)))
       (seen attributes wide) refl refl is refl area (split_one attributes gap wide (octet == 32) line kept.split) None
       (λ cell found. fills_one kept run gap room runs wide some fits (octet == 32) known)
       (kept_fits attributes.rectangle.width longer) (kept_fits_height attributes.rectangle.height area)
       (λ l e. kept_fits_is l longer attributes.rectangle.width e known) (λ l placing e. kept_area_fits l area attributes.rectangle.height placing e (omega (arith, st.below.known)))
-      kept.order (λ line s just apart goes stays. order_stays line s kept.order (goes refl) (run.order.0 ∙ sym just) (run.order.1 ∙ ap (λ n. nat_lt n 5) (sym just)))
+      kept.order (λ line s just apart goes stays. order_stays line s kept.order (goes refl) (run.order.0 ∙ ap line_number (sym just)) (run.order.1 ∙ ap (λ j. nat_lt (line_number j) 5) (sym just)))
       (longer_below (1024 * length items) (line.part.width + (gap + wide)) (line.part.count + 1) kept.state.area below (omega (arith, below.group.line.part.width, runs.narrow, small)) (omega (arith, below.group.line.part.count)))
-      (split_grows attributes gap wide runs.gap_is (1024 * length items) (octet == 32) line kept.split st.line_just.1 runs.narrow small below.group.line of.split_below) in
+      (split_grows attributes gap wide runs.gap_is (1024 * length items) (octet == 32) line kept.split runs.narrow small below.group.line of.split_below) in
       let fits' = and_from (kept_fits attributes.rectangle.width longer) (kept_fits_height attributes.rectangle.height area) (still_fits kept run gap room runs wide some fits (octet == 32)) run.fits.height in
       let token : Token = record { at = at; len = 1; kind = kinds.Char octet } in
       read_more sign octets at (IsFilledFor sign kept) r token refl (single_token octets at octet short here plain) (IsFilledFor sign (with_one gap wide (octet == 32) kept))

@@ -102,8 +102,6 @@ module _ (setting : LineFill) (sign : SignData) where
           attributes = st.attributes ∙ ap attributes_of before.0 ∙ sym (ap attributes_of after);
           area = sum;
           font = subst (λ (s : Standing). font_numbered sign s.font.number ≡ Some s.font) (before.0 ∙ unchanged ∙ sym after) st.font;
-          line_just = st.line_just;
-          page_just = st.page_just;
           below = below;
           short = st.short;
         }

@@ -3,6 +3,7 @@ use Rattle.std.proofs.Common.{◌≡◌, ℕ, ◌+◌, max, Bool, true, false, c
 use Rattle.std.specs.List.{filter_map, last_or, list_any, after_last, cons_option, All, AllPass}
 use Rattle.std.specs.Option.{unwrap_or, option_map, option_map_or}
 use Rattle.std.proofs.lemmas.List.Elements.{filter_map-append, All-head, All-tail}
+use Rattle.multi_tag.specs.Just.{page_number}
 use Rattle.multi_meaning.specs.Words.{largest}
 use Rattle.multi_meaning.specs.Address.{Spot, Break, is_glyph, is_break, in_group}
 use Rattle.multi_meaning.specs.Line.{average, bearers, line_height, line_spacing, line_gap, given_gap, height_of}
@@ -76,7 +77,7 @@ present_push group s g =
     ∙ ap (λ l. l ++ s ∷ []) (sym (after_last_is is_break group))
 
 -- a group after one more character
-pub group_character : (just : ℕ) (area : List Spot) (s : Spot) → s.at.page_just ≡ just → is_glyph s ≡ true → (group : Group) (line : Line) → group ≡ group_sum (in_group just area) → line ≡ line_sum (after_last is_break (in_group just area) ++ s ∷ [])
+pub group_character : (just : ℕ) (area : List Spot) (s : Spot) → page_number s.at.page_just ≡ just → is_glyph s ≡ true → (group : Group) (line : Line) → group ≡ group_sum (in_group just area) → line ≡ line_sum (after_last is_break (in_group just area) ++ s ∷ [])
     → ◌≡◌ {A = Group} (record { ended = group.ended; closed = group.closed; last = group.last; line = line }) (group_sum (in_group just (area ++ s ∷ [])))
 group_character just area s own g group line e l =
     let before = in_group just area in

@@ -13,8 +13,7 @@ use Rattle.multi_meaning.specs.Laid.{too_big}
 use Rattle.sign_font.specs.Cell.{SizedCell}
 use Rattle.sign_font.specs.Sign.{SignData, CellData, FontData, cell_in, cell_numbered, font_numbered, info_of, sized}
 use Rattle.sign_font.specs.declared.font.FontInfo.{FontInfo}
-use Rattle.sign_font.specs.Sound.{IsSound}
-use Rattle.multi_meaning.specs.Attributes.{default_font, whole_sign}
+use Rattle.multi_meaning.specs.Attributes.{default_font, default_line_just, default_page_just, whole_sign}
 use Rattle.multi_meaning.specs.Address.{Break, Cover, Glyph, Standing, put_at, spots, standing}
 use Rattle.multi_meaning.specs.Meaning.{Meaning, Shows, Does, begins_area, is_new_page}
 use Rattle.multi_meaning.specs.Offence.{conflicts, never_big, offence, unsized_offence}
@@ -97,9 +96,8 @@ state-same_page : (sign : SignData) (items : List Meaning) (state new : State) (
     → new.attributes ≡ attributes_of (standing_behind sign (standing sign items) x)
     → new.area ≡ area_sum (present_area sign (items ++ x ∷ []))
     → font_numbered sign (standing_behind sign (standing sign items) x).font.number ≡ Some (standing_behind sign (standing sign items) x).font
-    → (2 ≤ new.attributes.line_just) × (new.attributes.line_just ≤ 5) → (2 ≤ new.attributes.page_just) × (new.attributes.page_just ≤ 4)
     → IsBelow (1024 * length items + 1024) new.area → IsStateOf sign (items ++ x ∷ []) new
-state-same_page sign items state new x st same pages times attributes area font line page below =
+state-same_page sign items state new x st same pages times attributes area font below =
     let none : cond {A = ℕ} (is_new_page x) 1 0 ≡ 0 = ap (λ b. cond b 1 0) same in
     let push = standing_push sign items x in
     record {
@@ -108,8 +106,6 @@ state-same_page sign items state new x st same pages times attributes area font 
       attributes = attributes ∙ sym (ap attributes_of push);
       area = area;
       font = subst (λ (s : Standing). font_numbered sign s.font.number ≡ Some s.font) (sym push) font;
-      line_just = line;
-      page_just = page;
       below = subst (λ n. IsBelow n new.area) (sym (length-push items x)) below;
       short = omega (arith, st.short, pages, times);
     }
@@ -119,12 +115,11 @@ pub state-attribute : (sign : SignData) (items : List Meaning) (state : State) (
     → is_new_page x ≡ false → begins_area x ≡ false → put_at sign.defaults (standing sign items) x ≡ None
     → attributes ≡ attributes_of (standing_behind sign (standing sign items) x)
     → font_numbered sign (standing_behind sign (standing sign items) x).font.number ≡ Some (standing_behind sign (standing sign items) x).font
-    → (2 ≤ attributes.line_just) × (attributes.line_just ≤ 5) → (2 ≤ attributes.page_just) × (attributes.page_just ≤ 4)
     → IsBelow (1024 * length items + 1024) state.area
     → IsStateOf sign (items ++ x ∷ []) (record state { attributes = attributes })
-state-attribute sign items state attributes x st page area put is font line just below =
+state-attribute sign items state attributes x st page area put is font below =
     state-same_page sign items state (record state { attributes = attributes }) x st page refl refl is
-    (st.area ∙ ap area_sum (sym (present_area-nothing sign items x area put))) font line just below
+    (st.area ∙ ap area_sum (sym (present_area-nothing sign items x area put))) font below
 
 -- what the items so far make of a state doesn't hang on its limits
 pub state-limits : (sign : SignData) (items : List Meaning) (state new : State) → new ≡ record state { area = new.area; limits = new.limits } → IsStateOf sign items (record state { area = new.area }) → IsStateOf sign items new
@@ -135,8 +130,6 @@ state-limits sign items state new same st =
       attributes = st.attributes;
       area = st.area;
       font = st.font;
-      line_just = st.line_just;
-      page_just = st.page_just;
       below = st.below;
       short = st.short;
     })
@@ -205,7 +198,7 @@ module _ (sign : SignData) (items : List Meaning) (state : State) (st : IsStateO
         let puts : put_at sign.defaults (standing sign items) (Shows number) ≡ Some (Glyph cell) = ap (option_map Glyph) found in
         state-same_page sign items state (record state { area = area }) (Shows number) st refl refl refl st.attributes
         (sum ∙ ap area_sum (sym (present_area-placing sign items (Shows number) (Glyph cell) refl puts refl)))
-        st.font st.line_just st.page_just below
+        st.font below
 
   module _ (gap : Option ℕ) where
     pub break-conflict : conflicts (spots sign items) (record { at = standing sign items; put = Break gap }) ≡ true → offence Off sign items (Does (NewLine gap)) ≡ Some 11
@@ -224,7 +217,7 @@ module _ (sign : SignData) (items : List Meaning) (state : State) (st : IsStateO
     state-break area sum below =
         state-same_page sign items state (record state { area = area }) (Does (NewLine gap)) st refl refl refl st.attributes
         (sum ∙ ap area_sum (sym (present_area-placing sign items (Does (NewLine gap)) (Break gap) refl refl refl)))
-        st.font st.line_just st.page_just below
+        st.font below
 
   -- ---- new pages and rectangles
 
@@ -244,8 +237,6 @@ module _ (sign : SignData) (items : List Meaning) (state : State) (st : IsStateO
       let push = standing_push sign items x in
       let on : state.attributes.on ≡ (standing sign items).on = ap (λ (a : Attributes). a.on) st.attributes in
       let off : state.attributes.off ≡ (standing sign items).off = ap (λ (a : Attributes). a.off) st.attributes in
-      let line : new.attributes.line_just ≡ state.attributes.line_just = ap (λ (a : Attributes). a.line_just) attributes in
-      let page : new.attributes.page_just ≡ state.attributes.page_just = ap (λ (a : Attributes). a.page_just) attributes in
       let whole : new.attributes ≡ attributes_of (standing_behind sign (standing sign items) x) =
       attributes ∙ ap (λ (a : Attributes). let b : Attributes = record a { rectangle = whole_sign sign } in b) st.attributes in
       record {
@@ -254,8 +245,6 @@ module _ (sign : SignData) (items : List Meaning) (state : State) (st : IsStateO
         attributes = whole ∙ sym (ap attributes_of push);
         area = area ∙ ap area_sum (sym (present_area-new sign items x refl));
         font = subst (λ (s : Standing). font_numbered sign s.font.number ≡ Some s.font) (sym push) st.font;
-        line_just = (omega (arith, st.line_just.0, line), omega (arith, st.line_just.1, line));
-        page_just = (omega (arith, st.page_just.0, page), omega (arith, st.page_just.1, page));
         below = below_more 0 (1024 * length (items ++ x ∷ [])) new.area (omega arith) below;
         short = omega (arith, st.short, pages, times, on_bound, off_bound);
       }
@@ -270,14 +259,14 @@ font_of_info None info e = cc
 font_of_info (Some font) info e = (font, refl, sym (same_Some (info_of font) info e))
 
 -- the state before the first item
-pub state-start : (sign : SignData) (info : FontInfo) (area : Area) (limits : Limits) → IsSound sign → option_map info_of (font_numbered sign sign.defaults.font) ≡ Some info → area ≡ area_sum [] → IsBelow 0 area
+pub state-start : (sign : SignData) (info : FontInfo) (area : Area) (limits : Limits) → option_map info_of (font_numbered sign sign.defaults.font) ≡ Some info → area ≡ area_sum [] → IsBelow 0 area
     → IsStateOf sign [] (record {
       pages = 1;
       cycle = 0;
       attributes = record {
         font = info;
-        line_just = sign.defaults.line;
-        page_just = sign.defaults.page;
+        line_just = default_line_just sign.defaults;
+        page_just = default_page_just sign.defaults;
         spacing = None;
         fore = sign.defaults.fore;
         back = sign.defaults.back;
@@ -290,7 +279,7 @@ pub state-start : (sign : SignData) (info : FontInfo) (area : Area) (limits : Li
       limits = limits;
     })
 unfolding standing spots
-state-start sign info area limits sound is sum below =
+state-start sign info area limits is sum below =
     let (font, found, same) = font_of_info (font_numbered sign sign.defaults.font) info is in
     let none : FontData = record { number = 0; version = 0; height = 0; char_spacing = 0; line_spacing = 0; cells = [] } in
     let default : default_font sign ≡ font = ap (λ o. unwrap_or o none) found in
@@ -299,8 +288,8 @@ state-start sign info area limits sound is sum below =
       times = refl;
       attributes = λ i. record {
         font = (same ∙ ap info_of (sym default)) i;
-        line_just = sign.defaults.line;
-        page_just = sign.defaults.page;
+        line_just = default_line_just sign.defaults;
+        page_just = default_page_just sign.defaults;
         spacing = None;
         fore = sign.defaults.fore;
         back = sign.defaults.back;
@@ -311,8 +300,6 @@ state-start sign info area limits sound is sum below =
       };
       area = sum;
       font = subst (λ (f : FontData). font_numbered sign f.number ≡ Some f) (sym default) (found_again sign sign.defaults.font font found);
-      line_just = sound.line;
-      page_just = sound.page;
       below = below;
       short = omega arith;
     }
@@ -320,8 +307,6 @@ state-start sign info area limits sound is sum below =
 -- a state within these bounds has room for one more item
 pub ready : (sign : SignData) (items : List Meaning) (state : State) → IsStateOf sign items state → length items ≤ 2 ^ 32 → IsReady state
 ready sign items state st few = record {
-  line_just = st.line_just;
-  page_just = st.page_just;
   below = below_more (1024 * length items) (2 ^ 62) state.area (omega arith) st.below;
   short = st.short;
 }
@@ -329,20 +314,19 @@ ready sign items state st few = record {
 -- a `pb`, which covers the page and places nothing
 pub state-cover : (sign : SignData) (items : List Meaning) (state : State) (attributes : Attributes) (colour : Option ℕ) → IsStateOf sign items state
     → attributes ≡ attributes_of (standing_behind sign (standing sign items) (Does (Back colour)))
-    → (2 ≤ attributes.line_just) × (attributes.line_just ≤ 5) → (2 ≤ attributes.page_just) × (attributes.page_just ≤ 4)
     → IsBelow (1024 * length items + 1024) state.area
     → IsStateOf sign (items ++ Does (Back colour) ∷ []) (record state { attributes = attributes })
-state-cover sign items state attributes colour st is line just below =
+state-cover sign items state attributes colour st is below =
     state-same_page sign items state (record state { attributes = attributes }) (Does (Back colour)) st refl refl refl is
-    (st.area ∙ ap area_sum (sym (present_area-cover sign items (Does (Back colour)) (Cover (standing sign items).page (unwrap_or colour sign.defaults.back)) refl refl refl))) st.font line just below
+    (st.area ∙ ap area_sum (sym (present_area-cover sign items (Does (Back colour)) (Cover (standing sign items).page (unwrap_or colour sign.defaults.back)) refl refl refl))) st.font below
 
 -- a rectangle, in which an empty area begins
 pub state-rectangle : (sign : SignData) (items : List Meaning) (state new : State) (x y w h : ℕ) → IsStateOf sign items state
     → new.pages ≡ state.pages → new.cycle ≡ state.cycle
     → new.attributes ≡ attributes_of (standing_behind sign (standing sign items) (Does (Rect x y w h)))
-    → new.area ≡ area_sum [] → (2 ≤ new.attributes.line_just) × (new.attributes.line_just ≤ 5) → (2 ≤ new.attributes.page_just) × (new.attributes.page_just ≤ 4) → IsBelow 0 new.area
+    → new.area ≡ area_sum [] → IsBelow 0 new.area
     → IsStateOf sign (items ++ Does (Rect x y w h) ∷ []) new
-state-rectangle sign items state new x y w h st pages times attributes area line page below =
+state-rectangle sign items state new x y w h st pages times attributes area below =
     state-same_page sign items state new (Does (Rect x y w h)) st refl pages times attributes
-    (area ∙ ap area_sum (sym (present_area-new sign items (Does (Rect x y w h)) refl))) st.font line page
+    (area ∙ ap area_sum (sym (present_area-new sign items (Does (Rect x y w h)) refl))) st.font
     (below_more 0 (1024 * length items + 1024) new.area (omega arith) below)

@@ -5,6 +5,7 @@ use Rattle.std.specs.Option.{option_map, unwrap_or}
 use Rattle.std.proofs.lemmas.Bool.{false≢true}
 use Rattle.multi_tag.specs.declared.tag.Tag.{Tag}
 use Rattle.multi_tag.specs.declared.tag.Tag.TheVariants.{NewPage, NewLine, Back, Rect}
+use Rattle.multi_tag.specs.Just.{page_number}
 use Rattle.sign_font.specs.Sign.{SignData, CellData, cell_numbered}
 use Rattle.multi_meaning.specs.Address.{Spot, Glyph, Break, Cover, in_group, is_break, spots, standing}
 use Rattle.multi_meaning.specs.Meaning.{begins_area, Does, has_place, Meaning, Shows}
@@ -43,46 +44,46 @@ module _ (sign : SignData) (items : List Meaning) (state : State) (st : IsStateO
   page_is : (standing sign items).page_just ≡ state.attributes.page_just
   page_is = sym (ap (λ (a : Attributes). a.page_just) st.attributes)
 
-  present_is : state.area.present ≡ largest (λ (t : Spot). t.at.page_just) (present_area sign items)
+  present_is : state.area.present ≡ largest (λ (t : Spot). page_number t.at.page_just) (present_area sign items)
   present_is = ap (λ (a : Area). a.present) st.area
 
   none≢some : (n : ℕ) → Some n ≡ None → ⊥
   none≢some n e = cc
 
   -- an item with a place that doesn't offend isn't before the present group
-  order_glyph : (number : ℕ) (o : Option CellData) → cell_numbered (standing sign items).font number ≡ o → unsized_offence sign items (Shows number) ≡ None → state.area.present ≤ state.attributes.page_just
+  order_glyph : (number : ℕ) (o : Option CellData) → cell_numbered (standing sign items).font number ≡ o → unsized_offence sign items (Shows number) ≡ None → state.area.present ≤ page_number state.attributes.page_just
   order_glyph number None found fine = absurd (none≢some 7 (sym (offence-undefined never_big sign items number found) ∙ fine))
   order_glyph number (Some cell) found fine =
       let spot : Spot = record { at = standing sign items; put = Glyph cell } in
-      no_back (spots sign items) spot state.attributes.page_just state.area.present page_is present_is
+      no_back (spots sign items) spot (page_number state.attributes.page_just) state.area.present (ap page_number page_is) present_is
       (no_conflict (conflicts (spots sign items) spot) false (sym (offence-character never_big sign items number cell found) ∙ fine))
 
-  pub order : (x : Meaning) → unsized_offence sign items x ≡ None → has_place x ≡ true → state.area.present ≤ state.attributes.page_just
+  pub order : (x : Meaning) → unsized_offence sign items x ≡ None → has_place x ≡ true → state.area.present ≤ page_number state.attributes.page_just
   order (Shows number) fine p = order_glyph number (cell_numbered (standing sign items).font number) refl fine
   order (Does (NewLine gap)) fine p =
       let spot : Spot = record { at = standing sign items; put = Break gap } in
-      no_back (spots sign items) spot state.attributes.page_just state.area.present page_is present_is
+      no_back (spots sign items) spot (page_number state.attributes.page_just) state.area.present (ap page_number page_is) present_is
       (no_conflict (conflicts (spots sign items) spot) false (sym (offence-break never_big sign items gap) ∙ fine))
   order x fine p = absurd (false≢true p)
 
   -- one more placing item joins the group in force, which is then the present one, and the others stay
-  joins : (x : Meaning) (spot : Spot) → present_area sign (items ++ x ∷ []) ≡ present_area sign items ++ spot ∷ [] → spot.at.page_just ≡ state.attributes.page_just → state.area.present ≤ state.attributes.page_just
+  joins : (x : Meaning) (spot : Spot) → present_area sign (items ++ x ∷ []) ≡ present_area sign items ++ spot ∷ [] → spot.at.page_just ≡ state.attributes.page_just → state.area.present ≤ page_number state.attributes.page_just
       → (after : State) → IsStateOf sign (items ++ x ∷ []) after →
-      let page = state.attributes.page_just in
+      let page = page_number state.attributes.page_just in
       let old = present_area sign items in
       let new = present_area sign (items ++ x ∷ []) in
       (after.area.present ≡ page) × ((just : ℕ) → (just ≡ page → ⊥) → in_group just new ≡ in_group just old) × (in_group page new ≡ in_group page old ++ spot ∷ [])
   joins x spot grown at on after st' =
       let area = present_area sign items in (
-        present_behind area spot state.area after.area st.area (st'.area ∙ ap area_sum grown) (omega (arith, at, on)) ∙ at,
-        λ just other. ap (in_group just) grown ∙ in_group_other just area spot (λ h. other (sym h ∙ at)),
-        ap (in_group state.attributes.page_just) grown ∙ own_group state.attributes.page_just area spot at,
+        present_behind area spot state.area after.area st.area (st'.area ∙ ap area_sum grown) (omega (arith, ap page_number at, on)) ∙ ap page_number at,
+        λ just other. ap (in_group just) grown ∙ in_group_other just area spot (λ h. other (sym h ∙ ap page_number at)),
+        ap (in_group (page_number state.attributes.page_just)) grown ∙ own_group (page_number state.attributes.page_just) area spot (ap page_number at),
       )
 
   -- so does this, and ends this line, or none
   abbrev Joins : Meaning → State → Option Line → Type 0
   Joins x after ended =
-      let page = state.attributes.page_just in
+      let page = page_number state.attributes.page_just in
       let old = present_area sign items in
       let new = present_area sign (items ++ x ∷ []) in
       (after.area.present ≡ page) × (state.area.present ≤ page) × ((just : ℕ) → (just ≡ page → ⊥) → in_group just new ≡ in_group just old) × EndsLine (in_group page old) (in_group page new) ended
@@ -95,18 +96,18 @@ module _ (sign : SignData) (items : List Meaning) (state : State) (st : IsStateO
       let spot : Spot = record { at = standing sign items; put = Glyph cell } in
       let on = order_glyph number (Some cell) found fine in
       let (present, others, own) = joins (Shows number) spot (present_area-placing sign items (Shows number) (Glyph cell) refl (ap (option_map Glyph) found) refl) page_is on after st' in
-      (present, on, others, ap ended_lines own ∙ ended_glyph (in_group state.attributes.page_just (present_area sign items)) spot refl)
+      (present, on, others, ap ended_lines own ∙ ended_glyph (in_group (page_number state.attributes.page_just) (present_area sign items)) spot refl)
 
   pub glyph_joins : (number : ℕ) → unsized_offence sign items (Shows number) ≡ None → (after : State) → IsStateOf sign (items ++ Shows number ∷ []) after → Joins (Shows number) after None
   glyph_joins number = joins_by number (cell_numbered (standing sign items).font number) refl
 
   -- an `nl` ends the open line
   pub break_joins : (x : Meaning) → ends_line x ≡ true → unsized_offence sign items x ≡ None → (after : State) → IsStateOf sign (items ++ x ∷ []) after
-      → (line : Line) → line ≡ line_sum (after_last is_break (in_group state.attributes.page_just (present_area sign items))) → Joins x after (Some line)
+      → (line : Line) → line ≡ line_sum (after_last is_break (in_group (page_number state.attributes.page_just) (present_area sign items))) → Joins x after (Some line)
   break_joins x ends fine after st' line is =
       let (gap, same) = line_end x ends in
       let spot : Spot = record { at = standing sign items; put = Break gap } in
-      let group = in_group state.attributes.page_just (present_area sign items) in
+      let group = in_group (page_number state.attributes.page_just) (present_area sign items) in
       let on = order x fine (ends_placed x ends) in
       let grown = ap (λ x. present_area sign (items ++ x ∷ [])) same ∙ present_area-placing sign items (Does (NewLine gap)) (Break gap) refl refl refl in
       let (present, others, own) = joins x spot grown page_is on after st' in

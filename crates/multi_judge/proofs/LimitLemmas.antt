@@ -3,6 +3,7 @@ use Rattle.std.proofs.Common.{◌≡◌, ℕ, ◌≤◌, Bool, true, false, ◌&
 use Rattle.std.specs.Prelude.{nat_le}
 use Rattle.std.proofs.lemmas.Bool.{and_parts, cases_Bool, false≢true, le-leb}
 use Rattle.std.proofs.lemmas.Bool.Decides.{nat_tests}
+use Rattle.multi_tag.specs.Just.{line_number, page_number}
 use Rattle.sign_font.specs.declared.parts.LineFill.TheVariants.{Off}
 use Rattle.multi_meaning.specs.declared.attributes.Rectangle.{Rectangle}
 use Rattle.multi_meaning.specs.Address.{Spot, area_of, is_break, is_glyph, line_before, spots, standing}
@@ -11,6 +12,7 @@ use Rattle.multi_meaning.specs.Fit.{FitsWithout, fit, line_fits, room_for}
 use Rattle.multi_meaning.specs.Laid.{too_big}
 use Rattle.multi_meaning.proofs.FitLemmas.{room_end, room_middle, room_start}
 use Rattle.multi_meaning.proofs.LinesFitLemmas.{each_just}
+use Rattle.multi_meaning.proofs.JustLemmas.{line_number_known, page_number_known}
 use Rattle.multi_judge.specs.declared.area.Area.{Area}
 use Rattle.sign_font.specs.Sign.{SignData}
 use Rattle.multi_judge.specs.declared.area.Group.{Group}
@@ -65,12 +67,12 @@ module _ (line : List Spot) (l : Line) (e : l ≡ line_sum line) (width pixels c
   segment_room_fits low high = segment_by l.present refl low high
 
 -- a character that was put where all before it fits
-module _ (before : List Spot) (s : Spot) (glyph : is_glyph s ≡ true) (area : Area) (is : area ≡ area_sum (area_of s before ++ s ∷ [])) (present : area.present ≡ s.at.page_just) (just : area.group.line.present ≡ s.at.line_just)
+module _ (before : List Spot) (s : Spot) (glyph : is_glyph s ≡ true) (area : Area) (is : area ≡ area_sum (area_of s before ++ s ∷ [])) (present : area.present ≡ page_number s.at.page_just) (just : area.group.line.present ≡ line_number s.at.line_just)
     (page_known : (2 ≤ area.present) × (area.present ≤ 4)) (line_known : (2 ≤ area.group.line.present) × (area.group.line.present ≤ 5)) where
   pub within_limits : FitsWithout before s → (width height : ℕ) → width ≡ segment_room area.group.line s.at.rectangle.width → height ≡ group_room area s.at.rectangle.height
       → (nat_le area.group.line.part.width width && nat_le (kept_height area.group) height) ≡ not (too_big Off before s)
   within_limits without width height w h =
-      let page = s.at.page_just in
+      let page = page_number s.at.page_just in
       let more = area_of s before ++ s ∷ [] in
       let spots = line_before before s ++ s ∷ [] in
       let own = present_line before s page glyph refl in
@@ -88,20 +90,20 @@ module _ (before : List Spot) (s : Spot) (glyph : is_glyph s ≡ true) (area : A
 
 -- one more character, which doesn't conflict
 module _ (state new : State) (cell_width : ℕ) (added : AddsCharacter state cell_width new) where
-  behind : (new.area.present ≡ state.attributes.page_just) × IsBehindOne state.attributes.line_just state.attributes.font new.area.group.line
+  behind : (new.area.present ≡ page_number state.attributes.page_just) × IsBehindOne state.attributes.line_just state.attributes.font new.area.group.line
   behind = added.behind
 
   pub behind_added : IsBehindCharacter new
   behind_added = subst IsBehindCharacter (sym added.same) (record { group = behind.0; line = behind.1 })
 
-  module _ (limited : IsLimited state) (line_known : (2 ≤ state.attributes.line_just) × (state.attributes.line_just ≤ 5)) (page_known : (2 ≤ state.attributes.page_just) × (state.attributes.page_just ≤ 4)) where
+  module _ (limited : IsLimited state) where
     page : (2 ≤ new.area.present) × (new.area.present ≤ 4)
-    page = (omega (arith, page_known.0, behind.0), omega (arith, page_known.1, behind.0))
+    page = let known = page_number_known state.attributes.page_just in (omega (arith, known.0, behind.0), omega (arith, known.1, behind.0))
 
     line : (2 ≤ new.area.group.line.present) × (new.area.group.line.present ≤ 5)
-    line = (omega (arith, line_known.0, behind.1.segment), omega (arith, line_known.1, behind.1.segment))
+    line = let known = line_number_known state.attributes.line_just in (omega (arith, known.0, behind.1.segment), omega (arith, known.1, behind.1.segment))
 
-    pub added_fits : (before : List Spot) (s : Spot) → is_glyph s ≡ true → new.area ≡ area_sum (area_of s before ++ s ∷ []) → new.area.present ≡ s.at.page_just → s.at.line_just ≡ state.attributes.line_just
+    pub added_fits : (before : List Spot) (s : Spot) → is_glyph s ≡ true → new.area ≡ area_sum (area_of s before ++ s ∷ []) → new.area.present ≡ page_number s.at.page_just → s.at.line_just ≡ state.attributes.line_just
         → s.at.rectangle.width ≡ state.attributes.rectangle.width → s.at.rectangle.height ≡ state.attributes.rectangle.height → FitsWithout before s
         → (nat_le new.area.group.line.part.width new.limits.width && nat_le (kept_height new.area.group) new.limits.height) ≡ not (too_big Off before s)
     added_fits before s glyph is present own wide high without =
@@ -111,33 +113,34 @@ module _ (state new : State) (cell_width : ℕ) (added : AddsCharacter state cel
         now.width behind.1.any ∙ ap (λ (r : Rectangle). segment_room new.area.group.line r.width) rectangle ∙ ap (segment_room new.area.group.line) (sym wide) in
         let h : new.limits.height ≡ group_room new.area s.at.rectangle.height =
         now.height page.0 ∙ ap (λ (r : Rectangle). group_room new.area r.height) rectangle ∙ ap (group_room new.area) (sym high) in
-        within_limits before s glyph new.area is present (behind.1.segment ∙ sym own) page line without new.limits.width new.limits.height w h
+        within_limits before s glyph new.area is present (behind.1.segment ∙ ap line_number (sym own)) page line without new.limits.width new.limits.height w h
 
 -- one more end of a line, behind which no group is before that of the items so far
-module _ (state new : State) (gap : Option ℕ) (added : AddsBreak state gap new) (limited : IsLimited state) (page_known : (2 ≤ state.attributes.page_just) × (state.attributes.page_just ≤ 4)) where
-  pub break_fits : (before : List Spot) (s : Spot) → is_break s ≡ true → state.area.present ≤ state.attributes.page_just → s.at.page_just ≡ state.attributes.page_just
+module _ (state new : State) (gap : Option ℕ) (added : AddsBreak state gap new) (limited : IsLimited state) where
+  pub break_fits : (before : List Spot) (s : Spot) → is_break s ≡ true → state.area.present ≤ page_number state.attributes.page_just → s.at.page_just ≡ state.attributes.page_just
       → s.at.rectangle.height ≡ state.attributes.rectangle.height → new.area ≡ area_sum (area_of s before ++ s ∷ []) → FitsWithout before s → nat_le new.area.group.closed new.limits.height ≡ not (too_big Off before s)
   break_fits before s ends order page high is without =
       let on = added.present order in
-      let low : 2 ≤ new.area.present = omega (arith, page_known.0, on) in
-      let top : new.area.present ≤ 4 = omega (arith, page_known.1, on) in
+      let known = page_number_known state.attributes.page_just in
+      let low : 2 ≤ new.area.present = omega (arith, known.0, on) in
+      let top : new.area.present ≤ 4 = omega (arith, known.1, on) in
       let placing = placing_break before s ends in
       let more = area_of s before ++ s ∷ [] in
       let height = s.at.rectangle.height in
       let rectangle : new.attributes.rectangle ≡ state.attributes.rectangle = ap (λ (t : State). t.attributes.rectangle) added.same in
       let h : new.limits.height ≡ group_room new.area height =
       (added.limited limited).height low ∙ ap (λ (r : Rectangle). group_room new.area r.height) rectangle ∙ ap (group_room new.area) (sym high) in
-      let above = groups_fit_before height (area_of s before) s new.area is placing (on ∙ sym page) top without.1 in
+      let above = groups_fit_before height (area_of s before) s new.area is placing (on ∙ ap page_number (sym page)) top without.1 in
       let closed : kept_height new.area.group ≡ new.area.group.closed = rw added.none refl in
       fits_break before s height _ ends refl
       (ap (λ n. nat_le n new.limits.height) (sym closed) ∙ ap (nat_le (kept_height new.area.group)) h
       ∙ group_room_fits more new.area is height low top above ∙ kept_area_fits more new.area height placing is top)
 
 -- the answer whether it fits: by the limits behind items that fit, and else by the sums
-module _ (sign : SignData) (items : List Meaning) (state new : State) (st : IsStateOf sign items state) (gap : Option ℕ) (added : AddsBreak state gap new) (page_known : (2 ≤ state.attributes.page_just) × (state.attributes.page_just ≤ 4)) (words r : Bool)
+module _ (sign : SignData) (items : List Meaning) (state new : State) (st : IsStateOf sign items state) (gap : Option ℕ) (added : AddsBreak state gap new) (words r : Bool)
     (sums : words ≡ true → (before : List Spot) (s : Spot) → is_break s ≡ true → new.area ≡ area_sum (area_of s before ++ s ∷ []) → s.at.rectangle.height ≡ new.attributes.rectangle.height → r ≡ not (too_big Off before s))
     (limits : words ≡ false → r ≡ nat_le new.area.group.closed new.limits.height) (unfilled : words ≡ false → IsUnfilledOf sign state items) where
-  pub break_told : (s : Spot) → s.at ≡ standing sign items → is_break s ≡ true → state.area.present ≤ state.attributes.page_just → new.area ≡ area_sum (area_of s (spots sign items) ++ s ∷ []) → r ≡ not (too_big Off (spots sign items) s)
+  pub break_told : (s : Spot) → s.at ≡ standing sign items → is_break s ≡ true → state.area.present ≤ page_number state.attributes.page_just → new.area ≡ area_sum (area_of s (spots sign items) ++ s ∷ []) → r ≡ not (too_big Off (spots sign items) s)
   break_told s at ends order grown =
       let own : attributes_of s.at ≡ state.attributes = ap attributes_of at ∙ sym st.attributes in
       let high = ap (λ (a : Attributes). a.rectangle.height) own in
@@ -145,7 +148,7 @@ module _ (sign : SignData) (items : List Meaning) (state new : State) (st : IsSt
         | inl filled ↦ sums filled (spots sign items) s ends grown (high ∙ ap (λ (t : State). t.attributes.rectangle.height) (sym added.same))
         | inr plain ↦
             let of = unfilled plain in
-            limits plain ∙ break_fits state new gap added of.limited page_known (spots sign items) s ends order (ap (λ (a : Attributes). a.page_just) own) high grown (fits_without sign items of.fine s at)
+            limits plain ∙ break_fits state new gap added of.limited (spots sign items) s ends order (ap (λ (a : Attributes). a.page_just) own) high grown (fits_without sign items of.fine s at)
       ]
 
 -- an area of no item has no limits yet

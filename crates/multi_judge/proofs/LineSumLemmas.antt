@@ -7,6 +7,7 @@ use Rattle.std.proofs.lemmas.Bool.{and_right, cases_lt, eq-eqb, false≢true, le
 use Rattle.std.proofs.lemmas.List.{append-nil}
 use Rattle.std.proofs.lemmas.List.Elements.{All-weaker, filter-append}
 use Rattle.std.proofs.lemmas.List.Folds.{list_any-append}
+use Rattle.multi_tag.specs.Just.{line_number}
 use Rattle.multi_meaning.specs.Words.{largest}
 use Rattle.multi_meaning.specs.Address.{Spot, is_glyph, segment}
 use Rattle.multi_meaning.specs.Line.{average, bearers, line_height, line_spacing, char_gap, width_of}
@@ -30,16 +31,16 @@ gap_if (Some t) s = refl
 same_segment : (w v n m : ℕ) (o p : Option ℕ) → w ≡ v → n ≡ m → o ≡ p → ◌≡◌ {A = Segment} (record { width = w; count = n; last = o }) (record { width = v; count = m; last = p })
 same_segment w v n m o p e c f = rw (e, c, f) refl
 
-passes : (s : Spot) (just : ℕ) → is_glyph s ≡ true → s.at.line_just ≡ just → (is_glyph s && (s.at.line_just == just)) ≡ true
-passes s just g e = ap (λ b. b && (s.at.line_just == just)) g ∙ eq-eqb s.at.line_just just e
+passes : (s : Spot) (just : ℕ) → is_glyph s ≡ true → line_number s.at.line_just ≡ just → (is_glyph s && (line_number s.at.line_just == just)) ≡ true
+passes s just g e = ap (λ b. b && (line_number s.at.line_just == just)) g ∙ eq-eqb (line_number s.at.line_just) just e
 
 -- a segment after one more character of its own
-module _ (just : ℕ) (line : List Spot) (s : Spot) (c : Character) (is : IsCharacter s c) (own : c.just ≡ just) where
+module _ (just : ℕ) (line : List Spot) (s : Spot) (c : Character) (is : IsCharacter s c) (own : line_number c.just ≡ just) where
   pub segment_own : (seg : Segment) (gap width : ℕ) → seg ≡ segment_sum just line → gap ≡ option_map_or (λ earlier. unwrap_or c.spacing (average earlier c.font.char_spacing)) seg.last 0 → width ≡ c.width
       → ◌≡◌ {A = Segment} (record { width = seg.width + (gap + width); count = seg.count + 1; last = Some c.font.char_spacing }) (segment_sum just (line ++ s ∷ []))
   segment_own seg gap width e g w =
       let own_part = segment just line in
-      let more : segment just (line ++ s ∷ []) ≡ own_part ++ s ∷ [] = filter_yes (λ t. is_glyph t && (t.at.line_just == just)) line s (passes s just is.glyph (sym is.just ∙ own)) in
+      let more : segment just (line ++ s ∷ []) ≡ own_part ++ s ∷ [] = filter_yes (λ t. is_glyph t && (line_number t.at.line_just == just)) line s (passes s just is.glyph (ap line_number (sym is.just) ∙ own)) in
       let spaced : c.font.char_spacing ≡ s.at.font.char_spacing = ap (λ f. f.char_spacing) is.font in
       let between : gap ≡ gap_before char_gap own_part s =
       g ∙ ap (λ (seg : Segment). option_map_or (λ earlier. unwrap_or c.spacing (average earlier c.font.char_spacing)) seg.last 0) e
@@ -61,11 +62,11 @@ module _ (just : ℕ) (line : List Spot) (s : Spot) (c : Character) (is : IsChar
       same_segment (seg.width + (gap + width)) (width_of (segment just (line ++ s ∷ []))) (seg.count + 1) (length (segment just (line ++ s ∷ []))) (Some c.font.char_spacing) (option_map (λ (t : Spot). t.at.font.char_spacing) (last_or None (segment just (line ++ s ∷ [])))) wide counted last
 
 -- a segment after a character of another
-pub segment_other : (just : ℕ) (line : List Spot) (s : Spot) → (s.at.line_just ≡ just → ⊥) → segment_sum just (line ++ s ∷ []) ≡ segment_sum just line
+pub segment_other : (just : ℕ) (line : List Spot) (s : Spot) → (line_number s.at.line_just ≡ just → ⊥) → segment_sum just (line ++ s ∷ []) ≡ segment_sum just line
 segment_other just line s apart =
     let same : segment just (line ++ s ∷ []) ≡ segment just line =
-    filter-append (λ t. is_glyph t && (t.at.line_just == just)) line (s ∷ [])
-    ∙ ap (λ b. segment just line ++ cond b (s ∷ []) []) (and_right (is_glyph s) (s.at.line_just == just) (ne_eqb s.at.line_just just apart))
+    filter-append (λ t. is_glyph t && (line_number t.at.line_just == just)) line (s ∷ [])
+    ∙ ap (λ b. segment just line ++ cond b (s ∷ []) []) (and_right (is_glyph s) (line_number s.at.line_just == just) (ne_eqb (line_number s.at.line_just) just apart))
     ∙ append-nil (segment just line) in
     ap (λ l. let g : Segment = record { width = width_of l; count = length l; last = option_map (λ t. t.at.font.char_spacing) (last_or None l) } in g) same
 
@@ -88,15 +89,15 @@ or_true true = refl
 or_true false = refl
 
 -- no character of a line is in a segment behind the one with the largest justification
-pub segment_behind : (just : ℕ) (line : List Spot) → largest (λ (t : Spot). t.at.line_just) line < just → segment just line ≡ []
+pub segment_behind : (just : ℕ) (line : List Spot) → largest (λ (t : Spot). line_number t.at.line_just) line < just → segment just line ≡ []
 segment_behind just line less =
-    filter_none (λ t. is_glyph t && (t.at.line_just == just)) line
-    (All-weaker (λ (t : Spot). t.at.line_just ≤ largest (λ (t : Spot). t.at.line_just) line) (λ t. (is_glyph t && (t.at.line_just == just)) ≡ false)
-    (λ t most. and_right (is_glyph t) (t.at.line_just == just) (ne_eqb t.at.line_just just (λ e. omega arith))) line (largest_most (λ t. t.at.line_just) line))
+    filter_none (λ t. is_glyph t && (line_number t.at.line_just == just)) line
+    (All-weaker (λ (t : Spot). line_number t.at.line_just ≤ largest (λ (t : Spot). line_number t.at.line_just) line) (λ t. (is_glyph t && (line_number t.at.line_just == just)) ≡ false)
+    (λ t most. and_right (is_glyph t) (line_number t.at.line_just == just) (ne_eqb (line_number t.at.line_just) just (λ e. omega arith))) line (largest_most (λ t. line_number t.at.line_just) line))
 
 -- a line whose present segment becomes a later one
 module _ (line : List Spot) (just : ℕ) (l : Line) (e : l ≡ line_sum line) (later : l.present < just) where
-  present_is : l.present ≡ largest (λ (t : Spot). t.at.line_just) line
+  present_is : l.present ≡ largest (λ (t : Spot). line_number t.at.line_just) line
   present_is = ap (λ (l : Line). l.present) e
 
   -- the width before the present segment of one that the line had not come to
@@ -104,12 +105,12 @@ module _ (line : List Spot) (just : ℕ) (l : Line) (e : l ≡ line_sum line) (l
   none_behind j behind = ap width_of (segment_behind j line (omega (arith, present_is)))
 
   -- the width of a segment that isn't the present one stays as it was kept
-  kept : (j : ℕ) (w : ℕ) → w ≡ width_before (largest (λ (t : Spot). t.at.line_just) line) j line → (l.present ≡ j → ⊥) → w ≡ width_before just j line
+  kept : (j : ℕ) (w : ℕ) → w ≡ width_before (largest (λ (t : Spot). line_number t.at.line_just) line) j line → (l.present ≡ j → ⊥) → w ≡ width_before just j line
   kept j w is other = elim (cases_lt j l.present) [
-    | inl before ↦ is ∙ ap (λ b. cond b (width_of (segment j line)) 0) (lt-ltb j (largest (λ (t : Spot). t.at.line_just) line) (omega (arith, present_is)) ∙ sym (lt-ltb j just (omega arith)))
+    | inl before ↦ is ∙ ap (λ b. cond b (width_of (segment j line)) 0) (lt-ltb j (largest (λ (t : Spot). line_number t.at.line_just) line) (omega (arith, present_is)) ∙ sym (lt-ltb j just (omega arith)))
     | inr behind ↦
         let none = none_behind j (omega (arith, other)) in
-        is ∙ ap (λ b. cond b (width_of (segment j line)) 0) (le-ltb j (largest (λ (t : Spot). t.at.line_just) line) (omega (arith, present_is))) ∙ sym (cond_zero (nat_lt j just) (width_of (segment j line)) none)
+        is ∙ ap (λ b. cond b (width_of (segment j line)) 0) (le-ltb j (largest (λ (t : Spot). line_number t.at.line_just) line) (omega (arith, present_is))) ∙ sym (cond_zero (nat_lt j just) (width_of (segment j line)) none)
   ]
 
   pub left_kept : (l.present ≡ 2 → ⊥) → l.left ≡ width_before just 2 line
@@ -145,45 +146,45 @@ module _ (line : List Spot) (just : ℕ) (l : Line) (e : l ≡ line_sum line) (l
 -- a line that stays in its present segment
 pub line_stays : (line : List Spot) (just : ℕ) (l : Line) → l ≡ line_sum line → just ≤ l.present → l.present ≤ just → l ≡ line_sum_in just line
 line_stays line just l e low high =
-    let same : largest (λ (t : Spot). t.at.line_just) line ≡ just = omega (arith, ap (λ (l : Line). l.present) e) in
+    let same : largest (λ (t : Spot). line_number t.at.line_just) line ≡ just = omega (arith, ap (λ (l : Line). l.present) e) in
     e ∙ ap (λ n. line_sum_in n line) same
 
 -- a line after one more character
-module _ (line : List Spot) (s : Spot) (c : Character) (glyphs : AllPass is_glyph line) (is : IsCharacter s c) (l : Line) (e : l ≡ line_sum line) (order : l.present ≤ c.just) where
-  present_more : largest (λ (t : Spot). t.at.line_just) (line ++ s ∷ []) ≡ c.just
+module _ (line : List Spot) (s : Spot) (c : Character) (glyphs : AllPass is_glyph line) (is : IsCharacter s c) (l : Line) (e : l ≡ line_sum line) (order : l.present ≤ line_number c.just) where
+  present_more : largest (λ (t : Spot). line_number t.at.line_just) (line ++ s ∷ []) ≡ line_number c.just
   present_more =
-      let most : l.present ≡ largest (λ (t : Spot). t.at.line_just) line = ap (λ (l : Line). l.present) e in
-      let more = largest_push (λ t. t.at.line_just) line s in
-      omega (arith, most, more, is.just)
+      let most : l.present ≡ largest (λ (t : Spot). line_number t.at.line_just) line = ap (λ (l : Line). l.present) e in
+      let more = largest_push (λ t. line_number t.at.line_just) line s in
+      omega (arith, most, more, ap line_number is.just)
 
-  width_other : (j : ℕ) → width_before c.just j line ≡ width_before c.just j (line ++ s ∷ [])
-  width_other j = elim (cases_lt j c.just) [
-    | inl less ↦ ap (λ (g : Segment). cond (nat_lt j c.just) g.width 0) (sym (segment_other j line s (λ h. omega (arith, is.just, h))))
-    | inr most ↦ rw (le-ltb j c.just most) refl
+  width_other : (j : ℕ) → width_before (line_number c.just) j line ≡ width_before (line_number c.just) j (line ++ s ∷ [])
+  width_other j = elim (cases_lt j (line_number c.just)) [
+    | inl less ↦ ap (λ (g : Segment). cond (nat_lt j (line_number c.just)) g.width 0) (sym (segment_other j line s (λ h. omega (arith, ap line_number is.just, h))))
+    | inr most ↦ rw (le-ltb j (line_number c.just) most) refl
   ]
 
-  pub line_with : (r : Line) → r.present ≡ c.just
-      → r.left ≡ width_before c.just 2 line → r.centre ≡ width_before c.just 3 line → r.right ≡ width_before c.just 4 line → r.part ≡ segment_sum c.just (line ++ s ∷ [])
-      → r.has_parts ≡ (l.has_parts || nat_lt c.just 5) → r.height ≡ max l.height c.font.height → r.spacing ≡ max l.spacing c.font.line_spacing → r.any ≡ true
+  pub line_with : (r : Line) → r.present ≡ line_number c.just
+      → r.left ≡ width_before (line_number c.just) 2 line → r.centre ≡ width_before (line_number c.just) 3 line → r.right ≡ width_before (line_number c.just) 4 line → r.part ≡ segment_sum (line_number c.just) (line ++ s ∷ [])
+      → r.has_parts ≡ (l.has_parts || nat_lt (line_number c.just) 5) → r.height ≡ max l.height c.font.height → r.spacing ≡ max l.spacing c.font.line_spacing → r.any ≡ true
       → r ≡ line_sum (line ++ s ∷ [])
   line_with r present left centre right part parts height spacing any =
-      let parts' : r.has_parts ≡ list_any (λ (t : Spot). nat_lt t.at.line_just 5) (line ++ s ∷ []) =
-      parts ∙ ap (λ (l : Line). l.has_parts || nat_lt c.just 5) e ∙ ap (λ n. (line_sum line).has_parts || nat_lt n 5) is.just ∙ sym (any_more (λ t. nat_lt t.at.line_just 5) line s) in
+      let parts' : r.has_parts ≡ list_any (λ (t : Spot). nat_lt (line_number t.at.line_just) 5) (line ++ s ∷ []) =
+      parts ∙ ap (λ (l : Line). l.has_parts || nat_lt (line_number c.just) 5) e ∙ ap (λ n. (line_sum line).has_parts || nat_lt n 5) (ap line_number is.just) ∙ sym (any_more (λ t. nat_lt (line_number t.at.line_just) 5) line s) in
       let height' : r.height ≡ line_height (line ++ s ∷ []) =
       height ∙ ap (λ (l : Line). max l.height c.font.height) e ∙ ap (λ f. max (line_height line) f.height) is.font ∙ sym (largest_glyph (λ t. t.at.font.height) line s glyphs is.glyph) in
       let spacing' : r.spacing ≡ line_spacing (line ++ s ∷ []) =
       spacing ∙ ap (λ (l : Line). max l.spacing c.font.line_spacing) e ∙ ap (λ f. max (line_spacing line) f.line_spacing) is.font ∙ sym (largest_glyph (λ t. t.at.font.line_spacing) line s glyphs is.glyph) in
       let any' : r.any ≡ list_any is_glyph (line ++ s ∷ []) =
       any ∙ sym (or_true (list_any is_glyph line)) ∙ ap (λ b. list_any is_glyph line || b) (sym is.glyph) ∙ sym (any_more is_glyph line s) in
-      let whole : r ≡ line_sum_in c.just (line ++ s ∷ []) =
+      let whole : r ≡ line_sum_in (line_number c.just) (line ++ s ∷ []) =
       rw (← left ∙ width_other 2, ← centre ∙ width_other 3, ← right ∙ width_other 4, ← part, ← parts', ← height', ← spacing', ← any', ← present) refl in
       whole ∙ ap (λ n. line_sum_in n (line ++ s ∷ [])) (sym present_more)
 
 -- a line clashes by its largest justification, or as one of its characters isn't full
-any_or : (n m : ℕ) (b : Bool) (line : List Spot) → list_any (λ (t : Spot). nat_lt n t.at.line_just || (b && nat_lt t.at.line_just m)) line ≡ (list_any (λ (t : Spot). nat_lt n t.at.line_just) line || (b && list_any (λ (t : Spot). nat_lt t.at.line_just m) line))
+any_or : (n m : ℕ) (b : Bool) (line : List Spot) → list_any (λ (t : Spot). nat_lt n (line_number t.at.line_just) || (b && nat_lt (line_number t.at.line_just) m)) line ≡ (list_any (λ (t : Spot). nat_lt n (line_number t.at.line_just)) line || (b && list_any (λ (t : Spot). nat_lt (line_number t.at.line_just) m) line))
 any_or n m true [] = refl
 any_or n m false [] = refl
-any_or n m b (t ∷ line) = ap (λ a. (nat_lt n t.at.line_just || (b && nat_lt t.at.line_just m)) || a) (any_or n m b line) ∙ swap (nat_lt n t.at.line_just) b (nat_lt t.at.line_just m) (list_any (λ (t : Spot). nat_lt n t.at.line_just) line) (list_any (λ (t : Spot). nat_lt t.at.line_just m) line)
+any_or n m b (t ∷ line) = ap (λ a. (nat_lt n (line_number t.at.line_just) || (b && nat_lt (line_number t.at.line_just) m)) || a) (any_or n m b line) ∙ swap (nat_lt n (line_number t.at.line_just)) b (nat_lt (line_number t.at.line_just) m) (list_any (λ (t : Spot). nat_lt n (line_number t.at.line_just)) line) (list_any (λ (t : Spot). nat_lt (line_number t.at.line_just) m) line)
   where
     swap : (a b d x y : Bool) → ((a || (b && d)) || (x || (b && y))) ≡ ((a || x) || (b && (d || y)))
     swap true b d x y = refl
@@ -194,33 +195,33 @@ any_or n m b (t ∷ line) = ap (λ a. (nat_lt n t.at.line_just || (b && nat_lt t
     swap false false d true y = refl
     swap false false d false y = refl
 
-pub line_clashes : (line : List Spot) (s : Spot) → list_any (clashes s) line ≡ (nat_lt s.at.line_just (largest (λ (t : Spot). t.at.line_just) line) || ((s.at.line_just == 5) && list_any (λ (t : Spot). nat_lt t.at.line_just 5) line))
+pub line_clashes : (line : List Spot) (s : Spot) → list_any (clashes s) line ≡ (nat_lt (line_number s.at.line_just) (largest (λ (t : Spot). line_number t.at.line_just) line) || ((line_number s.at.line_just == 5) && list_any (λ (t : Spot). nat_lt (line_number t.at.line_just) 5) line))
 line_clashes line s =
-    any_or s.at.line_just 5 (s.at.line_just == 5) line
-    ∙ ap (λ b. b || ((s.at.line_just == 5) && list_any (λ (t : Spot). nat_lt t.at.line_just 5) line)) (any_largest (λ t. t.at.line_just) s.at.line_just line)
+    any_or (line_number s.at.line_just) 5 (line_number s.at.line_just == 5) line
+    ∙ ap (λ b. b || ((line_number s.at.line_just == 5) && list_any (λ (t : Spot). nat_lt (line_number t.at.line_just) 5) line)) (any_largest (λ t. line_number t.at.line_just) (line_number s.at.line_just) line)
 
 -- a character that clashes with none of its line isn't in a segment before the present one
-pub in_order : (line : List Spot) (s : Spot) (l : Line) → l ≡ line_sum line → list_any (clashes s) line ≡ false → l.present ≤ s.at.line_just
+pub in_order : (line : List Spot) (s : Spot) (l : Line) → l ≡ line_sum line → list_any (clashes s) line ≡ false → l.present ≤ line_number s.at.line_just
 in_order line s l e none =
-    let present : l.present ≡ largest (λ (t : Spot). t.at.line_just) line = ap (λ (l : Line). l.present) e in
-    let test : nat_lt s.at.line_just (largest (λ (t : Spot). t.at.line_just) line) ≡ false = (or_parts _ _ (sym (line_clashes line s) ∙ none)).0 in
-    elim (cases_lt s.at.line_just l.present) [
-      | inl back ↦ absurd (false≢true (sym test ∙ lt-ltb s.at.line_just (largest (λ (t : Spot). t.at.line_just) line) (omega (arith, present))))
+    let present : l.present ≡ largest (λ (t : Spot). line_number t.at.line_just) line = ap (λ (l : Line). l.present) e in
+    let test : nat_lt (line_number s.at.line_just) (largest (λ (t : Spot). line_number t.at.line_just) line) ≡ false = (or_parts _ _ (sym (line_clashes line s) ∙ none)).0 in
+    elim (cases_lt (line_number s.at.line_just) l.present) [
+      | inl back ↦ absurd (false≢true (sym test ∙ lt-ltb (line_number s.at.line_just) (largest (λ (t : Spot). line_number t.at.line_just) line) (omega (arith, present))))
       | inr on ↦ on
     ]
 
 -- the width of a segment, by what is kept of the line
 module _ (line : List Spot) (l : Line) (e : l ≡ line_sum line) where
-  most_is : l.present ≡ largest (λ (t : Spot). t.at.line_just) line
+  most_is : l.present ≡ largest (λ (t : Spot). line_number t.at.line_just) line
   most_is = ap (λ (l : Line). l.present) e
 
   pub width_present : (just : ℕ) → just ≡ l.present → l.part.width ≡ width_of (segment just line)
   width_present just own = ap (λ (l : Line). l.part.width) e ∙ ap (λ n. width_of (segment n line)) (sym (own ∙ most_is))
 
-  pub width_other_of : (just w : ℕ) → w ≡ width_before (largest (λ (t : Spot). t.at.line_just) line) just line → (just ≡ l.present → ⊥) → w ≡ width_of (segment just line)
+  pub width_other_of : (just w : ℕ) → w ≡ width_before (largest (λ (t : Spot). line_number t.at.line_just) line) just line → (just ≡ l.present → ⊥) → w ≡ width_of (segment just line)
   width_other_of just w is other = elim (cases_lt just l.present) [
-    | inl before ↦ is ∙ ap (λ b. cond b (width_of (segment just line)) 0) (lt-ltb just (largest (λ (t : Spot). t.at.line_just) line) (omega (arith, most_is)))
-    | inr behind ↦ is ∙ ap (λ b. cond b (width_of (segment just line)) 0) (le-ltb just (largest (λ (t : Spot). t.at.line_just) line) (omega (arith, most_is)))
+    | inl before ↦ is ∙ ap (λ b. cond b (width_of (segment just line)) 0) (lt-ltb just (largest (λ (t : Spot). line_number t.at.line_just) line) (omega (arith, most_is)))
+    | inr behind ↦ is ∙ ap (λ b. cond b (width_of (segment just line)) 0) (le-ltb just (largest (λ (t : Spot). line_number t.at.line_just) line) (omega (arith, most_is)))
         ∙ sym (ap width_of (segment_behind just line (omega (arith, most_is, other))))
   ]
 

@@ -1,5 +1,6 @@
 -- What one more character of an accepted string makes of what is kept, where lines aren't filled.
 use Rattle.std.proofs.Common.{◌≡◌, ℕ, true, false, List, [], ◌∷◌, ◌++◌, None, refl, sym, ap, subst, ◌∙◌}
+use Rattle.multi_tag.specs.Just.{page_number}
 use Rattle.sign_font.specs.declared.parts.LineFill.TheVariants.{Off}
 use Rattle.sign_font.specs.Sign.{SignData}
 use Rattle.multi_meaning.specs.Address.{in_group}
@@ -16,7 +17,7 @@ use Rattle.multi_judge.proofs.KnownStepLemmas as steps
 
 -- a character joins the group in force where lines aren't filled
 pub plain_passed : (sign : SignData) (items : List Meaning) (old new : Pass) → IsUnfilledOf sign old.state items → (number : ℕ) → offence sign.line_fill sign items (Shows number) ≡ None
-    → IsStateOf sign (items ++ Shows number ∷ []) new.state → IsLimited new.state → IsItemPassed false sign items (Shows number) old.state.attributes.page_just old new None
+    → IsStateOf sign (items ++ Shows number ∷ []) new.state → IsLimited new.state → IsItemPassed false sign items (Shows number) (page_number old.state.attributes.page_just) old new None
 plain_passed sign items old new of number fine st limited =
     let fine' = subst (λ setting. offence setting sign items (Shows number) ≡ None) of.off fine in
     let (present, order, others, own) = steps.glyph_joins sign items old.state of.state_is number (unsized_if Off sign items (Shows number) fine' true refl) new.state st in
@@ -27,5 +28,5 @@ plain_passed sign items old new of number fine st limited =
       present = present;
       order = order;
       others = λ just other. ap (λ l. in_group just (present_area sign l)) same' ∙ others just other ∙ ap (λ l. in_group just (present_area sign l)) (sym same);
-      own = ap (λ l. ended_lines (in_group old.state.attributes.page_just (present_area sign l))) same' ∙ own ∙ ap (λ l. ended_lines (in_group old.state.attributes.page_just (present_area sign l))) (sym same);
+      own = ap (λ l. ended_lines (in_group (page_number old.state.attributes.page_just) (present_area sign l))) same' ∙ own ∙ ap (λ l. ended_lines (in_group (page_number old.state.attributes.page_just) (present_area sign l))) (sym same);
     }

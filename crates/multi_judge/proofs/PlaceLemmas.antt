@@ -6,6 +6,7 @@ use Rattle.std.proofs.lemmas.Bool.{eq-eqb, eqb-true}
 use Rattle.std.proofs.lemmas.List.{length-append}
 use Rattle.std.proofs.lemmas.List.Sums.{sum_by-cons, length-filter, count_by-le-length}
 use Rattle.std.proofs.lemmas.Option.{slice_get_within}
+use Rattle.multi_tag.specs.Just.{line_number, page_number}
 use Rattle.multi_meaning.specs.Words.{cut_behind, largest}
 use Rattle.multi_meaning.specs.Address.{Spot, area_of, is_glyph, is_break, segment, group_of, lines_of, line_before}
 use Rattle.multi_meaning.specs.Line.{height_of, width_of, glyph_width}
@@ -17,6 +18,7 @@ use Rattle.multi_meaning.proofs.WordLemmas.{largest_push}
 use Rattle.multi_meaning.proofs.GroupLemmas.{own_group, filter_yes}
 use Rattle.multi_meaning.proofs.EndedLemmas.{ended_count, ended_glyph}
 use Rattle.multi_meaning.proofs.LinesFitLemmas.{each_just}
+use Rattle.multi_meaning.proofs.JustLemmas.{line_number_known}
 use Rattle.multi_judge.specs.declared.area.Area.{Area}
 use Rattle.multi_judge.specs.declared.area.Group.{Group}
 use Rattle.multi_judge.specs.declared.attributes.Attributes.{Attributes}
@@ -85,23 +87,24 @@ spread_if false j k k' spare h = refl
 -- a place, by what is kept of the line and the group
 abbrev place_by : Spot → List Spot → ℕ → ℕ → ℕ → ℕ → Place
 place_by spot part_before height width moved bottom = record {
-  column = spot.at.rectangle.left + start spot.at.line_just spot.at.rectangle.width width + (width_of (part_before ++ spot ∷ []) - glyph_width spot) + moved;
-  row = spot.at.rectangle.top + start spot.at.page_just spot.at.rectangle.height height + (bottom - spot.at.font.height);
+  column = spot.at.rectangle.left + start (line_number spot.at.line_just) spot.at.rectangle.width width + (width_of (part_before ++ spot ∷ []) - glyph_width spot) + moved;
+  row = spot.at.rectangle.top + start (page_number spot.at.page_just) spot.at.rectangle.height height + (bottom - spot.at.font.height);
 }
 
 some_same : {X : Type 0} (x y : X) → Some x ≡ Some y → x ≡ y
 some_same x y e = cc
 
 -- a character's place, from the entry of its line
-pub place_is : (before all : List Spot) (spot : Spot) (line : CountedLine) → 2 ≤ spot.at.line_just → spot.at.line_just ≤ 5
+pub place_is : (before all : List Spot) (spot : Spot) (line : CountedLine)
     → slice_get (table_of (lines_of (group_of spot all))) (count_by is_break (group_of spot before)) ≡ Some line
     → place_of before all spot ≡ record {
       column = column_in line (line_before before spot) spot;
-      row = spot.at.rectangle.top + start spot.at.page_just spot.at.rectangle.height (height_of (lines_of (group_of spot all))) + (line.bottom - spot.at.font.height);
+      row = spot.at.rectangle.top + start (page_number spot.at.page_just) spot.at.rectangle.height (height_of (lines_of (group_of spot all))) + (line.bottom - spot.at.font.height);
     }
 unfolding place_of
-place_is before all spot line low high found =
-    let just = spot.at.line_just in
+place_is before all spot line found =
+    let just = line_number spot.at.line_just in
+    let known = line_number_known spot.at.line_just in
     let spare = λ (width : ℕ). spot.at.rectangle.width - width in
     let k = count_by is_break (group_of spot before) in
     let lines = lines_of (group_of spot all) in
@@ -112,7 +115,7 @@ place_is before all spot line low high found =
     let moved = λ (characters width : ℕ). if just == 5 then spread (length part_before) characters (spare width) else 0 in
     let within : k < length lines = subst (λ n. k < n) (table_length lines) (slice_get_within (table_of lines) k line found) in
     let is : line ≡ counted_line (take k lines) own = some_same line (counted_line (take k lines) own) (sym found ∙ look_up lines k within) in
-    let width : width_of part ≡ width_in just line = sym (width_in_is (take k lines) own just low high) ∙ ap (width_in just) (sym is) in
+    let width : width_of part ≡ width_in just line = sym (width_in_is (take k lines) own just known.0 known.1) ∙ ap (width_in just) (sym is) in
     let characters : just == 5 ≡ true → length part ≡ line.characters =
     λ five. ap (λ n. length (segment n own)) (eqb-true just 5 five) ∙ ap (λ (l : CountedLine). l.characters) (sym is) in
     let bottom : height_of (take (k + 1) lines) ≡ line.bottom = sym (look_up_bottom lines k within) ∙ ap (λ (l : CountedLine). l.bottom) (sym is) in
@@ -121,58 +124,57 @@ place_is before all spot line low high found =
     ∙ ap (λ n. place_by spot part_before height (width_in just line) n line.bottom) (spread_if (just == 5) (length part_before) (length part) line.characters (spare (width_in just line)) characters)
 
 -- the width of a segment with one more character, from the segment's sum
-pub width_with : (earlier : List Spot) (spot : Spot) (just : ℕ) (part : Segment) → is_glyph spot ≡ true → just ≡ spot.at.line_just → part ≡ segment_sum just (earlier ++ spot ∷ []) → part.width ≡ width_of (segment spot.at.line_just earlier ++ spot ∷ [])
+pub width_with : (earlier : List Spot) (spot : Spot) (just : ℕ) (part : Segment) → is_glyph spot ≡ true → just ≡ line_number spot.at.line_just → part ≡ segment_sum just (earlier ++ spot ∷ []) → part.width ≡ width_of (segment (line_number spot.at.line_just) earlier ++ spot ∷ [])
 width_with earlier spot just part glyph own sum =
-    let passes : (is_glyph spot && (spot.at.line_just == spot.at.line_just)) ≡ true = ap (λ b. b && (spot.at.line_just == spot.at.line_just)) glyph ∙ eq-eqb spot.at.line_just spot.at.line_just refl in
+    let passes : (is_glyph spot && (line_number spot.at.line_just == line_number spot.at.line_just)) ≡ true = ap (λ b. b && (line_number spot.at.line_just == line_number spot.at.line_just)) glyph ∙ eq-eqb (line_number spot.at.line_just) (line_number spot.at.line_just) refl in
     ap (λ (p : Segment). p.width) sum
     ∙ ap (λ just. width_of (segment just (earlier ++ spot ∷ []))) own
-    ∙ ap width_of (filter_yes (λ t. is_glyph t && (t.at.line_just == spot.at.line_just)) earlier spot passes)
+    ∙ ap width_of (filter_yes (λ t. is_glyph t && (line_number t.at.line_just == line_number spot.at.line_just)) earlier spot passes)
 
 -- the present segment of a line whose last character this is
 pub part_with : (earlier : List Spot) (spot : Spot) (line : Line) → is_glyph spot ≡ true → line ≡ line_sum (earlier ++ spot ∷ []) → list_any (clashes spot) earlier ≡ false
-    → (line.part.width ≡ width_of (segment spot.at.line_just earlier ++ spot ∷ [])) × (line.part.count - 1 ≡ length (segment spot.at.line_just earlier))
+    → (line.part.width ≡ width_of (segment (line_number spot.at.line_just) earlier ++ spot ∷ [])) × (line.part.count - 1 ≡ length (segment (line_number spot.at.line_just) earlier))
 part_with earlier spot line glyph is apart =
-    let just = spot.at.line_just in
+    let just = line_number spot.at.line_just in
     let all = earlier ++ spot ∷ [] in
-    let seen : line.present ≡ largest (λ (t : Spot). t.at.line_just) all = ap (λ (l : Line). l.present) is in
-    let present : line.present ≡ just = omega (arith, seen, largest_push (λ t. t.at.line_just) earlier spot, in_order earlier spot (line_sum earlier) refl apart) in
+    let seen : line.present ≡ largest (λ (t : Spot). line_number t.at.line_just) all = ap (λ (l : Line). l.present) is in
+    let present : line.present ≡ just = omega (arith, seen, largest_push (λ t. line_number t.at.line_just) earlier spot, in_order earlier spot (line_sum earlier) refl apart) in
     let part : line.part ≡ segment_sum just all = ap (λ (l : Line). l.part) is ∙ ap (λ n. segment_sum n all) (sym seen ∙ present) in
-    let passes : (is_glyph spot && (spot.at.line_just == spot.at.line_just)) ≡ true = ap (λ b. b && (spot.at.line_just == spot.at.line_just)) glyph ∙ eq-eqb spot.at.line_just spot.at.line_just refl in
-    let more : segment just all ≡ segment just earlier ++ spot ∷ [] = filter_yes (λ t. is_glyph t && (t.at.line_just == just)) earlier spot passes in
+    let passes : (is_glyph spot && (line_number spot.at.line_just == line_number spot.at.line_just)) ≡ true = ap (λ b. b && (line_number spot.at.line_just == line_number spot.at.line_just)) glyph ∙ eq-eqb (line_number spot.at.line_just) (line_number spot.at.line_just) refl in
+    let more : segment just all ≡ segment just earlier ++ spot ∷ [] = filter_yes (λ t. is_glyph t && (line_number t.at.line_just == just)) earlier spot passes in
     (width_with earlier spot just line.part glyph refl part, omega (arith, ap (λ (p : Segment). p.count) part, ap length more, length-append (segment just earlier) (spot ∷ [])))
 
 -- a character's column, from the columns of its segment before it and their number
 pub column_is : (line : CountedLine) (earlier : List Spot) (spot : Spot) (a : Attributes) (columns before : ℕ)
-    → a ≡ attributes_of spot.at → columns ≡ width_of (segment spot.at.line_just earlier ++ spot ∷ []) - glyph_width spot → before ≡ length (segment spot.at.line_just earlier)
-    → a.rectangle.left + start a.line_just a.rectangle.width (width_in a.line_just line) + columns
-    + (if a.line_just == 5 then spread before line.characters (a.rectangle.width - width_in a.line_just line) else 0)
+    → a ≡ attributes_of spot.at → columns ≡ width_of (segment (line_number spot.at.line_just) earlier ++ spot ∷ []) - glyph_width spot → before ≡ length (segment (line_number spot.at.line_just) earlier)
+    → a.rectangle.left + start (line_number a.line_just) a.rectangle.width (width_in (line_number a.line_just) line) + columns
+    + (if line_number a.line_just == 5 then spread before line.characters (a.rectangle.width - width_in (line_number a.line_just) line) else 0)
     ≡ column_in line earlier spot
 column_is line earlier spot a columns before at wide count = rw (wide, count, at) refl
 
 -- a character's place, by the sums of its group and the entries of its group's lines
 pub place_from : (before all : List Spot) (spot : Spot) (a : Attributes) (group : Group) (lines : List CountedLine) (line : CountedLine) (column row height : ℕ)
-    → a ≡ attributes_of spot.at → (2 ≤ a.line_just) × (a.line_just ≤ 5) → group.ended ≡ count_by is_break (group_of spot before) → lines ≡ table_of (lines_of (group_of spot all))
+    → a ≡ attributes_of spot.at → group.ended ≡ count_by is_break (group_of spot before) → lines ≡ table_of (lines_of (group_of spot all))
     → count_by is_break (group_of spot before) < length (lines_of (group_of spot all)) → ((l : CountedLine) → slice_get lines group.ended ≡ Some l → line ≡ l)
     → column ≡ column_in line (line_before before spot) spot → height ≡ height_of (lines_of (group_of spot all))
-    → row ≡ a.rectangle.top + start a.page_just a.rectangle.height height + (line.bottom - a.font.height)
+    → row ≡ a.rectangle.top + start (page_number a.page_just) a.rectangle.height height + (line.bottom - a.font.height)
     → ◌≡◌ {A = Place} (record { column = column; row = row }) (place_of before all spot)
-place_from before all spot a group lines line column row height at known ended table there found wide high down =
+place_from before all spot a group lines line column row height at ended table there found wide high down =
     let all_lines = lines_of (group_of spot all) in
     let k = count_by is_break (group_of spot before) in
-    let just : a.line_just ≡ spot.at.line_just = ap (λ (a : Attributes). a.line_just) at in
     let own : slice_get (table_of all_lines) k ≡ Some (counted_line (take k all_lines) (slice_index_or all_lines k [])) = look_up all_lines k there in
     let is : line ≡ counted_line (take k all_lines) (slice_index_or all_lines k []) = found (counted_line (take k all_lines) (slice_index_or all_lines k [])) (rw (table, ended) own) in
-    let place = place_is before all spot line (omega arith) (omega arith) (own ∙ ap Some (sym is)) in
+    let place = place_is before all spot line (own ∙ ap Some (sym is)) in
     rw (wide, down, high, at) (sym place)
 
 -- the present group of an area whose last item is this character, and its present line
-pub group_with : (before : List Spot) (spot : Spot) (area : Area) → is_glyph spot ≡ true → area ≡ area_sum (area_of spot before ++ spot ∷ []) → largest (λ (t : Spot). t.at.page_just) (area_of spot before) ≤ spot.at.page_just
+pub group_with : (before : List Spot) (spot : Spot) (area : Area) → is_glyph spot ≡ true → area ≡ area_sum (area_of spot before ++ spot ∷ []) → largest (λ (t : Spot). page_number t.at.page_just) (area_of spot before) ≤ page_number spot.at.page_just
     → (area.group.ended ≡ count_by is_break (group_of spot before)) × (area.group.line ≡ line_sum (line_before before spot ++ spot ∷ []))
 group_with before spot area glyph is order =
-    let page = spot.at.page_just in
+    let page = page_number spot.at.page_just in
     let all = area_of spot before ++ spot ∷ [] in
-    let seen : area.present ≡ largest (λ (t : Spot). t.at.page_just) all = ap (λ (a : Area). a.present) is in
-    let present : page ≡ area.present = omega (arith, seen, largest_push (λ t. t.at.page_just) (area_of spot before) spot, order) in
+    let seen : area.present ≡ largest (λ (t : Spot). page_number t.at.page_just) all = ap (λ (a : Area). a.present) is in
+    let present : page ≡ area.present = omega (arith, seen, largest_push (λ t. page_number t.at.page_just) (area_of spot before) spot, order) in
     let group : area.group ≡ group_sum (group_of spot before ++ spot ∷ []) = group_of_own all area is page present ∙ ap group_sum (own_group page (area_of spot before) spot refl) in (
       ap (λ (g : Group). g.ended) group ∙ ap length (ended_glyph (group_of spot before) spot glyph) ∙ ended_count (group_of spot before),
       ap (λ (g : Group). g.line) group ∙ ap line_sum (present_push (group_of spot before) spot glyph),

@@ -2,6 +2,7 @@
 use Rattle.std.proofs.Common.{◌≡◌, ℕ, ◌+◌, ◌*◌, ◌≤◌, Bool, true, false, not, List, [], ◌∷◌, ◌++◌, length, Option, Some, None, refl, sym, ap, ◌∙◌, arith}
 use Rattle.std.specs.List.{All, after_last, list_any}
 use Rattle.multi_tag.specs.declared.tag.Tag.TheVariants.{NewLine}
+use Rattle.multi_tag.specs.Just.{page_number}
 use Rattle.sign_font.specs.declared.parts.LineFill.TheVariants.{Off}
 use Rattle.multi_meaning.specs.Laid.{too_big}
 use Rattle.sign_font.specs.Cell.{SizedCell}
@@ -65,16 +66,16 @@ module _ (sign : SignData) (items : List Meaning) (state : State) (st : IsStateO
   pub character-accepted : (number : ℕ) (c : SizedCell) → cell_in sign state.attributes.font.number number ≡ Some c
       → (character : Character) → character.just ≡ state.attributes.line_just → character.spacing ≡ state.attributes.spacing → character.width ≡ c.width → character.font ≡ state.attributes.font
       → (area : Area)
-      → ((xs : List Spot) (s : Spot) → All IsPlacing xs → state.area ≡ area_sum xs → IsCharacter s character → s.at.page_just ≡ state.attributes.page_just → state.area.present ≤ state.attributes.page_just
-      → list_any (clashes s) (after_last is_break (in_group state.attributes.page_just xs)) ≡ false → area ≡ area_sum (xs ++ s ∷ []))
+      → ((xs : List Spot) (s : Spot) → All IsPlacing xs → state.area ≡ area_sum xs → IsCharacter s character → s.at.page_just ≡ state.attributes.page_just → state.area.present ≤ page_number state.attributes.page_just
+      → list_any (clashes s) (after_last is_break (in_group (page_number state.attributes.page_just) xs)) ≡ false → area ≡ area_sum (xs ++ s ∷ []))
       → IsBelow (1024 * length items + 1024) area → unsized_offence sign items (Shows number) ≡ None → IsStateOf sign (items ++ Shows number ∷ []) (record state { area = area })
   character-accepted number c some character just spacing wide font area sum below fine =
       let (cell, found, width) = cell_found sign items state st number c some in
       let s : Spot = record { at = standing sign items; put = Glyph cell } in
       let before = spots sign items in
       let free = no_conflict (conflicts before s) false (sym (offence-character never_big sign items number cell found) ∙ fine) in
-      let apart = no_clash before s state.attributes.page_just refl page_is free in
-      let order = no_back before s state.attributes.page_just state.area.present page_is (ap (λ (a : Area). a.present) st.area) free in
+      let apart = no_clash before s (page_number state.attributes.page_just) refl (ap page_number page_is) free in
+      let order = no_back before s (page_number state.attributes.page_just) state.area.present (ap page_number page_is) (ap (λ (a : Area). a.present) st.area) free in
       let grown = sum (present_area sign items) s placing st.area (is_character c character just spacing wide font cell width) page_is order apart in
       state-character sign items state st number cell found area grown below
 
@@ -95,10 +96,10 @@ module _ (sign : SignData) (items : List Meaning) (state : State) (st : IsStateO
         (sym (answer (spots sign items) (record { at = standing sign items; put = Glyph cell }) st.area refl page_is line_is) ∙ is)
 
     module _ (character : Character) (area : Area) (just : character.just ≡ state.attributes.line_just) (spacing : character.spacing ≡ state.attributes.spacing) (wide : character.width ≡ c.width) (font : character.font ≡ state.attributes.font)
-        (sum : (xs : List Spot) (s : Spot) → All IsPlacing xs → state.area ≡ area_sum xs → IsCharacter s character → s.at.page_just ≡ state.attributes.page_just → state.area.present ≤ state.attributes.page_just
-        → list_any (clashes s) (after_last is_break (in_group state.attributes.page_just xs)) ≡ false → area ≡ area_sum (xs ++ s ∷ []))
+        (sum : (xs : List Spot) (s : Spot) → All IsPlacing xs → state.area ≡ area_sum xs → IsCharacter s character → s.at.page_just ≡ state.attributes.page_just → state.area.present ≤ page_number state.attributes.page_just
+        → list_any (clashes s) (after_last is_break (in_group (page_number state.attributes.page_just) xs)) ≡ false → area ≡ area_sum (xs ++ s ∷ []))
         (f : Bool)
-        (fits : (before : List Spot) (s : Spot) → is_glyph s ≡ true → area ≡ area_sum (area_of s before ++ s ∷ []) → area.present ≡ s.at.page_just → s.at.line_just ≡ state.attributes.line_just
+        (fits : (before : List Spot) (s : Spot) → is_glyph s ≡ true → area ≡ area_sum (area_of s before ++ s ∷ []) → area.present ≡ page_number s.at.page_just → s.at.line_just ≡ state.attributes.line_just
         → s.at.rectangle.width ≡ state.attributes.rectangle.width → s.at.rectangle.height ≡ state.attributes.rectangle.height → FitsWithout before s → f ≡ not (too_big Off before s))
         (without : (s : Spot) → s.at ≡ standing sign items → FitsWithout (spots sign items) s) where
       pub character-exit-too_big : r ≡ false → f ≡ false → offence Off sign items (Shows number) ≡ Some 5
@@ -107,10 +108,10 @@ module _ (sign : SignData) (items : List Meaning) (state : State) (st : IsStateO
           let s : Spot = record { at = standing sign items; put = Glyph cell } in
           let before = spots sign items in
           let free = sym (answer before s st.area refl page_is line_is) ∙ is in
-          let apart = no_clash before s state.attributes.page_just refl page_is free in
-          let order = no_back before s state.attributes.page_just state.area.present page_is (ap (λ (a : Area). a.present) st.area) free in
+          let apart = no_clash before s (page_number state.attributes.page_just) refl (ap page_number page_is) free in
+          let order = no_back before s (page_number state.attributes.page_just) state.area.present (ap page_number page_is) (ap (λ (a : Area). a.present) st.area) free in
           let grown = sum (present_area sign items) s placing st.area (is_character c character just spacing wide font cell width) page_is order apart in
-          let present = present_behind (present_area sign items) s state.area area st.area grown (omega (arith, order, page_is)) in
+          let present = present_behind (present_area sign items) s state.area area st.area grown (omega (arith, order, ap page_number page_is)) in
           character-too_big sign items state st number cell found (sym (answer before s st.area refl page_is line_is) ∙ is)
           (not_false f (too_big Off before s) (fits before s refl grown present line_is width_is height_is (without s refl)) big)
 
@@ -121,10 +122,10 @@ module _ (sign : SignData) (items : List Meaning) (state : State) (st : IsStateO
           let s : Spot = record { at = standing sign items; put = Glyph cell } in
           let before = spots sign items in
           let free = sym (answer before s st.area refl page_is line_is) ∙ is in
-          let apart = no_clash before s state.attributes.page_just refl page_is free in
-          let order = no_back before s state.attributes.page_just state.area.present page_is (ap (λ (a : Area). a.present) st.area) free in
+          let apart = no_clash before s (page_number state.attributes.page_just) refl (ap page_number page_is) free in
+          let order = no_back before s (page_number state.attributes.page_just) state.area.present (ap page_number page_is) (ap (λ (a : Area). a.present) st.area) free in
           let grown = sum (present_area sign items) s placing st.area (is_character c character just spacing wide font cell width) page_is order apart in
-          let present = present_behind (present_area sign items) s state.area area st.area grown (omega (arith, order, page_is)) in (
+          let present = present_behind (present_area sign items) s state.area area st.area grown (omega (arith, order, ap page_number page_is)) in (
             character-fits sign items state st number cell found (sym (answer before s st.area refl page_is line_is) ∙ is)
                 (not_true f (too_big Off before s) (fits before s refl grown present line_is width_is height_is (without s refl)) fine),
             state-character sign items state st number cell found area grown below,
@@ -132,14 +133,14 @@ module _ (sign : SignData) (items : List Meaning) (state : State) (st : IsStateO
 
   -- an `nl` that doesn't offend
   pub break-accepted : (gap : Option ℕ) (area : Area)
-      → ((xs : List Spot) (s : Spot) → All IsPlacing xs → state.area ≡ area_sum xs → IsBreak s gap state.attributes.font → s.at.page_just ≡ state.attributes.page_just → state.area.present ≤ state.attributes.page_just → area ≡ area_sum (xs ++ s ∷ []))
+      → ((xs : List Spot) (s : Spot) → All IsPlacing xs → state.area ≡ area_sum xs → IsBreak s gap state.attributes.font → s.at.page_just ≡ state.attributes.page_just → state.area.present ≤ page_number state.attributes.page_just → area ≡ area_sum (xs ++ s ∷ []))
       → IsBelow (1024 * length items + 1024) area → unsized_offence sign items (Does (NewLine gap)) ≡ None → IsStateOf sign (items ++ Does (NewLine gap) ∷ []) (record state { area = area })
   break-accepted gap area sum below fine =
       let s : Spot = record { at = standing sign items; put = Break gap } in
       let before = spots sign items in
       let free = no_conflict (conflicts before s) false (sym (offence-break never_big sign items gap) ∙ fine) in
       let ends : IsBreak s gap state.attributes.font = record { put = refl; font = font_is } in
-      let order = no_back before s state.attributes.page_just state.area.present page_is (ap (λ (a : Area). a.present) st.area) free in
+      let order = no_back before s (page_number state.attributes.page_just) state.area.present (ap page_number page_is) (ap (λ (a : Area). a.present) st.area) free in
       state-break sign items state st gap area (sum (present_area sign items) s placing st.area ends page_is order) below
 
   module _ (gap : Option ℕ) (r : Bool)
@@ -154,15 +155,15 @@ module _ (sign : SignData) (items : List Meaning) (state : State) (st : IsStateO
         break-conflict sign items state st gap (sym (answer (spots sign items) (record { at = standing sign items; put = Break gap }) st.area refl page_is) ∙ is)
 
     module _ (area : Area)
-        (sum : (xs : List Spot) (s : Spot) → All IsPlacing xs → state.area ≡ area_sum xs → IsBreak s gap state.attributes.font → s.at.page_just ≡ state.attributes.page_just → state.area.present ≤ state.attributes.page_just → area ≡ area_sum (xs ++ s ∷ []))
+        (sum : (xs : List Spot) (s : Spot) → All IsPlacing xs → state.area ≡ area_sum xs → IsBreak s gap state.attributes.font → s.at.page_just ≡ state.attributes.page_just → state.area.present ≤ page_number state.attributes.page_just → area ≡ area_sum (xs ++ s ∷ []))
         (f : Bool)
-        (fits : (s : Spot) → s.at ≡ standing sign items → is_break s ≡ true → state.area.present ≤ state.attributes.page_just → area ≡ area_sum (area_of s (spots sign items) ++ s ∷ []) → f ≡ not (too_big Off (spots sign items) s)) where
+        (fits : (s : Spot) → s.at ≡ standing sign items → is_break s ≡ true → state.area.present ≤ page_number state.attributes.page_just → area ≡ area_sum (area_of s (spots sign items) ++ s ∷ []) → f ≡ not (too_big Off (spots sign items) s)) where
       pub break-exit-too_big : r ≡ false → f ≡ false → offence Off sign items (Does (NewLine gap)) ≡ Some 5
       break-exit-too_big is big =
           let s : Spot = record { at = standing sign items; put = Break gap } in
           let before = spots sign items in
           let ends : IsBreak s gap state.attributes.font = record { put = refl; font = font_is } in
-          let order = no_back before s state.attributes.page_just state.area.present page_is (ap (λ (a : Area). a.present) st.area) (sym (answer before s st.area refl page_is) ∙ is) in
+          let order = no_back before s (page_number state.attributes.page_just) state.area.present (ap page_number page_is) (ap (λ (a : Area). a.present) st.area) (sym (answer before s st.area refl page_is) ∙ is) in
           let grown = sum (present_area sign items) s placing st.area ends page_is order in
           break-too_big sign items state st gap (sym (answer before s st.area refl page_is) ∙ is)
           (not_false f (too_big Off before s) (fits s refl refl order grown) big)
@@ -173,7 +174,7 @@ module _ (sign : SignData) (items : List Meaning) (state : State) (st : IsStateO
           let s : Spot = record { at = standing sign items; put = Break gap } in
           let before = spots sign items in
           let ends : IsBreak s gap state.attributes.font = record { put = refl; font = font_is } in
-          let order = no_back before s state.attributes.page_just state.area.present page_is (ap (λ (a : Area). a.present) st.area) (sym (answer before s st.area refl page_is) ∙ is) in
+          let order = no_back before s (page_number state.attributes.page_just) state.area.present (ap page_number page_is) (ap (λ (a : Area). a.present) st.area) (sym (answer before s st.area refl page_is) ∙ is) in
           let grown = sum (present_area sign items) s placing st.area ends page_is order in (
             break-fits sign items state st gap (sym (answer before s st.area refl page_is) ∙ is)
                 (not_true f (too_big Off before s) (fits s refl refl order grown) fine),

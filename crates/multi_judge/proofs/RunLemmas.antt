@@ -4,6 +4,7 @@ use Rattle.std.specs.Prelude.{nat_le, nat_lt}
 use Rattle.std.specs.List.{All, AllPass, after_last, list_any}
 use Rattle.std.specs.Option.{option_map_or, unwrap_or}
 use Rattle.std.proofs.lemmas.Bool.{cases_eq, eq-eqb, le-leb, le-ltb, ne_eqb}
+use Rattle.multi_tag.specs.Just.{line_number, page_number}
 use Rattle.sign_font.specs.declared.parts.LineFill.TheVariants.{Off}
 use Rattle.multi_meaning.specs.Laid.{too_big}
 use Rattle.sign_font.specs.Cell.{SizedCell}
@@ -99,20 +100,20 @@ pub average_same : (n : ℕ) → average n n ≡ n
 average_same n = omega arith
 
 module _ (line : List Spot) (s : Spot) (c : Character) (glyphs : AllPass is_glyph line) (is : IsCharacter s c) (l : Line) (e : l ≡ line_sum line)
-    (segment_is : l.present ≡ c.just) (parts : l.has_parts ≡ nat_lt c.just 5) (any : l.any ≡ true) (height : c.font.height ≤ l.height) (spacing : c.font.line_spacing ≤ l.spacing)
+    (segment_is : l.present ≡ line_number c.just) (parts : l.has_parts ≡ nat_lt (line_number c.just) 5) (any : l.any ≡ true) (height : c.font.height ≤ l.height) (spacing : c.font.line_spacing ≤ l.spacing)
     (last : l.part.last ≡ Some c.font.char_spacing) (gap : ℕ) (gap_is : gap ≡ unwrap_or c.spacing c.font.char_spacing) where
   -- the line is lengthened by the gap and the character's width
   pub line_lengthened : lengthened_line (l.part.width + (gap + c.width)) (l.part.count + 1) l ≡ line_sum (line ++ s ∷ [])
   line_lengthened =
-      let most : l.present ≡ largest (λ (t : Spot). t.at.line_just) line = ap (λ (l : Line). l.present) e in
-      let present : largest (λ (t : Spot). t.at.line_just) line ≡ c.just = sym most ∙ segment_is in
+      let most : l.present ≡ largest (λ (t : Spot). line_number t.at.line_just) line = ap (λ (l : Line). l.present) e in
+      let present : largest (λ (t : Spot). line_number t.at.line_just) line ≡ line_number c.just = sym most ∙ segment_is in
       let between : gap ≡ option_map_or (λ earlier. unwrap_or c.spacing (average earlier c.font.char_spacing)) l.part.last 0 =
       gap_is ∙ ap (unwrap_or c.spacing) (sym (average_same c.font.char_spacing))
       ∙ ap (λ o. option_map_or (λ earlier. unwrap_or c.spacing (average earlier c.font.char_spacing)) o 0) (sym last) in
-      let part : l.part ≡ segment_sum c.just line = ap (λ (l : Line). l.part) e ∙ ap (λ n. segment_sum n line) present in
-      let own : ◌≡◌ {A = Segment} (record { width = l.part.width + (gap + c.width); count = l.part.count + 1; last = Some c.font.char_spacing }) (segment_sum c.just (line ++ s ∷ [])) =
-      segment_own c.just line s c is refl l.part gap c.width part between refl in
-      let kept : ◌≡◌ {A = Segment} (record { width = l.part.width + (gap + c.width); count = l.part.count + 1; last = l.part.last }) (segment_sum c.just (line ++ s ∷ [])) =
+      let part : l.part ≡ segment_sum (line_number c.just) line = ap (λ (l : Line). l.part) e ∙ ap (λ n. segment_sum n line) present in
+      let own : ◌≡◌ {A = Segment} (record { width = l.part.width + (gap + c.width); count = l.part.count + 1; last = Some c.font.char_spacing }) (segment_sum (line_number c.just) (line ++ s ∷ [])) =
+      segment_own (line_number c.just) line s c is refl l.part gap c.width part between refl in
+      let kept : ◌≡◌ {A = Segment} (record { width = l.part.width + (gap + c.width); count = l.part.count + 1; last = l.part.last }) (segment_sum (line_number c.just) (line ++ s ∷ [])) =
       ap (λ o. let g : Segment = record { width = l.part.width + (gap + c.width); count = l.part.count + 1; last = o } in g) last ∙ own in
       line_with line s c glyphs is l e (omega (arith, segment_is)) _ segment_is
       (ap (λ (l : Line). l.left) e ∙ ap (λ n. width_before n 2 line) present)
@@ -121,7 +122,7 @@ module _ (line : List Spot) (s : Spot) (c : Character) (glyphs : AllPass is_glyp
       kept (or_same l.has_parts ∙ ap (λ b. l.has_parts || b) parts) (omega (arith, height)) (omega (arith, spacing)) any
 
 -- the area is lengthened where its present line is
-pub area_lengthened : (xs : List Spot) (s : Spot) (area : Area) (page width count : ℕ) → area ≡ area_sum xs → is_glyph s ≡ true → s.at.page_just ≡ page → area.present ≡ page
+pub area_lengthened : (xs : List Spot) (s : Spot) (area : Area) (page width count : ℕ) → area ≡ area_sum xs → is_glyph s ≡ true → page_number s.at.page_just ≡ page → area.present ≡ page
     → lengthened_line width count area.group.line ≡ line_sum (after_last is_break (in_group page xs) ++ s ∷ []) → lengthened_area width count area ≡ area_sum (xs ++ s ∷ [])
 area_lengthened xs s area page width count e glyph own present line =
     area_with xs s page own area e (omega (arith, present)) area _ (area_stays xs page area e (omega (arith, present)) (omega (arith, present))) refl refl refl
@@ -181,14 +182,14 @@ behind_stays state width count b = record {
 }
 
 module _ (state : State) (behind : IsBehindCharacter state) (gap : ℕ) (gap_is : gap ≡ unwrap_or state.attributes.spacing state.attributes.font.char_spacing) (cell : SizedCell) where
-  pub area_beside : (xs : List Spot) (s : Spot) → All IsPlacing xs → state.area ≡ area_sum xs → IsCharacter s (character_of state.attributes cell.width) → s.at.page_just ≡ state.attributes.page_just → state.area.present ≤ state.attributes.page_just
-      → list_any (clashes s) (after_last is_break (in_group state.attributes.page_just xs)) ≡ false → longer_by state gap cell ≡ area_sum (xs ++ s ∷ [])
+  pub area_beside : (xs : List Spot) (s : Spot) → All IsPlacing xs → state.area ≡ area_sum xs → IsCharacter s (character_of state.attributes cell.width) → s.at.page_just ≡ state.attributes.page_just → state.area.present ≤ page_number state.attributes.page_just
+      → list_any (clashes s) (after_last is_break (in_group (page_number state.attributes.page_just) xs)) ≡ false → longer_by state gap cell ≡ area_sum (xs ++ s ∷ [])
   area_beside xs s placing e is page order apart =
-      let spots = after_last is_break (in_group state.attributes.page_just xs) in
+      let spots = after_last is_break (in_group (page_number state.attributes.page_just) xs) in
       let here : line_in_force state ≡ line_sum spots = own_line xs state.area e ∙ ap (λ n. line_sum (after_last is_break (in_group n xs))) behind.group in
-      let grown = line_lengthened spots s (character_of state.attributes cell.width) (present_glyphs state.attributes.page_just xs placing) is (line_in_force state) here
+      let grown = line_lengthened spots s (character_of state.attributes cell.width) (present_glyphs (page_number state.attributes.page_just) xs placing) is (line_in_force state) here
       behind.line.segment behind.line.parts behind.line.any behind.line.height behind.line.spacing behind.line.last gap gap_is in
-      area_lengthened xs s state.area state.attributes.page_just ((line_in_force state).part.width + (gap + cell.width)) ((line_in_force state).part.count + 1) e is.glyph page behind.group grown
+      area_lengthened xs s state.area (page_number state.attributes.page_just) ((line_in_force state).part.width + (gap + cell.width)) ((line_in_force state).part.count + 1) e is.glyph (ap page_number page) behind.group grown
 
   -- a character that doesn't offend lengthens the state
   pub state_beside : (sign : SignData) (items : List Meaning) → IsStateOf sign items state → (number : ℕ) → cell_in sign state.attributes.font.number number ≡ Some cell → gap ≤ 255 → cell.width ≤ 64
@@ -216,33 +217,33 @@ module _ (sign : SignData) (items : List Meaning) (state : State) (st : IsStateO
   agrees before s sum glyph page line =
       let spots = after_last is_break (in_group state.area.present (area_of s before)) in
       let here : line_in_force state ≡ line_sum spots = own_line (area_of s before) state.area sum in
-      let present : largest (λ (t : Spot). t.at.line_just) spots ≡ state.attributes.line_just = sym (ap (λ (l : Line). l.present) here) ∙ run.line.segment in
-      let parts : list_any (λ (t : Spot). nat_lt t.at.line_just 5) spots ≡ nat_lt state.attributes.line_just 5 = sym (ap (λ (l : Line). l.has_parts) here) ∙ run.line.parts in
+      let present : largest (λ (t : Spot). line_number t.at.line_just) spots ≡ line_number state.attributes.line_just = sym (ap (λ (l : Line). l.present) here) ∙ run.line.segment in
+      let parts : list_any (λ (t : Spot). nat_lt (line_number t.at.line_just) 5) spots ≡ nat_lt (line_number state.attributes.line_just) 5 = sym (ap (λ (l : Line). l.has_parts) here) ∙ run.line.parts in
       let clash : list_any (clashes s) spots ≡ false =
       line_clashes spots s
-      ∙ ap (λ n. nat_lt n (largest (λ (t : Spot). t.at.line_just) spots) || ((n == 5) && list_any (λ (t : Spot). nat_lt t.at.line_just 5) spots)) line
-      ∙ ap (λ n. nat_lt state.attributes.line_just n || ((state.attributes.line_just == 5) && list_any (λ (t : Spot). nat_lt t.at.line_just 5) spots)) present
-      ∙ ap (λ b. nat_lt state.attributes.line_just state.attributes.line_just || ((state.attributes.line_just == 5) && b)) parts
-      ∙ ap (λ b. b || ((state.attributes.line_just == 5) && nat_lt state.attributes.line_just 5)) (le-ltb state.attributes.line_just state.attributes.line_just (omega arith))
-      ∙ not_full state.attributes.line_just in
-      let whole = conflicts_kept before s state.attributes.page_just state.area.present false glyph page (ap (λ (a : Area). a.present) sum) (sym clash) in
-      sym (and_none (state.attributes.page_just == state.area.present))
-      ∙ ap (λ b. b || ((state.attributes.page_just == state.area.present) && false)) (sym (le-ltb state.attributes.page_just state.area.present (omega (arith, run.group))))
+      ∙ ap (λ n. nat_lt n (largest (λ (t : Spot). line_number t.at.line_just) spots) || ((n == 5) && list_any (λ (t : Spot). nat_lt (line_number t.at.line_just) 5) spots)) (ap line_number line)
+      ∙ ap (λ n. nat_lt (line_number state.attributes.line_just) n || ((line_number state.attributes.line_just == 5) && list_any (λ (t : Spot). nat_lt (line_number t.at.line_just) 5) spots)) present
+      ∙ ap (λ b. nat_lt (line_number state.attributes.line_just) (line_number state.attributes.line_just) || ((line_number state.attributes.line_just == 5) && b)) parts
+      ∙ ap (λ b. b || ((line_number state.attributes.line_just == 5) && nat_lt (line_number state.attributes.line_just) 5)) (le-ltb (line_number state.attributes.line_just) (line_number state.attributes.line_just) (omega arith))
+      ∙ not_full (line_number state.attributes.line_just) in
+      let whole = conflicts_kept before s (page_number state.attributes.page_just) state.area.present false glyph (ap page_number page) (ap (λ (a : Area). a.present) sum) (sym clash) in
+      sym (and_none (page_number state.attributes.page_just == state.area.present))
+      ∙ ap (λ b. b || ((page_number state.attributes.page_just == state.area.present) && false)) (sym (le-ltb (page_number state.attributes.page_just) state.area.present (omega (arith, run.group))))
       ∙ whole
 
   -- whether it fits
-  fits_behind : (before : List Spot) (s : Spot) → is_glyph s ≡ true → longer ≡ area_sum (area_of s before ++ s ∷ []) → longer.present ≡ s.at.page_just
+  fits_behind : (before : List Spot) (s : Spot) → is_glyph s ≡ true → longer ≡ area_sum (area_of s before ++ s ∷ []) → longer.present ≡ page_number s.at.page_just
       → s.at.rectangle.width ≡ state.attributes.rectangle.width → s.at.rectangle.height ≡ state.attributes.rectangle.height
       → nat_le ((line_in_force state).part.width + (gap + cell.width)) room ≡ not (too_big Off before s)
   fits_behind before s glyph sum present w h =
       let more = area_of s before ++ s ∷ [] in
       let line = lengthened_line ((line_in_force state).part.width + (gap + cell.width)) ((line_in_force state).part.count + 1) (line_in_force state) in
-      let same : line ≡ line_sum (after_last is_break (in_group s.at.page_just more)) = own_line more longer sum ∙ ap (λ n. line_sum (after_last is_break (in_group n more))) present in
+      let same : line ≡ line_sum (after_last is_break (in_group (page_number s.at.page_just) more)) = own_line more longer sum ∙ ap (λ n. line_sum (after_last is_break (in_group n more))) present in
       let room_left = run.room_is ((line_in_force state).part.width + (gap + cell.width)) ((line_in_force state).part.count + 1) (omega (arith, wide)) in
-      let fits_line = sym room_left ∙ kept_fits_is (after_last is_break (in_group s.at.page_just more)) line state.attributes.rectangle.width same (omega (arith, run.line.segment, st.line_just.1)) in
+      let fits_line = sym room_left ∙ kept_fits_is (after_last is_break (in_group (page_number s.at.page_just) more)) line state.attributes.rectangle.width same st.below.group.line.known in
       let fits_area = sym run.heights ∙ kept_area_fits more longer state.attributes.rectangle.height (placing_character before s glyph) sum (omega (arith, st.below.known)) in
       sym (and_true (nat_le ((line_in_force state).part.width + (gap + cell.width)) room))
-      ∙ fits_character before s s.at.page_just state.attributes.rectangle.width state.attributes.rectangle.height
+      ∙ fits_character before s (page_number s.at.page_just) state.attributes.rectangle.width state.attributes.rectangle.height
       (nat_le ((line_in_force state).part.width + (gap + cell.width)) room) true glyph refl w h fits_line fits_area
 
   pub run_goes_on : (line_in_force state).part.width + (gap + cell.width) ≤ room → IsBelow (1024 * length items + 1024) longer

@@ -9,13 +9,12 @@ use Rattle.multi_tag.specs.declared.tag.Tag.TheVariants.{NewPage, NewLine, LineJ
 use Rattle.sign_font.specs.declared.parts.LineFill.TheVariants.{Off}
 use Rattle.sign_font.specs.declared.font.FontInfo.{FontInfo}
 use Rattle.sign_font.specs.Sign.{SignData, FontData, font_numbered, info_of}
-use Rattle.sign_font.specs.Sound.{IsSound}
 use Rattle.multi_meaning.specs.Laid.{too_big}
 use Rattle.multi_meaning.specs.Address.{standing}
 use Rattle.multi_meaning.specs.Attributes.{is_inside}
 use Rattle.multi_meaning.specs.Meaning.{Meaning, Does}
 use Rattle.multi_meaning.specs.Offence.{offence, offence_by}
-use Rattle.multi_meaning.specs.kept.Present.{IsKnown, standing_behind}
+use Rattle.multi_meaning.specs.kept.Present.{standing_behind}
 use Rattle.multi_meaning.proofs.OffenceLemmas.{offence-font, offence-no_font}
 use Rattle.multi_judge.specs.declared.attributes.Attributes.{Attributes}
 use Rattle.multi_judge.specs.declared.state.State.{State}
@@ -32,31 +31,9 @@ simple_of (Font pick) a b c d = c pick refl
 simple_of (Rect x y w h) a b c d = d x y w h refl
 simple_of tag a b c d = tt
 
-known_line : (just : Option ℕ) (default : ℕ) → IsKnown (LineJust just) → (2 ≤ default) × (default ≤ 5) → (2 ≤ unwrap_or just default) × (unwrap_or just default ≤ 5)
-known_line None default k d = d
-known_line (Some just) default k d = k
-
-known_page : (just : Option ℕ) (default : ℕ) → IsKnown (PageJust just) → (2 ≤ default) × (default ≤ 4) → (2 ≤ unwrap_or just default) × (unwrap_or just default ≤ 4)
-known_page None default k d = d
-known_page (Some just) default k d = k
-
-module _ (sign : SignData) (items : List Meaning) (state : State) (st : IsStateOf sign items state) (sound : IsSound sign) (attributes : Attributes) where
+module _ (sign : SignData) (items : List Meaning) (state : State) (st : IsStateOf sign items state) (attributes : Attributes) where
   below : IsBelow (1024 * length items + 1024) state.area
   below = below_more (1024 * length items) (1024 * length items + 1024) state.area (omega arith) st.below
-
-  line : (2 ≤ (standing sign items).line_just) × ((standing sign items).line_just ≤ 5)
-  line = let e : state.attributes.line_just ≡ (standing sign items).line_just = ap (λ (a : Attributes). a.line_just) st.attributes in
-      (omega (arith, st.line_just.0), omega (arith, st.line_just.1))
-
-  page : (2 ≤ (standing sign items).page_just) × ((standing sign items).page_just ≤ 4)
-  page = let e : state.attributes.page_just ≡ (standing sign items).page_just = ap (λ (a : Attributes). a.page_just) st.attributes in
-      (omega (arith, st.page_just.0), omega (arith, st.page_just.1))
-
-  along_line : (n : ℕ) → attributes.line_just ≡ n → (2 ≤ n) × (n ≤ 5) → (2 ≤ attributes.line_just) × (attributes.line_just ≤ 5)
-  along_line n e h = (omega (arith, h.0), omega (arith, h.1))
-
-  along_page : (n : ℕ) → attributes.page_just ≡ n → (2 ≤ n) × (n ≤ 4) → (2 ≤ attributes.page_just) × (attributes.page_just ≤ 4)
-  along_page n e h = (omega (arith, h.0), omega (arith, h.1))
 
   abbrev pub After : Tag → Type 0
   After tag = attributes ≡ attributes_of (standing_behind sign (standing sign items) (Does tag))
@@ -65,31 +42,27 @@ module _ (sign : SignData) (items : List Meaning) (state : State) (st : IsStateO
   CheckedData tag = (offence Off sign items (Does tag) ≡ None) × IsStateOf sign (items ++ Does tag ∷ []) (record state { attributes = attributes })
 
   -- a simple tag: it doesn't offend, and the values in force change
-  pub judged-simple : (tag : Tag) → IsSimple tag → IsKnown tag → After tag → CheckedData tag
+  pub judged-simple : (tag : Tag) → IsSimple tag → After tag → CheckedData tag
   unfolding offence_by
-  judged-simple NewPage s k is = absurd s
-  judged-simple (NewLine gap) s k is = absurd s
-  judged-simple (Font pick) s k is = absurd s
-  judged-simple (Rect x y w h) s k is = absurd s
-  judged-simple (LineJust just) s k is = (
+  judged-simple NewPage s is = absurd s
+  judged-simple (NewLine gap) s is = absurd s
+  judged-simple (Font pick) s is = absurd s
+  judged-simple (Rect x y w h) s is = absurd s
+  judged-simple (LineJust just) s is = (
     refl,
-    state-attribute sign items state attributes (Does (LineJust just)) st refl refl refl is st.font
-        (along_line _ (ap (λ (a : Attributes). a.line_just) is) (known_line just sign.defaults.line k sound.line)) (along_page _ (ap (λ (a : Attributes). a.page_just) is) page) below,
+    state-attribute sign items state attributes (Does (LineJust just)) st refl refl refl is st.font below,
   )
-  judged-simple (PageJust just) s k is = (
+  judged-simple (PageJust just) s is = (
     refl,
-    state-attribute sign items state attributes (Does (PageJust just)) st refl refl refl is st.font
-        (along_line _ (ap (λ (a : Attributes). a.line_just) is) line) (along_page _ (ap (λ (a : Attributes). a.page_just) is) (known_page just sign.defaults.page k sound.page)) below,
+    state-attribute sign items state attributes (Does (PageJust just)) st refl refl refl is st.font below,
   )
-  judged-simple (Back colour) s k is = (
+  judged-simple (Back colour) s is = (
     refl,
-    state-cover sign items state attributes colour st is
-        (along_line _ (ap (λ (a : Attributes). a.line_just) is) line) (along_page _ (ap (λ (a : Attributes). a.page_just) is) page) below,
+    state-cover sign items state attributes colour st is below,
   )
-  judged-simple tag s k is = (
+  judged-simple tag s is = (
     refl,
-    state-attribute sign items state attributes (Does tag) st refl refl refl is st.font
-        (along_line _ (ap (λ (a : Attributes). a.line_just) is) line) (along_page _ (ap (λ (a : Attributes). a.page_just) is) page) below,
+    state-attribute sign items state attributes (Does tag) st refl refl refl is st.font below,
   )
 
   -- a font: the values in force have its numbers
@@ -102,21 +75,20 @@ module _ (sign : SignData) (items : List Meaning) (state : State) (st : IsStateO
       ∙ ap (λ (f : FontData). let b : Attributes = record (attributes_of (standing sign items)) { font = info_of f } in b) (sym new) in (
         fine,
         state-attribute sign items state attributes x st refl refl refl after
-            (subst (λ (f : FontData). font_numbered sign f.number ≡ Some f) (sym new) own)
-            (along_line _ (ap (λ (a : Attributes). a.line_just) is) st.line_just) (along_page _ (ap (λ (a : Attributes). a.page_just) is) st.page_just) below,
+            (subst (λ (f : FontData). font_numbered sign f.number ≡ Some f) (sym new) own) below,
       )
 
 -- FONTS
 
 -- the default font
-pub judged-default_font : (sign : SignData) (items : List Meaning) (state : State) (st : IsStateOf sign items state) (sound : IsSound sign) (info : FontInfo)
+pub judged-default_font : (sign : SignData) (items : List Meaning) (state : State) (st : IsStateOf sign items state) (info : FontInfo)
     → option_map info_of (font_numbered sign sign.defaults.font) ≡ Some info
-    → CheckedData sign items state st sound (record state.attributes { font = info }) (Font None)
+    → CheckedData sign items state st (record state.attributes { font = info }) (Font None)
 unfolding offence_by
-judged-default_font sign items state st sound info is =
+judged-default_font sign items state st info is =
     let (font, found, same) = font_of_info (font_numbered sign sign.defaults.font) info is in
     let none : FontData = record { number = 0; version = 0; height = 0; char_spacing = 0; line_spacing = 0; cells = [] } in
-    judged-font sign items state st sound (record state.attributes { font = info }) None font (ap (λ o. unwrap_or o none) found) (found_again sign sign.defaults.font font found)
+    judged-font sign items state st (record state.attributes { font = info }) None font (ap (λ o. unwrap_or o none) found) (found_again sign sign.defaults.font font found)
     (ap (λ (i : FontInfo). let a : Attributes = record state.attributes { font = i } in a) same) refl
 
 no_info : (o : Option FontData) → option_map info_of o ≡ None → o ≡ None
@@ -142,15 +114,15 @@ judged-version sign items pick info is differs =
     offence-font (too_big Off) sign items pick font found ∙ ap (λ b. cond {A = Option ℕ} b (Some 13) None) test
 
 -- the font that is asked for, in its version
-pub judged-picked : (sign : SignData) (items : List Meaning) (state : State) (st : IsStateOf sign items state) (sound : IsSound sign) (pick : FontPick) (info : FontInfo)
+pub judged-picked : (sign : SignData) (items : List Meaning) (state : State) (st : IsStateOf sign items state) (pick : FontPick) (info : FontInfo)
     → option_map info_of (font_numbered sign pick.number) ≡ Some info → option_map_or (λ v. v == info.version) pick.version true ≡ true
-    → CheckedData sign items state st sound (record state.attributes { font = info }) (Font (Some pick))
-judged-picked sign items state st sound pick info is agrees =
+    → CheckedData sign items state st (record state.attributes { font = info }) (Font (Some pick))
+judged-picked sign items state st pick info is agrees =
     let (font, found, same) = font_of_info (font_numbered sign pick.number) info is in
     let versions : font.version ≡ info.version = ap (λ (i : FontInfo). i.version) (sym same) in
     let test : option_map_or (λ v. not (v == font.version)) pick.version false ≡ false =
     ap (λ n. option_map_or (λ v. not (v == n)) pick.version false) versions ∙ other_version pick.version info.version ∙ ap not agrees in
-    judged-font sign items state st sound (record state.attributes { font = info }) (Some pick) font
+    judged-font sign items state st (record state.attributes { font = info }) (Some pick) font
     (ap (λ o. unwrap_or o (standing sign items).font) found)
     (found_again sign pick.number font found) (ap (λ (i : FontInfo). let a : Attributes = record state.attributes { font = i } in a) same)
     (offence-font (too_big Off) sign items pick font found ∙ ap (λ b. cond {A = Option ℕ} b (Some 13) None) test)

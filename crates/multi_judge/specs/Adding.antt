@@ -1,6 +1,7 @@
 -- One more character or end of a line, put into the present area.
 use Rattle.std.specs.Prelude.{◌≡◌, ℕ, ◌+◌, ◌<◌, ◌≤◌, Bool, true, false, nat_le, List, [], ◌∷◌, ◌++◌, Option}
 use Rattle.std.specs.List.{All, AllPass, after_last, list_any}
+use Rattle.multi_tag.specs.Just.{page_number}
 use Rattle.multi_meaning.specs.Address.{Spot, in_group, is_break, is_glyph}
 use Rattle.multi_meaning.specs.Offence.{clashes}
 use Rattle.multi_meaning.specs.kept.Present.{IsPlacing}
@@ -52,10 +53,11 @@ character_of here width = record { just = here.line_just; spacing = here.spacing
 pub record AddsCharacter (old : State) (width : ℕ) (new : State) : Type 0 where
   pub sum : (area : List Spot) (s : Spot) → All IsPlacing area → old.area ≡ area_sum area
       → IsCharacter s (character_of old.attributes width)
-      → s.at.page_just ≡ old.attributes.page_just → old.area.present ≤ old.attributes.page_just
-      → list_any (clashes s) (after_last is_break (in_group old.attributes.page_just area)) ≡ false → new.area ≡ area_sum (area ++ s ∷ [])
+      → s.at.page_just ≡ old.attributes.page_just → old.area.present ≤ page_number old.attributes.page_just
+      → list_any (clashes s) (after_last is_break (in_group (page_number old.attributes.page_just) area)) ≡ false
+      → new.area ≡ area_sum (area ++ s ∷ [])
   pub grows : (k : ℕ) → IsBelow k old.area → IsBelow (k + 1024) new.area
-  pub behind : (new.area.present ≡ old.attributes.page_just)
+  pub behind : (new.area.present ≡ page_number old.attributes.page_just)
       × IsBehindOne old.attributes.line_just old.attributes.font new.area.group.line
   pub same : new ≡ record old { area = new.area; limits = new.limits }
   pub limited : IsLimited old → IsLimited new
@@ -64,9 +66,10 @@ pub record AddsCharacter (old : State) (width : ℕ) (new : State) : Type 0 wher
 -- by more than 1,024, the line in force has no character, and the group in force is the present one where none is behind it (own)
 pub record AddsBreak (old : State) (gap : Option ℕ) (new : State) : Type 0 where
   pub sum : (area : List Spot) (s : Spot) → All IsPlacing area → old.area ≡ area_sum area → IsBreak s gap old.attributes.font
-      → s.at.page_just ≡ old.attributes.page_just → old.area.present ≤ old.attributes.page_just → new.area ≡ area_sum (area ++ s ∷ [])
+      → s.at.page_just ≡ old.attributes.page_just → old.area.present ≤ page_number old.attributes.page_just
+      → new.area ≡ area_sum (area ++ s ∷ [])
   pub grows : (k : ℕ) → IsBelow k old.area → IsBelow (k + 1024) new.area
-  pub present : old.area.present ≤ old.attributes.page_just → new.area.present ≡ old.attributes.page_just
+  pub present : old.area.present ≤ page_number old.attributes.page_just → new.area.present ≡ page_number old.attributes.page_just
   pub none : new.area.group.line.any ≡ false
   pub same : new ≡ record old { area = new.area; limits = new.limits }
   pub limited : IsLimited old → IsLimited new

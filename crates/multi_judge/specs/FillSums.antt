@@ -2,6 +2,7 @@
 use Rattle.std.specs.Prelude.{◌≡◌, ℕ, ◌≤◌, Bool, true, false, nat_lt, List, [], ◌∷◌, ◌++◌, Option, None, Some}
 use Rattle.std.specs.List.{All, AllPass, after_last, list_any}
 use Rattle.std.specs.Option.{IfSome, option_map}
+use Rattle.multi_tag.specs.Just.{line_number}
 use Rattle.sign_font.specs.Sign.{info_of}
 use Rattle.multi_meaning.specs.Address.{Spot, is_break, is_glyph}
 use Rattle.multi_meaning.specs.Filling.{CutAt, cut_at_last, dropped, filled, is_space}
@@ -28,8 +29,8 @@ split_sum line = option_map parts_sum (cut_at_last is_space line)
 -- what the order of the justifications of these characters is judged by: the largest, and whether a character isn't full (own)
 abbrev pub order_sum : List Spot → Order
 order_sum line = record {
-  largest = largest (λ t. t.at.line_just) line;
-  has_parts = list_any (λ t. nat_lt t.at.line_just 5) line;
+  largest = largest (λ t. line_number t.at.line_just) line;
+  has_parts = list_any (λ t. nat_lt (line_number t.at.line_just) 5) line;
 }
 
 -- the numbers of the parts of a line are at most k (own)

@@ -1,6 +1,7 @@
 -- A run where lines are filled: characters behind one with the same attributes, as long as they stay on its line (own).
 use Rattle.std.specs.Prelude.{◌≡◌, ℕ, ◌+◌, ◌-◌, true, ◌==◌, nat_lt, [], Option, Some, if◌then◌else◌}
 use Rattle.std.specs.Option.{IfSome, option_map}
+use Rattle.multi_tag.specs.Just.{line_number}
 use Rattle.multi_judge.specs.declared.attributes.Attributes.{Attributes}
 use Rattle.multi_judge.specs.declared.fill.Split.{Split}
 use Rattle.multi_judge.specs.declared.pass.Pass.{Pass}
@@ -22,7 +23,7 @@ GoesOnBehind here split = IfSome split (λ s. s.behind.any ≡ true → IsBehind
 pub record IsFilledRun (kept : Pass) : Type 0 where
   pub behind : IsBehindCharacter kept.state
   pub fits : Fits kept.state
-  pub order : IsOrderOf kept.state.attributes.line_just kept.order
+  pub order : IsOrderOf (line_number kept.state.attributes.line_just) kept.order
   pub split : GoesOnBehind kept.state.attributes kept.split
 
 -- a line whose present segment has so many more pixels and characters (own)
@@ -32,9 +33,9 @@ longer_line pixels count line = lengthened_line (line.part.width + pixels) (line
 -- a line of no character, begun with so many characters with these attributes, of so many pixels (own)
 abbrev pub even_line : Attributes → ℕ → ℕ → Line → Line
 even_line here pixels count line = record line {
-  present = here.line_just;
+  present = line_number here.line_just;
   part = record { width = pixels; count = count; last = Some here.font.char_spacing };
-  has_parts = nat_lt here.line_just 5;
+  has_parts = nat_lt (line_number here.line_just) 5;
   height = here.font.height;
   spacing = here.font.line_spacing;
   any = true;

@@ -33,7 +33,7 @@ pub record IsFilledFor (sign : SignData) (kept : Pass) (items : List Meaning) : 
   pub words : sign.line_fill ≡ Words
   pub of : IsFilledOf sign items kept
 
--- it is small enough that no sum overflows, and its justifications are known ones (own)
+-- it is small enough that no sum overflows (own)
 pub record IsFilledReady (kept : Pass) : Type 0 where
   pub state : IsReady kept.state
   pub split : IsSplitBelow (2 ^ 62) kept.split

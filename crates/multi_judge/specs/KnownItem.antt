@@ -2,7 +2,6 @@
 use Rattle.std.specs.Prelude.{◌≤◌, Bool, true, false}
 use Rattle.multi_tag.specs.declared.tag.Tag.TheVariants.{NewPage, NewLine, Rect, Back}
 use Rattle.multi_meaning.specs.Meaning.{Meaning, Shows, Does}
-use Rattle.multi_meaning.specs.kept.Present.{IsKnown}
 use Rattle.multi_judge.specs.declared.item.KnownItem.{KnownItem}
 use Rattle.multi_judge.specs.declared.item.KnownItem.TheVariants.{Char, Tag}
 
@@ -10,11 +9,6 @@ use Rattle.multi_judge.specs.declared.item.KnownItem.TheVariants.{Char, Tag}
 abbrev pub meant_by : KnownItem → Meaning
 meant_by (Char number) = Shows number
 meant_by (Tag tag) = Does tag
-
--- the justification that an item gives is a known one (NTCIP 1203 v03, MULTI tags 'jl' and 'jp')
-abbrev pub IsKnownItem : KnownItem → Type 0
-IsKnownItem (Char number) = Unit {0}
-IsKnownItem (Tag tag) = IsKnown tag
 
 -- an item only sets values that are in force behind it: a tag that puts nothing and begins nothing (own)
 abbrev pub is_setting : Meaning → Bool

@@ -1,5 +1,6 @@
 -- What one more item of an accepted string makes of what is kept (own).
 use Rattle.std.specs.Prelude.{◌≡◌, ℕ, ◌≤◌, Bool, true, false, if◌then◌else◌, List, [], ◌∷◌, ◌++◌, Option, Some, None}
+use Rattle.multi_tag.specs.Just.{page_number}
 use Rattle.sign_font.specs.Sign.{SignData}
 use Rattle.sign_font.specs.Text.{width_in}
 use Rattle.multi_meaning.specs.Address.{Spot, in_group}
@@ -35,14 +36,15 @@ abbrev pub PassesCharacter : Bool → ℕ → ℕ → Pass → Pass → Option L
 PassesCharacter words number width old new ended =
     (sign : SignData) (items : List Meaning) → IsPassOf words sign old items
     → width_in sign old.state.attributes.font.number number ≡ Some width → offence sign.line_fill sign items (Shows number) ≡ None
-    → IsItemPassed words sign items (Shows number) old.state.attributes.page_just old new ended
+    → IsItemPassed words sign items (Shows number) (page_number old.state.attributes.page_just) old new ended
     × (words ≡ false → IsBehindCharacter new.state)
 
 -- one more character is put where lines are filled, which doesn't offend by more than its size: it doesn't offend if it fits, and is passed
 -- then (own)
 pub record IsFilledPut (sign : SignData) (items : List Meaning) (number : ℕ) (old new : Pass) (placed : Placed) : Type 0 where
   pub size : offence sign.line_fill sign items (Shows number) ≡ (if placed.fits then None else Some 5)
-  pub passed : placed.fits ≡ true → IsItemPassed true sign items (Shows number) old.state.attributes.page_just old new placed.ended
+  pub passed : placed.fits ≡ true
+      → IsItemPassed true sign items (Shows number) (page_number old.state.attributes.page_just) old new placed.ended
 
 -- so it is of one whose cell has this width, whatever the items before are of which the old is kept (own)
 abbrev pub PutsFilled : ℕ → ℕ → Pass → Pass → Placed → Type 0

@@ -1,6 +1,7 @@
 -- Where a character stands, by what is kept of its area (own).
 use Rattle.std.specs.Prelude.{◌≡◌, ℕ, ◌<◌, ◌≤◌, Bool, true, false, List, [], ◌∷◌, ◌++◌, length}
 use Rattle.std.specs.List.{count_by, list_any}
+use Rattle.multi_tag.specs.Just.{page_number}
 use Rattle.multi_meaning.specs.declared.place.Place.{Place}
 use Rattle.multi_meaning.specs.Address.{Spot, area_of, group_of, in_group, is_break, is_glyph, line_before, lines_of}
 use Rattle.multi_meaning.specs.Line.{glyph_width}
@@ -22,13 +23,14 @@ PlacesCharacter attributes area lines width place =
     (before all : List Spot) (spot : Spot) → is_glyph spot ≡ true → attributes ≡ attributes_of spot.at → glyph_width spot ≡ width
     → area ≡ area_sum (area_of spot before ++ spot ∷ []) → lines ≡ table_of (lines_of (group_of spot all))
     → count_by is_break (group_of spot before) < length (lines_of (group_of spot all))
-    → list_any (clashes spot) (line_before before spot) ≡ false → largest (λ t. t.at.page_just) (area_of spot before) ≤ attributes.page_just
+    → list_any (clashes spot) (line_before before spot) ≡ false
+    → largest (λ t. page_number t.at.page_just) (area_of spot before) ≤ page_number attributes.page_just
     → place ≡ place_of before all spot
 
 -- the answer is whether the next of a group ends its line, where these are in force, kept of the area so far, and the counted lines of the
 -- group (own)
 abbrev pub TellsEnd : Attributes → Area → List CountedLine → Bool → Type 0
 TellsEnd attributes area lines ends =
-    (front back spots : List Spot) (next : Spot) → area ≡ area_sum spots → area.present ≤ attributes.page_just
-    → in_group attributes.page_just spots ≡ front → lines ≡ table_of (lines_of (front ++ next ∷ back)) → IsPlacing next
+    (front back spots : List Spot) (next : Spot) → area ≡ area_sum spots → area.present ≤ page_number attributes.page_just
+    → in_group (page_number attributes.page_just) spots ≡ front → lines ≡ table_of (lines_of (front ++ next ∷ back)) → IsPlacing next
     → (is_glyph next ≡ true → (next.at.line_just ≡ attributes.line_just) × (1 ≤ glyph_width next)) → ends ≡ is_break next

@@ -3,6 +3,8 @@ use Rattle.std.specs.Prelude.{◌≡◌, ℕ, ◌+◌, ◌-◌, ◌≤◌, Bool,
 use Rattle.std.specs.List.{All}
 use Rattle.std.specs.Option.{option_map_or, unwrap_or}
 use Rattle.multi_token.specs.Spelling.{IsPlain}
+use Rattle.multi_tag.specs.declared.just.LineJust.{LineJust}
+use Rattle.multi_tag.specs.Just.{line_number, page_number}
 use Rattle.sign_font.specs.declared.font.FontInfo.{FontInfo}
 use Rattle.sign_font.specs.Sign.{SignData}
 use Rattle.sign_font.specs.Text.{HasWidth, width_in}
@@ -59,13 +61,13 @@ abbrev pub GroupsFitBefore : ℕ → Area → Type 0
 GroupsFitBefore height area = fit (kept_before 2 area) (kept_before 3 area) (kept_before 4 area) height ≡ true
 
 -- by what is kept of a line, a character with a line justification may stand on it (own)
-abbrev pub IsOpen : ℕ → Line → Type 0
-IsOpen just line = (line.present ≤ just) × (just ≡ 5 → line.has_parts ≡ false)
+abbrev pub IsOpen : LineJust → Line → Type 0
+IsOpen just line = (line.present ≤ line_number just) × (line_number just ≡ 5 → line.has_parts ≡ false)
 
 -- the last character of a line has this line justification and font (own)
-pub record IsBehindOne (just : ℕ) (font : FontInfo) (line : Line) : Type 0 where
-  pub segment : line.present ≡ just
-  pub parts : line.has_parts ≡ nat_lt just 5
+pub record IsBehindOne (just : LineJust) (font : FontInfo) (line : Line) : Type 0 where
+  pub segment : line.present ≡ line_number just
+  pub parts : line.has_parts ≡ nat_lt (line_number just) 5
   pub any : line.any ≡ true
   pub height : font.height ≤ line.height
   pub spacing : font.line_spacing ≤ line.spacing
@@ -89,7 +91,7 @@ line_in_force state = state.area.group.line
 
 -- the last character was put into the present area with the attributes in force (own)
 pub record IsBehindCharacter (state : State) : Type 0 where
-  pub group : state.area.present ≡ state.attributes.page_just
+  pub group : state.area.present ≡ page_number state.attributes.page_just
   pub line : IsBehindOne state.attributes.line_just state.attributes.font (line_in_force state)
 
 -- by what is kept, the present line and the present area fit the rectangle in force (own)
@@ -100,7 +102,7 @@ pub record Fits (state : State) : Type 0 where
 -- a character here has the attributes of the one before it, so that it only lengthens their segment: by its width and this gap,
 -- and it fits where the segment then has at most so much room (own)
 pub record IsRun (state : State) (gap room : ℕ) : Type 0 where
-  pub group : state.area.present ≡ state.attributes.page_just
+  pub group : state.area.present ≡ page_number state.attributes.page_just
   pub line : IsBehindOne state.attributes.line_just state.attributes.font (line_in_force state)
   pub gap_is : gap ≡ unwrap_or state.attributes.spacing state.attributes.font.char_spacing
   pub narrow : gap ≤ 255

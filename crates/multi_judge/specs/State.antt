@@ -36,15 +36,13 @@ attributes_of at = record {
 }
 
 -- the state is that of these items: their pages, their ended pages' times, the values in force behind them, and the sums of
--- their present area; the font in force is the sign's, and the justifications are known ones (own)
+-- their present area; the font in force is the sign's (own)
 pub record IsStateOf (sign : SignData) (items : List Meaning) (state : State) : Type 0 where
   pub pages : state.pages ≡ pages_of items
   pub times : state.cycle ≡ cycle (ended_times sign items)
   pub attributes : state.attributes ≡ attributes_of (standing sign items)
   pub area : state.area ≡ area_sum (present_area sign items)
   pub font : font_numbered sign (standing sign items).font.number ≡ Some (standing sign items).font
-  pub line_just : (2 ≤ state.attributes.line_just) × (state.attributes.line_just ≤ 5)
-  pub page_just : (2 ≤ state.attributes.page_just) × (state.attributes.page_just ≤ 4)
   pub below : IsBelow (1024 * length items) state.area
   pub short : state.cycle ≤ 510 * state.pages
 
@@ -74,10 +72,8 @@ pub record IsUnfilledOf (sign : SignData) (state : State) (items : List Meaning)
   pub state_is : IsStateOf sign items state
   pub limited : IsLimited state
 
--- the state is small enough that no sum overflows, and its justifications are known ones (own)
+-- the state is small enough that no sum overflows (own)
 pub record IsReady (state : State) : Type 0 where
-  pub line_just : (2 ≤ state.attributes.line_just) × (state.attributes.line_just ≤ 5)
-  pub page_just : (2 ≤ state.attributes.page_just) × (state.attributes.page_just ≤ 4)
   pub below : IsBelow (2 ^ 62) state.area
   pub short : state.cycle ≤ 510 * state.pages
 

@@ -2,6 +2,7 @@
 use Rattle.std.specs.Prelude.{◌≡◌, ℕ, ◌≤◌, true, false, nat_lt, List, length, Option, None, if◌then◌else◌}
 use Rattle.std.specs.List.{filter_map, last_or, list_any, after_last}
 use Rattle.std.specs.Option.{option_map}
+use Rattle.multi_tag.specs.Just.{line_number, page_number}
 use Rattle.sign_font.specs.declared.font.FontInfo.{FontInfo}
 use Rattle.sign_font.specs.Sign.{info_of}
 use Rattle.multi_meaning.specs.Address.{Spot, Break, is_glyph, is_break, segment, in_group, lines_of}
@@ -36,7 +37,7 @@ line_sum_in present line = record {
   centre = width_before present 3 line;
   right = width_before present 4 line;
   part = segment_sum present line;
-  has_parts = list_any (λ t. nat_lt t.at.line_just 5) line;
+  has_parts = list_any (λ t. nat_lt (line_number t.at.line_just) 5) line;
   height = line_height line;
   spacing = line_spacing line;
   any = list_any is_glyph line;
@@ -44,7 +45,7 @@ line_sum_in present line = record {
 
 -- the sums of a line of characters, whose present segment is that with the largest line justification (own)
 abbrev pub line_sum : List Spot → Line
-line_sum line = line_sum_in (largest (λ t. t.at.line_just) line) line
+line_sum line = line_sum_in (largest (λ t. line_number t.at.line_just) line) line
 
 -- the gap that a line's `nl` gave, and the line's spacing (own)
 abbrev pub ended_sum : List Spot → Ended
@@ -74,7 +75,7 @@ area_sum_in present area = record {
 
 -- the sums of an area, whose present group is that with the largest page justification of its items (own)
 abbrev pub area_sum : List Spot → Area
-area_sum area = area_sum_in (largest (λ t. t.at.page_just) area) area
+area_sum area = area_sum_in (largest (λ t. page_number t.at.page_just) area) area
 
 -- these are the numbers of a character that its line is judged by (own)
 pub record IsCharacter (s : Spot) (character : Character) : Type 0 where

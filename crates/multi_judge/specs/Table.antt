@@ -1,5 +1,6 @@
 -- What drawing keeps of the counted lines of an area, so that each character's place is known when it is met.
 use Rattle.std.specs.Prelude.{ℕ, ◌+◌, ◌-◌, ◌≤◌, ◌==◌, List, [], ◌∷◌, ◌++◌, length, slice_range, if◌then◌else◌}
+use Rattle.multi_tag.specs.Just.{line_number}
 use Rattle.multi_meaning.specs.Address.{Spot, segment}
 use Rattle.multi_meaning.specs.Line.{height_of, width_of, glyph_width}
 use Rattle.multi_meaning.specs.Place.{start, spread}
@@ -59,7 +60,7 @@ line_count table = length table.top + length table.middle + length table.bottom
 -- the column of a character behind those of its line, by what is kept of the line (own)
 abbrev pub column_in : CountedLine → List Spot → Spot → ℕ
 column_in line before spot =
-    let just = spot.at.line_just in
+    let just = line_number spot.at.line_just in
     let within = spot.at.rectangle in
     let part_before = segment just before in
     within.left + start just within.width (width_in just line)

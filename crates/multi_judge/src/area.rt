@@ -4,6 +4,7 @@ ghost use Rattle.std.specs.Prelude.{◌≡◌, ◌≢◌, ℕ, ◌+◌, ◌^◌,
 ghost use Rattle.std.specs.List.{All};
 ghost use Rattle.std.specs.Option.{option_map_or, unwrap_or};
 ghost use Rattle.sign_font.specs.declared.parts.LineFill.TheVariants.{Off};
+ghost use Rattle.multi_tag.specs.Just.{page_number};
 ghost use Rattle.multi_meaning.specs.Address.{Spot, is_break, area_of, in_group, lines_of};
 ghost use Rattle.multi_meaning.specs.Fit.{area_fits};
 ghost use Rattle.multi_meaning.specs.Laid.{too_big};
@@ -15,6 +16,7 @@ ghost use Rattle.multi_judge.specs.State.{group_room};
 ghost use Rattle.multi_judge.specs.Sums.{IsBare, group_sum, area_sum, area_sum_in, IsBreak, IsGroupBelow, IsBelow};
 
 use crate::line::{Line, gap_or_average, parts_fit, room_for};
+use multi_tag::PageJust;
 use sign_font::FontInfo;
 
 /// The last line that an `nl` ended.
@@ -127,17 +129,17 @@ impl Area {
 
     /// Goes on to the group with a page justification, which isn't before that of the present one.
     #[inline(always)]
-    pub(crate) fn go_on(&mut self, page_just: u8)
-        requires page_just { (2 ≤ page_just) × (page_just ≤ 4) }
+    pub(crate) fn go_on(&mut self, page_just: PageJust)
         requires below { IsBelow (2 ^ 62) self.old }
-        ensures sum { (area : List Spot) → All IsPlacing area → self.old ≡ area_sum area → self.old.present ≤ page_just
-            → self.new ≡ area_sum_in page_just area }
+        ensures sum { (area : List Spot) → All IsPlacing area → self.old ≡ area_sum area → self.old.present ≤ page_number page_just
+            → self.new ≡ area_sum_in (page_number page_just) area }
         ensures grows { (k : ℕ) → IsBelow k self.old
             → (self.new.top ≤ k + 1024) × (self.new.middle ≤ k + 1024) × IsGroupBelow k self.new.group × (2 ≤ self.new.present)
             × (self.new.present ≤ 4) × IsBare self.new.group.line }
-        ensures present { self.old.present ≤ page_just → self.new.present ≡ page_just }
-        ensures begins { self.old.present < page_just → self.new.group.line.any ≡ false }
+        ensures present { self.old.present ≤ page_number page_just → self.new.present ≡ page_number page_just }
+        ensures begins { self.old.present < page_number page_just → self.new.group.line.any ≡ false }
     {
+        let page_just = page_just.number();
         if page_just <= self.present {
             return;
         }
@@ -154,16 +156,15 @@ impl Area {
     /// Goes on to the group with a page justification, unless it is before that of the present one, and works out the most that the group
     /// may have then within a height in pixels. The answer is whether it isn't before.
     #[inline(always)]
-    pub(crate) fn reach(&mut self, page_just: u8, height: u16, most: &mut u64) -> bool
-        requires page_just { (2 ≤ page_just) × (page_just ≤ 4) }
+    pub(crate) fn reach(&mut self, page_just: PageJust, height: u16, most: &mut u64) -> bool
         requires below { IsBelow (2 ^ 62) self.old }
-        ensures reached { ReachesGroup page_just height self.old most.old result self.new most.new }
+        ensures reached { ReachesGroup (page_number page_just) height self.old most.old result self.new most.new }
     {
-        if page_just == self.present {
+        if page_just.number() == self.present {
             return true;
         }
         if self.present == 0 {
-            self.present = page_just;
+            self.present = page_just.number();
             *most = u64::from(height);
             return true;
         }
@@ -172,13 +173,12 @@ impl Area {
 
     /// The same from a group of some items. It isn't put into its callers' code, since areas of several groups are few.
     #[inline(never)]
-    fn leave(&mut self, page_just: u8, height: u16, most: &mut u64) -> bool
-        requires page_just { (2 ≤ page_just) × (page_just ≤ 4) }
+    fn leave(&mut self, page_just: PageJust, height: u16, most: &mut u64) -> bool
         requires below { IsBelow (2 ^ 62) self.old }
-        requires other { page_just ≢ self.old.present }
-        ensures reached { ReachesGroup page_just height self.old most.old result self.new most.new }
+        requires other { page_number page_just ≢ self.old.present }
+        ensures reached { ReachesGroup (page_number page_just) height self.old most.old result self.new most.new }
     {
-        if page_just < self.present {
+        if page_just.number() < self.present {
             return false;
         }
         self.go_on(page_just);
@@ -186,36 +186,35 @@ impl Area {
         true
     }
 
-    /// The group with this page justification, top 2, middle 3 or bottom 4, which isn't before the present one.
-    pub fn group_for(&self, page_just: u8) -> Group
-        ensures sum { (area : List Spot) → self.now ≡ area_sum area → self.now.present ≤ page_just
-            → result ≡ group_sum (in_group page_just area) }
+    /// The group with this page justification, which isn't before the present one.
+    pub fn group_for(&self, page_just: PageJust) -> Group
+        ensures sum { (area : List Spot) → self.now ≡ area_sum area → self.now.present ≤ page_number page_just
+            → result ≡ group_sum (in_group (page_number page_just) area) }
         ensures below { (k : ℕ) → IsBelow k self.now → IsGroupBelow k result }
     {
-        if page_just == self.present {
+        if page_just.number() == self.present {
             self.group
         } else {
             Group::new()
         }
     }
 
-    /// The height of the group with a page justification, in pixels: top 2, middle 3, bottom 4.
+    /// The height of the group with a page justification, in pixels.
     #[inline(always)]
-    pub(crate) fn height(&self, page_just: u8) -> u64
-        requires known { (2 ≤ page_just) × (page_just ≤ 4) }
+    pub(crate) fn height(&self, page_just: PageJust) -> u64
         requires below { IsBelow (2 ^ 62 + 1024) self.now }
         ensures sum { (area : List Spot) → All IsPlacing area → self.now ≡ area_sum area
-            → result ≡ height_of (lines_of (in_group page_just area)) }
-        ensures kept { result ≡ kept_group_height page_just self.now }
+            → result ≡ height_of (lines_of (in_group (page_number page_just) area)) }
+        ensures kept { result ≡ kept_group_height (page_number page_just) self.now }
         ensures below { result ≤ 2 ^ 62 + 2048 }
     {
-        if page_just == self.present {
+        if page_just.number() == self.present {
             return self.group.height();
         }
         match page_just {
-            2 => self.top,
-            3 => self.middle,
-            _ => 0,
+            PageJust::Top => self.top,
+            PageJust::Middle => self.middle,
+            PageJust::Bottom => 0,
         }
     }
 
@@ -262,9 +261,9 @@ impl Area {
         ensures kept { result ≡ kept_fits_height height self.now }
     {
         parts_fit(
-            self.height(2),
-            self.height(3),
-            self.height(4),
+            self.height(PageJust::Top),
+            self.height(PageJust::Middle),
+            self.height(PageJust::Bottom),
             u64::from(height),
         )
     }

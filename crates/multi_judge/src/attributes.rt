@@ -10,17 +10,15 @@ ghost use Rattle.multi_meaning.specs.Meaning.{Does};
 use crate::line::Character;
 use crate::terms::Terms;
 use multi_meaning::{FlashTimes, Rectangle};
-use multi_tag::Tag;
+use multi_tag::{LineJust, PageJust, Tag};
 use sign_font::{Defaults, FontInfo};
 
 /// The values in force behind the items so far (NTCIP 1203 v03, MULTI).
 #[derive(Clone, Copy)]
 pub struct Attributes {
     pub font: FontInfo,
-    /// Left 2, centre 3, right 4, full 5.
-    pub line_just: u8,
-    /// Top 2, middle 3, bottom 4.
-    pub page_just: u8,
+    pub line_just: LineJust,
+    pub page_just: PageJust,
     /// Pixels between characters, where the text gives them.
     pub spacing: Option<u8>,
     /// The colours of characters and of the page: 0 to 9.
@@ -76,8 +74,8 @@ impl Attributes {
         ensures rectangle { self.new.rectangle ≡ self.old.rectangle }
     {
         match tag {
-            Tag::LineJust(just) => self.line_just = just.unwrap_or(defaults.line),
-            Tag::PageJust(just) => self.page_just = just.unwrap_or(defaults.page),
+            Tag::LineJust(just) => self.line_just = just.unwrap_or(LineJust::of(defaults.line)),
+            Tag::PageJust(just) => self.page_just = just.unwrap_or(PageJust::of(defaults.page)),
             Tag::CharSpacing(pixels) => self.spacing = Some(pixels),
             Tag::CharSpacingEnd => self.spacing = None,
             Tag::PageTime { on, off } => {

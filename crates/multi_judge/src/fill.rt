@@ -2,6 +2,7 @@
 
 ghost use Rattle.std.specs.Prelude.{◌≡◌, ℕ, ◌+◌, ◌^◌, ◌≤◌, false, None, List, [], ◌∷◌, ◌++◌, IfSome};
 ghost use Rattle.std.specs.List.{AllPass, list_any};
+ghost use Rattle.multi_tag.specs.Just.{page_number};
 ghost use Rattle.multi_meaning.specs.Address.{Spot, is_glyph};
 ghost use Rattle.multi_meaning.specs.Fit.{line_fits};
 ghost use Rattle.multi_meaning.specs.Filling.{is_space};
@@ -12,6 +13,7 @@ ghost use Rattle.multi_judge.specs.Sums.{IsBare, IsBelow, IsCharacter, IsGroupBe
 
 use crate::area::{Area, Group};
 use crate::line::{Character, Line};
+use multi_tag::PageJust;
 use sign_font::FontInfo;
 
 /// What became of a character that was put where lines are filled.
@@ -60,7 +62,6 @@ impl Group {
         character: &Character,
         space: bool,
     ) -> Placed
-        requires known { character.now.just ≤ 5 }
         requires below { IsGroupBelow (2 ^ 62) self.old }
         requires parts { IsSplitBelow (2 ^ 62) split.old }
         ensures sum { FillsGroup width self.old split.old character.now space self.new split.new result.ended }
@@ -115,23 +116,21 @@ impl Area {
     pub(crate) fn fill_character(
         &mut self,
         split: &mut Option<Split>,
-        page_just: u8,
+        page_just: PageJust,
         width: u16,
         character: &Character,
         space: bool,
     ) -> Placed
-        requires page_just { (2 ≤ page_just) × (page_just ≤ 4) }
-        requires known { character.now.just ≤ 5 }
         requires below { IsBelow (2 ^ 62) self.old }
         requires parts { IsSplitBelow (2 ^ 62) split.old }
-        ensures sum { FillsArea page_just width self.old split.old character.now space self.new split.new result.ended }
+        ensures sum { FillsArea (page_number page_just) width self.old split.old character.now space self.new split.new result.ended }
         ensures fits { (line : List Spot) → self.new.group.line ≡ line_sum line → result.fits ≡ line_fits width line }
         ensures kept_fits { result.fits ≡ kept_fits width self.new.group.line }
         ensures grows { (k : ℕ) → IsBelow k self.old → IsSplitBelow k split.old
             → IsBelow (k + 1024) self.new × IsSplitBelow (k + 1024) split.new }
         ensures small { IfSome result.ended (IsLineBelow (2 ^ 62)) }
     {
-        if page_just > self.present {
+        if page_just.number() > self.present {
             *split = None;
         }
         self.go_on(page_just);
@@ -149,7 +148,6 @@ fn forget(split: &mut Option<Split>)
 
 /// Adds a character to the parts of a line around its last space.
 fn grow(split: &mut Option<Split>, line: &Line, character: &Character, space: bool)
-    requires known { character.now.just ≤ 5 }
     requires below { IsSplitBelow (2 ^ 62) split.old }
     ensures sum { (before : List Spot) (s : Spot) → AllPass is_glyph before → IsCharacter s character.now → is_space s ≡ space
         → list_any (clashes s) before ≡ false → line.now ≡ line_sum before → split.old ≡ split_sum before

@@ -16,14 +16,16 @@ use crate::line::Line;
 use crate::pass::Pass;
 use crate::run::Run;
 use crate::terms::Terms;
+use multi_tag::LineJust;
 use multi_token::Source;
 use sign_font::{FontCells, FontInfo};
 
 impl Line {
     /// Whether the last character can have been one with this line justification and font.
-    pub(crate) fn is_behind_one(&self, just: u8, font: &FontInfo) -> bool
+    pub(crate) fn is_behind_one(&self, just: LineJust, font: &FontInfo) -> bool
         ensures { result ≡ true → IsBehindOne just font.now self.now }
     {
+        let just = just.number();
         (self.present == just)
             & (self.has_parts == (just < 5))
             & self.any
@@ -45,11 +47,11 @@ impl Line {
         if count == 0 {
             return;
         }
-        self.present = here.line_just;
+        self.present = here.line_just.number();
         self.part.width = pixels.saturating_sub(u64::from(gap));
         self.part.count = count;
         self.part.last = Some(here.font.char_spacing);
-        self.has_parts = here.line_just < 5;
+        self.has_parts = here.line_just.number() < 5;
         self.height = here.font.height;
         self.spacing = here.font.line_spacing;
         self.any = true;
@@ -176,9 +178,10 @@ impl Pass {
         ensures { result ≡ true → IsFilledRun self.now }
     {
         let here = &self.state.attributes;
-        self.state.area.present == here.page_just
-            && self.order.largest == here.line_just
-            && self.order.has_parts == (here.line_just < 5)
+        let just = here.line_just.number();
+        self.state.area.present == here.page_just.number()
+            && self.order.largest == just
+            && self.order.has_parts == (just < 5)
             && self
                 .state
                 .area

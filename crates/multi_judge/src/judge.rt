@@ -9,7 +9,6 @@ ghost use Rattle.sign_font.specs.declared.parts.LineFill.TheVariants.{Off};
 ghost use Rattle.multi_meaning.specs.Address.{Spot, area_of, is_break};
 ghost use Rattle.multi_meaning.specs.Laid.{too_big};
 ghost use Rattle.multi_meaning.specs.Meaning.{Does, Meaning, Shows};
-ghost use Rattle.multi_meaning.specs.kept.Present.{IsKnown};
 ghost use Rattle.multi_judge.specs.Run.{IsBehindCharacter};
 ghost use Rattle.multi_judge.specs.Sums.{IsBelow, area_sum};
 ghost use Rattle.multi_judge.specs.State.{IsJudged, JudgesTag, IsLimited, IsReady, IsUnfilledOf, Judges};
@@ -31,7 +30,6 @@ pub fn judge_tag<const WORDS: bool>(
     tag: Tag,
 ) -> Result<(), SyntaxError>
     requires ready { IsReady state.old }
-    requires known { IsKnown tag }
     ensures judged { JudgesTag WORDS sign.now state.old (Does tag) result state.new }
     ensures limited { IsLimited state.old → IsLimited state.new }
     ensures steps { RisesBetween source.old source.new 0 1 }

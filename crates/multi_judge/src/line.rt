@@ -3,6 +3,7 @@
 ghost use Rattle.std.specs.Prelude.{◌≡◌, ℕ, ◌+◌, ◌^◌, ◌<◌, ◌≤◌, true, false, not, if◌then◌else◌, length, Some, List, [], ◌∷◌, ◌++◌};
 ghost use Rattle.std.specs.List.{AllPass, list_any};
 ghost use Rattle.std.specs.Option.{option_map_or, unwrap_or};
+ghost use Rattle.multi_tag.specs.Just.{line_number};
 ghost use Rattle.multi_meaning.specs.Address.{Spot, is_glyph, segment};
 ghost use Rattle.multi_meaning.specs.Fit.{fit, line_fits, room_for};
 ghost use Rattle.multi_meaning.specs.Line.{average, width_of};
@@ -12,13 +13,14 @@ ghost use Rattle.multi_judge.specs.Run.{IsBehindOne, IsOpen, kept_fits, kept_wid
 ghost use Rattle.multi_judge.specs.State.{segment_room};
 ghost use Rattle.multi_judge.specs.Sums.{segment_sum, line_sum, line_sum_in, IsCharacter, IsSegmentBelow, IsBare, IsLineBelow};
 
+use multi_tag::LineJust;
 use sign_font::FontInfo;
 
 /// A character, as its line sees it.
 #[derive(Clone, Copy)]
 pub(crate) struct Character {
-    /// The line justification in force: left 2, centre 3, right 4, full 5.
-    pub(crate) just: u8,
+    /// The line justification in force.
+    pub(crate) just: LineJust,
     /// The character spacing in force, in pixels, if a tag gave one.
     pub(crate) spacing: Option<u8>,
     /// The columns of its cell.
@@ -77,7 +79,7 @@ impl Segment {
     #[inline(always)]
     pub(crate) fn add(&mut self, character: &Character)
         requires below { IsSegmentBelow (2 ^ 62) self.old }
-        ensures sum { (just : ℕ) (line : List Spot) (s : Spot) → IsCharacter s character.now → character.now.just ≡ just
+        ensures sum { (just : ℕ) (line : List Spot) (s : Spot) → IsCharacter s character.now → line_number character.now.just ≡ just
             → self.old ≡ segment_sum just line → self.new ≡ segment_sum just (line ++ s ∷ []) }
         ensures grows { (k : ℕ) → IsSegmentBelow k self.old → IsSegmentBelow (k + 1024) self.new }
         ensures last { self.new.last ≡ Some character.now.font.char_spacing }
@@ -125,17 +127,16 @@ impl Line {
     /// Begins a line that has no character with one.
     #[inline(always)]
     fn begin(&mut self, character: &Character)
-        requires known { character.now.just ≤ 5 }
         ensures sum { (s : Spot) → IsCharacter s character.now → self.old ≡ line_sum [] → self.new ≡ line_sum (s ∷ []) }
         ensures grows { (k : ℕ) → IsLineBelow k self.old → IsLineBelow (k + 1024) self.new }
         ensures behind { IsBehindOne character.now.just character.now.font self.new }
         ensures before { (self.new.left ≡ self.old.left) × (self.new.centre ≡ self.old.centre) }
     {
-        self.present = character.just;
+        self.present = character.just.number();
         self.part.width = u64::from(character.width);
         self.part.count = 1;
         self.part.last = Some(character.font.char_spacing);
-        self.has_parts = character.just < 5;
+        self.has_parts = character.just.number() < 5;
         self.height = character.font.height;
         self.spacing = character.font.line_spacing;
         self.any = true;
@@ -144,14 +145,13 @@ impl Line {
     /// Adds a character, whose line justification isn't before that of an earlier one.
     #[inline(always)]
     pub(crate) fn add(&mut self, character: &Character)
-        requires known { character.now.just ≤ 5 }
         requires below { IsLineBelow (2 ^ 62) self.old }
         ensures sum { (line : List Spot) (s : Spot) → AllPass is_glyph line → IsCharacter s character.now → self.old ≡ line_sum line
             → list_any (clashes s) line ≡ false → self.new ≡ line_sum (line ++ s ∷ []) }
         ensures grows { (k : ℕ) → IsLineBelow k self.old → IsLineBelow (k + 1024) self.new }
         ensures behind { IsOpen character.now.just self.old → IsBehindOne character.now.just character.now.font self.new }
         ensures bare { IsBare self.new }
-        ensures same { self.old.any ≡ true → character.now.just ≡ self.old.present → IsSameBefore self.old self.new }
+        ensures same { self.old.any ≡ true → line_number character.now.just ≡ self.old.present → IsSameBefore self.old self.new }
     {
         if !self.any {
             self.begin(character);
@@ -159,7 +159,7 @@ impl Line {
         }
         self.go_on(character.just);
         self.part.add(character);
-        self.has_parts |= character.just < 5;
+        self.has_parts |= character.just.number() < 5;
         self.height = self.height.max(character.font.height);
         self.spacing = self.spacing.max(character.font.line_spacing);
         self.any = true;
@@ -169,7 +169,6 @@ impl Line {
     /// it clashes, nothing changes, and the answer is false.
     #[inline(always)]
     pub(crate) fn put(&mut self, character: &Character, width: u16, most: &mut u64) -> bool
-        requires known { character.now.just ≤ 5 }
         requires below { IsLineBelow (2 ^ 62) self.old }
         requires bare { IsBare self.old }
         ensures apart { (line : List Spot) (s : Spot) → AllPass is_glyph line → self.old ≡ line_sum line
@@ -187,7 +186,7 @@ impl Line {
         if self.clashes(character.just) {
             return false;
         }
-        let stays = character.just == self.present;
+        let stays = character.just.number() == self.present;
         self.add(character);
         if !stays {
             *most = self.room(width);
@@ -197,15 +196,16 @@ impl Line {
 
     /// Goes on to the segment with a line justification, which isn't before that of the present one.
     #[inline(always)]
-    fn go_on(&mut self, just: u8)
-        requires known { just ≤ 5 }
-        ensures sum { (line : List Spot) → self.old ≡ line_sum line → self.old.present ≤ just → self.new ≡ line_sum_in just line }
+    fn go_on(&mut self, just: LineJust)
+        ensures sum { (line : List Spot) → self.old ≡ line_sum line → self.old.present ≤ line_number just
+            → self.new ≡ line_sum_in (line_number just) line }
         ensures others { (self.new.has_parts ≡ self.old.has_parts) × (self.new.height ≡ self.old.height)
             × (self.new.spacing ≡ self.old.spacing) }
-        ensures present { self.old.present ≤ just → self.new.present ≡ just }
-        ensures same { just ≡ self.old.present → self.new ≡ self.old }
+        ensures present { self.old.present ≤ line_number just → self.new.present ≡ line_number just }
+        ensures same { line_number just ≡ self.old.present → self.new ≡ self.old }
         ensures grows { (k : ℕ) → IsLineBelow k self.old → IsLineBelow k self.new }
     {
+        let just = just.number();
         if just <= self.present {
             return;
         }
@@ -289,11 +289,12 @@ impl Line {
 
     /// Whether a character with this line justification has a segment before that of an earlier one, or one of
     /// them is full and the other isn't.
-    pub(crate) fn clashes(&self, just: u8) -> bool
+    pub(crate) fn clashes(&self, just: LineJust) -> bool
         ensures clashes { (line : List Spot) (s : Spot) → self.now ≡ line_sum line → s.at.line_just ≡ just
             → result ≡ list_any (clashes s) line }
         ensures may { result ≡ false → IsOpen just self.now }
     {
+        let just = just.number();
         (just < self.present) | ((just == 5) & self.has_parts)
     }
 

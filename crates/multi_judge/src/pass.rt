@@ -10,11 +10,11 @@ ghost use Rattle.multi_meaning.specs.Address.{Spot};
 ghost use Rattle.multi_meaning.specs.LaidItems.{laid_items};
 ghost use Rattle.multi_meaning.specs.Meaning.{Does, Meaning, Shows};
 ghost use Rattle.multi_meaning.specs.Offence.{clashes};
-ghost use Rattle.multi_meaning.specs.kept.Present.{IsKnown, present_area};
+ghost use Rattle.multi_meaning.specs.kept.Present.{present_area};
 ghost use Rattle.multi_judge.specs.Passed.{PassesCharacter, PutsFilled};
 ghost use Rattle.multi_judge.specs.FilledState.{IsFilledOf, IsFilledReady, begins_line};
 ghost use Rattle.multi_judge.specs.FillSums.{order_sum};
-ghost use Rattle.multi_judge.specs.KnownItem.{IsKnownItem, meant_by};
+ghost use Rattle.multi_judge.specs.KnownItem.{meant_by};
 ghost use Rattle.multi_judge.specs.Run.{Fits};
 ghost use Rattle.multi_judge.specs.PassState.{IsPassBehind, IsPassReady, JudgesCell, JudgesItem};
 ghost use Rattle.multi_judge.specs.State.{IsStateOf};
@@ -27,7 +27,7 @@ use crate::line::Line;
 use crate::state::State;
 use crate::terms::Terms;
 use multi_meaning::{Rectangle, SyntaxError};
-use multi_tag::Tag;
+use multi_tag::{LineJust, Tag};
 use multi_token::Source;
 use sign_font::FontCells;
 
@@ -66,17 +66,19 @@ impl Order {
 
     /// Whether a character with this line justification has a segment before that of an earlier one, or one of them is full and
     /// the other isn't.
-    fn clashes(&self, just: u8) -> bool
+    fn clashes(&self, just: LineJust) -> bool
         ensures { (line : List Spot) (s : Spot) → self.now ≡ order_sum line → s.at.line_just ≡ just → result ≡ list_any (clashes s) line }
     {
+        let just = just.number();
         (just < self.largest) | ((just == 5) & self.has_parts)
     }
 
     /// That with one more character, which doesn't clash with those before it. These are none where its group doesn't go on.
-    fn with(&self, goes_on: bool, just: u8) -> Order
+    fn with(&self, goes_on: bool, just: LineJust) -> Order
         ensures { (line : List Spot) (s : Spot) → s.at.line_just ≡ just → list_any (clashes s) line ≡ false
             → (goes_on ≡ true → self.now ≡ order_sum line) → (goes_on ≡ false → line ≡ []) → result ≡ order_sum (line ++ s ∷ []) }
     {
+        let just = just.number();
         Order {
             largest: just,
             has_parts: (just < 5) | (goes_on & self.has_parts),
@@ -107,7 +109,6 @@ impl Pass {
         item: KnownItem,
     ) -> Result<(), SyntaxError>
         requires ready { IsPassReady WORDS self.old }
-        requires known { IsKnownItem item }
         ensures judged { JudgesItem WORDS sign.now self.old (meant_by item) result self.new }
         ensures steps { RisesBetween source.old source.new 0 8 }
     {
@@ -181,7 +182,6 @@ impl Pass {
         tag: Tag,
     ) -> Result<(), SyntaxError>
         requires ready { IsPassReady WORDS self.old }
-        requires known { IsKnown tag }
         ensures judged { JudgesItem WORDS sign.now self.old (Does tag) result self.new }
         ensures steps { RisesBetween source.old source.new 0 1 }
     {
@@ -201,7 +201,7 @@ impl Pass {
         ensures same { self.new.state.attributes ≡ self.old.state.attributes }
     {
         let attributes = self.state.attributes;
-        let (page_just, present) = (attributes.page_just, self.state.area.present);
+        let (page_just, present) = (attributes.page_just.number(), self.state.area.present);
         if (page_just < present)
             | ((page_just == present) & self.order.clashes(attributes.line_just))
         {
@@ -226,7 +226,9 @@ impl Pass {
         let attributes = self.state.attributes;
         let (page_just, present) = (attributes.page_just, self.state.area.present);
         let character = attributes.character(width);
-        self.order = self.order.with(page_just == present, attributes.line_just);
+        self.order = self
+            .order
+            .with(page_just.number() == present, attributes.line_just);
         let Rectangle { width, height, .. } = attributes.rectangle;
         let area = &mut self.state.area;
         let placed = area.fill_character(

@@ -2,6 +2,7 @@
 
 ghost use Rattle.std.specs.Prelude.{◌≡◌, ℕ, ◌+◌, ◌-◌, ◌^◌, ◌<◌, ◌≤◌, ◌==◌, true, false, if◌then◌else◌, length, List, [], ◌∷◌, ◌++◌, Some, slice_get};
 ghost use Rattle.std.specs.List.{All, list_any};
+ghost use Rattle.multi_tag.specs.Just.{page_number};
 ghost use Rattle.multi_meaning.specs.Address.{Spot, is_glyph};
 ghost use Rattle.multi_meaning.specs.Line.{glyph_width, height_of};
 ghost use Rattle.multi_meaning.specs.Offence.{clashes};
@@ -21,8 +22,6 @@ use multi_meaning::Place;
 /// Where a character with these attributes in force stands whose cell has this width in pixels, the last item of its area so far;
 /// `lines` are the counted lines of its group.
 pub fn place_at(attributes: &Attributes, area: &Area, lines: &[CountedLine], width: u8) -> Place
-    requires line_just { (2 ≤ attributes.now.line_just) × (attributes.now.line_just ≤ 5) }
-    requires page_just { (2 ≤ attributes.now.page_just) × (attributes.now.page_just ≤ 4) }
     requires below { IsBelow (2 ^ 43) area.now }
     requires low { All (λ line. line.bottom ≤ 2 ^ 43) lines.now }
     ensures place { PlacesCharacter attributes.now area.now lines.now width result }
@@ -39,11 +38,10 @@ pub fn place_at(attributes: &Attributes, area: &Area, lines: &[CountedLine], wid
 /// Whether the present line of the group in force has all its characters, so that one more piece ends it; `lines` are the counted
 /// lines of the group.
 pub fn is_full(attributes: &Attributes, area: &Area, lines: &[CountedLine]) -> bool
-    requires line_just { (2 ≤ attributes.now.line_just) × (attributes.now.line_just ≤ 5) }
     requires below { IsBelow (2 ^ 43) area.now }
     ensures full { TellsEnd attributes.now area.now lines.now result }
 {
-    let just = attributes.line_just;
+    let just = attributes.line_just.number();
     let group = area.group_for(attributes.page_just);
     let line = line_at(lines, group.ended);
     group.line.width(just) == line.width(just)
@@ -59,14 +57,13 @@ fn line_at(lines: &[CountedLine], ended: u64) -> CountedLine
 
 /// The column of a character of this width, the last of its line so far; `line` is what is kept of the whole line.
 fn column_at(attributes: &Attributes, so_far: &Line, line: &CountedLine, width: u8) -> u64
-    requires line_just { (2 ≤ attributes.now.line_just) × (attributes.now.line_just ≤ 5) }
     requires below { IsLineBelow (2 ^ 43) so_far.now }
     ensures column { (earlier : List Spot) (spot : Spot) → is_glyph spot ≡ true → attributes.now ≡ attributes_of spot.at
         → glyph_width spot ≡ width → so_far.now ≡ line_sum (earlier ++ spot ∷ []) → list_any (clashes spot) earlier ≡ false
         → result ≡ column_in line.now earlier spot }
     ensures low { result ≤ 2 ^ 62 }
 {
-    let just = attributes.line_just;
+    let just = attributes.line_just.number();
     let part = &so_far.part;
     let length = attributes.rectangle.width;
     let size = line.width(just);
@@ -82,11 +79,15 @@ fn column_at(attributes: &Attributes, so_far: &Line, line: &CountedLine, width: 
 fn row_at(attributes: &Attributes, height: u64, bottom: u64) -> u64
     requires low { bottom ≤ 2 ^ 43 }
     ensures row { result ≡ attributes.now.rectangle.top
-        + start attributes.now.page_just attributes.now.rectangle.height height + (bottom - attributes.now.font.height) }
+        + start (page_number attributes.now.page_just) attributes.now.rectangle.height height + (bottom - attributes.now.font.height) }
     ensures low { result ≤ 2 ^ 62 }
 {
     u64::from(attributes.rectangle.top)
-        + start(attributes.page_just, attributes.rectangle.height, height)
+        + start(
+            attributes.page_just.number(),
+            attributes.rectangle.height,
+            height,
+        )
         + bottom.saturating_sub(u64::from(attributes.font.height))
 }
 

@@ -7,6 +7,7 @@ use crate::area::Area;
 use crate::attributes::{Attributes, whole_sign};
 use crate::terms::Terms;
 use multi_meaning::Rectangle;
+use multi_tag::{LineJust, PageJust};
 
 /// The running state behind some items of a string.
 #[derive(Clone, Copy)]
@@ -48,8 +49,8 @@ impl State {
             cycle: 0,
             attributes: Attributes {
                 font: sign.font,
-                line_just: defaults.line,
-                page_just: defaults.page,
+                line_just: LineJust::of(defaults.line),
+                page_just: PageJust::of(defaults.page),
                 spacing: None,
                 fore: defaults.fore,
                 back: defaults.back,

@@ -1,6 +1,7 @@
 //! The counted lines of an area, as drawing needs them.
 
 ghost use Rattle.std.specs.Prelude.{◌≡◌, ℕ, ◌<◌, ◌≤◌, ◌==◌, length, List, [], ◌∷◌, ◌++◌, if◌then◌else◌};
+ghost use Rattle.multi_tag.specs.Just.{page_number};
 ghost use Rattle.multi_meaning.specs.Address.{Spot};
 ghost use Rattle.multi_meaning.specs.kept.Present.{IsNarrow};
 ghost use Rattle.multi_judge.specs.Sums.{line_sum};
@@ -8,6 +9,7 @@ ghost use Rattle.multi_judge.specs.Table.{width_in, group_lines, line_count, lin
 
 use crate::line::Line;
 use arrayvec::ArrayVec;
+use multi_tag::PageJust;
 use std::marker::Model;
 
 /// What is kept of a counted line, in pixels.
@@ -116,17 +118,16 @@ impl LineTable {
         }
     }
 
-    /// The lines of the group with this page justification: top 2, middle 3, bottom 4.
-    pub fn group(&self, page_just: u8) -> &[CountedLine]
-        requires known { (2 ≤ page_just) × (page_just ≤ 4) }
-        ensures lines { result.now ≡ group_lines page_just self.now }
+    /// The lines of the group with this page justification.
+    pub fn group(&self, page_just: PageJust) -> &[CountedLine]
+        ensures lines { result.now ≡ group_lines (page_number page_just) self.now }
         ensures few { length result.now ≤ 128 }
     {
         let lines = self.lines.as_slice();
         match page_just {
-            2 => &lines[..self.middle],
-            3 => &lines[self.middle..self.bottom],
-            _ => &lines[self.bottom..],
+            PageJust::Top => &lines[..self.middle],
+            PageJust::Middle => &lines[self.middle..self.bottom],
+            PageJust::Bottom => &lines[self.bottom..],
         }
     }
 }

@@ -197,7 +197,6 @@ module _ {words : Bool} {sign : SignData} {octets : List ℕ} {before behind : L
         let p = placed_then (at + next.len) refl in
         record {
           meant = n.read.meant;
-          known = n.read.known;
           fine = record {
             none = left_nil (offences sign (items_of done ++ n.piece.item ∷ [])) _ (sym (some_after-append (fault_at sign) (items_of done ++ n.piece.item ∷ []) (items_of n.rest)) ∙ p.accepted.none);
             few = few_placed sign octets (items_of done ++ n.piece.item ∷ []) (items_of n.rest) (at + next.len) p;

@@ -209,7 +209,7 @@ module _ (sign : SignData) (octets : List ℕ) (before area rest : List LaidItem
       area_next sign octets before area rest lines layer old cursor new r.so_far end ends before_end next
       (λ earlier behind b counted.
       let token : Token = record { at = cursor.at; len = 1; kind = kinds.Char octet } in
-      let first = item_is sign octets (items_of earlier) (items_of behind) cursor.at b.placed next (token, refl, refl, single_token octets cursor.at octet room here plain, refl) tt in
+      let first = item_is sign octets (items_of earlier) (items_of behind) cursor.at b.placed next (token, refl, refl, single_token octets cursor.at octet room here plain, refl) in
       let (piece, others, is, read) = first_piece behind next first in
       (piece, others, is, read_unfilled (subst (λ l. IsBetween sign octets earlier l cursor) is b) off read))
 

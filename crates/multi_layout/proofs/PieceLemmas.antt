@@ -98,10 +98,10 @@ module _ {sign : SignData} {octets : List ℕ} {before rest : List LaidItem} {pi
 
   -- what is read of the item is then read of the piece
   pub read_unfilled : sign.line_fill ≡ Off → {next : NextItem} → IsItemRead piece.item next → IsRead piece next
-  read_unfilled off read = record { meant = unfilled_meant off ∙ read.meant; known = read.known; len = read.len }
+  read_unfilled off read = record { meant = unfilled_meant off ∙ read.meant; len = read.len }
 
   pub read_unplaced : {next : NextItem} → has_place (meant_by next.item) ≡ false → IsItemRead piece.item next → IsRead piece next
-  read_unplaced none read = record { meant = unplaced_meant (ap has_place read.meant ∙ none) ∙ read.meant; known = read.known; len = read.len }
+  read_unplaced none read = record { meant = unplaced_meant (ap has_place read.meant ∙ none) ∙ read.meant; len = read.len }
 
 -- a tag is laid out as itself
 tag_item : (setting : LineFill) (sign : SignData) (all before : List Meaning) (tag : Tag) → laid_item setting sign all before (Does tag) ≡ Does tag
@@ -116,7 +116,7 @@ read_tag {sign} {octets} {before} {rest} {piece} {cursor} b {next} other read = 
     of (Char number) is = absurd (other number is)
     of (items.Tag tag) is =
         let does : meaning piece.item ≡ Does tag = read.meant ∙ ap meant_by is in
-        record { meant = laid_here sign before rest piece b.laid ∙ ap (laid_item sign.line_fill sign _ _) does ∙ tag_item sign.line_fill sign _ _ tag ∙ sym (ap meant_by is); known = read.known; len = read.len }
+        record { meant = laid_here sign before rest piece b.laid ∙ ap (laid_item sign.line_fill sign _ _) does ∙ tag_item sign.line_fill sign _ _ tag ∙ sym (ap meant_by is); len = read.len }
 
 -- what begins an area places nothing
 begins_unplaced : (m : Meaning) → begins_area m ≡ true → has_place m ≡ false

@@ -50,7 +50,7 @@ module _ {sign : SignData} (sound : IsSound sign) {octets : List ℕ} (short : l
   octet_passed at width count so octet here plain w w_is small =
       let next : NextItem = record { item = known.Char octet; len = 1 } in
       let token : Token = record { at = at; len = 1; kind = kinds.Char octet } in
-      let n = so_first so next (item_is sign octets (items_of (before ++ so.pieces)) (items_of so.left) at so.placed next (token, refl, refl, single_token octets at octet short here plain, refl) tt) in
+      let n = so_first so next (item_is sign octets (items_of (before ++ so.pieces)) (items_of so.left) at so.placed next (token, refl, refl, single_token octets at octet short here plain, refl)) in
       let it = so_next so n in
       let items = map meaning (items_of (before ++ so.pieces)) in
       let of = so.read.of in

@@ -29,7 +29,7 @@ text_skipped sign octets short (octet ∷ text) more cursor before behind p e pl
     let token : Token = record { at = cursor.at; len = 1; kind = kinds.Char octet } in
     let here : slice_get octets cursor.at ≡ Some octet = read_drop octets cursor.at octet (text ++ more) e in
     let stands = single_token octets cursor.at octet short here (All-head IsPlain octet text plain) in
-    let (item, rest, is, read) = item_is sign octets before behind cursor.at p.placed next (token, refl, refl, stands, refl) tt in
+    let (item, rest, is, read) = item_is sign octets before behind cursor.at p.placed next (token, refl, refl, stands, refl) in
     let one = passing_placed (subst (λ l. IsPassing sign octets before l cursor) is p) read (moved cursor (cursor.at + 1)) refl refl refl in
     let on = behind_first (sym (drop_read octets cursor.at octet here) ∙ e) in
     let others = text_skipped sign octets short text more (moved cursor (cursor.at + 1)) (before ++ item ∷ []) rest one on (All-tail IsPlain octet text plain) in

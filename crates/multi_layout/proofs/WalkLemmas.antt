@@ -27,7 +27,7 @@ use Rattle.multi_meaning.proofs.WordLemmas.{each_after-append, each_after_length
 use Rattle.multi_layout.specs.declared.cursor.Cursor.{Cursor}
 use Rattle.multi_judge.specs.declared.item.NextItem.{NextItem}
 use Rattle.multi_judge.specs.State.{IsReady, IsStateOf}
-use Rattle.multi_judge.specs.KnownItem.{IsKnownItem, meant_by}
+use Rattle.multi_judge.specs.KnownItem.{meant_by}
 use Rattle.multi_layout.specs.kept.Cursors.{IsBetween, IsFirst, IsPlaced, LaidItem, items_of, laid_meanings, meant, spell_of}
 use Rattle.multi_judge.proofs.JudgedLemmas.{ready}
 
@@ -92,10 +92,10 @@ module _ (sign : SignData) (octets : List ℕ) (before behind : List Item) (at :
           (items, ap (λ y. y ∷ items) same.0)
 
   -- an item that stands here is the first, of which this is read
-  pub item_is : (next : NextItem) → IsItemAt octets at next.len (meant_by next.item) → IsKnownItem next.item → IsFirst behind (Some next)
-  item_is next (t, here, long, stands, means) known =
+  pub item_is : (next : NextItem) → IsItemAt octets at next.len (meant_by next.item) → IsFirst behind (Some next)
+  item_is next (t, here, long, stands, means) =
       let (rest, is) = first_is t here stands in
-      (item_of octets t, rest, is, record { meant = means; known = known; len = sym long ∙ stands.len })
+      (item_of octets t, rest, is, record { meant = means; len = sym long ∙ stands.len })
 
 -- reading leaves the octets
 pub same_octets : {source : Counted} {octets : List ℕ} {steps : ℕ} → source ≡ record { octets = octets; steps = steps } → source.octets ≡ octets

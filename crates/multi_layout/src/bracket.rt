@@ -7,8 +7,7 @@ ghost use Rattle.multi_tag.specs.Closed.{HasNoTagAt};
 ghost use Rattle.multi_meaning.specs.Codes.{code_of};
 ghost use Rattle.multi_meaning.specs.kept.ItemAt.{IsFaultAt, IsItemAt};
 ghost use Rattle.multi_meaning.specs.Meaning.{said_by};
-ghost use Rattle.multi_meaning.specs.kept.Present.{IsKnown};
-ghost use Rattle.multi_judge.specs.KnownItem.{IsKnownItem, meant_by};
+ghost use Rattle.multi_judge.specs.KnownItem.{meant_by};
 
 use multi_judge::{KnownItem, NextItem, tag_error};
 use multi_meaning::SyntaxError;
@@ -38,7 +37,6 @@ pub(crate) fn read_spelled(
     // whoever read the bracket knows this of the source
     requires room { length source.old.octets < 2 ^ 63 }
     ensures item { IfOk result (λ spelled. IsItemAt source.old.octets at spelled.len (meant_by spelled.item)) }
-    ensures known { IfOk result (λ spelled. IsKnownItem spelled.item) }
     ensures fault { IfErr result (λ error. IsFaultAt source.old.octets at (code_of error)) }
     ensures steps { IfOk result (λ spelled. RisesBetween source.old source.new (spelled.len - 1) (9 * spelled.len - 9)) }
     ensures fault_steps { OnErr result (RisesBetween source.old source.new 0 (4 * (length source.old.octets - at))) }
@@ -65,7 +63,6 @@ pub(crate) fn read_spelled(
 #[inline(always)]
 pub(crate) fn said(tag: Tag) -> KnownItem
     ensures meant { meant_by result ≡ said_by tag }
-    ensures known { IsKnown tag → IsKnownItem result }
 {
     match tag {
         Tag::HexChar(number) => KnownItem::Char(number),

@@ -8,7 +8,7 @@ ghost use Rattle.sign_font.specs.Sound.{IsSound};
 ghost use Rattle.sign_font.specs.Text.{width_in};
 ghost use Rattle.multi_meaning.specs.Meaning.{Meaning, has_place};
 ghost use Rattle.multi_meaning.specs.Offence.{unsized_offence};
-ghost use Rattle.multi_judge.specs.KnownItem.{IsKnownItem, meant_by};
+ghost use Rattle.multi_judge.specs.KnownItem.{meant_by};
 ghost use Rattle.multi_judge.specs.Run.{IsBehindCharacter};
 ghost use Rattle.multi_judge.specs.State.{IsReady, IsStateOf};
 ghost use Rattle.multi_layout.specs.kept.Cursors.{GoesBehind, IsBefore, IsBetween, LaidItem};
@@ -126,7 +126,6 @@ impl Cursor {
     /// characters are many more.
     #[inline(never)]
     fn skip_tag(&mut self, sign: &Terms<'_>, source: &mut Source<'_>, next: NextItem)
-        requires known { IsKnownItem next.item }
         requires ready { IsReady self.old.state }
         requires unplaced { has_place (meant_by next.item) ≡ false }
         requires fine { (items : List Meaning) × IsStateOf sign.now items self.old.state

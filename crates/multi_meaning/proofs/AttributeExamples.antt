@@ -1,11 +1,13 @@
 -- Worked examples of what items mean and of the attributes that they give, computed on the sample sign.
 use Rattle.std.proofs.Common.{◌≡◌, ℕ, Bool, true, false, List, [], ◌∷◌, map, Option, Some, None, inr, refl}
-use Rattle.multi_tag.specs.declared.tag.Tag.TheVariants.{NewLine, NewPage, CharSpacing, CharSpacingEnd, Flash, FlashEnd, Rect}
+use Rattle.multi_tag.specs.declared.just.LineJust.TheVariants.{Centre, Full}
+use Rattle.multi_tag.specs.declared.just.PageJust.TheVariants.{Middle, Bottom}
+use Rattle.multi_tag.specs.declared.tag.Tag.TheVariants.{NewLine, NewPage, LineJust, PageJust, CharSpacing, CharSpacingEnd, Flash, FlashEnd, Rect}
 use Rattle.sign_font.specs.Sample.{sample}
 use Rattle.sign_font.specs.declared.parts.Defaults.{Defaults}
 use Rattle.multi_meaning.specs.declared.attributes.FlashTimes.{FlashTimes}
 use Rattle.multi_meaning.specs.Meaning.{Meaning, Shows, Does, Faulty, EndsArea, begins_area, has_place}
-use Rattle.multi_meaning.specs.Attributes.{given_spacing, given_flash, is_inside, rectangle}
+use Rattle.multi_meaning.specs.Attributes.{given_line_just, given_page_just, given_spacing, given_flash, is_inside, rectangle}
 
 -- MEANING
 
@@ -23,6 +25,12 @@ characters_and_new_lines_have_a_place : map has_place items ≡ true ∷ true �
 characters_and_new_lines_have_a_place = refl
 
 -- ATTRIBUTES
+
+line_justifications : map (given_line_just sample.defaults) (Does (LineJust (Some Full)) ∷ Does (LineJust None) ∷ Does NewPage ∷ []) ≡ Some Full ∷ Some Centre ∷ None ∷ []
+line_justifications = refl
+
+page_justifications : map (given_page_just sample.defaults) (Does (PageJust (Some Bottom)) ∷ Does (PageJust None) ∷ Does NewPage ∷ []) ≡ Some Bottom ∷ Some Middle ∷ None ∷ []
+page_justifications = refl
 
 spacings : map given_spacing (Does (CharSpacing 4) ∷ Does CharSpacingEnd ∷ Does NewPage ∷ []) ≡ Some (Some 4) ∷ Some None ∷ None ∷ []
 spacings = refl

@@ -9,6 +9,7 @@ use Rattle.std.proofs.lemmas.List.{get_or_append_left, get_or_at, take_all}
 use Rattle.std.proofs.lemmas.List.Elements.{All-head, All-push, All-tail}
 use Rattle.std.proofs.lemmas.List.Sums.{sum_by-append, sum_by-cons}
 use Rattle.multi_tag.specs.declared.tag.Tag.TheVariants.{NewLine}
+use Rattle.multi_tag.specs.Just.{page_number}
 use Rattle.sign_font.specs.declared.parts.LineFill.{LineFill}
 use Rattle.sign_font.specs.declared.parts.LineFill.TheVariants.{Words}
 use Rattle.sign_font.specs.Sign.{SignData, CellData, cell_numbered}
@@ -22,6 +23,7 @@ use Rattle.multi_meaning.specs.Words.{each_after}
 use Rattle.multi_meaning.proofs.GroupLemmas.{area_placing, glyph_put, placing_group}
 use Rattle.multi_meaning.proofs.FilledTagLemmas.{same_width}
 use Rattle.multi_meaning.proofs.GroupLaidLemmas.{group_laid, is_member, laid_as, member_parts, members, members_push, members_with, own_member, there}
+use Rattle.multi_meaning.proofs.JustLemmas.{same_page_just}
 use Rattle.multi_meaning.proofs.LaidItemLemmas.{are_laid}
 use Rattle.multi_meaning.proofs.LaidMoreLemmas.{apart, other_group}
 use Rattle.multi_meaning.proofs.LaidSpotLemmas.{LaidAs, filled_laid, laid_length}
@@ -59,7 +61,7 @@ abbrev pub BreaksLine : LineFill → SignData → List Meaning → Meaning → T
 BreaksLine setting sign items next =
     let old = laid_items setting sign items items in
     let here = standing sign items in
-    let ended = λ (laid : List Meaning). count_by is_break (members here.area here.page_just (spots sign laid)) in
+    let ended = λ (laid : List Meaning). count_by is_break (members here.area (page_number here.page_just) (spots sign laid)) in
     (front : List Meaning) × (behind : List Meaning) × (old ++ next ∷ [] ≡ front ++ Shows 32 ∷ behind)
     × (laid_items setting sign (items ++ next ∷ []) (items ++ next ∷ []) ≡ front ++ Does (NewLine None) ∷ behind)
     × ((standing sign front).area ≡ here.area) × ((standing sign front).page_just ≡ here.page_just) × (ended front ≡ ended old)
@@ -75,7 +77,7 @@ module _ (sign : SignData) (items : List Meaning) (number : ℕ) (cell : CellDat
   width = s.at.rectangle.width
 
   abbrev pub own : List Spot → List Spot
-  own l = members s.at.area s.at.page_just l
+  own l = members s.at.area (page_number s.at.page_just) l
 
   abbrev pub more : List Meaning
   more = items ++ Shows number ∷ []
@@ -87,10 +89,10 @@ module _ (sign : SignData) (items : List Meaning) (number : ℕ) (cell : CellDat
   spots_is = spots_more sign items (Shows number) (Glyph cell) puts_cell
 
   pub placing : All IsPlacing (own all)
-  placing = placing_group s.at.page_just (area_of s all) (area_placing all s)
+  placing = placing_group (page_number s.at.page_just) (area_of s all) (area_placing all s)
 
   pub own_is : own (all ++ s ∷ []) ≡ own all ++ s ∷ []
-  own_is = members_push s.at.area s.at.page_just all s true (own_member Words all s refl)
+  own_is = members_push s.at.area (page_number s.at.page_just) all s true (own_member Words all s refl)
 
   placing_more : All IsPlacing (own (all ++ s ∷ []))
   placing_more = subst (All IsPlacing) (sym own_is) (All-push IsPlacing (own all) s placing (inl refl))
@@ -102,12 +104,12 @@ module _ (sign : SignData) (items : List Meaning) (number : ℕ) (cell : CellDat
   same = (All-split (λ (x : Spot). x.at.area ≡ s.at.area → fill_at Words x.at ≡ Some width) all s same_more).0
 
   -- a spot of its group is laid as the filled group has it
-  laid_old : (some behind : List Spot) (x : Spot) → all ≡ some ++ x ∷ behind → is_member s.at.area s.at.page_just x ≡ true → laid_spot Words all some x ≡ slice_index_or (filled (Some width) (own all)) (length (own some)) x
-  laid_old some behind x is m = there Words all s.at.area s.at.page_just (Some width) placing same some behind x (is_glyph x) refl is m
+  laid_old : (some behind : List Spot) (x : Spot) → all ≡ some ++ x ∷ behind → is_member s.at.area (page_number s.at.page_just) x ≡ true → laid_spot Words all some x ≡ slice_index_or (filled (Some width) (own all)) (length (own some)) x
+  laid_old some behind x is m = there Words all s.at.area (page_number s.at.page_just) (Some width) placing same some behind x (is_glyph x) refl is m
 
-  laid_new : (some behind : List Spot) (x : Spot) → all ++ s ∷ [] ≡ some ++ x ∷ behind → is_member s.at.area s.at.page_just x ≡ true
+  laid_new : (some behind : List Spot) (x : Spot) → all ++ s ∷ [] ≡ some ++ x ∷ behind → is_member s.at.area (page_number s.at.page_just) x ≡ true
       → laid_spot Words (all ++ s ∷ []) some x ≡ slice_index_or (filled (Some width) (own (all ++ s ∷ []))) (length (own some)) x
-  laid_new some behind x is m = there Words (all ++ s ∷ []) s.at.area s.at.page_just (Some width) placing_more same_more some behind x (is_glyph x) refl is m
+  laid_new some behind x is m = there Words (all ++ s ∷ []) s.at.area (page_number s.at.page_just) (Some width) placing_more same_more some behind x (is_glyph x) refl is m
 
   -- with the character, the filled group differs in one space, which is dropped now
   module _ (closed : List Spot) (space : Spot) (open' : List Spot) (old : filled (Some width) (own all) ≡ closed ++ space ∷ open')
@@ -119,18 +121,18 @@ module _ (sign : SignData) (items : List Meaning) (number : ℕ) (cell : CellDat
     longer some behind x is = ap (λ l. l ++ s ∷ []) is ∙ append_assoc some (x ∷ behind) (s ∷ [])
 
     -- all other spots are laid as they were
-    kept_if : (some : List Spot) (x : Spot) (b : Bool) → is_glyph x ≡ b → is_member s.at.area s.at.page_just x ≡ false
+    kept_if : (some : List Spot) (x : Spot) (b : Bool) → is_glyph x ≡ b → is_member s.at.area (page_number s.at.page_just) x ≡ false
         → cond b (slice_index_or (filled (fill_at Words x.at) (group_of x (all ++ s ∷ []))) (length (group_of x some)) x) x ≡ cond b (slice_index_or (filled (fill_at Words x.at) (group_of x all)) (length (group_of x some)) x) x
     kept_if some x false glyph m = refl
     kept_if some x true glyph m =
-        ap (λ g. slice_index_or (filled (fill_at Words x.at) g) (length (group_of x some)) x) (other_group Words all s x (apart Words all s x glyph m (is_member x.at.area x.at.page_just s) refl))
+        ap (λ g. slice_index_or (filled (fill_at Words x.at) g) (length (group_of x some)) x) (other_group Words all s x (apart Words all s x glyph m (is_member x.at.area (page_number x.at.page_just) s) refl))
 
-    kept_spot : (some behind : List Spot) (x : Spot) (b : Bool) → is_member s.at.area s.at.page_just x ≡ b → all ≡ some ++ x ∷ behind → (length (own some) ≡ length closed → is_member s.at.area s.at.page_just x ≡ true → ⊥)
+    kept_spot : (some behind : List Spot) (x : Spot) (b : Bool) → is_member s.at.area (page_number s.at.page_just) x ≡ b → all ≡ some ++ x ∷ behind → (length (own some) ≡ length closed → is_member s.at.area (page_number s.at.page_just) x ≡ true → ⊥)
         → laid_spot Words (all ++ s ∷ []) some x ≡ laid_spot Words all some x
     kept_spot some behind x false m is other = kept_if some x (is_glyph x) refl m
     kept_spot some behind x true m is other =
         let n = length (own some) in
-        let split : own all ≡ own some ++ x ∷ own behind = ap own is ∙ members_with s.at.area s.at.page_just some behind x m in
+        let split : own all ≡ own some ++ x ∷ own behind = ap own is ∙ members_with s.at.area (page_number s.at.page_just) some behind x m in
         let within : n < length (closed ++ space ∷ open') = omega (arith, size, ap length split, length-append (own some) (x ∷ own behind)) in
         laid_new some (behind ++ s ∷ []) x (longer some behind x is) m
         ∙ ap (λ l. slice_index_or l n x) new
@@ -146,25 +148,25 @@ module _ (sign : SignData) (items : List Meaning) (number : ℕ) (cell : CellDat
 
     -- and so are all other items
     item_if : (some behind : List Meaning) (x : Meaning) (o : Option Put) → put_at sign.defaults (standing sign some) x ≡ o → items ≡ some ++ x ∷ behind
-        → (length (own (spots sign some)) ≡ length closed → (put : Put) → put_at sign.defaults (standing sign some) x ≡ Some put → is_member s.at.area s.at.page_just (record { at = standing sign some; put = put }) ≡ true → ⊥)
+        → (length (own (spots sign some)) ≡ length closed → (put : Put) → put_at sign.defaults (standing sign some) x ≡ Some put → is_member s.at.area (page_number s.at.page_just) (record { at = standing sign some; put = put }) ≡ true → ⊥)
         → laid_of x (option_map (laid_spot Words (all ++ s ∷ []) (spots sign some)) (option_map (λ put. let t : Spot = record { at = standing sign some; put = put } in t) o))
         ≡ laid_of x (option_map (laid_spot Words all (spots sign some)) (option_map (λ put. let t : Spot = record { at = standing sign some; put = put } in t) o))
     item_if some behind x None puts is other = refl
     item_if some behind x (Some put) puts is other =
         let t : Spot = record { at = standing sign some; put = put } in
-        ap (λ y. laid_of x (Some y)) (kept_spot (spots sign some) (spots_behind sign (some ++ x ∷ []) behind) t (is_member s.at.area s.at.page_just t) refl (ap (spots sign) is ∙ spots_with sign some x behind put puts) (λ e m. other e put puts m))
+        ap (λ y. laid_of x (Some y)) (kept_spot (spots sign some) (spots_behind sign (some ++ x ∷ []) behind) t (is_member s.at.area (page_number s.at.page_just) t) refl (ap (spots sign) is ∙ spots_with sign some x behind put puts) (λ e m. other e put puts m))
 
     among_is : (some : List Meaning) (x : Meaning) → after' some x ≡ laid_of x (option_map (laid_spot Words (all ++ s ∷ []) (spots sign some)) (spot_at sign.defaults (standing sign some) x))
     among_is some x = ap (λ l. laid_of x (option_map (laid_spot Words l (spots sign some)) (spot_at sign.defaults (standing sign some) x))) spots_is
 
     kept_item : (some behind : List Meaning) (x : Meaning) → items ≡ some ++ x ∷ behind
-        → (length (own (spots sign some)) ≡ length closed → (put : Put) → put_at sign.defaults (standing sign some) x ≡ Some put → is_member s.at.area s.at.page_just (record { at = standing sign some; put = put }) ≡ true → ⊥)
+        → (length (own (spots sign some)) ≡ length closed → (put : Put) → put_at sign.defaults (standing sign some) x ≡ Some put → is_member s.at.area (page_number s.at.page_just) (record { at = standing sign some; put = put }) ≡ true → ⊥)
         → after' some x ≡ before' some x
     kept_item some behind x is other = among_is some x ∙ item_if some behind x (put_at sign.defaults (standing sign some) x) refl is other
 
     -- the space
-    at : PutsAt sign s.at.area s.at.page_just (length closed) items
-    at = puts_at sign s.at.area s.at.page_just (length closed) items (omega (arith, size, length-append closed (space ∷ open')))
+    at : PutsAt sign s.at.area (page_number s.at.page_just) (length closed) items
+    at = puts_at sign s.at.area (page_number s.at.page_just) (length closed) items (omega (arith, size, length-append closed (space ∷ open')))
 
     abbrev t : Spot
     t = record { at = standing sign at.front; put = at.put }
@@ -226,12 +228,12 @@ module _ (sign : SignData) (items : List Meaning) (number : ℕ) (cell : CellDat
     front_stays : each_after after' at.front ≡ laid_front
     front_stays = each_same after' before' at.front (λ some x behind is.
         kept_item some (behind ++ at.item ∷ at.more) x (at.is ∙ ap (λ l. l ++ at.item ∷ at.more) is ∙ append_assoc some (x ∷ behind) (at.item ∷ at.more))
-        (λ e put puts m. absurd (omega (arith, e, at.place, ap (λ l. length (own (spots sign l))) is, own_longer sign s.at.area s.at.page_just some x behind put puts m))))
+        (λ e put puts m. absurd (omega (arith, e, at.place, ap (λ l. length (own (spots sign l))) is, own_longer sign s.at.area (page_number s.at.page_just) some x behind put puts m))))
 
     rest_stays : each_after (λ before. after' (at.front ++ at.item ∷ before)) at.more ≡ laid_rest
     rest_stays = each_same (λ before. after' (at.front ++ at.item ∷ before)) (λ before. before' (at.front ++ at.item ∷ before)) at.more (λ some x behind is.
         kept_item (at.front ++ at.item ∷ some) behind x (at.is ∙ ap (λ l. at.front ++ at.item ∷ l) is ∙ sym (append_assoc at.front (at.item ∷ some) (x ∷ behind)))
-        (λ e put puts m. absurd (omega (arith, e, at.place, own_longer sign s.at.area s.at.page_just at.front at.item some at.put at.puts at.member))))
+        (λ e put puts m. absurd (omega (arith, e, at.place, own_longer sign s.at.area (page_number s.at.page_just) at.front at.item some at.put at.puts at.member))))
 
     -- the items, with the space in its place
     parted : (f : List Meaning → Meaning → Meaning) (y : Meaning) → f at.front at.item ≡ y
@@ -273,9 +275,9 @@ module _ (sign : SignData) (items : List Meaning) (number : ℕ) (cell : CellDat
 
     same_group : ((standing sign laid_front).area ≡ s.at.area) × ((standing sign laid_front).page_just ≡ s.at.page_just)
     same_group =
-        let (kind, area, just) = member_parts _ (t.at.area == s.at.area) (t.at.page_just == s.at.page_just) at.member in (
+        let (kind, area, just) = member_parts _ (t.at.area == s.at.area) (page_number t.at.page_just == page_number s.at.page_just) at.member in (
           ap (λ (h : Standing). h.area) front_laid.0 ∙ eqb-true t.at.area s.at.area area,
-          ap (λ (h : Standing). h.page_just) front_laid.0 ∙ eqb-true t.at.page_just s.at.page_just just,
+          ap (λ (h : Standing). h.page_just) front_laid.0 ∙ same_page_just t.at.page_just s.at.page_just (eqb-true (page_number t.at.page_just) (page_number s.at.page_just) just),
         )
 
     same_line : count_by is_break (own (spots sign laid_front)) ≡ count_by is_break (own (spots sign (laid_items Words sign items items)))
@@ -284,11 +286,11 @@ module _ (sign : SignData) (items : List Meaning) (number : ℕ) (cell : CellDat
         let size' = laid_length (own all) whole (filled_laid (Some width) (own all) placing) in
         let front_is : own (spots sign laid_front) ≡ closed =
         ap own front_laid.1
-        ∙ group_laid Words all s.at.area s.at.page_just (Some width) placing same (spots sign at.front) (t ∷ rest) split
+        ∙ group_laid Words all s.at.area (page_number s.at.page_just) (Some width) placing same (spots sign at.front) (t ∷ rest) split
         ∙ ap (λ n. take n whole) at.place ∙ ap (take (length closed)) old ∙ take-append_seam closed (space ∷ open') in
         let whole_is : own (spots sign (laid_items Words sign items items)) ≡ closed ++ space ∷ open' =
         ap own (are_laid Words sign items items [] (sym (append-nil items))).1
-        ∙ group_laid Words all s.at.area s.at.page_just (Some width) placing same all [] (sym (append-nil all))
+        ∙ group_laid Words all s.at.area (page_number s.at.page_just) (Some width) placing same all [] (sym (append-nil all))
         ∙ ap (λ n. take n whole) size' ∙ take_all (length whole) whole (omega arith) ∙ old in
         ap (count_by is_break) front_is
         ∙ omega (arith, sum_by-append (λ x. cond (is_break x) 1 0) closed (space ∷ open'), no_breaks (space ∷ open') glyphs)

@@ -5,6 +5,7 @@ use Rattle.std.specs.List.{list_any}
 use Rattle.std.proofs.lemmas.List.{append_assoc, append-nil}
 use Rattle.std.proofs.lemmas.List.Folds.{list_any-append}
 use Rattle.std.proofs.lemmas.Bool.Decides.{nat_tests}
+use Rattle.multi_tag.specs.Just.{page_number}
 use Rattle.multi_meaning.specs.Words.{extent, largest}
 use Rattle.multi_meaning.specs.Address.{Spot}
 use Rattle.multi_meaning.specs.Offence.{goes_back}
@@ -33,8 +34,8 @@ any_largest {X} f n = push_ind (λ xs. list_any (λ x. nat_lt n (f x)) xs ≡ na
         ∙ ap (nat_lt n) (sym (largest_push f xs x))
 
 -- a group goes back exactly where it is below the largest so far
-pub group_goes_back : (s : Spot) (area : List Spot) → list_any (goes_back s) area ≡ nat_lt s.at.page_just (largest (λ t. t.at.page_just) area)
-group_goes_back s area = any_largest (λ t. t.at.page_just) s.at.page_just area
+pub group_goes_back : (s : Spot) (area : List Spot) → list_any (goes_back s) area ≡ nat_lt (page_number s.at.page_just) (largest (λ t. page_number t.at.page_just) area)
+group_goes_back s area = any_largest (λ t. page_number t.at.page_just) (page_number s.at.page_just) area
 
 -- a row is at least as long as its beginning
 pub extent-append-le : {X : Type 0} (size : X → ℕ) (gap : X → X → ℕ) (ys xs : List X) → extent size gap xs ≤ extent size gap (xs ++ ys)

@@ -6,6 +6,7 @@ use Rattle.std.proofs.lemmas.Bool.{eq-eqb, ne_eqb, cases_lt}
 use Rattle.std.proofs.lemmas.List.{get_or_at, get_or_append_left, length_push}
 use Rattle.std.proofs.lemmas.List.Elements.{filter-append}
 use Rattle.std.proofs.lemmas.List.Sums.{sum_by_push, sum_by-append}
+use Rattle.multi_tag.specs.Just.{line_number}
 use Rattle.multi_meaning.specs.Address.{Spot, is_glyph, is_break, lines_of, segment}
 use Rattle.multi_meaning.specs.Line.{char_gap, glyph_width, width_of}
 use Rattle.multi_meaning.specs.kept.Present.{IsPlacing}
@@ -93,17 +94,17 @@ module _ (front : List Spot) (y : Spot) where
   line_of = push_ind (LineOf front y) (record { rest = []; line = first_of front y; ends = λ b. refl; open' = open_one front y (is_break y) refl }) step_line
 
 -- what stands behind an item of a segment makes it no narrower
-wider : (j : ℕ) (open' rest : List Spot) (y : Spot) → is_glyph y ≡ true → y.at.line_just ≡ j → 1 ≤ glyph_width y → width_of (segment j open') < width_of (segment j (open' ++ y ∷ rest))
+wider : (j : ℕ) (open' rest : List Spot) (y : Spot) → is_glyph y ≡ true → line_number y.at.line_just ≡ j → 1 ≤ glyph_width y → width_of (segment j open') < width_of (segment j (open' ++ y ∷ rest))
 wider j open' rest y glyph just wide =
-    let own : (is_glyph y && (y.at.line_just == j)) ≡ true = ap (λ b. b && (y.at.line_just == j)) glyph ∙ eq-eqb y.at.line_just j just in
+    let own : (is_glyph y && (line_number y.at.line_just == j)) ≡ true = ap (λ b. b && (line_number y.at.line_just == j)) glyph ∙ eq-eqb (line_number y.at.line_just) j just in
     let split : segment j (open' ++ y ∷ rest) ≡ segment j open' ++ y ∷ segment j rest =
-    filter-append (λ t. is_glyph t && (t.at.line_just == j)) open' (y ∷ rest) ∙ ap (λ b. segment j open' ++ cond b (y ∷ segment j rest) (segment j rest)) own in
+    filter-append (λ t. is_glyph t && (line_number t.at.line_just == j)) open' (y ∷ rest) ∙ ap (λ b. segment j open' ++ cond b (y ∷ segment j rest) (segment j rest)) own in
     let more = extent-append-le glyph_width char_gap (segment j rest) (segment j open' ++ y ∷ []) in
     let one = extent_push glyph_width char_gap (segment j open') y in
     omega (arith, wide, one, more, ap width_of split, ap width_of (append_assoc (segment j open') (y ∷ []) (segment j rest)))
 
 -- an item of a laid group ends its line exactly where the segment in which it would stand is as wide before it as on that line
-pub full_known : (j : ℕ) (front : List Spot) (y : Spot) (back : List Spot) → IsPlacing y → (is_glyph y ≡ true → (y.at.line_just ≡ j) × (1 ≤ glyph_width y))
+pub full_known : (j : ℕ) (front : List Spot) (y : Spot) (back : List Spot) → IsPlacing y → (is_glyph y ≡ true → (line_number y.at.line_just ≡ j) × (1 ≤ glyph_width y))
     → (width_of (segment j (after_last is_break front)) == width_of (segment j (slice_index_or (lines_of (front ++ y ∷ back)) (count_by is_break front) []))) ≡ is_break y
 full_known j front y back placing stands =
     let h = line_of front y back in
@@ -116,7 +117,7 @@ full_known j front y back placing stands =
         ne_eqb (width_of (segment j open')) (width_of (segment j (open' ++ y ∷ (line_of front y back).rest))) (λ e. omega (arith, more, e)) ∙ sym (glyph_put y.at y.put glyph).0
     of (inr breaks) =
         let open' = after_last is_break front in
-        let none : (is_glyph y && (y.at.line_just == j)) ≡ false = ap (λ b. b && (y.at.line_just == j)) (break_put y.at y.put breaks) in
+        let none : (is_glyph y && (line_number y.at.line_just == j)) ≡ false = ap (λ b. b && (line_number y.at.line_just == j)) (break_put y.at y.put breaks) in
         let same : segment j (open' ++ y ∷ (line_of front y back).rest) ≡ segment j open' =
-        ap (λ l. segment j (open' ++ y ∷ l)) ((line_of front y back).ends breaks) ∙ filter-append (λ t. is_glyph t && (t.at.line_just == j)) open' (y ∷ []) ∙ ap (λ b. segment j open' ++ cond b (y ∷ []) []) none ∙ append-nil (segment j open') in
+        ap (λ l. segment j (open' ++ y ∷ l)) ((line_of front y back).ends breaks) ∙ filter-append (λ t. is_glyph t && (line_number t.at.line_just == j)) open' (y ∷ []) ∙ ap (λ b. segment j open' ++ cond b (y ∷ []) []) none ∙ append-nil (segment j open') in
         eq-eqb (width_of (segment j open')) (width_of (segment j (open' ++ y ∷ (line_of front y back).rest))) (ap width_of (sym same)) ∙ sym breaks

@@ -5,6 +5,7 @@ use Rattle.std.specs.Option.{option_map}
 use Rattle.std.proofs.lemmas.Bool.{eqb-true}
 use Rattle.std.proofs.lemmas.List.Elements.{All-cons}
 use Rattle.multi_tag.specs.declared.tag.Tag.TheVariants.{NewLine}
+use Rattle.multi_tag.specs.Just.{page_number}
 use Rattle.sign_font.specs.declared.parts.LineFill.{LineFill}
 use Rattle.sign_font.specs.declared.parts.LineFill.TheVariants.{Off, Words}
 use Rattle.sign_font.specs.Sign.{SignData, CellData, cell_numbered}
@@ -40,7 +41,7 @@ module _ (sign : SignData) (items : List Meaning) (number : ℕ) (cell : CellDat
       let c : Spot = record { at = standing sign items; put = Glyph cell } in
       let l = spots sign items in
       let member = own_member Off l c refl in
-      let grows = members_push c.at.area c.at.page_just l c true member in
+      let grows = members_push c.at.area (page_number c.at.page_just) l c true member in
       inl (laid_behind Off sign items (Shows number) (Glyph cell) c (puts_cell sign items number cell found)
       (placed_leaves Off l c c member (same_fill Off sign items) grows) (laid_last Off l c c member (same_fill Off sign items) grows refl))
 
@@ -106,7 +107,7 @@ shown_by Off sign items number fits (Some cell) found = unfilled sign items numb
 shown_by Words sign items number fits (Some cell) found =
     let c : Spot = record { at = standing sign items; put = Glyph cell } in
     let is = open_line_is c.at.rectangle.width (group_of c (spots sign items)) (placing sign items number cell found) in
-    filled_shown sign items number cell found (ap (line_fits c.at.rectangle.width) (sym is) ∙ fits refl c.at.page_just)
+    filled_shown sign items number cell found (ap (line_fits c.at.rectangle.width) (sym is) ∙ fits refl (page_number c.at.page_just))
 
 kept : (setting : LineFill) (sign : SignData) (items : List Meaning) (x : Meaning) → (setting ≡ Words → OpenLinesFit sign items) → Kept setting sign items x
 kept setting sign items (Shows number) fits = shown_by setting sign items number fits (cell_numbered (standing sign items).font number) refl

@@ -5,6 +5,7 @@ use Rattle.std.specs.Prelude.{nat_le}
 use Rattle.std.specs.Option.{option_map}
 use Rattle.std.proofs.lemmas.Bool.Decides.{nat_tests}
 use Rattle.std.proofs.lemmas.List.{take_all, drop_all, take-append-le, drop-append-le, take-append-drop}
+use Rattle.multi_tag.specs.Just.{line_number}
 use Rattle.multi_meaning.specs.Address.{Spot, is_glyph, segment}
 use Rattle.multi_meaning.specs.Line.{width_of, glyph_width, char_gap}
 use Rattle.multi_meaning.specs.Fit.{fit, line_fits}
@@ -24,7 +25,7 @@ cond_least false w g k = omega arith
 pub segment_grows : (just : ℕ) (line : List Spot) (s : Spot) → width_of (segment just line) ≤ width_of (segment just (line ++ s ∷ []))
 segment_grows just line s =
     subst (λ n. width_of (segment just line) ≤ n) (sym (segment_push just line s))
-    (cond_least (is_glyph s && (s.at.line_just == just)) (width_of (segment just line)) (gap_before char_gap (segment just line) s) (glyph_width s))
+    (cond_least (is_glyph s && (line_number s.at.line_just == just)) (width_of (segment just line)) (gap_before char_gap (segment just line) s) (glyph_width s))
 
 pub le_test : (a b w : ℕ) → a ≤ b → nat_le b w ≡ true → nat_le a w ≡ true
 le_test a b w h k = grind (arith, nat_tests)

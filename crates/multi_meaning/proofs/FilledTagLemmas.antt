@@ -5,6 +5,7 @@ use Rattle.std.proofs.lemmas.Bool.{eq-eqb}
 use Rattle.std.proofs.lemmas.List.Elements.{All-push, All-weaker}
 use Rattle.multi_tag.specs.declared.tag.Tag.{Tag}
 use Rattle.multi_tag.specs.declared.tag.Tag.TheVariants.{NewPage, NewLine, Font}
+use Rattle.multi_tag.specs.Just.{page_number}
 use Rattle.sign_font.specs.declared.parts.LineFill.TheVariants.{Off, Words}
 use Rattle.sign_font.specs.Sign.{SignData}
 use Rattle.multi_meaning.specs.Address.{Break, Put, Spot, Standing, area_of, in_area, spots, standing}
@@ -54,7 +55,7 @@ module _ (sign : SignData) (items : List Meaning) where
     goes_back_laid : list_any (goes_back nl) (area_of nl all) ≡ list_any (goes_back nl) (area_of nl (laid Words all all))
     goes_back_laid =
         group_goes_back nl (area_of nl all)
-        ∙ ap (λ n. nat_lt nl.at.page_just n) (sym (largest_laid Words nl.at.rectangle.width nl.at.area all all [] (sym (append-nil all))))
+        ∙ ap (λ n. nat_lt (page_number nl.at.page_just) n) (sym (largest_laid Words nl.at.rectangle.width nl.at.area all all [] (sym (append-nil all))))
         ∙ sym (group_goes_back nl (area_of nl (laid Words all all)))
 
     -- the spots with it are laid as those before it, and it

@@ -1,5 +1,9 @@
 -- Worked examples of widths, heights and what fits, computed.
 use Rattle.std.proofs.Common.{◌≡◌, ℕ, Bool, true, false, List, [], ◌∷◌, map, None, refl}
+use Rattle.multi_tag.specs.declared.just.LineJust.{LineJust}
+use Rattle.multi_tag.specs.declared.just.LineJust.TheVariants.{Left, Centre, Right, Full}
+use Rattle.multi_tag.specs.declared.just.PageJust.{PageJust}
+use Rattle.multi_tag.specs.declared.just.PageJust.TheVariants.{Top, Middle, Bottom}
 use Rattle.sign_font.specs.Sample.{sample, small_font}
 use Rattle.multi_meaning.specs.Attributes.{whole_sign}
 use Rattle.multi_meaning.specs.Address.{Standing, Put, Glyph, Break, Cover, Spot}
@@ -17,8 +21,8 @@ first = record {
   page = 0;
   area = 0;
   font = small_font;
-  line_just = 3;
-  page_just = 3;
+  line_just = Centre;
+  page_just = Middle;
   spacing = None;
   fore = 1;
   back = 0;
@@ -77,30 +81,30 @@ a_middle_stands_nearer_to_the_start = refl
 -- LINES AND AREAS
 
 -- whether a character of a width fits 12 columns, with a line justification
-abbrev has_columns_for : ℕ → ℕ → Bool
+abbrev has_columns_for : ℕ → LineJust → Bool
 has_columns_for width just = line_fits 12 (record { at = record first { line_just = just }; put = character 65 width } ∷ [])
 
-less_than_12_columns_fit : map (has_columns_for 3) (2 ∷ 3 ∷ 4 ∷ 5 ∷ []) ≡ true ∷ true ∷ true ∷ true ∷ []
+less_than_12_columns_fit : map (has_columns_for 3) (Left ∷ Centre ∷ Right ∷ Full ∷ []) ≡ true ∷ true ∷ true ∷ true ∷ []
 less_than_12_columns_fit = refl
 
-all_12_columns_fit : map (has_columns_for 12) (2 ∷ 3 ∷ 4 ∷ 5 ∷ []) ≡ true ∷ true ∷ true ∷ true ∷ []
+all_12_columns_fit : map (has_columns_for 12) (Left ∷ Centre ∷ Right ∷ Full ∷ []) ≡ true ∷ true ∷ true ∷ true ∷ []
 all_12_columns_fit = refl
 
-a_13th_column_is_too_many : map (has_columns_for 13) (2 ∷ 3 ∷ 4 ∷ 5 ∷ []) ≡ false ∷ false ∷ false ∷ false ∷ []
+a_13th_column_is_too_many : map (has_columns_for 13) (Left ∷ Centre ∷ Right ∷ Full ∷ []) ≡ false ∷ false ∷ false ∷ false ∷ []
 a_13th_column_is_too_many = refl
 
 -- an area of one character, whose font has this many rows, with a page justification
-abbrev area : ℕ → ℕ → List Spot
+abbrev area : ℕ → PageJust → List Spot
 area rows just = record { at = record first { page_just = just; font = record small_font { height = rows } }; put = character 65 3 } ∷ []
 
-all_7_rows_fit : map (λ just. area_fits 7 (area 7 just)) (2 ∷ 3 ∷ 4 ∷ []) ≡ true ∷ true ∷ true ∷ []
+all_7_rows_fit : map (λ just. area_fits 7 (area 7 just)) (Top ∷ Middle ∷ Bottom ∷ []) ≡ true ∷ true ∷ true ∷ []
 all_7_rows_fit = refl
 
-an_8th_row_is_too_many : map (λ just. area_fits 7 (area 8 just)) (2 ∷ 3 ∷ 4 ∷ []) ≡ false ∷ false ∷ false ∷ []
+an_8th_row_is_too_many : map (λ just. area_fits 7 (area 8 just)) (Top ∷ Middle ∷ Bottom ∷ []) ≡ false ∷ false ∷ false ∷ []
 an_8th_row_is_too_many = refl
 
-all_7_rows_fit_as_laid_out : map (λ just. laid_fits None 7 (area 7 just)) (2 ∷ 3 ∷ 4 ∷ []) ≡ true ∷ true ∷ true ∷ []
+all_7_rows_fit_as_laid_out : map (λ just. laid_fits None 7 (area 7 just)) (Top ∷ Middle ∷ Bottom ∷ []) ≡ true ∷ true ∷ true ∷ []
 all_7_rows_fit_as_laid_out = refl
 
-an_8th_row_is_too_many_as_laid_out : map (λ just. laid_fits None 7 (area 8 just)) (2 ∷ 3 ∷ 4 ∷ []) ≡ false ∷ false ∷ false ∷ []
+an_8th_row_is_too_many_as_laid_out : map (λ just. laid_fits None 7 (area 8 just)) (Top ∷ Middle ∷ Bottom ∷ []) ≡ false ∷ false ∷ false ∷ []
 an_8th_row_is_too_many_as_laid_out = refl

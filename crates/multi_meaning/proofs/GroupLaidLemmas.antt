@@ -5,6 +5,7 @@ use Rattle.std.specs.List.{All}
 use Rattle.std.proofs.lemmas.Bool.{eqb-true, eq-eqb}
 use Rattle.std.proofs.lemmas.List.{take_more, length_push}
 use Rattle.std.proofs.lemmas.List.Elements.{All-head, All-tail, filter-append}
+use Rattle.multi_tag.specs.Just.{page_number}
 use Rattle.sign_font.specs.declared.parts.LineFill.{LineFill}
 use Rattle.multi_meaning.specs.Address.{Spot, is_glyph, is_break, in_group, in_area, area_of, group_of}
 use Rattle.multi_meaning.specs.kept.Present.{IsPlacing}
@@ -22,16 +23,16 @@ abbrev pub in_areas : ℕ → Spot → Bool
 in_areas a t = (is_glyph t || is_break t) && (t.at.area == a)
 
 abbrev pub is_member : ℕ → ℕ → Spot → Bool
-is_member a j t = in_areas a t && (t.at.page_just == j)
+is_member a j t = in_areas a t && (page_number t.at.page_just == j)
 
 members-append : (a j : ℕ) (xs ys : List Spot) → members a j (xs ++ ys) ≡ members a j xs ++ members a j ys
 members-append a j xs ys =
-    ap (in_group j) (filter-append (in_areas a) xs ys) ∙ filter-append (λ t. t.at.page_just == j) (in_area a xs) (in_area a ys)
+    ap (in_group j) (filter-append (in_areas a) xs ys) ∙ filter-append (λ t. page_number t.at.page_just == j) (in_area a xs) (in_area a ys)
 
 one_member : (a j : ℕ) (x : Spot) → members a j (x ∷ []) ≡ cond (is_member a j x) (x ∷ []) []
 one_member a j x = one (in_areas a x)
   where
-    one : (b : Bool) → in_group j (cond b (x ∷ []) []) ≡ cond (b && (x.at.page_just == j)) (x ∷ []) []
+    one : (b : Bool) → in_group j (cond b (x ∷ []) []) ≡ cond (b && (page_number x.at.page_just == j)) (x ∷ []) []
     one true = refl
     one false = refl
 
@@ -49,7 +50,7 @@ members_with a j xs ys x e =
 -- a laid spot is in the group of its spot
 pub same_member : (a j : ℕ) (x y : Spot) → LaidAs x y → is_member a j y ≡ is_member a j x
 same_member a j x y (inl e) = ap (is_member a j) e
-same_member a j x y (inr (glyph, e)) = ap (is_member a j) e ∙ ap (λ b. ((b || is_break x) && (x.at.area == a)) && (x.at.page_just == j)) (sym glyph)
+same_member a j x y (inr (glyph, e)) = ap (is_member a j) e ∙ ap (λ b. ((b || is_break x) && (x.at.area == a)) && (page_number x.at.page_just == j)) (sym glyph)
 
 pub member_parts : (p q r : Bool) → ((p && q) && r) ≡ true → (p ≡ true) × (q ≡ true) × (r ≡ true)
 member_parts true true r h = (refl, refl, h)
@@ -61,17 +62,17 @@ item_of P [] x ys h = All-head P x ys h
 item_of P (z ∷ xs) x ys h = item_of P xs x ys (All-tail P z (xs ++ x ∷ ys) h)
 
 module _ (setting : LineFill) (all : List Spot) where
-  pub own_member : (x : Spot) → is_glyph x ≡ true → is_member x.at.area x.at.page_just x ≡ true
-  own_member x glyph = rw (glyph, eq-eqb x.at.area x.at.area refl, eq-eqb x.at.page_just x.at.page_just refl) refl
+  pub own_member : (x : Spot) → is_glyph x ≡ true → is_member x.at.area (page_number x.at.page_just) x ≡ true
+  own_member x glyph = rw (glyph, eq-eqb x.at.area x.at.area refl, eq-eqb (page_number x.at.page_just) (page_number x.at.page_just) refl) refl
 
   as_if : (some more : List Spot) (x : Spot) (b : Bool) → is_glyph x ≡ b → all ≡ some ++ x ∷ more
       → LaidAs x (cond b (slice_index_or (filled (fill_at setting x.at) (group_of x all)) (length (group_of x some)) x) x)
   as_if some more x false e is = inl refl
   as_if some more x true e is =
       let o = fill_at setting x.at in
-      let split : group_of x all ≡ group_of x some ++ x ∷ group_of x more = ap (group_of x) is ∙ members_with x.at.area x.at.page_just some more x (own_member x e) in
+      let split : group_of x all ≡ group_of x some ++ x ∷ group_of x more = ap (group_of x) is ∙ members_with x.at.area (page_number x.at.page_just) some more x (own_member x e) in
       laid_at (group_of x some) (group_of x more) x x (filled o (group_of x all))
-      (subst (λ l. LaidAll l (filled o (group_of x all))) split (filled_laid o (group_of x all) (placing_group x.at.page_just (area_of x all) (area_placing all x))))
+      (subst (λ l. LaidAll l (filled o (group_of x all))) split (filled_laid o (group_of x all) (placing_group (page_number x.at.page_just) (area_of x all) (area_placing all x))))
 
   -- a spot of the string is laid as itself or as a dropped space
   pub laid_as : (some more : List Spot) (x : Spot) → all ≡ some ++ x ∷ more → LaidAs x (laid_spot setting all some x)
@@ -82,11 +83,11 @@ module _ (setting : LineFill) (all : List Spot) where
     pub there : (some more : List Spot) (x : Spot) (b : Bool) → is_glyph x ≡ b → all ≡ some ++ x ∷ more → is_member a j x ≡ true
         → cond b (slice_index_or (filled (fill_at setting x.at) (group_of x all)) (length (group_of x some)) x) x ≡ slice_index_or (filled o (members a j all)) (length (members a j some)) x
     there some more x true e is m =
-        let (kind, area, just) = member_parts (is_glyph x || is_break x) (x.at.area == a) (x.at.page_just == j) m in
+        let (kind, area, just) = member_parts (is_glyph x || is_break x) (x.at.area == a) (page_number x.at.page_just == j) m in
         let at_area : x.at.area ≡ a = eqb-true x.at.area a area in
-        let at_just : x.at.page_just ≡ j = eqb-true x.at.page_just j just in
+        let at_just : page_number x.at.page_just ≡ j = eqb-true (page_number x.at.page_just) j just in
         ap (λ o. slice_index_or (filled o (group_of x all)) (length (group_of x some)) x) (item_of (λ (x : Spot). x.at.area ≡ a → fill_at setting x.at ≡ o) some x more (subst (All (λ (x : Spot). x.at.area ≡ a → fill_at setting x.at ≡ o)) is same) at_area)
-        ∙ ap (λ n. slice_index_or (filled o (members n x.at.page_just all)) (length (members n x.at.page_just some)) x) at_area
+        ∙ ap (λ n. slice_index_or (filled o (members n (page_number x.at.page_just) all)) (length (members n (page_number x.at.page_just) some)) x) at_area
         ∙ ap (λ n. slice_index_or (filled o (members a n all)) (length (members a n some)) x) at_just
     there some more x false e is m =
         let split : members a j all ≡ members a j some ++ x ∷ members a j more = ap (members a j) is ∙ members_with a j some more x m in

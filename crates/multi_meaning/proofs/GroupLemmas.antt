@@ -4,6 +4,7 @@ use Rattle.std.proofs.lemmas.Bool.{eq-eqb, false≢true, ne_eqb, or_cases}
 use Rattle.std.proofs.lemmas.List.{append-nil}
 use Rattle.std.proofs.lemmas.List.Elements.{All-weaker, filter-append, All-filter, All-head, All-tail, filter_passes, All-nil, All-cons}
 use Rattle.std.specs.List.{filter, AllPass, All}
+use Rattle.multi_tag.specs.Just.{page_number}
 use Rattle.multi_meaning.specs.Address.{Spot, is_glyph, Standing, Put, Glyph, Break, Cover, is_break, in_group, area_of}
 use Rattle.multi_meaning.specs.Line.{given_gap}
 use Rattle.multi_meaning.specs.kept.Present.{IsPlacing}
@@ -23,17 +24,17 @@ break_put at (Break gap) e = refl
 break_put at (Cover page colour) e = refl
 
 pub placing_group : (just : ℕ) (area : List Spot) → All IsPlacing area → All IsPlacing (in_group just area)
-placing_group just area h = All-filter (λ t. t.at.page_just == just) IsPlacing area h
+placing_group just area h = All-filter (λ t. page_number t.at.page_just == just) IsPlacing area h
 
 -- an item of its own group
-pub own_group : (just : ℕ) (area : List Spot) (s : Spot) → s.at.page_just ≡ just → in_group just (area ++ s ∷ []) ≡ in_group just area ++ s ∷ []
-own_group just area s e = filter_yes (λ t. t.at.page_just == just) area s (eq-eqb s.at.page_just just e)
+pub own_group : (just : ℕ) (area : List Spot) (s : Spot) → page_number s.at.page_just ≡ just → in_group just (area ++ s ∷ []) ≡ in_group just area ++ s ∷ []
+own_group just area s e = filter_yes (λ t. page_number t.at.page_just == just) area s (eq-eqb (page_number s.at.page_just) just e)
 
 -- a group after an item of another
-pub in_group_other : (just : ℕ) (area : List Spot) (s : Spot) → (s.at.page_just ≡ just → ⊥) → in_group just (area ++ s ∷ []) ≡ in_group just area
+pub in_group_other : (just : ℕ) (area : List Spot) (s : Spot) → (page_number s.at.page_just ≡ just → ⊥) → in_group just (area ++ s ∷ []) ≡ in_group just area
 in_group_other just area s apart =
-    filter-append (λ t. t.at.page_just == just) area (s ∷ [])
-    ∙ ap (λ b. in_group just area ++ cond b (s ∷ []) []) (ne_eqb s.at.page_just just apart)
+    filter-append (λ t. page_number t.at.page_just == just) area (s ∷ [])
+    ∙ ap (λ b. in_group just area ++ cond b (s ∷ []) []) (ne_eqb (page_number s.at.page_just) just apart)
     ∙ append-nil (in_group just area)
 
 -- what an area has before an item is placing items, and so is the item

@@ -16,8 +16,7 @@ use Rattle.multi_tag.proofs.ShortLemmas.{short_body}
 use Rattle.multi_tag.proofs.TagOfLemmas.{tag_of-spelled}
 use Rattle.multi_meaning.specs.kept.ItemAt.{IsFaultAt, IsItemAt}
 use Rattle.multi_meaning.specs.Meaning.{Faulty, Shows, meaning_of_tag, said_by}
-use Rattle.multi_meaning.specs.kept.Present.{IsKnown}
-use Rattle.multi_meaning.proofs.MeaningLemmas.{known_of, meaning-tag}
+use Rattle.multi_meaning.proofs.MeaningLemmas.{meaning-tag}
 
 -- an octet that was read, by a comparison
 pub read_is : (found : Option ℕ) (octet : ℕ) → true ≡ option_eq nat_eq found (Some octet) → found ≡ Some octet
@@ -36,12 +35,10 @@ module _ (octets : List ℕ) (at : ℕ) where
       (record { at = at; len = 2; kind = kinds.Char bracket }, refl, refl, doubled_token octets at bracket room first second is, refl)
 
   -- a tag of the table
-  pub tag_at : (tag : Tag) (len : ℕ) → IsTagAt octets at tag len → IsItemAt octets at len (said_by tag) × IsKnown tag
+  pub tag_at : (tag : Tag) (len : ℕ) → IsTagAt octets at tag len → IsItemAt octets at len (said_by tag)
   tag_at tag len (is, spells) =
-      let t : Token = record { at = at; len = len; kind = kinds.Tag } in (
-        (t, refl, refl, is.is, meaning-tag octets t (Ok tag) is.kind (tag_of-spelled (body_of octets t) tag spells)),
-        known_of (body_of octets t) tag spells,
-      )
+      let t : Token = record { at = at; len = len; kind = kinds.Tag } in
+      (t, refl, refl, is.is, meaning-tag octets t (Ok tag) is.kind (tag_of-spelled (body_of octets t) tag spells))
 
   -- the steps of one look and of the octets ahead, for a tag that stands there
   pub ahead_steps : (tag : Tag) (len steps : ℕ) → IsTagAt octets at tag len → steps ≡ 1 + min 26 (length octets - (at + 1)) → (len - 1 ≤ steps) × (steps ≤ 9 * len - 9)

@@ -1,6 +1,7 @@
 -- Whether a placing item is too big, by the laid items of its area.
 use Rattle.std.proofs.Common.{◌≡◌, ℕ, Bool, true, not, cond, ◌&&◌, ◌||◌, List, [], ◌∷◌, ◌++◌, Some, refl, sym, ap, ◌∙◌}
 use Rattle.std.specs.List.{after_last}
+use Rattle.multi_tag.specs.Just.{page_number}
 use Rattle.sign_font.specs.declared.parts.LineFill.{LineFill}
 use Rattle.multi_meaning.specs.Address.{Spot, area_of, in_area, in_group, is_break, is_glyph, lines_of}
 use Rattle.multi_meaning.specs.Filling.{filled}
@@ -26,11 +27,11 @@ module _ (setting : LineFill) (width : ℕ) (all : List Spot) (s : Spot) (placed
   -- whether it is too big, by the groups of its area
   abbrev by_groups : (ℕ → List Spot) → Bool
   by_groups group =
-      (is_glyph s && not (line_fits s.at.rectangle.width (after_last is_break (group s.at.page_just))))
+      (is_glyph s && not (line_fits s.at.rectangle.width (after_last is_break (group (page_number s.at.page_just)))))
       || not (fit (height_of (lines_of (group 2))) (height_of (lines_of (group 3))) (height_of (lines_of (group 4))) s.at.rectangle.height)
 
   -- it is too big just where, as laid out, its line doesn't fit, or its area
-  pub too_big_laid : too_big setting all s ≡ ((is_glyph s && not (line_fits s.at.rectangle.width (after_last is_break (in_group s.at.page_just laid_with)))) || not (plain.area_fits s.at.rectangle.height laid_with))
+  pub too_big_laid : too_big setting all s ≡ ((is_glyph s && not (line_fits s.at.rectangle.width (after_last is_break (in_group (page_number s.at.page_just) laid_with)))) || not (plain.area_fits s.at.rectangle.height laid_with))
   too_big_laid =
       let groups : (j : ℕ) → filled (Some width) (in_group j (in_area s.at.area (all ++ s ∷ []))) ≡ in_group j laid_with = λ j. sym (groups_laid setting width s.at.area (all ++ s ∷ []) s refl same j) in
       ap (λ o. by_groups (λ j. laid_group o j (area_of s all ++ s ∷ []))) fill

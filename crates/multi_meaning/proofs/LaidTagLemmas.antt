@@ -4,6 +4,7 @@ use Rattle.std.specs.List.{All}
 use Rattle.std.proofs.lemmas.List.Elements.{All-weaker}
 use Rattle.multi_tag.specs.declared.tag.Tag.{Tag}
 use Rattle.multi_tag.specs.declared.tag.Tag.TheVariants.{NewPage, NewLine, Back}
+use Rattle.multi_tag.specs.Just.{page_number}
 use Rattle.sign_font.specs.declared.parts.LineFill.{LineFill}
 use Rattle.sign_font.specs.declared.parts.LineFill.TheVariants.{Off, Words}
 use Rattle.sign_font.specs.Sign.{SignData}
@@ -39,14 +40,14 @@ module _ (setting : LineFill) (sign : SignData) (items : List Meaning) where
 
   -- what ends a line goes behind its filled group
   break_grows : (o : Option ℕ) (gap : Option ℕ) → filled o (group_of (spot_of (Break gap)) (spots sign items ++ spot_of (Break gap) ∷ [])) ≡ filled o (group_of (spot_of (Break gap)) (spots sign items)) ++ spot_of (Break gap) ∷ []
-  break_grows o gap = ap (filled o) (members_push (standing sign items).area (standing sign items).page_just (spots sign items) (spot_of (Break gap)) true member) ∙ filled_more o
+  break_grows o gap = ap (filled o) (members_push (standing sign items).area (page_number (standing sign items).page_just) (spots sign items) (spot_of (Break gap)) true member) ∙ filled_more o
     where
-      member : is_member (standing sign items).area (standing sign items).page_just (spot_of (Break gap)) ≡ true
-      member = rw (eq-eqb (standing sign items).area (standing sign items).area refl, eq-eqb (standing sign items).page_just (standing sign items).page_just refl) refl
+      member : is_member (standing sign items).area (page_number (standing sign items).page_just) (spot_of (Break gap)) ≡ true
+      member = rw (eq-eqb (standing sign items).area (standing sign items).area refl, eq-eqb (page_number (standing sign items).page_just) (page_number (standing sign items).page_just) refl) refl
 
       filled_more : (o : Option ℕ) → filled o (group_of (spot_of (Break gap)) (spots sign items) ++ spot_of (Break gap) ∷ []) ≡ filled o (group_of (spot_of (Break gap)) (spots sign items)) ++ spot_of (Break gap) ∷ []
       filled_more None = refl
-      filled_more (Some width) = filled_break width (group_of (spot_of (Break gap)) (spots sign items)) (spot_of (Break gap)) (placing_group (standing sign items).page_just (area_of (spot_of (Break gap)) (spots sign items)) (area_placing (spots sign items) (spot_of (Break gap)))) refl
+      filled_more (Some width) = filled_break width (group_of (spot_of (Break gap)) (spots sign items)) (spot_of (Break gap)) (placing_group (page_number (standing sign items).page_just) (area_of (spot_of (Break gap)) (spots sign items)) (area_placing (spots sign items) (spot_of (Break gap)))) refl
 
   abbrev LaidAsItself : Tag → Type 0
   LaidAsItself tag = laid_items setting sign (items ++ Does tag ∷ []) (items ++ Does tag ∷ []) ≡ laid_items setting sign items items ++ Does tag ∷ []
@@ -54,7 +55,7 @@ module _ (setting : LineFill) (sign : SignData) (items : List Meaning) where
   pub laid_tag : (tag : Tag) → LaidAsItself tag
   laid_tag (NewLine gap) =
       laid_behind setting sign items (Does (NewLine gap)) (Break gap) (spot_of (Break gap)) refl
-      (placed_leaves setting (spots sign items) (spot_of (Break gap)) (spot_of (Break gap)) (rw (eq-eqb (standing sign items).area (standing sign items).area refl, eq-eqb (standing sign items).page_just (standing sign items).page_just refl) refl) same_fill (break_grows (fill_at setting (standing sign items)) gap)) refl
+      (placed_leaves setting (spots sign items) (spot_of (Break gap)) (spot_of (Break gap)) (rw (eq-eqb (standing sign items).area (standing sign items).area refl, eq-eqb (page_number (standing sign items).page_just) (page_number (standing sign items).page_just) refl) refl) same_fill (break_grows (fill_at setting (standing sign items)) gap)) refl
   laid_tag NewPage = laid_behind setting sign items (Does NewPage) _ _ refl (unplaced_leaves setting (spots sign items) _ refl refl) refl
   laid_tag (Back colour) = laid_behind setting sign items (Does (Back colour)) _ _ refl (unplaced_leaves setting (spots sign items) _ refl refl) refl
   laid_tag tag = laid_nothing setting sign items (Does tag) refl

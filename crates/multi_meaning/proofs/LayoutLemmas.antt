@@ -4,6 +4,7 @@ use Rattle.std.specs.List.{filter, filter_map, last_or, cons_option}
 use Rattle.std.specs.Option.{unwrap_or}
 use Rattle.std.proofs.lemmas.List.{append-nil}
 use Rattle.std.proofs.lemmas.List.Elements.{filter_map-append, filter-append}
+use Rattle.multi_tag.specs.Just.{line_number}
 use Rattle.sign_font.specs.Sign.{SignData}
 use Rattle.multi_meaning.specs.Meaning.{Meaning}
 use Rattle.multi_meaning.specs.Attributes.{in_force}
@@ -38,5 +39,5 @@ segment_if : (characters : List Spot) (s : Spot) (b : Bool) → width_of (charac
 segment_if characters s true = width_push characters s
 segment_if characters s false = ap width_of (append-nil characters)
 
-pub segment_push : (just : ℕ) (line : List Spot) (s : Spot) → width_of (segment just (line ++ s ∷ [])) ≡ cond (is_glyph s && (s.at.line_just == just)) (width_of (segment just line) + gap_before char_gap (segment just line) s + glyph_width s) (width_of (segment just line))
-segment_push just line s = ap width_of (filter_push (λ t. is_glyph t && (t.at.line_just == just)) line s) ∙ segment_if (segment just line) s (is_glyph s && (s.at.line_just == just))
+pub segment_push : (just : ℕ) (line : List Spot) (s : Spot) → width_of (segment just (line ++ s ∷ [])) ≡ cond (is_glyph s && (line_number s.at.line_just == just)) (width_of (segment just line) + gap_before char_gap (segment just line) s + glyph_width s) (width_of (segment just line))
+segment_push just line s = ap width_of (filter_push (λ t. is_glyph t && (line_number t.at.line_just == just)) line s) ∙ segment_if (segment just line) s (is_glyph s && (line_number s.at.line_just == just))

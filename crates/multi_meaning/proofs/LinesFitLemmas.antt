@@ -5,6 +5,7 @@ use Rattle.std.proofs.lemmas.Bool.Decides.{nat_tests}
 use Rattle.std.proofs.lemmas.List.Elements.{All-nil, All-cons, All-head, All-tail, All-filter, All-weaker}
 use Rattle.std.proofs.lemmas.List.Sums.{sum_by-cons}
 use Rattle.std.specs.List.{filter, list_any, onto_first, sum_by, All}
+use Rattle.multi_tag.specs.Just.{page_number}
 use Rattle.multi_meaning.specs.Words.{cut_behind, largest}
 use Rattle.multi_meaning.specs.Address.{Spot, is_glyph, is_break, in_group, lines_of}
 use Rattle.multi_meaning.specs.Line.{bearers, line_height, height_of}
@@ -95,5 +96,5 @@ pub lines_within : (height : ℕ) (area : List Spot) → area_fits height area �
     → length (lines_of (in_group 2 area)) + length (lines_of (in_group 3 area)) + length (lines_of (in_group 4 area)) ≤ height
 lines_within height area fits all =
     let tall = λ (just : ℕ). height_of (lines_of (in_group just area)) in
-    let most : (just : ℕ) → length (lines_of (in_group just area)) ≤ tall just = λ just. lines_most (in_group just area) (All-filter (λ t. t.at.page_just == just) High area all) in
+    let most : (just : ℕ) → length (lines_of (in_group just area)) ≤ tall just = λ just. lines_most (in_group just area) (All-filter (λ t. page_number t.at.page_just == just) High area all) in
     omega (arith, most 2, most 3, most 4, fit_each (tall 2) (tall 3) (tall 4) height fits)

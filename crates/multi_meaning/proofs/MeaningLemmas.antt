@@ -1,23 +1,14 @@
 -- What a token's item means, from what its tag was read as.
-use Rattle.std.proofs.Common.{◌≡◌, ℕ, List, Some, Result, refl, ap, ◌∙◌}
+use Rattle.std.proofs.Common.{◌≡◌, ℕ, List, Result, refl, ap, ◌∙◌}
 use Rattle.multi_token.specs.declared.token.Token.{Token}
 use Rattle.multi_token.specs.declared.token.Kind.TheVariants as kinds
 use Rattle.multi_token.specs.Spelling as items
 use Rattle.multi_token.specs.Tokens.{body_of, item_of}
-use Rattle.multi_tag.specs.Body.{Spells}
 use Rattle.multi_tag.specs.declared.tag.Tag.{Tag}
-use Rattle.multi_tag.specs.declared.tag.Tag.TheVariants.{LineJust, PageJust, HexChar}
+use Rattle.multi_tag.specs.declared.tag.Tag.TheVariants.{HexChar}
 use Rattle.multi_tag.specs.declared.tag.TagFault.{TagFault}
 use Rattle.multi_tag.specs.TagOf.{tag_of}
-use Rattle.multi_tag.proofs.TagOfLemmas.{line_just_known, page_just_known}
 use Rattle.multi_meaning.specs.Meaning.{Does, meaning, meaning_of_tag, said_by}
-use Rattle.multi_meaning.specs.kept.Present.{IsKnown}
-
--- a tag that is read gives a known justification
-pub known_of : (body : List ℕ) (tag : Tag) → Spells body tag → IsKnown tag
-known_of body (LineJust (Some just)) s = line_just_known body just s
-known_of body (PageJust (Some just)) s = page_just_known body just s
-known_of body tag s = tt
 
 -- a tag that says that some tag is done is that tag
 does_same : (a b : Tag) → Does a ≡ Does b → a ≡ b

@@ -5,6 +5,7 @@ use Rattle.std.specs.List.{All, after_last, sum_by}
 use Rattle.std.proofs.lemmas.Bool.{and_parts, cases_Bool, cases_eq, false≢true, ne_eqb}
 use Rattle.std.proofs.lemmas.Bool.Decides.{nat_tests}
 use Rattle.std.proofs.lemmas.List.Elements.{All-cons, All-drop, All-filter, All-head, All-nil, All-tail, filter-append}
+use Rattle.multi_tag.specs.Just.{line_number, page_number}
 use Rattle.sign_font.specs.Sign.{SignData}
 use Rattle.sign_font.specs.Sound.{IsSound}
 use Rattle.sign_font.specs.declared.parts.LineFill.TheVariants.{Off}
@@ -34,13 +35,13 @@ line_where false b e = absurd (false≢true (sym e))
 
 -- the present line of the group that a placing item joins
 joined : (before : List Spot) (area : List Spot) (s : Spot) (big : Bool) (glyph : Bool) → is_glyph s ≡ glyph → (is_glyph s || is_break s) ≡ true
-    → ((glyph && not (line_fits s.at.rectangle.width (after_last is_break (in_group s.at.page_just (area ++ s ∷ []))))) || big) ≡ false
-    → line_fits s.at.rectangle.width (after_last is_break (in_group s.at.page_just (area ++ s ∷ []))) ≡ true
-joined before area s big true g placing small = line_where (line_fits s.at.rectangle.width (after_last is_break (in_group s.at.page_just (area ++ s ∷ [])))) big small
+    → ((glyph && not (line_fits s.at.rectangle.width (after_last is_break (in_group (page_number s.at.page_just) (area ++ s ∷ []))))) || big) ≡ false
+    → line_fits s.at.rectangle.width (after_last is_break (in_group (page_number s.at.page_just) (area ++ s ∷ []))) ≡ true
+joined before area s big true g placing small = line_where (line_fits s.at.rectangle.width (after_last is_break (in_group (page_number s.at.page_just) (area ++ s ∷ [])))) big small
 joined before area s big false g placing small =
     let broken : is_break s ≡ true = sym (ap (λ b. b || is_break s) g) ∙ placing in
-    let whole : after_last is_break (in_group s.at.page_just (area ++ s ∷ [])) ≡ [] =
-    ap (after_last is_break) (own_group s.at.page_just area s refl) ∙ after_last_push is_break (in_group s.at.page_just area) s ∙ ap (λ b. cond b [] (after_last is_break (in_group s.at.page_just area) ++ s ∷ [])) broken in
+    let whole : after_last is_break (in_group (page_number s.at.page_just) (area ++ s ∷ [])) ≡ [] =
+    ap (after_last is_break) (own_group (page_number s.at.page_just) area s refl) ∙ after_last_push is_break (in_group (page_number s.at.page_just) area) s ∙ ap (λ b. cond b [] (after_last is_break (in_group (page_number s.at.page_just) area) ++ s ∷ [])) broken in
     ap (line_fits s.at.rectangle.width) whole ∙ nothing_fits s.at.rectangle.width
 
 -- behind the items of an accepted string the present line of each group fits the rectangle in force
@@ -50,11 +51,11 @@ lines_fit_always sign =
     (λ before put placing small old just.
     let s : Spot = record { at = standing sign before; put = put } in
     let area = present_area sign before in
-    elim (cases_eq s.at.page_just just) [
+    elim (cases_eq (page_number s.at.page_just) just) [
       | inl own ↦ subst (λ n. line_fits s.at.rectangle.width (after_last is_break (in_group n (area ++ s ∷ []))) ≡ true) own (joined (spots sign before) area s _ (is_glyph s) refl placing small)
       | inr other ↦
           ap (λ l. line_fits s.at.rectangle.width (after_last is_break l))
-          (filter-append (λ t. t.at.page_just == just) area (s ∷ []) ∙ ap (λ b. in_group just area ++ cond b (s ∷ []) []) (ne_eqb s.at.page_just just other) ∙ append-nil (in_group just area))
+          (filter-append (λ t. page_number t.at.page_just == just) area (s ∷ []) ∙ ap (λ b. in_group just area ++ cond b (s ∷ []) []) (ne_eqb (page_number s.at.page_just) just other) ∙ append-nil (in_group just area))
           ∙ old just
     ])
 
@@ -67,7 +68,7 @@ wide_segment : (just : ℕ) (line : List Spot) → All (λ (s : Spot). is_glyph 
 wide_segment just [] all = All-nil (λ (s : Spot). 1 ≤ glyph_width s)
 wide_segment just (s ∷ line) all =
     let rest = wide_segment just line (All-tail (λ (s : Spot). is_glyph s ≡ true → 1 ≤ glyph_width s) s line all) in
-    elim (cases_Bool (is_glyph s && (s.at.line_just == just))) [
+    elim (cases_Bool (is_glyph s && (line_number s.at.line_just == just))) [
       | inl own ↦ rw own (All-cons (λ (s : Spot). 1 ≤ glyph_width s) s (segment just line) (All-head (λ (s : Spot). is_glyph s ≡ true → 1 ≤ glyph_width s) s line all (and_parts (is_glyph s) _ own).0) rest)
       | inr other ↦ rw other rest
     ]
@@ -85,7 +86,7 @@ module _ (sign : SignData) (sound : IsSound sign) (items : List Meaning) (fits :
       let widest = sound.width.1 in
       let wide : All (λ (s : Spot). is_glyph s ≡ true → 1 ≤ glyph_width s) line =
       All-drop (λ (s : Spot). is_glyph s ≡ true → 1 ≤ glyph_width s) _ (in_group just spots)
-      (All-filter (λ t. t.at.page_just == just) (λ (s : Spot). is_glyph s ≡ true → 1 ≤ glyph_width s) spots (area_wide sign sound sound.font items)) in
+      (All-filter (λ t. page_number t.at.page_just == just) (λ (s : Spot). is_glyph s ≡ true → 1 ≤ glyph_width s) spots (area_wide sign sound sound.font items)) in
       let many : length (segment 5 line) ≤ sum_by glyph_width (segment 5 line) = sum_least glyph_width (segment 5 line) (wide_segment 5 line wide) in
       record {
         width = each_just (λ just. width_of (segment just line) ≤ 1024) (omega (arith, parts.0, within, widest)) (omega (arith, parts.0, within, widest)) (omega (arith, parts.0, within, widest)) (omega (arith, parts.1, within, widest));
@@ -119,5 +120,5 @@ front_width just line = push_ind (λ behind. width_of (segment just line) ≤ wi
 pub narrow_front : (line behind : List Spot) → IsNarrow (line ++ behind) → IsNarrow line
 narrow_front line behind whole = record {
   width = λ just low high. omega (arith, front_width just line behind, whole.width just low high);
-  characters = omega (arith, whole.characters, ap length (filter-append (λ t. is_glyph t && (t.at.line_just == 5)) line behind), length-append (segment 5 line) (segment 5 behind));
+  characters = omega (arith, whole.characters, ap length (filter-append (λ t. is_glyph t && (line_number t.at.line_just == 5)) line behind), length-append (segment 5 line) (segment 5 behind));
 }

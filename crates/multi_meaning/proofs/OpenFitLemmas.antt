@@ -1,5 +1,6 @@
 -- Where lines are filled and no item offends, the open line of each group of the present area fits.
 use Rattle.std.proofs.Common.{◌≡◌, ℕ, Bool, true, false, inl, inr, map, List, [], ◌∷◌, ◌++◌, Option, Some, None, refl, sym, ap, subst, ◌∙◌}
+use Rattle.multi_tag.specs.Just.{page_number}
 use Rattle.multi_meaning.proofs.NarrowLemmas.{line_where}
 use Rattle.std.specs.List.{after_last}
 use Rattle.std.specs.Option.{option_map, unwrap_or}
@@ -55,15 +56,15 @@ module _ (sign : SignData) where
 
   area_grows : (items : List Meaning) (x : Meaning) (put : Put) → given_rectangle sign x ≡ None → begins_area x ≡ false → put_at sign.defaults (standing sign items) x ≡ Some put
       → (let s : Spot = record { at = standing sign items; put = put } in
-      (is_placing s ≡ true) → line_fits s.at.rectangle.width (after_last is_break (filled (Some s.at.rectangle.width) (in_group s.at.page_just (present_area sign items) ++ s ∷ []))) ≡ true
+      (is_placing s ≡ true) → line_fits s.at.rectangle.width (after_last is_break (filled (Some s.at.rectangle.width) (in_group (page_number s.at.page_just) (present_area sign items) ++ s ∷ []))) ≡ true
       → OpenLinesFit items → OpenLinesFit (items ++ x ∷ []))
   area_grows items x put none on puts placing fits h j =
       let s : Spot = record { at = standing sign items; put = put } in
       let area = present_area-placing sign items x put on puts placing in
       let width = same_width items x none in
-      elim (cases_eq s.at.page_just j) [
+      elim (cases_eq (page_number s.at.page_just) j) [
         | inl same ↦
-            let own : in_group j (present_area sign (items ++ x ∷ [])) ≡ in_group s.at.page_just (present_area sign items) ++ s ∷ [] =
+            let own : in_group j (present_area sign (items ++ x ∷ [])) ≡ in_group (page_number s.at.page_just) (present_area sign items) ++ s ∷ [] =
             ap (in_group j) area ∙ own_group j (present_area sign items) s same ∙ ap (λ j. in_group j (present_area sign items) ++ s ∷ []) (sym same) in
             (λ i. line_fits (width i) (after_last is_break (filled (Some (width i)) (own i)))) ∙ fits
         | inr differ ↦
@@ -75,9 +76,9 @@ module _ (sign : SignData) where
   fits_break items gap h =
       let nl : Spot = record { at = standing sign items; put = Break gap } in
       let width = nl.at.rectangle.width in
-      let group = in_group nl.at.page_just (present_area sign items) in
+      let group = in_group (page_number nl.at.page_just) (present_area sign items) in
       let soft : after_last is_break (filled (Some width) (group ++ nl ∷ [])) ≡ [] =
-      ap (after_last is_break) (filled_break width group nl (placing_group nl.at.page_just (present_area sign items) (area_placing (spots sign items) nl)) refl)
+      ap (after_last is_break) (filled_break width group nl (placing_group (page_number nl.at.page_just) (present_area sign items) (area_placing (spots sign items) nl)) refl)
       ∙ after_last_push is_break (filled (Some width) group) nl in
       area_grows items (Does (NewLine gap)) (Break gap) refl refl refl refl (ap (line_fits width) soft ∙ nothing_fits width) h
 
@@ -95,8 +96,8 @@ module _ (sign : SignData) where
   fits_cell items number (Some cell) found fine h =
       let s : Spot = record { at = standing sign items; put = Glyph cell } in
       let big = not_big (conflicts (spots sign items) s) (too_big Words (spots sign items) s) fine in
-      let own = own_group s.at.page_just (present_area sign items) s refl in
-      let fits = line_where (line_fits s.at.rectangle.width (after_last is_break (filled (Some s.at.rectangle.width) (in_group s.at.page_just (present_area sign items ++ s ∷ []))))) _ big in
+      let own = own_group (page_number s.at.page_just) (present_area sign items) s refl in
+      let fits = line_where (line_fits s.at.rectangle.width (after_last is_break (filled (Some s.at.rectangle.width) (in_group (page_number s.at.page_just) (present_area sign items ++ s ∷ []))))) _ big in
       area_grows items (Shows number) (Glyph cell) refl refl (ap (option_map Glyph) found) refl
       (ap (λ g. line_fits s.at.rectangle.width (after_last is_break (filled (Some s.at.rectangle.width) g))) (sym own) ∙ fits) h
 

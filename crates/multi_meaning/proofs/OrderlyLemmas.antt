@@ -7,6 +7,7 @@ use Rattle.std.proofs.lemmas.List.{map-append}
 use Rattle.std.proofs.lemmas.List.Folds.{list_any-append}
 use Rattle.multi_token.specs.Spelling.{Item}
 use Rattle.multi_tag.specs.declared.tag.Tag.TheVariants.{NewPage, NewLine, Font}
+use Rattle.multi_tag.specs.Just.{page_number}
 use Rattle.sign_font.specs.declared.parts.LineFill.{LineFill}
 use Rattle.sign_font.specs.Sign.{SignData, CellData, cell_numbered}
 use Rattle.multi_meaning.specs.Address.{Break, Glyph, Put, Spot, Standing, area_of, in_area, is_break, is_glyph, line_before, put_at, spots, standing}
@@ -76,9 +77,9 @@ module _ (setting : LineFill) (all some more : List Spot) (is : all ≡ some ++ 
   -- its group doesn't go back among what is laid out
   pub goes_on : (t : Spot) → t.at ≡ s.at → list_any (goes_back t) (area_of t (laid setting all some)) ≡ false
   goes_on t at =
-      ap (λ (h : Standing). list_any (λ (u : Spot). nat_lt h.page_just u.at.page_just) (in_area h.area (laid setting all some))) at
+      ap (λ (h : Standing). list_any (λ (u : Spot). nat_lt (page_number h.page_just) (page_number u.at.page_just)) (in_area h.area (laid setting all some))) at
       ∙ group_goes_back s (area_of s (laid setting all some))
-      ∙ ap (λ n. nat_lt s.at.page_just n) (largest_laid setting 0 s.at.area all some more is)
+      ∙ ap (λ n. nat_lt (page_number s.at.page_just) n) (largest_laid setting 0 s.at.area all some more is)
       ∙ sym (group_goes_back s (area_of s some)) ∙ parts.0
 
   -- and neither does its segment
@@ -87,7 +88,7 @@ module _ (setting : LineFill) (all some more : List Spot) (is : all ≡ some ++ 
     where
       both : (b : Bool) → is_glyph s ≡ b → conflicts (laid setting all some) s ≡ false
       both true e =
-          let none = none_laid setting all s.at.area s.at.page_just (clashes s) some more is (ap (λ b. b && list_any (clashes s) (line_before some s)) (sym e) ∙ parts.1) in
+          let none = none_laid setting all s.at.area (page_number s.at.page_just) (clashes s) some more is (ap (λ b. b && list_any (clashes s) (line_before some s)) (sym e) ∙ parts.1) in
           ap (λ b. b || (is_glyph s && list_any (clashes s) (line_before (laid setting all some) s))) (goes_on s refl) ∙ ap (λ b. b && list_any (clashes s) (line_before (laid setting all some) s)) e ∙ none
       both false e = ap (λ b. b || (is_glyph s && list_any (clashes s) (line_before (laid setting all some) s))) (goes_on s refl) ∙ ap (λ b. b && list_any (clashes s) (line_before (laid setting all some) s)) e
 

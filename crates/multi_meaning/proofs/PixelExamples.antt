@@ -2,6 +2,8 @@
 use Rattle.std.proofs.Common.{◌≡◌, ℕ, Bool, true, false, List, [], ◌∷◌, map, Option, Some, None, refl}
 use Rattle.std.specs.List.{range_with_len}
 use Rattle.std.specs.Option.{option_map_or}
+use Rattle.multi_tag.specs.declared.just.LineJust.TheVariants.{Centre}
+use Rattle.multi_tag.specs.declared.just.PageJust.TheVariants.{Middle}
 use Rattle.sign_font.specs.Sample.{sample, small_font}
 use Rattle.sign_font.specs.Sign.{SignData}
 use Rattle.multi_meaning.specs.declared.attributes.FlashTimes.{FlashTimes}
@@ -22,8 +24,8 @@ spot_with flash put = record {
     page = 1;
     area = 1;
     font = small_font;
-    line_just = 3;
-    page_just = 3;
+    line_just = Centre;
+    page_just = Middle;
     spacing = None;
     fore = 3;
     back = 0;

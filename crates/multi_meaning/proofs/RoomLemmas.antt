@@ -6,6 +6,7 @@ use Rattle.std.specs.List.{after_last}
 use Rattle.std.specs.Option.{option_map, unwrap_or}
 use Rattle.std.proofs.lemmas.Bool.{false≢true, le-leb}
 use Rattle.multi_tag.specs.declared.tag.Tag.TheVariants.{NewPage, NewLine, Back, Rect}
+use Rattle.multi_tag.specs.Just.{page_number}
 use Rattle.sign_font.specs.declared.parts.LineFill.TheVariants.{Off}
 use Rattle.sign_font.specs.Sign.{SignData, CellData, font_numbered, cell_numbered}
 use Rattle.sign_font.specs.Sound.{IsSound}
@@ -128,7 +129,7 @@ fits_joined : (sign : SignData) (before : List Meaning) (put : Put) → let spot
     (is_glyph spot || is_break spot) ≡ true → too_big Off (spots sign before) spot ≡ false → Fitting spot.at.rectangle (present_area sign before) → Fitting spot.at.rectangle (present_area sign before ++ spot ∷ [])
 fits_joined sign before put placing small old =
     let spot : Spot = record { at = standing sign before; put = put } in
-    fits_where (is_glyph spot && not (line_fits spot.at.rectangle.width (after_last is_break (in_group spot.at.page_just (area_of spot (spots sign before) ++ spot ∷ []))))) (area_fits spot.at.rectangle.height (present_area sign before ++ spot ∷ [])) small
+    fits_where (is_glyph spot && not (line_fits spot.at.rectangle.width (after_last is_break (in_group (page_number spot.at.page_just) (area_of spot (spots sign before) ++ spot ∷ []))))) (area_fits spot.at.rectangle.height (present_area sign before ++ spot ∷ [])) small
 
 -- behind one more item that doesn't offend the present area fits the rectangle in force, if it does before it
 pub fits_next : (sign : SignData) (before : List Meaning) (x : Meaning) → offence Off sign before x ≡ None → area_fits (standing sign before).rectangle.height (present_area sign before) ≡ true

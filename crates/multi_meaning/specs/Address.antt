@@ -2,13 +2,16 @@
 use Rattle.std.specs.Prelude.{ℕ, Bool, true, false, ◌||◌, ◌&&◌, ◌==◌, ◌+◌, List, Option, Some, None}
 use Rattle.std.specs.List.{filter, count_by, after_last}
 use Rattle.std.specs.Option.{unwrap_or, option_map}
+use Rattle.multi_tag.specs.declared.just.LineJust.{LineJust}
+use Rattle.multi_tag.specs.declared.just.PageJust.{PageJust}
 use Rattle.multi_tag.specs.declared.tag.Tag.TheVariants.{NewPage, NewLine, Back}
+use Rattle.multi_tag.specs.Just.{line_number, page_number}
 use Rattle.sign_font.specs.declared.parts.Defaults.{Defaults}
 use Rattle.sign_font.specs.Sign.{SignData, FontData, CellData, cell_numbered}
 use Rattle.multi_meaning.specs.Meaning.{Meaning, Shows, Does, is_new_page, begins_area}
 use Rattle.multi_meaning.specs.declared.attributes.FlashTimes.{FlashTimes}
 use Rattle.multi_meaning.specs.declared.attributes.Rectangle.{Rectangle}
-use Rattle.multi_meaning.specs.Attributes.{in_force, default_font, given_font, given_line_just, given_page_just, given_spacing, given_fore, given_back, given_on, given_off, given_flash, given_rectangle, whole_sign}
+use Rattle.multi_meaning.specs.Attributes.{in_force, default_font, default_line_just, default_page_just, given_font, given_line_just, given_page_just, given_spacing, given_fore, given_back, given_on, given_off, given_flash, given_rectangle, whole_sign}
 use Rattle.multi_meaning.specs.Words.{some_after, cut_behind}
 
 -- where an item stands, and what is in force there (own)
@@ -16,8 +19,8 @@ pub record Standing : Type 0 where
   pub page : ℕ
   pub area : ℕ
   pub font : FontData
-  pub line_just : ℕ
-  pub page_just : ℕ
+  pub line_just : LineJust
+  pub page_just : PageJust
   pub spacing : Option ℕ
   pub fore : ℕ
   pub back : ℕ
@@ -33,8 +36,8 @@ standing sign before = record {
   page = count_by is_new_page before;
   area = count_by begins_area before;
   font = in_force (given_font sign) (default_font sign) before;
-  line_just = in_force (given_line_just sign.defaults) sign.defaults.line before;
-  page_just = in_force (given_page_just sign.defaults) sign.defaults.page before;
+  line_just = in_force (given_line_just sign.defaults) (default_line_just sign.defaults) before;
+  page_just = in_force (given_page_just sign.defaults) (default_page_just sign.defaults) before;
   spacing = in_force given_spacing None before;
   fore = in_force (given_fore sign.defaults) sign.defaults.fore before;
   back = in_force (given_back sign.defaults) sign.defaults.back before;
@@ -98,13 +101,13 @@ in_area area spots = filter (λ t. (is_glyph t || is_break t) && (t.at.area == a
 abbrev pub area_of : Spot → List Spot → List Spot
 area_of spot spots = in_area spot.at.area spots
 
--- the group of an area with this page justification in force (NTCIP 1203 v03, MULTI tag 'jp')
+-- the group of an area with the page justification of this number in force (NTCIP 1203 v03, MULTI tag 'jp')
 abbrev pub in_group : ℕ → List Spot → List Spot
-in_group just area = filter (λ t. t.at.page_just == just) area
+in_group just area = filter (λ t. page_number t.at.page_just == just) area
 
 -- the group of a spot (own)
 abbrev pub group_of : Spot → List Spot → List Spot
-group_of spot spots = in_group spot.at.page_just (area_of spot spots)
+group_of spot spots = in_group (page_number spot.at.page_just) (area_of spot spots)
 
 -- the counted lines of a group: every line that an `nl` ends, with that `nl`, and the last line if it has characters (own)
 abbrev pub lines_of : List Spot → List (List Spot)
@@ -114,6 +117,6 @@ lines_of group = cut_behind is_break group
 abbrev pub line_before : List Spot → Spot → List Spot
 line_before before spot = after_last is_break (group_of spot before)
 
--- the characters of a line with this line justification in force (NTCIP 1203 v03, MULTI tag 'jl')
+-- the characters of a line with the line justification of this number in force (NTCIP 1203 v03, MULTI tag 'jl')
 abbrev pub segment : ℕ → List Spot → List Spot
-segment just line = filter (λ t. is_glyph t && (t.at.line_just == just)) line
+segment just line = filter (λ t. is_glyph t && (line_number t.at.line_just == just)) line

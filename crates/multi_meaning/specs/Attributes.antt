@@ -3,7 +3,11 @@
 use Rattle.std.specs.Prelude.{ℕ, ◌+◌, ◌-◌, Bool, ◌&&◌, ◌==◌, nat_le, List, [], Option, Some, None, if◌then◌else◌}
 use Rattle.std.specs.List.{filter_map, last_or}
 use Rattle.std.specs.Option.{unwrap_or}
-use Rattle.multi_tag.specs.declared.tag.Tag.TheVariants.{NewPage, LineJust, PageJust, Font, CharSpacing, CharSpacingEnd, PageTime, Flash, FlashEnd, Fore, Back, Rect}
+use Rattle.multi_tag.specs.declared.just.LineJust.{LineJust}
+use Rattle.multi_tag.specs.declared.just.PageJust.{PageJust}
+use Rattle.multi_tag.specs.declared.tag.Tag.TheVariants.{NewPage, Font, CharSpacing, CharSpacingEnd, PageTime, Flash, FlashEnd, Fore, Back, Rect}
+use Rattle.multi_tag.specs.declared.tag.Tag.TheVariants as tags
+use Rattle.multi_tag.specs.Just.{line_just_of, page_just_of}
 use Rattle.sign_font.specs.declared.parts.Defaults.{Defaults}
 use Rattle.sign_font.specs.Sign.{SignData, FontData, font_numbered}
 use Rattle.multi_meaning.specs.declared.attributes.FlashTimes.{FlashTimes}
@@ -27,14 +31,22 @@ given_font sign (Does (Font None)) = Some (default_font sign)
 given_font sign (Does (Font (Some pick))) = font_numbered sign pick.number
 given_font sign _ = None
 
--- the line justification that an item gives: left 2, centre 3, right 4, full 5 (NTCIP 1203 v03, MULTI tag 'jl')
-abbrev pub given_line_just : Defaults → Meaning → Option ℕ
-given_line_just defaults (Does (LineJust just)) = Some (unwrap_or just defaults.line)
+-- the default line justification (NTCIP 1203 v03, defaultJustificationLine)
+abbrev pub default_line_just : Defaults → LineJust
+default_line_just defaults = line_just_of defaults.line
+
+-- the default page justification (NTCIP 1203 v03, defaultJustificationPage)
+abbrev pub default_page_just : Defaults → PageJust
+default_page_just defaults = page_just_of defaults.page
+
+-- the line justification that an item gives (NTCIP 1203 v03, MULTI tag 'jl')
+abbrev pub given_line_just : Defaults → Meaning → Option LineJust
+given_line_just defaults (Does (tags.LineJust just)) = Some (unwrap_or just (default_line_just defaults))
 given_line_just defaults _ = None
 
--- the page justification that an item gives: top 2, middle 3, bottom 4 (NTCIP 1203 v03, MULTI tag 'jp')
-abbrev pub given_page_just : Defaults → Meaning → Option ℕ
-given_page_just defaults (Does (PageJust just)) = Some (unwrap_or just defaults.page)
+-- the page justification that an item gives (NTCIP 1203 v03, MULTI tag 'jp')
+abbrev pub given_page_just : Defaults → Meaning → Option PageJust
+given_page_just defaults (Does (tags.PageJust just)) = Some (unwrap_or just (default_page_just defaults))
 given_page_just defaults _ = None
 
 -- the character spacing that an item gives, in pixels; at its end none (NTCIP 1203 v03, MULTI tags 'sc' and '/sc')

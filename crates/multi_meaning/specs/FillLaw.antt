@@ -2,6 +2,7 @@
 use Rattle.std.specs.Prelude.{◌≡◌, ◌⊎◌, List, [], ◌∷◌, ◌++◌, map, None}
 use Rattle.std.specs.List.{count_by}
 use Rattle.multi_tag.specs.declared.tag.Tag.TheVariants.{NewLine}
+use Rattle.multi_tag.specs.Just.{page_number}
 use Rattle.multi_token.specs.Spelling.{Item}
 use Rattle.sign_font.specs.Sign.{SignData}
 use Rattle.multi_meaning.specs.Address.{in_area, in_group, is_break, spots, standing}
@@ -19,7 +20,7 @@ KeepsBreaks = (sign : SignData) (before : List Item) (item : Item) → offences 
     let next = meaning item in
     let old = laid_out sign items in
     let here = standing sign items in
-    let ended = λ (laid : List Meaning). count_by is_break (in_group here.page_just (in_area here.area (spots sign laid))) in
+    let ended = λ (laid : List Meaning). count_by is_break (in_group (page_number here.page_just) (in_area here.area (spots sign laid))) in
     (laid_out sign (items ++ next ∷ []) ≡ old ++ next ∷ [])
     ⊎ ((front : List Meaning) × (behind : List Meaning) × (old ++ next ∷ [] ≡ front ++ Shows 32 ∷ behind)
     × (laid_out sign (items ++ next ∷ []) ≡ front ++ Does (NewLine None) ∷ behind)

@@ -1,6 +1,7 @@
 -- The spots of a string as they are laid out: each dropped space as the end of its line (own).
 use Rattle.std.specs.Prelude.{ℕ, Bool, not, ◌||◌, ◌&&◌, List, [], ◌∷◌, ◌++◌, length, slice_index_or, Option, Some, None, if◌then◌else◌}
 use Rattle.std.specs.List.{after_last}
+use Rattle.multi_tag.specs.Just.{page_number}
 use Rattle.sign_font.specs.declared.parts.LineFill.{LineFill}
 use Rattle.sign_font.specs.declared.parts.LineFill.TheVariants.{Off, Words}
 use Rattle.multi_meaning.specs.Address.{Spot, Standing, is_glyph, is_break, area_of, in_group, group_of, lines_of}
@@ -29,7 +30,7 @@ abbrev pub too_big : LineFill → List Spot → Spot → Bool
 too_big setting before spot =
     let area = area_of spot before ++ spot ∷ [] in
     let fill = fill_at setting spot.at in
-    (is_glyph spot && not (line_fits spot.at.rectangle.width (after_last is_break (laid_group fill spot.at.page_just area))))
+    (is_glyph spot && not (line_fits spot.at.rectangle.width (after_last is_break (laid_group fill (page_number spot.at.page_just) area))))
     || not (laid_fits fill spot.at.rectangle.height area)
 
 -- a spot as it stands in its group among all spots (own)

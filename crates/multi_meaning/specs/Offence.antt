@@ -3,6 +3,7 @@ use Rattle.std.specs.Prelude.{ℕ, ◌+◌, Bool, true, false, not, ◌||◌, �
 use Rattle.std.specs.List.{count_by, list_any, find}
 use Rattle.std.specs.Option.{option_map, option_map_or}
 use Rattle.multi_tag.specs.declared.tag.Tag.TheVariants.{NewPage, NewLine, Font, Rect}
+use Rattle.multi_tag.specs.Just.{line_number, page_number}
 use Rattle.sign_font.specs.declared.parts.LineFill.{LineFill}
 use Rattle.sign_font.specs.Sign.{SignData, FontData, CellData, font_numbered, cell_numbered}
 use Rattle.multi_meaning.specs.Meaning.{Meaning, Shows, Does, Faulty, is_new_page}
@@ -20,11 +21,14 @@ first_code cases = option_map (λ c. c.1) (find (λ c. c.0) cases)
 
 -- a placing item has a group before that of an earlier one of its area (own)
 abbrev pub goes_back : Spot → Spot → Bool
-goes_back later earlier = nat_lt later.at.page_just earlier.at.page_just
+goes_back later earlier = nat_lt (page_number later.at.page_just) (page_number earlier.at.page_just)
 
 -- a character has a segment before that of an earlier one of its line, or one of them is full and the other isn't (own)
 abbrev pub clashes : Spot → Spot → Bool
-clashes later earlier = nat_lt later.at.line_just earlier.at.line_just || ((later.at.line_just == 5) && nat_lt earlier.at.line_just 5)
+clashes later earlier =
+    let just = line_number later.at.line_just in
+    let earlier_just = line_number earlier.at.line_just in
+    nat_lt just earlier_just || ((just == 5) && nat_lt earlier_just 5)
 
 -- tagConflict: a group goes back within the area, or a character's segment on its line (NTCIP 1203 v03,
 -- dmsMultiSyntaxError; what conflicts is own)

@@ -1,6 +1,7 @@
 -- The place of each character of an accepted string (NTCIP 1203 v03, MULTI tags 'jl' and 'jp').
 use Rattle.std.specs.Prelude.{ℕ, ◌+◌, ◌-◌, ◌*◌, ◌/◌, ◌==◌, List, [], ◌∷◌, ◌++◌, take, length, slice_index_or, Some, None, if◌then◌else◌}
 use Rattle.std.specs.List.{count_by}
+use Rattle.multi_tag.specs.Just.{line_number, page_number}
 use Rattle.sign_font.specs.Sign.{SignData}
 use Rattle.multi_meaning.specs.declared.place.Place.{Place}
 use Rattle.multi_meaning.specs.Meaning.{Meaning}
@@ -23,7 +24,7 @@ spread j k spare = j * spare / (k - 1)
 -- the bottom of its line, which stands under the counted lines before (own)
 unfoldable pub place_of : List Spot → List Spot → Spot → Place
 place_of before all spot =
-    let just = spot.at.line_just in
+    let just = line_number spot.at.line_just in
     let within = spot.at.rectangle in
     let k = count_by is_break (group_of spot before) in
     let lines = lines_of (group_of spot all) in
@@ -33,7 +34,7 @@ place_of before all spot =
       column = within.left + start just within.width (width_of part)
           + (width_of (part_before ++ spot ∷ []) - glyph_width spot)
           + (if just == 5 then spread (length part_before) (length part) (within.width - width_of part) else 0);
-      row = within.top + start spot.at.page_just within.height (height_of lines)
+      row = within.top + start (page_number spot.at.page_just) within.height (height_of lines)
           + (height_of (take (k + 1) lines) - spot.at.font.height);
     }
 

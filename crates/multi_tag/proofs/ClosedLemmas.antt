@@ -2,10 +2,12 @@
 use Rattle.std.proofs.Common.{◌≡◌, ℕ, ◌+◌, ◌^◌, ◌≤◌, false, true, List, [], ◌∷◌, ◌++◌, Option, Some, None, refl, sym, ap, ◌∙◌, inl, inr, arith, append_assoc}
 use Rattle.std.proofs.lemmas.Option.{none-some}
 use Rattle.std.proofs.lemmas.List.Elements.{All-head}
+use Rattle.std.specs.Prelude.{option_map}
 use Rattle.multi_tag.specs.declared.name.Name.{Name}
 use Rattle.multi_tag.specs.declared.name.Name.TheVariants as names
 use Rattle.multi_tag.specs.declared.tag.Tag.TheVariants.{NewLine, LineJust, PageJust, Font, CharSpacing, PageTime, Flash, Fore, Back, Rect}
 use Rattle.multi_tag.specs.Number.{IsDigit}
+use Rattle.multi_tag.specs.Just.{line_just_of, page_just_of}
 use Rattle.multi_tag.specs.Form.{Form, IsNumber, d, d?, h, ◌means◌, between}
 use Rattle.multi_tag.specs.Body.{table}
 use Rattle.multi_tag.specs.Part.{IsCut, IsPartBefore, HasNoPartBefore, HasOne, bounds, in_range, times}
@@ -59,8 +61,8 @@ number_lacks low high octets none front behind n is f = none front behind (Some 
 -- no number of the range before a bracket is no tag that has one at most
 pub one_no_part : (name : Name) → HasOne name → (octets : List ℕ) → HasNoPartBefore 93 (d? (bounds name).0 (bounds name).1) octets → HasNoPartBefore 93 (table name).rest octets
 one_no_part names.NewLine one octets none = means_no_part 93 (d? 0 255) NewLine octets none
-one_no_part names.LineJust one octets none = means_no_part 93 (d? 2 5) LineJust octets none
-one_no_part names.PageJust one octets none = means_no_part 93 (d? 2 4) PageJust octets none
+one_no_part names.LineJust one octets none = means_no_part 93 (d? 2 5) (λ just. LineJust (option_map line_just_of just)) octets none
+one_no_part names.PageJust one octets none = means_no_part 93 (d? 2 4) (λ just. PageJust (option_map page_just_of just)) octets none
 one_no_part names.CharSpacing one octets none = means_no_part 93 (d 0 255) CharSpacing octets (number_lacks 0 255 octets none)
 one_no_part names.Fore one octets none = means_no_part 93 (d? 0 9) Fore octets none
 one_no_part names.Back one octets none = means_no_part 93 (d? 0 9) Back octets none

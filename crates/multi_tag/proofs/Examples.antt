@@ -3,6 +3,8 @@ use Rattle.std.proofs.Common.{◌≡◌, ◌<◌, ◌≤◌, ℕ, true, false, [
 use Rattle.std.specs.Char.{digit_value}
 use Rattle.std.proofs.lemmas.List.Elements.{All-from_recursion}
 use Rattle.multi_tag.specs.declared.name.Name.TheVariants as names
+use Rattle.multi_tag.specs.declared.just.LineJust.TheVariants.{Left}
+use Rattle.multi_tag.specs.declared.just.PageJust.TheVariants.{Top}
 use Rattle.multi_tag.specs.declared.tag.Tag.TheVariants.{NewPage, NewLine, LineJust, PageJust, Font, CharSpacing, CharSpacingEnd, PageTime, Flash, Fore, Back, Rect, HexChar}
 use Rattle.multi_tag.specs.Number.{IsDigit, number}
 use Rattle.multi_tag.specs.Form.{IsNumber, d, h, d?}
@@ -122,11 +124,11 @@ least_gap : Spells (codes "nl0") (NewLine (Some 0))
 unfolding Spells SpellsSmall
 least_gap = (names.NewLine, codes "0", refl, (Some 0, a_nought, refl))
 
-least_justification_of_lines : Spells (codes "jl2") (LineJust (Some 2))
+least_justification_of_lines : Spells (codes "jl2") (LineJust (Some Left))
 unfolding Spells SpellsSmall
 least_justification_of_lines = (names.LineJust, codes "2", refl, (Some 2, inr (2, a_digit 10 5 2 5 50 2 (lit< tt) (lit≤ tt) refl (lit≤ tt) (lit≤ tt), refl), refl))
 
-least_justification_of_pages : Spells (codes "jp2") (PageJust (Some 2))
+least_justification_of_pages : Spells (codes "jp2") (PageJust (Some Top))
 unfolding Spells SpellsSmall
 least_justification_of_pages = (names.PageJust, codes "2", refl, (Some 2, inr (2, a_digit 10 5 2 4 50 2 (lit< tt) (lit≤ tt) refl (lit≤ tt) (lit≤ tt), refl), refl))
 

@@ -1,4 +1,5 @@
 mod Examples
+mod JustExamples
 pub mod AheadLemmas
 pub mod BodyLemmas
 pub mod ClosedLemmas
@@ -6,6 +7,7 @@ pub mod ClosedTagLemmas
 pub mod CutLemmas
 pub mod FontLemmas
 pub mod FormLemmas
+pub mod JustLemmas
 pub mod LongLemmas
 pub mod NameLemmas
 pub mod NumberLemmas

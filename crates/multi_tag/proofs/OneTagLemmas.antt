@@ -1,9 +1,11 @@
 -- A body spells one tag at most: row by row.
 use Rattle.std.proofs.Common.{◌≡◌, ℕ, true, false, List, ◌++◌, Option, Some, sym, ap, ◌∙◌, arith}
+use Rattle.std.specs.Prelude.{option_map}
 use Rattle.multi_tag.specs.declared.name.Name.{Name}
 use Rattle.multi_tag.specs.declared.name.Name.TheVariants as names
 use Rattle.multi_tag.specs.declared.tag.Tag.{Tag}
 use Rattle.multi_tag.specs.declared.tag.Tag.TheVariants.{NewLine, LineJust, PageJust, CharSpacing, PageTime, Fore, Back, Flash, Font, HexChar}
+use Rattle.multi_tag.specs.Just.{line_just_of, page_just_of}
 use Rattle.multi_tag.specs.Form.{Form, d, d?, h, between}
 use Rattle.multi_tag.specs.Body.{table, Spells, SpellsSmall, OneTagAtMost}
 use Rattle.std.proofs.lemmas.List.{append_cancel_left}
@@ -79,8 +81,8 @@ one_rect = one_meaning (part three) rect_of (before three (before two (before (d
 pub one_rest : (name : Name) (octets : List ℕ) (a b : Tag) → (table name).rest octets a → (table name).rest octets b → a ≡ b
 one_rest names.NewPage octets a b f g = f.1 ∙ sym g.1
 one_rest names.NewLine octets a b f g = one_meaning (d? 0 255) NewLine (one_optional 0 255) octets a b f g
-one_rest names.LineJust octets a b f g = one_meaning (d? 2 5) LineJust (one_optional 2 5) octets a b f g
-one_rest names.PageJust octets a b f g = one_meaning (d? 2 4) PageJust (one_optional 2 4) octets a b f g
+one_rest names.LineJust octets a b f g = one_meaning (d? 2 5) (λ just. LineJust (option_map line_just_of just)) (one_optional 2 5) octets a b f g
+one_rest names.PageJust octets a b f g = one_meaning (d? 2 4) (λ just. PageJust (option_map page_just_of just)) (one_optional 2 4) octets a b f g
 one_rest names.Font octets a b f g = one_font octets a b f g
 one_rest names.CharSpacing octets a b f g = one_meaning (d 0 255) CharSpacing (one_number 10 5 0 255) octets a b f g
 one_rest names.CharSpacingEnd octets a b f g = f.1 ∙ sym g.1

@@ -1,5 +1,7 @@
 -- Bodies, and their tags.
 use Rattle.std.proofs.Common.{◌≡◌, ℕ, true, false, List, [], ◌∷◌, map, Some, None, Result, Ok, Err, codes, refl}
+use Rattle.multi_tag.specs.declared.just.LineJust.TheVariants.{Left, Centre, Right, Full}
+use Rattle.multi_tag.specs.declared.just.PageJust.TheVariants.{Top, Middle, Bottom}
 use Rattle.multi_tag.specs.declared.tag.Tag.{Tag}
 use Rattle.multi_tag.specs.declared.tag.TagFault.{TagFault}
 use Rattle.multi_tag.specs.declared.tag.Tag.TheVariants.{NewPage, NewLine, LineJust, PageJust, Font, CharSpacing, CharSpacingEnd, PageTime, Flash, FlashEnd, Fore, Back, Rect, HexChar}
@@ -85,13 +87,14 @@ gaps_of_lines : tags_of (codes "nl" ∷ codes "nl0" ∷ codes "nl255" ∷ codes 
 unfolding tags_of
 gaps_of_lines = refl
 
-justifications_of_lines : tags_of (codes "jl" ∷ codes "jl1" ∷ codes "jl2" ∷ codes "jl5" ∷ codes "jl6" ∷ [])
-    ≡ Ok (LineJust None) ∷ Err Value ∷ Ok (LineJust (Some 2)) ∷ Ok (LineJust (Some 5)) ∷ Err Value ∷ []
+justifications_of_lines : tags_of (codes "jl" ∷ codes "jl1" ∷ codes "jl2" ∷ codes "jl3" ∷ codes "jl4" ∷ codes "jl5" ∷ codes "jl6" ∷ [])
+    ≡ Ok (LineJust None) ∷ Err Value ∷ Ok (LineJust (Some Left)) ∷ Ok (LineJust (Some Centre))
+    ∷ Ok (LineJust (Some Right)) ∷ Ok (LineJust (Some Full)) ∷ Err Value ∷ []
 unfolding tags_of
 justifications_of_lines = refl
 
-justifications_of_pages : tags_of (codes "jp" ∷ codes "jp1" ∷ codes "jp2" ∷ codes "jp4" ∷ codes "jp5" ∷ [])
-    ≡ Ok (PageJust None) ∷ Err Value ∷ Ok (PageJust (Some 2)) ∷ Ok (PageJust (Some 4)) ∷ Err Value ∷ []
+justifications_of_pages : tags_of (codes "jp" ∷ codes "jp1" ∷ codes "jp2" ∷ codes "jp3" ∷ codes "jp4" ∷ codes "jp5" ∷ [])
+    ≡ Ok (PageJust None) ∷ Err Value ∷ Ok (PageJust (Some Top)) ∷ Ok (PageJust (Some Middle)) ∷ Ok (PageJust (Some Bottom)) ∷ Err Value ∷ []
 unfolding tags_of
 justifications_of_pages = refl
 

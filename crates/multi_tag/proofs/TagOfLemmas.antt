@@ -1,18 +1,14 @@
 -- The table as a function gives what the table spells.
-use Rattle.std.proofs.Common.{◌≡◌, ℕ, ◌≤◌, List, Option, Some, None, Result, Ok, Err, length, drop, refl, sym, ap, subst, ◌∙◌, inl, inr}
+use Rattle.std.proofs.Common.{◌≡◌, ℕ, List, Option, Some, None, Result, Ok, Err, length, drop, refl, sym, ap, ◌∙◌}
 use Rattle.std.specs.Prelude.{◌↔◌, IfOk, ok_or}
 use Rattle.std.specs.Str.{str_to_ascii_lowercase}
 use Rattle.std.proofs.lemmas.Option.{none-some}
 use Rattle.multi_tag.specs.declared.name.Name.{Name}
-use Rattle.multi_tag.specs.declared.name.Name.TheVariants as names
 use Rattle.multi_tag.specs.declared.tag.Tag.{Tag}
-use Rattle.multi_tag.specs.declared.tag.Tag.TheVariants.{NewPage, NewLine, LineJust, PageJust, Font, CharSpacing, CharSpacingEnd, PageTime, Flash, FlashEnd, Fore, Back, Rect, HexChar}
 use Rattle.multi_tag.specs.declared.tag.TagFault.{TagFault}
 use Rattle.multi_tag.specs.declared.tag.TagFault.TheVariants.{Unsupported, Value}
-use Rattle.multi_tag.specs.Form.{d?}
 use Rattle.multi_tag.specs.Body.{table, Spells, SpellsSmall, HasName, HasNameAtFront, SpellsNoTag}
 use Rattle.multi_tag.specs.TagOf.{read_rest, listed, name_at_front, tag_behind, tag_of, TagOfIsTheTable}
-use Rattle.multi_tag.proofs.FormLemmas.{d?_d}
 use Rattle.multi_tag.proofs.TagRowLemmas.{rest_read, named, behind, begun, found}
 
 -- a tag is given where a name and a rest spell it
@@ -76,63 +72,3 @@ pub tag_of-read : (body : List ℕ) (result : Result Tag TagFault) → IfOk resu
 tag_of-read body (Ok tag) spelled unsupported value = tag_of-spelled body tag spelled
 tag_of-read body (Err Unsupported) spelled unsupported value = tag_of-unsupported body (unsupported.0 refl)
 tag_of-read body (Err Value) spelled unsupported value = let (has, none) = value.0 refl in tag_of-value body has none
-
--- the name of the row that spells a tag
-abbrev row_of : Tag → Name
-row_of NewPage = names.NewPage
-row_of (NewLine gap) = names.NewLine
-row_of (LineJust just) = names.LineJust
-row_of (PageJust just) = names.PageJust
-row_of (Font pick) = names.Font
-row_of (CharSpacing gap) = names.CharSpacing
-row_of CharSpacingEnd = names.CharSpacingEnd
-row_of (PageTime on off) = names.PageTime
-row_of (Flash off_first on off) = names.Flash
-row_of FlashEnd = names.FlashEnd
-row_of (Fore colour) = names.Fore
-row_of (Back colour) = names.Back
-row_of (Rect x y w h) = names.Rect
-row_of (HexChar number) = names.HexChar
-
-own_row : (name : Name) (rest : List ℕ) (tag : Tag) → (table name).rest rest tag → row_of tag ≡ name
-own_row names.NewPage rest tag (empty, is) = ap row_of is
-own_row names.NewLine rest tag (gap, f, is) = ap row_of is
-own_row names.LineJust rest tag (just, f, is) = ap row_of is
-own_row names.PageJust rest tag (just, f, is) = ap row_of is
-own_row names.Font rest tag (inl (empty, is)) = ap row_of is
-own_row names.Font rest tag (inr (inl (n, f, is))) = ap row_of is
-own_row names.Font rest tag (inr (inr (v, f, is))) = ap row_of is
-own_row names.CharSpacing rest tag (gap, f, is) = ap row_of is
-own_row names.CharSpacingEnd rest tag (empty, is) = ap row_of is
-own_row names.PageTime rest tag (inl (on, f, is)) = ap row_of is
-own_row names.PageTime rest tag (inr (v, f, is)) = ap row_of is
-own_row names.Flash rest tag (inl (empty, is)) = ap row_of is
-own_row names.Flash rest tag (inr (inl (on, f, is))) = ap row_of is
-own_row names.Flash rest tag (inr (inr (inl (v, f, is)))) = ap row_of is
-own_row names.Flash rest tag (inr (inr (inr (inl (off, f, is))))) = ap row_of is
-own_row names.Flash rest tag (inr (inr (inr (inr (v, f, is))))) = ap row_of is
-own_row names.FlashEnd rest tag (empty, is) = ap row_of is
-own_row names.Fore rest tag (colour, f, is) = ap row_of is
-own_row names.Back rest tag (colour, f, is) = ap row_of is
-own_row names.Rect rest tag (v, f, is) = ap row_of is
-own_row names.HexChar rest tag (number, f, is) = ap row_of is
-
--- the numbers of justifications
-just_in_range : (low high just : ℕ) (rest : List ℕ) (o : Option ℕ) → d? low high rest o → o ≡ Some just → (low ≤ just) × (just ≤ high)
-just_in_range low high just rest o f is =
-    let g = d?_d low high rest just (rw is at f) in
-    (g.above, g.below)
-
-pub line_just_known : (body : List ℕ) (just : ℕ) → Spells body (LineJust (Some just)) → (2 ≤ just) × (just ≤ 5)
-unfolding Spells SpellsSmall
-line_just_known body just (name, rest, is, f) =
-    let row : name ≡ names.LineJust = sym (own_row name rest (LineJust (Some just)) f) in
-    let (o, g, same) = subst (λ n. (table n).rest rest (LineJust (Some just))) row f in
-    just_in_range 2 5 just rest o g cc
-
-pub page_just_known : (body : List ℕ) (just : ℕ) → Spells body (PageJust (Some just)) → (2 ≤ just) × (just ≤ 4)
-unfolding Spells SpellsSmall
-page_just_known body just (name, rest, is, f) =
-    let row : name ≡ names.PageJust = sym (own_row name rest (PageJust (Some just)) f) in
-    let (o, g, same) = subst (λ n. (table n).rest rest (PageJust (Some just))) row f in
-    just_in_range 2 4 just rest o g cc

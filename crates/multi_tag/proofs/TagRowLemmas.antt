@@ -1,12 +1,13 @@
 -- Rows of the table: names as they are found, and what stands behind them as it is read.
 use Rattle.std.proofs.Common.{◌≡◌, ℕ, true, false, List, [], ◌∷◌, ◌++◌, Option, Some, None, length, drop, refl, sym, ap, inl, inr}
-use Rattle.std.specs.Prelude.{nat_eq, find}
+use Rattle.std.specs.Prelude.{nat_eq, find, option_map}
 use Rattle.std.specs.List.{starts_with}
 use Rattle.std.proofs.lemmas.Option.{none-some, same_Some}
 use Rattle.std.proofs.lemmas.Bool.{and_parts, cases_Bool, eqb-true}
 use Rattle.multi_tag.specs.declared.name.Name.{Name}
 use Rattle.multi_tag.specs.declared.name.Name.TheVariants as names
 use Rattle.multi_tag.specs.declared.tag.Tag.TheVariants.{NewPage, NewLine, LineJust, PageJust, Font, CharSpacing, CharSpacingEnd, PageTime, Flash, FlashEnd, Fore, Back, Rect, HexChar}
+use Rattle.multi_tag.specs.Just.{line_just_of, page_just_of}
 use Rattle.multi_tag.specs.Body.{table}
 use Rattle.multi_tag.specs.TagOf.{read_rest, name_at_front}
 use Rattle.multi_tag.proofs.PartLemmas.{comma_is_no_digit}
@@ -19,8 +20,8 @@ use Rattle.multi_tag.proofs.TagPartLemmas.{after_read, between_read}
 pub rest_read : (name : Name) → IsRead (table name).rest (read_rest name)
 rest_read names.NewPage = nothing_read NewPage
 rest_read names.NewLine = means_read NewLine (optional_read 0 255)
-rest_read names.LineJust = means_read LineJust (optional_read 2 5)
-rest_read names.PageJust = means_read PageJust (optional_read 2 4)
+rest_read names.LineJust = means_read (λ just. LineJust (option_map line_just_of just)) (optional_read 2 5)
+rest_read names.PageJust = means_read (λ just. PageJust (option_map page_just_of just)) (optional_read 2 4)
 rest_read names.Font =
     or_read (nothing_read (Font None))
     (or_read (means_read (λ n. Font (Some (record { number = n; version = None }))) (digits_read 10 5 1 255))

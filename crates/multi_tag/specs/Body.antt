@@ -1,5 +1,5 @@
 -- The table of tags: their names, and the forms of what follows a name.
-use Rattle.std.specs.Prelude.{◌≡◌, ℕ, false, true, List, ◌++◌, Some, None, Result, Ok, codes}
+use Rattle.std.specs.Prelude.{◌≡◌, ℕ, false, true, List, ◌++◌, Some, None, Result, Ok, codes, option_map}
 use Rattle.std.specs.Str.{str_to_ascii_lowercase}
 use Rattle.multi_tag.specs.declared.name.Name.{Name}
 use Rattle.multi_tag.specs.declared.name.Name.TheVariants as names
@@ -7,6 +7,7 @@ use Rattle.multi_tag.specs.declared.tag.Tag.{Tag}
 use Rattle.multi_tag.specs.declared.tag.Tag.TheVariants.{NewPage, NewLine, LineJust, PageJust, Font, CharSpacing, CharSpacingEnd, PageTime, Flash, FlashEnd, Fore, Back, Rect, HexChar}
 use Rattle.multi_tag.specs.declared.tag.TagFault.{TagFault}
 use Rattle.multi_tag.specs.Octet.{comma, letter_o, letter_t}
+use Rattle.multi_tag.specs.Just.{line_just_of, page_just_of}
 use Rattle.multi_tag.specs.Form.{Form, nothing, d, d?, h, ◌means◌, ◌or◌, after, between}
 
 -- a row of the table: a name, and the form of what follows it (NTCIP 1203 v03, MULTI)
@@ -19,8 +20,8 @@ pub record Row : Type 1 where
 abbrev pub table : Name → Row
 table names.NewPage = record { name = codes "np"; rest = nothing NewPage }
 table names.NewLine = record { name = codes "nl"; rest = d? 0 255 means NewLine }
-table names.LineJust = record { name = codes "jl"; rest = d? 2 5 means LineJust }
-table names.PageJust = record { name = codes "jp"; rest = d? 2 4 means PageJust }
+table names.LineJust = record { name = codes "jl"; rest = d? 2 5 means (λ just. LineJust (option_map line_just_of just)) }
+table names.PageJust = record { name = codes "jp"; rest = d? 2 4 means (λ just. PageJust (option_map page_just_of just)) }
 table names.Font = record {
   name = codes "fo";
   rest =

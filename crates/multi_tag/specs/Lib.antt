@@ -2,6 +2,7 @@ pub mod Body
 pub mod Closed
 pub mod Fault
 pub mod Form
+pub mod Just
 pub mod Number
 pub mod Octet
 pub mod Part

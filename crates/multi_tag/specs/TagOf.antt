@@ -11,6 +11,7 @@ use Rattle.multi_tag.specs.declared.tag.Tag.TheVariants.{NewPage, NewLine, LineJ
 use Rattle.multi_tag.specs.declared.tag.TagFault.{TagFault}
 use Rattle.multi_tag.specs.declared.tag.TagFault.TheVariants.{Unsupported, Value}
 use Rattle.multi_tag.specs.Number.{number}
+use Rattle.multi_tag.specs.Just.{line_just_of, page_just_of}
 use Rattle.multi_tag.specs.Octet.{comma, letter_o, letter_t}
 use Rattle.multi_tag.specs.Body.{table, Spells, HasName}
 
@@ -81,8 +82,8 @@ read_between octet first second octets =
 abbrev pub read_rest : Name → Reads Tag
 read_rest names.NewPage = read_nothing NewPage
 read_rest names.NewLine = decimal? 0 255 means NewLine
-read_rest names.LineJust = decimal? 2 5 means LineJust
-read_rest names.PageJust = decimal? 2 4 means PageJust
+read_rest names.LineJust = decimal? 2 5 means (λ just. LineJust (option_map line_just_of just))
+read_rest names.PageJust = decimal? 2 4 means (λ just. PageJust (option_map page_just_of just))
 read_rest names.Font =
     read_nothing (Font None)
     or decimal 1 255 means (λ n. Font (Some (record { number = n; version = None })))

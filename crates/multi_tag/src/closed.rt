@@ -9,6 +9,7 @@ ghost use Rattle.multi_tag.specs.Form.{d, d?, h};
 ghost use Rattle.multi_tag.specs.Number.{IsDigit};
 ghost use Rattle.multi_tag.specs.Part.{HasNoPartBefore, HasOne, IsPartBefore, bounds, times};
 
+use crate::just::{LineJust, PageJust};
 use crate::name::{Name, read_name};
 use crate::number::{in_range, read_numeral};
 use crate::rect::read_before_comma;
@@ -77,8 +78,8 @@ fn read_one(octets: &[u8], name: Name) -> Option<(Tag, &[u8])>
     let (value, behind) = read_optional(octets, low, high)?;
     match name {
         Name::NewLine => Some((Tag::NewLine(value), behind)),
-        Name::LineJust => Some((Tag::LineJust(value), behind)),
-        Name::PageJust => Some((Tag::PageJust(value), behind)),
+        Name::LineJust => Some((Tag::LineJust(value.map(LineJust::of)), behind)),
+        Name::PageJust => Some((Tag::PageJust(value.map(PageJust::of)), behind)),
         Name::CharSpacing => Some((Tag::CharSpacing(value?), behind)),
         Name::Fore => Some((Tag::Fore(value), behind)),
         Name::Back => Some((Tag::Back(value), behind)),

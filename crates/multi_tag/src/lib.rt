@@ -13,6 +13,7 @@ mod ahead;
 mod closed;
 mod font;
 mod hex_char;
+mod just;
 mod laws;
 mod name;
 mod number;
@@ -24,6 +25,7 @@ mod times;
 
 pub use ahead::read_ahead;
 pub use closed::read_closed;
+pub use just::{LineJust, PageJust};
 pub use laws::{no_long_body, one_tag_at_most, tag_of_is_the_table};
 pub use read::{read_body, read_tag};
 pub use tag::{FontPick, Tag, TagFault};

@@ -7,6 +7,7 @@ ghost use Rattle.multi_tag.specs.Part.{IsValueIn};
 
 use crate::font::read_font;
 use crate::hex_char::read_hex_char;
+use crate::just::{LineJust, PageJust};
 use crate::name::Name;
 use crate::number::read_optional;
 use crate::rect::read_rect;
@@ -21,8 +22,8 @@ pub fn read_rest(octets: &[u8], name: Name) -> Option<Tag>
     match name {
         Name::NewPage => read_nothing(octets, Tag::NewPage),
         Name::NewLine => Some(Tag::NewLine(read_optional(octets, 0, 255)?)),
-        Name::LineJust => Some(Tag::LineJust(read_optional(octets, 2, 5)?)),
-        Name::PageJust => Some(Tag::PageJust(read_optional(octets, 2, 4)?)),
+        Name::LineJust => Some(Tag::LineJust(read_optional(octets, 2, 5)?.map(LineJust::of))),
+        Name::PageJust => Some(Tag::PageJust(read_optional(octets, 2, 4)?.map(PageJust::of))),
         Name::Font => read_font(octets),
         Name::CharSpacing => Some(Tag::CharSpacing(read_optional(octets, 0, 255)??)),
         Name::CharSpacingEnd => read_nothing(octets, Tag::CharSpacingEnd),

@@ -3,6 +3,7 @@
 ghost use Rattle.std.specs.Prelude.{◌≡◌};
 ghost use Rattle.multi_tag.specs.Fault.{fault_code};
 
+use crate::just::{LineJust, PageJust};
 use thiserror::Error;
 
 /// A font, and the version that it must have (NTCIP 1203 v03, MULTI tag 'fo').
@@ -14,17 +15,17 @@ pub struct FontPick {
     pub version: Option<u16>,
 }
 
-/// The value of a tag (NTCIP 1203 v03, MULTI). `None` in place of a number stands for the sign's default.
+/// The value of a tag (NTCIP 1203 v03, MULTI). `None` stands for the sign's default.
 #[derive(Clone, Copy, Debug, PartialEq, Eq)]
 pub enum Tag {
     /// A new page ('np').
     NewPage,
     /// A new line, and the gap above it in pixels; `None` is the usual gap ('nl').
     NewLine(Option<u8>),
-    /// Line justification: left 2, centre 3, right 4, full 5 ('jl').
-    LineJust(Option<u8>),
-    /// Page justification: top 2, middle 3, bottom 4 ('jp').
-    PageJust(Option<u8>),
+    /// Line justification ('jl').
+    LineJust(Option<LineJust>),
+    /// Page justification ('jp').
+    PageJust(Option<PageJust>),
     /// A font ('fo').
     Font(Option<FontPick>),
     /// Character spacing in pixels ('sc').

@@ -8,7 +8,7 @@ use Rattle.multi_judge.specs.declared.pass.Pass.{Pass}
 use Rattle.multi_judge.specs.declared.item.KnownItem.{KnownItem}
 use Rattle.multi_judge.specs.declared.state.State.{State}
 use Rattle.multi_judge.specs.declared.table.LineTable.{LineTable}
-use Rattle.multi_judge.specs.KnownItem.{IsKnownItem, meant_by}
+use Rattle.multi_judge.specs.KnownItem.{meant_by}
 use Rattle.multi_judge.specs.Passed.{laid_area}
 use Rattle.multi_layout.specs.kept.AreaDrawing.{HasKnown, IsLow}
 use Rattle.multi_judge.specs.PassState.{IsPassOf}
@@ -30,7 +30,6 @@ pub record IsReadOf (words : Bool) (sign : SignData) (items : List Item) (presen
 -- this is read of one more item, and none offends with it (own)
 pub record IsNextRead (sign : SignData) (items : List Item) (item : Item) (read : KnownItem) : Type 0 where
   pub meant : meaning item ≡ meant_by read
-  pub known : IsKnownItem read
   pub fine : AreFine sign (items ++ item ∷ [])
 
 -- with one more item, of which this is read, these become of what is kept when items go on in this group (own)

@@ -8,7 +8,7 @@ use Rattle.multi_meaning.specs.Words.{each_after}
 use Rattle.multi_meaning.specs.kept.Fine.{IsAccepted, IsOrderly}
 use Rattle.multi_layout.specs.declared.cursor.Cursor.{Cursor}
 use Rattle.multi_judge.specs.declared.item.NextItem.{NextItem}
-use Rattle.multi_judge.specs.KnownItem.{meant_by, IsKnownItem}
+use Rattle.multi_judge.specs.KnownItem.{meant_by}
 use Rattle.multi_judge.specs.State.{IsStateOf}
 
 -- the offset is between these items of an accepted string (own)
@@ -58,13 +58,11 @@ IsWithin sign octets at = (before behind : List Item) × IsPlaced sign octets be
 -- this is read of an item (own)
 pub record IsItemRead (item : Item) (next : NextItem) : Type 0 where
   pub meant : meaning item ≡ meant_by next.item
-  pub known : IsKnownItem next.item
   pub len : next.len ≡ length (spelling item)
 
 -- this is a piece, by what it is laid out as (own)
 pub record IsRead (piece : LaidItem) (next : NextItem) : Type 0 where
   pub meant : meant piece ≡ meant_by next.item
-  pub known : IsKnownItem next.item
   pub len : next.len ≡ length (spelling piece.item)
 
 -- this is read of the first of these items, or there is none (own)

@@ -2,8 +2,7 @@
 use Rattle.std.specs.Prelude.{◌≡◌, ℕ, ◌+◌, ◌≤◌, true, List, [], ◌∷◌, ◌++◌, length, Some, if◌then◌else◌, ◌⊎◌}
 use Rattle.std.specs.Option.{unwrap_or}
 use Rattle.std.specs.List.{filter, list_any, after_last}
-use Rattle.multi_tag.specs.declared.tag.Tag.{Tag}
-use Rattle.multi_tag.specs.declared.tag.Tag.TheVariants.{LineJust, PageJust}
+use Rattle.multi_tag.specs.Just.{page_number}
 use Rattle.sign_font.specs.Sign.{SignData}
 use Rattle.multi_meaning.specs.Attributes.{given_font, given_line_just, given_page_just, given_spacing, given_fore, given_back, given_on, given_off, given_flash, given_rectangle}
 use Rattle.multi_meaning.specs.Meaning.{Meaning, begins_area, is_new_page}
@@ -33,12 +32,6 @@ standing_behind sign here x = record {
   rectangle = unwrap_or (given_rectangle sign x) here.rectangle;
 }
 
--- the justification that a tag gives is a known one (NTCIP 1203 v03, MULTI tags 'jl' and 'jp')
-abbrev pub IsKnown : Tag → Type 0
-IsKnown (LineJust (Some just)) = (2 ≤ just) × (just ≤ 5)
-IsKnown (PageJust (Some just)) = (2 ≤ just) × (just ≤ 4)
-IsKnown tag = Unit {0}
-
 -- a placing item: a character or the end of a line (NTCIP 1203 v03, MULTI tag 'nl')
 abbrev pub IsPlacing : Spot → Type 0
 IsPlacing s = (is_glyph s ≡ true) ⊎ (is_break s ≡ true)
@@ -47,14 +40,14 @@ IsPlacing s = (is_glyph s ≡ true) ⊎ (is_break s ≡ true)
 abbrev pub ended_lines : List Spot → List (List Spot)
 ended_lines group = filter (list_any is_break) (lines_of group)
 
--- the laid items of an area, whose group with this page justification is these items, filled, and those with one more character:
--- that group grows, the others stay, and none is behind it (own)
+-- the laid items of an area, whose group with the page justification of this number is these items, filled, and those with
+-- one more character: that group grows, the others stay, and none is behind it (own)
 pub record IsFilledOn (page_just width : ℕ) (group : List Spot) (s : Spot) (old new : List Spot) : Type 0 where
-  pub own : s.at.page_just ≡ page_just
+  pub own : page_number s.at.page_just ≡ page_just
   pub before : in_group page_just old ≡ filled (Some width) group
   pub after : in_group page_just new ≡ filled (Some width) (group ++ s ∷ [])
   pub others : (just : ℕ) → (just ≡ page_just → ⊥) → in_group just new ≡ in_group just old
-  pub last : largest (λ t. t.at.page_just) new ≡ page_just
+  pub last : largest (λ t. page_number t.at.page_just) new ≡ page_just
 
 -- the segments of a line are at most as wide as the widest sign, and its full characters at most so many (own)
 pub record IsNarrow (line : List Spot) : Type 0 where

@@ -1,5 +1,5 @@
 use crate::tests::so;
-use multi_tag::{FontPick, Tag, TagFault, read_ahead, read_closed, read_tag};
+use multi_tag::{FontPick, LineJust, PageJust, Tag, TagFault, read_ahead, read_closed, read_tag};
 use multi_token::{Kind, Source, next_token};
 
 /// What is read of a string that is one tag, and the steps of reading it; `None` where it is no tag.
@@ -31,18 +31,21 @@ fn rect(x: u32, y: u32, w: u32, h: u32) -> Tag {
 
 #[test]
 fn listed_bodies_are_tags(rt: HostRuntime) {
-    let rows: [(&[u8], Tag); 51] = [
+    let rows: [(&[u8], Tag); 54] = [
         (b"[np]", Tag::NewPage),
         (b"[nl]", Tag::NewLine(None)),
         (b"[nl0]", Tag::NewLine(Some(0))),
         (b"[nl00012]", Tag::NewLine(Some(12))),
         (b"[nl255]", Tag::NewLine(Some(255))),
         (b"[jl]", Tag::LineJust(None)),
-        (b"[jl2]", Tag::LineJust(Some(2))),
-        (b"[jl5]", Tag::LineJust(Some(5))),
+        (b"[jl2]", Tag::LineJust(Some(LineJust::Left))),
+        (b"[JL003]", Tag::LineJust(Some(LineJust::Centre))),
+        (b"[jl4]", Tag::LineJust(Some(LineJust::Right))),
+        (b"[jl5]", Tag::LineJust(Some(LineJust::Full))),
         (b"[jp]", Tag::PageJust(None)),
-        (b"[jp2]", Tag::PageJust(Some(2))),
-        (b"[jp4]", Tag::PageJust(Some(4))),
+        (b"[jp2]", Tag::PageJust(Some(PageJust::Top))),
+        (b"[jp3]", Tag::PageJust(Some(PageJust::Middle))),
+        (b"[jp4]", Tag::PageJust(Some(PageJust::Bottom))),
         (b"[fo]", Tag::Font(None)),
         (b"[FO01]", font(1, None)),
         (b"[fo255]", font(255, None)),

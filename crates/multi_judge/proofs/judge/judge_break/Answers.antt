@@ -18,7 +18,7 @@ returns-then-fits_with_break-clause-judged g c = λ sign items st unfilled.
     let state = c.args.state.now in
     let new = c.put_break.new.self in
     let added = c.put_break.ensures.added c.if-not-put_break.false in
-    let told = break_told sign items state new st c.args.gap added c.requires.page_just (not (g.row.WORDS == 0)) c.fits_with_break.result c.fits_with_break.ensures.sums c.fits_with_break.ensures.limits unfilled in
+    let told = break_told sign items state new st c.args.gap added (not (g.row.WORDS == 0)) c.fits_with_break.result c.fits_with_break.ensures.sums c.fits_with_break.ensures.limits unfilled in
     let (fine, behind) = break-exit-fits sign items state st c.args.gap (not c.put_break.result) c.put_break.ensures.conflicts new.area added.sum
     c.fits_with_break.result told (ap not c.if-not-put_break.false) c.if-fits_with_break.true (added.grows (1024 * length items) st.below) in
     (fine, state-limits sign (items ++ Does (NewLine c.args.gap) ∷ []) state new added.same behind)
@@ -28,6 +28,6 @@ returns-else-fits_with_break-clause-judged g c = λ sign items st unfilled.
     let state = c.args.state.now in
     let new = c.put_break.new.self in
     let added = c.put_break.ensures.added c.if-not-put_break.false in
-    let told = break_told sign items state new st c.args.gap added c.requires.page_just (not (g.row.WORDS == 0)) c.fits_with_break.result c.fits_with_break.ensures.sums c.fits_with_break.ensures.limits unfilled in
+    let told = break_told sign items state new st c.args.gap added (not (g.row.WORDS == 0)) c.fits_with_break.result c.fits_with_break.ensures.sums c.fits_with_break.ensures.limits unfilled in
     break-exit-too_big sign items state st c.args.gap (not c.put_break.result) c.put_break.ensures.conflicts new.area added.sum
     c.fits_with_break.result told (ap not c.if-not-put_break.false) c.if-fits_with_break.false

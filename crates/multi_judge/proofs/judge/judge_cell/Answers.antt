@@ -24,7 +24,7 @@ returns-then-is_within-clause-judged c = λ sign items of own.
     let state = c.args.state.now in
     let new = c.put_character.new.self in
     let added = c.put_character.ensures.added c.if-not-put_character.false in
-    let fits = added_fits state new c.args.width added of.limited c.requires.line_just c.requires.page_just in
+    let fits = added_fits state new c.args.width added of.limited in
     let (fine, st) = character-exit-fits sign items state of.state_is c.args.number cell some (not c.put_character.result) c.put_character.ensures.conflicts
     (character_of state.attributes c.args.width) new.area refl refl wide refl added.sum c.is_within.result
     (λ before s glyph sum on own w h without. c.is_within.ensures ∙ fits before s glyph sum on own w h without) (fits_without sign items of.fine)
@@ -37,7 +37,7 @@ returns-else-is_within-clause-judged c = λ sign items of own.
     let state = c.args.state.now in
     let new = c.put_character.new.self in
     let added = c.put_character.ensures.added c.if-not-put_character.false in
-    let fits = added_fits state new c.args.width added of.limited c.requires.line_just c.requires.page_just in
+    let fits = added_fits state new c.args.width added of.limited in
     character-exit-too_big sign items state of.state_is c.args.number cell some (not c.put_character.result) c.put_character.ensures.conflicts
     (character_of state.attributes c.args.width) new.area refl refl wide refl added.sum c.is_within.result
     (λ before s glyph sum on own w h without. c.is_within.ensures ∙ fits before s glyph sum on own w h without) (fits_without sign items of.fine)

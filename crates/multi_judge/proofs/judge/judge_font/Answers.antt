@@ -4,7 +4,7 @@ use Rattle.multi_judge.proofs.judge.judge_font.Goals as goal
 
 pub returns-in_default-clause-judged : goal.returns-in_default-clause-judged
 returns-in_default-clause-judged c = λ items st.
-    rw c.in_default.is (judged-default_font c.args.sign.now items c.args.state.now st (rw (← c.sign.view_is) c.sign.invariant.0) c.sign.inside.font (rw (← c.sign.view_is) c.sign.invariant.1))
+    rw c.in_default.is (judged-default_font c.args.sign.now items c.args.state.now st c.sign.inside.font (rw (← c.sign.view_is) c.sign.invariant.1))
 
 pub returns-in_default-font-clause-judged : goal.returns-in_default-font-clause-judged
 returns-in_default-font-clause-judged c = λ items st.
@@ -12,7 +12,7 @@ returns-in_default-font-clause-judged c = λ items st.
 
 pub returns-then-agrees-clause-judged : goal.returns-then-agrees-clause-judged
 returns-then-agrees-clause-judged c = λ items st.
-    rw c.in-Some.is (judged-picked c.args.sign.now items c.args.state.now st (rw (← c.sign.view_is) c.sign.invariant.0) c.in-Some.pick c.in-Some-font.font (rw (← c.sign.view_is) (sym c.font.ensures.font ∙ c.in-Some-font.is)) (sym c.agrees.ensures ∙ c.if-agrees.true))
+    rw c.in-Some.is (judged-picked c.args.sign.now items c.args.state.now st c.in-Some.pick c.in-Some-font.font (rw (← c.sign.view_is) (sym c.font.ensures.font ∙ c.in-Some-font.is)) (sym c.agrees.ensures ∙ c.if-agrees.true))
 
 pub returns-else-agrees-clause-judged : goal.returns-else-agrees-clause-judged
 returns-else-agrees-clause-judged c = λ items st.

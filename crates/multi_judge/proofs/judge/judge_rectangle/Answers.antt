@@ -31,7 +31,7 @@ returns-clause-judged c = λ items st.
       judged-rectangle sign items c.args.state.now st c.args.x c.args.y c.args.w c.args.h ∙ ap (λ b. cond {A = Option ℕ} b None (Some 4)) fine,
       state-rectangle sign items c.args.state.now _ c.args.x c.args.y c.args.w c.args.h st refl refl
           (rw (across.3, across.4, down.3, high) (ap (λ (a : Attributes). let b : Attributes = record a { rectangle = rectangle sign c.args.x c.args.y c.args.w c.args.h } in b) st.attributes))
-          c.new-state.ensures.sum c.requires.line_just c.requires.page_just c.new-state.ensures.below,
+          c.new-state.ensures.sum c.new-state.ensures.below,
     )
 
 pub returns-clause-limited : goal.returns-clause-limited

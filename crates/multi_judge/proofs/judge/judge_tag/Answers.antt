@@ -12,7 +12,7 @@ returns-in_default-clause-judged g c = λ items st unfilled.
     let sign = c.args.sign.now in
     let simple = simple_of c.args.tag c.in_default.not-NewPage c.in_default.not-NewLine c.in_default.not-Font c.in_default.not-Rect in
     let after = c.set.ensures.set sign (standing sign items) (sym (ap (λ (s : SignData). s.defaults) c.sign.view_is)) st.attributes simple in
-    judged-simple sign items c.args.state.now st (rw (← c.sign.view_is) c.sign.invariant.0) c.set.new.self c.args.tag simple c.requires.known after
+    judged-simple sign items c.args.state.now st c.set.new.self c.args.tag simple after
 
 pub returns-in_default-clause-limited : goal.returns-in_default-clause-limited
 returns-in_default-clause-limited g c = λ limited.

@@ -1,6 +1,7 @@
-use Rattle.std.proofs.Common.{◌≡◌, ◌∷◌, ◌++◌, ◌==◌, ◌^◌, [], ap, ◌∙◌, take}
+use Rattle.std.proofs.Common.{◌≡◌, ◌∷◌, ◌++◌, ◌==◌, ◌^◌, [], sym, ap, ◌∙◌, take}
 use Rattle.std.specs.Prelude.{slice_index_or}
 use Rattle.std.specs.List.{after_last, count_by}
+use Rattle.multi_tag.specs.Just.{line_number}
 use Rattle.multi_meaning.specs.Address.{is_break, lines_of}
 use Rattle.multi_meaning.proofs.DroppedLemmas.{full_known}
 use Rattle.multi_meaning.proofs.EndedLemmas.{ended_count}
@@ -17,7 +18,8 @@ width-requires-clause-known c = (c.group_for-group.ensures.below (2 ^ 43) c.requ
 pub returns : goal.returns
 returns c = record {
   full = λ front back spots y area order own lines placing stands.
-      let just = c.args.attributes.now.line_just in
+      let just = c.number-just.result in
+      let known = c.number-just.ensures.known in
       let all_lines = lines_of (front ++ y ∷ back) in
       let k = count_by is_break front in
       let sum : c.group_for-group.result ≡ group_sum front = c.group_for-group.ensures.sum spots area order ∙ ap group_sum own in
@@ -25,6 +27,6 @@ returns c = record {
       let entry = counted_line (take k all_lines) (slice_index_or all_lines k []) in
       let line : c.line_at-line.result ≡ entry = c.line_at-line.ensures.line entry (rw (lines, ended) (look_up all_lines k (line_is_there front back y))) in
       let wide = c.width.ensures.sum (after_last is_break front) (ap (λ (g : Group). g.line) sum) in
-      let there = c.width-2.ensures ∙ ap (width_in just) line ∙ width_in_is (take k all_lines) (slice_index_or all_lines k []) just c.requires.line_just.0 c.requires.line_just.1 in
-      (λ i. wide i == there i) ∙ full_known just front y back placing stands;
+      let there = c.width-2.ensures ∙ ap (width_in just) line ∙ width_in_is (take k all_lines) (slice_index_or all_lines k []) just known.0 known.1 in
+      (λ i. wide i == there i) ∙ full_known just front y back placing (λ g. (ap line_number (stands g).0 ∙ sym c.number-just.ensures.number, (stands g).1));
 }

@@ -1,4 +1,5 @@
 use Rattle.std.proofs.Common.{◌≤◌, ◌^◌, ap, subst, arith}
+use Rattle.multi_tag.specs.Just.{page_number}
 use Rattle.multi_meaning.specs.Address.{Spot, area_of, group_of, lines_of, line_before}
 use Rattle.multi_meaning.specs.Words.{largest}
 use Rattle.multi_judge.specs.declared.attributes.Attributes.{Attributes}
@@ -12,9 +13,9 @@ row_at-requires c =
 
 pub returns-clause-place : goal.returns-clause-place
 returns-clause-place c before all spot glyph at width area lines there apart order =
-    let page = ap (λ (a : Attributes). a.page_just) at in
-    let (ended, line) = group_with before spot c.args.area.now glyph area (subst (λ n. largest (λ (t : Spot). t.at.page_just) (area_of spot before) ≤ n) page order) in
+    let page = ap (λ (a : Attributes). page_number a.page_just) at in
+    let (ended, line) = group_with before spot c.args.area.now glyph area (subst (λ n. largest (λ (t : Spot). page_number t.at.page_just) (area_of spot before) ≤ n) page order) in
     place_from before all spot c.args.attributes.now c.args.area.now.group c.args.lines.now c.line_at-line.result c.column_at.result c.row_at.result c.height.result
-    at c.requires.line_just ended lines there c.line_at-line.ensures.line
+    at ended lines there c.line_at-line.ensures.line
     (c.column_at.ensures.column (line_before before spot) spot glyph at width line apart)
     (c.height.ensures (lines_of (group_of spot all)) lines) (rw c.from.ensures at c.row_at.ensures.row)

@@ -26,11 +26,7 @@ returns-then-bracket-eq93-clause-fault_steps c =
 
 pub returns-in-Some-clause-item : goal.returns-in-Some-clause-item
 returns-in-Some-clause-item c =
-    rw c.said.ensures.meant (tag_at c.args.source.now.octets c.args.at c.in-Some.tag c.in-Some.len (subst (λ (os : List ℕ). IsTagAt os c.args.at c.in-Some.tag c.in-Some.len) (ap (λ (s : Counted). s.octets) c.read.ensures.step) c.in-Some.ensures.some)).0
-
-pub returns-in-Some-clause-known : goal.returns-in-Some-clause-known
-returns-in-Some-clause-known c =
-    c.said.ensures.known (tag_at c.read.new.self.octets c.args.at c.in-Some.tag c.in-Some.len c.in-Some.ensures.some).1
+    rw c.said.ensures.meant (tag_at c.args.source.now.octets c.args.at c.in-Some.tag c.in-Some.len (subst (λ (os : List ℕ). IsTagAt os c.args.at c.in-Some.tag c.in-Some.len) (ap (λ (s : Counted). s.octets) c.read.ensures.step) c.in-Some.ensures.some))
 
 pub returns-in-Some-clause-steps : goal.returns-in-Some-clause-steps
 returns-in-Some-clause-steps c =

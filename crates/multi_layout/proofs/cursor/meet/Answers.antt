@@ -15,4 +15,4 @@ returns-then-not-is_bracket-clause-met c =
     let plain : is_bracket first ≡ false = sym c.is_bracket.ensures ∙ c.if-not-is_bracket.true in
     let other = λ (bracket : ℕ) (is : is_bracket bracket ≡ true) (e : first ≡ bracket). false≢true (sym plain ∙ (ap is_bracket e ∙ is)) in
     let token = single_token octets at first c.requires.room c.requires.stands (other 91 refl, other 93 refl) in
-    (refl, λ before behind b. rw c.from.ensures (item_is c.args.sign.now octets before behind at b (record { item = known.Char first; len = 1 }) (record { at = at; len = 1; kind = kinds.Char first }, refl, refl, token, refl) tt))
+    (refl, λ before behind b. rw c.from.ensures (item_is c.args.sign.now octets before behind at b (record { item = known.Char first; len = 1 }) (record { at = at; len = 1; kind = kinds.Char first }, refl, refl, token, refl)))

@@ -10,30 +10,29 @@ use Rattle.sign_font.specs.Sign.{SignData}
 use Rattle.multi_meaning.specs.Codes.{code_of}
 use Rattle.multi_meaning.specs.Meaning.{Does, said_by}
 use Rattle.multi_meaning.specs.kept.ItemAt.{IsFaultAt}
-use Rattle.multi_meaning.specs.kept.Present.{IsKnown}
 use Rattle.multi_meaning.proofs.ItemAtLemmas.{ahead_steps, doubled_at, read_is, read_not, tag_at}
 use Rattle.multi_judge.specs.declared.item.KnownItem.{KnownItem}
 use Rattle.multi_judge.specs.declared.item.KnownItem.TheVariants as known
 use Rattle.multi_judge.specs.declared.item.NextItem.{NextItem}
 use Rattle.multi_layout.specs.kept.Settings.{IsNextAt}
-use Rattle.multi_judge.specs.KnownItem.{IsKnownItem, is_setting, meant_by}
+use Rattle.multi_judge.specs.KnownItem.{is_setting, meant_by}
 use Rattle.multi_layout.proofs.SettingLemmas.{never_refused, said_setting, setting_fine}
 use Rattle.multi_layout.proofs.WalkLemmas.{item_is, no_fault}
 use Rattle.multi_layout.proofs.cursor.meet_bracket.Goals as goal
 
 -- what was read of a tag is read of the first item
-tag_first : (sign : SignData) (octets octets' : List ℕ) (at : ℕ) (tag : Tag) (len : ℕ) (item : KnownItem) → octets' ≡ octets → IsTagAt octets' at tag len → meant_by item ≡ said_by tag → (IsKnown tag → IsKnownItem item)
+tag_first : (sign : SignData) (octets octets' : List ℕ) (at : ℕ) (tag : Tag) (len : ℕ) (item : KnownItem) → octets' ≡ octets → IsTagAt octets' at tag len → meant_by item ≡ said_by tag
     → IsNextAt sign octets at (record { item = item; len = len })
-tag_first sign octets octets' at tag len item same there means known before behind p =
-    let (is, fine) = tag_at octets at tag len (subst (λ (os : List ℕ). IsTagAt os at tag len) same there) in
-    item_is sign octets before behind at p (record { item = item; len = len }) (rw means is) (known fine)
+tag_first sign octets octets' at tag len item same there means before behind p =
+    let is = tag_at octets at tag len (subst (λ (os : List ℕ). IsTagAt os at tag len) same there) in
+    item_is sign octets before behind at p (record { item = item; len = len }) (rw means is)
 
 pub returns-then-eq-clause-met : goal.returns-then-eq-clause-met
 returns-then-eq-clause-met c =
     let octets = c.args.source.now.octets in
     let next = sym c.read.ensures.octet ∙ read_is c.read.result c.args.bracket (sym c.if-eq.true ∙ c.eq.ensures) in
     let stands = doubled_at octets c.args.at c.args.bracket c.requires.begins.room c.requires.bracket c.requires.begins.stands next in
-    (refl, λ before behind p. rw c.from.ensures (item_is c.args.sign.now octets before behind c.args.at p (record { item = known.Char c.args.bracket; len = 2 }) stands tt))
+    (refl, λ before behind p. rw c.from.ensures (item_is c.args.sign.now octets before behind c.args.at p (record { item = known.Char c.args.bracket; len = 2 }) stands))
 
 pub unreachable-requires : goal.unreachable-requires
 unreachable-requires c =
@@ -54,7 +53,7 @@ unreachable-requires-in_default c =
 pub returns-then-not-is_setting-clause-met : goal.returns-then-not-is_setting-clause-met
 returns-then-not-is_setting-clause-met c =
     let same = ap (λ (s : Counted). s.octets) c.read.ensures.step in
-    (refl, tag_first c.args.sign.now c.args.source.now.octets c.read.new.self.octets c.args.at c.in-Some.tag c.in-Some.len c.said-item.result same c.in-Some.ensures.some c.said-item.ensures.meant c.said-item.ensures.known)
+    (refl, tag_first c.args.sign.now c.args.source.now.octets c.read.new.self.octets c.args.at c.in-Some.tag c.in-Some.len c.said-item.result same c.in-Some.ensures.some c.said-item.ensures.meant)
 
 pub returns-then-not-is_setting-clause-steps : goal.returns-then-not-is_setting-clause-steps
 returns-then-not-is_setting-clause-steps c =
@@ -63,9 +62,6 @@ returns-then-not-is_setting-clause-steps c =
     let k = min 26 (length c.read.new.self.octets - (c.args.at + 1)) in
     let (low, high) = ahead_steps c.args.source.now.octets c.args.at c.in-Some.tag c.in-Some.len (1 + k) there (ap (λ (os : List ℕ). 1 + min 26 (length os - (c.args.at + 1))) same) in
     (1 + k, omega arith, high, c.in-Some.ensures.steps ∙ ap (λ (s : Counted). charged s k) c.read.ensures.step ∙ charged-charged c.args.source.now 1 k)
-
-pub judge_tag-requires-clause-known : goal.judge_tag-requires-clause-known
-judge_tag-requires-clause-known c = (tag_at c.read.new.self.octets c.args.at c.in-Some.tag c.in-Some.len c.in-Some.ensures.some).1
 
 -- it is a setting
 means_it : (tag : Tag) (item : KnownItem) → meant_by item ≡ said_by tag → is_setting (meant_by item) ≡ true → (meant_by item ≡ Does tag) × (is_setting (Does tag) ≡ true)
@@ -81,7 +77,7 @@ unreachable-requires-in_default-judge_tag c =
     let (items, st) = c.requires.begins.behind in
     let next : NextItem = record { item = c.said-item.result; len = c.in-Some.len } in
     let (means, setting) = means_it c.in-Some.tag c.said-item.result c.said-item.ensures.meant (sym c.is_setting.ensures ∙ c.if-not-is_setting.false) in
-    let first = tag_first sign octets c.read.new.self.octets c.args.at c.in-Some.tag c.in-Some.len c.said-item.result (ap (λ (s : Counted). s.octets) c.read.ensures.step) c.in-Some.ensures.some c.said-item.ensures.meant c.said-item.ensures.known before behind p in
+    let first = tag_first sign octets c.read.new.self.octets c.args.at c.in-Some.tag c.in-Some.len c.said-item.result (ap (λ (s : Counted). s.octets) c.read.ensures.step) c.in-Some.ensures.some c.said-item.ensures.meant before behind p in
     never_refused sign c.in-Some.tag c.judge_tag.new.state (setting_fine sign octets before behind c.args.at p next first c.in-Some.tag means setting) c.in_default-judge_tag.field-0 items
     (c.in_default-judge_tag.ensures.judged items st (λ off. absurd cc))
 
@@ -91,7 +87,7 @@ returns-clause-met c =
     let same = ap (λ (s : Counted). s.octets) c.read.ensures.step in (
       c.in-Some.tag,
       record { setting = setting; judged = λ items st. c.in-Ok.ensures.judged items st (λ off. absurd cc); limited = c.in-Ok.ensures.limited },
-      tag_first c.args.sign.now c.args.source.now.octets c.read.new.self.octets c.args.at c.in-Some.tag c.in-Some.len (known.Tag c.in-Some.tag) same c.in-Some.ensures.some (sym means ∙ c.said-item.ensures.meant) (λ fine. fine),
+      tag_first c.args.sign.now c.args.source.now.octets c.read.new.self.octets c.args.at c.in-Some.tag c.in-Some.len (known.Tag c.in-Some.tag) same c.in-Some.ensures.some (sym means ∙ c.said-item.ensures.meant),
     )
 
 pub returns-clause-steps : goal.returns-clause-steps

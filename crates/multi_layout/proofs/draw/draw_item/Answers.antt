@@ -44,14 +44,14 @@ place_at-place-requires-clause-below c =
     let (before, rest, item, h) = c.requires.known in
     let found : cell_in c.args.sign.now c.args.cursor.now.state.attributes.font.number c.in-Char.number ≡ Some c.in-Some.cell = rw (← c.sign.view_is) (sym c.cell.ensures.cell ∙ c.in-Some.is) in
     let new = c.pass_character.ensures.passed c.args.sign.now c.args.source.now.octets (ap (option_map (λ (c : SizedCell). c.width)) found ∙ ap Some (sym c.width-width.ensures)) before rest item h.between
-    (record { meant = h.read_is.meant ∙ ap meant_by c.in-Char.is; known = tt; len = h.read_is.len }) in
+    (record { meant = h.read_is.meant ∙ ap meant_by c.in-Char.is; len = h.read_is.len }) in
     below_more (2 ^ 42) (2 ^ 43) c.pass_character.new.self.state.area (omega arith) (low_between c.args.sign.now c.args.source.now.octets (before ++ item ∷ []) rest c.pass_character.new.self new)
 
 pub returns-in-Some-clause-passed : goal.returns-in-Some-clause-passed
 returns-in-Some-clause-passed c = λ before rest item b read.
     let sign = c.args.sign.now in
     let found : cell_in sign c.args.cursor.now.state.attributes.font.number c.in-Char.number ≡ Some c.in-Some.cell = rw (← c.sign.view_is) (sym c.cell.ensures.cell ∙ c.in-Some.is) in
-    c.pass_character.ensures.passed sign c.args.source.now.octets (ap (option_map (λ (c : SizedCell). c.width)) found ∙ ap Some (sym c.width-width.ensures)) before rest item b (record { meant = read.meant ∙ ap meant_by c.in-Char.is; known = tt; len = read.len })
+    c.pass_character.ensures.passed sign c.args.source.now.octets (ap (option_map (λ (c : SizedCell). c.width)) found ∙ ap Some (sym c.width-width.ensures)) before rest item b (record { meant = read.meant ∙ ap meant_by c.in-Char.is; len = read.len })
 
 pub returns-in-Some-clause-drawn : goal.returns-in-Some-clause-drawn
 returns-in-Some-clause-drawn c = λ before rest item h plain.
@@ -66,7 +66,7 @@ returns-in-Some-clause-drawn c = λ before rest item h plain.
     let fine = ap (unsized_offence sign (map meant before)) (sym shows) ∙ never_offends sign c.args.source.now.octets before rest item c.args.cursor.now b in
     let lines = subst (λ (ms : List Meaning). HasCounted (in_area k (spots sign ms)) c.args.lines.now) (map_split before rest item (Shows number) shows) h.counted in
     let area = c.pass_character.new.self.state.area in
-    let new = c.pass_character.ensures.passed sign c.args.source.now.octets (ap (option_map (λ (c : SizedCell). c.width)) found ∙ ap Some (sym c.width-width.ensures)) before rest item b (record { meant = shows; known = tt; len = read.len }) in
+    let new = c.pass_character.ensures.passed sign c.args.source.now.octets (ap (option_map (λ (c : SizedCell). c.width)) found ∙ ap Some (sym c.width-width.ensures)) before rest item b (record { meant = shows; len = read.len }) in
     let placed = subst (λ lines. PlacesCharacter state.attributes area lines c.in-Some.cell.width c.place_at-place.result) c.group-lines.ensures.lines
     (subst (λ n. PlacesCharacter state.attributes area c.group-lines.result.now n c.place_at-place.result) c.width-width.ensures c.place_at-place.ensures.place) in
     let stands = stands_at sign (map meant before) state b.state_is number c.in-Some.cell found (map meant rest) c.args.lines.now lines c.place_at-place.result
@@ -84,7 +84,7 @@ returns-in-Some-clause-beside c =
     let b = h.between in
     let read = h.read_is in
     let shows : meant item ≡ Shows number = read.meant ∙ ap meant_by c.in-Char.is in
-    let new = c.pass_character.ensures.passed sign c.args.source.now.octets (ap (option_map (λ (c : SizedCell). c.width)) found ∙ ap Some (sym c.width-width.ensures)) before rest item b (record { meant = shows; known = tt; len = read.len }) in
+    let new = c.pass_character.ensures.passed sign c.args.source.now.octets (ap (option_map (λ (c : SizedCell). c.width)) found ∙ ap Some (sym c.width-width.ensures)) before rest item b (record { meant = shows; len = read.len }) in
     let same : c.pass_character.new.self.state.attributes ≡ state.attributes =
     new.state_is.attributes ∙ ap (λ ms. attributes_of (standing sign ms)) (map_split before [] item (Shows number) shows) ∙ ap attributes_of (same_standing sign (map meant before) number) ∙ sym b.state_is.attributes in
     IfSome_then c.beside.result c.beside.ensures
@@ -98,7 +98,7 @@ returns-in-Some-clause-beside c =
           let fine = ap (unsized_offence sign items) (sym shows) ∙ never_offends sign c.args.source.now.octets before rest item c.args.cursor.now b in
           let lines = subst (λ (ms : List Meaning). HasCounted (in_area (standing sign items).area (spots sign ms)) c.args.lines.now) all h.counted in
           let area = c.pass_character.new.self.state.area in
-          let new = c.pass_character.ensures.passed sign c.args.source.now.octets (ap (option_map (λ (c : SizedCell). c.width)) found ∙ ap Some (sym c.width-width.ensures)) before rest item b (record { meant = shows; known = tt; len = read.len }) in
+          let new = c.pass_character.ensures.passed sign c.args.source.now.octets (ap (option_map (λ (c : SizedCell). c.width)) found ∙ ap Some (sym c.width-width.ensures)) before rest item b (record { meant = shows; len = read.len }) in
           let placed = subst (λ lines. PlacesCharacter state.attributes area lines c.in-Some.cell.width c.place_at-place.result) c.group-lines.ensures.lines
           (subst (λ n. PlacesCharacter state.attributes area c.group-lines.result.now n c.place_at-place.result) c.width-width.ensures c.place_at-place.ensures.place) in
           let stands = stands_at sign items state b.state_is number c.in-Some.cell found (map meant rest) c.args.lines.now lines c.place_at-place.result
@@ -109,7 +109,7 @@ returns-in-Some-clause-beside c =
           let wide = ap (λ n. let p : Place = record { column = c.place_at-place.result.column + (n + unwrap_or state.attributes.spacing state.attributes.font.char_spacing); row = c.place_at-place.result.row } in p) (sym c.width-width.ensures) in
           subst (NextStandsAt sign (map meant (before ++ item ∷ [])) (map meant (before ++ item ∷ rest))) (wide ∙ sym is.2)
           (subst (λ ms. NextStandsAt sign ms (map meant (before ++ item ∷ rest)) here) (sym (map_split before [] item (Shows number) shows)) behind);
-      behind = c.pass_character.ensures.behind sign c.args.source.now.octets (ap (option_map (λ (c : SizedCell). c.width)) found ∙ ap Some (sym c.width-width.ensures)) (before, rest, item, b, record { meant = shows; known = tt; len = read.len });
+      behind = c.pass_character.ensures.behind sign c.args.source.now.octets (ap (option_map (λ (c : SizedCell). c.width)) found ∙ ap Some (sym c.width-width.ensures)) (before, rest, item, b, record { meant = shows; len = read.len });
       apart = λ five. is.0 (ap (λ (a : Attributes). a.line_just) (sym same) ∙ five);
       low = is.1;
     })

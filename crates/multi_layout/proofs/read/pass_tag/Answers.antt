@@ -10,10 +10,10 @@ use Rattle.multi_layout.proofs.AreaStepLemmas.{step_closed, step_ended, step_jus
 use Rattle.multi_judge.proofs.KnownStepLemmas.{ends_not}
 use Rattle.multi_layout.proofs.read.pass_tag.Goals as goal
 
-pub judge_tag-requires-clause-ready : goal.judge_tag-requires-clause-ready
-judge_tag-requires-clause-ready g c =
+pub judge_tag-requires : goal.judge_tag-requires
+judge_tag-requires g c =
     let (before, item, r, next) = c.requires.known in
-    read_ready c.requires.sound r
+    record { ready = read_ready c.requires.sound r }
 
 pub unreachable-requires : goal.unreachable-requires
 unreachable-requires g c =

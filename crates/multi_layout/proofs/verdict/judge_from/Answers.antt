@@ -19,9 +19,10 @@ steps_of old read judged at len means (t, at_is, len_is, token, meant) reads jud
     let all = rises_then old read judged (len - 1) (9 * len - 9) 0 8 reads judges in
     (all.0, omega (arith, all.1), omega (arith, all.2, len_is, token.len, some), all.3)
 
-pub judge_item-requires-clause-ready : goal.judge_item-requires-clause-ready
-judge_item-requires-clause-ready g c =
-    pass_ready_here c.args.sign.now c.args.source.now.octets c.args.at.now c.args.pass.now (not (g.row.WORDS == 0)) c.requires.at.so_far c.requires.short
+pub judge_item-requires : goal.judge_item-requires
+judge_item-requires g c = record {
+  ready = pass_ready_here c.args.sign.now c.args.source.now.octets c.args.at.now c.args.pass.now (not (g.row.WORDS == 0)) c.requires.at.so_far c.requires.short;
+}
 
 pub returns-in-Err-clause-refused : goal.returns-in-Err-clause-refused
 returns-in-Err-clause-refused g c =

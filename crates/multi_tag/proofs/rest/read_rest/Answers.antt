@@ -1,4 +1,6 @@
+use Rattle.std.specs.Prelude.{option_map}
 use Rattle.multi_tag.specs.declared.tag.Tag.TheVariants.{NewLine, LineJust, PageJust, CharSpacing, Fore, Back}
+use Rattle.multi_tag.specs.Just.{line_just_of, page_just_of}
 use Rattle.multi_tag.specs.Form.{d, d?}
 use Rattle.multi_tag.proofs.PartLemmas.{means_none, number_none}
 use Rattle.multi_tag.proofs.TimesLemmas.{page_time, no_page_time}
@@ -10,11 +12,11 @@ returns-in_err-read_optional-in-NewLine c =
 
 pub returns-in_err-read_optional-in-LineJust : goal.returns-in_err-read_optional-in-LineJust
 returns-in_err-read_optional-in-LineJust c =
-    rw (c.in-LineJust.is, c.from_residual-in_err-read_optional-in-LineJust.ensures) (means_none (d? 2 5) LineJust _ c.in_err-read_optional-in-LineJust.ensures)
+    rw (c.in-LineJust.is, c.from_residual-in_err-read_optional-in-LineJust.ensures) (means_none (d? 2 5) (λ just. LineJust (option_map line_just_of just)) _ c.in_err-read_optional-in-LineJust.ensures)
 
 pub returns-in_err-read_optional-in-PageJust : goal.returns-in_err-read_optional-in-PageJust
 returns-in_err-read_optional-in-PageJust c =
-    rw (c.in-PageJust.is, c.from_residual-in_err-read_optional-in-PageJust.ensures) (means_none (d? 2 4) PageJust _ c.in_err-read_optional-in-PageJust.ensures)
+    rw (c.in-PageJust.is, c.from_residual-in_err-read_optional-in-PageJust.ensures) (means_none (d? 2 4) (λ just. PageJust (option_map page_just_of just)) _ c.in_err-read_optional-in-PageJust.ensures)
 
 pub returns-in_err-read_optional-in-Fore : goal.returns-in_err-read_optional-in-Fore
 returns-in_err-read_optional-in-Fore c =

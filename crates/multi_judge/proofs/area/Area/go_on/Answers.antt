@@ -3,25 +3,30 @@ use Rattle.multi_judge.proofs.AreaSumLemmas.{area_stays, area_turned, height_pas
 use Rattle.multi_judge.proofs.area.Area.go_on.Goals as goal
 
 pub returns-then-page_just-self-clause-sum : goal.returns-then-page_just-self-clause-sum
-returns-then-page_just-self-clause-sum c area placing e order = area_stays area c.args.page_just c.args.self.now e c.if-page_just-self.true order
+returns-then-page_just-self-clause-sum c area placing e order =
+    rw (← c.number-page_just.ensures.number) (
+    area_stays area c.number-page_just.result c.args.self.now e c.if-page_just-self.true (omega (arith, order, c.number-page_just.ensures.number)))
 
 pub returns-in-2-clause-sum : goal.returns-in-2-clause-sum
 returns-in-2-clause-sum c area placing e order =
-    area_turned area c.args.page_just c.args.self.now e c.if-page_just-self.false _ _ c.new-self.result
-    (height_passed area c.args.page_just c.args.self.now e c.if-page_just-self.false placing 2 _ c.in-2.is c.height-height.ensures.sum)
-    (middle_kept area c.args.page_just c.args.self.now e c.if-page_just-self.false (λ h. omega (arith, h, c.in-2.is)))
-    c.new-self.ensures.sum
+    rw (← c.number-page_just.ensures.number) (
+    area_turned area c.number-page_just.result c.args.self.now e c.if-page_just-self.false _ _ c.new-self.result
+    (height_passed area c.number-page_just.result c.args.self.now e c.if-page_just-self.false placing 2 _ c.in-2.is c.height-height.ensures.sum)
+    (middle_kept area c.number-page_just.result c.args.self.now e c.if-page_just-self.false (λ h. omega (arith, h, c.in-2.is)))
+    c.new-self.ensures.sum)
 
 pub returns-in-3-clause-sum : goal.returns-in-3-clause-sum
 returns-in-3-clause-sum c area placing e order =
-    area_turned area c.args.page_just c.args.self.now e c.if-page_just-self.false _ _ c.new-self.result
-    (top_kept area c.args.page_just c.args.self.now e c.if-page_just-self.false (λ h. omega (arith, h, c.in-3.is)))
-    (height_passed area c.args.page_just c.args.self.now e c.if-page_just-self.false placing 3 _ c.in-3.is c.height-height.ensures.sum)
-    c.new-self.ensures.sum
+    rw (← c.number-page_just.ensures.number) (
+    area_turned area c.number-page_just.result c.args.self.now e c.if-page_just-self.false _ _ c.new-self.result
+    (top_kept area c.number-page_just.result c.args.self.now e c.if-page_just-self.false (λ h. omega (arith, h, c.in-3.is)))
+    (height_passed area c.number-page_just.result c.args.self.now e c.if-page_just-self.false placing 3 _ c.in-3.is c.height-height.ensures.sum)
+    c.new-self.ensures.sum)
 
 pub returns-in_default-clause-sum : goal.returns-in_default-clause-sum
 returns-in_default-clause-sum c area placing e order =
-    area_turned area c.args.page_just c.args.self.now e c.if-page_just-self.false _ _ c.new-self.result
-    (top_kept area c.args.page_just c.args.self.now e c.if-page_just-self.false (λ h. omega (arith, h)))
-    (middle_kept area c.args.page_just c.args.self.now e c.if-page_just-self.false (λ h. omega (arith, h)))
-    c.new-self.ensures.sum
+    rw (← c.number-page_just.ensures.number) (
+    area_turned area c.number-page_just.result c.args.self.now e c.if-page_just-self.false _ _ c.new-self.result
+    (top_kept area c.number-page_just.result c.args.self.now e c.if-page_just-self.false (λ h. omega (arith, h)))
+    (middle_kept area c.number-page_just.result c.args.self.now e c.if-page_just-self.false (λ h. omega (arith, h)))
+    c.new-self.ensures.sum)

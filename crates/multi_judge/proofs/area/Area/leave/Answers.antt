@@ -1,5 +1,6 @@
 use Rattle.std.proofs.Common.{◌+◌, ◌<◌, ◌≤◌, ◌^◌, sym, arith}
 use Rattle.std.proofs.lemmas.Bool.{le-leb}
+use Rattle.multi_tag.specs.Just.{page_number}
 use Rattle.multi_judge.proofs.BoundLemmas.{group_more}
 use Rattle.multi_judge.proofs.area.Area.leave.Goals as goal
 
@@ -11,11 +12,11 @@ room-requires c =
 pub returns : goal.returns
 returns c =
     let area = c.args.self.now in
-    let order : area.present ≤ c.args.page_just = omega (arith, c.if-page_just-self.false) in
-    let later : area.present < c.args.page_just = omega (arith, order, c.requires.other) in
+    let order : area.present ≤ page_number c.args.page_just = omega (arith, c.if-number-self.false, c.number.ensures.number) in
+    let later : area.present < page_number c.args.page_just = omega (arith, order, c.requires.other) in
     record {
       reached = record {
-        order = sym (le-leb area.present c.args.page_just order);
+        order = sym (le-leb area.present (page_number c.args.page_just) order);
         goes = λ is. record {
           sum = λ items placing e. c.go_on.ensures.sum items placing e order;
           grows = λ k below. let (top, middle, group, least, known, bare) = c.go_on.ensures.grows k below in (top, middle, group, bare);

@@ -1,8 +1,10 @@
 use Rattle.std.proofs.Common.{◌≡◌, ◌<◌, ◌≤◌, Bool, true, false, None, [], refl, sym, ◌∙◌, ap, arith}
 use Rattle.std.specs.List.{after_last}
 use Rattle.std.proofs.lemmas.Bool.{le-leb}
+use Rattle.multi_tag.specs.Just.{page_number}
 use Rattle.multi_meaning.specs.Address.{in_group, is_break}
 use Rattle.multi_meaning.proofs.FitLemmas.{room_alone}
+use Rattle.multi_meaning.proofs.JustLemmas.{page_number_known}
 use Rattle.multi_judge.specs.declared.area.Area.{Area}
 use Rattle.multi_judge.specs.declared.area.Group.{Group}
 use Rattle.multi_judge.specs.Sums.{group_sum, line_sum}
@@ -28,9 +30,9 @@ nothing_kept group ended closed last line =
 pub returns-then-self-eq0 : goal.returns-then-self-eq0
 returns-then-self-eq0 c =
     let area = c.args.self.now in
-    let page = c.args.page_just in
+    let page = page_number c.args.page_just in
     let none : area.present ≡ 0 = c.if-self-eq0.true in
-    let later : area.present < page = omega (arith, none, c.requires.page_just.0) in
+    let later : area.present < page = omega (arith, none, (page_number_known c.args.page_just).0) in
     let bare = none_yet area none c.requires.below.some in
     let empty = c.requires.below.empty none in
     record {
@@ -40,16 +42,16 @@ returns-then-self-eq0 c =
           sum = λ items placing e.
               let own = own_line items area e in
               let line : area.group.line ≡ line_sum [] = own ∙ ap line_sum (no_character (after_last is_break (in_group area.present items)) area.group.line (present_glyphs area.present items placing) own bare) in
-              area_turned items page area e later area.top area.middle area.group
+              rw c.number-self.ensures.number (area_turned items page area e later area.top area.middle area.group
               (top_kept items page area e later (λ h. omega (arith, h, none)))
               (middle_kept items page area e later (λ h. omega (arith, h, none)))
-              (nothing_kept area.group empty.ended empty.closed empty.last line);
+              (nothing_kept area.group empty.ended empty.closed empty.last line));
           grows = λ k below. (omega (arith, below.top), omega (arith, below.middle), below.group, below.bare);
-          present = refl;
+          present = c.number-self.ensures.number;
           stays = λ same. absurd (omega (arith, same, later));
           begins = λ less. bare;
         };
-        limit = λ is kept. c.from.ensures ∙ sym (rw (empty.top, empty.middle) (room_alone page c.args.height));
+        limit = λ is kept. c.from.ensures ∙ sym (rw (c.number-self.ensures.number, empty.top, empty.middle) (room_alone page c.args.height));
         left = λ no. absurd cc;
       };
     }

@@ -47,9 +47,9 @@ returns-then-space-clause-sum c group s placing is space fits apart e o =
 pub returns-then-space-clause-grows : goal.returns-then-space-clause-grows
 returns-then-space-clause-grows c k below split = (c.add_break.ensures.grows k below, subst (IsSplitBelow (k + 1024)) (sym c.forget.ensures) tt)
 
-pub add-requires-in-Some-clause-below : goal.add-requires-in-Some-clause-below
-add-requires-in-Some-clause-below c =
-    subst (IsLineBelow (2 ^ 62)) (sym c.break_at.ensures.line) (subst (IsSplitBelow (2 ^ 62)) c.in-Some.is c.requires.parts).1
+pub add-requires-in-Some : goal.add-requires-in-Some
+add-requires-in-Some c =
+    record { below = subst (IsLineBelow (2 ^ 62)) (sym c.break_at.ensures.line) (subst (IsSplitBelow (2 ^ 62)) c.in-Some.is c.requires.parts).1 }
 
 pub returns-in-Some-clause-sum : goal.returns-in-Some-clause-sum
 returns-in-Some-clause-sum c group s placing is space fits apart e o =

@@ -3,4 +3,4 @@ use Rattle.multi_judge.proofs.LineSumLemmas.{line_clashes}
 use Rattle.multi_judge.proofs.pass.Order.clashes.Goals as goal
 
 pub returns : goal.returns
-returns c line s e j = rw (e, ← j) (sym (line_clashes line s))
+returns c line s e j = rw (e, c.number-just.ensures.number, ← j) (sym (line_clashes line s))

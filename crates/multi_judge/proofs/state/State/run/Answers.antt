@@ -4,6 +4,7 @@ use Rattle.std.specs.List.{after_last}
 use Rattle.std.proofs.lemmas.Bool.{leb-true}
 use Rattle.multi_meaning.specs.Address.{in_group, is_break}
 use Rattle.multi_meaning.specs.kept.Present.{present_area}
+use Rattle.multi_meaning.proofs.JustLemmas.{line_number_known}
 use Rattle.multi_judge.specs.Run.{line_in_force, kept_fits, lengthened_line}
 use Rattle.multi_judge.proofs.AreaSumLemmas.{own_line}
 use Rattle.multi_judge.proofs.BeforeLemmas.{fits_before}
@@ -19,8 +20,8 @@ returns-clause-run c = λ items sign st fits.
     let behind = c.requires.behind in
     let wide = state.attributes.rectangle.width in
     let before = fits_before wide line fits.width in
-    let low : 2 ≤ line.present = omega (arith, st.line_just.0, behind.line.segment) in
-    let high : line.present ≤ 5 = omega (arith, st.line_just.1, behind.line.segment) in
+    let low : 2 ≤ line.present = omega (arith, (line_number_known state.attributes.line_just).0, behind.line.segment) in
+    let high : line.present ≤ 5 = omega (arith, (line_number_known state.attributes.line_just).1, behind.line.segment) in
     let room : (pixels count : ℕ) → kept_fits wide (lengthened_line pixels count line) ≡ nat_le pixels c.args.most = λ pixels count.
     segment_room_fits spots line is wide pixels count low high before ∙ ap (nat_le pixels) (sym c.requires.most) in
     let inside = leb-true line.part.width c.args.most (sym (room line.part.width line.part.count) ∙ fits.width) in

@@ -33,9 +33,6 @@ returns-in-NewLine-clause-passed c = λ before rest item b read.
     between_more sign c.args.source.now.octets before rest item c.args.self.now b _ (ap (λ n. c.args.self.now.at + n) read.len)
     (subst (λ (m : Meaning). IsStateOf sign (items ++ m ∷ []) new) (sym ends) st)
 
-pub skip_tag-requires-clause-known : goal.skip_tag-requires-clause-known
-skip_tag-requires-clause-known c = c.requires.before.4.known
-
 pub skip_tag-requires-clause-ready : goal.skip_tag-requires-clause-ready
 skip_tag-requires-clause-ready c =
     let (before, rest, item, b, read) = c.requires.before in

@@ -1,0 +1,55 @@
+-- Justifications and their numbers.
+use Rattle.std.proofs.Common.{◌≡◌, ℕ, ◌≤◌, zero, suc, refl, sym, ap, ◌∙◌, lit≤, arith}
+use Rattle.multi_tag.specs.declared.just.LineJust.{LineJust}
+use Rattle.multi_tag.specs.declared.just.LineJust.TheVariants.{Left, Centre, Right, Full}
+use Rattle.multi_tag.specs.declared.just.PageJust.{PageJust}
+use Rattle.multi_tag.specs.declared.just.PageJust.TheVariants.{Top, Middle, Bottom}
+use Rattle.multi_tag.specs.Just.{line_just_of, line_number, page_just_of, page_number}
+
+-- the number of a justification is a known one
+pub line_number_known : (just : LineJust) → (2 ≤ line_number just) × (line_number just ≤ 5)
+line_number_known Left = (lit≤ tt, lit≤ tt)
+line_number_known Centre = (lit≤ tt, lit≤ tt)
+line_number_known Right = (lit≤ tt, lit≤ tt)
+line_number_known Full = (lit≤ tt, lit≤ tt)
+
+pub page_number_known : (just : PageJust) → (2 ≤ page_number just) × (page_number just ≤ 4)
+page_number_known Top = (lit≤ tt, lit≤ tt)
+page_number_known Middle = (lit≤ tt, lit≤ tt)
+page_number_known Bottom = (lit≤ tt, lit≤ tt)
+
+-- the justification of a known number has that number
+pub line_number_of : (number : ℕ) → 2 ≤ number → number ≤ 5 → line_number (line_just_of number) ≡ number
+line_number_of zero low high = absurd (omega (arith, low))
+line_number_of (suc zero) low high = absurd (omega (arith, low))
+line_number_of (suc (suc zero)) low high = refl
+line_number_of (suc (suc (suc zero))) low high = refl
+line_number_of (suc (suc (suc (suc zero)))) low high = refl
+line_number_of (suc (suc (suc (suc (suc zero))))) low high = refl
+line_number_of (suc (suc (suc (suc (suc (suc more)))))) low high = absurd (omega (arith, high))
+
+pub page_number_of : (number : ℕ) → 2 ≤ number → number ≤ 4 → page_number (page_just_of number) ≡ number
+page_number_of zero low high = absurd (omega (arith, low))
+page_number_of (suc zero) low high = absurd (omega (arith, low))
+page_number_of (suc (suc zero)) low high = refl
+page_number_of (suc (suc (suc zero))) low high = refl
+page_number_of (suc (suc (suc (suc zero)))) low high = refl
+page_number_of (suc (suc (suc (suc (suc more))))) low high = absurd (omega (arith, high))
+
+-- justifications with the same number are the same
+line_just_back : (just : LineJust) → line_just_of (line_number just) ≡ just
+line_just_back Left = refl
+line_just_back Centre = refl
+line_just_back Right = refl
+line_just_back Full = refl
+
+pub same_line_just : (a b : LineJust) → line_number a ≡ line_number b → a ≡ b
+same_line_just a b same = sym (line_just_back a) ∙ ap line_just_of same ∙ line_just_back b
+
+page_just_back : (just : PageJust) → page_just_of (page_number just) ≡ just
+page_just_back Top = refl
+page_just_back Middle = refl
+page_just_back Bottom = refl
+
+pub same_page_just : (a b : PageJust) → page_number a ≡ page_number b → a ≡ b
+same_page_just a b same = sym (page_just_back a) ∙ ap page_just_of same ∙ page_just_back b
