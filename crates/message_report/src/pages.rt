@@ -2,7 +2,6 @@
 ghost use Rattle.std.specs.Prelude.{◌≡◌, ◌++◌, ◌<◌, ◌^◌, false, length, IfOk, OnOk};
 ghost use Rattle.multi_layout.specs.Pages.{IsSized, page_count};
 ghost use Rattle.message_report.specs.Explanation.{HasPages, PassesOver, ShowsPages, TellsAccepted, picture_text};
-ghost use Rattle.message_report.specs.Pictures.{page_text};
 ghost use Rattle.message_report.specs.Words.{Grows, GrowsBy};
 ghost use Rattle.message_report.specs.declared.picture.Picture.TheVariants.{Marks};
 

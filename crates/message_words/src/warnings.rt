@@ -213,6 +213,12 @@ impl<'a> Reading<'a> {
         self.message.len().saturating_sub(rest.len())
     }
 
+    /// Passes a line justification.
+    #[inline(always)]
+    fn justify(&mut self, just: Option<LineJust>) {
+        self.line_just = just.map_or(self.sign.defaults().line, LineJust::number);
+    }
+
     /// Passes the tag with which the last octets of the message begin, and behind which these stand. On these pages nothing is lit.
     #[inline(always)]
     fn pass_tag(
@@ -246,9 +252,7 @@ impl<'a> Reading<'a> {
                 let fore = colour.unwrap_or(self.sign.defaults().fore);
                 self.is_plain = self.is_plain && is_seen_in(self.sign, fore);
             }
-            Tag::LineJust(just) => {
-                self.line_just = just.map_or(self.sign.defaults().line, LineJust::number);
-            }
+            Tag::LineJust(just) => self.justify(just),
             Tag::PageTime { on, off } => {
                 self.times_at = self.offset(rest);
                 self.times = Times::of_tag(self.sign, on, off);

@@ -28,7 +28,8 @@ use Rattle.multi_layout.specs.declared.cursor.Cursor.{Cursor}
 use Rattle.multi_layout.specs.Limits.{drawing_limit, plane_limit, plane_octets, reading_limit}
 use Rattle.multi_layout.specs.declared.next_page.NextPage.{NextPage}
 use Rattle.multi_layout.specs.NextPage.{IsNextPage}
-use Rattle.multi_layout.specs.Pages.{IsTurned}
+use Rattle.multi_layout.specs.CheckedData.{CheckedData}
+use Rattle.multi_layout.specs.Pages.{IsTurned, page_count}
 use Rattle.multi_layout.specs.kept.PageDrawing.{IsFilledFew, IsPagePassed, IsPageStart, IsReadTwice, IsStartOf}
 use Rattle.multi_layout.specs.kept.Cursors.{IsBetween, IsPlaced, items_of, laid_meanings, meant, LaidItem}
 use Rattle.multi_layout.specs.kept.Passing.{IsPageSkipped, IsPassing}
@@ -93,18 +94,22 @@ turned sign octets before behind old new b p = record {
     at_end : p.rest ≡ [] → new.state.pages ≡ pages_of (meanings octets)
     at_end none = omega (arith, pages_left sign octets (before ++ p.page) p.rest new p.between, ap (λ l. count_by is_new_page (map meant l)) none)
 
--- behind a page the one after it is next
-pub turns_to : (sign : SignData) (octets : List ℕ) (old : NextPage) (new : Cursor) (page : ℕ) → IsNextPage sign octets old page → IsTurned sign octets old.cursor new → IsNextPage sign octets (record { cursor = new }) (page + 1)
-turns_to sign octets old new page is t more =
-    let begun = (is (omega (arith, more))).1 in
-    elim t.ends [
-      | inl last ↦ absurd (omega (arith, begun, last.0, more))
-      | inr then ↦ (then.2, omega (arith, begun, then.1))
-    ]
+-- behind a page the one after it is next, of the same string with whatever count
+pub turns_to : (old new : CheckedData) (next : NextPage) (cursor : Cursor) (page : ℕ) → IsNextPage old next page → IsTurned old.sign old.source.octets next.cursor cursor
+    → new.sign ≡ old.sign → new.source.octets ≡ old.source.octets → IsNextPage new (record { cursor = cursor }) (page + 1)
+turns_to old new next cursor page is t sign octets = rw (sign, octets) further
+  where
+    further : page + 1 < page_count old → IsPageStart old.sign old.source.octets cursor × (cursor.state.pages ≡ page + 1 + 1)
+    further more =
+        let begun = (is (omega (arith, more))).1 in
+        elim t.ends [
+          | inl last ↦ absurd (omega (arith, begun, last.0, more))
+          | inr then ↦ (then.2, omega (arith, begun, then.1))
+        ]
 
 -- the first page is next where the items begin
-pub first_next : (sign : SignData) (octets : List ℕ) (cursor : Cursor) (items : List LaidItem) → IsBetween sign octets [] items cursor → IsNextPage sign octets (record { cursor = cursor }) 0
-first_next sign octets cursor items b more = (([], items, b, inl refl), omega (arith, b.state_is.pages))
+pub first_next : (string : CheckedData) (cursor : Cursor) (items : List LaidItem) → IsBetween string.sign string.source.octets [] items cursor → IsNextPage string (record { cursor = cursor }) 0
+first_next string cursor items b more = (([], items, b, inl refl), omega (arith, b.state_is.pages))
 
 -- what is drawn of its pieces is the picture of the string
 pub shows_picture : (plane : BitPlane) (sign : SignData) (octets : List ℕ) (before behind : List LaidItem) (cursor : Cursor) (page phase colour : ℕ) → IsBetween sign octets before behind cursor

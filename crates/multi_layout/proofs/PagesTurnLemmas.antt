@@ -31,7 +31,7 @@ under_way_first pages cursor sound short size first read drawn items b = record 
   short = short;
   size = size;
   next_most = omega (arith, first);
-  begins = rw first (first_next pages.string.sign pages.string.source.octets cursor items b);
+  begins = rw first (first_next pages.string cursor items b);
   within = within_between pages.string.sign pages.string.source.octets [] items cursor b;
   read_least = omega (arith, read);
   read_most = omega (arith, read);
@@ -66,7 +66,7 @@ module _ (old : PagesState) (cursor cursor' : Cursor) (u : IsUnderWay old cursor
   none_yet n = ap (λ b. cond b n 0) (not_all old.next (page_count old.string) more)
 
   begins_next : old.next + 1 < page_count old.string → IsPageStart old.string.sign old.string.source.octets cursor' × (cursor'.state.pages ≡ old.next + 1 + 1)
-  begins_next = turns_to old.string.sign old.string.source.octets (record { cursor = cursor }) cursor' old.next u.begins t
+  begins_next = turns_to old.string old.string (record { cursor = cursor }) cursor' old.next u.begins t refl refl
 
   -- behind one more page
   module _ (string : CheckedData) (plane : BitPlane) (sign_kept : string.sign ≡ old.string.sign) (size_kept : (plane.width ≡ old.plane.width) × (plane.height ≡ old.plane.height))

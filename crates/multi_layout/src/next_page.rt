@@ -23,7 +23,7 @@ pub struct NextPage {
 impl<'a> Checked<'a> {
     /// The first page of the string, which [`Checked::draw_next`] draws. This takes no step.
     pub fn first_page(&self) -> NextPage
-        ensures { IsNextPage self.now.sign self.now.source.octets result 0 }
+        ensures { IsNextPage self.now result 0 }
     {
         let cursor = Cursor::new(&self.terms);
         NextPage { cursor }
@@ -42,12 +42,11 @@ impl<'a> Checked<'a> {
         lines: &mut AreaLines,
         plane: &mut Plane,
     )
-        requires page { (page : ℕ) × (page < page_count self.old) × IsNextPage self.old.sign self.old.source.octets next.old page }
+        requires page { (page : ℕ) × (page < page_count self.old) × IsNextPage self.old next.old page }
         requires size { IsSized plane.old self.old.sign }
-        ensures drawn { (page : ℕ) → page < page_count self.old → IsNextPage self.old.sign self.old.source.octets next.old page
+        ensures drawn { (page : ℕ) → page < page_count self.old → IsNextPage self.old next.old page
             → Lights plane.new (picture self.old.sign self.old.source.octets page phase colour) }
-        ensures next { (page : ℕ) → IsNextPage self.old.sign self.old.source.octets next.old page
-            → IsNextPage self.old.sign self.old.source.octets next.new (page + 1) }
+        ensures next { (page : ℕ) → IsNextPage self.old next.old page → IsNextPage self.new next.new (page + 1) }
         ensures kept { self.new.sign ≡ self.old.sign }
         ensures size { (plane.new.width ≡ plane.old.width) × (plane.new.height ≡ plane.old.height) }
         ensures on { IsReadOn self.old.source self.new.source next.old next.new }

@@ -1,7 +1,6 @@
-use Rattle.std.proofs.Common.{◌≡◌, ◌+◌, ◌<◌, ◌∷◌, ◌++◌, ap, ◌∙◌, arith, subst, sym}
+use Rattle.std.proofs.Common.{◌≡◌, ◌<◌, ◌∷◌, ◌++◌, ap, ◌∙◌, arith, subst}
 use Rattle.multi_meaning.specs.Meaning.{meanings}
 use Rattle.multi_meaning.specs.Verdict.{pages_of}
-use Rattle.multi_layout.specs.NextPage.{IsNextPage}
 use Rattle.multi_layout.specs.Pages.{IsSized, page_count}
 use Rattle.message_report.specs.Explanation.{HasPages, head_text, picture_text}
 use Rattle.message_report.specs.declared.picture.Picture.TheVariants.{Marks}
@@ -49,5 +48,4 @@ loop-page-preserved c =
     let third = c.in_ok-push_lit.ensures ∙ ap (λ l. c.push_times.new.text ++ l) rows in
     let all = ExplanationLemmas.three_more c.args.text.now c.loop-page.text c.push_head.new.text c.push_times.new.text c.push_lit.new.text shown (head_text page pages) words (picture page) so_far c.in_ok-push_head.ensures second third in
     let octets_kept = ap (λ s. s.octets) e.steps.3 in
-    let further = subst (λ s. IsNextPage s c.draw_next.new.self.source.octets c.draw_next.new.next (page + 1)) (sym e.kept) (subst (λ l. IsNextPage here.sign l c.draw_next.new.next (page + 1)) (sym octets_kept) (e.next page next)) in
-    ((shown ++ head_text page pages ++ words ++ 10 ∷ picture page, all, ExplanationLemmas.pages_more picture pages page shown words has line), e.kept ∙ same_sign, octets_kept ∙ same_octets, further, (e.size.0 ∙ size.0, e.size.1 ∙ size.1))
+    ((shown ++ head_text page pages ++ words ++ 10 ∷ picture page, all, ExplanationLemmas.pages_more picture pages page shown words has line), e.kept ∙ same_sign, octets_kept ∙ same_octets, e.next page next, (e.size.0 ∙ size.0, e.size.1 ∙ size.1))

@@ -9,4 +9,4 @@ abbrev pub invariant-loop-page : goal.invariant-loop-page
 invariant-loop-page l = ((shown : List ℕ) × (l.text ≡ l.fn.text ++ shown)
     × HasPages (picture_text Marks l.fn.message.sign.now l.fn.checked.source.octets l.fn.message.telling.phase) l.pages l.page shown)
     × (l.checked.sign ≡ l.fn.checked.sign) × (l.checked.source.octets ≡ l.fn.checked.source.octets)
-    × IsNextPage l.checked.sign l.checked.source.octets l.next l.page × IsSized l.plane l.fn.checked.sign
+    × IsNextPage l.checked l.next l.page × IsSized l.plane l.fn.checked.sign

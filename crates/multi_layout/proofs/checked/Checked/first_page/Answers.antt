@@ -10,4 +10,4 @@ returns c =
     let items = (reading s.source.octets).items in
     let accepted = (accepted_is s.terms s.source.octets s.pages c.self.invariant.0 c.self.invariant.2).0 in
     rw (← c.self.view_is)
-    (first_next s.terms s.source.octets c.new-cursor.result (pieces_of s.terms items) (c.new-cursor.ensures.start.between s.source.octets items accepted (accepted_orderly s.terms s.source.octets accepted)))
+    (first_next (record { sign = s.terms; source = s.source }) c.new-cursor.result (pieces_of s.terms items) (c.new-cursor.ensures.start.between s.source.octets items accepted (accepted_orderly s.terms s.source.octets accepted)))
