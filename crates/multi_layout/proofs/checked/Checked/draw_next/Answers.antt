@@ -13,7 +13,7 @@ returns-clause-drawn c = λ page more is.
     rw this at c.draw_from.ensures.drawn
 
 pub returns-clause-next : goal.returns-clause-next
-returns-clause-next c = λ page is. turns_to _ c.draw_from.new.self c.args.next.now c.draw_from.new.cursor page is c.draw_from.ensures.turned c.draw_from.ensures.kept (ap (λ (s : Counted). s.octets) c.draw_from.ensures.steps.3)
+returns-clause-next c = λ page is. turns_to c.args.self.now c.draw_from.new.self c.args.next.now c.draw_from.new.cursor page is c.draw_from.ensures.turned c.draw_from.ensures.kept (ap (λ (s : Counted). s.octets) c.draw_from.ensures.steps.3)
 
 pub returns-clause-steps : goal.returns-clause-steps
 returns-clause-steps c =
