@@ -8,6 +8,7 @@ use Rattle.multi_token.specs.Counted.{Counted, RisesBetween, charged}
 use Rattle.multi_token.specs.Spelling.{Item}
 use Rattle.multi_token.proofs.ReadingLemmas.{spelling_some}
 use Rattle.multi_token.proofs.StepLemmas.{rises_more, rises_then}
+use Rattle.multi_tag.specs.Just.{page_number}
 use Rattle.sign_font.specs.declared.parts.LineFill.{LineFill}
 use Rattle.sign_font.specs.declared.parts.LineFill.TheVariants.{Words}
 use Rattle.sign_font.specs.Sign.{SignData}
@@ -256,7 +257,7 @@ module _ {words : Bool} {sign : SignData} {octets : List ℕ} {before behind : L
       let (plain, closed, placed) = setting_is tag puts.setting in
       let of = setting_passed words sign ms kept state tag so.read.of puts in
       let passed = tag_stays words sign ms kept new tag so.read.of (next_fine it) of plain closed in
-      let present : next_group kept.state (Does tag) ≡ kept.state.area.present = ap (λ b. cond b kept.state.attributes.page_just kept.state.area.present) placed in
+      let present : next_group kept.state (Does tag) ≡ kept.state.area.present = ap (λ b. cond b (page_number kept.state.attributes.page_just) kept.state.area.present) placed in
       let r = subst (λ p. IsReadOf words sign (items_of done) p kept lines) (sym present) so.read in
       read_on n (at + len) refl plain new lines (step_stays sound r it passed refl)
 

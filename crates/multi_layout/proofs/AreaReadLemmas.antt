@@ -4,6 +4,7 @@ use Rattle.std.specs.List.{All}
 use Rattle.std.proofs.lemmas.List.{map-append}
 use Rattle.multi_token.specs.Spelling.{Item}
 use Rattle.multi_tag.specs.declared.tag.Tag.{Tag}
+use Rattle.multi_tag.specs.Just.{page_number}
 use Rattle.sign_font.specs.declared.parts.LineFill.TheVariants.{Off, Words}
 use Rattle.sign_font.specs.Sign.{SignData}
 use Rattle.sign_font.specs.Sound.{IsSound}
@@ -148,12 +149,12 @@ tag_unsized false sign kept ms of tag fine =
 
 -- what has a place isn't before the present group
 character_order : (words : Bool) (sign : SignData) (kept : Pass) (ms : List Meaning) → IsPassOf words sign kept ms → (number : ℕ) → offence sign.line_fill sign ms (Shows number) ≡ None
-    → kept.state.area.present ≤ kept.state.attributes.page_just
+    → kept.state.area.present ≤ page_number kept.state.attributes.page_just
 character_order true sign kept ms of number fine = goes_on sign ms kept of.of number (subst (λ setting. offence setting sign ms (Shows number) ≡ None) of.words fine)
 character_order false sign kept ms of number fine = steps.order sign ms kept.state of.state_is (Shows number) (unsized_if sign.line_fill sign ms (Shows number) fine true refl) refl
 
 pub next_order : (words : Bool) (sign : SignData) (items : List Item) (kept : Pass) → IsPassOf words sign kept (map meaning items) → (item : Item) (read : KnownItem) → IsNextRead sign items item read
-    → has_place (meant_by read) ≡ true → kept.state.area.present ≤ kept.state.attributes.page_just
+    → has_place (meant_by read) ≡ true → kept.state.area.present ≤ page_number kept.state.attributes.page_just
 next_order words sign items kept of item (Char number) next place = character_order words sign kept (map meaning items) of number (next_fine next)
 next_order words sign items kept of item (known.Tag tag) next place =
     let ms = map meaning items in

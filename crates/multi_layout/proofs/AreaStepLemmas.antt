@@ -2,6 +2,7 @@
 use Rattle.std.proofs.Common.{◌≡◌, ℕ, Bool, ◌<◌, ◌≤◌, true, false, cond, List, [], ◌∷◌, ◌++◌, map, Option, None, Some, refl, sym, ap, subst, ◌∙◌, arith}
 use Rattle.multi_token.specs.Spelling.{Item}
 use Rattle.multi_tag.specs.declared.tag.Tag.{Tag}
+use Rattle.multi_tag.specs.Just.{page_number}
 use Rattle.sign_font.specs.Sign.{SignData}
 use Rattle.sign_font.specs.Sound.{IsSound}
 use Rattle.multi_meaning.specs.Address.{Spot, in_group}
@@ -12,6 +13,7 @@ use Rattle.multi_meaning.specs.Offence.{offence}
 use Rattle.multi_meaning.specs.kept.Present.{present_area, ended_lines, IsNarrow, IsNarrowArea}
 use Rattle.multi_meaning.proofs.LaidTagLemmas.{laid_tag}
 use Rattle.multi_meaning.proofs.NarrowLemmas.{narrow_front}
+use Rattle.multi_meaning.proofs.JustLemmas.{page_number_known}
 use Rattle.multi_judge.specs.declared.area.Area.{Area}
 use Rattle.multi_judge.specs.declared.area.Group.{Group}
 use Rattle.multi_judge.specs.declared.pass.Pass.{Pass}
@@ -73,7 +75,7 @@ module _ {words : Bool} {sign : SignData} (sound : IsSound sign) {items : List I
   step_stays none = known_more lines (known_unchanged page area area_more b.others (subst (EndsLine (in_group page area) (in_group page area_more)) none b.own) lines r.known) r.low
 
   -- it ends one of the group in force
-  module _ (at : page ≡ old.state.attributes.page_just) (line : Line) (is : ended ≡ Some line) where
+  module _ (at : page ≡ page_number old.state.attributes.page_just) (line : Line) (is : ended ≡ Some line) where
     own_line : EndsLine (in_group page area) (in_group page area_more) (Some line)
     own_line = subst (EndsLine (in_group page area) (in_group page area_more)) is b.own
 
@@ -81,10 +83,10 @@ module _ {words : Bool} {sign : SignData} (sound : IsSound sign) {items : List I
     characters = own_line.0
 
     low_page : 2 ≤ page
-    low_page = omega (arith, at, old_state.page_just)
+    low_page = omega (arith, at, page_number_known old.state.attributes.page_just)
 
     high_page : page ≤ 4
-    high_page = omega (arith, at, old_state.page_just)
+    high_page = omega (arith, at, page_number_known old.state.attributes.page_just)
 
     narrow_more : IsNarrowArea area_more
     narrow_more = subst (λ l. IsNarrowArea (laid_area words sign l)) (items_with next) (narrow_of sign sound (items ++ item ∷ []) next.fine.none words new of_more)
@@ -140,7 +142,7 @@ module _ (words : Bool) (sign : SignData) (items : List Meaning) (old new : Pass
   pub tag_stays : begins_area (Does tag) ≡ false → ends_line (Does tag) ≡ false → IsItemPassed words sign items (Does tag) (next_group old.state (Does tag)) old new None
   tag_stays plain open' =
       let (none, same) = steps.area_stays sign laid old.state before tag plain open' in
-      let stays : next_group old.state (Does tag) ≡ old.state.area.present = ap (λ b. cond b old.state.attributes.page_just old.state.area.present) none in
+      let stays : next_group old.state (Does tag) ≡ old.state.area.present = ap (λ b. cond b (page_number old.state.attributes.page_just) old.state.area.present) none in
       let area = ap (present_area sign) with_tag ∙ same in
       record {
         of = of';
@@ -151,13 +153,13 @@ module _ (words : Bool) (sign : SignData) (items : List Meaning) (old new : Pass
       }
 
   -- it ends the open one
-  pub tag_group : ends_line (Does tag) ≡ true → next_group old.state (Does tag) ≡ old.state.attributes.page_just
-  tag_group ends = ap (λ b. cond b old.state.attributes.page_just old.state.area.present) (steps.ends_placed (Does tag) ends)
+  pub tag_group : ends_line (Does tag) ≡ true → next_group old.state (Does tag) ≡ page_number old.state.attributes.page_just
+  tag_group ends = ap (λ b. cond b (page_number old.state.attributes.page_just) old.state.area.present) (steps.ends_placed (Does tag) ends)
 
-  pub tag_ends : ends_line (Does tag) ≡ true → (group : Group) → ((area : List Spot) → old.state.area ≡ area_sum area → old.state.area.present ≤ old.state.attributes.page_just → group ≡ group_sum (in_group old.state.attributes.page_just area))
+  pub tag_ends : ends_line (Does tag) ≡ true → (group : Group) → ((area : List Spot) → old.state.area ≡ area_sum area → old.state.area.present ≤ page_number old.state.attributes.page_just → group ≡ group_sum (in_group (page_number old.state.attributes.page_just) area))
       → IsItemPassed words sign items (Does tag) (next_group old.state (Does tag)) old new (Some group.line)
   tag_ends ends group sum =
-      let page = old.state.attributes.page_just in
+      let page = page_number old.state.attributes.page_just in
       let unsized = tag_unsized words sign old items of tag fine in
       let line = ap (λ (g : Group). g.line) (sum (present_area sign laid) before.area (steps.order sign laid old.state before (Does tag) unsized (steps.ends_placed (Does tag) ends))) in
       let (present, order, others, own) = steps.break_joins sign laid old.state before (Does tag) ends unsized new.state behind group.line line in

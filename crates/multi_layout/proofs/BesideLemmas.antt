@@ -3,12 +3,15 @@ use Rattle.std.proofs.Common.{◌≡◌, ℕ, ◌+◌, ◌-◌, ◌^◌, ◌<◌
 use Rattle.std.specs.Prelude.{slice_index_or, if◌then◌else◌}
 use Rattle.std.specs.List.{after_last, count_by}
 use Rattle.std.specs.Option.{option_map, option_map_or, unwrap_or}
-use Rattle.std.proofs.lemmas.Bool.{eq-eqb, ne_eqb}
+use Rattle.std.proofs.lemmas.Bool.{eq-eqb}
 use Rattle.std.proofs.lemmas.List.Sums.{sum_by_push}
 use Rattle.multi_token.specs.Spelling.{IsPlain, is_bracket}
 use Rattle.multi_token.specs.declared.token.Token.{Token}
 use Rattle.multi_token.specs.declared.token.Kind.TheVariants as kinds
 use Rattle.multi_token.proofs.PlaceLemmas.{single_token}
+use Rattle.multi_tag.specs.declared.just.LineJust.{LineJust}
+use Rattle.multi_tag.specs.declared.just.LineJust.TheVariants.{Left, Centre, Right, Full}
+use Rattle.multi_tag.specs.Just.{line_number, page_number}
 use Rattle.page_plane.specs.Plane.{BitPlane}
 use Rattle.sign_font.specs.declared.parts.LineFill.TheVariants.{Off}
 use Rattle.sign_font.specs.Cell.{SizedCell}
@@ -50,9 +53,15 @@ use Rattle.multi_layout.proofs.WalkLemmas.{between_more, item_is, never_offends,
 not_full : (b : Bool) (n : ℕ) → b ≡ false → cond b n 0 ≡ 0
 not_full b n e = ap (λ b. cond b n 0) e
 
+not_five : (just : LineJust) → (just ≡ Full → ⊥) → (line_number just == 5) ≡ false
+not_five Left other = refl
+not_five Centre other = refl
+not_five Right other = refl
+not_five Full other = absurd (other refl)
+
 -- TWO CHARACTERS WITH THE SAME VALUES IN FORCE
 
-module _ (at : Standing) (before all : List Spot) (p q : Put) (first : is_glyph (record { at = at; put = p }) ≡ true) (apart : (at.line_just == 5) ≡ false) where
+module _ (at : Standing) (before all : List Spot) (p q : Put) (first : is_glyph (record { at = at; put = p }) ≡ true) (apart : (line_number at.line_just == 5) ≡ false) where
   abbrev s : Spot
   s = record { at = at; put = p }
 
@@ -65,7 +74,7 @@ module _ (at : Standing) (before all : List Spot) (p q : Put) (first : is_glyph 
       (ap (λ b. (b || is_break s) && (at.area == at.area)) first ∙ eq-eqb at.area at.area refl)
 
   group_is : group_of t (before ++ s ∷ []) ≡ group_of t before ++ s ∷ []
-  group_is = ap (in_group at.page_just) area_is ∙ own_group at.page_just (in_area at.area before) s refl
+  group_is = ap (in_group (page_number at.page_just)) area_is ∙ own_group (page_number at.page_just) (in_area at.area before) s refl
 
   count_is : count_by is_break (group_of t (before ++ s ∷ [])) ≡ count_by is_break (group_of t before)
   count_is =
@@ -73,13 +82,13 @@ module _ (at : Standing) (before all : List Spot) (p q : Put) (first : is_glyph 
       omega (arith, ap (count_by is_break) group_is, sum_by_push (λ (x : Spot). cond (is_break x) 1 0) (group_of t before) s, none)
 
   abbrev part : List Spot
-  part = segment at.line_just (line_before before t)
+  part = segment (line_number at.line_just) (line_before before t)
 
-  part_is : segment at.line_just (line_before (before ++ s ∷ []) t) ≡ part ++ s ∷ []
+  part_is : segment (line_number at.line_just) (line_before (before ++ s ∷ []) t) ≡ part ++ s ∷ []
   part_is =
-      ap (segment at.line_just) (ap (after_last is_break) group_is ∙ present_push (group_of t before) s first)
-      ∙ filter_yes (λ (x : Spot). is_glyph x && (x.at.line_just == at.line_just)) (line_before before t) s
-      (ap (λ b. b && (at.line_just == at.line_just)) first ∙ eq-eqb at.line_just at.line_just refl)
+      ap (segment (line_number at.line_just)) (ap (after_last is_break) group_is ∙ present_push (group_of t before) s first)
+      ∙ filter_yes (λ (x : Spot). is_glyph x && (line_number x.at.line_just == line_number at.line_just)) (line_before before t) s
+      (ap (λ b. b && (line_number at.line_just == line_number at.line_just)) first ∙ eq-eqb (line_number at.line_just) (line_number at.line_just) refl)
 
   width_is : width_of ((part ++ s ∷ []) ++ t ∷ []) ≡ width_of (part ++ s ∷ []) + unwrap_or at.spacing at.font.char_spacing + glyph_width t
   width_is =
@@ -93,12 +102,12 @@ module _ (at : Standing) (before all : List Spot) (p q : Put) (first : is_glyph 
   -- a place, by the ended lines and the segment before it
   abbrev place_behind : ℕ → List Spot → Spot → Place
   place_behind k before spot =
-      let own = segment at.line_just (slice_index_or lines k []) in
+      let own = segment (line_number at.line_just) (slice_index_or lines k []) in
       record {
-        column = at.rectangle.left + start at.line_just at.rectangle.width (width_of own)
+        column = at.rectangle.left + start (line_number at.line_just) at.rectangle.width (width_of own)
             + (width_of (before ++ spot ∷ []) - glyph_width spot)
-            + (if at.line_just == 5 then spread (length before) (length own) (at.rectangle.width - width_of own) else 0);
-        row = at.rectangle.top + start at.page_just at.rectangle.height (height_of lines) + (height_of (take (k + 1) lines) - at.font.height);
+            + (if line_number at.line_just == 5 then spread (length before) (length own) (at.rectangle.width - width_of own) else 0);
+        row = at.rectangle.top + start (page_number at.page_just) at.rectangle.height (height_of lines) + (height_of (take (k + 1) lines) - at.font.height);
       }
 
   place_first : place_of before all s ≡ place_behind (count_by is_break (group_of t before)) part s
@@ -116,11 +125,11 @@ module _ (at : Standing) (before all : List Spot) (p q : Put) (first : is_glyph 
   }
   beside =
       let k = count_by is_break (group_of t before) in
-      let own = segment at.line_just (slice_index_or lines k []) in
+      let own = segment (line_number at.line_just) (slice_index_or lines k []) in
       let x = place_behind k part s in
       let y = place_behind k (part ++ s ∷ []) t in
-      let one = not_full (at.line_just == 5) (spread (length part) (length own) (at.rectangle.width - width_of own)) apart in
-      let two = not_full (at.line_just == 5) (spread (length (part ++ s ∷ [])) (length own) (at.rectangle.width - width_of own)) apart in
+      let one = not_full (line_number at.line_just == 5) (spread (length part) (length own) (at.rectangle.width - width_of own)) apart in
+      let two = not_full (line_number at.line_just == 5) (spread (length (part ++ s ∷ [])) (length own) (at.rectangle.width - width_of own)) apart in
       let column : y.column ≡ x.column + (glyph_width s + unwrap_or at.spacing at.font.char_spacing) = omega (arith, width_is, width_push part s, one, two) in
       place_second
       ∙ (λ i. let p : Place = record { column = column i; row = x.row } in p)
@@ -138,7 +147,7 @@ same_standing sign before number =
 
 -- where the next character stands beside this one
 pub next_stands : (sign : SignData) (before : List Meaning) (number : ℕ) (cell : CellData) (all : List Meaning) (place : Place) (gap : ℕ) → cell_numbered (standing sign before).font number ≡ Some cell
-    → ((standing sign before).line_just ≡ 5 → ⊥) → place ≡ place_of (spots sign before) (spots sign all) (record { at = standing sign before; put = Glyph cell })
+    → ((standing sign before).line_just ≡ Full → ⊥) → place ≡ place_of (spots sign before) (spots sign all) (record { at = standing sign before; put = Glyph cell })
     → gap ≡ unwrap_or (standing sign before).spacing (standing sign before).font.char_spacing
     → NextStandsAt sign (before ++ Shows number ∷ []) all (record { column = place.column + (cell.width + gap); row = place.row })
 next_stands sign before number cell all place gap found apart stands gap_is = λ spot glyph at.
@@ -147,12 +156,12 @@ next_stands sign before number cell all place gap found apart stands gap_is = λ
     let same : spot.at ≡ here = at ∙ same_standing sign before number in
     ap (λ l. place_of l (spots sign all) spot) (spots_more sign before (Shows number) (Glyph cell) (ap (option_map Glyph) found))
     ∙ ap (λ a. place_of (spots sign before ++ s ∷ []) (spots sign all) (record { at = a; put = spot.put })) same
-    ∙ beside here (spots sign before) (spots sign all) (Glyph cell) spot.put refl (ne_eqb here.line_just 5 apart)
+    ∙ beside here (spots sign before) (spots sign all) (Glyph cell) spot.put refl (not_five here.line_just apart)
     ∙ (λ i. let p : Place = record { column = (sym stands i).column + (cell.width + sym gap_is i); row = (sym stands i).row } in p)
 
 -- the same, from what is kept
 pub beside_stands : (sign : SignData) (items : List Meaning) (state : State) → IsStateOf sign items state → (number : ℕ) (cell : SizedCell) → cell_in sign state.attributes.font.number number ≡ Some cell
-    → (all : List Meaning) (place : Place) (gap : ℕ) → (state.attributes.line_just ≡ 5 → ⊥) → gap ≡ unwrap_or state.attributes.spacing state.attributes.font.char_spacing
+    → (all : List Meaning) (place : Place) (gap : ℕ) → (state.attributes.line_just ≡ Full → ⊥) → gap ≡ unwrap_or state.attributes.spacing state.attributes.font.char_spacing
     → ((c : CellData) → cell_numbered (standing sign items).font number ≡ Some c → place ≡ place_of (spots sign items) (spots sign all) (record { at = standing sign items; put = Glyph c }))
     → NextStandsAt sign (items ++ Shows number ∷ []) all (record { column = place.column + (cell.width + gap); row = place.row })
 beside_stands sign items state st number cell found all place gap apart gap_is stands =
@@ -224,7 +233,7 @@ module _ (sign : SignData) (octets : List ℕ) (before area rest : List LaidItem
       let wrong : ◌≡◌ {A = Option ℕ} (Some 7) None = sym (unsized-undefined sign (map meant (before ++ done)) cursor.state r.so_far.between.state_is octet none) ∙ fine in
       absurd cc
 
-  module _ (behind : IsBehindCharacter cursor.state) (apart : cursor.state.attributes.line_just ≡ 5 → ⊥) (gap : ℕ) (gap_is : gap ≡ unwrap_or cursor.state.attributes.spacing cursor.state.attributes.font.char_spacing) (narrow : gap ≤ 255)
+  module _ (behind : IsBehindCharacter cursor.state) (apart : cursor.state.attributes.line_just ≡ Full → ⊥) (gap : ℕ) (gap_is : gap ≡ unwrap_or cursor.state.attributes.spacing cursor.state.attributes.font.char_spacing) (narrow : gap ≤ 255)
       (cell : SizedCell) (found : cell_in sign cursor.state.attributes.font.number octet ≡ Some cell) (small : cell.width ≤ 64) (new' : BitPlane)
       (put : DrawsCharacter sign layer cursor.state.attributes cell place new new') where
     abbrev behind_it : Cursor

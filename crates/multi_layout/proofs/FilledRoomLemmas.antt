@@ -4,6 +4,7 @@ use Rattle.std.specs.List.{after_last}
 use Rattle.std.proofs.lemmas.List.{map-append}
 use Rattle.multi_token.specs.Spelling.{Item}
 use Rattle.multi_tag.specs.declared.tag.Tag.{Tag}
+use Rattle.multi_tag.specs.Just.{page_number}
 use Rattle.sign_font.specs.declared.parts.LineFill.TheVariants.{Words}
 use Rattle.sign_font.specs.Sign.{SignData, CellData, cell_numbered}
 use Rattle.sign_font.specs.Sound.{IsSound}
@@ -57,7 +58,7 @@ module _ (sign : SignData) where
       let s = shown sign items number cell e in
       let new = area_with sign items number cell e in
       ap (λ (t : Standing). area_fits t.rectangle.height new) (standing_push sign items (Shows number))
-      ∙ fits_of (line_fits s.at.rectangle.width (after_last is_break (in_group s.at.page_just new))) (area_fits s.at.rectangle.height new) (conflicts (spots sign items) s) (sym (offends_by sign items number cell e) ∙ fine)
+      ∙ fits_of (line_fits s.at.rectangle.width (after_last is_break (in_group (page_number s.at.page_just) new))) (area_fits s.at.rectangle.height new) (conflicts (spots sign items) s) (sym (offends_by sign items number cell e) ∙ fine)
 
   fits_tag : (items : List Meaning) (tag : Tag) → offence Words sign items (Does tag) ≡ None → Fits items → Fits (items ++ Does tag ∷ [])
   fits_tag items tag fine fits =

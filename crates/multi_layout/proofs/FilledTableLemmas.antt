@@ -4,6 +4,7 @@ use Rattle.std.specs.Prelude.{nat_lt}
 use Rattle.std.proofs.lemmas.Bool.{cases_eq, eq-eqb, le-ltb, ne_eqb}
 use Rattle.std.proofs.lemmas.List.{length_push}
 use Rattle.std.proofs.lemmas.List.Elements.{filter-append}
+use Rattle.multi_tag.specs.Just.{line_number}
 use Rattle.multi_meaning.specs.Address.{Spot, in_group, is_break, is_glyph, lines_of, segment}
 use Rattle.multi_meaning.specs.Line.{height_of, width_of}
 use Rattle.multi_meaning.specs.kept.Present.{ended_lines}
@@ -29,8 +30,8 @@ entry_ended line s bottom breaks = λ i. record {
   where
     same : (j : ℕ) → segment j (line ++ s ∷ []) ≡ segment j line
     same j =
-        filter-append (λ t. is_glyph t && (t.at.line_just == j)) line (s ∷ [])
-        ∙ ap (λ b. segment j line ++ cond b (s ∷ []) []) (ap (λ b. b && (s.at.line_just == j)) (break_put s.at s.put breaks)) ∙ append-nil (segment j line)
+        filter-append (λ t. is_glyph t && (line_number t.at.line_just == j)) line (s ∷ [])
+        ∙ ap (λ b. segment j line ++ cond b (s ∷ []) []) (ap (λ b. b && (line_number s.at.line_just == j)) (break_put s.at s.put breaks)) ∙ append-nil (segment j line)
 
 module _ (just : ℕ) (old new : List Spot) (others : (j : ℕ) → (j ≡ just → ⊥) → in_group j new ≡ in_group j old) where
   own_known : (area : List Spot) → known_lines just just area ≡ ended_lines (in_group just area)

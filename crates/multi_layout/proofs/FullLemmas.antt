@@ -6,6 +6,7 @@ use Rattle.std.proofs.lemmas.Bool.{eq-eqb}
 use Rattle.std.proofs.lemmas.List.{map-append}
 use Rattle.std.proofs.lemmas.List.Elements.{filter-append}
 use Rattle.multi_tag.specs.declared.tag.Tag.TheVariants.{NewLine}
+use Rattle.multi_tag.specs.Just.{page_number}
 use Rattle.sign_font.specs.declared.parts.LineFill.{LineFill}
 use Rattle.sign_font.specs.Sign.{SignData, CellData, cell_numbered}
 use Rattle.sign_font.specs.Sound.{IsSound}
@@ -23,6 +24,7 @@ use Rattle.multi_meaning.proofs.OffenceLemmas.{offence-undefined}
 use Rattle.multi_meaning.proofs.SpotsLemmas.{spots_behind, spots_with}
 use Rattle.multi_meaning.proofs.StateLemmas.{in_area-append, present_area-placing}
 use Rattle.multi_meaning.proofs.WordLemmas.{All-split}
+use Rattle.multi_meaning.proofs.JustLemmas.{page_number_known}
 use Rattle.multi_judge.specs.declared.attributes.Attributes.{Attributes}
 use Rattle.multi_layout.specs.declared.cursor.Cursor.{Cursor}
 use Rattle.multi_judge.specs.declared.table.LineTable.{LineTable}
@@ -60,7 +62,7 @@ module _ {sign : SignData} {octets : List ℕ} {before rest : List LaidItem} {pi
       subst (λ m. (m ≡ Shows number) ⊎ (m ≡ Does (NewLine None))) (sym is) (laid_character sign.line_fill sign all some (map meaning (items_of rest)) number split (cell_numbered (standing sign some).font number) refl)
 
   -- a piece that puts this
-  module _ (sound : IsSound sign) (lines : LineTable) (counted : HasCounted (whole_area sign before (piece ∷ rest)) lines) (r : Bool) (full : TellsEnd cursor.state.attributes cursor.state.area (group_lines cursor.state.attributes.page_just lines) r) (x : Meaning) (is : meant piece ≡ x) (put : Put)
+  module _ (sound : IsSound sign) (lines : LineTable) (counted : HasCounted (whole_area sign before (piece ∷ rest)) lines) (r : Bool) (full : TellsEnd cursor.state.attributes cursor.state.area (group_lines (page_number cursor.state.attributes.page_just) lines) r) (x : Meaning) (is : meant piece ≡ x) (put : Put)
       (puts : put_at sign.defaults (standing sign (map meant before)) x ≡ Some put) (place : has_place x ≡ true) where
     abbrev y : Spot
     y = record { at = standing sign ms; put = put }
@@ -68,8 +70,9 @@ module _ {sign : SignData} {octets : List ℕ} {before rest : List LaidItem} {pi
     pub full_put : (is_glyph y || is_break y) ≡ true → begins_area x ≡ false → IsPlacing y → r ≡ is_break y
     full_put placing plain kind =
         let st = b.state_is in
-        let just = cursor.state.attributes.page_just in
-        let page : (standing sign ms).page_just ≡ just = sym (ap (λ (a : Attributes). a.page_just) st.attributes) in
+        let just = page_number cursor.state.attributes.page_just in
+        let known = page_number_known cursor.state.attributes.page_just in
+        let page : page_number (standing sign ms).page_just ≡ just = sym (ap (λ (a : Attributes). page_number a.page_just) st.attributes) in
         let a = (standing sign ms).area in
         let fine = ap (unsized_offence sign ms) (sym is) ∙ never_offends sign octets before rest piece cursor b in
         let on = order sign ms cursor.state st x fine place in
@@ -82,15 +85,15 @@ module _ {sign : SignData} {octets : List ℕ} {before rest : List LaidItem} {pi
         ∙ ap (λ b. in_area a (spots sign ms) ++ cond b (y ∷ in_area a more) (in_area a more)) (ap (λ b. b && (a == a)) placing ∙ eq-eqb a a refl) in
         let group : in_group just (whole_area sign before (piece ∷ rest)) ≡ in_group just (present_area sign ms) ++ y ∷ in_group just (in_area a more) =
         ap (in_group just) area
-        ∙ filter-append (λ t. t.at.page_just == just) (present_area sign ms) (y ∷ in_area a more)
-        ∙ ap (λ b. in_group just (present_area sign ms) ++ cond b (y ∷ in_group just (in_area a more)) (in_group just (in_area a more))) (eq-eqb y.at.page_just just page) in
+        ∙ filter-append (λ t. page_number t.at.page_just == just) (present_area sign ms) (y ∷ in_area a more)
+        ∙ ap (λ b. in_group just (present_area sign ms) ++ cond b (y ∷ in_group just (in_area a more)) (in_group just (in_area a more))) (eq-eqb (page_number y.at.page_just) just page) in
         let grown = present_area-placing sign ms x put plain puts placing in
         let wide = (All-split (λ (s : Spot). is_glyph s ≡ true → 1 ≤ glyph_width s) (present_area sign ms) y (subst (All (λ (s : Spot). is_glyph s ≡ true → 1 ≤ glyph_width s)) grown (area_wide sign sound sound.font (ms ++ x ∷ [])))).1 in
         full (in_group just (present_area sign ms)) (in_group just (in_area a more)) (present_area sign ms) y st.area on refl
-        (counted just st.page_just.0 st.page_just.1 ∙ ap (λ g. table_of (lines_of g)) group) kind
+        (counted just known.0 known.1 ∙ ap (λ g. table_of (lines_of g)) group) kind
         (λ glyph. (sym (ap (λ (a : Attributes). a.line_just) st.attributes), wide glyph))
 
-  module _ (sound : IsSound sign) (lines : LineTable) (counted : HasCounted (whole_area sign before (piece ∷ rest)) lines) (r : Bool) (full : TellsEnd cursor.state.attributes cursor.state.area (group_lines cursor.state.attributes.page_just lines) r) (number : ℕ) (shows : meaning piece.item ≡ Shows number) where
+  module _ (sound : IsSound sign) (lines : LineTable) (counted : HasCounted (whole_area sign before (piece ∷ rest)) lines) (r : Bool) (full : TellsEnd cursor.state.attributes cursor.state.area (group_lines (page_number cursor.state.attributes.page_just) lines) r) (number : ℕ) (shows : meaning piece.item ≡ Shows number) where
     stands_if : meant piece ≡ Shows number → (o : Option CellData) → cell_numbered (standing sign (map meant before)).font number ≡ o → r ≡ false
     stands_if is None e =
         let fine = ap (unsized_offence sign ms) (sym is) ∙ never_offends sign octets before rest piece cursor b in

@@ -5,6 +5,7 @@ use Rattle.std.specs.List.{All, after_last, list_any}
 use Rattle.std.proofs.lemmas.Bool.{cases_eq, cases_lt, eq-eqb, le-ltb, lt-ltb, ne_eqb}
 use Rattle.std.proofs.lemmas.List.{length_push}
 use Rattle.std.proofs.lemmas.List.Elements.{All-push}
+use Rattle.multi_tag.specs.Just.{page_number}
 use Rattle.multi_meaning.specs.Address.{Spot, in_group, is_break, is_glyph, lines_of}
 use Rattle.multi_meaning.specs.Line.{height_of}
 use Rattle.multi_meaning.specs.kept.Present.{IsPlacing, ended_lines}
@@ -71,19 +72,19 @@ module _ (present just : ℕ) (area : List Spot) where
 
 module _ (area : List Spot) (table : LineTable) where
   -- behind the groups that have items it doesn't matter which is the present one
-  pub known_later : (n m : ℕ) → largest (λ (t : Spot). t.at.page_just) area < n → largest (λ (t : Spot). t.at.page_just) area < m → HasKnown n area table → HasKnown m area table
+  pub known_later : (n m : ℕ) → largest (λ (t : Spot). page_number t.at.page_just) area < n → largest (λ (t : Spot). page_number t.at.page_just) area < m → HasKnown n area table → HasKnown m area table
   known_later n m first second has just low high =
-      has just low high ∙ ap table_of (elim (cases_lt (largest (λ (t : Spot). t.at.page_just) area) just) [
+      has just low high ∙ ap table_of (elim (cases_lt (largest (λ (t : Spot). page_number t.at.page_just) area) just) [
         | inl behind ↦ known_none n just area (group_behind just area behind) ∙ sym (known_none m just area (group_behind just area behind))
         | inr within ↦ known_before n just area (omega arith) ∙ sym (known_before m just area (omega arith))
       ])
 
   -- behind them all, all lines are known
-  pub counted_at_end : (n : ℕ) → largest (λ (t : Spot). t.at.page_just) area < n → largest (λ (t : Spot). t.at.page_just) area ≤ 4 → HasKnown n area table → HasCounted area table
+  pub counted_at_end : (n : ℕ) → largest (λ (t : Spot). page_number t.at.page_just) area < n → largest (λ (t : Spot). page_number t.at.page_just) area ≤ 4 → HasKnown n area table → HasCounted area table
   counted_at_end n first known has just low high = known_later n 5 first (omega arith) has just low high ∙ ap table_of (known_before 5 just area (omega arith))
 
   -- the groups behind have no lines
-  pub behind_empty : (present : ℕ) → largest (λ (t : Spot). t.at.page_just) area ≤ present → 2 ≤ present → HasKnown present area table → (just : ℕ) → present < just → just ≤ 4 → group_lines just table ≡ []
+  pub behind_empty : (present : ℕ) → largest (λ (t : Spot). page_number t.at.page_just) area ≤ present → 2 ≤ present → HasKnown present area table → (just : ℕ) → present < just → just ≤ 4 → group_lines just table ≡ []
   behind_empty present on some has just behind high = has just (omega arith) high ∙ ap table_of (known_none present just area (group_behind just area (omega arith)))
 
   -- how many the table has
@@ -99,7 +100,7 @@ less_total f g p low high two three four = each_group (λ p. f p < g p → f 2 +
 -- THE LAST LINE OF THE PRESENT GROUP
 
 module _ (area : List Spot) (a : Area) (e : a ≡ area_sum area) where
-  present_is : a.present ≡ largest (λ (t : Spot). t.at.page_just) area
+  present_is : a.present ≡ largest (λ (t : Spot). page_number t.at.page_just) area
   present_is = ap (λ (a : Area). a.present) e
 
   group_is : a.group ≡ group_sum (in_group a.present area)

@@ -6,6 +6,7 @@ use Rattle.std.specs.Option.{option_map}
 use Rattle.std.proofs.lemmas.Bool.{eq-eqb}
 use Rattle.std.proofs.lemmas.Option.{same_Some}
 use Rattle.std.proofs.lemmas.List.Elements.{filter-append}
+use Rattle.multi_tag.specs.Just.{page_number}
 use Rattle.page_plane.specs.Plane.{BitPlane, is_lit}
 use Rattle.sign_font.specs.Cell as cells
 use Rattle.sign_font.specs.Sign.{SignData, FontData, CellData, cell_in, cell_numbered, sized}
@@ -21,6 +22,7 @@ use Rattle.multi_meaning.proofs.CellLemmas.{covers}
 use Rattle.multi_meaning.proofs.DrawnLemmas.{covered_glyph}
 use Rattle.multi_meaning.specs.Offence.{unsized_offence}
 use Rattle.multi_meaning.proofs.SpotsLemmas.{area_with_glyph, same_page_behind}
+use Rattle.multi_meaning.proofs.JustLemmas.{page_number_known}
 use Rattle.multi_judge.specs.Sums.{area_sum}
 use Rattle.multi_judge.specs.declared.area.Area.{Area}
 use Rattle.multi_judge.specs.declared.attributes.Attributes.{Attributes}
@@ -58,7 +60,7 @@ module _ (sign : SignData) (before : List Meaning) (state : State) (st : IsState
       (place : Place)
       (area : Area)
       (with : area ≡ area_sum (present_area sign (before ++ Shows number ∷ [])))
-      (placed : PlacesCharacter state.attributes area (group_lines state.attributes.page_just lines) c.width place)
+      (placed : PlacesCharacter state.attributes area (group_lines (page_number state.attributes.page_just) lines) c.width place)
       (fine : unsized_offence sign before (Shows number) ≡ None) where
     pub stands_at : StandsAt sign before number rest place
     stands_at cell numbered =
@@ -67,21 +69,22 @@ module _ (sign : SignData) (before : List Meaning) (state : State) (st : IsState
         let is : sized (standing sign before).font cell ≡ c = ap (sized (standing sign before).font) (sym same) ∙ is' in
         let at = standing sign before in
         let spot : Spot = record { at = at; put = Glyph cell } in
-        let page : state.attributes.page_just ≡ at.page_just = ap (λ (a : Attributes). a.page_just) st.attributes in
+        let page : page_number state.attributes.page_just ≡ page_number at.page_just = ap (λ (a : Attributes). page_number a.page_just) st.attributes in
+        let known = page_number_known state.attributes.page_just in
         let (more, split) = area_with_glyph sign before number cell rest numbered in
-        let own : filter (λ (t : Spot). t.at.page_just == at.page_just) (spot ∷ more) ≡ spot ∷ in_group at.page_just more =
-        ap (λ b. cond b (spot ∷ in_group at.page_just more) (in_group at.page_just more)) (eq-eqb at.page_just at.page_just refl) in
-        let group : group_of spot (spots sign (before ++ Shows number ∷ rest)) ≡ group_of spot (spots sign before) ++ spot ∷ in_group at.page_just more =
-        ap (in_group at.page_just) split
-        ∙ filter-append (λ (t : Spot). t.at.page_just == at.page_just) (in_area at.area (spots sign before)) (spot ∷ more)
+        let own : filter (λ (t : Spot). page_number t.at.page_just == page_number at.page_just) (spot ∷ more) ≡ spot ∷ in_group (page_number at.page_just) more =
+        ap (λ b. cond b (spot ∷ in_group (page_number at.page_just) more) (in_group (page_number at.page_just) more)) (eq-eqb (page_number at.page_just) (page_number at.page_just) refl) in
+        let group : group_of spot (spots sign (before ++ Shows number ∷ rest)) ≡ group_of spot (spots sign before) ++ spot ∷ in_group (page_number at.page_just) more =
+        ap (in_group (page_number at.page_just)) split
+        ∙ filter-append (λ (t : Spot). page_number t.at.page_just == page_number at.page_just) (in_area at.area (spots sign before)) (spot ∷ more)
         ∙ ap (λ l. group_of spot (spots sign before) ++ l) own in
-        let there = line_is_there (group_of spot (spots sign before)) (in_group at.page_just more) spot in
+        let there = line_is_there (group_of spot (spots sign before)) (in_group (page_number at.page_just) more) spot in
         placed (spots sign before) (spots sign (before ++ Shows number ∷ rest)) spot refl st.attributes (ap (λ (z : cells.SizedCell). z.width) is)
         (with ∙ ap area_sum (present_area-placing sign before (Shows number) (Glyph cell) refl (ap (option_map Glyph) numbered) refl))
-        (counted state.attributes.page_just st.page_just.0 st.page_just.1 ∙ ap (λ n. table_of (lines_of (in_group n (in_area at.area (spots sign (before ++ Shows number ∷ rest)))))) page)
+        (counted (page_number state.attributes.page_just) known.0 known.1 ∙ ap (λ n. table_of (lines_of (in_group n (in_area at.area (spots sign (before ++ Shows number ∷ rest)))))) page)
         (subst (λ g. count_by is_break (group_of spot (spots sign before)) < length (lines_of g)) (sym group) there)
-        (no_clash (spots sign before) spot at.page_just refl refl (no_conflict sign before number cell numbered fine))
-        (no_back (spots sign before) spot state.attributes.page_just _ (sym page) refl (no_conflict sign before number cell numbered fine))
+        (no_clash (spots sign before) spot (page_number at.page_just) refl refl (no_conflict sign before number cell numbered fine))
+        (no_back (spots sign before) spot (page_number state.attributes.page_just) _ (sym page) refl (no_conflict sign before number cell numbered fine))
 
   -- the pixels of a character that is lit
   module _ (rest : List Meaning) (layer : Layer) (place : Place) (stands : StandsAt sign before number rest place) where

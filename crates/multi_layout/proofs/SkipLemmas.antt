@@ -40,8 +40,6 @@ state_moved sign one other state here times pages long none none' st = record {
   attributes = st.attributes ∙ ap attributes_of here;
   area = st.area ∙ ap area_sum (none ∙ sym none');
   font = subst (λ (s : Standing). font_numbered sign s.font.number ≡ Some s.font) here st.font;
-  line_just = st.line_just;
-  page_just = st.page_just;
   below = below_more (1024 * length one) (1024 * length other) state.area (omega (arith, long)) st.below;
   short = st.short;
 }

@@ -3,6 +3,7 @@
 ghost use Rattle.std.specs.Prelude.{◌^◌, ◌≡◌, ◌≢◌, ℕ, ◌+◌, ◌-◌, ◌*◌, ◌≤◌, [], ◌∷◌, ◌++◌, List, Option, IfSome, Some, false, length, map, slice_get, ◌==◌};
 ghost use Rattle.std.specs.Option.{unwrap_or};
 ghost use Rattle.multi_token.specs.Counted.{RisesBetween, charged};
+ghost use Rattle.multi_tag.specs.declared.just.LineJust.TheVariants.{Full};
 ghost use Rattle.sign_font.specs.Sound.{IsSound};
 ghost use Rattle.multi_meaning.specs.Drawn.{Lights};
 ghost use Rattle.multi_meaning.specs.Meaning.{begins_area};
@@ -21,7 +22,7 @@ use crate::paint::{Layer, put_character};
 use crate::read::{AreaLines, read_area};
 use multi_judge::{Attributes, KnownItem, LineTable, NextItem, Terms, is_full, place_at};
 use multi_meaning::Place;
-use multi_tag::Tag;
+use multi_tag::{LineJust, Tag};
 use multi_token::Source;
 use page_plane::Plane;
 use sign_font::LineFill;
@@ -120,8 +121,6 @@ fn lay(sign: &Terms<'_>, cursor: &Cursor, lines: &LineTable, next: NextItem) -> 
 /// The same where lines are filled.
 fn lay_filled(sign: &Terms<'_>, cursor: &Cursor, lines: &LineTable, next: NextItem) -> NextItem
     requires sound { IsSound sign.now }
-    requires line_just { (2 ≤ cursor.now.state.attributes.line_just) × (cursor.now.state.attributes.line_just ≤ 5) }
-    requires page_just { (2 ≤ cursor.now.state.attributes.page_just) × (cursor.now.state.attributes.page_just ≤ 4) }
     requires below { IsBelow (2 ^ 43) cursor.now.state.area }
     ensures read { (octets : List ℕ) (before rest : List LaidItem) (item : LaidItem)
         → IsBetween sign.now octets before (item ∷ rest) cursor.now
@@ -234,12 +233,12 @@ fn draw_item(
 /// full line it is none of these.
 fn beside(attributes: &Attributes, place: Place, width: u8) -> Option<Place>
     requires low { place.column ≤ 2 ^ 62 }
-    ensures { IfSome result (λ next. (attributes.now.line_just ≢ 5) × (next.column ≤ 2 ^ 63) × (next ≡ record {
+    ensures { IfSome result (λ next. (attributes.now.line_just ≢ Full) × (next.column ≤ 2 ^ 63) × (next ≡ record {
       column = place.column + (width + unwrap_or attributes.now.spacing attributes.now.font.char_spacing);
       row = place.row;
     })) }
 {
-    if attributes.line_just == 5 {
+    if let LineJust::Full = attributes.line_just {
         return None;
     }
     Some(Place {

@@ -2,6 +2,7 @@
 
 ghost use Rattle.std.specs.Prelude.{◌≡◌, ◌≢◌, ◌+◌, ◌-◌, ◌*◌, ◌^◌, ◌<◌, ◌≤◌, List};
 ghost use Rattle.multi_token.specs.Counted.{RisesBetween};
+ghost use Rattle.multi_tag.specs.declared.just.LineJust.TheVariants.{Full};
 ghost use Rattle.sign_font.specs.declared.parts.LineFill.TheVariants.{Off};
 ghost use Rattle.multi_layout.specs.kept.AreaDrawing.{IsFilledBy};
 ghost use Rattle.multi_layout.specs.kept.Cursors.{LaidItem};
@@ -31,7 +32,7 @@ pub(crate) fn draw_run(
     plane: &mut Plane,
 ) -> Option<u8>
     requires behind { IsBehindCharacter cursor.old.state }
-    requires apart { cursor.old.state.attributes.line_just ≢ 5 }
+    requires apart { cursor.old.state.attributes.line_just ≢ Full }
     requires low { place.column ≤ 2 ^ 63 }
     requires known { (before area rest : List LaidItem) × IsRunHere sign.now source.old.octets before area rest read.now place cursor.old }
     requires size { IsSized plane.old sign.now }
@@ -65,7 +66,7 @@ fn draw_beside(
 ) -> (usize, u64, Option<u8>)
     requires off { sign.now.line_fill ≡ Off }
     requires on { IsBehindCharacter cursor.now.state }
-    requires place { (cursor.now.state.attributes.line_just ≢ 5) × (place.column ≤ 2 ^ 63) }
+    requires place { (cursor.now.state.attributes.line_just ≢ Full) × (place.column ≤ 2 ^ 63) }
     requires known { (before area rest : List LaidItem) × IsRunHere sign.now source.old.octets before area rest read.now place cursor.now }
     requires size { IsSized plane.old sign.now }
     ensures so_far { DrawsRun sign.now source.old.octets read.now place layer cursor.now

@@ -4,6 +4,7 @@ ghost use Rattle.std.specs.Prelude.{◌≡◌, ℕ, ◌+◌, ◌-◌, ◌*◌, �
 ghost use Rattle.std.specs.List.{All};
 ghost use Rattle.multi_token.specs.Counted.{RisesBetween, charged};
 ghost use Rattle.multi_token.specs.Spelling as spelled;
+ghost use Rattle.multi_tag.specs.Just.{page_number};
 ghost use Rattle.sign_font.specs.Sound.{IsSound};
 ghost use Rattle.multi_meaning.specs.Address.{Spot};
 ghost use Rattle.multi_meaning.specs.Meaning.{begins_area, Does, has_place};
@@ -184,9 +185,10 @@ fn pass_shown<const WORDS: bool>(
 )
     requires sound { IsSound sign.now }
     requires known { (before : List spelled.Item) × (next : spelled.Item)
-        × IsReadOf WORDS sign.now before kept.old.state.attributes.page_just kept.old lines.old
+        × IsReadOf WORDS sign.now before (page_number kept.old.state.attributes.page_just) kept.old lines.old
         × IsNextRead sign.now before next (Char number) }
-    ensures known { ReadsOn WORDS sign.now kept.old.state.attributes.page_just (Char number) kept.old lines.old kept.new lines.new }
+    ensures known { ReadsOn WORDS sign.now (page_number kept.old.state.attributes.page_just) (Char number) kept.old lines.old kept.new
+        lines.new }
     ensures behind { WORDS ≡ false → IsBehindCharacter kept.new.state }
     ensures step { number ≤ 255 → source.new ≡ charged source.old 1 }
     ensures steps { RisesBetween source.old source.new 0 8 }
@@ -236,13 +238,13 @@ fn leave_group(lines: &mut LineTable, item: KnownItem, state: &State)
     requires known { (spots : List Spot) × All IsPlacing spots × (state.now.area ≡ area_sum spots)
         × HasKnown state.now.area.present spots lines.old
         × HasRoom spots × IsNarrowArea spots }
-    requires order { has_place (meant_by item) ≡ true → state.now.area.present ≤ state.now.attributes.page_just }
+    requires order { has_place (meant_by item) ≡ true → state.now.area.present ≤ page_number state.now.attributes.page_just }
     ensures known { (spots : List Spot) → All IsPlacing spots → state.now.area ≡ area_sum spots
         → HasKnown state.now.area.present spots lines.old
         → HasKnown (next_group state.now (meant_by item)) spots lines.new }
     ensures low { IsLow lines.old → IsLow lines.new }
 {
-    if item.has_place() && state.area.present < state.attributes.page_just {
+    if item.has_place() && state.area.present < state.attributes.page_just.number() {
         end_group(lines, &state.area);
     }
 }

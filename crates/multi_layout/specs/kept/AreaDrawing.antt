@@ -5,6 +5,7 @@ use Rattle.multi_token.specs.Counted.{Counted, RisesBetween}
 use Rattle.multi_token.specs.Spelling.{Item, spelling}
 use Rattle.multi_tag.specs.declared.tag.Tag.{Tag}
 use Rattle.multi_tag.specs.declared.tag.Tag.TheVariants.{Back}
+use Rattle.multi_tag.specs.Just.{page_number}
 use Rattle.page_plane.specs.Plane.{BitPlane}
 use Rattle.sign_font.specs.Sign.{SignData, tallest}
 use Rattle.multi_meaning.specs.Address.{Spot, spots, standing, in_group, lines_of, in_area}
@@ -24,7 +25,7 @@ use Rattle.multi_judge.specs.Table.{group_lines, table_of}
 
 -- the page justification of the group to which the next item belongs, if it has a place, or else that of the present group (own)
 abbrev pub next_group : State → Meaning → ℕ
-next_group state item = if has_place item then state.attributes.page_just else state.area.present
+next_group state item = if has_place item then page_number state.attributes.page_just else state.area.present
 
 -- the lines of a group that are known when items go on in this group: all counted lines of the groups before it, and the ended
 -- lines of the others (own)

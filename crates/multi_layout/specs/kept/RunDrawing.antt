@@ -1,5 +1,6 @@
 -- The drawing of an area's items, of which characters beside each other are drawn as a run (own).
 use Rattle.std.specs.Prelude.{◌≡◌, ◌≢◌, ℕ, ◌+◌, ◌-◌, ◌^◌, ◌<◌, ◌≤◌, true, List, [], ◌∷◌, ◌++◌, map, length, Option, None, Some, IfSome, slice_get}
+use Rattle.multi_tag.specs.declared.just.LineJust.TheVariants.{Full}
 use Rattle.page_plane.specs.Plane.{BitPlane}
 use Rattle.sign_font.specs.Cell.{SizedCell}
 use Rattle.sign_font.specs.Sign.{SignData, CellData, cell_in, cell_numbered}
@@ -93,7 +94,7 @@ pub record PlacesNext (sign : SignData) (octets : List ℕ) (next : NextItem) (l
   pub stands : (before rest : List LaidItem) (item : LaidItem) → IsItemHere sign octets before rest item next lines cursor
       → NextStandsAt sign (map meant (before ++ item ∷ [])) (map meant (before ++ item ∷ rest)) place
   pub behind : IsBehindCharacter cursor'.state
-  pub apart : cursor'.state.attributes.line_just ≢ 5
+  pub apart : cursor'.state.attributes.line_just ≢ Full
   pub low : place.column ≤ 2 ^ 63
 
 -- the octets that were read behind the cursor (own)
