@@ -2,7 +2,6 @@
 
 ghost use Rattle.std.specs.Prelude.{◌≡◌};
 ghost use Rattle.std.specs.Option.{unwrap_or};
-ghost use Rattle.sign_font.specs.Sign.{SignData};
 ghost use Rattle.multi_meaning.specs.Address.{Standing};
 ghost use Rattle.multi_meaning.specs.Attributes.{whole_sign};
 ghost use Rattle.multi_meaning.specs.Meaning.{Does};
@@ -11,7 +10,7 @@ use crate::line::Character;
 use crate::terms::Terms;
 use multi_meaning::{FlashTimes, Rectangle};
 use multi_tag::{LineJust, PageJust, Tag};
-use sign_font::{Defaults, FontInfo};
+use sign_font::FontInfo;
 
 /// The values in force behind the items so far (NTCIP 1203 v03, MULTI).
 #[derive(Clone, Copy)]
@@ -68,14 +67,16 @@ impl Attributes {
     }
 
     /// Puts the values in force behind a tag that begins nothing, places nothing and asks for no font.
-    pub(crate) fn set(&mut self, defaults: Defaults, tag: Tag)
-        ensures set { (sign : SignData) (at : Standing) → sign.defaults ≡ defaults → self.old ≡ attributes_of at → IsSimple tag
-            → self.new ≡ attributes_of (standing_behind sign at (Does tag)) }
+    #[inline(always)]
+    pub(crate) fn set(&mut self, sign: &Terms<'_>, tag: Tag)
+        ensures set { (at : Standing) → self.old ≡ attributes_of at → IsSimple tag
+            → self.new ≡ attributes_of (standing_behind sign.now at (Does tag)) }
         ensures rectangle { self.new.rectangle ≡ self.old.rectangle }
     {
+        let defaults = sign.defaults;
         match tag {
-            Tag::LineJust(just) => self.line_just = just.unwrap_or(LineJust::of(defaults.line)),
-            Tag::PageJust(just) => self.page_just = just.unwrap_or(PageJust::of(defaults.page)),
+            Tag::LineJust(just) => self.line_just = just.unwrap_or(sign.line_just),
+            Tag::PageJust(just) => self.page_just = just.unwrap_or(sign.page_just),
             Tag::CharSpacing(pixels) => self.spacing = Some(pixels),
             Tag::CharSpacingEnd => self.spacing = None,
             Tag::PageTime { on, off } => {

@@ -40,7 +40,7 @@ pub fn judge_tag<const WORDS: bool>(
         Tag::Font(pick) => judge_font(sign, state, source, pick),
         Tag::Rect { x, y, w, h } => judge_rectangle(sign, state, x, y, w, h),
         _ => {
-            state.attributes.set(sign.defaults, tag);
+            state.attributes.set(sign, tag);
             Ok(())
         }
     }

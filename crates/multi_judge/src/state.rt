@@ -7,7 +7,6 @@ use crate::area::Area;
 use crate::attributes::{Attributes, whole_sign};
 use crate::terms::Terms;
 use multi_meaning::Rectangle;
-use multi_tag::{LineJust, PageJust};
 
 /// The running state behind some items of a string.
 #[derive(Clone, Copy)]
@@ -49,8 +48,8 @@ impl State {
             cycle: 0,
             attributes: Attributes {
                 font: sign.font,
-                line_just: LineJust::of(defaults.line),
-                page_just: PageJust::of(defaults.page),
+                line_just: sign.line_just,
+                page_just: sign.page_just,
                 spacing: None,
                 fore: defaults.fore,
                 back: defaults.back,

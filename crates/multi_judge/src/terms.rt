@@ -3,6 +3,7 @@
 ghost use Rattle.std.specs.Prelude.{◌≡◌, None};
 ghost use Rattle.sign_font.specs.Defaults.{default_fault, under};
 
+use multi_tag::{LineJust, PageJust};
 use sign_font::{Defaults, FontInfo, Sign};
 use std::marker::Model;
 
@@ -11,8 +12,10 @@ use std::marker::Model;
 pub struct Terms<'a> {
     /// The sign, with defaults of its own.
     pub bare: &'a Sign,
-    /// The defaults in force, and their font.
+    /// The defaults in force, their justifications and their font.
     pub defaults: Defaults,
+    pub(crate) line_just: LineJust,
+    pub(crate) page_just: PageJust,
     pub font: FontInfo,
 }
 
@@ -21,13 +24,15 @@ impl<'a> Model for Terms<'a> {
     ghost use Rattle.sign_font.specs.Defaults.{under};
     ghost use Rattle.sign_font.specs.Sign.{SignData, font_numbered, info_of};
     ghost use Rattle.sign_font.specs.Sound.{IsSound, IsWithin};
+    ghost use Rattle.multi_meaning.specs.Attributes.{default_line_just, default_page_just};
 
     ghost Value = { SignData };
 
     ghost view = { λ t. under t.bare.now t.defaults };
 
     ghost invariant = { λ t. IsSound (under t.bare.now t.defaults)
-        × (option_map info_of (font_numbered t.bare.now t.defaults.font) ≡ Some t.font) × IsWithin 1 64 t.font.height };
+        × (option_map info_of (font_numbered t.bare.now t.defaults.font) ≡ Some t.font) × IsWithin 1 64 t.font.height
+        × (t.line_just ≡ default_line_just t.defaults) × (t.page_just ≡ default_page_just t.defaults) };
 }
 
 impl<'a> Terms<'a> {
@@ -39,6 +44,8 @@ impl<'a> Terms<'a> {
         Terms {
             bare: sign,
             defaults,
+            line_just: LineJust::of(defaults.line),
+            page_just: PageJust::of(defaults.page),
             font: sign.font_of(&defaults),
         }
     }

@@ -199,6 +199,7 @@ fn judge_string(sign: &Terms<'_>, source: &mut Source<'_>) -> Result<Told, Offen
 }
 
 /// The same for lines of one kind: filled or not. What is kept is made here, so that no more of it is than that kind reads.
+#[inline(always)]
 fn judge_all<const WORDS: bool>(sign: &Terms<'_>, source: &mut Source<'_>) -> Result<Told, Offence>
     requires kind { sign.now.line_fill ≡ fill_of WORDS }
     requires fresh { source.old.steps ≡ 0 }

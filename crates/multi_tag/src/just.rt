@@ -7,24 +7,24 @@ ghost use Rattle.multi_tag.specs.Just.{line_just_of, line_number, page_just_of, 
 #[derive(Clone, Copy, Debug, PartialEq, Eq)]
 pub enum LineJust {
     /// At the left side.
-    Left,
+    Left = 2,
     /// In the middle of the line.
-    Centre,
+    Centre = 3,
     /// At the right side.
-    Right,
+    Right = 4,
     /// From side to side, with the room that is left between the characters.
-    Full,
+    Full = 5,
 }
 
 /// Where the lines of an area stand between its top and its bottom (NTCIP 1203 v03, MULTI tag 'jp').
 #[derive(Clone, Copy, Debug, PartialEq, Eq)]
 pub enum PageJust {
     /// At the top.
-    Top,
+    Top = 2,
     /// In the middle.
-    Middle,
+    Middle = 3,
     /// At the bottom.
-    Bottom,
+    Bottom = 4,
 }
 
 impl LineJust {
@@ -47,12 +47,7 @@ impl LineJust {
         ensures number { result ≡ line_number self }
         ensures known { (2 ≤ result) × (result ≤ 5) }
     {
-        match self {
-            LineJust::Left => 2,
-            LineJust::Centre => 3,
-            LineJust::Right => 4,
-            LineJust::Full => 5,
-        }
+        self as u8
     }
 }
 
@@ -75,10 +70,6 @@ impl PageJust {
         ensures number { result ≡ page_number self }
         ensures known { (2 ≤ result) × (result ≤ 4) }
     {
-        match self {
-            PageJust::Top => 2,
-            PageJust::Middle => 3,
-            PageJust::Bottom => 4,
-        }
+        self as u8
     }
 }

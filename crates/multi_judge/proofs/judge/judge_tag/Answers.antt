@@ -1,6 +1,5 @@
 use Rattle.std.proofs.Common.{◌≡◌, ap, sym, ◌∙◌, arith}
 use Rattle.multi_token.proofs.StepLemmas.{charged-zero}
-use Rattle.sign_font.specs.Sign.{SignData}
 use Rattle.multi_meaning.specs.declared.attributes.Rectangle.{Rectangle}
 use Rattle.multi_meaning.specs.Address.{standing}
 use Rattle.multi_judge.specs.State.{group_room, segment_room}
@@ -11,7 +10,7 @@ pub returns-in_default-clause-judged : goal.returns-in_default-clause-judged
 returns-in_default-clause-judged g c = λ items st unfilled.
     let sign = c.args.sign.now in
     let simple = simple_of c.args.tag c.in_default.not-NewPage c.in_default.not-NewLine c.in_default.not-Font c.in_default.not-Rect in
-    let after = c.set.ensures.set sign (standing sign items) (sym (ap (λ (s : SignData). s.defaults) c.sign.view_is)) st.attributes simple in
+    let after = c.set.ensures.set (standing sign items) st.attributes simple in
     judged-simple sign items c.args.state.now st c.set.new.self c.args.tag simple after
 
 pub returns-in_default-clause-limited : goal.returns-in_default-clause-limited

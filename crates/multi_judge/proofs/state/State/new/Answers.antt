@@ -5,5 +5,5 @@ use Rattle.multi_judge.proofs.state.State.new.Goals as goal
 
 pub returns-clause-start : goal.returns-clause-start
 returns-clause-start c =
-    rw (c.of.ensures, c.of-2.ensures, ap (λ (s : SignData). s.defaults) c.sign.view_is, c.whole_sign.ensures)
+    rw (c.sign.invariant.3, c.sign.invariant.4, ap (λ (s : SignData). s.defaults) c.sign.view_is, c.whole_sign.ensures)
     (state-start c.args.sign.now c.sign.inside.font c.new.result _ (rw (← c.sign.view_is) c.sign.invariant.1) c.new.ensures.sum c.new.ensures.below)
