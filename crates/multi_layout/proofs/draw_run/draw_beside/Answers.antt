@@ -118,3 +118,6 @@ returns-clause-forward c =
     let r = i.so_far before area rest h in
     let within = within_between c.args.sign.now c.args.source.now.octets (before ++ r.so_far.done) (r.so_far.left ++ rest) _ r.so_far.between in
     (i.forward, omega (arith, within, h.between.placed.accepted.short), i.least, i.most)
+
+pub returns-clause-so_far : goal.returns-clause-so_far
+returns-clause-so_far c = λ before area rest h. (c.loop-at.invariant.so_far before area rest h).so_far
