@@ -1,7 +1,7 @@
 //! Where each character of an accepted string stands (NTCIP 1203 v03, MULTI tags 'jl' and 'jp').
 
 ghost use Rattle.std.specs.Prelude.{◌≡◌, ℕ, ◌+◌, ◌-◌, ◌^◌, ◌<◌, ◌≤◌, ◌==◌, true, false, if◌then◌else◌, length, List, [], ◌∷◌, ◌++◌, Some, slice_get};
-ghost use Rattle.std.specs.List.{All, list_any};
+ghost use Rattle.std.specs.List.{list_any};
 ghost use Rattle.multi_tag.specs.Just.{page_number};
 ghost use Rattle.multi_meaning.specs.Address.{Spot, is_glyph};
 ghost use Rattle.multi_meaning.specs.Line.{glyph_width, height_of};
@@ -23,7 +23,6 @@ use multi_meaning::Place;
 /// `lines` are the counted lines of its group.
 pub fn place_at(attributes: &Attributes, area: &Area, lines: &[CountedLine], width: u8) -> Place
     requires below { IsBelow (2 ^ 43) area.now }
-    requires low { All (λ line. line.bottom ≤ 2 ^ 43) lines.now }
     ensures place { PlacesCharacter attributes.now area.now lines.now width result }
     ensures low { (result.column ≤ 2 ^ 62) × (result.row ≤ 2 ^ 62) }
 {
@@ -50,7 +49,6 @@ pub fn is_full(attributes: &Attributes, area: &Area, lines: &[CountedLine]) -> b
 /// The counted line behind so many ended ones.
 fn line_at(lines: &[CountedLine], ended: u64) -> CountedLine
     ensures line { (line : CountedLine) → slice_get lines.now ended ≡ Some line → result ≡ line }
-    ensures low { (k : ℕ) → All (λ line. line.bottom ≤ k) lines.now → result.bottom ≤ k }
 {
     lines.get(ended as usize).copied().unwrap_or_default()
 }

@@ -1,15 +1,10 @@
-use Rattle.std.proofs.Common.{◌≤◌, ◌^◌, ap, subst, arith}
+use Rattle.std.proofs.Common.{◌≤◌, ap, subst}
 use Rattle.multi_tag.specs.Just.{page_number}
 use Rattle.multi_meaning.specs.Address.{Spot, area_of, group_of, lines_of, line_before}
 use Rattle.multi_meaning.specs.Words.{largest}
 use Rattle.multi_judge.specs.declared.attributes.Attributes.{Attributes}
 use Rattle.multi_judge.proofs.PlaceLemmas.{group_with, place_from}
 use Rattle.multi_judge.proofs.place.place_at.Goals as goal
-
-pub row_at-requires : goal.row_at-requires
-row_at-requires c =
-    let bottom = c.line_at-line.ensures.low (2 ^ 43) c.requires.low in
-    record { low = omega (arith, bottom, c.from.ensures) }
 
 pub returns-clause-place : goal.returns-clause-place
 returns-clause-place c before all spot glyph at width area lines there apart order =
