@@ -8,7 +8,7 @@ use std::alloc::{AllocError, Global};
 use std::marker::Model;
 
 /// How many octets of room are made beyond what is asked for (own).
-const SPARE: usize = 4_096;
+const SPARE: usize = 1_024;
 
 /// The answers to whole lines that aren't written yet, and what there is of the answer to the line after them (own).
 ///
