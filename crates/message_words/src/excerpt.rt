@@ -1,5 +1,5 @@
 //! A message as a line, with a caret under a place.
-ghost use Rattle.std.specs.Prelude.{◌≢◌, ◌≤◌, All, IfSome};
+ghost use Rattle.std.specs.Prelude.{◌≡◌, ◌≢◌, ◌≤◌, All, IfSome, length, nat_lt, take};
 
 use crate::utf8::{encoded_at, is_shown};
 use crate::words::MORE;
@@ -41,14 +41,15 @@ fn plain_front(message: &[u8]) -> &str {
 /// several at once.
 #[inline(always)]
 pub(crate) fn plain_line(message: &[u8]) -> Option<(&[u8], bool)>
-    ensures { IfSome result (λ (front, more). All (λ c. c ≢ 10) front.now) }
+    ensures shown { IfSome result (λ (front, more). (front.now ≡ take 76 message.now) × (more ≡ nat_lt 76 (length message.now))) }
+    ensures plain { IfSome result (λ (front, more). All (λ c. c ≢ 10) front.now) }
 {
-    let front = message.get(..MOST).unwrap_or(message);
+    let front = &message[..MOST.min(message.len())];
     let (least, most) = reach(front);
     if least < b' ' || most > b'~' {
         return None;
     }
-    Some((front, front.len() < message.len()))
+    Some((front, MOST < message.len()))
 }
 
 /// The least octet and the largest, or `~` and a space where none is less or larger.

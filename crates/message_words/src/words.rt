@@ -1,5 +1,5 @@
 //! The words on a message, each written by `Display`.
-ghost use Rattle.std.specs.Prelude.{◌≢◌, All, IfSome};
+ghost use Rattle.std.specs.Prelude.{◌≡◌, ◌≢◌, All, IfSome, length, nat_lt, take};
 
 use crate::characters::FontCharacters;
 use crate::excerpt::{plain_line, write_excerpt, write_message};
@@ -21,7 +21,8 @@ impl<'a> MessageLine<'a> {
     /// The octets that are shown and whether more stand behind them, which [`MORE`] tells, if each is shown as it is.
     #[inline(always)]
     pub fn as_plain(&self) -> Option<(&'a [u8], bool)>
-        ensures { IfSome result (λ (front, more). All (λ c. c ≢ 10) front.now) }
+        ensures shown { IfSome result (λ (front, more). (front.now ≡ take 76 self.now.0.now) × (more ≡ nat_lt 76 (length self.now.0.now))) }
+        ensures plain { IfSome result (λ (front, more). All (λ c. c ≢ 10) front.now) }
     {
         plain_line(self.0)
     }
