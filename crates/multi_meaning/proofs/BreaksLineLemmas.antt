@@ -23,7 +23,7 @@ use Rattle.multi_meaning.specs.Words.{each_after}
 use Rattle.multi_meaning.proofs.GroupLemmas.{area_placing, glyph_put, placing_group}
 use Rattle.multi_meaning.proofs.FilledTagLemmas.{same_width}
 use Rattle.multi_meaning.proofs.GroupLaidLemmas.{group_laid, is_member, laid_as, member_parts, members, members_push, members_with, own_member, there}
-use Rattle.multi_meaning.proofs.JustLemmas.{same_page_just}
+use Rattle.multi_tag.proofs.JustLemmas.{same_page_just}
 use Rattle.multi_meaning.proofs.LaidItemLemmas.{are_laid}
 use Rattle.multi_meaning.proofs.LaidMoreLemmas.{apart, other_group}
 use Rattle.multi_meaning.proofs.LaidSpotLemmas.{LaidAs, filled_laid, laid_length}

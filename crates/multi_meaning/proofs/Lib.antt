@@ -27,7 +27,6 @@ pub mod GroupLemmas
 pub mod HeightLemmas
 pub mod InForceLemmas
 pub mod ItemAtLemmas
-pub mod JustLemmas
 pub mod LaidFitLemmas
 pub mod LaidItemLemmas
 pub mod LaidItemMoreLemmas
