@@ -5,8 +5,7 @@ use Rattle.std.proofs.lemmas.List.Sums.{sum_by_push}
 use Rattle.std.specs.List.{after_last, count_by}
 use Rattle.multi_meaning.specs.Address.{Spot, is_glyph, is_break}
 use Rattle.multi_meaning.specs.kept.Present.{ended_lines}
-use Rattle.multi_meaning.proofs.WordLemmas.{push_ind}
-use Rattle.multi_meaning.proofs.CutLemmas.{Cut, cut, cut_push}
+use Rattle.multi_meaning.proofs.CutLemmas.{Cut, cut, cut_ind, cut_push}
 use Rattle.multi_meaning.proofs.BehindLemmas.{after_last_is, ended_is, cut_if}
 use Rattle.multi_meaning.proofs.GroupLemmas.{glyph_put}
 
@@ -28,19 +27,10 @@ ended_glyph g s b = ended_if g s false (glyph_put s.at s.put b).0 ∙ sym (ended
 pub count_push : (g : List Spot) (s : Spot) → count_by is_break (g ++ s ∷ []) ≡ count_by is_break g + cond (is_break s) 1 0
 count_push g s = sum_by_push (λ s. cond (is_break s) 1 0) g s
 
-closed_if : (b : Bool) (c : Cut Spot) (s : Spot) → length (cut_if is_break b c s).closed ≡ length c.closed + cond b 1 0
-closed_if true c s = length_push c.closed (c.open' ++ s ∷ [])
-closed_if false c s = omega arith
-
 pub closed_count : (g : List Spot) → length (cut is_break g).closed ≡ count_by is_break g
-closed_count = push_ind (λ g. length (cut is_break g).closed ≡ count_by is_break g) refl step
-  where
-    step : (g : List Spot) (s : Spot) → length (cut is_break g).closed ≡ count_by is_break g → length (cut is_break (g ++ s ∷ [])).closed ≡ count_by is_break (g ++ s ∷ [])
-    step g s ih =
-        ap (λ (c : Cut Spot). length c.closed) (cut_push is_break g s)
-        ∙ closed_if (is_break s) (cut is_break g) s
-        ∙ ap (λ n. n + cond (is_break s) 1 0) ih
-        ∙ sym (count_push g s)
+closed_count = cut_ind is_break (λ g c. length c.closed ≡ count_by is_break g) refl
+    (λ g c s e ih. omega (arith, length_push c.closed (c.open' ++ s ∷ []), ih, rw e at (count_push g s)))
+    (λ g c s e ih. omega (arith, ih, rw e at (count_push g s)))
 
 -- there are as many ended lines as `nl`s
 pub ended_count : (g : List Spot) → length (ended_lines g) ≡ count_by is_break g

@@ -1,5 +1,5 @@
 -- The words on lists, at one more item and at two lists.
-use Rattle.std.proofs.Common.{◌≡◌, ℕ, ◌+◌, ◌≤◌, max, length, List, [], ◌∷◌, ◌++◌, Option, Some, None, suc, refl, sym, ap, subst, ◌∙◌, arith}
+use Rattle.std.proofs.Common.{◌≡◌, ◌⊎◌, inl, inr, ℕ, ◌+◌, ◌≤◌, max, length, List, [], ◌∷◌, ◌++◌, Option, Some, None, suc, refl, sym, ap, subst, ◌∙◌, arith}
 use Rattle.std.specs.List.{sum_by, filter_map, last_or, cons_option, All}
 use Rattle.std.specs.Option.{option_map, option_map_or}
 use Rattle.std.proofs.lemmas.List.{append_assoc, append-nil}
@@ -81,6 +81,17 @@ push_ind_from P step (y ∷ ys) xs h = subst P (append_assoc xs (y ∷ []) ys) (
 pub push_ind : {X : Type 0} (P : List X → Type 0) → P [] → ((xs : List X) (x : X) → P xs → P (xs ++ x ∷ [])) → (xs : List X) → P xs
 push_ind P none step xs = push_ind_from P step xs [] none
 
+-- what holds of no items, and of each of these behind those before it, holds of every front of them
+pub front_ind : {X : Type 0} (all : List X) (P : List X → Type 0) → P [] → ((some more : List X) (x : X) → all ≡ some ++ x ∷ more → P some → P (some ++ x ∷ [])) → (some more : List X) → all ≡ some ++ more → P some
+front_ind {X} all P none step = push_ind (λ some. (more : List X) → all ≡ some ++ more → P some) (λ more is. none)
+    (λ some x ih more is. let is' : all ≡ some ++ x ∷ more = is ∙ append_assoc some (x ∷ []) more in step some more x is' (ih (x ∷ more) is'))
+
+-- where the same is made of each item, the same is made of all
+pub each_same : {X Y : Type 0} (f g : List X → X → Y) (xs : List X) → ((some more : List X) (x : X) → xs ≡ some ++ x ∷ more → f some x ≡ g some x) → each_after f xs ≡ each_after g xs
+each_same f g xs same =
+    front_ind xs (λ some. each_after f some ≡ each_after g some) refl
+    (λ some more x is ih. each_after_push f some x ∙ (λ i. ih i ++ same some more x is i ∷ []) ∙ sym (each_after_push g some x)) xs [] (sym (append-nil xs))
+
 -- no value is more than the largest
 pub largest_most : {X : Type 0} (f : X → ℕ) (xs : List X) → All (λ x. f x ≤ largest f xs) xs
 largest_most {X} f = push_ind (λ xs. All (λ x. f x ≤ largest f xs) xs) (All-nil (λ x. f x ≤ 0)) step
@@ -92,11 +103,20 @@ largest_most {X} f = push_ind (λ xs. All (λ x. f x ≤ largest f xs) xs) (All-
         (All-weaker (λ y. f y ≤ largest f xs) (λ y. f y ≤ largest f (xs ++ x ∷ [])) (λ y h. omega (arith, h, more)) xs ih)
         (omega (arith, more))
 
+-- what holds of each holds around one of them, and of it
+pub All-around : {X : Type 0} (P : X → Type 0) (xs : List X) (x : X) (ys : List X) → All P (xs ++ x ∷ ys) → All P xs × P x × All P ys
+All-around P [] x ys h = (All-nil P, All-head P x ys h, All-tail P x ys h)
+All-around P (z ∷ xs) x ys h =
+    let rest = All-around P xs x ys (All-tail P z (xs ++ x ∷ ys) h) in
+    (All-cons P z xs (All-head P z (xs ++ x ∷ ys) h) rest.0, rest.1, rest.2)
+
 pub All-split : {X : Type 0} (P : X → Type 0) (xs : List X) (x : X) → All P (xs ++ x ∷ []) → All P xs × P x
-All-split P [] x h = (All-nil P, All-head P x [] h)
-All-split P (y ∷ xs) x h =
-    let more = All-split P xs x (All-tail P y (xs ++ x ∷ []) h) in
-    (All-cons P y xs (All-head P y (xs ++ x ∷ []) h) more.0, more.1)
+All-split P xs x h = let parts = All-around P xs x [] h in (parts.0, parts.1)
+
+-- there is a value or none
+pub cases_Option : {X : Type 0} (o : Option X) → (o ≡ None) ⊎ ((x : X) × (o ≡ Some x))
+cases_Option None = inl refl
+cases_Option (Some x) = inr (x, refl)
 
 -- two lists of nothing
 pub left_nil : {X : Type 0} (xs ys : List X) → xs ++ ys ≡ [] → xs ≡ []
