@@ -15,10 +15,10 @@ module _ (width : ℕ) where
   -- THE OPEN LINE WITH ONE MORE CHARACTER
 
   relaid_fits : (line : List Spot) → line_fits width line ≡ true → relaid width line ≡ line
-  relaid_fits line h = ap (λ b. broken_off (λ l. l) line (cond b None (cut_at_last is_space line))) h
+  relaid_fits line h = rw h refl
 
   relaid_wide : (line : List Spot) (o : Option (CutAt Spot)) → line_fits width line ≡ false → cut_at_last is_space line ≡ o → relaid width line ≡ broken_off (λ l. l) line o
-  relaid_wide line o h e = ap (λ b. broken_off (λ l. l) line (cond b None (cut_at_last is_space line))) h ∙ ap (broken_off (λ l. l) line) e
+  relaid_wide line o h e = rw (h, e) refl
 
   cut_one : (line : List Spot) (s : Spot) (b : Bool) (o : Option (CutAt Spot)) → is_space s ≡ b → cut_at_last is_space line ≡ o → cut_at_last is_space (line ++ s ∷ []) ≡ cut_more b line s o
   cut_one line s b o e f = cut_push is_space line s ∙ ap (λ b. cut_more b line s (cut_at_last is_space line)) e ∙ ap (cut_more b line s) f

@@ -39,6 +39,15 @@ bearers_empty b n = ap (λ t. cond (t || false) (cond t (b ∷ []) []) (b ∷ []
 abbrev pub placing : Spot → Type 0
 placing s = (is_glyph s ≡ true) ⊎ (is_break s ≡ true)
 
+module _ (P : List (List Spot) → Type 0) (none : P []) (more : (lines : List (List Spot)) (line : List Spot) (s : Spot) → glyphs line → is_break s ≡ true → P lines → P (lines ++ (line ++ s ∷ []) ∷ [])) where
+  both_parts : (group : List Spot) → All placing group → glyphs (cut is_break group).open' × P (cut is_break group).closed
+  both_parts = cut_ind_all is_break placing (λ c. glyphs c.open' × P c.closed) (All-nil (λ x. is_glyph x ≡ true), none)
+      (λ c s is e h. (All-nil (λ x. is_glyph x ≡ true), more c.closed c.open' s h.0 e h.1))
+      (λ c s is e h. (All-push (λ x. is_glyph x ≡ true) c.open' s h.0 (elim is [ inl glyph ↦ glyph | inr breaks ↦ absurd (both_ways (is_break s) e breaks) ]), h.1))
+
+  -- what holds of no lines, and stays with a line of characters and its end, holds of the lines of placing items that an `nl` ended
+  pub lines_ind : (group : List Spot) → All placing group → P (cut is_break group).closed
+  lines_ind group all = (both_parts group all).1
+
 pub open_glyphs : (group : List Spot) → All placing group → glyphs (cut is_break group).open'
-open_glyphs = cut_ind_all is_break placing (λ c. glyphs c.open') (All-nil (λ x. is_glyph x ≡ true)) (λ c s is e h. All-nil (λ x. is_glyph x ≡ true))
-    (λ c s is e h. All-push (λ x. is_glyph x ≡ true) c.open' s h (elim is [ inl glyph ↦ glyph | inr breaks ↦ absurd (both_ways (is_break s) e breaks) ]))
+open_glyphs group all = (both_parts (λ lines. Unit {0}) tt (λ lines line s h e k. tt) group all).0

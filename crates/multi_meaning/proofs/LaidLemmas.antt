@@ -13,7 +13,7 @@ use Rattle.multi_meaning.proofs.AreaLemmas.{filter_none}
 use Rattle.multi_meaning.proofs.WordLemmas.{All-around, cases_Option}
 use Rattle.multi_meaning.proofs.CutLemmas.{Cut, cut, cut_from, cut_ind_all, cut_more, longer_part, part, cut_push, cut_behind_is, cut_behind_push}
 use Rattle.multi_meaning.proofs.BehindLemmas.{after_last_is}
-use Rattle.multi_meaning.proofs.HeightLemmas.{filter_all, open_glyphs}
+use Rattle.multi_meaning.proofs.HeightLemmas.{filter_all, lines_ind, open_glyphs}
 use Rattle.multi_meaning.proofs.GroupLemmas.{glyph_put, break_put}
 use Rattle.multi_meaning.specs.Filling.{CutAt, dropped, soft_break, fill, filled_line, filled}
 use Rattle.multi_meaning.proofs.FillLemmas.{Filled, parts, parts_off, parts_more, fill_is, fill_push, broken_parts, relaid}
@@ -34,6 +34,9 @@ break_behind line s h b =
     filter-append is_break line (s ∷ [])
     ∙ ap (λ l. l ++ cond (is_break s) (s ∷ []) []) (glyph_none line h)
     ∙ ap (λ c. cond c (s ∷ []) []) b
+
+pub flat_map_push : {X Y : Type 0} (f : X → List Y) (xs : List X) (x : X) → flat_map f (xs ++ x ∷ []) ≡ flat_map f xs ++ f x
+flat_map_push f xs x = flat_map-append f xs (x ∷ []) ∙ ap (λ l. flat_map f xs ++ l) (append-nil (f x))
 
 module _ (width : ℕ) where
   -- THE FILLED GROUP
@@ -73,11 +76,7 @@ module _ (width : ℕ) where
       ∙ sym (append_assoc (front g) (last_parts g).closed (last_parts g).open')
 
   more_filled : (g : List Spot) (s : Spot) → filled (Some width) (g ++ s ∷ []) ≡ front g ++ filled_line width ((cut is_break g).open' ++ s ∷ [])
-  more_filled g s =
-      let c = cut is_break g in
-      ap (flat_map (filled_line width)) (cut_behind_push is_break g s)
-      ∙ flat_map-append (filled_line width) c.closed ((c.open' ++ s ∷ []) ∷ [])
-      ∙ ap (λ l. front g ++ l) (append-nil (filled_line width (c.open' ++ s ∷ [])))
+  more_filled g s = ap (flat_map (filled_line width)) (cut_behind_push is_break g s) ∙ flat_map_push (filled_line width) (cut is_break g).closed ((cut is_break g).open' ++ s ∷ [])
 
   -- one more `nl` stands behind the filled group
   pub filled_break : (g : List Spot) (s : Spot) → All IsPlacing g → is_break s ≡ true → filled (Some width) (g ++ s ∷ []) ≡ filled (Some width) g ++ s ∷ []
@@ -144,18 +143,13 @@ module _ (width : ℕ) where
   open_line_glyphs g placing = parts_glyphs (length (cut is_break g).open') (cut is_break g).open' (open_glyphs g placing)
 
   -- what an `nl` ended ends
-  front_ends : (g : List Spot) → All IsPlacing g → AllPass is_glyph (cut is_break g).open' × Ends (front g)
-  front_ends = cut_ind_all is_break IsPlacing (λ c. AllPass is_glyph c.open' × Ends (flat_map (filled_line width) c.closed)) (All-nil (λ x. is_glyph x ≡ true), inl refl)
-      (λ c s is e h.
-      let line = c.open' ++ s ∷ [] in
-      let one : Ends (filled_line width line) = rw (break_behind c.open' s h.0 e) (one_ends (fill (length (filter is_glyph line)) width (filter is_glyph line)) s e) in
-      let more : flat_map (filled_line width) (c.closed ++ line ∷ []) ≡ flat_map (filled_line width) c.closed ++ filled_line width line =
-      flat_map-append (filled_line width) c.closed (line ∷ []) ∙ ap (λ l. flat_map (filled_line width) c.closed ++ l) (append-nil (filled_line width line)) in
-      (All-nil (λ x. is_glyph x ≡ true), subst Ends (sym more) (ends_behind (flat_map (filled_line width) c.closed) (filled_line width line) h.1 one)))
-      (λ c s is e h. (All-push (λ x. is_glyph x ≡ true) c.open' s h.0 (elim is [ inl glyph ↦ glyph | inr breaks ↦ absurd (both_ways (is_break s) e breaks) ]), h.1))
+  front_ends : (g : List Spot) → All IsPlacing g → Ends (front g)
+  front_ends = lines_ind (λ lines. Ends (flat_map (filled_line width) lines)) (inl refl) (λ lines line s glyphs e h.
+      let one : Ends (filled_line width (line ++ s ∷ [])) = rw (break_behind line s glyphs e) (one_ends (fill (length (filter is_glyph (line ++ s ∷ []))) width (filter is_glyph (line ++ s ∷ []))) s e) in
+      rw (flat_map_push (filled_line width) lines (line ++ s ∷ [])) (ends_behind (flat_map (filled_line width) lines) (filled_line width (line ++ s ∷ [])) h one))
 
   pub ended_ends : (g : List Spot) → All IsPlacing g → Ends (ended g)
-  ended_ends g placing = ends_behind (front g) (last_parts g).closed (front_ends g placing).1 (closed_ends (length (cut is_break g).open') (cut is_break g).open')
+  ended_ends g placing = ends_behind (front g) (last_parts g).closed (front_ends g placing) (closed_ends (length (cut is_break g).open') (cut is_break g).open')
 
 -- a cut list with characters behind it
 cut_glyphs : (ys : List Spot) (c : Cut Spot) → AllPass is_glyph ys → cut_from is_break c ys ≡ record { closed = c.closed; open' = c.open' ++ ys }
