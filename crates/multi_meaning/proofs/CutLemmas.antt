@@ -1,9 +1,9 @@
 -- A list cut behind each item that passes a test, at one more item.
 use Rattle.std.proofs.Common.{◌≡◌, inl, inr, Bool, true, false, cond, List, [], ◌∷◌, ◌++◌, refl, sym, ap, ◌∙◌}
 use Rattle.std.specs.List.{All, fold, onto_first}
-use Rattle.std.proofs.lemmas.Bool.{cases_Bool}
+use Rattle.std.proofs.lemmas.Bool.{both_ways, cases_Bool}
 use Rattle.std.proofs.lemmas.List.{append_assoc, append-nil}
-use Rattle.std.proofs.lemmas.List.Sums.{fold_push}
+use Rattle.std.proofs.lemmas.List.Sums.{fold-append, fold_push}
 use Rattle.multi_meaning.specs.Words.{cut_behind}
 use Rattle.multi_meaning.proofs.WordLemmas.{All-split, push_ind}
 
@@ -66,12 +66,37 @@ module _ {X : Type 0} (p : X → Bool) where
     | inr e ↦ more xs c x (longer_part c x) (rw e refl) ∙ rw e (cut_parts xs (longer_part c x) ∙ ap (λ l. c.closed ++ l) (sym (onto_push c.open' x (cut_behind p xs))))
   ]
 
-  part_push : (h : List X) (x : X) → part (h ++ x ∷ []) ≡ (h ++ x ∷ []) ∷ []
-  part_push [] x = refl
-  part_push (y ∷ h) x = refl
+  -- the parts of two lists
+  pub cut_append : (xs ys : List X) → cut_behind p (xs ++ ys) ≡ (cut xs).closed ++ onto (cut xs).open' (cut_behind p ys)
+  cut_append xs ys =
+      let whole = cut_parts (xs ++ ys) (record { closed = []; open' = [] }) in
+      sym whole ∙ ap (λ (c : Cut X). c.closed ++ part c.open') (fold-append cut_more (record { closed = []; open' = [] }) xs ys) ∙ cut_parts ys (cut xs)
 
   pub cut_behind_is : (xs : List X) → cut_behind p xs ≡ (cut xs).closed ++ part (cut xs).open'
   cut_behind_is xs = sym (cut_parts xs (record { closed = []; open' = [] }))
+
+  -- the part of an item: it, and some items, none where it ends the part
+  pub record FirstPart (x : X) (xs : List X) : Type 0 where
+    pub rest : List X
+    pub others : List (List X)
+    pub is : cut_behind p (x ∷ xs) ≡ (x ∷ rest) ∷ others
+    pub ends : p x ≡ true → rest ≡ []
+
+  pub first_part : (x : X) (xs : List X) → FirstPart x xs
+  first_part x xs = elim (cases_Bool (p x)) [
+    | inl e ↦ record { rest = []; others = cut_behind p xs; is = rw e refl; ends = λ yes. refl }
+    | inr e ↦ of (cut_behind p xs) refl e
+  ]
+    where
+      of : (parts : List (List X)) → cut_behind p xs ≡ parts → p x ≡ false → FirstPart x xs
+      of [] is e = record { rest = []; others = []; is = rw (e, is) refl; ends = λ yes. refl }
+      of (one ∷ parts) is e = record { rest = one; others = parts; is = rw (e, is) refl; ends = λ yes. absurd (both_ways (p x) e yes) }
+
+  -- a list, an item, and more: the open part has the item, and the closed ones stay
+  pub cut_with_item : (xs : List X) (x : X) (ys : List X) → let first = first_part x ys in cut_behind p (xs ++ x ∷ ys) ≡ (cut xs).closed ++ ((cut xs).open' ++ x ∷ first.rest) ∷ first.others
+  cut_with_item xs x ys =
+      let first = first_part x ys in
+      cut_append xs (x ∷ ys) ∙ ap (λ l. (cut xs).closed ++ onto (cut xs).open' l) first.is ∙ ap (λ l. (cut xs).closed ++ l) (onto-cons (cut xs).open' (x ∷ first.rest) first.others)
 
   pub cut_push : (xs : List X) (x : X) → cut (xs ++ x ∷ []) ≡ cut_more (cut xs) x
   cut_push xs x = fold_push cut_more (record { closed = []; open' = [] }) xs x
@@ -95,7 +120,6 @@ module _ {X : Type 0} (p : X → Bool) where
 
   -- with one more item the parts are the closed ones, and the open one with the item
   pub cut_behind_push : (xs : List X) (x : X) → cut_behind p (xs ++ x ∷ []) ≡ (cut xs).closed ++ ((cut xs).open' ++ x ∷ []) ∷ []
-  cut_behind_push xs x = cut_behind_is (xs ++ x ∷ []) ∙ rw (cut_push xs x) (elim (cases_Bool (p x)) [
-    | inl e ↦ rw e (append-nil ((cut xs).closed ++ ((cut xs).open' ++ x ∷ []) ∷ []))
-    | inr e ↦ rw e (ap (λ l. (cut xs).closed ++ l) (part_push (cut xs).open' x))
-  ])
+  cut_behind_push xs x =
+      let one : cut_behind p (x ∷ []) ≡ (x ∷ []) ∷ [] = elim (cases_Bool (p x)) [ inl e ↦ rw e refl | inr e ↦ rw e refl ] in
+      cut_append xs (x ∷ []) ∙ rw one (ap (λ l. (cut xs).closed ++ l) (onto-cons (cut xs).open' (x ∷ []) []))
