@@ -1,16 +1,15 @@
 -- The second reading knows a dropped space: the segment in which it would stand is as wide on its line as it was before it.
-use Rattle.std.proofs.Common.{◌≡◌, inl, inr, ⊎_elim, ℕ, ◌+◌, ◌<◌, ◌≤◌, Bool, true, false, cond, ◌&&◌, ◌==◌, List, [], ◌∷◌, ◌++◌, length, refl, sym, ap, ◌∙◌, arith, append_assoc, append-nil}
+use Rattle.std.proofs.Common.{◌≡◌, inl, inr, ℕ, ◌<◌, ◌≤◌, true, cond, ◌&&◌, ◌==◌, List, [], ◌∷◌, ◌++◌, sym, ap, ◌∙◌, arith, append_assoc, append-nil}
 use Rattle.std.specs.Prelude.{slice_index_or}
 use Rattle.std.specs.List.{after_last, count_by}
-use Rattle.std.proofs.lemmas.Bool.{eq-eqb, ne_eqb, cases_lt}
-use Rattle.std.proofs.lemmas.List.{get_or_at, get_or_append_left, length_push}
+use Rattle.std.proofs.lemmas.Bool.{eq-eqb, ne_eqb}
+use Rattle.std.proofs.lemmas.List.{get_or_at}
 use Rattle.std.proofs.lemmas.List.Elements.{filter-append}
-use Rattle.std.proofs.lemmas.List.Sums.{sum_by_push, sum_by-append}
 use Rattle.multi_tag.specs.Just.{line_number}
 use Rattle.multi_meaning.specs.Address.{Spot, is_glyph, is_break, lines_of, segment}
 use Rattle.multi_meaning.specs.Line.{char_gap, glyph_width, width_of}
 use Rattle.multi_meaning.specs.kept.Present.{IsPlacing}
-use Rattle.multi_meaning.proofs.WordLemmas.{extent_push, push_ind}
+use Rattle.multi_meaning.proofs.WordLemmas.{extent_push}
 use Rattle.multi_meaning.proofs.CheckLemmas.{extent-append-le}
 use Rattle.multi_meaning.proofs.CutLemmas.{cut, cut_with_item, first_part}
 use Rattle.multi_meaning.proofs.BehindLemmas.{after_last_is}

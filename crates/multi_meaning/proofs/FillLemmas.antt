@@ -1,5 +1,5 @@
 -- Filling at one more character: every break is kept, and at most one is added, in the last line.
-use Rattle.std.proofs.Common.{◌≡◌, inl, inr, ℕ, ◌+◌, ◌<◌, ◌≤◌, Bool, true, false, cond, ◌&&◌, ◌==◌, List, [], ◌∷◌, ◌++◌, length, take, drop, Option, Some, None, zero, suc, refl, sym, ap, subst, ◌∙◌, arith, length-append, append_assoc, append-nil}
+use Rattle.std.proofs.Common.{◌≡◌, inl, inr, ℕ, ◌+◌, ◌<◌, ◌≤◌, true, false, cond, ◌&&◌, ◌==◌, List, [], ◌∷◌, ◌++◌, length, take, drop, Option, Some, None, zero, suc, refl, sym, ap, subst, ◌∙◌, arith, length-append, append_assoc, append-nil}
 use Rattle.std.proofs.lemmas.Bool.{and_from, and_parts, cases_Bool, false≢true, false_from_ne_true}
 use Rattle.std.specs.Prelude.{nat_le}
 use Rattle.std.specs.Option.{option_map}
@@ -7,11 +7,11 @@ use Rattle.std.proofs.lemmas.Bool.Decides.{nat_tests}
 use Rattle.std.proofs.lemmas.List.{take_all, drop_all, take-append-le, drop-append-le, take-append-drop}
 use Rattle.multi_tag.specs.Just.{line_number}
 use Rattle.multi_meaning.specs.Address.{Spot, is_glyph, segment}
-use Rattle.multi_meaning.specs.Line.{width_of, glyph_width, char_gap}
+use Rattle.multi_meaning.specs.Line.{width_of}
 use Rattle.multi_meaning.specs.Fit.{fit, line_fits}
 use Rattle.multi_meaning.proofs.FitLemmas.{smaller_fits}
 use Rattle.multi_meaning.proofs.LayoutLemmas.{segment_push}
-use Rattle.multi_meaning.proofs.WordLemmas.{cases_Option, gap_before}
+use Rattle.multi_meaning.proofs.WordLemmas.{cases_Option}
 use Rattle.multi_meaning.specs.Filling.{CutAt, longest_prefix, cut_at_last, longer, is_space, dropped, soft_break, broken_off, fill}
 use Rattle.multi_meaning.proofs.FillListLemmas.{longest_push, longest_all, longest_short, is_cut, none_take}
 

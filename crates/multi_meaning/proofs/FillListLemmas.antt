@@ -1,5 +1,5 @@
 -- The words on lists, at one more item.
-use Rattle.std.proofs.Common.{◌≡◌, ℕ, ◌+◌, ◌≤◌, Bool, inl, inr, zero, suc, true, false, cond, List, [], ◌∷◌, ◌++◌, length, take, Option, Some, None, refl, sym, ap, subst, ◌∙◌, arith, length-append, append_assoc, append-nil}
+use Rattle.std.proofs.Common.{◌≡◌, ℕ, ◌+◌, ◌≤◌, Bool, inl, inr, zero, suc, true, false, cond, List, [], ◌∷◌, ◌++◌, length, take, Option, Some, None, refl, ap, subst, ◌∙◌, arith, length-append}
 use Rattle.std.specs.List.{filter, last_or}
 use Rattle.std.specs.Option.{unwrap_or, option_map, option_map_or}
 use Rattle.std.proofs.lemmas.Bool.{both_ways, cases_Bool, cond_both}

@@ -1,13 +1,13 @@
 -- The sums of a filled group at one more character: in each case they follow from the sums before it, and from those of the open
 -- line's parts around its last space.
-use Rattle.std.proofs.Common.{◌≡◌, ℕ, Bool, true, false, cond, List, [], ◌∷◌, ◌++◌, Option, Some, None, refl, sym, ap, ◌∙◌, append_assoc}
+use Rattle.std.proofs.Common.{◌≡◌, ℕ, true, false, List, [], ◌∷◌, ◌++◌, Option, Some, None, refl, sym, ap, ◌∙◌, append_assoc}
 use Rattle.std.specs.List.{All}
 use Rattle.std.specs.Option.{option_map}
 use Rattle.multi_meaning.specs.Address.{Spot, is_glyph}
 use Rattle.multi_meaning.specs.Fit.{line_fits}
 use Rattle.multi_meaning.specs.kept.Present.{IsPlacing}
-use Rattle.multi_meaning.specs.Filling.{CutAt, cut_at_last, is_space, dropped, broken_off, longer, filled}
-use Rattle.multi_meaning.proofs.FillListLemmas.{cut_push, cut_more}
+use Rattle.multi_meaning.specs.Filling.{CutAt, cut_at_last, is_space, dropped, longer, filled}
+use Rattle.multi_meaning.proofs.FillListLemmas.{cut_push}
 use Rattle.multi_meaning.proofs.FillLemmas.{relaid}
 use Rattle.multi_meaning.proofs.LaidLemmas.{ended, open_line, filled_is, filled_character}
 

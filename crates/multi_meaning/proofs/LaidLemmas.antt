@@ -1,22 +1,21 @@
 -- A filled group at one more placing item, and the line that is open at its end.
-use Rattle.std.proofs.Common.{◌≡◌, ◌⊎◌, inl, inr, ℕ, ◌<◌, ◌≤◌, Bool, true, false, cond, List, [], ◌∷◌, ◌++◌, length, Option, Some, None, zero, suc, refl, sym, ap, subst, ◌∙◌, arith, append_assoc, append-nil}
+use Rattle.std.proofs.Common.{◌≡◌, ◌⊎◌, inl, inr, ℕ, ◌<◌, ◌≤◌, true, false, cond, List, [], ◌∷◌, ◌++◌, length, Some, zero, suc, refl, sym, ap, subst, ◌∙◌, arith, append_assoc, append-nil}
 use Rattle.std.specs.List.{filter, flat_map, after_last, All, AllPass}
-use Rattle.std.proofs.lemmas.Bool.{both_ways}
 use Rattle.std.proofs.lemmas.List.{length_push}
 use Rattle.std.proofs.lemmas.List.Concat.{flat_map-append}
-use Rattle.std.proofs.lemmas.List.Elements.{All-head, All-nil, All-tail, All-push, All-weaker, filter-append}
+use Rattle.std.proofs.lemmas.List.Elements.{All-head, All-tail, All-push, All-weaker, filter-append}
 use Rattle.std.proofs.lemmas.List.Sums.{fold-append}
 use Rattle.multi_meaning.specs.Address.{Spot, is_glyph, is_break}
 use Rattle.multi_meaning.specs.Fit.{line_fits}
 use Rattle.multi_meaning.specs.kept.Present.{IsPlacing}
 use Rattle.multi_meaning.proofs.AreaLemmas.{filter_none}
 use Rattle.multi_meaning.proofs.WordLemmas.{All-around, cases_Option}
-use Rattle.multi_meaning.proofs.CutLemmas.{Cut, cut, cut_from, cut_ind_all, cut_more, longer_part, part, cut_push, cut_behind_is, cut_behind_push}
+use Rattle.multi_meaning.proofs.CutLemmas.{Cut, cut, cut_from, cut_more, longer_part, part, cut_push, cut_behind_is, cut_behind_push}
 use Rattle.multi_meaning.proofs.BehindLemmas.{after_last_is}
 use Rattle.multi_meaning.proofs.HeightLemmas.{filter_all, lines_ind, open_glyphs}
 use Rattle.multi_meaning.proofs.GroupLemmas.{glyph_put, break_put}
-use Rattle.multi_meaning.specs.Filling.{CutAt, dropped, soft_break, fill, filled_line, filled}
-use Rattle.multi_meaning.proofs.FillLemmas.{Filled, parts, parts_off, parts_more, fill_is, fill_push, broken_parts, relaid}
+use Rattle.multi_meaning.specs.Filling.{dropped, soft_break, fill, filled_line, filled}
+use Rattle.multi_meaning.proofs.FillLemmas.{Filled, parts, parts_more, fill_is, fill_push, broken_parts, relaid}
 
 -- CHARACTERS
 

@@ -1,15 +1,13 @@
 -- The laid spots of a string: each is the spot itself or a dropped space, and those of a group are the group, filled.
-use Rattle.std.proofs.Common.{◌≡◌, ◌⊎◌, inl, inr, ℕ, Bool, true, false, cond, List, [], ◌∷◌, ◌++◌, length, Option, Some, None, zero, suc, refl, sym, ap, subst, ◌∙◌, append_assoc, append-nil}
+use Rattle.std.proofs.Common.{◌≡◌, ◌⊎◌, inl, inr, ℕ, true, List, [], ◌∷◌, ◌++◌, length, Option, Some, None, zero, suc, refl, sym, ap, subst, ◌∙◌, append_assoc, append-nil}
 use Rattle.std.specs.Prelude.{slice_index_or}
-use Rattle.std.specs.List.{filter, flat_map, All, AllPass}
-use Rattle.std.proofs.lemmas.List.Concat.{flat_map-append}
-use Rattle.std.proofs.lemmas.List.Elements.{All-head, All-tail}
+use Rattle.std.specs.List.{flat_map, All, AllPass}
 use Rattle.multi_meaning.specs.Address.{Spot, is_glyph, is_break}
 use Rattle.multi_meaning.specs.kept.Present.{IsPlacing}
 use Rattle.multi_meaning.proofs.WordLemmas.{All-around, cases_Option}
 use Rattle.multi_meaning.proofs.CutLemmas.{cut, cut_ind}
 use Rattle.multi_meaning.proofs.HeightLemmas.{lines_ind, open_glyphs}
-use Rattle.multi_meaning.specs.Filling.{CutAt, dropped, soft_break, broken_off, fill, filled_line, filled}
+use Rattle.multi_meaning.specs.Filling.{dropped, soft_break, fill, filled_line, filled}
 use Rattle.multi_meaning.proofs.FillLemmas.{broken_parts, fill_is, parts}
 use Rattle.multi_meaning.proofs.LaidLemmas.{front, filled_is, flat_map_push, glyphs_before, break_behind}
 
