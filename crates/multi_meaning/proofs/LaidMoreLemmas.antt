@@ -1,17 +1,23 @@
--- One more spot behind a string: the others are laid as they were, where it only goes behind its filled group.
-use Rattle.std.proofs.Common.{◌≡◌, ◌<◌, Bool, true, false, cond, ◌||◌, ◌==◌, List, [], ◌∷◌, ◌++◌, length, refl, sym, ap, subst, ◌∙◌, arith, length-append, append-nil}
+-- One more spot, and one more item, behind a string: the others are laid as they were, where it only goes behind its filled group.
+use Rattle.std.proofs.Common.{◌≡◌, inl, inr, true, false, cond, List, [], ◌∷◌, ◌++◌, length, Some, None, refl, sym, ap, ◌∙◌, append_assoc, append-nil}
 use Rattle.std.specs.Prelude.{slice_index_or}
 use Rattle.std.specs.List.{All}
-use Rattle.std.proofs.lemmas.Bool.{eqb-true, false≢true}
+use Rattle.std.specs.Option.{option_map}
+use Rattle.std.proofs.lemmas.Bool.{both_ways, cases_Bool, false_from_ne_true}
 use Rattle.std.proofs.lemmas.List.{get_or_at, get_or_append_left}
+use Rattle.std.proofs.lemmas.List.Elements.{All-push}
 use Rattle.multi_tag.specs.Just.{page_number}
+use Rattle.sign_font.specs.Sign.{SignData}
 use Rattle.sign_font.specs.declared.parts.LineFill.{LineFill}
-use Rattle.multi_meaning.specs.Address.{Spot, is_glyph, is_break, area_of, group_of}
+use Rattle.multi_meaning.specs.Address.{Spot, Put, is_glyph, is_break, group_of, put_at, spot_at, spots, standing}
 use Rattle.multi_meaning.specs.Filling.{filled}
 use Rattle.multi_meaning.specs.Laid.{fill_at, laid_spot}
-use Rattle.multi_meaning.proofs.GroupLemmas.{area_placing, placing_group}
-use Rattle.multi_meaning.proofs.GroupLaidLemmas.{is_member, item_of, member_parts, members, members_push, members_with, own_member}
-use Rattle.multi_meaning.proofs.LaidSpotLemmas.{filled_laid, laid_length}
+use Rattle.multi_meaning.specs.LaidItems.{laid_item, laid_items, laid_of}
+use Rattle.multi_meaning.specs.Meaning.{Meaning}
+use Rattle.multi_meaning.specs.Words.{each_after}
+use Rattle.multi_meaning.proofs.GroupLaidLemmas.{has_place, is_member, member_at, members_push, own_member, own_placing, there, whole_length}
+use Rattle.multi_meaning.proofs.SpotsLemmas.{spots_more, spots_nothing, spots_with}
+use Rattle.multi_meaning.proofs.WordLemmas.{cases_Option, each_after_push, each_same}
 
 module _ (setting : LineFill) (all : List Spot) (s : Spot) where
   -- one more spot leaves this one of the string where it is laid
@@ -22,70 +28,78 @@ module _ (setting : LineFill) (all : List Spot) (s : Spot) where
   abbrev pub LeavesAll : Type 0
   LeavesAll = (some more : List Spot) (x : Spot) → all ≡ some ++ x ∷ more → Leaves some x
 
-  -- a group to which it doesn't belong stays
-  pub other_group : (x : Spot) → is_member x.at.area (page_number x.at.page_just) s ≡ false → group_of x (all ++ s ∷ []) ≡ group_of x all
-  other_group x e = members_push x.at.area (page_number x.at.page_just) all s false e ∙ append-nil (group_of x all)
+  -- it leaves what is in a group to which it doesn't belong
+  group_stays : (some : List Spot) (x : Spot) → is_member x.at.area (page_number x.at.page_just) s ≡ false → Leaves some x
+  group_stays some x none =
+      let same : group_of x (all ++ s ∷ []) ≡ group_of x all = members_push x.at.area (page_number x.at.page_just) all s false none ∙ append-nil (group_of x all) in
+      ap (λ g. cond (is_glyph x) (slice_index_or (filled (fill_at setting x.at) g) (length (group_of x some)) x) x) same
 
-  -- one of another group is in a group to which the new one doesn't belong
-  pub apart : (x : Spot) → is_glyph x ≡ true → is_member s.at.area (page_number s.at.page_just) x ≡ false → (b : Bool) → is_member x.at.area (page_number x.at.page_just) s ≡ b → is_member x.at.area (page_number x.at.page_just) s ≡ false
-  apart x glyph other false e = e
-  apart x glyph other true e =
-      let (kind, area, just) = member_parts (is_glyph s || is_break s) (s.at.area == x.at.area) (page_number s.at.page_just == page_number x.at.page_just) e in
-      let at_area : s.at.area ≡ x.at.area = eqb-true s.at.area x.at.area area in
-      let at_just : page_number s.at.page_just ≡ page_number x.at.page_just = eqb-true (page_number s.at.page_just) (page_number x.at.page_just) just in
-      absurd (false≢true (sym other ∙ ap (λ a. is_member a (page_number s.at.page_just) x) at_area ∙ ap (λ j. is_member x.at.area j x) at_just ∙ own_member setting all x glyph))
+  -- and so one that isn't in its group
+  pub other_leaves : (some : List Spot) (x : Spot) → is_member s.at.area (page_number s.at.page_just) x ≡ false → Leaves some x
+  other_leaves some x apart = elim (cases_Bool (is_glyph x)) [
+    | inl glyph ↦ group_stays some x (false_from_ne_true (is_member x.at.area (page_number x.at.page_just) s) (λ member.
+        let (area, just) = member_at x.at.area (page_number x.at.page_just) s member in
+        both_ways (is_member s.at.area (page_number s.at.page_just) x) apart ((λ i. is_member (area i) (just i) x) ∙ own_member x glyph)))
+    | inr other ↦ rw other refl
+  ]
 
   -- a spot of no group leaves all others
   pub unplaced_leaves : is_glyph s ≡ false → is_break s ≡ false → LeavesAll
-  unplaced_leaves glyph break some more x is =
-      let none : is_member x.at.area (page_number x.at.page_just) s ≡ false = rw (glyph, break) refl in
-      ap (λ g. cond (is_glyph x) (slice_index_or (filled (fill_at setting x.at) g) (length (group_of x some)) x) x) (other_group x none)
+  unplaced_leaves glyph break some more x is = group_stays some x (rw (glyph, break) refl)
 
-  module _ (s' : Spot) (placing : is_member s.at.area (page_number s.at.page_just) s ≡ true)
+  module _ (s' : Spot) (member : is_member s.at.area (page_number s.at.page_just) s ≡ true)
       (same : All (λ (x : Spot). x.at.area ≡ s.at.area → fill_at setting x.at ≡ fill_at setting s.at) all)
       (grows : filled (fill_at setting s.at) (group_of s (all ++ s ∷ [])) ≡ filled (fill_at setting s.at) (group_of s all) ++ s' ∷ []) where
-    abbrev own : List Spot → List Spot
-    own l = members s.at.area (page_number s.at.page_just) l
-
-    own_size : length (own all) ≡ length (filled (fill_at setting s.at) (own all))
-    own_size = laid_length (own all) (filled (fill_at setting s.at) (own all)) (filled_laid (fill_at setting s.at) (own all) (placing_group (page_number s.at.page_just) (area_of s all) (area_placing all s)))
-
-    -- the place of a spot of its group
-    to_own : (some : List Spot) (x : Spot) (l : List Spot) → fill_at setting x.at ≡ fill_at setting s.at → x.at.area ≡ s.at.area → page_number x.at.page_just ≡ page_number s.at.page_just
-        → slice_index_or (filled (fill_at setting x.at) (group_of x l)) (length (group_of x some)) x ≡ slice_index_or (filled (fill_at setting s.at) (own l)) (length (own some)) x
-    to_own some x l fill area just =
-        ap (λ o. slice_index_or (filled o (group_of x l)) (length (group_of x some)) x) fill
-        ∙ ap (λ a. slice_index_or (filled (fill_at setting s.at) (members a (page_number x.at.page_just) l)) (length (members a (page_number x.at.page_just) some)) x) area
-        ∙ ap (λ j. slice_index_or (filled (fill_at setting s.at) (members s.at.area j l)) (length (members s.at.area j some)) x) just
-
-    -- a character of its group
-    own_left : (some more : List Spot) (x : Spot) → all ≡ some ++ x ∷ more → is_member s.at.area (page_number s.at.page_just) x ≡ true
-        → slice_index_or (filled (fill_at setting x.at) (group_of x (all ++ s ∷ []))) (length (group_of x some)) x ≡ slice_index_or (filled (fill_at setting x.at) (group_of x all)) (length (group_of x some)) x
-    own_left some more x is m =
-        let (kind, area, just) = member_parts (is_glyph x || is_break x) (x.at.area == s.at.area) (page_number x.at.page_just == page_number s.at.page_just) m in
-        let at_area : x.at.area ≡ s.at.area = eqb-true x.at.area s.at.area area in
-        let at_just : page_number x.at.page_just ≡ page_number s.at.page_just = eqb-true (page_number x.at.page_just) (page_number s.at.page_just) just in
-        let fill : fill_at setting x.at ≡ fill_at setting s.at = item_of (λ (x : Spot). x.at.area ≡ s.at.area → fill_at setting x.at ≡ fill_at setting s.at) some x more (subst (All (λ (x : Spot). x.at.area ≡ s.at.area → fill_at setting x.at ≡ fill_at setting s.at)) is same) at_area in
-        let split : own all ≡ own some ++ x ∷ own more = ap own is ∙ members_with s.at.area (page_number s.at.page_just) some more x m in
-        let within : length (own some) < length (filled (fill_at setting s.at) (own all)) = omega (arith, own_size, ap length split, length-append (own some) (x ∷ own more)) in
-        let here : slice_index_or (filled (fill_at setting s.at) (own (all ++ s ∷ []))) (length (own some)) x ≡ slice_index_or (filled (fill_at setting s.at) (own all)) (length (own some)) x =
-        ap (λ l. slice_index_or l (length (own some)) x) grows ∙ get_or_append_left (filled (fill_at setting s.at) (own all)) (s' ∷ []) x (length (own some)) within in
-        to_own some x (all ++ s ∷ []) fill at_area at_just ∙ here ∙ sym (to_own some x all fill at_area at_just)
-
-    left_if : (some more : List Spot) (x : Spot) (b c : Bool) → is_glyph x ≡ b → is_member s.at.area (page_number s.at.page_just) x ≡ c → all ≡ some ++ x ∷ more
-        → cond b (slice_index_or (filled (fill_at setting x.at) (group_of x (all ++ s ∷ []))) (length (group_of x some)) x) x ≡ cond b (slice_index_or (filled (fill_at setting x.at) (group_of x all)) (length (group_of x some)) x) x
-    left_if some more x false c glyph m is = refl
-    left_if some more x true true glyph m is = own_left some more x is m
-    left_if some more x true false glyph m is =
-        ap (λ g. slice_index_or (filled (fill_at setting x.at) g) (length (group_of x some)) x) (other_group x (apart x glyph m (is_member x.at.area (page_number x.at.page_just) s) refl))
+    -- a spot of its group, by its place in the filled group with the new one
+    with_it : (some more : List Spot) (x : Spot) → all ++ s ∷ [] ≡ some ++ x ∷ more → is_member s.at.area (page_number s.at.page_just) x ≡ true
+        → laid_spot setting (all ++ s ∷ []) some x ≡ slice_index_or (filled (fill_at setting s.at) (group_of s all) ++ s' ∷ []) (length (group_of s some)) x
+    with_it some more x is own =
+        let P = λ (x : Spot). x.at.area ≡ s.at.area → fill_at setting x.at ≡ fill_at setting s.at in
+        there setting (all ++ s ∷ []) s.at.area (page_number s.at.page_just) (fill_at setting s.at) (own_placing (all ++ s ∷ []) s) (All-push P all s same (λ e. refl)) some more x is own
+        ∙ ap (λ l. slice_index_or l (length (group_of s some)) x) grows
 
     -- it leaves all others
     pub placed_leaves : LeavesAll
-    placed_leaves some more x is = left_if some more x (is_glyph x) (is_member s.at.area (page_number s.at.page_just) x) refl refl is
+    placed_leaves some more x is = elim (cases_Bool (is_member s.at.area (page_number s.at.page_just) x)) [
+      | inr other ↦ other_leaves some x other
+      | inl own ↦
+          with_it some (more ++ s ∷ []) x (ap (λ l. l ++ s ∷ []) is ∙ append_assoc some (x ∷ more) (s ∷ [])) own
+          ∙ get_or_append_left (filled (fill_at setting s.at) (group_of s all)) (s' ∷ []) x (length (group_of s some)) (has_place setting all s.at.area (page_number s.at.page_just) (fill_at setting s.at) (own_placing all s) same some more x is own)
+          ∙ sym (there setting all s.at.area (page_number s.at.page_just) (fill_at setting s.at) (own_placing all s) same some more x is own)
+    ]
 
     -- and is laid itself as the last of its group
-    pub laid_last : is_glyph s ≡ true → laid_spot setting (all ++ s ∷ []) all s ≡ s'
-    laid_last glyph =
-        ap (λ b. cond b (slice_index_or (filled (fill_at setting s.at) (own (all ++ s ∷ []))) (length (own all)) s) s) glyph
-        ∙ ap (λ l. slice_index_or l (length (own all)) s) grows
-        ∙ get_or_at (filled (fill_at setting s.at) (own all)) s' [] s (length (own all)) (sym own_size)
+    pub laid_last : laid_spot setting (all ++ s ∷ []) all s ≡ s'
+    laid_last =
+        with_it all [] s refl member
+        ∙ get_or_at (filled (fill_at setting s.at) (group_of s all)) s' [] s (length (group_of s all)) (sym (whole_length setting all s.at.area (page_number s.at.page_just) (fill_at setting s.at) (own_placing all s) same))
+
+-- THE ITEMS
+
+module _ (setting : LineFill) (sign : SignData) where
+  -- an item as it is laid out among these spots
+  abbrev pub among : List Spot → List Meaning → Meaning → Meaning
+  among all before item = laid_of item (option_map (laid_spot setting all (spots sign before)) (spot_at sign.defaults (standing sign before) item))
+
+  -- an item that puts nothing
+  pub laid_nothing : (items : List Meaning) (x : Meaning) → put_at sign.defaults (standing sign items) x ≡ None → laid_items setting sign (items ++ x ∷ []) (items ++ x ∷ []) ≡ laid_items setting sign items items ++ x ∷ []
+  laid_nothing items x none =
+      each_after_push (laid_item setting sign (items ++ x ∷ [])) items x
+      ∙ ap (λ all. each_after (among all) items ++ among all items x ∷ []) (spots_nothing sign items x none)
+      ∙ rw none refl
+
+  -- one that leaves the others where they are laid, and is laid itself as this spot
+  pub laid_behind : (items : List Meaning) (x : Meaning) (put : Put) (y : Spot) → put_at sign.defaults (standing sign items) x ≡ Some put
+      → LeavesAll setting (spots sign items) (record { at = standing sign items; put = put })
+      → laid_spot setting (spots sign items ++ record { at = standing sign items; put = put } ∷ []) (spots sign items) (record { at = standing sign items; put = put }) ≡ y
+      → laid_items setting sign (items ++ x ∷ []) (items ++ x ∷ []) ≡ laid_items setting sign items items ++ laid_of x (Some y) ∷ []
+  laid_behind items x put y puts leaves last =
+      let all = spots sign items ++ record { at = standing sign items; put = put } ∷ [] in
+      let stay : each_after (among all) items ≡ laid_items setting sign items items = each_same (among all) (among (spots sign items)) items (λ some more z is. elim (cases_Option (put_at sign.defaults (standing sign some) z)) [
+        | inl none ↦ rw none refl
+        | inr (p, e) ↦ rw e (ap (λ y. laid_of z (Some y)) (leaves (spots sign some) _ (record { at = standing sign some; put = p }) (ap (spots sign) is ∙ spots_with sign some z more p e)))
+      ]) in
+      each_after_push (laid_item setting sign (items ++ x ∷ [])) items x
+      ∙ ap (λ l. each_after (among l) items ++ among l items x ∷ []) (spots_more sign items x put puts)
+      ∙ ap (λ l. l ++ among all items x ∷ []) stay
+      ∙ rw puts (ap (λ y. laid_items setting sign items items ++ laid_of x (Some y) ∷ []) last)

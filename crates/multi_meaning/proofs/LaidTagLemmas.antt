@@ -8,16 +8,14 @@ use Rattle.multi_tag.specs.Just.{page_number}
 use Rattle.sign_font.specs.declared.parts.LineFill.{LineFill}
 use Rattle.sign_font.specs.declared.parts.LineFill.TheVariants.{Off, Words}
 use Rattle.sign_font.specs.Sign.{SignData}
-use Rattle.multi_meaning.specs.Address.{Break, Put, Spot, Standing, area_of, group_of, spots, standing}
+use Rattle.multi_meaning.specs.Address.{Break, Put, Spot, Standing, group_of, put_at, spots, standing}
 use Rattle.multi_meaning.specs.Filling.{filled}
 use Rattle.multi_meaning.specs.Laid.{fill_at}
-use Rattle.multi_meaning.specs.LaidItems.{laid_items}
+use Rattle.multi_meaning.specs.LaidItems.{laid_items, laid_of}
 use Rattle.multi_meaning.specs.Meaning.{Meaning, Does}
-use Rattle.multi_meaning.proofs.GroupLemmas.{area_placing, placing_group}
-use Rattle.multi_meaning.proofs.GroupLaidLemmas.{is_member, members_push}
-use Rattle.multi_meaning.proofs.LaidItemMoreLemmas.{laid_behind, laid_nothing}
+use Rattle.multi_meaning.proofs.GroupLaidLemmas.{is_member, members_push, own_placing}
 use Rattle.multi_meaning.proofs.LaidLemmas.{filled_break}
-use Rattle.multi_meaning.proofs.LaidMoreLemmas.{placed_leaves, unplaced_leaves}
+use Rattle.multi_meaning.proofs.LaidMoreLemmas.{laid_behind, laid_last, laid_nothing, placed_leaves, unplaced_leaves}
 use Rattle.multi_meaning.proofs.RectangleLemmas.{same_rectangle}
 use Rattle.std.proofs.lemmas.Bool.{eq-eqb}
 
@@ -38,24 +36,29 @@ module _ (setting : LineFill) (sign : SignData) (items : List Meaning) where
       (λ x h same. fill_same setting x.at (standing sign items) (h same)) (spots sign items)
       (subst (λ l. All (λ (x : Spot). x.at.area ≡ (standing sign items).area → x.at.rectangle ≡ (standing sign items).rectangle) (spots sign l)) (append-nil items) (same_rectangle sign items []))
 
-  -- what ends a line goes behind its filled group
-  break_grows : (o : Option ℕ) (gap : Option ℕ) → filled o (group_of (spot_of (Break gap)) (spots sign items ++ spot_of (Break gap) ∷ [])) ≡ filled o (group_of (spot_of (Break gap)) (spots sign items)) ++ spot_of (Break gap) ∷ []
-  break_grows o gap = ap (filled o) (members_push (standing sign items).area (page_number (standing sign items).page_just) (spots sign items) (spot_of (Break gap)) true member) ∙ filled_more o
-    where
-      member : is_member (standing sign items).area (page_number (standing sign items).page_just) (spot_of (Break gap)) ≡ true
-      member = rw (eq-eqb (standing sign items).area (standing sign items).area refl, eq-eqb (page_number (standing sign items).page_just) (page_number (standing sign items).page_just) refl) refl
+  -- a placing item behind whose group goes this spot, as it is filled, is laid as this spot
+  pub laid_placing : (x : Meaning) (put : Put) (y : Spot) → put_at sign.defaults (standing sign items) x ≡ Some put → is_member (standing sign items).area (page_number (standing sign items).page_just) (spot_of put) ≡ true
+      → filled (fill_at setting (standing sign items)) (group_of (spot_of put) (spots sign items) ++ spot_of put ∷ []) ≡ filled (fill_at setting (standing sign items)) (group_of (spot_of put) (spots sign items)) ++ y ∷ []
+      → laid_items setting sign (items ++ x ∷ []) (items ++ x ∷ []) ≡ laid_items setting sign items items ++ laid_of x (Some y) ∷ []
+  laid_placing x put y puts member is =
+      let here = standing sign items in
+      let all = spots sign items in
+      let grows = ap (filled (fill_at setting here)) (members_push here.area (page_number here.page_just) all (spot_of put) true member) ∙ is in
+      laid_behind setting sign items x put y puts (placed_leaves setting all (spot_of put) y member same_fill grows) (laid_last setting all (spot_of put) y member same_fill grows)
 
-      filled_more : (o : Option ℕ) → filled o (group_of (spot_of (Break gap)) (spots sign items) ++ spot_of (Break gap) ∷ []) ≡ filled o (group_of (spot_of (Break gap)) (spots sign items)) ++ spot_of (Break gap) ∷ []
-      filled_more None = refl
-      filled_more (Some width) = filled_break width (group_of (spot_of (Break gap)) (spots sign items)) (spot_of (Break gap)) (placing_group (page_number (standing sign items).page_just) (area_of (spot_of (Break gap)) (spots sign items)) (area_placing (spots sign items) (spot_of (Break gap)))) refl
+  -- the end of a line goes behind its filled group
+  break_behind : (o : Option ℕ) (gap : Option ℕ) → let nl = spot_of (Break gap) in filled o (group_of nl (spots sign items) ++ nl ∷ []) ≡ filled o (group_of nl (spots sign items)) ++ nl ∷ []
+  break_behind None gap = refl
+  break_behind (Some width) gap = filled_break width (group_of (spot_of (Break gap)) (spots sign items)) (spot_of (Break gap)) (own_placing (spots sign items) (spot_of (Break gap))) refl
 
   abbrev LaidAsItself : Tag → Type 0
   LaidAsItself tag = laid_items setting sign (items ++ Does tag ∷ []) (items ++ Does tag ∷ []) ≡ laid_items setting sign items items ++ Does tag ∷ []
 
   pub laid_tag : (tag : Tag) → LaidAsItself tag
   laid_tag (NewLine gap) =
-      laid_behind setting sign items (Does (NewLine gap)) (Break gap) (spot_of (Break gap)) refl
-      (placed_leaves setting (spots sign items) (spot_of (Break gap)) (spot_of (Break gap)) (rw (eq-eqb (standing sign items).area (standing sign items).area refl, eq-eqb (page_number (standing sign items).page_just) (page_number (standing sign items).page_just) refl) refl) same_fill (break_grows (fill_at setting (standing sign items)) gap)) refl
+      let here = standing sign items in
+      let member : is_member here.area (page_number here.page_just) (spot_of (Break gap)) ≡ true = rw (eq-eqb here.area here.area refl, eq-eqb (page_number here.page_just) (page_number here.page_just) refl) refl in
+      laid_placing (Does (NewLine gap)) (Break gap) (spot_of (Break gap)) refl member (break_behind (fill_at setting here) gap)
   laid_tag NewPage = laid_behind setting sign items (Does NewPage) _ _ refl (unplaced_leaves setting (spots sign items) _ refl refl) refl
   laid_tag (Back colour) = laid_behind setting sign items (Does (Back colour)) _ _ refl (unplaced_leaves setting (spots sign items) _ refl refl) refl
   laid_tag tag = laid_nothing setting sign items (Does tag) refl

@@ -29,7 +29,6 @@ pub mod InForceLemmas
 pub mod ItemAtLemmas
 pub mod LaidFitLemmas
 pub mod LaidItemLemmas
-pub mod LaidItemMoreLemmas
 pub mod LaidLemmas
 pub mod LaidMoreLemmas
 pub mod LaidSpotLemmas
@@ -54,7 +53,6 @@ pub mod StandingLemmas
 pub mod StateLemmas
 pub mod TimesLemmas
 pub mod UnfilledItemLemmas
-pub mod UnfilledLemmas
 pub mod UnplacedLemmas
 pub mod VerdictExamples
 pub mod VerdictLemmas
