@@ -26,7 +26,7 @@ use Rattle.multi_meaning.proofs.LaidLemmas.{ended, filled_is, open_line, open_li
 use Rattle.multi_meaning.proofs.LaidMoreLemmas.{laid_nothing}
 use Rattle.multi_meaning.proofs.LaidTagLemmas.{laid_placing, laid_tag}
 use Rattle.multi_meaning.proofs.BreaksLineLemmas.{BreaksLine, breaks_line}
-use Rattle.multi_meaning.proofs.OpenFitLemmas.{OpenLinesFit, open_lines_fit}
+use Rattle.multi_meaning.proofs.NarrowLemmas.{OpenLinesFit, open_lines_fit}
 use Rattle.multi_meaning.proofs.PutsAtLemmas.{space_glyph}
 use Rattle.multi_meaning.proofs.FoundLemmas.{spaces_is}
 use Rattle.multi_meaning.proofs.WordLemmas.{cases_Option}

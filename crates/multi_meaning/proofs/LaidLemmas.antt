@@ -1,5 +1,5 @@
 -- A filled group at one more placing item, and the line that is open at its end.
-use Rattle.std.proofs.Common.{◌≡◌, ◌⊎◌, inl, inr, ℕ, ◌<◌, ◌≤◌, true, false, cond, List, [], ◌∷◌, ◌++◌, length, Some, zero, suc, refl, sym, ap, subst, ◌∙◌, arith, append_assoc, append-nil}
+use Rattle.std.proofs.Common.{◌≡◌, ◌⊎◌, inl, inr, ℕ, ◌<◌, ◌≤◌, true, false, cond, List, [], ◌∷◌, ◌++◌, length, Option, Some, None, zero, suc, refl, sym, ap, subst, ◌∙◌, arith, append_assoc, append-nil}
 use Rattle.std.specs.List.{filter, flat_map, after_last, All, AllPass}
 use Rattle.std.proofs.lemmas.List.{length_push}
 use Rattle.std.proofs.lemmas.List.Concat.{flat_map-append}
@@ -149,6 +149,15 @@ module _ (width : ℕ) where
 
   pub ended_ends : (g : List Spot) → All IsPlacing g → Ends (ended g)
   ended_ends g placing = ends_behind (front g) (last_parts g).closed (front_ends g placing) (closed_ends (length (cut is_break g).open') (cut is_break g).open')
+
+-- a group, filled to a width or to none: nothing, and one more `nl`
+pub filled_none : (o : Option ℕ) → filled o [] ≡ []
+filled_none None = refl
+filled_none (Some width) = refl
+
+pub filled_behind : (o : Option ℕ) (g : List Spot) (s : Spot) → All IsPlacing g → is_break s ≡ true → filled o (g ++ s ∷ []) ≡ filled o g ++ s ∷ []
+filled_behind None g s placing b = refl
+filled_behind (Some width) g s placing b = filled_break width g s placing b
 
 -- a cut list with characters behind it
 cut_glyphs : (ys : List Spot) (c : Cut Spot) → AllPass is_glyph ys → cut_from is_break c ys ≡ record { closed = c.closed; open' = c.open' ++ ys }

@@ -14,7 +14,7 @@ use Rattle.multi_meaning.specs.Laid.{fill_at}
 use Rattle.multi_meaning.specs.LaidItems.{laid_items, laid_of}
 use Rattle.multi_meaning.specs.Meaning.{Meaning, Does}
 use Rattle.multi_meaning.proofs.GroupLaidLemmas.{is_member, members_push, own_placing}
-use Rattle.multi_meaning.proofs.LaidLemmas.{filled_break}
+use Rattle.multi_meaning.proofs.LaidLemmas.{filled_behind}
 use Rattle.multi_meaning.proofs.LaidMoreLemmas.{laid_behind, laid_last, laid_nothing, placed_leaves, unplaced_leaves}
 use Rattle.multi_meaning.proofs.RectangleLemmas.{same_rectangle}
 use Rattle.std.proofs.lemmas.Bool.{eq-eqb}
@@ -46,11 +46,6 @@ module _ (setting : LineFill) (sign : SignData) (items : List Meaning) where
       let grows = ap (filled (fill_at setting here)) (members_push here.area (page_number here.page_just) all (spot_of put) true member) ∙ is in
       laid_behind setting sign items x put y puts (placed_leaves setting all (spot_of put) y member same_fill grows) (laid_last setting all (spot_of put) y member same_fill grows)
 
-  -- the end of a line goes behind its filled group
-  break_behind : (o : Option ℕ) (gap : Option ℕ) → let nl = spot_of (Break gap) in filled o (group_of nl (spots sign items) ++ nl ∷ []) ≡ filled o (group_of nl (spots sign items)) ++ nl ∷ []
-  break_behind None gap = refl
-  break_behind (Some width) gap = filled_break width (group_of (spot_of (Break gap)) (spots sign items)) (spot_of (Break gap)) (own_placing (spots sign items) (spot_of (Break gap))) refl
-
   abbrev LaidAsItself : Tag → Type 0
   LaidAsItself tag = laid_items setting sign (items ++ Does tag ∷ []) (items ++ Does tag ∷ []) ≡ laid_items setting sign items items ++ Does tag ∷ []
 
@@ -58,7 +53,7 @@ module _ (setting : LineFill) (sign : SignData) (items : List Meaning) where
   laid_tag (NewLine gap) =
       let here = standing sign items in
       let member : is_member here.area (page_number here.page_just) (spot_of (Break gap)) ≡ true = rw (eq-eqb here.area here.area refl, eq-eqb (page_number here.page_just) (page_number here.page_just) refl) refl in
-      laid_placing (Does (NewLine gap)) (Break gap) (spot_of (Break gap)) refl member (break_behind (fill_at setting here) gap)
+      laid_placing (Does (NewLine gap)) (Break gap) (spot_of (Break gap)) refl member (filled_behind (fill_at setting here) (group_of (spot_of (Break gap)) (spots sign items)) (spot_of (Break gap)) (own_placing (spots sign items) (spot_of (Break gap))) refl)
   laid_tag NewPage = laid_behind setting sign items (Does NewPage) _ _ refl (unplaced_leaves setting (spots sign items) _ refl refl) refl
   laid_tag (Back colour) = laid_behind setting sign items (Does (Back colour)) _ _ refl (unplaced_leaves setting (spots sign items) _ refl refl) refl
   laid_tag tag = laid_nothing setting sign items (Does tag) refl

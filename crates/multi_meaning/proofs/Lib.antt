@@ -38,7 +38,6 @@ pub mod LinesFitLemmas
 pub mod MeaningLemmas
 pub mod NarrowLemmas
 pub mod OffenceLemmas
-pub mod OpenFitLemmas
 pub mod OrderlyLemmas
 pub mod PictureExamples
 pub mod PictureLemmas

@@ -1,28 +1,38 @@
 -- The lines of an accepted string are no wider than the sign, and its groups no higher.
-use Rattle.std.proofs.Common.{◌≡◌, ℕ, ◌+◌, ◌≤◌, Bool, true, false, cond, not, ◌&&◌, ◌||◌, ◌==◌, length, List, [], ◌∷◌, ◌++◌, refl, sym, ap, subst, ◌∙◌, arith, inl, inr, append_assoc, append-nil, length-append}
+use Rattle.std.proofs.Common.{◌≡◌, ℕ, ◌+◌, ◌≤◌, Bool, true, false, cond, not, ◌&&◌, ◌||◌, ◌==◌, length, map, List, [], Option, Some, None, ◌∷◌, ◌++◌, refl, sym, ap, subst, ◌∙◌, arith, inl, inr, append_assoc, append-nil, length-append}
 use Rattle.std.specs.Prelude.{nat_le}
 use Rattle.std.specs.List.{All, after_last, sum_by}
 use Rattle.std.proofs.lemmas.Bool.{and_parts, cases_Bool, cases_eq, false≢true, ne_eqb}
 use Rattle.std.proofs.lemmas.Bool.Decides.{nat_tests}
+use Rattle.std.proofs.lemmas.List.{map-append}
 use Rattle.std.proofs.lemmas.List.Elements.{All-cons, All-drop, All-filter, All-head, All-nil, All-tail, filter-append}
 use Rattle.multi_tag.specs.Just.{line_number, page_number}
 use Rattle.sign_font.specs.Sign.{SignData}
 use Rattle.sign_font.specs.Sound.{IsSound}
-use Rattle.sign_font.specs.declared.parts.LineFill.TheVariants.{Off}
-use Rattle.multi_meaning.specs.Laid.{too_big}
-use Rattle.multi_meaning.specs.Address.{Spot, in_group, is_break, is_glyph, lines_of, segment, spots, standing}
+use Rattle.sign_font.specs.declared.parts.LineFill.{LineFill}
+use Rattle.sign_font.specs.declared.parts.LineFill.TheVariants.{Off, Words}
+use Rattle.multi_token.specs.Spelling.{Item}
+use Rattle.multi_meaning.specs.declared.attributes.Rectangle.{Rectangle}
+use Rattle.multi_meaning.specs.Laid.{fill_at, too_big}
+use Rattle.multi_meaning.specs.Filling.{filled}
+use Rattle.multi_meaning.specs.Offence.{offence}
+use Rattle.multi_meaning.specs.Verdict.{offences}
+use Rattle.multi_meaning.specs.kept.FillOpen.{AllOpenFit}
+use Rattle.multi_meaning.specs.Address.{Put, Spot, Standing, in_group, is_break, is_glyph, lines_of, segment, spots, standing}
 use Rattle.multi_meaning.specs.Fit.{area_fits, fit, line_fits}
 use Rattle.multi_meaning.specs.Line.{glyph_width, height_of, width_of}
-use Rattle.multi_meaning.specs.Meaning.{Meaning}
+use Rattle.multi_meaning.specs.Meaning.{Meaning, meaning}
 use Rattle.multi_meaning.specs.kept.Present.{present_area, IsNarrow, IsNarrowArea}
 use Rattle.multi_meaning.specs.kept.Fine.{IsFine}
 use Rattle.multi_meaning.proofs.BehindLemmas.{after_last_push}
 use Rattle.multi_meaning.proofs.FillLemmas.{nothing_fits, segment_grows}
 use Rattle.multi_meaning.proofs.WordLemmas.{push_ind}
-use Rattle.multi_meaning.proofs.GroupLemmas.{own_group}
+use Rattle.multi_meaning.proofs.GroupLemmas.{area_placing, in_group_other, own_group, placing_group}
 use Rattle.multi_meaning.proofs.InForceLemmas.{area_wide, rectangle_width_within, rectangle_within}
 use Rattle.multi_meaning.proofs.LinesFitLemmas.{each_just, fit_each, part_most, sum_least}
-use Rattle.multi_meaning.proofs.RoomLemmas.{area_fits_always, holds_always}
+use Rattle.multi_meaning.proofs.RoomLemmas.{area_fits_always, first_holds, holds_always, next_holds}
+use Rattle.multi_meaning.proofs.LaidLemmas.{filled_behind, filled_none}
+use Rattle.multi_meaning.proofs.UnplacedLemmas.{last_fine}
 
 -- the present line of each group fits a width
 abbrev pub LinesFit : ℕ → List Spot → Type 0
@@ -33,31 +43,55 @@ pub line_where : (a b : Bool) → (not a || b) ≡ false → a ≡ true
 line_where true b e = refl
 line_where false b e = absurd (false≢true (sym e))
 
--- the present line of the group that a placing item joins
-joined : (before : List Spot) (area : List Spot) (s : Spot) (big : Bool) (glyph : Bool) → is_glyph s ≡ glyph → (is_glyph s || is_break s) ≡ true
-    → ((glyph && not (line_fits s.at.rectangle.width (after_last is_break (in_group (page_number s.at.page_just) (area ++ s ∷ []))))) || big) ≡ false
-    → line_fits s.at.rectangle.width (after_last is_break (in_group (page_number s.at.page_just) (area ++ s ∷ []))) ≡ true
-joined before area s big true g placing small = line_where (line_fits s.at.rectangle.width (after_last is_break (in_group (page_number s.at.page_just) (area ++ s ∷ [])))) big small
-joined before area s big false g placing small =
-    let broken : is_break s ≡ true = sym (ap (λ b. b || is_break s) g) ∙ placing in
-    let whole : after_last is_break (in_group (page_number s.at.page_just) (area ++ s ∷ [])) ≡ [] =
-    ap (after_last is_break) (own_group (page_number s.at.page_just) area s refl) ∙ after_last_push is_break (in_group (page_number s.at.page_just) area) s ∙ ap (λ b. cond b [] (after_last is_break (in_group (page_number s.at.page_just) area) ++ s ∷ [])) broken in
-    ap (line_fits s.at.rectangle.width) whole ∙ nothing_fits s.at.rectangle.width
+-- lines are filled to a width of their rectangle, or to none
+module _ (setting : LineFill) (fill : Rectangle → Option ℕ) (is : (at : Standing) → fill_at setting at ≡ fill at.rectangle) (sign : SignData) where
+  -- the open line of each group of an area, as it is filled, fits a rectangle
+  abbrev pub Fits : Rectangle → List Spot → Type 0
+  Fits r area = (just : ℕ) → line_fits r.width (after_last is_break (filled (fill r) (in_group just area))) ≡ true
+
+  pub none_fit : (r : Rectangle) → Fits r []
+  none_fit r just = ap (λ l. line_fits r.width (after_last is_break l)) (filled_none (fill r)) ∙ nothing_fits r.width
+
+  pub fits_joins : (before : List Meaning) (put : Put) → let s : Spot = record { at = standing sign before; put = put } in
+      (is_glyph s || is_break s) ≡ true → too_big setting (spots sign before) s ≡ false → Fits s.at.rectangle (present_area sign before) → Fits s.at.rectangle (present_area sign before ++ s ∷ [])
+  fits_joins before put placing small old just =
+      let s : Spot = record { at = standing sign before; put = put } in
+      let width = s.at.rectangle.width in
+      let area = present_area sign before in
+      let group = in_group (page_number s.at.page_just) area in
+      let joined : line_fits width (after_last is_break (filled (fill_at setting s.at) (in_group (page_number s.at.page_just) (area ++ s ∷ [])))) ≡ true = elim (cases_Bool (is_glyph s)) [
+        | inl glyph ↦ line_where _ _ (rw glyph at small)
+        | inr other ↦
+            let broken : is_break s ≡ true = rw other at placing in
+            let whole = filled (fill_at setting s.at) group in
+            let more = ap (filled (fill_at setting s.at)) (own_group (page_number s.at.page_just) area s refl) ∙ filled_behind (fill_at setting s.at) group s (placing_group (page_number s.at.page_just) area (area_placing (spots sign before) s)) broken in
+            ap (λ l. line_fits width (after_last is_break l)) more ∙ ap (line_fits width) (after_last_push is_break whole s) ∙ rw broken (nothing_fits width)
+      ] in
+      elim (cases_eq (page_number s.at.page_just) just) [
+        | inl own ↦ subst (λ n. line_fits width (after_last is_break (filled (fill s.at.rectangle) (in_group n (area ++ s ∷ [])))) ≡ true) own
+            (ap (λ o. line_fits width (after_last is_break (filled o (in_group (page_number s.at.page_just) (area ++ s ∷ []))))) (sym (is s.at)) ∙ joined)
+        | inr other ↦ ap (λ g. line_fits width (after_last is_break (filled (fill s.at.rectangle) g))) (in_group_other just area s other) ∙ old just
+      ]
 
 -- behind the items of an accepted string the present line of each group fits the rectangle in force
 pub lines_fit_always : (sign : SignData) (items : List Meaning) → IsFine sign items → LinesFit (standing sign items).rectangle.width (present_area sign items)
-lines_fit_always sign =
-    holds_always sign (λ r area. LinesFit r.width area) (λ r just. nothing_fits r.width)
-    (λ before put placing small old just.
-    let s : Spot = record { at = standing sign before; put = put } in
-    let area = present_area sign before in
-    elim (cases_eq (page_number s.at.page_just) just) [
-      | inl own ↦ subst (λ n. line_fits s.at.rectangle.width (after_last is_break (in_group n (area ++ s ∷ []))) ≡ true) own (joined (spots sign before) area s _ (is_glyph s) refl placing small)
-      | inr other ↦
-          ap (λ l. line_fits s.at.rectangle.width (after_last is_break l))
-          (filter-append (λ t. page_number t.at.page_just == just) area (s ∷ []) ∙ ap (λ b. in_group just area ++ cond b (s ∷ []) []) (ne_eqb (page_number s.at.page_just) just other) ∙ append-nil (in_group just area))
-          ∙ old just
-    ])
+lines_fit_always sign = holds_always Off sign (Fits Off (λ r. None) (λ at. refl) sign) (none_fit Off (λ r. None) (λ at. refl) sign) (fits_joins Off (λ r. None) (λ at. refl) sign)
+
+-- where lines are filled and no item offends, the open line of each group of the present area fits
+module _ (sign : SignData) where
+  abbrev pub OpenLinesFit : List Meaning → Type 0
+  OpenLinesFit items = AllOpenFit (Some (standing sign items).rectangle.width) (present_area sign items)
+
+  pub open_lines_fit : sign.line_fill ≡ Words → (before : List Item) → offences sign before ≡ [] → OpenLinesFit (map meaning before)
+  open_lines_fit words =
+      let fill = λ (r : Rectangle). Some r.width in
+      let fits = Fits Words fill (λ at. refl) sign in
+      let first = none_fit Words fill (λ at. refl) sign in
+      let joins = fits_joins Words fill (λ at. refl) sign in
+      push_ind (λ before. offences sign before ≡ [] → OpenLinesFit (map meaning before)) (λ none. first_holds Words sign fits first joins) (λ before item ih none.
+      let (earlier, fine) = last_fine sign before item none in
+      let fine' = ap (λ setting. offence setting sign (map meaning before) (meaning item)) (sym words) ∙ fine in
+      subst OpenLinesFit (sym (map-append meaning before (item ∷ []))) (next_holds Words sign fits first joins (map meaning before) (meaning item) fine' (ih earlier)))
 
 -- a line that fits a width has no wider segment
 line_each : (a b c d width : ℕ) → (fit a b c width && nat_le d width) ≡ true → (a + b + c ≤ width) × (d ≤ width)
