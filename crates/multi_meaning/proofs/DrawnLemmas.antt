@@ -2,9 +2,9 @@
 use Rattle.std.proofs.Common.{◌≡◌, ℕ, ◌+◌, ◌-◌, ◌<◌, Bool, true, false, cond, ◌&&◌, ◌==◌, List, [], ◌∷◌, ◌++◌, Option, Some, None, refl, sym, ap, ◌∙◌, arith, append-nil, subst, ◌⊎◌, inl, inr}
 use Rattle.std.specs.Prelude.{nat_le, nat_lt}
 use Rattle.std.specs.List.{filter_map, last_or, cons_option, All}
-use Rattle.std.specs.Option.{option_map, unwrap_or}
+use Rattle.std.specs.Option.{IfSome, option_map, unwrap_or}
 use Rattle.std.proofs.lemmas.Bool.{eq-eqb, ne_eqb}
-use Rattle.std.proofs.lemmas.List.Elements.{All-nil, All-cons, All-head, All-tail, All-weaker, filter_map-append}
+use Rattle.std.proofs.lemmas.List.Elements.{All-cons, All-head, All-tail, All-weaker, filter_map-append}
 use Rattle.multi_tag.specs.declared.tag.Tag.TheVariants.{NewPage, Back}
 use Rattle.sign_font.specs.declared.parts.Defaults.{Defaults}
 use Rattle.sign_font.specs.Cell as cells
@@ -155,10 +155,10 @@ colour_beside defaults some more page column row beside =
     ap (λ l. unwrap_or (last_or None l) defaults.back) (filter_map-append f some more ∙ ap (λ l. filter_map f some ++ l) (maps_none f more none) ∙ append-nil (filter_map f some))
 
 -- what a spot of a later page puts is beside this page
-thing_beside : (page phase : ℕ) (place : Place) (spot : Spot) (put : Put) → page < page_put spot.at put → All (IsBeside page) (cons_option (thing_at phase place spot put) [])
-thing_beside page phase place spot (Break gap) h = All-nil (IsBeside page)
-thing_beside page phase place spot (Cover later back) h = All-cons (IsBeside page) _ [] (ne_eqb later page (λ e. omega arith)) (All-nil (IsBeside page))
-thing_beside page phase place spot (Glyph cell) h = All-cons (IsBeside page) _ [] (ne_eqb spot.at.page page (λ e. omega arith)) (All-nil (IsBeside page))
+thing_beside : (page phase : ℕ) (place : Place) (spot : Spot) (put : Put) → page < page_put spot.at put → IfSome (thing_at phase place spot put) (IsBeside page)
+thing_beside page phase place spot (Break gap) h = tt
+thing_beside page phase place spot (Cover later back) h = ne_eqb later page (λ e. omega arith)
+thing_beside page phase place spot (Glyph cell) h = ne_eqb spot.at.page page (λ e. omega arith)
 
 -- the things of two lists of spots
 things_append : (phase : ℕ) (all some more : List Spot) → things_among phase all (some ++ more) ≡ things_among phase all some ++ some_after (λ next spot. thing_at phase (place_of (some ++ next) all spot) spot spot.put) more

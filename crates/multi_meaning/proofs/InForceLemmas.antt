@@ -6,7 +6,7 @@ use Rattle.std.specs.List.{All, cons_option, find}
 use Rattle.std.specs.Option.{IfSome, option_map, unwrap_or}
 use Rattle.std.proofs.lemmas.Bool.{cases_Bool, false≢true}
 use Rattle.std.proofs.lemmas.Bool.Decides.{nat_tests}
-use Rattle.std.proofs.lemmas.List.Elements.{All-nil, All-cons, All-head, All-tail, All-append, All-filter, All-weaker}
+use Rattle.std.proofs.lemmas.List.Elements.{All-nil, All-head, All-tail, All-filter, All-weaker}
 use Rattle.multi_tag.specs.declared.tag.Tag.TheVariants.{NewPage, NewLine, Font, Back, Rect}
 use Rattle.sign_font.specs.declared.parts.Defaults.{Defaults}
 use Rattle.sign_font.specs.Sign.{SignData, CellData, FontData, font_numbered, cell_numbered}
@@ -14,12 +14,12 @@ use Rattle.sign_font.specs.Sound.{IsSound, IsSoundCell, IsSoundFont}
 use Rattle.multi_meaning.specs.declared.attributes.Rectangle.{Rectangle}
 use Rattle.multi_meaning.specs.Meaning.{Meaning, Shows, Does}
 use Rattle.multi_meaning.specs.Attributes.{default_font, given_font, given_rectangle, is_inside, rectangle, whole_sign}
-use Rattle.multi_meaning.specs.Address.{Standing, standing, Put, Glyph, Spot, put_at, spot_at, spots, is_glyph, is_break}
+use Rattle.multi_meaning.specs.Address.{Standing, standing, Glyph, Spot, put_at, spots, is_glyph, is_break}
 use Rattle.multi_meaning.specs.Line.{glyph_width}
 use Rattle.multi_meaning.specs.Offence.{offence_by}
 use Rattle.multi_meaning.specs.kept.Present.{present_area}
 use Rattle.multi_meaning.specs.Words.{some_after}
-use Rattle.multi_meaning.proofs.LayoutLemmas.{spots_push}
+use Rattle.multi_meaning.proofs.LayoutLemmas.{spots_all}
 use Rattle.multi_meaning.proofs.OffenceLemmas.{offence-rectangle}
 use Rattle.multi_meaning.proofs.StandingLemmas.{standing_push}
 use Rattle.multi_meaning.proofs.WordLemmas.{left_nil, none_of, push_ind, right_nil, some_after_push, some_after-append}
@@ -59,29 +59,11 @@ pub record IsInSign (sign : SignData) (r : Rectangle) : Type 0 where
 inside_side : (x w size : ℕ) → 1 ≤ x → x ≤ size → x - 1 + w ≤ size → x - 1 + cond (w == 0) (size - (x - 1)) w ≤ size
 inside_side x w size some at room = elim (cases_Bool (w == 0)) [ inl rest ↦ rw rest (omega arith) | inr given ↦ rw given room ]
 
--- the four sides of a rectangle that passes
-record Sides (sign : SignData) (x y w h : ℕ) : Type 0 where
-  left : 1 ≤ x
-  top : 1 ≤ y
-  from : x ≤ sign.width
-  from_row : y ≤ sign.height
-  right : x - 1 + w ≤ sign.width
-  bottom : y - 1 + h ≤ sign.height
-
-sides : (sign : SignData) (x y w h : ℕ) → is_inside sign x y w h ≡ true → Sides sign x y w h
-sides sign x y w h passes = record {
-  left = grind (arith, nat_tests);
-  top = grind (arith, nat_tests);
-  from = grind (arith, nat_tests);
-  from_row = grind (arith, nat_tests);
-  right = grind (arith, nat_tests);
-  bottom = grind (arith, nat_tests);
-}
-
 rectangle_in_sign : (sign : SignData) (x y w h : ℕ) → is_inside sign x y w h ≡ true → IsInSign sign (rectangle sign x y w h)
-rectangle_in_sign sign x y w h passes =
-    let s = sides sign x y w h passes in
-    record { across = inside_side x w sign.width s.left s.from s.right; down = inside_side y h sign.height s.top s.from_row s.bottom }
+rectangle_in_sign sign x y w h passes = record {
+  across = inside_side x w sign.width (grind (arith, nat_tests)) (grind (arith, nat_tests)) (grind (arith, nat_tests));
+  down = inside_side y h sign.height (grind (arith, nat_tests)) (grind (arith, nat_tests)) (grind (arith, nat_tests));
+}
 
 whole_in_sign : (sign : SignData) → IsInSign sign (whole_sign sign)
 whole_in_sign sign = record { across = omega arith; down = omega arith }
@@ -161,11 +143,6 @@ high_put defaults here (Does (NewLine gap)) high = (high.0, λ glyph. absurd (fa
 high_put defaults here (Does (Back colour)) high = (high.0, λ glyph. absurd (false≢true glyph))
 high_put defaults here x high = tt
 
-high_spot : (here : Standing) (o : Option Put) → IfSome o (λ put. let spot : Spot = record { at = here; put = put } in High spot)
-    → All High (cons_option (option_map (λ p. let s : Spot = record { at = here; put = p } in s) o) [])
-high_spot here None high = All-nil High
-high_spot here (Some put) high = All-cons High (record { at = here; put = put }) [] high (All-nil High)
-
 -- the font in force and all that is put are high
 record IsHigh (sign : SignData) (items : List Meaning) : Type 0 where
   font : HighFont (standing sign items).font
@@ -190,8 +167,7 @@ module _ (sign : SignData) (sound : IsSound sign) (some : IsSome (font_numbered 
       let here = standing sign before in
       record {
         font = subst (λ (s : Standing). HighFont s.font) (sym (standing_push sign before x)) (in_force_by HighFont (given_font sign x) here.font (given_high x) old.font);
-        each = subst (All High) (sym (spots_push sign before x))
-            (All-append High (spots sign before) (cons_option (spot_at sign.defaults here x) []) old.each (high_spot here (put_at sign.defaults here x) (high_put sign.defaults here x old.font)));
+        each = spots_all sign High before x (λ put e. rw e at (high_put sign.defaults here x old.font)) old.each;
       }
 
   -- whatever the items are, all that they put is high

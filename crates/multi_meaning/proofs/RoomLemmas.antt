@@ -9,7 +9,7 @@ use Rattle.multi_tag.specs.declared.tag.Tag.TheVariants.{NewPage, NewLine, Back,
 use Rattle.multi_tag.specs.Just.{page_number}
 use Rattle.sign_font.specs.declared.parts.LineFill.{LineFill}
 use Rattle.sign_font.specs.declared.parts.LineFill.TheVariants.{Off}
-use Rattle.sign_font.specs.Sign.{SignData, CellData, font_numbered, cell_numbered}
+use Rattle.sign_font.specs.Sign.{SignData, font_numbered, cell_numbered}
 use Rattle.sign_font.specs.Sound.{IsSound}
 use Rattle.multi_meaning.specs.declared.attributes.Rectangle.{Rectangle}
 use Rattle.multi_meaning.specs.Meaning.{Meaning, Shows, Does, begins_area}
@@ -17,7 +17,7 @@ use Rattle.multi_meaning.specs.Attributes.{given_rectangle, whole_sign}
 use Rattle.multi_meaning.specs.Address.{Standing, area_of, standing, Put, Glyph, Break, Cover, Spot, put_at, spots, is_glyph, is_break, in_group, lines_of}
 use Rattle.multi_meaning.specs.Fit.{area_fits, line_fits}
 use Rattle.multi_meaning.specs.Laid.{too_big}
-use Rattle.multi_meaning.specs.Offence.{conflicts, offence}
+use Rattle.multi_meaning.specs.Offence.{offence}
 use Rattle.multi_meaning.specs.kept.Present.{present_area}
 use Rattle.multi_meaning.specs.kept.Fine.{IsFine}
 use Rattle.multi_meaning.specs.Words.{some_after}
