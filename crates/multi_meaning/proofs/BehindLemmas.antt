@@ -1,6 +1,7 @@
 -- What stands behind the last item that passes a test, and the parts that such an item ends.
-use Rattle.std.proofs.Common.{◌≡◌, ℕ, ◌+◌, ◌-◌, ◌≤◌, Bool, true, false, cond, not, length, drop, List, [], ◌∷◌, ◌++◌, refl, ap, ◌∙◌, arith, length-append}
+use Rattle.std.proofs.Common.{◌≡◌, inl, inr, ◌+◌, ◌-◌, ◌≤◌, Bool, false, cond, not, length, drop, List, [], ◌∷◌, ◌++◌, refl, ap, ◌∙◌, arith, length-append}
 use Rattle.std.specs.List.{filter, list_any, after_last, prefix_len, suffix_len}
+use Rattle.std.proofs.lemmas.Bool.{cases_Bool}
 use Rattle.std.proofs.lemmas.List.{append-nil, reverse-append, drop_all, drop-append-le}
 use Rattle.std.proofs.lemmas.List.Elements.{filter-append}
 use Rattle.std.proofs.lemmas.List.Folds.{list_any-append}
@@ -9,16 +10,17 @@ use Rattle.multi_meaning.specs.Words.{cut_behind}
 use Rattle.multi_meaning.proofs.CutLemmas.{Cut, cut, part, cut_behind_is, cut_ind}
 
 module _ {X : Type 0} (p : X → Bool) where
-  after_if : (b : Bool) (xs : List X) (x : X) (n : ℕ) → n ≤ length xs → drop (length (xs ++ x ∷ []) - cond (not b) (1 + n) 0) (xs ++ x ∷ []) ≡ cond b [] (drop (length xs - n) xs ++ x ∷ [])
-  after_if true xs x n h = drop_all (length (xs ++ x ∷ []) - 0) (xs ++ x ∷ []) (omega arith)
-  after_if false xs x n h =
-      let same : length (xs ++ x ∷ []) - (1 + n) ≡ length xs - n = omega (arith, length-append xs (x ∷ [])) in
-      ap (λ k. drop k (xs ++ x ∷ [])) same ∙ drop-append-le (length xs - n) xs (x ∷ []) (omega arith)
-
   pub after_last_push : (xs : List X) (x : X) → after_last p (xs ++ x ∷ []) ≡ cond (p x) [] (after_last p xs ++ x ∷ [])
   after_last_push xs x =
-      ap (λ l. drop (length (xs ++ x ∷ []) - prefix_len (λ x. not (p x)) l) (xs ++ x ∷ [])) (reverse-append xs (x ∷ []))
-      ∙ after_if (p x) xs x (suffix_len (λ x. not (p x)) xs) (suffix_len-le-length (λ x. not (p x)) xs)
+      let n = suffix_len (λ x. not (p x)) xs in
+      let within : n ≤ length xs = suffix_len-le-length (λ x. not (p x)) xs in
+      let size = length-append xs (x ∷ []) in
+      ap (λ l. drop (length (xs ++ x ∷ []) - prefix_len (λ x. not (p x)) l) (xs ++ x ∷ [])) (reverse-append xs (x ∷ [])) ∙ elim (cases_Bool (p x)) [
+        | inl e ↦ rw e (drop_all (length (xs ++ x ∷ []) - 0) (xs ++ x ∷ []) (omega arith))
+        | inr e ↦
+            let same : length (xs ++ x ∷ []) - (1 + n) ≡ length xs - n = omega (arith, size) in
+            rw e (ap (λ k. drop k (xs ++ x ∷ [])) same ∙ drop-append-le (length xs - n) xs (x ∷ []) (omega arith))
+      ]
 
   abbrev pub cut_if : Bool → Cut X → X → Cut X
   cut_if b c x = cond b (record { closed = c.closed ++ (c.open' ++ x ∷ []) ∷ []; open' = [] }) (record { closed = c.closed; open' = c.open' ++ x ∷ [] })

@@ -3,7 +3,7 @@ use Rattle.std.proofs.Common.{◌≡◌, ℕ, ◌+◌, ◌-◌, ◌<◌, Bool, t
 use Rattle.std.specs.Prelude.{nat_le, nat_lt}
 use Rattle.std.specs.List.{filter_map, last_or, cons_option, All}
 use Rattle.std.specs.Option.{IfSome, option_map, unwrap_or}
-use Rattle.std.proofs.lemmas.Bool.{eq-eqb, ne_eqb}
+use Rattle.std.proofs.lemmas.Bool.{cases_Bool, eq-eqb, ne_eqb}
 use Rattle.std.proofs.lemmas.List.Elements.{All-cons, All-head, All-tail, All-weaker, filter_map-append}
 use Rattle.multi_tag.specs.declared.tag.Tag.TheVariants.{NewPage, Back}
 use Rattle.sign_font.specs.declared.parts.Defaults.{Defaults}
@@ -16,8 +16,7 @@ use Rattle.multi_meaning.specs.Picture.{Thing, thing_at, things_among, things, c
 use Rattle.multi_meaning.specs.Drawn.{has_colour}
 use Rattle.multi_meaning.specs.Meaning.{Meaning, Shows, Does, BeginsPage, EndsPage}
 use Rattle.multi_meaning.specs.Words.{some_after}
-use Rattle.multi_meaning.proofs.WordLemmas.{some_after_push, some_after-append}
-use Rattle.multi_meaning.proofs.PictureLemmas.{colour_push, covers_at}
+use Rattle.multi_meaning.proofs.WordLemmas.{last_or-append, some_after_push, some_after-append}
 use Rattle.multi_meaning.proofs.SpotsLemmas.{spots_behind, spots_nothing, spots_more, spots_with, same_back, next_page_behind, some_all, page_put, IsFrom, pages_behind}
 
 module _ (phase : ℕ) (all : List Spot) where
@@ -26,23 +25,25 @@ module _ (phase : ℕ) (all : List Spot) where
   unfolding things_among
   things_push some s = some_after_push (λ before spot. thing_at phase (place_of before all spot) spot spot.put) some s
 
-  things_nothing : (some : List Spot) (s : Spot) → thing_at phase (place_of some all s) s s.put ≡ None → things_among phase all (some ++ s ∷ []) ≡ things_among phase all some
-  things_nothing some s is = things_push some s ∙ ap (λ o. things_among phase all some ++ cons_option o []) is ∙ append-nil (things_among phase all some)
+-- a pixel has the colour of one more thing, if it covers the pixel, else the colour it had
+abbrev covers_at : Thing → ℕ → ℕ → ℕ → Bool
+covers_at t page column row = (t.page == page) && t.covers column row
 
-  things_more : (some : List Spot) (s : Spot) (t : Thing) → thing_at phase (place_of some all s) s s.put ≡ Some t → things_among phase all (some ++ s ∷ []) ≡ things_among phase all some ++ t ∷ []
-  things_more some s t is = things_push some s ∙ ap (λ o. things_among phase all some ++ cons_option o []) is
-
--- the test of a colour that is one of two
-test_if : (sign : SignData) (colour a b : ℕ) (which : Bool) → (shown_colour sign (cond which a b) == colour) ≡ cond which (shown_colour sign a == colour) (shown_colour sign b == colour)
-test_if sign colour a b true = refl
-test_if sign colour a b false = refl
+colour_push : (defaults : Defaults) (things : List Thing) (t : Thing) (page column row : ℕ) → colour_of defaults (things ++ t ∷ []) page column row ≡ cond (covers_at t page column row) t.colour (colour_of defaults things page column row)
+colour_push defaults things t page column row =
+    let f = λ (t : Thing). cond (covers_at t page column row) (Some t.colour) None in
+    ap (λ l. unwrap_or (last_or None l) defaults.back) (filter_map-append f things (t ∷ []))
+    ∙ ap (λ o. unwrap_or o defaults.back) (last_or-append None (filter_map f things) (cons_option (f t) []))
+    ∙ elim (cases_Bool (covers_at t page column row)) [ inl e ↦ rw e refl | inr e ↦ rw e refl ]
 
 module _ (sign : SignData) (page phase colour : ℕ) (all : List Spot) (column row : ℕ) where
   -- a pixel after one more spot that is no thing
   covered_nothing : (some : List Spot) (s : Spot) → thing_at phase (place_of some all s) s s.put ≡ None
       → has_colour sign page phase colour all (some ++ s ∷ []) column row ≡ has_colour sign page phase colour all some column row
   unfolding has_colour
-  covered_nothing some s is = ap (λ l. shown_colour sign (colour_of sign.defaults l page column row) == colour) (things_nothing phase all some s is)
+  covered_nothing some s is =
+      ap (λ l. shown_colour sign (colour_of sign.defaults l page column row) == colour)
+      (things_push phase all some s ∙ ap (λ o. things_among phase all some ++ cons_option o []) is ∙ append-nil (things_among phase all some))
 
   -- a pixel after one more spot that is a thing
   covered_more : (some : List Spot) (s : Spot) (t : Thing) → thing_at phase (place_of some all s) s s.put ≡ Some t
@@ -50,9 +51,9 @@ module _ (sign : SignData) (page phase colour : ℕ) (all : List Spot) (column r
       ≡ cond (covers_at t page column row) (shown_colour sign t.colour == colour) (has_colour sign page phase colour all some column row)
   unfolding has_colour
   covered_more some s t is =
-      ap (λ l. shown_colour sign (colour_of sign.defaults l page column row) == colour) (things_more phase all some s t is)
+      ap (λ l. shown_colour sign (colour_of sign.defaults l page column row) == colour) (things_push phase all some s ∙ ap (λ o. things_among phase all some ++ cons_option o []) is)
       ∙ ap (λ c. shown_colour sign c == colour) (colour_push sign.defaults (things_among phase all some) t page column row)
-      ∙ test_if sign colour t.colour (colour_of sign.defaults (things_among phase all some) page column row) (covers_at t page column row)
+      ∙ elim (cases_Bool (covers_at t page column row)) [ inl e ↦ rw e refl | inr e ↦ rw e refl ]
 
   -- a pixel of the page of one more spot that covers a page
   covered_whole : (some : List Spot) (at : Standing) (back : ℕ)
@@ -61,25 +62,10 @@ module _ (sign : SignData) (page phase colour : ℕ) (all : List Spot) (column r
       covered_more some (record { at = at; put = Cover page back }) (record { page = page; covers = λ column row. true; colour = back }) refl
       ∙ ap (λ b. cond (b && true) (shown_colour sign back == colour) (has_colour sign page phase colour all some column row)) (eq-eqb page page refl)
 
-  -- a pixel of a page on which nothing is put
-  covered_none : has_colour sign page phase colour all [] column row ≡ (shown_colour sign sign.defaults.back == colour)
-  unfolding has_colour things_among
-  covered_none = refl
-
-spots_none : (sign : SignData) → spots sign [] ≡ []
-unfolding spots
-spots_none sign = refl
-
-first_back : (sign : SignData) → (standing sign []).back ≡ sign.defaults.back
-unfolding standing
-first_back sign = refl
-
 module _ (sign : SignData) (phase colour : ℕ) (all : List Spot) (column row : ℕ) where
   begins_first : has_colour sign (standing sign []).page phase colour all (spots sign []) column row ≡ (shown_colour sign (standing sign []).back == colour)
-  begins_first =
-      ap (λ l. has_colour sign (standing sign []).page phase colour all l column row) (spots_none sign)
-      ∙ covered_none sign (standing sign []).page phase colour all column row
-      ∙ ap (λ c. shown_colour sign c == colour) (sym (first_back sign))
+  unfolding has_colour things_among spots standing
+  begins_first = refl
 
   begins_next : (earlier : List Meaning) → let before = earlier ++ Does NewPage ∷ [] in
       has_colour sign (standing sign before).page phase colour all (spots sign before) column row ≡ (shown_colour sign (standing sign before).back == colour)

@@ -40,7 +40,6 @@ pub mod NarrowLemmas
 pub mod OffenceLemmas
 pub mod OrderlyLemmas
 pub mod PictureExamples
-pub mod PictureLemmas
 pub mod PixelExamples
 pub mod PixelLemmas
 pub mod PlaceExamples
