@@ -38,10 +38,8 @@ module _ (sign : SignData) where
   -- what holds before the first item, and behind each that doesn't offend if it holds before it, holds behind them all
   pub each_ind : (f : List Meaning → Meaning → Option ℕ) (P : List Meaning → Type 0) → P [] → ((before : List Meaning) (x : Meaning) → f before x ≡ None → P before → P (before ++ x ∷ []))
       → (items : List Meaning) → some_after f items ≡ [] → P items
-  each_ind f P first step = push_ind (λ items. some_after f items ≡ [] → P items) (λ none. first) more
-    where
-      more : (items : List Meaning) (item : Meaning) → (some_after f items ≡ [] → P items) → some_after f (items ++ item ∷ []) ≡ [] → P (items ++ item ∷ [])
-      more items item holds none = step items item (none_last f items item none) (holds (none_front f items (item ∷ []) none))
+  each_ind f P first step = push_ind (λ items. some_after f items ≡ [] → P items) (λ none. first)
+      (λ items item holds none. step items item (none_last f items item none) (holds (none_front f items (item ∷ []) none)))
 
 -- what holds of each value that is given and of the one before holds of the one in force
 in_force_by : {A : Type 0} (P : A → Type 0) (o : Option A) (a : A) → IfSome o P → P a → P (unwrap_or o a)

@@ -1,8 +1,8 @@
 -- The lines of an accepted string are no wider than the sign, and its groups no higher.
-use Rattle.std.proofs.Common.{◌≡◌, ℕ, ◌+◌, ◌≤◌, Bool, true, false, not, ◌&&◌, ◌||◌, ◌==◌, length, map, List, [], Option, Some, None, ◌∷◌, ◌++◌, refl, sym, ap, subst, ◌∙◌, arith, inl, inr, append_assoc, append-nil, length-append}
+use Rattle.std.proofs.Common.{◌≡◌, ℕ, ◌+◌, ◌≤◌, true, false, ◌&&◌, ◌||◌, ◌==◌, length, map, List, [], Option, Some, None, ◌∷◌, ◌++◌, refl, sym, ap, subst, ◌∙◌, arith, inl, inr, append_assoc, append-nil, length-append}
 use Rattle.std.specs.Prelude.{nat_le}
 use Rattle.std.specs.List.{All, after_last, sum_by}
-use Rattle.std.proofs.lemmas.Bool.{and_parts, cases_Bool, cases_eq, false≢true}
+use Rattle.std.proofs.lemmas.Bool.{and_parts, cases_Bool, cases_eq, not-false, or_parts}
 use Rattle.std.proofs.lemmas.Bool.Decides.{nat_tests}
 use Rattle.std.proofs.lemmas.List.{map-append}
 use Rattle.std.proofs.lemmas.List.Elements.{All-cons, All-drop, All-filter, All-head, All-nil, All-tail, filter-append}
@@ -38,11 +38,6 @@ use Rattle.multi_meaning.proofs.UnplacedLemmas.{last_fine}
 abbrev pub LinesFit : ℕ → List Spot → Type 0
 LinesFit width area = (just : ℕ) → line_fits width (after_last is_break (in_group just area)) ≡ true
 
--- a character whose line doesn't fit is too big
-pub line_where : (a b : Bool) → (not a || b) ≡ false → a ≡ true
-line_where true b e = refl
-line_where false b e = absurd (false≢true (sym e))
-
 -- lines are filled to a width of their rectangle, or to none
 module _ (setting : LineFill) (fill : Rectangle → Option ℕ) (is : (at : Standing) → fill_at setting at ≡ fill at.rectangle) (sign : SignData) where
   -- the open line of each group of an area, as it is filled, fits a rectangle
@@ -60,7 +55,7 @@ module _ (setting : LineFill) (fill : Rectangle → Option ℕ) (is : (at : Stan
       let area = present_area sign before in
       let group = in_group (page_number s.at.page_just) area in
       let joined : line_fits width (after_last is_break (filled (fill_at setting s.at) (in_group (page_number s.at.page_just) (area ++ s ∷ [])))) ≡ true = elim (cases_Bool (is_glyph s)) [
-        | inl glyph ↦ line_where _ _ (rw glyph at small)
+        | inl glyph ↦ not-false _ (or_parts _ _ (rw glyph at small)).0
         | inr other ↦
             let broken : is_break s ≡ true = rw other at placing in
             let whole = filled (fill_at setting s.at) group in

@@ -45,17 +45,12 @@ spots_more sign before x put is =
     let here = standing sign before in
     spots_push sign before x ∙ ap (λ o. spots sign before ++ cons_option (option_map (λ p. let s : Spot = record { at = here; put = p } in s) o) []) is
 
--- all items, cut behind one of them
-spots_cut : (sign : SignData) (before : List Meaning) (x : Meaning) (rest : List Meaning)
-    → spots sign (before ++ x ∷ rest) ≡ spots sign (before ++ x ∷ []) ++ spots_behind sign (before ++ x ∷ []) rest
-spots_cut sign before x rest = ap (spots sign) (sym (append_assoc before (x ∷ []) rest)) ∙ spots_split sign (before ++ x ∷ []) rest
-
 -- all items, with one of them that puts something
 pub spots_with : (sign : SignData) (before : List Meaning) (x : Meaning) (rest : List Meaning) (put : Put) → put_at sign.defaults (standing sign before) x ≡ Some put
     → spots sign (before ++ x ∷ rest) ≡ spots sign before ++ record { at = standing sign before; put = put } ∷ spots_behind sign (before ++ x ∷ []) rest
 spots_with sign before x rest put is =
     let more = spots_behind sign (before ++ x ∷ []) rest in
-    spots_cut sign before x rest
+    ap (spots sign) (sym (append_assoc before (x ∷ []) rest)) ∙ spots_split sign (before ++ x ∷ []) rest
     ∙ ap (λ l. l ++ more) (spots_more sign before x put is)
     ∙ append_assoc (spots sign before) (record { at = standing sign before; put = put } ∷ []) more
 
