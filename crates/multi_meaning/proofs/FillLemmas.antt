@@ -90,20 +90,21 @@ module _ (width : ℕ) where
       ∙ longer_twice (drop (most cs) cs) (s ∷ []) (cut_at_last is_space (take (most cs) cs))
       ∙ ap (option_map (longer (s ∷ []))) (sym (broken_wide cs wide))
 
-  -- what is broken off are the characters, less nothing
-  parts_of : (n : ℕ) (cs : List Spot) (o : Option (CutAt Spot)) → cut_at_last is_space (take n cs) ≡ o → (c : CutAt Spot) → option_map (longer (drop n cs)) o ≡ Some c → cs ≡ c.before ++ c.item ∷ c.behind
-  parts_of n cs None found c e = absurd cc
-  parts_of n cs (Some d) found c e =
-      let is : longer (drop n cs) d ≡ c = cc in
-      let front = is_cut is_space (take n cs) d found in
-      subst (λ (c : CutAt Spot). cs ≡ c.before ++ c.item ∷ c.behind) is
-      (sym (take-append-drop n cs) ∙ ap (λ l. l ++ drop n cs) front.parts ∙ append_assoc d.before (d.item ∷ d.behind) (drop n cs))
-
   pub broken_is_wide : (cs : List Spot) (c : CutAt Spot) → soft_break width cs ≡ Some c → line_fits width cs ≡ false
   broken_is_wide cs c e = false_from_ne_true (line_fits width cs) (λ fits. let wrong : ◌≡◌ {A = Option (CutAt Spot)} None (Some c) = sym (broken_fits cs fits) ∙ e in cc)
 
+  -- what is broken off are the characters, less nothing
   pub broken_parts : (cs : List Spot) (c : CutAt Spot) → soft_break width cs ≡ Some c → cs ≡ c.before ++ c.item ∷ c.behind
-  broken_parts cs c e = parts_of (most cs) cs (cut_at_last is_space (take (most cs) cs)) refl c (sym (broken_wide cs (broken_is_wide cs c e)) ∙ e)
+  broken_parts cs c e =
+      let n = most cs in
+      let cut = sym (broken_wide cs (broken_is_wide cs c e)) ∙ e in
+      elim (cases_Option (cut_at_last is_space (take n cs))) [
+        | inl none ↦ absurd (cc (rw none at cut))
+        | inr (d, found) ↦
+            let is : longer (drop n cs) d ≡ c = cc (rw found at cut) in
+            subst (λ (c : CutAt Spot). cs ≡ c.before ++ c.item ∷ c.behind) is
+            (sym (take-append-drop n cs) ∙ ap (λ l. l ++ drop n cs) (is_cut is_space (take n cs) d found).parts ∙ append_assoc d.before (d.item ∷ d.behind) (drop n cs))
+      ]
 
   shorter : (cs : List Spot) (c : CutAt Spot) → soft_break width cs ≡ Some c → length c.behind + 1 ≤ length cs
   shorter cs c e = omega (arith, ap length (broken_parts cs c e), length-append c.before (c.item ∷ c.behind))

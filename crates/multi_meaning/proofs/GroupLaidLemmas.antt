@@ -30,11 +30,7 @@ members-append a j xs ys =
     ap (in_group j) (filter-append (in_areas a) xs ys) ∙ filter-append (λ t. page_number t.at.page_just == j) (in_area a xs) (in_area a ys)
 
 one_member : (a j : ℕ) (x : Spot) → members a j (x ∷ []) ≡ cond (is_member a j x) (x ∷ []) []
-one_member a j x = one (in_areas a x)
-  where
-    one : (b : Bool) → in_group j (cond b (x ∷ []) []) ≡ cond (b && (page_number x.at.page_just == j)) (x ∷ []) []
-    one true = refl
-    one false = refl
+one_member a j x = elim (cases_Bool (in_areas a x)) [ inl e ↦ rw e refl | inr e ↦ rw e refl ]
 
 pub members_push : (a j : ℕ) (xs : List Spot) (x : Spot) (b : Bool) → is_member a j x ≡ b → members a j (xs ++ x ∷ []) ≡ members a j xs ++ cond b (x ∷ []) []
 members_push a j xs x b e = members-append a j xs (x ∷ []) ∙ ap (λ l. members a j xs ++ l) (one_member a j x ∙ ap (λ b. cond b (x ∷ []) []) e)

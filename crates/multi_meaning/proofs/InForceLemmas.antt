@@ -1,10 +1,10 @@
 -- What is in force behind the items of an accepted string: the rectangle is inside the sign, and every font is at least one
 -- pixel high, with characters at least one column wide.
-use Rattle.std.proofs.Common.{◌≡◌, ℕ, ◌+◌, ◌-◌, ◌≤◌, Bool, true, false, cond, ◌&&◌, ◌||◌, ◌==◌, List, [], ◌∷◌, ◌++◌, Option, Some, None, refl, sym, subst, ◌∙◌, arith, inl, inr}
+use Rattle.std.proofs.Common.{◌≡◌, ℕ, ◌+◌, ◌-◌, ◌≤◌, Bool, true, cond, ◌&&◌, ◌||◌, ◌==◌, List, [], ◌∷◌, ◌++◌, Option, Some, None, sym, subst, ◌∙◌, arith, inl, inr}
 use Rattle.std.specs.Prelude.{IsSome}
 use Rattle.std.specs.List.{All, cons_option, find}
-use Rattle.std.specs.Option.{IfSome, option_map, unwrap_or}
-use Rattle.std.proofs.lemmas.Bool.{cases_Bool, false≢true}
+use Rattle.std.specs.Option.{IfSome, unwrap_or}
+use Rattle.std.proofs.lemmas.Bool.{cases_Bool, false≢true, true_from_ne_false}
 use Rattle.std.proofs.lemmas.Bool.Decides.{nat_tests}
 use Rattle.std.proofs.lemmas.List.Elements.{All-nil, All-head, All-tail, All-filter, All-weaker}
 use Rattle.multi_tag.specs.declared.tag.Tag.TheVariants.{NewPage, NewLine, Font, Back, Rect}
@@ -14,7 +14,7 @@ use Rattle.sign_font.specs.Sound.{IsSound, IsSoundCell, IsSoundFont}
 use Rattle.multi_meaning.specs.declared.attributes.Rectangle.{Rectangle}
 use Rattle.multi_meaning.specs.Meaning.{Meaning, Shows, Does}
 use Rattle.multi_meaning.specs.Attributes.{default_font, given_font, given_rectangle, is_inside, rectangle, whole_sign}
-use Rattle.multi_meaning.specs.Address.{Standing, standing, Glyph, Spot, put_at, spots, is_glyph, is_break}
+use Rattle.multi_meaning.specs.Address.{Standing, standing, Spot, put_at, spots, is_glyph, is_break}
 use Rattle.multi_meaning.specs.Line.{glyph_width}
 use Rattle.multi_meaning.specs.Offence.{offence_by}
 use Rattle.multi_meaning.specs.kept.Present.{present_area}
@@ -22,7 +22,7 @@ use Rattle.multi_meaning.specs.Words.{some_after}
 use Rattle.multi_meaning.proofs.LayoutLemmas.{spots_all}
 use Rattle.multi_meaning.proofs.OffenceLemmas.{offence-rectangle}
 use Rattle.multi_meaning.proofs.StandingLemmas.{standing_push}
-use Rattle.multi_meaning.proofs.WordLemmas.{left_nil, none_of, push_ind, right_nil, some_after_push, some_after-append}
+use Rattle.multi_meaning.proofs.WordLemmas.{cases_Option, left_nil, none_of, push_ind, right_nil, some_after_push, some_after-append}
 
 -- ---- the items of an accepted string, from the end
 
@@ -66,16 +66,12 @@ rectangle_in_sign sign x y w h passes = record {
 whole_in_sign : (sign : SignData) → IsInSign sign (whole_sign sign)
 whole_in_sign sign = record { across = omega arith; down = omega arith }
 
--- a test that refuses with an error where it fails
-passed : (b : Bool) (n : ℕ) → cond {A = Option ℕ} b None (Some n) ≡ None → b ≡ true
-passed true n e = refl
-passed false n e = cc
-
 module _ (sign : SignData) (big : List Spot → Spot → Bool) where
   -- a rectangle that an item gives is inside the sign
   given_in_sign : (before : List Meaning) (x : Meaning) → offence_by big sign before x ≡ None → IfSome (given_rectangle sign x) (IsInSign sign)
   given_in_sign before (Does NewPage) none = whole_in_sign sign
-  given_in_sign before (Does (Rect x y w h)) none = rectangle_in_sign sign x y w h (passed (is_inside sign x y w h) 4 (sym (offence-rectangle big sign before x y w h) ∙ none))
+  given_in_sign before (Does (Rect x y w h)) none =
+      rectangle_in_sign sign x y w h (true_from_ne_false (is_inside sign x y w h) (λ outside. let wrong : ◌≡◌ {A = Option ℕ} (Some 4) None = rw outside at (sym (offence-rectangle big sign before x y w h) ∙ none) in cc))
   given_in_sign before x none = tt
 
   first_in_sign : IsInSign sign (standing sign []).rectangle
@@ -131,11 +127,9 @@ high_default (Some found) font some high = high
 
 -- what an item puts where the font in force is high
 high_put : (defaults : Defaults) (here : Standing) (x : Meaning) → HighFont here.font → IfSome (put_at defaults here x) (λ put. let spot : Spot = record { at = here; put = put } in High spot)
-high_put defaults here (Shows number) high = mapped (cell_numbered here.font number) (found_each IsWideCell (λ cell. cell.number == number) here.font.cells high.1)
-  where
-    mapped : (o : Option CellData) → IfSome o IsWideCell → IfSome (option_map Glyph o) (λ put. let spot : Spot = record { at = here; put = put } in High spot)
-    mapped None wide = tt
-    mapped (Some cell) wide = (high.0, λ glyph. wide)
+high_put defaults here (Shows number) high =
+    let wide = found_each IsWideCell (λ cell. cell.number == number) here.font.cells high.1 in
+    elim (cases_Option (cell_numbered here.font number)) [ inl none ↦ rw none tt | inr (cell, found) ↦ rw found (high.0, λ glyph. rw found at wide) ]
 high_put defaults here (Does NewPage) high = (high.0, λ glyph. absurd (false≢true glyph))
 high_put defaults here (Does (NewLine gap)) high = (high.0, λ glyph. absurd (false≢true glyph))
 high_put defaults here (Does (Back colour)) high = (high.0, λ glyph. absurd (false≢true glyph))

@@ -14,15 +14,11 @@ use Rattle.multi_meaning.specs.Line.{glyph_width, char_gap, width_of}
 use Rattle.multi_meaning.proofs.WordLemmas.{cases_Option, some_after_push, last_or-append, extent_push, gap_before}
 
 -- one more item gives the attribute its value, or leaves it
-in_force_if : {A : Type 0} (o : Option A) (more : Option A) (default : A) → unwrap_or (last_or o (cons_option more [])) default ≡ unwrap_or more (unwrap_or o default)
-in_force_if o None default = refl
-in_force_if o (Some a) default = refl
-
 pub in_force_push : {A : Type 0} (given : Meaning → Option A) (default : A) (before : List Meaning) (x : Meaning) → in_force given default (before ++ x ∷ []) ≡ unwrap_or (given x) (in_force given default before)
 in_force_push given default before x =
     ap (λ l. unwrap_or (last_or None l) default) (filter_map-append given before (x ∷ []))
     ∙ ap (λ o. unwrap_or o default) (last_or-append None (filter_map given before) (cons_option (given x) []))
-    ∙ in_force_if (last_or None (filter_map given before)) (given x) default
+    ∙ elim (cases_Option (given x)) [ inl none ↦ rw none refl | inr (value, some) ↦ rw some refl ]
 
 pub spots_push : (sign : SignData) (items : List Meaning) (x : Meaning) → spots sign (items ++ x ∷ []) ≡ spots sign items ++ cons_option (spot_at sign.defaults (standing sign items) x) []
 unfolding spots

@@ -1,5 +1,5 @@
 -- All spots of an area have the same rectangle in force.
-use Rattle.std.proofs.Common.{◌≡◌, inl, inr, ℕ, ◌+◌, ◌≤◌, Bool, true, false, cond, List, [], ◌∷◌, ◌++◌, None, refl, sym, ap, subst, ◌∙◌, arith, append-nil, append_assoc}
+use Rattle.std.proofs.Common.{◌≡◌, inl, inr, ℕ, ◌+◌, ◌≤◌, false, cond, List, [], ◌∷◌, ◌++◌, None, refl, sym, ap, subst, ◌∙◌, arith, append-nil, append_assoc}
 use Rattle.std.specs.List.{All}
 use Rattle.std.specs.Option.{unwrap_or}
 use Rattle.std.proofs.lemmas.Bool.{cases_Bool, false≢true}
@@ -21,8 +21,8 @@ given_none sign (Does (Rect x y w h)) e = absurd (false≢true (sym e))
 given_none sign x e = refl
 
 module _ (sign : SignData) where
-  area_behind : (items : List Meaning) (x : Meaning) (b : Bool) → begins_area x ≡ b → (standing sign (items ++ x ∷ [])).area ≡ (standing sign items).area + cond b 1 0
-  area_behind items x b e = ap (λ (s : Standing). s.area) (standing_push sign items x) ∙ ap (λ b. (standing sign items).area + cond b 1 0) e
+  pub area_push : (items : List Meaning) (x : Meaning) → (standing sign (items ++ x ∷ [])).area ≡ (standing sign items).area + cond (begins_area x) 1 0
+  area_push items x = ap (λ (s : Standing). s.area) (standing_push sign items x)
 
   rectangle_behind : (items : List Meaning) (x : Meaning) → begins_area x ≡ false → (standing sign (items ++ x ∷ [])).rectangle ≡ (standing sign items).rectangle
   rectangle_behind items x e =
@@ -39,8 +39,8 @@ module _ (sign : SignData) where
 
   behind_push : (area : ℕ) (r : Rectangle) (items : List Meaning) (x : Meaning) → IsBehind area r items → IsBehind area r (items ++ x ∷ [])
   behind_push area r items x (least, same) = elim (cases_Bool (begins_area x)) [
-    | inl e ↦ let next = area_behind items x true e in (omega (arith, next, least), λ is. absurd (omega (arith, next, least, is)))
-    | inr e ↦ let next = area_behind items x false e in (omega (arith, next, least), λ is. same (omega (arith, is, next)) ∙ sym (rectangle_behind items x e))
+    | inl e ↦ let next = rw e at (area_push items x) in (omega (arith, next, least), λ is. absurd (omega (arith, next, least, is)))
+    | inr e ↦ let next = rw e at (area_push items x) in (omega (arith, next, least), λ is. same (omega (arith, is, next)) ∙ sym (rectangle_behind items x e))
   ]
 
   none_placed : All (λ s. IsBehind s.at.area s.at.rectangle []) (spots sign [])

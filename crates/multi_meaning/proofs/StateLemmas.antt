@@ -1,24 +1,20 @@
 -- The present area at one more item.
-use Rattle.std.proofs.Common.{◌≡◌, inl, inr, ℕ, ◌+◌, Bool, true, false, cond, ◌&&◌, ◌||◌, ◌==◌, List, [], ◌∷◌, ◌++◌, Some, None, refl, ap, ◌∙◌, arith, append-nil}
+use Rattle.std.proofs.Common.{◌≡◌, inl, inr, ℕ, ◌+◌, Bool, true, false, ◌&&◌, ◌||◌, ◌==◌, List, [], ◌∷◌, ◌++◌, Some, None, refl, ap, ◌∙◌, arith, append-nil}
 use Rattle.std.specs.List.{cons_option}
 use Rattle.std.proofs.lemmas.List.Elements.{All-weaker, filter-append}
 use Rattle.std.proofs.lemmas.Bool.{eq-eqb, ne_eqb, and_right}
 use Rattle.sign_font.specs.Sign.{SignData}
 use Rattle.multi_meaning.specs.Meaning.{Meaning, begins_area}
-use Rattle.multi_meaning.specs.Address.{Put, Spot, Standing, is_break, is_glyph, put_at, spot_at, spots, standing, in_area}
+use Rattle.multi_meaning.specs.Address.{Put, Spot, is_break, is_glyph, put_at, spot_at, spots, standing, in_area}
 use Rattle.multi_meaning.specs.kept.Present.{present_area}
 use Rattle.multi_meaning.proofs.AreaLemmas.{filter_none}
-use Rattle.multi_meaning.proofs.RectangleLemmas.{IsBehind, spots_placed}
+use Rattle.multi_meaning.proofs.RectangleLemmas.{IsBehind, area_push, spots_placed}
 use Rattle.multi_meaning.proofs.WordLemmas.{cases_Option}
 use Rattle.multi_meaning.proofs.LayoutLemmas.{spots_push}
-use Rattle.multi_meaning.proofs.StandingLemmas.{standing_push}
 
 -- a placing item
 abbrev pub is_placing : Spot → Bool
 is_placing t = is_glyph t || is_break t
-
-area_push : (sign : SignData) (items : List Meaning) (x : Meaning) → (standing sign (items ++ x ∷ [])).area ≡ (standing sign items).area + cond (begins_area x) 1 0
-area_push sign items x = ap (λ (s : Standing). s.area) (standing_push sign items x)
 
 pub in_area-append : (k : ℕ) (xs ys : List Spot) → in_area k (xs ++ ys) ≡ in_area k xs ++ in_area k ys
 in_area-append k xs ys = filter-append (λ t. is_placing t && (t.at.area == k)) xs ys

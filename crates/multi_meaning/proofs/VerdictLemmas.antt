@@ -74,19 +74,18 @@ broken_bracket_stands sign before bracket more each none stays =
     ap (λ l. verdict_on sign l (reading octets).rest) same.0 ∙ ap (λ r. verdict_on sign before r) same.1
     ∙ broken_refused sign before rest (broken_some bracket more stays) none
 
-same_refusal : (a b code at : ℕ) → Refused a b ≡ Refused code at → (a ≡ code) × (b ≡ at)
-same_refusal a b code at e = (cc, cc)
-
 -- a string of these items and this rest is refused
 stands_by : (sign : SignData) (items : List Item) (rest : List ℕ) (faults : List (ℕ × ℕ)) (code at : ℕ) → All IsItem items → HasNoItem rest → offences sign items ≡ faults
     → of_first (pages_of (map meaning items)) (faults ++ broken items rest) ≡ Refused code at → ¬ (IsOpen (drop at (spell items ++ rest)))
     → (more : List ℕ) → verdict sign ((spell items ++ rest) ++ more) ≡ Refused code at
 stands_by sign items rest (fault ∷ faults) code at each ends first e closed more =
-    let (a, b) = same_refusal fault.0 fault.1 code at e in
+    let a : fault.0 ≡ code = cc in
+    let b : fault.1 ≡ at = cc in
     ap (verdict sign) (append_assoc (spell items) rest more) ∙ first_stands sign items (rest ++ more) fault faults each first ∙ ap (λ c. Refused c fault.1) a ∙ ap (Refused code) b
 stands_by sign items [] [] code at each ends none e closed more = absurd cc
 stands_by sign items (octet ∷ rest) [] code at each ends none e closed more =
-    let (a, b) = same_refusal 3 (length (spell items)) code at e in
+    let a : 3 ≡ code = cc in
+    let b : length (spell items) ≡ at = cc in
     let here : drop at (spell items ++ octet ∷ rest) ≡ octet ∷ rest = ap (λ n. drop n (spell items ++ octet ∷ rest)) (sym b) ∙ drop-append_seam (spell items) (octet ∷ rest) in
     let stays : StaysBroken (octet ∷ rest) = elim (open_or_broken (octet ∷ rest) (λ e. cc) ends) [
       | inl open' ↦ absurd (closed (subst IsOpen (sym here) open'))

@@ -4,7 +4,7 @@ use Rattle.std.specs.List.{sum_by, filter_map, last_or, cons_option, All}
 use Rattle.std.specs.Option.{option_map, option_map_or}
 use Rattle.std.proofs.lemmas.List.{append_assoc, append-nil}
 use Rattle.std.proofs.lemmas.List.Elements.{filter_map-append, All-nil, All-cons, All-head, All-push, All-tail, All-weaker}
-use Rattle.std.proofs.lemmas.List.Sums.{sum_by_push, sum_by-append, fold_push}
+use Rattle.std.proofs.lemmas.List.Sums.{sum_by_push, sum_by-cons, fold_push}
 use Rattle.multi_meaning.specs.Words.{each_after, some_after, successive, largest, extent}
 
 pub each_after_push : {X Y : Type 0} (f : List X → X → Y) (xs : List X) (x : X) → each_after f (xs ++ x ∷ []) ≡ each_after f xs ++ f xs x ∷ []
@@ -24,35 +24,21 @@ pub last_or-append : {X : Type 0} (o : Option X) (xs ys : List X) → last_or o 
 last_or-append o [] ys = refl
 last_or-append o (x ∷ xs) ys = last_or-append (Some x) xs ys
 
--- the pair that one more item makes with the last before it
-abbrev pub next_pair : {X : Type 0} → Option X → X → List (X × X)
-next_pair None y = []
-next_pair (Some x) y = (x, y) ∷ []
-
-successive_from : {X : Type 0} (a : X) (xs : List X) (y : X) → successive (a ∷ (xs ++ y ∷ [])) ≡ successive (a ∷ xs) ++ next_pair (last_or (Some a) xs) y
-successive_from a [] y = refl
-successive_from a (x ∷ xs) y = ap (λ l. (a, x) ∷ l) (successive_from x xs y)
-
-pub successive_push : {X : Type 0} (xs : List X) (y : X) → successive (xs ++ y ∷ []) ≡ successive xs ++ next_pair (last_or None xs) y
-successive_push [] y = refl
-successive_push (x ∷ xs) y = successive_from x xs y
-
 -- the gap between the last item and one more
 abbrev pub gap_before : {X : Type 0} → (X → X → ℕ) → List X → X → ℕ
 gap_before gap xs y = option_map_or (λ x. gap x y) (last_or None xs) 0
 
-sum_next_pair : {X : Type 0} (gap : X → X → ℕ) (o : Option X) (y : X) → sum_by (λ (p : X × X). gap p.0 p.1) (next_pair o y) ≡ option_map_or (λ x. gap x y) o 0
-sum_next_pair gap None y = refl
-sum_next_pair gap (Some x) y = omega arith
+gaps_from : {X : Type 0} (gap : X → X → ℕ) (a : X) (xs : List X) (y : X) → let gaps = sum_by (λ (p : X × X). gap p.0 p.1) in
+    gaps (successive (a ∷ (xs ++ y ∷ []))) ≡ gaps (successive (a ∷ xs)) + option_map_or (λ x. gap x y) (last_or (Some a) xs) 0
+gaps_from gap a [] y = omega arith
+gaps_from {X} gap a (x ∷ xs) y =
+    let more = sum_by-cons (λ (p : X × X). gap p.0 p.1) (a, x) in
+    omega (arith, more (successive (x ∷ (xs ++ y ∷ []))), more (successive (x ∷ xs)), gaps_from gap x xs y)
 
 -- one more item adds its size and the gap before it
 pub extent_push : {X : Type 0} (size : X → ℕ) (gap : X → X → ℕ) (xs : List X) (y : X) → extent size gap (xs ++ y ∷ []) ≡ extent size gap xs + gap_before gap xs y + size y
-extent_push {X} size gap xs y =
-    let pairs : sum_by (λ (p : X × X). gap p.0 p.1) (successive (xs ++ y ∷ [])) ≡ sum_by (λ (p : X × X). gap p.0 p.1) (successive xs) + gap_before gap xs y =
-    ap (λ l. sum_by (λ (p : X × X). gap p.0 p.1) l) (successive_push xs y)
-    ∙ sum_by-append (λ (p : X × X). gap p.0 p.1) (successive xs) (next_pair (last_or None xs) y)
-    ∙ ap (λ n. sum_by (λ (p : X × X). gap p.0 p.1) (successive xs) + n) (sum_next_pair gap (last_or None xs) y) in
-    omega (arith, pairs, sum_by_push size xs y)
+extent_push size gap [] y = omega arith
+extent_push size gap (x ∷ xs) y = omega (arith, gaps_from gap x xs y, sum_by_push size (x ∷ xs) y)
 
 pub largest_push : {X : Type 0} (f : X → ℕ) (xs : List X) (x : X) → largest f (xs ++ x ∷ []) ≡ max (largest f xs) (f x)
 largest_push f xs x = fold_push (λ a x. max a (f x)) 0 xs x
