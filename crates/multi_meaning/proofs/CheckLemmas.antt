@@ -1,5 +1,5 @@
 -- What code that checks and draws needs besides: tests by a running maximum, prefixes, and parts inside a length.
-use Rattle.std.proofs.Common.{◌≡◌, ℕ, ◌≤◌, max, false, ◌||◌, List, [], ◌∷◌, ◌++◌, sym, ap, subst, ◌∙◌, arith}
+use Rattle.std.proofs.Common.{◌≡◌, ℕ, ◌≤◌, max, false, ◌||◌, List, [], ◌∷◌, ◌++◌, sym, ap, ◌∙◌, arith}
 use Rattle.std.specs.Prelude.{nat_lt}
 use Rattle.std.specs.List.{list_any}
 use Rattle.std.proofs.lemmas.List.{append_assoc, append-nil}
@@ -28,7 +28,5 @@ group_goes_back s area = any_largest (λ t. page_number t.at.page_just) (page_nu
 
 -- a row is at least as long as its beginning
 pub extent-append-le : {X : Type 0} (size : X → ℕ) (gap : X → X → ℕ) (ys xs : List X) → extent size gap xs ≤ extent size gap (xs ++ ys)
-extent-append-le size gap [] xs = subst (λ l. extent size gap xs ≤ extent size gap l) (sym (append-nil xs)) (omega arith)
-extent-append-le size gap (y ∷ ys) xs =
-    let more : extent size gap (xs ++ y ∷ []) ≤ extent size gap (xs ++ y ∷ [] ++ ys) = extent-append-le size gap ys (xs ++ y ∷ []) in
-    subst (λ l. extent size gap xs ≤ extent size gap l) (append_assoc xs (y ∷ []) ys) (omega (arith, extent_push size gap xs y, more))
+extent-append-le size gap ys xs = push_ind (λ ys. extent size gap xs ≤ extent size gap (xs ++ ys)) (omega (arith, ap (extent size gap) (append-nil xs)))
+    (λ ys y ih. omega (arith, ih, extent_push size gap (xs ++ ys) y, ap (extent size gap) (append_assoc xs ys (y ∷ [])))) ys

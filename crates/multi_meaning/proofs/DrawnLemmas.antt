@@ -146,21 +146,16 @@ thing_beside page phase place spot (Break gap) h = tt
 thing_beside page phase place spot (Cover later back) h = ne_eqb later page (λ e. omega arith)
 thing_beside page phase place spot (Glyph cell) h = ne_eqb spot.at.page page (λ e. omega arith)
 
--- the things of two lists of spots
-things_append : (phase : ℕ) (all some more : List Spot) → things_among phase all (some ++ more) ≡ things_among phase all some ++ some_after (λ next spot. thing_at phase (place_of (some ++ next) all spot) spot spot.put) more
-unfolding things_among
-things_append phase all some more = some_after-append (λ before spot. thing_at phase (place_of before all spot) spot spot.put) some more
-
 module _ (sign : SignData) (page phase colour : ℕ) (all : List Spot) (column row : ℕ) where
   -- spots of later pages leave every pixel of a page
   covered_later : (some more : List Spot) → All (IsFrom (page + 1)) more
       → has_colour sign page phase colour all (some ++ more) column row ≡ has_colour sign page phase colour all some column row
-  unfolding has_colour
+  unfolding has_colour things_among
   covered_later some more later =
       let f = λ (next : List Spot) (spot : Spot). thing_at phase (place_of (some ++ next) all spot) spot spot.put in
       let beside : All (IsBeside page) (some_after f more) =
       some_all (IsFrom (page + 1)) (IsBeside page) f more later (λ next s h. thing_beside page phase (place_of (some ++ next) all s) s s.put (omega arith)) in
-      ap (λ l. shown_colour sign (colour_of sign.defaults l page column row) == colour) (things_append phase all some more)
+      ap (λ l. shown_colour sign (colour_of sign.defaults l page column row) == colour) (some_after-append (λ before spot. thing_at phase (place_of before all spot) spot spot.put) some more)
       ∙ ap (λ c. shown_colour sign c == colour) (colour_beside sign.defaults (things_among phase all some) (some_after f more) page column row beside)
 
 -- a pixel of a string is that of all its spots

@@ -7,22 +7,21 @@ use Rattle.std.proofs.lemmas.Bool.Decides.{nat_tests}
 use Rattle.std.proofs.lemmas.List.{take_all, drop_all, take-append-le, drop-append-le, take-append-drop}
 use Rattle.multi_tag.specs.Just.{line_number}
 use Rattle.multi_meaning.specs.Address.{Spot, is_glyph, segment}
-use Rattle.multi_meaning.specs.Line.{width_of}
+use Rattle.multi_meaning.specs.Line.{char_gap, glyph_width, width_of}
 use Rattle.multi_meaning.specs.Fit.{fit, line_fits}
 use Rattle.multi_meaning.proofs.FitLemmas.{smaller_fits}
-use Rattle.multi_meaning.proofs.LayoutLemmas.{segment_push}
+use Rattle.multi_meaning.proofs.CheckLemmas.{extent-append-le}
+use Rattle.std.proofs.lemmas.List.Elements.{filter-append}
 use Rattle.multi_meaning.proofs.WordLemmas.{cases_Option}
 use Rattle.multi_meaning.specs.Filling.{CutAt, longest_prefix, cut_at_last, longer, is_space, dropped, soft_break, broken_off, fill}
 use Rattle.multi_meaning.proofs.FillListLemmas.{longest_push, longest_all, longest_short, is_cut, none_take}
 
 -- WHAT FITS ONE LINE
 
--- one more character makes no segment narrower
-pub segment_grows : (just : ℕ) (line : List Spot) (s : Spot) → width_of (segment just line) ≤ width_of (segment just (line ++ s ∷ []))
-segment_grows just line s = let more = segment_push just line s in elim (cases_Bool (is_glyph s && (line_number s.at.line_just == just))) [
-  | inl own ↦ omega (arith, rw own at more)
-  | inr other ↦ omega (arith, rw other at more)
-]
+-- what stands behind characters makes no segment narrower
+pub segment_front : (just : ℕ) (line behind : List Spot) → width_of (segment just line) ≤ width_of (segment just (line ++ behind))
+segment_front just line behind =
+    omega (arith, extent-append-le glyph_width char_gap (segment just behind) (segment just line), ap width_of (filter-append (λ t. is_glyph t && (line_number t.at.line_just == just)) line behind))
 
 pub le_test : (a b w : ℕ) → a ≤ b → nat_le b w ≡ true → nat_le a w ≡ true
 le_test a b w h k = grind (arith, nat_tests)
@@ -33,7 +32,7 @@ fits_front width line s h =
     let w = λ (just : ℕ). width_of (segment just line) in
     let v = λ (just : ℕ). width_of (segment just (line ++ s ∷ [])) in
     let (parts, full) = and_parts (fit (v 2) (v 3) (v 4) width) (nat_le (v 5) width) h in
-    and_from (fit (w 2) (w 3) (w 4) width) (nat_le (w 5) width) (smaller_fits (v 2) (v 3) (v 4) (w 2) (w 3) (w 4) width (segment_grows 2 line s) (segment_grows 3 line s) (segment_grows 4 line s) parts) (le_test (w 5) (v 5) width (segment_grows 5 line s) full)
+    and_from (fit (w 2) (w 3) (w 4) width) (nat_le (w 5) width) (smaller_fits (v 2) (v 3) (v 4) (w 2) (w 3) (w 4) width (segment_front 2 line (s ∷ [])) (segment_front 3 line (s ∷ [])) (segment_front 4 line (s ∷ [])) parts) (le_test (w 5) (v 5) width (segment_front 5 line (s ∷ [])) full)
 
 pub stays_wide : (width : ℕ) (line : List Spot) (s : Spot) → line_fits width line ≡ false → line_fits width (line ++ s ∷ []) ≡ false
 stays_wide width line s h = false_from_ne_true (line_fits width (line ++ s ∷ [])) (λ fits. false≢true (sym h ∙ fits_front width line s fits))
@@ -68,26 +67,20 @@ module _ (width : ℕ) where
   pub broken_first : (cs : List Spot) (s : Spot) → line_fits width cs ≡ true → line_fits width (cs ++ s ∷ []) ≡ false → soft_break width (cs ++ s ∷ []) ≡ cut_at_last is_space (cs ++ s ∷ [])
   broken_first cs s fits wide =
       let more = cs ++ s ∷ [] in
-      let longest : longest_prefix (line_fits width) more ≡ cs =
-      longest_push (line_fits width) cs s ∙ ap (λ b. cond b more (longest_prefix (line_fits width) cs)) wide ∙ longest_all (line_fits width) cs fits in
+      let longest : longest_prefix (line_fits width) more ≡ cs = longest_push (line_fits width) cs s ∙ rw wide (longest_all (line_fits width) cs fits) in
       let all : length more ≤ most more = omega (arith, ap length longest, length-append cs (s ∷ [])) in
-      broken_wide more wide
-      ∙ ap (λ l. option_map (longer l) (cut_at_last is_space (take (most more) more))) (drop_all (most more) more all)
-      ∙ longer_nil (cut_at_last is_space (take (most more) more))
-      ∙ ap (cut_at_last is_space) (take_all (most more) more all)
+      broken_wide more wide ∙ rw (drop_all (most more) more all, take_all (most more) more all) (longer_nil (cut_at_last is_space more))
 
   -- a later one leaves the break
   pub broken_later : (cs : List Spot) (s : Spot) → line_fits width cs ≡ false → soft_break width (cs ++ s ∷ []) ≡ option_map (longer (s ∷ [])) (soft_break width cs)
   broken_later cs s wide =
       let more = cs ++ s ∷ [] in
       let wide' = stays_wide width cs s wide in
-      let same : most more ≡ most cs = ap (λ l. length l + 1) (longest_push (line_fits width) cs s ∙ ap (λ b. cond b more (longest_prefix (line_fits width) cs)) wide') in
+      let same : most more ≡ most cs = ap (λ l. length l + 1) (longest_push (line_fits width) cs s ∙ rw wide' refl) in
       let short : most cs ≤ length cs = longest_short (line_fits width) cs (nothing_fits width) wide in
       broken_wide more wide'
       ∙ ap (λ n. cut_wide n more) same
-      ∙ ap (λ l. option_map (longer l) (cut_at_last is_space (take (most cs) more))) (drop-append-le (most cs) cs (s ∷ []) short)
-      ∙ ap (λ l. option_map (longer (drop (most cs) cs ++ s ∷ [])) (cut_at_last is_space l)) (take-append-le (most cs) cs (s ∷ []) short)
-      ∙ longer_twice (drop (most cs) cs) (s ∷ []) (cut_at_last is_space (take (most cs) cs))
+      ∙ rw (drop-append-le (most cs) cs (s ∷ []) short, take-append-le (most cs) cs (s ∷ []) short) (longer_twice (drop (most cs) cs) (s ∷ []) (cut_at_last is_space (take (most cs) cs)))
       ∙ ap (option_map (longer (s ∷ []))) (sym (broken_wide cs wide))
 
   pub broken_is_wide : (cs : List Spot) (c : CutAt Spot) → soft_break width cs ≡ Some c → line_fits width cs ≡ false

@@ -1,10 +1,9 @@
 -- The height of a group by a running state: what code keeps of the placing items so far.
-use Rattle.std.proofs.Common.{◌≡◌, true, false, cond, ◌||◌, ◌⊎◌, inl, inr, List, [], ◌∷◌, ◌++◌, refl, ap, ◌∙◌}
+use Rattle.std.proofs.Common.{◌≡◌, true, false, ◌⊎◌, inl, inr, List, [], ◌∷◌, ◌++◌, refl, ap, ◌∙◌}
 use Rattle.std.specs.List.{filter, list_any, All, AllPass}
 use Rattle.std.proofs.lemmas.Bool.{both_ways, cond_both}
 use Rattle.std.proofs.lemmas.List.{append-nil}
 use Rattle.std.proofs.lemmas.List.Elements.{filter-append, All-nil, All-head, All-tail, All-push}
-use Rattle.std.proofs.lemmas.List.Folds.{list_any-append}
 use Rattle.multi_meaning.specs.Address.{Spot, is_glyph, is_break}
 use Rattle.multi_meaning.specs.Line.{bearers}
 use Rattle.multi_meaning.proofs.CutLemmas.{cut, cut_ind_all}
@@ -22,18 +21,15 @@ bearers_glyphs line h = cond_both (list_any is_glyph line) (filter is_glyph line
 
 -- a `nl` ends a line: with characters it changes neither, without it gives both
 pub any_glyph : (s : Spot) (line : List Spot) → glyphs (s ∷ line) → list_any is_glyph (s ∷ line) ≡ true
-any_glyph s line h = ap (λ b. b || list_any is_glyph line) (All-head (λ x. is_glyph x ≡ true) s line h)
+any_glyph s line h = rw (All-head (λ x. is_glyph x ≡ true) s line h) refl
 
 pub bearers_ended : (s : Spot) (line : List Spot) (b : Spot) → glyphs (s ∷ line) → is_glyph b ≡ false → bearers ((s ∷ line) ++ b ∷ []) ≡ s ∷ line
 bearers_ended s line b h n =
-    ap (λ t. cond t (filter is_glyph ((s ∷ line) ++ b ∷ [])) ((s ∷ line) ++ b ∷ [])) (list_any-append is_glyph (s ∷ line) (b ∷ []) ∙ ap (λ t. t || list_any is_glyph (b ∷ [])) (any_glyph s line h))
-    ∙ filter-append is_glyph (s ∷ line) (b ∷ [])
-    ∙ ap (λ l. filter is_glyph (s ∷ line) ++ l) (ap (λ t. cond t (b ∷ []) []) n)
-    ∙ append-nil (filter is_glyph (s ∷ line))
-    ∙ filter_all (s ∷ line) h
+    let rest = filter_all line (All-tail (λ x. is_glyph x ≡ true) s line h) in
+    rw (All-head (λ x. is_glyph x ≡ true) s line h) (ap (λ l. s ∷ l) (filter-append is_glyph line (b ∷ []) ∙ rw (n, rest) (append-nil line)))
 
 pub bearers_empty : (b : Spot) → is_glyph b ≡ false → bearers (b ∷ []) ≡ b ∷ []
-bearers_empty b n = ap (λ t. cond (t || false) (cond t (b ∷ []) []) (b ∷ [])) n
+bearers_empty b n = rw n refl
 
 -- of placing items, what stands open behind the last `nl` is characters
 abbrev pub placing : Spot → Type 0

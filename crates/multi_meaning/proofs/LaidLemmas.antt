@@ -1,5 +1,5 @@
 -- A filled group at one more placing item, and the line that is open at its end.
-use Rattle.std.proofs.Common.{◌≡◌, ◌⊎◌, inl, inr, ℕ, ◌<◌, ◌≤◌, true, false, cond, List, [], ◌∷◌, ◌++◌, length, Option, Some, None, zero, suc, refl, sym, ap, subst, ◌∙◌, arith, append_assoc, append-nil}
+use Rattle.std.proofs.Common.{◌≡◌, ◌⊎◌, inl, inr, ℕ, ◌<◌, ◌≤◌, true, false, List, [], ◌∷◌, ◌++◌, length, Option, Some, None, zero, suc, refl, sym, ap, subst, ◌∙◌, arith, append_assoc, append-nil}
 use Rattle.std.specs.List.{filter, flat_map, after_last, All, AllPass}
 use Rattle.std.proofs.lemmas.List.{length_push}
 use Rattle.std.proofs.lemmas.List.Concat.{flat_map-append}
@@ -23,16 +23,10 @@ pub glyph_none : (line : List Spot) → AllPass is_glyph line → filter is_brea
 glyph_none line h = filter_none is_break line (All-weaker (λ x. is_glyph x ≡ true) (λ x. is_break x ≡ false) (λ x glyph. (glyph_put x.at x.put glyph).0) line h)
 
 pub glyphs_before : (line : List Spot) (s : Spot) → AllPass is_glyph line → is_break s ≡ true → filter is_glyph (line ++ s ∷ []) ≡ line
-glyphs_before line s h b =
-    filter-append is_glyph line (s ∷ [])
-    ∙ ap (λ c. filter is_glyph line ++ cond c (s ∷ []) []) (break_put s.at s.put b)
-    ∙ append-nil (filter is_glyph line) ∙ filter_all line h
+glyphs_before line s h b = filter-append is_glyph line (s ∷ []) ∙ rw (break_put s.at s.put b, filter_all line h) (append-nil line)
 
 pub break_behind : (line : List Spot) (s : Spot) → AllPass is_glyph line → is_break s ≡ true → filter is_break (line ++ s ∷ []) ≡ s ∷ []
-break_behind line s h b =
-    filter-append is_break line (s ∷ [])
-    ∙ ap (λ l. l ++ cond (is_break s) (s ∷ []) []) (glyph_none line h)
-    ∙ ap (λ c. cond c (s ∷ []) []) b
+break_behind line s h b = filter-append is_break line (s ∷ []) ∙ rw (glyph_none line h, b) refl
 
 pub flat_map_push : {X Y : Type 0} (f : X → List Y) (xs : List X) (x : X) → flat_map f (xs ++ x ∷ []) ≡ flat_map f xs ++ f x
 flat_map_push f xs x = flat_map-append f xs (x ∷ []) ∙ ap (λ l. flat_map f xs ++ l) (append-nil (f x))
@@ -56,10 +50,7 @@ module _ (width : ℕ) where
   open_line g = (last_parts g).open'
 
   pub line_of_glyphs : (line : List Spot) → AllPass is_glyph line → filled_line width line ≡ fill (length line) width line
-  line_of_glyphs line h =
-      ap (λ l. fill (length l) width l ++ filter is_break line) (filter_all line h)
-      ∙ ap (λ l. fill (length line) width line ++ l) (glyph_none line h)
-      ∙ append-nil (fill (length line) width line)
+  line_of_glyphs line h = rw (filter_all line h, glyph_none line h) (append-nil (fill (length line) width line))
 
   part_filled : (line : List Spot) → AllPass is_glyph line → flat_map (filled_line width) (part is_break line) ≡ fill (length line) width line
   part_filled [] h = refl
@@ -80,15 +71,12 @@ module _ (width : ℕ) where
   -- one more `nl` stands behind the filled group
   pub filled_break : (g : List Spot) (s : Spot) → All IsPlacing g → is_break s ≡ true → filled (Some width) (g ++ s ∷ []) ≡ filled (Some width) g ++ s ∷ []
   filled_break g s placing b =
-      let c = cut is_break g in
-      let glyphs = open_glyphs g placing in
-      more_filled g s
-      ∙ ap (λ l. front g ++ (fill (length l) width l ++ filter is_break (c.open' ++ s ∷ []))) (glyphs_before c.open' s glyphs b)
-      ∙ ap (λ l. front g ++ (fill (length c.open') width c.open' ++ l)) (break_behind c.open' s glyphs b)
-      ∙ ap (λ l. front g ++ (l ++ s ∷ [])) (fill_is width (length c.open') c.open')
-      ∙ sym (append_assoc (front g) ((last_parts g).closed ++ (last_parts g).open') (s ∷ []))
-      ∙ ap (λ l. l ++ s ∷ []) (sym (append_assoc (front g) (last_parts g).closed (last_parts g).open'))
-      ∙ ap (λ l. l ++ s ∷ []) (sym (filled_is g placing))
+      let o = (cut is_break g).open' in
+      let last = last_parts g in
+      let line : filled_line width (o ++ s ∷ []) ≡ (last.closed ++ last.open') ++ s ∷ [] =
+      rw (glyphs_before o s (open_glyphs g placing) b, break_behind o s (open_glyphs g placing) b) (ap (λ l. l ++ s ∷ []) (fill_is width (length o) o)) in
+      more_filled g s ∙ ap (λ l. front g ++ l) line ∙ sym (append_assoc (front g) (last.closed ++ last.open') (s ∷ []))
+      ∙ ap (λ l. l ++ s ∷ []) (sym (append_assoc (front g) last.closed last.open') ∙ sym (filled_is g placing))
 
   -- one more character: what is ended stays, and the open line with it is broken at its last space where it doesn't fit
   pub filled_character : (g : List Spot) (s : Spot) → All IsPlacing g → is_glyph s ≡ true → line_fits width (open_line g) ≡ true

@@ -1,15 +1,13 @@
 -- What one more item does to the values in force, the spots, the widths and the heights.
-use Rattle.std.proofs.Common.{◌≡◌, inl, inr, ℕ, ◌+◌, cond, ◌&&◌, ◌==◌, List, [], ◌∷◌, ◌++◌, Option, Some, None, refl, ap, ◌∙◌}
+use Rattle.std.proofs.Common.{◌≡◌, inl, inr, ◌+◌, List, [], ◌∷◌, ◌++◌, Option, Some, None, refl, ap, ◌∙◌}
 use Rattle.std.specs.List.{All, filter_map, last_or, cons_option}
 use Rattle.std.specs.Option.{unwrap_or}
 use Rattle.std.proofs.lemmas.List.{append-nil}
-use Rattle.std.proofs.lemmas.List.Elements.{All-push, filter_map-append, filter-append}
-use Rattle.std.proofs.lemmas.Bool.{cases_Bool}
-use Rattle.multi_tag.specs.Just.{line_number}
+use Rattle.std.proofs.lemmas.List.Elements.{All-push, filter_map-append}
 use Rattle.sign_font.specs.Sign.{SignData}
 use Rattle.multi_meaning.specs.Meaning.{Meaning}
 use Rattle.multi_meaning.specs.Attributes.{in_force}
-use Rattle.multi_meaning.specs.Address.{Put, Spot, put_at, spot_at, spots, standing, is_glyph, segment}
+use Rattle.multi_meaning.specs.Address.{Put, Spot, put_at, spot_at, spots, standing}
 use Rattle.multi_meaning.specs.Line.{glyph_width, char_gap, width_of}
 use Rattle.multi_meaning.proofs.WordLemmas.{cases_Option, some_after_push, last_or-append, extent_push, gap_before}
 
@@ -35,8 +33,3 @@ spots_all sign P items x new old = rw (spots_push sign items x) (elim (cases_Opt
 -- a segment after one more character of its own
 pub width_push : (characters : List Spot) (s : Spot) → width_of (characters ++ s ∷ []) ≡ width_of characters + gap_before char_gap characters s + glyph_width s
 width_push characters s = extent_push glyph_width char_gap characters s
-
-pub segment_push : (just : ℕ) (line : List Spot) (s : Spot) → width_of (segment just (line ++ s ∷ [])) ≡ cond (is_glyph s && (line_number s.at.line_just == just)) (width_of (segment just line) + gap_before char_gap (segment just line) s + glyph_width s) (width_of (segment just line))
-segment_push just line s =
-    let own = λ (t : Spot). is_glyph t && (line_number t.at.line_just == just) in
-    ap width_of (filter-append own line (s ∷ [])) ∙ elim (cases_Bool (own s)) [ inl e ↦ rw e (width_push (segment just line) s) | inr e ↦ rw e (ap width_of (append-nil (segment just line))) ]

@@ -1,5 +1,5 @@
 -- The lines of an accepted string are no wider than the sign, and its groups no higher.
-use Rattle.std.proofs.Common.{◌≡◌, ℕ, ◌+◌, ◌≤◌, true, false, ◌&&◌, ◌||◌, ◌==◌, length, map, List, [], Option, Some, None, ◌∷◌, ◌++◌, refl, sym, ap, subst, ◌∙◌, arith, inl, inr, append_assoc, append-nil, length-append}
+use Rattle.std.proofs.Common.{◌≡◌, ℕ, ◌+◌, ◌≤◌, true, false, ◌&&◌, ◌||◌, ◌==◌, length, map, List, [], Option, Some, None, ◌∷◌, ◌++◌, refl, sym, ap, subst, ◌∙◌, arith, inl, inr, length-append}
 use Rattle.std.specs.Prelude.{nat_le}
 use Rattle.std.specs.List.{All, after_last, sum_by}
 use Rattle.std.proofs.lemmas.Bool.{and_parts, cases_Bool, cases_eq, not-false, or_parts}
@@ -25,7 +25,7 @@ use Rattle.multi_meaning.specs.Meaning.{Meaning, meaning}
 use Rattle.multi_meaning.specs.kept.Present.{present_area, IsNarrow, IsNarrowArea}
 use Rattle.multi_meaning.specs.kept.Fine.{IsFine}
 use Rattle.multi_meaning.proofs.BehindLemmas.{after_last_push}
-use Rattle.multi_meaning.proofs.FillLemmas.{nothing_fits, segment_grows}
+use Rattle.multi_meaning.proofs.FillLemmas.{nothing_fits, segment_front}
 use Rattle.multi_meaning.proofs.WordLemmas.{push_ind}
 use Rattle.multi_meaning.proofs.GroupLemmas.{area_placing, in_group_other, own_group, placing_group}
 use Rattle.multi_meaning.proofs.InForceLemmas.{area_wide, rectangle_width_within, rectangle_within}
@@ -141,13 +141,8 @@ narrow_area sign sound items none =
     (rectangle_width_within sign (too_big Off) items none) (rectangle_within sign (too_big Off) items none)
 
 -- and the front of a narrow line
-front_width : (just : ℕ) (line behind : List Spot) → width_of (segment just line) ≤ width_of (segment just (line ++ behind))
-front_width just line = push_ind (λ behind. width_of (segment just line) ≤ width_of (segment just (line ++ behind)))
-    (omega (arith, ap (λ l. width_of (segment just l)) (append-nil line)))
-    (λ behind s ih. omega (arith, ih, segment_grows just (line ++ behind) s, ap (λ l. width_of (segment just l)) (append_assoc line behind (s ∷ []))))
-
 pub narrow_front : (line behind : List Spot) → IsNarrow (line ++ behind) → IsNarrow line
 narrow_front line behind whole = record {
-  width = λ just low high. omega (arith, front_width just line behind, whole.width just low high);
+  width = λ just low high. omega (arith, segment_front just line behind, whole.width just low high);
   characters = omega (arith, whole.characters, ap length (filter-append (λ t. is_glyph t && (line_number t.at.line_just == 5)) line behind), length-append (segment 5 line) (segment 5 behind));
 }

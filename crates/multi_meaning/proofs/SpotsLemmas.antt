@@ -32,18 +32,12 @@ spots_append sign before behind = (spots_behind sign before behind, spots_split 
 
 -- one more item that puts nothing
 pub spots_nothing : (sign : SignData) (before : List Meaning) (x : Meaning) → put_at sign.defaults (standing sign before) x ≡ None → spots sign (before ++ x ∷ []) ≡ spots sign before
-spots_nothing sign before x is =
-    let here = standing sign before in
-    spots_push sign before x
-    ∙ ap (λ o. spots sign before ++ cons_option (option_map (λ p. let s : Spot = record { at = here; put = p } in s) o) []) is
-    ∙ append-nil (spots sign before)
+spots_nothing sign before x is = spots_push sign before x ∙ rw is (append-nil (spots sign before))
 
 -- one more item that puts something
 pub spots_more : (sign : SignData) (before : List Meaning) (x : Meaning) (put : Put) → put_at sign.defaults (standing sign before) x ≡ Some put
     → spots sign (before ++ x ∷ []) ≡ spots sign before ++ record { at = standing sign before; put = put } ∷ []
-spots_more sign before x put is =
-    let here = standing sign before in
-    spots_push sign before x ∙ ap (λ o. spots sign before ++ cons_option (option_map (λ p. let s : Spot = record { at = here; put = p } in s) o) []) is
+spots_more sign before x put is = spots_push sign before x ∙ rw is refl
 
 -- all items, with one of them that puts something
 pub spots_with : (sign : SignData) (before : List Meaning) (x : Meaning) (rest : List Meaning) (put : Put) → put_at sign.defaults (standing sign before) x ≡ Some put
