@@ -25,7 +25,7 @@ use Rattle.multi_meaning.proofs.FilledTagLemmas.{same_width}
 use Rattle.multi_meaning.proofs.GroupLaidLemmas.{group_laid, group_whole, has_place, is_member, laid_as, member_at, members, own_member, own_placing, there, whole_length}
 use Rattle.multi_meaning.proofs.LaidItemLemmas.{are_laid}
 use Rattle.multi_meaning.proofs.LaidLemmas.{glyph_none}
-use Rattle.multi_meaning.proofs.LaidMoreLemmas.{among, other_leaves}
+use Rattle.multi_meaning.proofs.LaidTagLemmas.{among, other_leaves}
 use Rattle.multi_meaning.proofs.PutsAtLemmas.{PutsAt, own_longer, puts_at, space_shown}
 use Rattle.multi_meaning.proofs.SpotsLemmas.{spots_behind, spots_more, spots_with}
 use Rattle.multi_meaning.proofs.WordLemmas.{All-split, cases_Option, each_after-append, each_after_push, each_same}

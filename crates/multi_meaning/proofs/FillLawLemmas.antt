@@ -23,8 +23,7 @@ use Rattle.multi_meaning.proofs.FilledSumLemmas.{breaks, drops, stands, stays}
 use Rattle.multi_meaning.proofs.GroupLaidLemmas.{members_push, own_member, own_placing}
 use Rattle.multi_meaning.proofs.LaidItemLemmas.{are_laid}
 use Rattle.multi_meaning.proofs.LaidLemmas.{ended, filled_is, open_line, open_line_glyphs, open_line_is}
-use Rattle.multi_meaning.proofs.LaidMoreLemmas.{laid_nothing}
-use Rattle.multi_meaning.proofs.LaidTagLemmas.{laid_placing, laid_tag}
+use Rattle.multi_meaning.proofs.LaidTagLemmas.{laid_nothing, laid_placing, laid_tag}
 use Rattle.multi_meaning.proofs.BreaksLineLemmas.{BreaksLine, breaks_line}
 use Rattle.multi_meaning.proofs.NarrowLemmas.{OpenLinesFit, open_lines_fit}
 use Rattle.multi_meaning.proofs.PutsAtLemmas.{space_glyph}

@@ -30,7 +30,6 @@ pub mod ItemAtLemmas
 pub mod LaidFitLemmas
 pub mod LaidItemLemmas
 pub mod LaidLemmas
-pub mod LaidMoreLemmas
 pub mod LaidSpotLemmas
 pub mod LaidTagLemmas
 pub mod LayoutLemmas
