@@ -1,8 +1,6 @@
 -- A pixel of a page at one more item, where a page begins and where it ends.
-use Rattle.std.proofs.Common.{◌≡◌, ℕ, ◌+◌, ◌-◌, ◌<◌, Bool, true, false, cond, ◌&&◌, ◌==◌, List, [], ◌∷◌, ◌++◌, Option, Some, None, refl, sym, ap, ◌∙◌, arith, append-nil, subst, ◌⊎◌, inl, inr}
-use Rattle.std.specs.Prelude.{nat_le, nat_lt}
+use Rattle.std.proofs.Common.{◌≡◌, ℕ, ◌+◌, ◌-◌, ◌<◌, Bool, true, false, cond, ◌&&◌, ◌==◌, List, [], ◌∷◌, ◌++◌, Option, Some, None, refl, sym, ap, ◌∙◌, arith, append-nil, subst, ◌⊎◌, inl, inr, nat_le, nat_lt, IfSome, option_map, unwrap_or}
 use Rattle.std.specs.List.{filter_map, last_or, cons_option, All}
-use Rattle.std.specs.Option.{IfSome, option_map, unwrap_or}
 use Rattle.std.proofs.lemmas.Bool.{cases_Bool, eq-eqb, ne_eqb}
 use Rattle.std.proofs.lemmas.List.Elements.{All-cons, All-head, All-tail, All-weaker, filter_map-append}
 use Rattle.multi_tag.specs.declared.tag.Tag.TheVariants.{NewPage, Back}
@@ -63,27 +61,27 @@ module _ (sign : SignData) (page phase colour : ℕ) (all : List Spot) (column r
       ∙ ap (λ b. cond (b && true) (shown_colour sign back == colour) (has_colour sign page phase colour all some column row)) (eq-eqb page page refl)
 
 module _ (sign : SignData) (phase colour : ℕ) (all : List Spot) (column row : ℕ) where
-  begins_first : has_colour sign (standing sign []).page phase colour all (spots sign []) column row ≡ (shown_colour sign (standing sign []).back == colour)
+  -- a pixel has the background in force behind some items
+  abbrev HasBackground : List Meaning → Type 0
+  HasBackground items = has_colour sign (standing sign items).page phase colour all (spots sign items) column row ≡ (shown_colour sign (standing sign items).back == colour)
+
+  begins_first : HasBackground []
   unfolding has_colour things_among spots standing
   begins_first = refl
 
-  begins_next : (earlier : List Meaning) → let before = earlier ++ Does NewPage ∷ [] in
-      has_colour sign (standing sign before).page phase colour all (spots sign before) column row ≡ (shown_colour sign (standing sign before).back == colour)
+  begins_next : (earlier : List Meaning) → HasBackground (earlier ++ Does NewPage ∷ [])
   begins_next earlier =
-      let before = earlier ++ Does NewPage ∷ [] in
       let at = standing sign earlier in
-      ap (λ page. has_colour sign page phase colour all (spots sign before) column row) (next_page_behind sign earlier)
+      ap (λ page. has_colour sign page phase colour all (spots sign (earlier ++ Does NewPage ∷ [])) column row) (next_page_behind sign earlier)
       ∙ ap (λ l. has_colour sign (at.page + 1) phase colour all l column row) (spots_more sign earlier (Does NewPage) (Cover (at.page + 1) at.back) refl)
       ∙ covered_whole sign (at.page + 1) phase colour all column row (spots sign earlier) at at.back
       ∙ ap (λ c. shown_colour sign c == colour) (sym (same_back sign earlier))
 
-  -- where a page begins, every pixel has the background in force
+  -- where a page begins, every pixel has it
   pub covered_begins : (before : List Meaning) → BeginsPage before
       → has_colour sign (standing sign before).page phase colour all (spots sign before) column row ≡ (shown_colour sign (standing sign before).back == colour)
-  covered_begins before (inl first) =
-      subst (λ items. has_colour sign (standing sign items).page phase colour all (spots sign items) column row ≡ (shown_colour sign (standing sign items).back == colour)) (sym first) begins_first
-  covered_begins before (inr (earlier, next)) =
-      subst (λ items. has_colour sign (standing sign items).page phase colour all (spots sign items) column row ≡ (shown_colour sign (standing sign items).back == colour)) (sym next) (begins_next earlier)
+  covered_begins before (inl first) = subst HasBackground (sym first) begins_first
+  covered_begins before (inr (earlier, next)) = subst HasBackground (sym next) (begins_next earlier)
 
   -- a pixel after one more character: its colour if the character covers the pixel, else as before
   pub covered_glyph : (before : List Meaning) (number : ℕ) (cell : CellData) → cell_numbered (standing sign before).font number ≡ Some cell →

@@ -1,8 +1,6 @@
 -- The sums of a filled group at one more character: in each case they follow from the sums before it, and from those of the open
 -- line's parts around its last space.
-use Rattle.std.proofs.Common.{◌≡◌, ℕ, true, false, List, [], ◌∷◌, ◌++◌, Option, Some, None, refl, sym, ap, ◌∙◌, append_assoc}
-use Rattle.std.specs.List.{All}
-use Rattle.std.specs.Option.{option_map}
+use Rattle.std.proofs.Common.{◌≡◌, ℕ, true, false, List, [], ◌∷◌, ◌++◌, Option, Some, None, refl, sym, ap, ◌∙◌, append_assoc, All, option_map}
 use Rattle.multi_meaning.specs.Address.{Spot, is_glyph}
 use Rattle.multi_meaning.specs.Fit.{line_fits}
 use Rattle.multi_meaning.specs.kept.Present.{IsPlacing}

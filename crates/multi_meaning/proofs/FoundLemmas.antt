@@ -1,8 +1,7 @@
 -- The cell that is found by a number, and whether it is a space.
-use Rattle.std.proofs.Common.{◌≡◌, ℕ, cond, ◌==◌, inl, inr, List, [], ◌∷◌, Some, sym, ap, ◌∙◌}
+use Rattle.std.proofs.Common.{◌≡◌, ℕ, cond, ◌==◌, inl, inr, List, [], ◌∷◌, Some, sym, ap, ◌∙◌, find}
 use Rattle.std.proofs.lemmas.Bool.{cases_Bool, eqb-true}
 use Rattle.std.proofs.lemmas.Option.{same_Some}
-use Rattle.std.specs.List.{find}
 use Rattle.sign_font.specs.Sign.{SignData, CellData, cell_numbered}
 use Rattle.multi_meaning.specs.Address.{Glyph, standing}
 use Rattle.multi_meaning.specs.Filling.{is_space}

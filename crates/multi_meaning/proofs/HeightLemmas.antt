@@ -1,8 +1,7 @@
 -- The height of a group by a running state: what code keeps of the placing items so far.
-use Rattle.std.proofs.Common.{◌≡◌, true, false, ◌⊎◌, inl, inr, List, [], ◌∷◌, ◌++◌, refl, ap, ◌∙◌}
+use Rattle.std.proofs.Common.{◌≡◌, true, false, ◌⊎◌, inl, inr, List, [], ◌∷◌, ◌++◌, refl, ap, ◌∙◌, append-nil}
 use Rattle.std.specs.List.{filter, list_any, All, AllPass}
 use Rattle.std.proofs.lemmas.Bool.{both_ways, cond_both}
-use Rattle.std.proofs.lemmas.List.{append-nil}
 use Rattle.std.proofs.lemmas.List.Elements.{filter-append, All-nil, All-head, All-tail, All-push}
 use Rattle.multi_meaning.specs.Address.{Spot, is_glyph, is_break}
 use Rattle.multi_meaning.specs.Line.{bearers}

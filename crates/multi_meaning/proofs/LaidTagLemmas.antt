@@ -1,9 +1,6 @@
 -- One more spot, and one more item, behind a string: the others are laid as they were, where it only goes behind its filled group;
 -- and a tag is laid as itself.
-use Rattle.std.proofs.Common.{◌≡◌, inl, inr, true, false, cond, List, [], ◌∷◌, ◌++◌, length, Some, None, refl, sym, ap, ◌∙◌, append_assoc, append-nil, subst}
-use Rattle.std.specs.Prelude.{slice_index_or}
-use Rattle.std.specs.List.{All}
-use Rattle.std.specs.Option.{option_map}
+use Rattle.std.proofs.Common.{◌≡◌, inl, inr, true, false, cond, List, [], ◌∷◌, ◌++◌, length, Some, None, refl, sym, ap, ◌∙◌, append_assoc, append-nil, slice_index_or, All, option_map}
 use Rattle.std.proofs.lemmas.Bool.{both_ways, cases_Bool, false_from_ne_true, eq-eqb}
 use Rattle.std.proofs.lemmas.List.{get_or_at, get_or_append_left}
 use Rattle.std.proofs.lemmas.List.Elements.{All-push, All-weaker}
@@ -23,7 +20,7 @@ use Rattle.multi_meaning.proofs.GroupLaidLemmas.{has_place, is_member, member_at
 use Rattle.multi_meaning.proofs.SpotsLemmas.{spots_more, spots_nothing, spots_with}
 use Rattle.multi_meaning.proofs.WordLemmas.{cases_Option, each_after_push, each_same}
 use Rattle.multi_meaning.proofs.LaidLemmas.{filled_behind}
-use Rattle.multi_meaning.proofs.RectangleLemmas.{same_rectangle}
+use Rattle.multi_meaning.proofs.RectangleLemmas.{IsBehind, spots_placed}
 
 -- ONE MORE SPOT
 
@@ -126,10 +123,9 @@ module _ (setting : LineFill) (sign : SignData) (items : List Meaning) where
   -- the spots of the area in which the next item stands are filled as it would be
   pub same_fill : All (λ (x : Spot). x.at.area ≡ (standing sign items).area → fill_at setting x.at ≡ fill_at setting (standing sign items)) (spots sign items)
   same_fill =
-      All-weaker (λ (x : Spot). x.at.area ≡ (standing sign items).area → x.at.rectangle ≡ (standing sign items).rectangle)
-      (λ (x : Spot). x.at.area ≡ (standing sign items).area → fill_at setting x.at ≡ fill_at setting (standing sign items))
-      (λ x h same. fill_same setting x.at (standing sign items) (h same)) (spots sign items)
-      (subst (λ l. All (λ (x : Spot). x.at.area ≡ (standing sign items).area → x.at.rectangle ≡ (standing sign items).rectangle) (spots sign l)) (append-nil items) (same_rectangle sign items []))
+      let here = standing sign items in
+      All-weaker (λ (x : Spot). IsBehind sign x.at.area x.at.rectangle items) (λ (x : Spot). x.at.area ≡ here.area → fill_at setting x.at ≡ fill_at setting here)
+      (λ x h same. fill_same setting x.at here (h.1 same)) (spots sign items) (spots_placed sign items)
 
   -- a placing item behind whose group goes this spot, as it is filled, is laid as this spot
   pub laid_placing : (x : Meaning) (put : Put) (y : Spot) → put_at sign.defaults (standing sign items) x ≡ Some put → is_member (standing sign items).area (page_number (standing sign items).page_just) (spot_of put) ≡ true

@@ -1,6 +1,5 @@
 -- Worked examples of pictures and of pages at clocks on the sample sign, computed.
-use Rattle.std.proofs.Common.{◌≡◌, ℕ, true, List, [], ◌∷◌, map, codes, refl}
-use Rattle.std.specs.Prelude.{if◌then◌else◌, nat_eq}
+use Rattle.std.proofs.Common.{◌≡◌, ℕ, true, List, [], ◌∷◌, map, codes, refl, if◌then◌else◌, nat_eq}
 use Rattle.std.specs.List.{range_with_len, count_by, sum_by}
 use Rattle.sign_font.specs.Sample.{sample}
 use Rattle.sign_font.specs.Sign.{SignData}

@@ -1,7 +1,5 @@
 -- Where lines aren't filled, each item is laid out as itself.
-use Rattle.std.proofs.Common.{◌≡◌, inl, inr, true, List, [], ◌∷◌, ◌++◌, length, Some, refl, sym, ap, ◌∙◌, append-nil}
-use Rattle.std.specs.Prelude.{slice_index_or}
-use Rattle.std.specs.Option.{option_map}
+use Rattle.std.proofs.Common.{◌≡◌, inl, inr, true, List, [], ◌∷◌, ◌++◌, length, Some, refl, sym, ap, ◌∙◌, append-nil, slice_index_or, option_map}
 use Rattle.std.proofs.lemmas.List.{get_or_at}
 use Rattle.multi_tag.specs.Just.{page_number}
 use Rattle.multi_tag.specs.declared.tag.Tag.TheVariants.{NewLine}

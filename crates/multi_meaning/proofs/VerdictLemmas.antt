@@ -1,8 +1,7 @@
 -- Each string has one verdict, and a refusal for an item stands however the string goes on.
-use Rattle.std.proofs.Common.{◌≡◌, ◌≢◌, inl, inr, ℕ, List, [], ◌∷◌, ◌++◌, map, length, drop, Option, Some, refl, sym, ap, subst, ◌∙◌, append_assoc}
+use Rattle.std.proofs.Common.{◌≡◌, ◌≢◌, inl, inr, ℕ, List, [], ◌∷◌, ◌++◌, map, length, drop, Option, Some, refl, sym, ap, subst, ◌∙◌, append_assoc, option_map}
 use Rattle.std.proofs.Math.Seq.{drop-append_seam}
 use Rattle.std.specs.List.{All, cons_option}
-use Rattle.std.specs.Option.{option_map}
 use Rattle.multi_token.specs.Broken.{IsOpen, StaysBroken}
 use Rattle.multi_token.specs.Spelling.{Item, Char, HasNoItem, IsItem, IsReading, spell}
 use Rattle.multi_token.specs.Reading.{reading}
