@@ -44,15 +44,12 @@ module _ {X : Type 0} (p : X → Bool) where
 
   filter_part : (l : List X) → list_any p l ≡ false → filter (list_any p) (part p l) ≡ []
   filter_part [] h = refl
-  filter_part (x ∷ l) h = ap (λ b. cond b ((x ∷ l) ∷ []) []) h
+  filter_part (x ∷ l) h = rw h refl
 
   -- the parts that an item ends are the closed ones
   pub ended_is : (xs : List X) → filter (list_any p) (cut_behind p xs) ≡ (cut p xs).closed
   ended_is xs =
       let c = cut p xs in
       let e = ends xs in
-      ap (filter (list_any p)) (cut_behind_is p xs)
-      ∙ filter-append (list_any p) c.closed (part p c.open')
-      ∙ ap (λ l. l ++ filter (list_any p) (part p c.open')) e.closed
-      ∙ ap (λ l. c.closed ++ l) (filter_part c.open' e.open')
-      ∙ append-nil c.closed
+      ap (filter (list_any p)) (cut_behind_is p xs) ∙ filter-append (list_any p) c.closed (part p c.open')
+      ∙ rw (e.closed, filter_part c.open' e.open') (append-nil c.closed)

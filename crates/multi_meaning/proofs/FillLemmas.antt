@@ -27,10 +27,9 @@ le_test a b w h k = grind (arith, nat_tests)
 -- what fits one line still fits without its last character
 pub fits_front : (width : ℕ) (line : List Spot) (s : Spot) → line_fits width (line ++ s ∷ []) ≡ true → line_fits width line ≡ true
 fits_front width line s h =
-    let w = λ (just : ℕ). width_of (segment just line) in
-    let v = λ (just : ℕ). width_of (segment just (line ++ s ∷ [])) in
-    let (parts, full) = and_parts (fit (v 2) (v 3) (v 4) width) (nat_le (v 5) width) h in
-    and_from (fit (w 2) (w 3) (w 4) width) (nat_le (w 5) width) (smaller_fits (v 2) (v 3) (v 4) (w 2) (w 3) (w 4) width (segment_front 2 line (s ∷ [])) (segment_front 3 line (s ∷ [])) (segment_front 4 line (s ∷ [])) parts) (le_test (w 5) (v 5) width (segment_front 5 line (s ∷ [])) full)
+    let grows = λ (just : ℕ). segment_front just line (s ∷ []) in
+    let (parts, full) = and_parts _ _ h in
+    and_from _ _ (smaller_fits _ _ _ _ _ _ width (grows 2) (grows 3) (grows 4) parts) (le_test _ _ width (grows 5) full)
 
 pub stays_wide : (width : ℕ) (line : List Spot) (s : Spot) → line_fits width line ≡ false → line_fits width (line ++ s ∷ []) ≡ false
 stays_wide width line s h = false_from_ne_true (line_fits width (line ++ s ∷ [])) (λ fits. false≢true (sym h ∙ fits_front width line s fits))

@@ -1,5 +1,5 @@
 -- All spots of an area have the same rectangle in force.
-use Rattle.std.proofs.Common.{◌≡◌, inl, inr, ℕ, ◌+◌, ◌≤◌, false, cond, List, [], ◌∷◌, ◌++◌, None, refl, sym, ap, subst, ◌∙◌, arith, append-nil, append_assoc, All, unwrap_or}
+use Rattle.std.proofs.Common.{◌≡◌, inl, inr, ℕ, ◌+◌, ◌≤◌, false, cond, List, [], ◌∷◌, ◌++◌, None, refl, sym, ap, subst, ◌∙◌, arith, append-nil, append_assoc, All}
 use Rattle.std.proofs.lemmas.Bool.{cases_Bool, false≢true}
 use Rattle.std.proofs.lemmas.List.Elements.{All-nil, All-weaker}
 use Rattle.multi_tag.specs.declared.tag.Tag.TheVariants.{NewPage, Rect}
@@ -22,10 +22,9 @@ module _ (sign : SignData) where
   pub area_push : (items : List Meaning) (x : Meaning) → (standing sign (items ++ x ∷ [])).area ≡ (standing sign items).area + cond (begins_area x) 1 0
   area_push items x = ap (λ (s : Standing). s.area) (standing_push sign items x)
 
-  rectangle_behind : (items : List Meaning) (x : Meaning) → begins_area x ≡ false → (standing sign (items ++ x ∷ [])).rectangle ≡ (standing sign items).rectangle
-  rectangle_behind items x e =
-      ap (λ (s : Standing). s.rectangle) (standing_push sign items x)
-      ∙ ap (λ o. unwrap_or o (standing sign items).rectangle) (given_none sign x e)
+  -- an item that gives no rectangle leaves it
+  pub rectangle_stays : (items : List Meaning) (x : Meaning) → given_rectangle sign x ≡ None → (standing sign (items ++ x ∷ [])).rectangle ≡ (standing sign items).rectangle
+  rectangle_stays items x none = ap (λ (s : Standing). s.rectangle) (standing_push sign items x) ∙ rw none refl
 
   -- a spot of the area in which some items stand has their rectangle
   abbrev pub SameRectangle : List Meaning → Spot → Type 0
@@ -38,7 +37,7 @@ module _ (sign : SignData) where
   behind_push : (area : ℕ) (r : Rectangle) (items : List Meaning) (x : Meaning) → IsBehind area r items → IsBehind area r (items ++ x ∷ [])
   behind_push area r items x (least, same) = elim (cases_Bool (begins_area x)) [
     | inl e ↦ let next = rw e at (area_push items x) in (omega (arith, next, least), λ is. absurd (omega (arith, next, least, is)))
-    | inr e ↦ let next = rw e at (area_push items x) in (omega (arith, next, least), λ is. same (omega (arith, is, next)) ∙ sym (rectangle_behind items x e))
+    | inr e ↦ let next = rw e at (area_push items x) in (omega (arith, next, least), λ is. same (omega (arith, is, next)) ∙ sym (rectangle_stays items x (given_none sign x e)))
   ]
 
   none_placed : All (λ s. IsBehind s.at.area s.at.rectangle []) (spots sign [])

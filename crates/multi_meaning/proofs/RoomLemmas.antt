@@ -1,6 +1,6 @@
 -- The present area behind the items of an accepted string fits the rectangle in force, and has no more lines than the sign
 -- has rows.
-use Rattle.std.proofs.Common.{◌≡◌, inl, inr, ℕ, ◌+◌, ◌≤◌, Bool, true, false, cond, ◌&&◌, ◌||◌, length, List, [], ◌∷◌, ◌++◌, Option, Some, None, refl, sym, ap, subst, ◌∙◌, arith, IsSome, option_map, unwrap_or}
+use Rattle.std.proofs.Common.{◌≡◌, inl, inr, ℕ, ◌+◌, ◌≤◌, Bool, true, false, cond, ◌&&◌, ◌||◌, length, List, [], ◌∷◌, ◌++◌, Option, Some, None, refl, sym, ap, subst, ◌∙◌, arith, IsSome, option_map}
 use Rattle.std.proofs.lemmas.Bool.{le-leb, not-false, or_parts}
 use Rattle.multi_tag.specs.declared.tag.Tag.TheVariants.{NewPage, NewLine, Back, Rect}
 use Rattle.sign_font.specs.declared.parts.LineFill.{LineFill}
@@ -10,7 +10,7 @@ use Rattle.sign_font.specs.Sound.{IsSound}
 use Rattle.multi_meaning.specs.declared.attributes.Rectangle.{Rectangle}
 use Rattle.multi_meaning.specs.Meaning.{Meaning, Shows, Does, begins_area}
 use Rattle.multi_meaning.specs.Attributes.{given_rectangle, whole_sign}
-use Rattle.multi_meaning.specs.Address.{Standing, standing, Put, Glyph, Break, Spot, put_at, spots, is_glyph, is_break, in_group, lines_of}
+use Rattle.multi_meaning.specs.Address.{standing, Put, Glyph, Break, Spot, put_at, spots, is_glyph, is_break, in_group, lines_of}
 use Rattle.multi_meaning.specs.Fit.{area_fits}
 use Rattle.multi_meaning.specs.Laid.{too_big}
 use Rattle.multi_meaning.specs.Offence.{offence}
@@ -21,7 +21,7 @@ use Rattle.multi_meaning.proofs.InForceLemmas.{area_high, each_ind, rectangle_wi
 use Rattle.multi_meaning.proofs.WordLemmas.{cases_Option}
 use Rattle.multi_meaning.proofs.OffenceLemmas.{offence-undefined, offence-character, offence-break}
 use Rattle.multi_meaning.proofs.LinesFitLemmas.{lines_within}
-use Rattle.multi_meaning.proofs.StandingLemmas.{standing_push}
+use Rattle.multi_meaning.proofs.RectangleLemmas.{rectangle_stays}
 use Rattle.multi_meaning.proofs.StateLemmas.{present_area-placing, present_area-nothing, present_area-cover, present_area-new}
 
 -- ---- the present area
@@ -46,10 +46,6 @@ module _ (setting : LineFill) (sign : SignData) (P : Rectangle → List Spot →
   first_holds = first (whole_sign sign)
 
   module _ (before : List Meaning) (x : Meaning) where
-    -- an item that gives no rectangle leaves it
-    same_rectangle : given_rectangle sign x ≡ None → (standing sign (before ++ x ∷ [])).rectangle ≡ (standing sign before).rectangle
-    same_rectangle gives = ap (λ (s : Standing). s.rectangle) (standing_push sign before x) ∙ ap (λ o. unwrap_or o (standing sign before).rectangle) gives
-
     -- an area that begins is empty
     holds_new : begins_area x ≡ true → Holds (before ++ x ∷ [])
     holds_new begins =
@@ -59,7 +55,7 @@ module _ (setting : LineFill) (sign : SignData) (P : Rectangle → List Spot →
     -- the area behind the item, by what it is and by the rectangle before the item
     holds_by : (area : List Spot) → given_rectangle sign x ≡ None → present_area sign (before ++ x ∷ []) ≡ area → P (standing sign before).rectangle area → Holds (before ++ x ∷ [])
     holds_by area gives is holds =
-        subst (λ (r : Rectangle). P r (present_area sign (before ++ x ∷ []))) (sym (same_rectangle gives))
+        subst (λ (r : Rectangle). P r (present_area sign (before ++ x ∷ []))) (sym (rectangle_stays sign before x gives))
         (subst (P (standing sign before).rectangle) (sym is) holds)
 
     -- a placing item joins it

@@ -1,8 +1,8 @@
 -- What the items behind some others put: they leave what was put before, go on with its page and its area, and put nothing into
 -- an area that ended.
 use Rattle.std.proofs.Common.{◌≡◌, ℕ, ◌+◌, ◌≤◌, true, false, cond, List, [], ◌∷◌, ◌++◌, Option, Some, None, refl, sym, ap, ◌∙◌, arith, append-nil, append_assoc, inl, inr, IfSome, option_map, eq-eqb}
-use Rattle.std.specs.List.{cons_option, All}
-use Rattle.std.proofs.lemmas.List.Elements.{All-nil, All-cons, All-head, All-tail}
+use Rattle.std.specs.List.{cons_option, All, Contains}
+use Rattle.std.proofs.lemmas.List.Elements.{All-contains_itself, All-weaker, All-nil, All-cons, All-head, All-tail}
 use Rattle.std.proofs.lemmas.List.Sums.{sum_by-append}
 use Rattle.multi_tag.specs.declared.tag.Tag.TheVariants.{NewPage, NewLine, Back, Rect}
 use Rattle.sign_font.specs.declared.parts.Defaults.{Defaults}
@@ -70,11 +70,6 @@ some_all P Q f (x ∷ xs) h each =
       | inr (y, e) ↦ rw e (All-cons Q y (some_after (λ before. f (x ∷ before)) xs) (rw e at (each [] x (All-head P x xs h))) rest)
     ]
 
--- what holds of everything holds of each
-all_any : {X : Type 0} (xs : List X) → All (λ x. Unit {0}) xs
-all_any [] = All-nil (λ x. Unit {0})
-all_any (x ∷ xs) = All-cons (λ x. Unit {0}) x xs tt (all_any xs)
-
 -- the page of what is put
 abbrev pub page_put : Standing → Put → ℕ
 page_put at (Cover page colour) = page
@@ -104,7 +99,7 @@ area_on sign before more = omega (arith, sum_by-append (λ x. cond (begins_area 
 pub pages_behind : (sign : SignData) (before behind : List Meaning) → All (IsFrom (standing sign before).page) (spots_behind sign before behind)
 pages_behind sign before behind =
     let low = (standing sign before).page in
-    some_all (λ x. Unit {0}) (IsFrom low) (λ more item. spot_at sign.defaults (standing sign (before ++ more)) item) behind (all_any behind)
+    some_all (λ x. Unit {0}) (IsFrom low) (λ more item. spot_at sign.defaults (standing sign (before ++ more)) item) behind (All-weaker (Contains behind) (λ x. Unit {0}) (λ x _. tt) behind (All-contains_itself behind))
     (λ more x _. spot_page (standing sign (before ++ more)) low (page_on sign before more) sign.defaults x)
 
 -- an item that begins an area places nothing
