@@ -1,5 +1,5 @@
 -- A filled group at one more placing item, and the line that is open at its end.
-use Rattle.std.proofs.Common.{◌≡◌, ◌⊎◌, inl, inr, ℕ, ◌<◌, ◌≤◌, true, false, List, [], ◌∷◌, ◌++◌, length, Option, Some, None, zero, suc, refl, sym, ap, subst, ◌∙◌, arith, append_assoc, append-nil}
+use Rattle.std.proofs.Common.{◌≡◌, ◌⊎◌, inl, inr, ℕ, true, false, List, [], ◌∷◌, ◌++◌, length, Option, Some, None, zero, suc, refl, sym, ap, subst, ◌∙◌, arith, append_assoc, append-nil}
 use Rattle.std.specs.List.{filter, flat_map, after_last, All, AllPass}
 use Rattle.std.proofs.lemmas.List.{length_push}
 use Rattle.std.proofs.lemmas.List.Concat.{flat_map-append}
@@ -82,18 +82,13 @@ module _ (width : ℕ) where
   pub filled_character : (g : List Spot) (s : Spot) → All IsPlacing g → is_glyph s ≡ true → line_fits width (open_line g) ≡ true
       → filled (Some width) (g ++ s ∷ []) ≡ ended g ++ relaid width (open_line g ++ s ∷ [])
   filled_character g s placing is fits =
-      let c = cut is_break g in
-      let o = c.open' in
+      let o = (cut is_break g).open' in
       let n = length o in
-      let glyphs = open_glyphs g placing in
-      let more = o ++ s ∷ [] in
-      let size : length more ≡ suc n = omega (arith, length_push o s) in
-      let less : n < suc n = omega arith in
-      let same : n ≤ n = omega arith in
-      let steady = parts_more width n o same in
+      let size : length (o ++ s ∷ []) ≡ suc n = omega (arith, length_push o s) in
+      let steady = parts_more width n o (omega arith) in
       let fits' : line_fits width (parts width (suc n) o).open' ≡ true = ap (λ (f : Filled width). line_fits width f.open') steady ∙ fits in
-      more_filled g s
-      ∙ ap (λ l. front g ++ l) (line_of_glyphs more (All-push (λ x. is_glyph x ≡ true) o s glyphs is) ∙ ap (λ k. fill k width more) size ∙ fill_push width (suc n) o s less fits')
+      let line = line_of_glyphs (o ++ s ∷ []) (All-push (λ x. is_glyph x ≡ true) o s (open_glyphs g placing) is) ∙ ap (λ k. fill k width (o ++ s ∷ [])) size ∙ fill_push width (suc n) o s (omega arith) fits' in
+      more_filled g s ∙ ap (λ l. front g ++ l) line
       ∙ ap (λ (f : Filled width). front g ++ (f.closed ++ relaid width (f.open' ++ s ∷ []))) steady
       ∙ sym (append_assoc (front g) (last_parts g).closed (relaid width (open_line g ++ s ∷ [])))
 

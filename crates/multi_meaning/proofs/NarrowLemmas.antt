@@ -106,28 +106,22 @@ module _ (sign : SignData) (sound : IsSound sign) (items : List Meaning) (fits :
   -- the present line of each group is narrow
   narrow : (just : ℕ) → IsNarrow (after_last is_break (in_group just (present_area sign items)))
   narrow just =
-      let spots = present_area sign items in
-      let line = after_last is_break (in_group just spots) in
-      let width = (standing sign items).rectangle.width in
-      let within = across in
-      let parts = line_each (width_of (segment 2 line)) (width_of (segment 3 line)) (width_of (segment 4 line)) (width_of (segment 5 line)) width (fits just) in
-      let widest = sound.width.1 in
-      let wide : All (λ (s : Spot). is_glyph s ≡ true → 1 ≤ glyph_width s) line =
-      All-drop (λ (s : Spot). is_glyph s ≡ true → 1 ≤ glyph_width s) _ (in_group just spots)
-      (All-filter (λ t. page_number t.at.page_just == just) (λ (s : Spot). is_glyph s ≡ true → 1 ≤ glyph_width s) spots (area_wide sign sound sound.font items)) in
+      let line = after_last is_break (in_group just (present_area sign items)) in
+      let (parts, full) = line_each (width_of (segment 2 line)) (width_of (segment 3 line)) (width_of (segment 4 line)) (width_of (segment 5 line)) (standing sign items).rectangle.width (fits just) in
+      let P = λ (s : Spot). is_glyph s ≡ true → 1 ≤ glyph_width s in
+      let wide : All P line = All-drop P _ (in_group just (present_area sign items)) (All-filter (λ t. page_number t.at.page_just == just) P (present_area sign items) (area_wide sign sound sound.font items)) in
       let many : length (segment 5 line) ≤ sum_by glyph_width (segment 5 line) = sum_least glyph_width (segment 5 line) (wide_segment 5 line wide) in
+      let widest = sound.width.1 in
       record {
-        width = each_just (λ just. width_of (segment just line) ≤ 1024) (omega (arith, parts.0, within, widest)) (omega (arith, parts.0, within, widest)) (omega (arith, parts.0, within, widest)) (omega (arith, parts.1, within, widest));
-        characters = omega (arith, many, parts.1, within, widest);
+        width = each_just (λ just. width_of (segment just line) ≤ 1024) (omega (arith, parts, across, widest)) (omega (arith, parts, across, widest)) (omega (arith, parts, across, widest)) (omega (arith, full, across, widest));
+        characters = omega (arith, many, full, across, widest);
       }
 
   -- and no group is higher than a sign
   height : (just : ℕ) → 2 ≤ just → just ≤ 4 → height_of (lines_of (in_group just (present_area sign items))) ≤ 1024
   height just low top =
-      let spots = present_area sign items in
-      let tall = λ (just : ℕ). height_of (lines_of (in_group just spots)) in
-      let most = (standing sign items).rectangle.height in
-      let room : tall just ≤ most = part_most tall just most low top (fit_each (tall 2) (tall 3) (tall 4) most high) in
+      let tall = λ (just : ℕ). height_of (lines_of (in_group just (present_area sign items))) in
+      let room : tall just ≤ (standing sign items).rectangle.height = part_most tall just (standing sign items).rectangle.height low top (fit_each (tall 2) (tall 3) (tall 4) (standing sign items).rectangle.height high) in
       omega (arith, room, down, sound.height.1)
 
   pub narrow_of : IsNarrowArea (present_area sign items)

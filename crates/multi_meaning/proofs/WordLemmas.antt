@@ -6,9 +6,14 @@ use Rattle.std.proofs.lemmas.List.Elements.{filter_map-append, All-nil, All-cons
 use Rattle.std.proofs.lemmas.List.Sums.{sum_by_push, sum_by-cons, fold_push}
 use Rattle.multi_meaning.specs.Words.{each_after, some_after, successive, largest, extent}
 
+-- each item of two lists
+pub each_after-append : {X Y : Type 0} (f : List X → X → Y) (xs ys : List X) → each_after f (xs ++ ys) ≡ each_after f xs ++ each_after (λ before. f (xs ++ before)) ys
+each_after-append f [] ys = refl
+each_after-append f (x ∷ xs) ys = ap (λ l. f [] x ∷ l) (each_after-append (λ before. f (x ∷ before)) xs ys)
+
+-- one more item
 pub each_after_push : {X Y : Type 0} (f : List X → X → Y) (xs : List X) (x : X) → each_after f (xs ++ x ∷ []) ≡ each_after f xs ++ f xs x ∷ []
-each_after_push f [] x = refl
-each_after_push f (y ∷ xs) x = ap (λ l. f [] y ∷ l) (each_after_push (λ before. f (y ∷ before)) xs x)
+each_after_push f xs x = each_after-append f xs (x ∷ []) ∙ ap (λ l. each_after f xs ++ f l x ∷ []) (append-nil xs)
 
 pub each_after_length : {X Y : Type 0} (f : List X → X → Y) (xs : List X) → length (each_after f xs) ≡ length xs
 each_after_length f [] = refl
@@ -41,11 +46,6 @@ extent_push size gap (x ∷ xs) y = omega (arith, gaps_from gap x xs y, sum_by_p
 
 pub largest_push : {X : Type 0} (f : X → ℕ) (xs : List X) (x : X) → largest f (xs ++ x ∷ []) ≡ max (largest f xs) (f x)
 largest_push f xs x = fold_push (λ a x. max a (f x)) 0 xs x
-
--- each item of two lists
-pub each_after-append : {X Y : Type 0} (f : List X → X → Y) (xs ys : List X) → each_after f (xs ++ ys) ≡ each_after f xs ++ each_after (λ before. f (xs ++ before)) ys
-each_after-append f [] ys = refl
-each_after-append f (x ∷ xs) ys = ap (λ l. f [] x ∷ l) (each_after-append (λ before. f (x ∷ before)) xs ys)
 
 pub some_after-append : {X Y : Type 0} (f : List X → X → Option Y) (xs ys : List X) → some_after f (xs ++ ys) ≡ some_after f xs ++ some_after (λ before. f (xs ++ before)) ys
 some_after-append f xs ys = ap (λ l. filter_map (λ o. o) l) (each_after-append f xs ys) ∙ filter_map-append (λ o. o) (each_after f xs) (each_after (λ before. f (xs ++ before)) ys)
