@@ -1,5 +1,5 @@
 -- A pixel of a page at one more item, where a page begins and where it ends.
-use Rattle.std.proofs.Common.{◌≡◌, ℕ, ◌+◌, ◌-◌, ◌<◌, Bool, true, false, cond, ◌&&◌, ◌==◌, List, [], ◌∷◌, ◌++◌, Option, Some, None, refl, sym, ap, ◌∙◌, arith, append-nil, subst, ◌⊎◌, inl, inr, nat_le, nat_lt, IfSome, option_map, unwrap_or}
+use Rattle.std.proofs.Common.{◌≡◌, ℕ, ◌+◌, ◌-◌, ◌<◌, Bool, false, cond, ◌&&◌, ◌==◌, List, [], ◌∷◌, ◌++◌, Option, Some, None, refl, sym, ap, ◌∙◌, arith, append-nil, subst, ◌⊎◌, inl, inr, nat_le, nat_lt, IfSome, option_map, unwrap_or}
 use Rattle.std.specs.List.{filter_map, last_or, cons_option, All}
 use Rattle.std.proofs.lemmas.Bool.{cases_Bool, eq-eqb, ne_eqb}
 use Rattle.std.proofs.lemmas.List.Elements.{All-cons, All-head, All-tail, All-weaker, filter_map-append}
@@ -57,8 +57,7 @@ module _ (sign : SignData) (page phase colour : ℕ) (all : List Spot) (column r
   covered_whole : (some : List Spot) (at : Standing) (back : ℕ)
       → has_colour sign page phase colour all (some ++ record { at = at; put = Cover page back } ∷ []) column row ≡ (shown_colour sign back == colour)
   covered_whole some at back =
-      covered_more some (record { at = at; put = Cover page back }) (record { page = page; covers = λ column row. true; colour = back }) refl
-      ∙ ap (λ b. cond (b && true) (shown_colour sign back == colour) (has_colour sign page phase colour all some column row)) (eq-eqb page page refl)
+      covered_more some (record { at = at; put = Cover page back }) _ refl ∙ rw (eq-eqb page page refl) refl
 
 module _ (sign : SignData) (phase colour : ℕ) (all : List Spot) (column row : ℕ) where
   -- a pixel has the background in force behind some items
@@ -94,16 +93,8 @@ module _ (sign : SignData) (phase colour : ℕ) (all : List Spot) (column row : 
       (has_colour sign at.page phase colour all (spots sign before) column row)
   covered_glyph before number cell found =
       let at = standing sign before in
-      let spot : Spot = record { at = at; put = Glyph cell } in
-      let place = place_of (spots sign before) all spot in
-      let t : Thing = record {
-        page = at.page;
-        covers = λ column row. is_lit_at phase at.flash && nat_le place.column column && nat_le place.row row && nat_lt row (place.row + at.font.height) && cells.is_lit (sized at.font cell) (column - place.column) (row - place.row);
-        colour = at.fore;
-      } in
       ap (λ l. has_colour sign at.page phase colour all l column row) (spots_more sign before (Shows number) (Glyph cell) (ap (option_map Glyph) found))
-      ∙ covered_more sign at.page phase colour all column row (spots sign before) spot t refl
-      ∙ ap (λ b. cond (b && t.covers column row) (shown_colour sign at.fore == colour) (has_colour sign at.page phase colour all (spots sign before) column row)) (eq-eqb at.page at.page refl)
+      ∙ covered_more sign at.page phase colour all column row (spots sign before) (record { at = at; put = Glyph cell }) _ refl ∙ rw (eq-eqb at.page at.page refl) refl
 
   -- after a background every pixel of its page has it
   pub covered_cover : (before : List Meaning) (given : Option ℕ)

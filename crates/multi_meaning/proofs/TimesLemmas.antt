@@ -1,7 +1,7 @@
 -- The times of pages, and the page at a clock.
 use Rattle.std.proofs.Common.{◌≡◌, ℕ, zero, suc, ◌+◌, ◌-◌, ◌%◌, ◌<◌, ◌≤◌, Bool, true, false, ◌||◌, ◌==◌, cond, nat_le, length, take, get_or, List, [], ◌∷◌, ◌++◌, Option, Some, None, refl, sym, ap, ◌∙◌, inl, inr, arith, append_assoc, append-nil, length-append, take-take}
 use Rattle.std.specs.List.{find, position_or_len, range_with_len, slice_get, count_by}
-use Rattle.std.proofs.lemmas.Bool.{lt-ltb, le-ltb, le-leb, lt-leb, and_left, and_right, and_from, cases_Bool, cases_eq, cases_order, cond-true, cond-false}
+use Rattle.std.proofs.lemmas.Bool.{lt-ltb, le-ltb, le-leb, lt-leb, and_left, and_right, and_from, cases_Bool, cases_eq, cases_order}
 use Rattle.std.proofs.lemmas.List.Sums.{sum_by-append, sum_by-cons, sum_by_push, sum_by_more, sum_by-take-le}
 use Rattle.std.proofs.lemmas.List.Folds.{find_at}
 use Rattle.std.proofs.lemmas.List.FromFn.{get_or-range_with_len, length-range_with_len}
@@ -35,17 +35,14 @@ cycle_within before after here =
 find_first : (p : ℕ → Bool) (a n k : ℕ) → a ≤ k → k < a + n → p k ≡ true → ((j : ℕ) → a ≤ j → j < k → p j ≡ false) → find p (range_with_len a n) ≡ Some k
 find_first p a zero k from below passes fails = absurd (omega arith)
 find_first p a (suc n) k from below passes fails = elim (cases_eq a k) [
-  | inl e ↦ cond-true (p a) (Some a) (find p (range_with_len (a + 1) n)) (ap p e ∙ passes) ∙ ap (λ j. Some j) e
-  | inr e ↦ cond-false (p a) (Some a) (find p (range_with_len (a + 1) n)) (fails a (omega arith) (omega arith))
-      ∙ find_first p (a + 1) n k (omega arith) (omega arith) passes (λ j g. fails j (omega arith))
+  | inl e ↦ rw (ap p e ∙ passes) (ap (λ j. Some j) e)
+  | inr e ↦ rw (fails a (omega arith) (omega arith)) (find_first p (a + 1) n k (omega arith) (omega arith) passes (λ j g. fails j (omega arith)))
 ]
 
 -- where no number of a range passes a test, none is found
 find_none : (p : ℕ → Bool) (a n : ℕ) → ((j : ℕ) → a ≤ j → j < a + n → p j ≡ false) → find p (range_with_len a n) ≡ None
 find_none p a zero fails = refl
-find_none p a (suc n) fails =
-    cond-false (p a) (Some a) (find p (range_with_len (a + 1) n)) (fails a (omega arith) (omega arith))
-    ∙ find_none p (a + 1) n (λ j g h. fails j (omega arith) (omega arith))
+find_none p a (suc n) fails = rw (fails a (omega arith) (omega arith)) (find_none p (a + 1) n (λ j g h. fails j (omega arith) (omega arith)))
 
 -- a later page begins no earlier
 begins_later : (pages : List Times) (j k : ℕ) → j ≤ k → begin pages j ≤ begin pages k
