@@ -1,8 +1,7 @@
 -- The lines of an accepted string are no wider than the sign, and its groups no higher.
-use Rattle.std.proofs.Common.{◌≡◌, ℕ, ◌+◌, ◌≤◌, true, false, ◌&&◌, ◌||◌, ◌==◌, length, map, List, [], Option, Some, None, ◌∷◌, ◌++◌, refl, sym, ap, subst, ◌∙◌, arith, inl, inr, length-append, nat_le}
+use Rattle.std.proofs.Common.{◌≡◌, ℕ, ◌≤◌, true, false, ◌&&◌, ◌||◌, ◌==◌, length, map, List, [], Option, Some, None, ◌∷◌, ◌++◌, refl, sym, ap, subst, ◌∙◌, arith, inl, inr, length-append}
 use Rattle.std.specs.List.{All, after_last, sum_by}
-use Rattle.std.proofs.lemmas.Bool.{and_parts, cases_Bool, cases_eq, not-false, or_parts}
-use Rattle.std.proofs.lemmas.Bool.Decides.{nat_tests}
+use Rattle.std.proofs.lemmas.Bool.{and_parts, cases_Bool, cases_eq, not-false, or_parts, leb-true}
 use Rattle.std.proofs.lemmas.List.{map-append}
 use Rattle.std.proofs.lemmas.List.Elements.{All-cons, All-drop, All-filter, All-head, All-nil, All-tail, filter-append}
 use Rattle.multi_tag.specs.Just.{line_number, page_number}
@@ -18,7 +17,7 @@ use Rattle.multi_meaning.specs.Offence.{offence}
 use Rattle.multi_meaning.specs.Verdict.{offences}
 use Rattle.multi_meaning.specs.kept.FillOpen.{AllOpenFit}
 use Rattle.multi_meaning.specs.Address.{Put, Spot, Standing, in_group, is_break, is_glyph, lines_of, segment, spots, standing}
-use Rattle.multi_meaning.specs.Fit.{area_fits, fit, line_fits}
+use Rattle.multi_meaning.specs.Fit.{area_fits, line_fits}
 use Rattle.multi_meaning.specs.Line.{glyph_width, height_of, width_of}
 use Rattle.multi_meaning.specs.Meaning.{Meaning, meaning}
 use Rattle.multi_meaning.specs.kept.Present.{present_area, IsNarrow, IsNarrowArea}
@@ -87,10 +86,6 @@ module _ (sign : SignData) where
       let fine' = ap (λ setting. offence setting sign (map meaning before) (meaning item)) (sym words) ∙ fine in
       subst OpenLinesFit (sym (map-append meaning before (item ∷ []))) (next_holds Words sign fits first joins (map meaning before) (meaning item) fine' (ih earlier)))
 
--- a line that fits a width has no wider segment
-line_each : (a b c d width : ℕ) → (fit a b c width && nat_le d width) ≡ true → (a + b + c ≤ width) × (d ≤ width)
-line_each a b c d width h = (grind (arith, nat_tests), grind (arith, nat_tests))
-
 -- the characters of a segment are at least one column wide
 wide_segment : (just : ℕ) (line : List Spot) → All (λ (s : Spot). is_glyph s ≡ true → 1 ≤ glyph_width s) line → All (λ (s : Spot). 1 ≤ glyph_width s) (segment just line)
 wide_segment just [] all = All-nil (λ (s : Spot). 1 ≤ glyph_width s)
@@ -107,7 +102,9 @@ module _ (sign : SignData) (sound : IsSound sign) (items : List Meaning) (fits :
   narrow : (just : ℕ) → IsNarrow (after_last is_break (in_group just (present_area sign items)))
   narrow just =
       let line = after_last is_break (in_group just (present_area sign items)) in
-      let (parts, full) = line_each (width_of (segment 2 line)) (width_of (segment 3 line)) (width_of (segment 4 line)) (width_of (segment 5 line)) (standing sign items).rectangle.width (fits just) in
+      let (three, four) = and_parts _ _ (fits just) in
+      let parts = fit_each (width_of (segment 2 line)) (width_of (segment 3 line)) (width_of (segment 4 line)) (standing sign items).rectangle.width three in
+      let full = leb-true (width_of (segment 5 line)) (standing sign items).rectangle.width four in
       let P = λ (s : Spot). is_glyph s ≡ true → 1 ≤ glyph_width s in
       let wide : All P line = All-drop P _ (in_group just (present_area sign items)) (All-filter (λ t. page_number t.at.page_just == just) P (present_area sign items) (area_wide sign sound sound.font items)) in
       let many : length (segment 5 line) ≤ sum_by glyph_width (segment 5 line) = sum_least glyph_width (segment 5 line) (wide_segment 5 line wide) in

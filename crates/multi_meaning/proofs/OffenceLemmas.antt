@@ -11,8 +11,7 @@ use Rattle.multi_meaning.specs.Meaning.{Meaning, Shows, Does, Faulty, is_new_pag
 use Rattle.multi_meaning.specs.Offence.{character_cases, conflicts, first_code, font_cases, offence_by}
 
 one_case : (a : Bool) (n : ℕ) → first_code ((a, n) ∷ []) ≡ cond a (Some n) None
-one_case true n = refl
-one_case false n = refl
+one_case a n = elim (cases_Bool a) [ inl e ↦ rw e refl | inr e ↦ rw e refl ]
 
 two_cases : (a b : Bool) (n m : ℕ) → first_code ((a, n) ∷ (b, m) ∷ []) ≡ cond a (Some n) (cond b (Some m) None)
 two_cases true b n m = refl
