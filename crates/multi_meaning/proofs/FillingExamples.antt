@@ -19,17 +19,9 @@ unfoldable judged : List ℕ → Verdict
 unfolding verdict verdict_on offence_by spots standing reading read_items read_item tag_of
 judged octets = verdict words octets
 
-unfoldable without : List ℕ → Verdict
-unfolding verdict verdict_on offence_by spots standing reading read_items read_item tag_of
-without octets = verdict sample octets
-
 unfoldable placed : List ℕ → List (ℕ × ℕ)
 unfolding places place_of spots standing reading read_items read_item tag_of
 placed octets = map (λ p. (p.column, p.row)) (places words (map meaning (reading octets).items))
-
-without_words_they_are_too_wide : without (codes "AA AA") ≡ Refused 5 3
-unfolding without
-without_words_they_are_too_wide = refl
 
 -- each of these strings is accepted, with a page, and the cells of its characters are at these columns and rows
 abbrev ArePlaced : List (List ℕ × List (ℕ × ℕ)) → Type 0

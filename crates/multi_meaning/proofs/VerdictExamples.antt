@@ -19,6 +19,7 @@ lines_and_their_room : AreJudged (
     (codes "A", Accepted 1) ∷  -- one character fits
     (codes "AAA", Accepted 1) ∷  -- three characters fit
     (codes "AAAI", Refused 5 3) ∷  -- a fourth character is too wide
+    (codes "AA AA", Refused 5 3) ∷  -- two words are too wide where lines aren't filled
     (codes "A[nl]A", Accepted 1) ∷  -- two lines fit
     (codes "A[nl]A[nl]A", Refused 5 10) ∷  -- a third line is too high
     (codes "[nl][nl][nl]", Refused 5 8) ∷  -- three empty lines are too high
