@@ -17,7 +17,7 @@ use Rattle.multi_meaning.specs.Filling.{filled, is_space}
 use Rattle.multi_meaning.specs.Fit.{line_fits}
 use Rattle.multi_meaning.specs.Meaning.{meaning}
 use Rattle.multi_meaning.specs.Offence.{clashes}
-use Rattle.multi_meaning.proofs.JustLemmas.{line_number_known}
+use Rattle.multi_tag.proofs.JustLemmas.{line_number_known}
 use Rattle.multi_judge.specs.declared.area.Area.{Area}
 use Rattle.multi_judge.specs.declared.attributes.Attributes.{Attributes}
 use Rattle.multi_judge.specs.declared.fill.Split.{Split}

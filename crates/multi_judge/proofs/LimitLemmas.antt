@@ -12,7 +12,7 @@ use Rattle.multi_meaning.specs.Fit.{FitsWithout, fit, line_fits, room_for}
 use Rattle.multi_meaning.specs.Laid.{too_big}
 use Rattle.multi_meaning.proofs.FitLemmas.{room_end, room_middle, room_start}
 use Rattle.multi_meaning.proofs.LinesFitLemmas.{each_just}
-use Rattle.multi_meaning.proofs.JustLemmas.{line_number_known, page_number_known}
+use Rattle.multi_tag.proofs.JustLemmas.{line_number_known, page_number_known}
 use Rattle.multi_judge.specs.declared.area.Area.{Area}
 use Rattle.sign_font.specs.Sign.{SignData}
 use Rattle.multi_judge.specs.declared.area.Group.{Group}

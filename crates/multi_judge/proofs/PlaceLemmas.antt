@@ -18,7 +18,7 @@ use Rattle.multi_meaning.proofs.WordLemmas.{largest_push}
 use Rattle.multi_meaning.proofs.GroupLemmas.{own_group, filter_yes}
 use Rattle.multi_meaning.proofs.EndedLemmas.{ended_count, ended_glyph}
 use Rattle.multi_meaning.proofs.LinesFitLemmas.{each_just}
-use Rattle.multi_meaning.proofs.JustLemmas.{line_number_known}
+use Rattle.multi_tag.proofs.JustLemmas.{line_number_known}
 use Rattle.multi_judge.specs.declared.area.Area.{Area}
 use Rattle.multi_judge.specs.declared.area.Group.{Group}
 use Rattle.multi_judge.specs.declared.attributes.Attributes.{Attributes}

@@ -13,7 +13,7 @@ use Rattle.multi_meaning.specs.Offence.{offence}
 use Rattle.multi_meaning.specs.kept.Present.{present_area, ended_lines, IsNarrow, IsNarrowArea}
 use Rattle.multi_meaning.proofs.LaidTagLemmas.{laid_tag}
 use Rattle.multi_meaning.proofs.NarrowLemmas.{narrow_front}
-use Rattle.multi_meaning.proofs.JustLemmas.{page_number_known}
+use Rattle.multi_tag.proofs.JustLemmas.{page_number_known}
 use Rattle.multi_judge.specs.declared.area.Area.{Area}
 use Rattle.multi_judge.specs.declared.area.Group.{Group}
 use Rattle.multi_judge.specs.declared.pass.Pass.{Pass}

@@ -24,7 +24,7 @@ use Rattle.multi_meaning.proofs.OffenceLemmas.{offence-undefined}
 use Rattle.multi_meaning.proofs.SpotsLemmas.{spots_behind, spots_with}
 use Rattle.multi_meaning.proofs.StateLemmas.{in_area-append, present_area-placing}
 use Rattle.multi_meaning.proofs.WordLemmas.{All-split}
-use Rattle.multi_meaning.proofs.JustLemmas.{page_number_known}
+use Rattle.multi_tag.proofs.JustLemmas.{page_number_known}
 use Rattle.multi_judge.specs.declared.attributes.Attributes.{Attributes}
 use Rattle.multi_layout.specs.declared.cursor.Cursor.{Cursor}
 use Rattle.multi_judge.specs.declared.table.LineTable.{LineTable}

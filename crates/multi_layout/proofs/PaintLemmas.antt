@@ -22,7 +22,7 @@ use Rattle.multi_meaning.proofs.CellLemmas.{covers}
 use Rattle.multi_meaning.proofs.DrawnLemmas.{covered_glyph}
 use Rattle.multi_meaning.specs.Offence.{unsized_offence}
 use Rattle.multi_meaning.proofs.SpotsLemmas.{area_with_glyph, same_page_behind}
-use Rattle.multi_meaning.proofs.JustLemmas.{page_number_known}
+use Rattle.multi_tag.proofs.JustLemmas.{page_number_known}
 use Rattle.multi_judge.specs.Sums.{area_sum}
 use Rattle.multi_judge.specs.declared.area.Area.{Area}
 use Rattle.multi_judge.specs.declared.attributes.Attributes.{Attributes}

@@ -11,15 +11,12 @@ use Rattle.multi_meaning.specs.Times.{cycle, page_times}
 use Rattle.multi_meaning.specs.Verdict.{Accepted, IsVerdict, IsCycle, broken, of_first, offences, pages_of, verdict_on}
 use Rattle.multi_meaning.specs.kept.Fine.{IsAccepted, IsOrderly}
 use Rattle.multi_meaning.proofs.OrderlyLemmas.{orderly_out}
+use Rattle.multi_meaning.proofs.WordLemmas.{left_nil, right_nil}
 
 -- accepted means that there is no fault
 no_fault : (pages number : ℕ) (faults : List (ℕ × ℕ)) → Accepted pages ≡ of_first number faults → (pages ≡ number) × (faults ≡ [])
 no_fault pages number [] is = (cc, refl)
 no_fault pages number (fault ∷ faults) is = absurd cc
-
-both_nil : {X : Type 0} (xs ys : List X) → xs ++ ys ≡ [] → (xs ≡ []) × (ys ≡ [])
-both_nil [] ys is = (refl, is)
-both_nil (x ∷ xs) ys is = absurd cc
 
 not_broken : (items : List Item) (rest : List ℕ) → broken items rest ≡ [] → rest ≡ []
 not_broken items [] is = refl
@@ -33,12 +30,11 @@ accepted_is sign octets pages (items, rest, read, is) short =
     let all = each_string_has_a_reading octets in
     let same = one_reading octets items (reading octets).items rest (reading octets).rest read all in
     let none = no_fault pages (pages_of (map meaning items)) (offences sign items ++ broken items rest) is in
-    let parts = both_nil (offences sign items) (broken items rest) none.1 in
-    let whole : (reading octets).rest ≡ [] = sym same.1 ∙ not_broken items rest parts.1 in (
+    let whole : (reading octets).rest ≡ [] = sym same.1 ∙ not_broken items rest (right_nil (offences sign items) (broken items rest) none.1) in (
       record {
         each = all.each;
         spelled = all.spelled ∙ ap (λ l. spell (reading octets).items ++ l) whole ∙ append-nil (spell (reading octets).items);
-        none = ap (offences sign) (sym same.0) ∙ parts.0;
+        none = ap (offences sign) (sym same.0) ∙ left_nil (offences sign items) (broken items rest) none.1;
         short = short;
       },
       none.0 ∙ ap (λ l. pages_of (map meaning l)) same.0,

@@ -48,14 +48,9 @@ flashes = refl
 
 -- RECTANGLES, on 12 columns and 7 rows
 
-a_rectangle_fills_the_sign : is_inside sample 1 1 12 7 ≡ true
-a_rectangle_fills_the_sign = refl
-
-a_rectangle_of_the_last_pixel : is_inside sample 12 7 1 1 ≡ true
-a_rectangle_of_the_last_pixel = refl
-
-a_rectangle_amid_the_sign : is_inside sample 5 4 1 1 ≡ true
-a_rectangle_amid_the_sign = refl
+-- one that fills the sign, one of the last pixel, and one amid the sign
+rectangles_inside_the_sign : is_inside sample 1 1 12 7 ∷ is_inside sample 12 7 1 1 ∷ is_inside sample 5 4 1 1 ∷ [] ≡ true ∷ true ∷ true ∷ []
+rectangles_inside_the_sign = refl
 
 a_rectangle_begins_inside_the_sign : is_inside sample 0 1 1 1 ∷ is_inside sample 1 0 1 1 ∷ is_inside sample 13 1 0 1 ∷ is_inside sample 1 8 1 0 ∷ []
     ≡ false ∷ false ∷ false ∷ false ∷ []

@@ -1,8 +1,6 @@
 -- What code that checks and draws needs besides: tests by a running maximum, prefixes, and parts inside a length.
-use Rattle.std.proofs.Common.{◌≡◌, ℕ, ◌≤◌, max, Bool, true, false, ◌||◌, List, [], ◌∷◌, ◌++◌, refl, sym, ap, subst, ◌∙◌, arith}
-use Rattle.std.specs.Prelude.{nat_lt}
+use Rattle.std.proofs.Common.{◌≡◌, ℕ, ◌≤◌, max, false, ◌||◌, List, [], ◌∷◌, ◌++◌, sym, ap, ◌∙◌, arith, nat_lt, append_assoc, append-nil}
 use Rattle.std.specs.List.{list_any}
-use Rattle.std.proofs.lemmas.List.{append_assoc, append-nil}
 use Rattle.std.proofs.lemmas.List.Folds.{list_any-append}
 use Rattle.std.proofs.lemmas.Bool.Decides.{nat_tests}
 use Rattle.multi_tag.specs.Just.{page_number}
@@ -12,26 +10,15 @@ use Rattle.multi_meaning.specs.Offence.{goes_back}
 use Rattle.multi_meaning.proofs.WordLemmas.{largest_push, extent_push, push_ind}
 
 -- a test of each item against a number is one of the largest
-lt_max : (n a b : ℕ) → (nat_lt n a || nat_lt n b) ≡ nat_lt n (max a b)
+lt_none : (n : ℕ) → false ≡ nat_lt n 0
+lt_none n = grind (arith, nat_tests)
+
+lt_max : (n a b : ℕ) → (nat_lt n a || (nat_lt n b || false)) ≡ nat_lt n (max a b)
 lt_max n a b = grind (arith, nat_tests)
 
 pub any_largest : {X : Type 0} (f : X → ℕ) (n : ℕ) (xs : List X) → list_any (λ x. nat_lt n (f x)) xs ≡ nat_lt n (largest f xs)
-any_largest {X} f n = push_ind (λ xs. list_any (λ x. nat_lt n (f x)) xs ≡ nat_lt n (largest f xs)) (none n) step
-  where
-    none : (n : ℕ) → false ≡ nat_lt n 0
-    none n = grind (arith, nat_tests)
-
-    or_false : (b : Bool) → (b || false) ≡ b
-    or_false true = refl
-    or_false false = refl
-
-    step : (xs : List X) (x : X) → list_any (λ x. nat_lt n (f x)) xs ≡ nat_lt n (largest f xs) → list_any (λ x. nat_lt n (f x)) (xs ++ x ∷ []) ≡ nat_lt n (largest f (xs ++ x ∷ []))
-    step xs x ih =
-        list_any-append (λ x. nat_lt n (f x)) xs (x ∷ [])
-        ∙ ap (λ b. b || (nat_lt n (f x) || false)) ih
-        ∙ ap (λ b. nat_lt n (largest f xs) || b) (or_false (nat_lt n (f x)))
-        ∙ lt_max n (largest f xs) (f x)
-        ∙ ap (nat_lt n) (sym (largest_push f xs x))
+any_largest f n = push_ind (λ xs. list_any (λ x. nat_lt n (f x)) xs ≡ nat_lt n (largest f xs)) (lt_none n)
+    (λ xs x ih. list_any-append (λ x. nat_lt n (f x)) xs (x ∷ []) ∙ ap (λ b. b || (nat_lt n (f x) || false)) ih ∙ lt_max n (largest f xs) (f x) ∙ ap (nat_lt n) (sym (largest_push f xs x)))
 
 -- a group goes back exactly where it is below the largest so far
 pub group_goes_back : (s : Spot) (area : List Spot) → list_any (goes_back s) area ≡ nat_lt (page_number s.at.page_just) (largest (λ t. page_number t.at.page_just) area)
@@ -39,7 +26,5 @@ group_goes_back s area = any_largest (λ t. page_number t.at.page_just) (page_nu
 
 -- a row is at least as long as its beginning
 pub extent-append-le : {X : Type 0} (size : X → ℕ) (gap : X → X → ℕ) (ys xs : List X) → extent size gap xs ≤ extent size gap (xs ++ ys)
-extent-append-le size gap [] xs = subst (λ l. extent size gap xs ≤ extent size gap l) (sym (append-nil xs)) (omega arith)
-extent-append-le size gap (y ∷ ys) xs =
-    let more : extent size gap (xs ++ y ∷ []) ≤ extent size gap (xs ++ y ∷ [] ++ ys) = extent-append-le size gap ys (xs ++ y ∷ []) in
-    subst (λ l. extent size gap xs ≤ extent size gap l) (append_assoc xs (y ∷ []) ys) (omega (arith, extent_push size gap xs y, more))
+extent-append-le size gap ys xs = push_ind (λ ys. extent size gap xs ≤ extent size gap (xs ++ ys)) (omega (arith, ap (extent size gap) (append-nil xs)))
+    (λ ys y ih. omega (arith, ih, extent_push size gap (xs ++ ys) y, ap (extent size gap) (append_assoc xs ys (y ∷ [])))) ys

@@ -1,9 +1,10 @@
 -- A list cut behind each item that passes a test, at one more item.
-use Rattle.std.proofs.Common.{◌≡◌, Bool, true, false, cond, List, [], ◌∷◌, ◌++◌, refl, sym, ap, ◌∙◌}
-use Rattle.std.specs.List.{fold, onto_first}
-use Rattle.std.proofs.lemmas.List.{append_assoc, append-nil}
-use Rattle.std.proofs.lemmas.List.Sums.{fold_push}
+use Rattle.std.proofs.Common.{◌≡◌, inl, inr, Bool, true, false, cond, List, [], ◌∷◌, ◌++◌, refl, sym, ap, ◌∙◌, append_assoc}
+use Rattle.std.specs.List.{All, fold, onto_first}
+use Rattle.std.proofs.lemmas.Bool.{both_ways, cases_Bool}
+use Rattle.std.proofs.lemmas.List.Sums.{fold-append, fold_push}
 use Rattle.multi_meaning.specs.Words.{cut_behind}
+use Rattle.multi_meaning.proofs.WordLemmas.{All-split, push_ind}
 
 -- the parts that are closed, and what stands behind them
 pub record Cut (X : Type 0) : Type 0 where
@@ -11,8 +12,15 @@ pub record Cut (X : Type 0) : Type 0 where
   pub open' : List X
 
 module _ {X : Type 0} (p : X → Bool) where
+  -- one more item ends the open part, or lengthens it
+  abbrev pub ends_part : Cut X → X → Cut X
+  ends_part c x = record { closed = c.closed ++ (c.open' ++ x ∷ []) ∷ []; open' = [] }
+
+  abbrev pub longer_part : Cut X → X → Cut X
+  longer_part c x = record { closed = c.closed; open' = c.open' ++ x ∷ [] }
+
   abbrev pub cut_more : Cut X → X → Cut X
-  cut_more c x = cond (p x) (record { closed = c.closed ++ (c.open' ++ x ∷ []) ∷ []; open' = [] }) (record { closed = c.closed; open' = c.open' ++ x ∷ [] })
+  cut_more c x = cond (p x) (ends_part c x) (longer_part c x)
 
   abbrev pub cut_from : Cut X → List X → Cut X
   cut_from c xs = fold cut_more c xs
@@ -47,33 +55,70 @@ module _ {X : Type 0} (p : X → Bool) where
   abbrev Parts : List X → Cut X → Type 0
   Parts xs c = (cut_from c xs).closed ++ part (cut_from c xs).open' ≡ c.closed ++ onto c.open' (cut_behind p xs)
 
-  abbrev more_if : Bool → Cut X → X → Cut X
-  more_if b c x = cond b (record { closed = c.closed ++ (c.open' ++ x ∷ []) ∷ []; open' = [] }) (record { closed = c.closed; open' = c.open' ++ x ∷ [] })
-
-  cut_parts_if : (x : X) (xs : List X) (c : Cut X) → ((d : Cut X) → Parts xs d) → (b : Bool)
-      → (cut_from (more_if b c x) xs).closed ++ part (cut_from (more_if b c x) xs).open' ≡ c.closed ++ onto c.open' (cond b ((x ∷ []) ∷ cut_behind p xs) (onto_first x (cut_behind p xs)))
-  cut_parts_if x xs c ih true = ih (more_if true c x) ∙ append_assoc c.closed ((c.open' ++ x ∷ []) ∷ []) (cut_behind p xs) ∙ ap (λ l. c.closed ++ l) (sym (onto-cons c.open' (x ∷ []) (cut_behind p xs)))
-  cut_parts_if x xs c ih false = ih (more_if false c x) ∙ ap (λ l. c.closed ++ l) (sym (onto_push c.open' x (cut_behind p xs)))
+  more : (xs : List X) (c : Cut X) (x : X) (d : Cut X) → cut_more c x ≡ d → (cut_from c (x ∷ xs)).closed ++ part (cut_from c (x ∷ xs)).open' ≡ (cut_from d xs).closed ++ part (cut_from d xs).open'
+  more xs c x d is = ap (λ (d : Cut X). (cut_from d xs).closed ++ part (cut_from d xs).open') is
 
   cut_parts : (xs : List X) (c : Cut X) → Parts xs c
   cut_parts [] c = ap (λ l. c.closed ++ l) (sym (onto-nil c.open'))
-  cut_parts (x ∷ xs) c = cut_parts_if x xs c (cut_parts xs) (p x)
+  cut_parts (x ∷ xs) c = elim (cases_Bool (p x)) [
+    | inl e ↦ more xs c x (ends_part c x) (rw e refl) ∙ rw e (cut_parts xs (ends_part c x) ∙ append_assoc c.closed ((c.open' ++ x ∷ []) ∷ []) (cut_behind p xs) ∙ ap (λ l. c.closed ++ l) (sym (onto-cons c.open' (x ∷ []) (cut_behind p xs))))
+    | inr e ↦ more xs c x (longer_part c x) (rw e refl) ∙ rw e (cut_parts xs (longer_part c x) ∙ ap (λ l. c.closed ++ l) (sym (onto_push c.open' x (cut_behind p xs))))
+  ]
+
+  -- the parts of two lists
+  pub cut_append : (xs ys : List X) → cut_behind p (xs ++ ys) ≡ (cut xs).closed ++ onto (cut xs).open' (cut_behind p ys)
+  cut_append xs ys =
+      let whole = cut_parts (xs ++ ys) (record { closed = []; open' = [] }) in
+      sym whole ∙ ap (λ (c : Cut X). c.closed ++ part c.open') (fold-append cut_more (record { closed = []; open' = [] }) xs ys) ∙ cut_parts ys (cut xs)
 
   pub cut_behind_is : (xs : List X) → cut_behind p xs ≡ (cut xs).closed ++ part (cut xs).open'
   cut_behind_is xs = sym (cut_parts xs (record { closed = []; open' = [] }))
 
-  -- one more item closes the open part, or lengthens it
+  -- the part of an item: it, and some items, none where it ends the part
+  pub record FirstPart (x : X) (xs : List X) : Type 0 where
+    pub rest : List X
+    pub others : List (List X)
+    pub is : cut_behind p (x ∷ xs) ≡ (x ∷ rest) ∷ others
+    pub ends : p x ≡ true → rest ≡ []
+
+  pub first_part : (x : X) (xs : List X) → FirstPart x xs
+  first_part x xs = elim (cases_Bool (p x)) [
+    | inl e ↦ record { rest = []; others = cut_behind p xs; is = rw e refl; ends = λ yes. refl }
+    | inr e ↦ of (cut_behind p xs) refl e
+  ]
+    where
+      of : (parts : List (List X)) → cut_behind p xs ≡ parts → p x ≡ false → FirstPart x xs
+      of [] is e = record { rest = []; others = []; is = rw (e, is) refl; ends = λ yes. refl }
+      of (one ∷ parts) is e = record { rest = one; others = parts; is = rw (e, is) refl; ends = λ yes. absurd (both_ways (p x) e yes) }
+
+  -- a list, an item, and more: the open part has the item, and the closed ones stay
+  pub cut_with_item : (xs : List X) (x : X) (ys : List X) → let first = first_part x ys in cut_behind p (xs ++ x ∷ ys) ≡ (cut xs).closed ++ ((cut xs).open' ++ x ∷ first.rest) ∷ first.others
+  cut_with_item xs x ys =
+      let first = first_part x ys in
+      cut_append xs (x ∷ ys) ∙ ap (λ l. (cut xs).closed ++ onto (cut xs).open' l) first.is ∙ ap (λ l. (cut xs).closed ++ l) (onto-cons (cut xs).open' (x ∷ first.rest) first.others)
+
   pub cut_push : (xs : List X) (x : X) → cut (xs ++ x ∷ []) ≡ cut_more (cut xs) x
   cut_push xs x = fold_push cut_more (record { closed = []; open' = [] }) xs x
 
-  part_push : (h : List X) (x : X) → part (h ++ x ∷ []) ≡ (h ++ x ∷ []) ∷ []
-  part_push [] x = refl
-  part_push (y ∷ h) x = refl
+  -- what holds of nothing, and stays where an item ends the open part and where one lengthens it, holds of every cut list
+  pub cut_ind : (P : List X → Cut X → Type 0) → P [] (record { closed = []; open' = [] })
+      → ((xs : List X) (c : Cut X) (x : X) → p x ≡ true → P xs c → P (xs ++ x ∷ []) (ends_part c x))
+      → ((xs : List X) (c : Cut X) (x : X) → p x ≡ false → P xs c → P (xs ++ x ∷ []) (longer_part c x)) → (xs : List X) → P xs (cut xs)
+  cut_ind P none ends lengthens = push_ind (λ xs. P xs (cut xs)) none (λ xs x ih. rw (cut_push xs x) (elim (cases_Bool (p x)) [
+    | inl e ↦ rw e (ends xs (cut xs) x e ih)
+    | inr e ↦ rw e (lengthens xs (cut xs) x e ih)
+  ]))
 
-  cut_behind_if : (c : Cut X) (x : X) (b : Bool) → (more_if b c x).closed ++ part (more_if b c x).open' ≡ c.closed ++ (c.open' ++ x ∷ []) ∷ []
-  cut_behind_if c x true = append-nil (c.closed ++ (c.open' ++ x ∷ []) ∷ [])
-  cut_behind_if c x false = ap (λ l. c.closed ++ l) (part_push c.open' x)
+  -- the same for lists of which something holds of each item
+  pub cut_ind_all : (Q : X → Type 0) (P : Cut X → Type 0) → P (record { closed = []; open' = [] })
+      → ((c : Cut X) (x : X) → Q x → p x ≡ true → P c → P (ends_part c x))
+      → ((c : Cut X) (x : X) → Q x → p x ≡ false → P c → P (longer_part c x)) → (xs : List X) → All Q xs → P (cut xs)
+  cut_ind_all Q P none ends lengthens = cut_ind (λ xs c. All Q xs → P c) (λ all. none)
+      (λ xs c x e ih all. let parts = All-split Q xs x all in ends c x parts.1 e (ih parts.0))
+      (λ xs c x e ih all. let parts = All-split Q xs x all in lengthens c x parts.1 e (ih parts.0))
 
-  -- in both cases the parts are the closed ones, and the open one with the item
+  -- with one more item the parts are the closed ones, and the open one with the item
   pub cut_behind_push : (xs : List X) (x : X) → cut_behind p (xs ++ x ∷ []) ≡ (cut xs).closed ++ ((cut xs).open' ++ x ∷ []) ∷ []
-  cut_behind_push xs x = cut_behind_is (xs ++ x ∷ []) ∙ ap (λ (c : Cut X). c.closed ++ part c.open') (cut_push xs x) ∙ cut_behind_if (cut xs) x (p x)
+  cut_behind_push xs x =
+      let one : cut_behind p (x ∷ []) ≡ (x ∷ []) ∷ [] = elim (cases_Bool (p x)) [ inl e ↦ rw e refl | inr e ↦ rw e refl ] in
+      cut_append xs (x ∷ []) ∙ rw one (ap (λ l. (cut xs).closed ++ l) (onto-cons (cut xs).open' (x ∷ []) []))

@@ -1,10 +1,8 @@
 -- A pixel of a page at one more item, where a page begins and where it ends.
-use Rattle.std.proofs.Common.{◌≡◌, ℕ, ◌+◌, ◌-◌, ◌<◌, Bool, true, false, cond, ◌&&◌, ◌==◌, List, [], ◌∷◌, ◌++◌, Option, Some, None, refl, sym, ap, ◌∙◌, arith, append-nil, subst, ◌⊎◌, inl, inr}
-use Rattle.std.specs.Prelude.{nat_le, nat_lt}
+use Rattle.std.proofs.Common.{◌≡◌, ℕ, ◌+◌, ◌-◌, ◌<◌, Bool, false, cond, ◌&&◌, ◌==◌, List, [], ◌∷◌, ◌++◌, Option, Some, None, refl, sym, ap, ◌∙◌, arith, append-nil, subst, ◌⊎◌, inl, inr, nat_le, nat_lt, IfSome, option_map, unwrap_or}
 use Rattle.std.specs.List.{filter_map, last_or, cons_option, All}
-use Rattle.std.specs.Option.{option_map, unwrap_or}
-use Rattle.std.proofs.lemmas.Bool.{eq-eqb, ne_eqb}
-use Rattle.std.proofs.lemmas.List.Elements.{All-nil, All-cons, All-head, All-tail, All-weaker, filter_map-append}
+use Rattle.std.proofs.lemmas.Bool.{cases_Bool, eq-eqb, ne_eqb}
+use Rattle.std.proofs.lemmas.List.Elements.{All-cons, All-head, All-tail, All-weaker, filter_map-append}
 use Rattle.multi_tag.specs.declared.tag.Tag.TheVariants.{NewPage, Back}
 use Rattle.sign_font.specs.declared.parts.Defaults.{Defaults}
 use Rattle.sign_font.specs.Cell as cells
@@ -16,8 +14,7 @@ use Rattle.multi_meaning.specs.Picture.{Thing, thing_at, things_among, things, c
 use Rattle.multi_meaning.specs.Drawn.{has_colour}
 use Rattle.multi_meaning.specs.Meaning.{Meaning, Shows, Does, BeginsPage, EndsPage}
 use Rattle.multi_meaning.specs.Words.{some_after}
-use Rattle.multi_meaning.proofs.WordLemmas.{some_after_push, some_after-append}
-use Rattle.multi_meaning.proofs.PictureLemmas.{colour_push, covers_at}
+use Rattle.multi_meaning.proofs.WordLemmas.{last_or-append, some_after_push, some_after-append}
 use Rattle.multi_meaning.proofs.SpotsLemmas.{spots_behind, spots_nothing, spots_more, spots_with, same_back, next_page_behind, some_all, page_put, IsFrom, pages_behind}
 
 module _ (phase : ℕ) (all : List Spot) where
@@ -26,23 +23,25 @@ module _ (phase : ℕ) (all : List Spot) where
   unfolding things_among
   things_push some s = some_after_push (λ before spot. thing_at phase (place_of before all spot) spot spot.put) some s
 
-  things_nothing : (some : List Spot) (s : Spot) → thing_at phase (place_of some all s) s s.put ≡ None → things_among phase all (some ++ s ∷ []) ≡ things_among phase all some
-  things_nothing some s is = things_push some s ∙ ap (λ o. things_among phase all some ++ cons_option o []) is ∙ append-nil (things_among phase all some)
+-- a pixel has the colour of one more thing, if it covers the pixel, else the colour it had
+abbrev covers_at : Thing → ℕ → ℕ → ℕ → Bool
+covers_at t page column row = (t.page == page) && t.covers column row
 
-  things_more : (some : List Spot) (s : Spot) (t : Thing) → thing_at phase (place_of some all s) s s.put ≡ Some t → things_among phase all (some ++ s ∷ []) ≡ things_among phase all some ++ t ∷ []
-  things_more some s t is = things_push some s ∙ ap (λ o. things_among phase all some ++ cons_option o []) is
-
--- the test of a colour that is one of two
-test_if : (sign : SignData) (colour a b : ℕ) (which : Bool) → (shown_colour sign (cond which a b) == colour) ≡ cond which (shown_colour sign a == colour) (shown_colour sign b == colour)
-test_if sign colour a b true = refl
-test_if sign colour a b false = refl
+colour_push : (defaults : Defaults) (things : List Thing) (t : Thing) (page column row : ℕ) → colour_of defaults (things ++ t ∷ []) page column row ≡ cond (covers_at t page column row) t.colour (colour_of defaults things page column row)
+colour_push defaults things t page column row =
+    let f = λ (t : Thing). cond (covers_at t page column row) (Some t.colour) None in
+    ap (λ l. unwrap_or (last_or None l) defaults.back) (filter_map-append f things (t ∷ []))
+    ∙ ap (λ o. unwrap_or o defaults.back) (last_or-append None (filter_map f things) (cons_option (f t) []))
+    ∙ elim (cases_Bool (covers_at t page column row)) [ inl e ↦ rw e refl | inr e ↦ rw e refl ]
 
 module _ (sign : SignData) (page phase colour : ℕ) (all : List Spot) (column row : ℕ) where
   -- a pixel after one more spot that is no thing
   covered_nothing : (some : List Spot) (s : Spot) → thing_at phase (place_of some all s) s s.put ≡ None
       → has_colour sign page phase colour all (some ++ s ∷ []) column row ≡ has_colour sign page phase colour all some column row
   unfolding has_colour
-  covered_nothing some s is = ap (λ l. shown_colour sign (colour_of sign.defaults l page column row) == colour) (things_nothing phase all some s is)
+  covered_nothing some s is =
+      ap (λ l. shown_colour sign (colour_of sign.defaults l page column row) == colour)
+      (things_push phase all some s ∙ ap (λ o. things_among phase all some ++ cons_option o []) is ∙ append-nil (things_among phase all some))
 
   -- a pixel after one more spot that is a thing
   covered_more : (some : List Spot) (s : Spot) (t : Thing) → thing_at phase (place_of some all s) s s.put ≡ Some t
@@ -50,54 +49,38 @@ module _ (sign : SignData) (page phase colour : ℕ) (all : List Spot) (column r
       ≡ cond (covers_at t page column row) (shown_colour sign t.colour == colour) (has_colour sign page phase colour all some column row)
   unfolding has_colour
   covered_more some s t is =
-      ap (λ l. shown_colour sign (colour_of sign.defaults l page column row) == colour) (things_more phase all some s t is)
+      ap (λ l. shown_colour sign (colour_of sign.defaults l page column row) == colour) (things_push phase all some s ∙ ap (λ o. things_among phase all some ++ cons_option o []) is)
       ∙ ap (λ c. shown_colour sign c == colour) (colour_push sign.defaults (things_among phase all some) t page column row)
-      ∙ test_if sign colour t.colour (colour_of sign.defaults (things_among phase all some) page column row) (covers_at t page column row)
+      ∙ elim (cases_Bool (covers_at t page column row)) [ inl e ↦ rw e refl | inr e ↦ rw e refl ]
 
   -- a pixel of the page of one more spot that covers a page
   covered_whole : (some : List Spot) (at : Standing) (back : ℕ)
       → has_colour sign page phase colour all (some ++ record { at = at; put = Cover page back } ∷ []) column row ≡ (shown_colour sign back == colour)
   covered_whole some at back =
-      covered_more some (record { at = at; put = Cover page back }) (record { page = page; covers = λ column row. true; colour = back }) refl
-      ∙ ap (λ b. cond (b && true) (shown_colour sign back == colour) (has_colour sign page phase colour all some column row)) (eq-eqb page page refl)
-
-  -- a pixel of a page on which nothing is put
-  covered_none : has_colour sign page phase colour all [] column row ≡ (shown_colour sign sign.defaults.back == colour)
-  unfolding has_colour things_among
-  covered_none = refl
-
-spots_none : (sign : SignData) → spots sign [] ≡ []
-unfolding spots
-spots_none sign = refl
-
-first_back : (sign : SignData) → (standing sign []).back ≡ sign.defaults.back
-unfolding standing
-first_back sign = refl
+      covered_more some (record { at = at; put = Cover page back }) _ refl ∙ rw (eq-eqb page page refl) refl
 
 module _ (sign : SignData) (phase colour : ℕ) (all : List Spot) (column row : ℕ) where
-  begins_first : has_colour sign (standing sign []).page phase colour all (spots sign []) column row ≡ (shown_colour sign (standing sign []).back == colour)
-  begins_first =
-      ap (λ l. has_colour sign (standing sign []).page phase colour all l column row) (spots_none sign)
-      ∙ covered_none sign (standing sign []).page phase colour all column row
-      ∙ ap (λ c. shown_colour sign c == colour) (sym (first_back sign))
+  -- a pixel has the background in force behind some items
+  abbrev HasBackground : List Meaning → Type 0
+  HasBackground items = has_colour sign (standing sign items).page phase colour all (spots sign items) column row ≡ (shown_colour sign (standing sign items).back == colour)
 
-  begins_next : (earlier : List Meaning) → let before = earlier ++ Does NewPage ∷ [] in
-      has_colour sign (standing sign before).page phase colour all (spots sign before) column row ≡ (shown_colour sign (standing sign before).back == colour)
+  begins_first : HasBackground []
+  unfolding has_colour things_among spots standing
+  begins_first = refl
+
+  begins_next : (earlier : List Meaning) → HasBackground (earlier ++ Does NewPage ∷ [])
   begins_next earlier =
-      let before = earlier ++ Does NewPage ∷ [] in
       let at = standing sign earlier in
-      ap (λ page. has_colour sign page phase colour all (spots sign before) column row) (next_page_behind sign earlier)
+      ap (λ page. has_colour sign page phase colour all (spots sign (earlier ++ Does NewPage ∷ [])) column row) (next_page_behind sign earlier)
       ∙ ap (λ l. has_colour sign (at.page + 1) phase colour all l column row) (spots_more sign earlier (Does NewPage) (Cover (at.page + 1) at.back) refl)
       ∙ covered_whole sign (at.page + 1) phase colour all column row (spots sign earlier) at at.back
       ∙ ap (λ c. shown_colour sign c == colour) (sym (same_back sign earlier))
 
-  -- where a page begins, every pixel has the background in force
+  -- where a page begins, every pixel has it
   pub covered_begins : (before : List Meaning) → BeginsPage before
       → has_colour sign (standing sign before).page phase colour all (spots sign before) column row ≡ (shown_colour sign (standing sign before).back == colour)
-  covered_begins before (inl first) =
-      subst (λ items. has_colour sign (standing sign items).page phase colour all (spots sign items) column row ≡ (shown_colour sign (standing sign items).back == colour)) (sym first) begins_first
-  covered_begins before (inr (earlier, next)) =
-      subst (λ items. has_colour sign (standing sign items).page phase colour all (spots sign items) column row ≡ (shown_colour sign (standing sign items).back == colour)) (sym next) (begins_next earlier)
+  covered_begins before (inl first) = subst HasBackground (sym first) begins_first
+  covered_begins before (inr (earlier, next)) = subst HasBackground (sym next) (begins_next earlier)
 
   -- a pixel after one more character: its colour if the character covers the pixel, else as before
   pub covered_glyph : (before : List Meaning) (number : ℕ) (cell : CellData) → cell_numbered (standing sign before).font number ≡ Some cell →
@@ -110,16 +93,8 @@ module _ (sign : SignData) (phase colour : ℕ) (all : List Spot) (column row : 
       (has_colour sign at.page phase colour all (spots sign before) column row)
   covered_glyph before number cell found =
       let at = standing sign before in
-      let spot : Spot = record { at = at; put = Glyph cell } in
-      let place = place_of (spots sign before) all spot in
-      let t : Thing = record {
-        page = at.page;
-        covers = λ column row. is_lit_at phase at.flash && nat_le place.column column && nat_le place.row row && nat_lt row (place.row + at.font.height) && cells.is_lit (sized at.font cell) (column - place.column) (row - place.row);
-        colour = at.fore;
-      } in
       ap (λ l. has_colour sign at.page phase colour all l column row) (spots_more sign before (Shows number) (Glyph cell) (ap (option_map Glyph) found))
-      ∙ covered_more sign at.page phase colour all column row (spots sign before) spot t refl
-      ∙ ap (λ b. cond (b && t.covers column row) (shown_colour sign at.fore == colour) (has_colour sign at.page phase colour all (spots sign before) column row)) (eq-eqb at.page at.page refl)
+      ∙ covered_more sign at.page phase colour all column row (spots sign before) (record { at = at; put = Glyph cell }) _ refl ∙ rw (eq-eqb at.page at.page refl) refl
 
   -- after a background every pixel of its page has it
   pub covered_cover : (before : List Meaning) (given : Option ℕ)
@@ -155,26 +130,21 @@ colour_beside defaults some more page column row beside =
     ap (λ l. unwrap_or (last_or None l) defaults.back) (filter_map-append f some more ∙ ap (λ l. filter_map f some ++ l) (maps_none f more none) ∙ append-nil (filter_map f some))
 
 -- what a spot of a later page puts is beside this page
-thing_beside : (page phase : ℕ) (place : Place) (spot : Spot) (put : Put) → page < page_put spot.at put → All (IsBeside page) (cons_option (thing_at phase place spot put) [])
-thing_beside page phase place spot (Break gap) h = All-nil (IsBeside page)
-thing_beside page phase place spot (Cover later back) h = All-cons (IsBeside page) _ [] (ne_eqb later page (λ e. omega arith)) (All-nil (IsBeside page))
-thing_beside page phase place spot (Glyph cell) h = All-cons (IsBeside page) _ [] (ne_eqb spot.at.page page (λ e. omega arith)) (All-nil (IsBeside page))
-
--- the things of two lists of spots
-things_append : (phase : ℕ) (all some more : List Spot) → things_among phase all (some ++ more) ≡ things_among phase all some ++ some_after (λ next spot. thing_at phase (place_of (some ++ next) all spot) spot spot.put) more
-unfolding things_among
-things_append phase all some more = some_after-append (λ before spot. thing_at phase (place_of before all spot) spot spot.put) some more
+thing_beside : (page phase : ℕ) (place : Place) (spot : Spot) (put : Put) → page < page_put spot.at put → IfSome (thing_at phase place spot put) (IsBeside page)
+thing_beside page phase place spot (Break gap) h = tt
+thing_beside page phase place spot (Cover later back) h = ne_eqb later page (λ e. omega arith)
+thing_beside page phase place spot (Glyph cell) h = ne_eqb spot.at.page page (λ e. omega arith)
 
 module _ (sign : SignData) (page phase colour : ℕ) (all : List Spot) (column row : ℕ) where
   -- spots of later pages leave every pixel of a page
   covered_later : (some more : List Spot) → All (IsFrom (page + 1)) more
       → has_colour sign page phase colour all (some ++ more) column row ≡ has_colour sign page phase colour all some column row
-  unfolding has_colour
+  unfolding has_colour things_among
   covered_later some more later =
       let f = λ (next : List Spot) (spot : Spot). thing_at phase (place_of (some ++ next) all spot) spot spot.put in
       let beside : All (IsBeside page) (some_after f more) =
       some_all (IsFrom (page + 1)) (IsBeside page) f more later (λ next s h. thing_beside page phase (place_of (some ++ next) all s) s s.put (omega arith)) in
-      ap (λ l. shown_colour sign (colour_of sign.defaults l page column row) == colour) (things_append phase all some more)
+      ap (λ l. shown_colour sign (colour_of sign.defaults l page column row) == colour) (some_after-append (λ before spot. thing_at phase (place_of before all spot) spot spot.put) some more)
       ∙ ap (λ c. shown_colour sign c == colour) (colour_beside sign.defaults (things_among phase all some) (some_after f more) page column row beside)
 
 -- a pixel of a string is that of all its spots

@@ -1,46 +1,28 @@
 -- The ended lines of a group, and how many they are.
-use Rattle.std.proofs.Common.{◌≡◌, ◌+◌, Bool, true, false, cond, length, List, [], ◌∷◌, ◌++◌, refl, sym, ap, ◌∙◌, arith}
+use Rattle.std.proofs.Common.{◌≡◌, true, cond, length, List, [], ◌∷◌, ◌++◌, refl, sym, ap, ◌∙◌, arith}
 use Rattle.std.proofs.lemmas.List.{length_push}
 use Rattle.std.proofs.lemmas.List.Sums.{sum_by_push}
 use Rattle.std.specs.List.{after_last, count_by}
 use Rattle.multi_meaning.specs.Address.{Spot, is_glyph, is_break}
 use Rattle.multi_meaning.specs.kept.Present.{ended_lines}
-use Rattle.multi_meaning.proofs.WordLemmas.{push_ind}
-use Rattle.multi_meaning.proofs.CutLemmas.{Cut, cut, cut_push}
-use Rattle.multi_meaning.proofs.BehindLemmas.{after_last_is, ended_is, cut_if}
+use Rattle.multi_meaning.proofs.CutLemmas.{Cut, cut, cut_ind, cut_push}
+use Rattle.multi_meaning.proofs.BehindLemmas.{after_last_is, ended_is}
 use Rattle.multi_meaning.proofs.GroupLemmas.{glyph_put}
-
-ended_if : (g : List Spot) (s : Spot) (b : Bool) → is_break s ≡ b → ended_lines (g ++ s ∷ []) ≡ (cut_if is_break b (cut is_break g) s).closed
-ended_if g s b e = ended_is is_break (g ++ s ∷ []) ∙ ap (λ (c : Cut Spot). c.closed) (cut_push is_break g s) ∙ ap (λ b. (cut_if is_break b (cut is_break g) s).closed) e
 
 -- one more `nl` ends the open line
 pub ended_break : (g : List Spot) (s : Spot) → is_break s ≡ true → ended_lines (g ++ s ∷ []) ≡ ended_lines g ++ (after_last is_break g ++ s ∷ []) ∷ []
 ended_break g s b =
-    ended_if g s true b
-    ∙ ap (λ l. (cut is_break g).closed ++ (l ++ s ∷ []) ∷ []) (sym (after_last_is is_break g))
-    ∙ ap (λ l. l ++ (after_last is_break g ++ s ∷ []) ∷ []) (sym (ended_is is_break g))
+    ended_is is_break (g ++ s ∷ []) ∙ ap (λ (c : Cut Spot). c.closed) (cut_push is_break g s)
+    ∙ rw b (λ i. sym (ended_is is_break g) i ++ (sym (after_last_is is_break g) i ++ s ∷ []) ∷ [])
 
 -- one more character ends none
 pub ended_glyph : (g : List Spot) (s : Spot) → is_glyph s ≡ true → ended_lines (g ++ s ∷ []) ≡ ended_lines g
-ended_glyph g s b = ended_if g s false (glyph_put s.at s.put b).0 ∙ sym (ended_is is_break g)
-
--- one more item counts if it is an `nl`
-pub count_push : (g : List Spot) (s : Spot) → count_by is_break (g ++ s ∷ []) ≡ count_by is_break g + cond (is_break s) 1 0
-count_push g s = sum_by_push (λ s. cond (is_break s) 1 0) g s
-
-closed_if : (b : Bool) (c : Cut Spot) (s : Spot) → length (cut_if is_break b c s).closed ≡ length c.closed + cond b 1 0
-closed_if true c s = length_push c.closed (c.open' ++ s ∷ [])
-closed_if false c s = omega arith
+ended_glyph g s b = ended_is is_break (g ++ s ∷ []) ∙ ap (λ (c : Cut Spot). c.closed) (cut_push is_break g s) ∙ rw (glyph_put s.at s.put b).0 (sym (ended_is is_break g))
 
 pub closed_count : (g : List Spot) → length (cut is_break g).closed ≡ count_by is_break g
-closed_count = push_ind (λ g. length (cut is_break g).closed ≡ count_by is_break g) refl step
-  where
-    step : (g : List Spot) (s : Spot) → length (cut is_break g).closed ≡ count_by is_break g → length (cut is_break (g ++ s ∷ [])).closed ≡ count_by is_break (g ++ s ∷ [])
-    step g s ih =
-        ap (λ (c : Cut Spot). length c.closed) (cut_push is_break g s)
-        ∙ closed_if (is_break s) (cut is_break g) s
-        ∙ ap (λ n. n + cond (is_break s) 1 0) ih
-        ∙ sym (count_push g s)
+closed_count = cut_ind is_break (λ g c. length c.closed ≡ count_by is_break g) refl
+    (λ g c s e ih. omega (arith, length_push c.closed (c.open' ++ s ∷ []), ih, rw e at (sum_by_push (λ s. cond (is_break s) 1 0) g s)))
+    (λ g c s e ih. omega (arith, ih, rw e at (sum_by_push (λ s. cond (is_break s) 1 0) g s)))
 
 -- there are as many ended lines as `nl`s
 pub ended_count : (g : List Spot) → length (ended_lines g) ≡ count_by is_break g

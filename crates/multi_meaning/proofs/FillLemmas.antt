@@ -1,31 +1,25 @@
 -- Filling at one more character: every break is kept, and at most one is added, in the last line.
-use Rattle.std.proofs.Common.{◌≡◌, ℕ, ◌+◌, ◌<◌, ◌≤◌, Bool, true, false, cond, ◌&&◌, ◌==◌, List, [], ◌∷◌, ◌++◌, length, take, drop, Option, Some, None, zero, suc, refl, sym, ap, subst, ◌∙◌, arith, length-append, append_assoc, append-nil}
-use Rattle.std.proofs.lemmas.Bool.{and_from, and_parts}
-use Rattle.std.specs.Prelude.{nat_le}
-use Rattle.std.specs.Option.{option_map}
+use Rattle.std.proofs.Common.{◌≡◌, inl, inr, ℕ, ◌+◌, ◌<◌, ◌≤◌, true, false, cond, ◌&&◌, ◌==◌, List, [], ◌∷◌, ◌++◌, length, take, drop, Option, Some, None, zero, suc, refl, sym, ap, subst, ◌∙◌, arith, length-append, append_assoc, append-nil, nat_le, option_map}
+use Rattle.std.proofs.lemmas.Bool.{and_from, and_parts, cases_Bool, false≢true, false_from_ne_true}
 use Rattle.std.proofs.lemmas.Bool.Decides.{nat_tests}
 use Rattle.std.proofs.lemmas.List.{take_all, drop_all, take-append-le, drop-append-le, take-append-drop}
 use Rattle.multi_tag.specs.Just.{line_number}
 use Rattle.multi_meaning.specs.Address.{Spot, is_glyph, segment}
-use Rattle.multi_meaning.specs.Line.{width_of, glyph_width, char_gap}
+use Rattle.multi_meaning.specs.Line.{char_gap, glyph_width, width_of}
 use Rattle.multi_meaning.specs.Fit.{fit, line_fits}
 use Rattle.multi_meaning.proofs.FitLemmas.{smaller_fits}
-use Rattle.multi_meaning.proofs.LayoutLemmas.{segment_push}
-use Rattle.multi_meaning.proofs.WordLemmas.{gap_before}
+use Rattle.multi_meaning.proofs.CheckLemmas.{extent-append-le}
+use Rattle.std.proofs.lemmas.List.Elements.{filter-append}
+use Rattle.multi_meaning.proofs.WordLemmas.{cases_Option}
 use Rattle.multi_meaning.specs.Filling.{CutAt, longest_prefix, cut_at_last, longer, is_space, dropped, soft_break, broken_off, fill}
 use Rattle.multi_meaning.proofs.FillListLemmas.{longest_push, longest_all, longest_short, is_cut, none_take}
 
 -- WHAT FITS ONE LINE
 
-cond_least : (b : Bool) (w g k : ℕ) → w ≤ cond b (w + g + k) w
-cond_least true w g k = omega arith
-cond_least false w g k = omega arith
-
--- one more character makes no segment narrower
-pub segment_grows : (just : ℕ) (line : List Spot) (s : Spot) → width_of (segment just line) ≤ width_of (segment just (line ++ s ∷ []))
-segment_grows just line s =
-    subst (λ n. width_of (segment just line) ≤ n) (sym (segment_push just line s))
-    (cond_least (is_glyph s && (line_number s.at.line_just == just)) (width_of (segment just line)) (gap_before char_gap (segment just line) s) (glyph_width s))
+-- what stands behind characters makes no segment narrower
+pub segment_front : (just : ℕ) (line behind : List Spot) → width_of (segment just line) ≤ width_of (segment just (line ++ behind))
+segment_front just line behind =
+    omega (arith, extent-append-le glyph_width char_gap (segment just behind) (segment just line), ap width_of (filter-append (λ t. is_glyph t && (line_number t.at.line_just == just)) line behind))
 
 pub le_test : (a b w : ℕ) → a ≤ b → nat_le b w ≡ true → nat_le a w ≡ true
 le_test a b w h k = grind (arith, nat_tests)
@@ -33,23 +27,15 @@ le_test a b w h k = grind (arith, nat_tests)
 -- what fits one line still fits without its last character
 pub fits_front : (width : ℕ) (line : List Spot) (s : Spot) → line_fits width (line ++ s ∷ []) ≡ true → line_fits width line ≡ true
 fits_front width line s h =
-    let w = λ (just : ℕ). width_of (segment just line) in
-    let v = λ (just : ℕ). width_of (segment just (line ++ s ∷ [])) in
-    let (parts, full) = and_parts (fit (v 2) (v 3) (v 4) width) (nat_le (v 5) width) h in
-    and_from (fit (w 2) (w 3) (w 4) width) (nat_le (w 5) width) (smaller_fits (v 2) (v 3) (v 4) (w 2) (w 3) (w 4) width (segment_grows 2 line s) (segment_grows 3 line s) (segment_grows 4 line s) parts) (le_test (w 5) (v 5) width (segment_grows 5 line s) full)
+    let grows = λ (just : ℕ). segment_front just line (s ∷ []) in
+    let (parts, full) = and_parts _ _ h in
+    and_from _ _ (smaller_fits _ _ _ _ _ _ width (grows 2) (grows 3) (grows 4) parts) (le_test _ _ width (grows 5) full)
 
 pub stays_wide : (width : ℕ) (line : List Spot) (s : Spot) → line_fits width line ≡ false → line_fits width (line ++ s ∷ []) ≡ false
-stays_wide width line s h = of (line_fits width (line ++ s ∷ [])) refl
-  where
-    of : (b : Bool) → line_fits width (line ++ s ∷ []) ≡ b → b ≡ false
-    of true e = absurd (let wrong : true ≡ false = sym (fits_front width line s e) ∙ h in cc)
-    of false e = refl
-
-none_fit : (width : ℕ) → (fit 0 0 0 width && nat_le 0 width) ≡ true
-none_fit width = grind (arith, nat_tests)
+stays_wide width line s h = false_from_ne_true (line_fits width (line ++ s ∷ [])) (λ fits. false≢true (sym h ∙ fits_front width line s fits))
 
 pub nothing_fits : (width : ℕ) → line_fits width [] ≡ true
-nothing_fits width = none_fit width
+nothing_fits width = let none : (fit 0 0 0 width && nat_le 0 width) ≡ true = grind (arith, nat_tests) in none
 
 -- WHERE CHARACTERS ARE BROKEN
 
@@ -61,10 +47,10 @@ module _ (width : ℕ) where
   cut_wide n cs = option_map (longer (drop n cs)) (cut_at_last is_space (take n cs))
 
   pub broken_fits : (cs : List Spot) → line_fits width cs ≡ true → soft_break width cs ≡ None
-  broken_fits cs h = ap (λ b. cond b None (cut_wide (most cs) cs)) h
+  broken_fits cs h = rw h refl
 
   broken_wide : (cs : List Spot) → line_fits width cs ≡ false → soft_break width cs ≡ cut_wide (most cs) cs
-  broken_wide cs h = ap (λ b. cond b None (cut_wide (most cs) cs)) h
+  broken_wide cs h = rw h refl
 
   longer_nil : (o : Option (CutAt Spot)) → option_map (longer []) o ≡ o
   longer_nil None = refl
@@ -78,58 +64,48 @@ module _ (width : ℕ) where
   pub broken_first : (cs : List Spot) (s : Spot) → line_fits width cs ≡ true → line_fits width (cs ++ s ∷ []) ≡ false → soft_break width (cs ++ s ∷ []) ≡ cut_at_last is_space (cs ++ s ∷ [])
   broken_first cs s fits wide =
       let more = cs ++ s ∷ [] in
-      let longest : longest_prefix (line_fits width) more ≡ cs =
-      longest_push (line_fits width) cs s ∙ ap (λ b. cond b more (longest_prefix (line_fits width) cs)) wide ∙ longest_all (line_fits width) cs fits in
+      let longest : longest_prefix (line_fits width) more ≡ cs = longest_push (line_fits width) cs s ∙ rw wide (longest_all (line_fits width) cs fits) in
       let all : length more ≤ most more = omega (arith, ap length longest, length-append cs (s ∷ [])) in
-      broken_wide more wide
-      ∙ ap (λ l. option_map (longer l) (cut_at_last is_space (take (most more) more))) (drop_all (most more) more all)
-      ∙ longer_nil (cut_at_last is_space (take (most more) more))
-      ∙ ap (cut_at_last is_space) (take_all (most more) more all)
+      broken_wide more wide ∙ rw (drop_all (most more) more all, take_all (most more) more all) (longer_nil (cut_at_last is_space more))
 
   -- a later one leaves the break
   pub broken_later : (cs : List Spot) (s : Spot) → line_fits width cs ≡ false → soft_break width (cs ++ s ∷ []) ≡ option_map (longer (s ∷ [])) (soft_break width cs)
   broken_later cs s wide =
       let more = cs ++ s ∷ [] in
       let wide' = stays_wide width cs s wide in
-      let same : most more ≡ most cs = ap (λ l. length l + 1) (longest_push (line_fits width) cs s ∙ ap (λ b. cond b more (longest_prefix (line_fits width) cs)) wide') in
+      let same : most more ≡ most cs = ap (λ l. length l + 1) (longest_push (line_fits width) cs s ∙ rw wide' refl) in
       let short : most cs ≤ length cs = longest_short (line_fits width) cs (nothing_fits width) wide in
       broken_wide more wide'
       ∙ ap (λ n. cut_wide n more) same
-      ∙ ap (λ l. option_map (longer l) (cut_at_last is_space (take (most cs) more))) (drop-append-le (most cs) cs (s ∷ []) short)
-      ∙ ap (λ l. option_map (longer (drop (most cs) cs ++ s ∷ [])) (cut_at_last is_space l)) (take-append-le (most cs) cs (s ∷ []) short)
-      ∙ longer_twice (drop (most cs) cs) (s ∷ []) (cut_at_last is_space (take (most cs) cs))
+      ∙ rw (drop-append-le (most cs) cs (s ∷ []) short, take-append-le (most cs) cs (s ∷ []) short) (longer_twice (drop (most cs) cs) (s ∷ []) (cut_at_last is_space (take (most cs) cs)))
       ∙ ap (option_map (longer (s ∷ []))) (sym (broken_wide cs wide))
 
-  -- what is broken off are the characters, less nothing
-  parts_of : (n : ℕ) (cs : List Spot) (o : Option (CutAt Spot)) → cut_at_last is_space (take n cs) ≡ o → (c : CutAt Spot) → option_map (longer (drop n cs)) o ≡ Some c → cs ≡ c.before ++ c.item ∷ c.behind
-  parts_of n cs None found c e = absurd cc
-  parts_of n cs (Some d) found c e =
-      let is : longer (drop n cs) d ≡ c = cc in
-      let front = is_cut is_space (take n cs) d found in
-      subst (λ (c : CutAt Spot). cs ≡ c.before ++ c.item ∷ c.behind) is
-      (sym (take-append-drop n cs) ∙ ap (λ l. l ++ drop n cs) front.parts ∙ append_assoc d.before (d.item ∷ d.behind) (drop n cs))
-
-  fits_if : (cs : List Spot) (b : Bool) → line_fits width cs ≡ b → (c : CutAt Spot) → soft_break width cs ≡ Some c → line_fits width cs ≡ false
-  fits_if cs true h c e = absurd (let wrong : ◌≡◌ {A = Option (CutAt Spot)} None (Some c) = sym (broken_fits cs h) ∙ e in cc)
-  fits_if cs false h c e = h
-
   pub broken_is_wide : (cs : List Spot) (c : CutAt Spot) → soft_break width cs ≡ Some c → line_fits width cs ≡ false
-  broken_is_wide cs c e = fits_if cs (line_fits width cs) refl c e
+  broken_is_wide cs c e = false_from_ne_true (line_fits width cs) (λ fits. let wrong : ◌≡◌ {A = Option (CutAt Spot)} None (Some c) = sym (broken_fits cs fits) ∙ e in cc)
 
+  -- what is broken off are the characters, less nothing
   pub broken_parts : (cs : List Spot) (c : CutAt Spot) → soft_break width cs ≡ Some c → cs ≡ c.before ++ c.item ∷ c.behind
-  broken_parts cs c e = parts_of (most cs) cs (cut_at_last is_space (take (most cs) cs)) refl c (sym (broken_wide cs (broken_is_wide cs c e)) ∙ e)
+  broken_parts cs c e =
+      let n = most cs in
+      let cut = sym (broken_wide cs (broken_is_wide cs c e)) ∙ e in
+      elim (cases_Option (cut_at_last is_space (take n cs))) [
+        | inl none ↦ absurd (cc (rw none at cut))
+        | inr (d, found) ↦
+            let is : longer (drop n cs) d ≡ c = cc (rw found at cut) in
+            subst (λ (c : CutAt Spot). cs ≡ c.before ++ c.item ∷ c.behind) is
+            (sym (take-append-drop n cs) ∙ ap (λ l. l ++ drop n cs) (is_cut is_space (take n cs) d found).parts ∙ append_assoc d.before (d.item ∷ d.behind) (drop n cs))
+      ]
 
   shorter : (cs : List Spot) (c : CutAt Spot) → soft_break width cs ≡ Some c → length c.behind + 1 ≤ length cs
   shorter cs c e = omega (arith, ap length (broken_parts cs c e), length-append c.before (c.item ∷ c.behind))
 
   -- characters without a space stay together
-  none_broken : (cs : List Spot) (b : Bool) → line_fits width cs ≡ b → cut_at_last is_space cs ≡ None → soft_break width cs ≡ None
-  none_broken cs true h none = broken_fits cs h
-  none_broken cs false h none = broken_wide cs h ∙ ap (option_map (longer (drop (most cs) cs))) (none_take is_space cs (most cs) none)
-
   pub fill_still : (n : ℕ) (cs : List Spot) → cut_at_last is_space cs ≡ None → fill n width cs ≡ cs
   fill_still zero cs none = refl
-  fill_still (suc n) cs none = ap (broken_off (fill n width) cs) (none_broken cs (line_fits width cs) refl none)
+  fill_still (suc n) cs none = ap (broken_off (fill n width) cs) (elim (cases_Bool (line_fits width cs)) [
+    | inl fits ↦ broken_fits cs fits
+    | inr wide ↦ broken_wide cs wide ∙ rw (none_take is_space cs (most cs) none) refl
+  ])
 
   -- THE LAST LINE
 
@@ -146,31 +122,23 @@ module _ (width : ℕ) where
   parts zero cs = record { closed = []; open' = cs }
   parts (suc n) cs = parts_off (parts n) cs (soft_break width cs)
 
-  fill_if : (n : ℕ) (cs : List Spot) (o : Option (CutAt Spot)) → ((cs : List Spot) → fill n width cs ≡ (parts n cs).closed ++ (parts n cs).open')
-      → broken_off (fill n width) cs o ≡ (parts_off (parts n) cs o).closed ++ (parts_off (parts n) cs o).open'
-  fill_if n cs None ih = refl
-  fill_if n cs (Some c) ih =
-      ap (λ l. c.before ++ dropped c.item ∷ l) (ih c.behind)
-      ∙ sym (append_assoc c.before (dropped c.item ∷ (parts n c.behind).closed) (parts n c.behind).open')
-
   pub fill_is : (n : ℕ) (cs : List Spot) → fill n width cs ≡ (parts n cs).closed ++ (parts n cs).open'
   fill_is zero cs = refl
-  fill_is (suc n) cs = fill_if n cs (soft_break width cs) (fill_is n)
+  fill_is (suc n) cs = elim (cases_Option (soft_break width cs)) [
+    | inl none ↦ rw none refl
+    | inr (c, some) ↦ rw some (rw (fill_is n c.behind) (sym (append_assoc c.before (dropped c.item ∷ (parts n c.behind).closed) (parts n c.behind).open')))
+  ]
 
   -- breaks beyond the characters make no difference
-  parts_if : (n : ℕ) (cs : List Spot) (o : Option (CutAt Spot)) → soft_break width cs ≡ o → ((cs : List Spot) → length cs ≤ n → parts (suc n) cs ≡ parts n cs) → length cs ≤ suc n → parts_off (parts (suc n)) cs o ≡ parts_off (parts n) cs o
-  parts_if n cs None e ih h = refl
-  parts_if n cs (Some c) e ih h =
-      ap (λ (f : Filled). let g : Filled = record { closed = c.before ++ dropped c.item ∷ f.closed; open' = f.open' } in g) (ih c.behind (omega (arith, shorter cs c e, h)))
-
-  broken_none : (o : Option (CutAt Spot)) → soft_break width [] ≡ o → parts_off (parts zero) [] o ≡ record { closed = []; open' = [] }
-  broken_none None e = refl
-  broken_none (Some c) e = absurd (let wrong : ◌≡◌ {A = Option (CutAt Spot)} None (Some c) = sym (broken_fits [] (nothing_fits width)) ∙ e in cc)
-
   pub parts_more : (n : ℕ) (cs : List Spot) → length cs ≤ n → parts (suc n) cs ≡ parts n cs
-  parts_more zero [] h = broken_none (soft_break width []) refl
+  parts_more zero [] h = rw (broken_fits [] (nothing_fits width)) refl
   parts_more zero (s ∷ cs) h = absurd (omega (arith, h))
-  parts_more (suc n) cs h = parts_if n cs (soft_break width cs) refl (parts_more n) h
+  parts_more (suc n) cs h = elim (cases_Option (soft_break width cs)) [
+    | inl none ↦ rw none refl
+    | inr (c, some) ↦
+        let same = parts_more n c.behind (omega (arith, shorter cs c some, h)) in
+        rw some (λ i. record { closed = c.before ++ dropped c.item ∷ (same i).closed; open' = (same i).open' })
+  ]
 
   -- ONE MORE CHARACTER
 
@@ -181,35 +149,28 @@ module _ (width : ℕ) where
   abbrev pub relaid : List Spot → List Spot
   relaid line = broken_off (λ l. l) line (broken_here line)
 
-  rest_still : (n : ℕ) (line : List Spot) (o : Option (CutAt Spot)) → cut_at_last is_space line ≡ o → broken_off (fill n width) line o ≡ broken_off (λ l. l) line o
-  rest_still n line None e = refl
-  rest_still n line (Some c) e = ap (λ l. c.before ++ dropped c.item ∷ l) (fill_still n c.behind (is_cut is_space line c e).last)
+  rest_still : (n : ℕ) (line : List Spot) → broken_off (fill n width) line (cut_at_last is_space line) ≡ broken_off (λ l. l) line (cut_at_last is_space line)
+  rest_still n line = elim (cases_Option (cut_at_last is_space line)) [
+    | inl none ↦ rw none refl
+    | inr (c, some) ↦ rw some (ap (λ l. c.before ++ dropped c.item ∷ l) (fill_still n c.behind (is_cut is_space line c some).last))
+  ]
 
-  last_line : (n : ℕ) (cs : List Spot) (s : Spot) (b : Bool) → line_fits width cs ≡ true → line_fits width (cs ++ s ∷ []) ≡ b → broken_off (fill n width) (cs ++ s ∷ []) (soft_break width (cs ++ s ∷ [])) ≡ relaid (cs ++ s ∷ [])
-  last_line n cs s true fits h =
-      let more = cs ++ s ∷ [] in
-      ap (broken_off (fill n width) more) (broken_fits more h)
-      ∙ sym (ap (λ b. broken_off (λ l. l) more (cond b None (cut_at_last is_space more))) h)
-  last_line n cs s false fits h =
-      let more = cs ++ s ∷ [] in
-      ap (broken_off (fill n width) more) (broken_first cs s fits h)
-      ∙ rest_still n more (cut_at_last is_space more) refl
-      ∙ sym (ap (λ b. broken_off (λ l. l) more (cond b None (cut_at_last is_space more))) h)
-
-  push_if : (n : ℕ) (cs : List Spot) (s : Spot) (o : Option (CutAt Spot)) → soft_break width cs ≡ o
-      → ((cs : List Spot) → length cs < n → line_fits width (parts n cs).open' ≡ true → fill n width (cs ++ s ∷ []) ≡ (parts n cs).closed ++ relaid ((parts n cs).open' ++ s ∷ []))
-      → length cs < suc n → line_fits width (parts_off (parts n) cs o).open' ≡ true
-      → fill (suc n) width (cs ++ s ∷ []) ≡ (parts_off (parts n) cs o).closed ++ relaid ((parts_off (parts n) cs o).open' ++ s ∷ [])
-  push_if n cs s None e ih h fits = last_line n cs s (line_fits width (cs ++ s ∷ [])) fits refl
-  push_if n cs s (Some c) e ih h fits =
-      let last = parts n c.behind in
-      ap (broken_off (fill n width) (cs ++ s ∷ [])) (broken_later cs s (broken_is_wide cs c e) ∙ ap (option_map (longer (s ∷ []))) e)
-      ∙ ap (λ l. c.before ++ dropped c.item ∷ l) (ih c.behind (omega (arith, shorter cs c e, h)) fits)
-      ∙ sym (append_assoc c.before (dropped c.item ∷ last.closed) (relaid (last.open' ++ s ∷ [])))
+  last_line : (n : ℕ) (cs : List Spot) (s : Spot) → line_fits width cs ≡ true → broken_off (fill n width) (cs ++ s ∷ []) (soft_break width (cs ++ s ∷ [])) ≡ relaid (cs ++ s ∷ [])
+  last_line n cs s fits = let more = cs ++ s ∷ [] in elim (cases_Bool (line_fits width more)) [
+    | inl same ↦ ap (broken_off (fill n width) more) (broken_fits more same) ∙ rw same refl
+    | inr wide ↦ ap (broken_off (fill n width) more) (broken_first cs s fits wide) ∙ rest_still n more ∙ rw wide refl
+  ]
 
   -- one more character behind characters whose last line fits: every break is kept, and the last line is broken at its last space
   -- where it no longer fits
   pub fill_push : (n : ℕ) (cs : List Spot) (s : Spot) → length cs < n → line_fits width (parts n cs).open' ≡ true
       → fill n width (cs ++ s ∷ []) ≡ (parts n cs).closed ++ relaid ((parts n cs).open' ++ s ∷ [])
   fill_push zero cs s h fits = absurd (omega (arith, h))
-  fill_push (suc n) cs s h fits = push_if n cs s (soft_break width cs) refl (λ cs. fill_push n cs s) h fits
+  fill_push (suc n) cs s h fits = elim (cases_Option (soft_break width cs)) [
+    | inl none ↦ rw none (last_line n cs s (rw none at fits))
+    | inr (c, some) ↦
+        let last = parts n c.behind in
+        rw some (ap (broken_off (fill n width) (cs ++ s ∷ [])) (broken_later cs s (broken_is_wide cs c some) ∙ ap (option_map (longer (s ∷ []))) some)
+        ∙ ap (λ l. c.before ++ dropped c.item ∷ l) (fill_push n c.behind s (omega (arith, shorter cs c some, h)) (rw some at fits))
+        ∙ sym (append_assoc c.before (dropped c.item ∷ last.closed) (relaid (last.open' ++ s ∷ []))))
+  ]

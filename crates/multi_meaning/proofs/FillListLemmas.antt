@@ -1,16 +1,13 @@
 -- The words on lists, at one more item.
-use Rattle.std.proofs.Common.{◌≡◌, ℕ, ◌+◌, ◌≤◌, Bool, true, false, cond, List, [], ◌∷◌, ◌++◌, length, take, drop, Option, Some, None, refl, sym, ap, subst, ◌∙◌, arith, length-append, append_assoc, append-nil}
+use Rattle.std.proofs.Common.{◌≡◌, ℕ, ◌+◌, ◌≤◌, Bool, inl, inr, zero, suc, true, false, cond, List, [], ◌∷◌, ◌++◌, length, take, Option, Some, None, refl, ap, subst, ◌∙◌, arith, length-append}
 use Rattle.std.specs.List.{filter, last_or}
 use Rattle.std.specs.Option.{unwrap_or, option_map, option_map_or}
+use Rattle.std.proofs.lemmas.Bool.{both_ways, cases_Bool, cond_both}
 use Rattle.std.proofs.lemmas.List.Elements.{filter-append}
-use Rattle.multi_meaning.proofs.WordLemmas.{each_after_push, last_or-append, push_ind}
+use Rattle.multi_meaning.proofs.WordLemmas.{cases_Option, each_after_push, last_or-append, push_ind}
 use Rattle.multi_meaning.specs.Filling.{CutAt, prefixes, longest_prefix, cut_at_last, longer}
 
 -- THE LONGEST PREFIX
-
-last_if : {X : Type 0} (o : Option X) (x : X) (b : Bool) (d : X) → unwrap_or (last_or o (cond b (x ∷ []) [])) d ≡ cond b x (unwrap_or o d)
-last_if o x true d = refl
-last_if o x false d = refl
 
 prefixes_push : {X : Type 0} (xs : List X) (x : X) → prefixes (xs ++ x ∷ []) ≡ prefixes xs ++ (xs ++ x ∷ []) ∷ []
 prefixes_push xs x = ap (λ l. [] ∷ l) (each_after_push (λ before x. before ++ x ∷ []) xs x)
@@ -21,40 +18,24 @@ longest_push p xs x =
     ap (λ l. unwrap_or (last_or None (filter p l)) []) (prefixes_push xs x)
     ∙ ap (λ l. unwrap_or (last_or None l) []) (filter-append p (prefixes xs) ((xs ++ x ∷ []) ∷ []))
     ∙ ap (λ o. unwrap_or o []) (last_or-append None (filter p (prefixes xs)) (cond (p (xs ++ x ∷ [])) ((xs ++ x ∷ []) ∷ []) []))
-    ∙ last_if (last_or None (filter p (prefixes xs))) (xs ++ x ∷ []) (p (xs ++ x ∷ [])) []
+    ∙ cond_both (p (xs ++ x ∷ [])) ((xs ++ x ∷ []) ∷ []) [] (λ l. unwrap_or (last_or (last_or None (filter p (prefixes xs))) l) [] ≡ cond (p (xs ++ x ∷ [])) (xs ++ x ∷ []) (longest_prefix p xs)) (λ e. rw e refl) (λ e. rw e refl)
 
 -- it is all of a list that passes
 pub longest_all : {X : Type 0} (p : List X → Bool) (xs : List X) → p xs ≡ true → longest_prefix p xs ≡ xs
-longest_all {X} p = push_ind (λ xs. p xs ≡ true → longest_prefix p xs ≡ xs) (λ h. rw h refl) step
-  where
-    step : (xs : List X) (x : X) → (p xs ≡ true → longest_prefix p xs ≡ xs) → p (xs ++ x ∷ []) ≡ true → longest_prefix p (xs ++ x ∷ []) ≡ xs ++ x ∷ []
-    step xs x ih h = longest_push p xs x ∙ ap (λ b. cond b (xs ++ x ∷ []) (longest_prefix p xs)) h
+longest_all p = push_ind (λ xs. p xs ≡ true → longest_prefix p xs ≡ xs) (λ h. rw h refl) (λ xs x ih h. longest_push p xs x ∙ rw h refl)
 
 -- it is no longer than the list
 longest_most : {X : Type 0} (p : List X → Bool) (xs : List X) → length (longest_prefix p xs) ≤ length xs
-longest_most {X} p = push_ind (λ xs. length (longest_prefix p xs) ≤ length xs) (none (p [])) step
-  where
-    none : (b : Bool) → length {A = X} (unwrap_or (last_or None (cond b ([] ∷ []) [])) []) ≤ 0
-    none true = omega arith
-    none false = omega arith
-
-    pick : (b : Bool) (xs ys : List X) → length ys ≤ length xs → length (cond b xs ys) ≤ length xs
-    pick true xs ys h = omega arith
-    pick false xs ys h = h
-
-    step : (xs : List X) (x : X) → length (longest_prefix p xs) ≤ length xs → length (longest_prefix p (xs ++ x ∷ [])) ≤ length (xs ++ x ∷ [])
-    step xs x ih =
-        subst (λ l. length l ≤ length (xs ++ x ∷ [])) (sym (longest_push p xs x))
-        (pick (p (xs ++ x ∷ [])) (xs ++ x ∷ []) (longest_prefix p xs) (omega (arith, ih, length-append xs (x ∷ []))))
+longest_most p = push_ind (λ xs. length (longest_prefix p xs) ≤ length xs) (elim (cases_Bool (p [])) [ inl e ↦ rw e (omega arith) | inr e ↦ rw e (omega arith) ])
+    (λ xs x ih. let more = longest_push p xs x in elim (cases_Bool (p (xs ++ x ∷ []))) [
+      | inl e ↦ omega (arith, ap length (rw e at more))
+      | inr e ↦ omega (arith, ih, ap length (rw e at more), length-append xs (x ∷ []))
+    ])
 
 -- it is shorter than a list that doesn't pass
 pub longest_short : {X : Type 0} (p : List X → Bool) (xs : List X) → p [] ≡ true → p xs ≡ false → length (longest_prefix p xs) + 1 ≤ length xs
-longest_short {X} p xs some = push_ind (λ xs. p xs ≡ false → length (longest_prefix p xs) + 1 ≤ length xs) (λ h. absurd (let wrong : true ≡ false = sym some ∙ h in cc)) step xs
-  where
-    step : (xs : List X) (x : X) → (p xs ≡ false → length (longest_prefix p xs) + 1 ≤ length xs) → p (xs ++ x ∷ []) ≡ false → length (longest_prefix p (xs ++ x ∷ [])) + 1 ≤ length (xs ++ x ∷ [])
-    step xs x ih h =
-        let same : longest_prefix p (xs ++ x ∷ []) ≡ longest_prefix p xs = longest_push p xs x ∙ ap (λ b. cond b (xs ++ x ∷ []) (longest_prefix p xs)) h in
-        omega (arith, ap length same, longest_most p xs, length-append xs (x ∷ []))
+longest_short p xs some = push_ind (λ xs. p xs ≡ false → length (longest_prefix p xs) + 1 ≤ length xs) (λ none. absurd (both_ways (p []) none some))
+    (λ xs x ih none. let more = longest_push p xs x in omega (arith, ap length (rw none at more), longest_most p xs, length-append xs (x ∷ []))) xs
 
 -- A CUT AT THE LAST
 
@@ -76,11 +57,7 @@ module _ {X : Type 0} (p : X → Bool) where
   cut_step false false y xs x None = refl
 
   pub cut_push : (xs : List X) (x : X) → cut_at_last p (xs ++ x ∷ []) ≡ cut_more (p x) xs x (cut_at_last p xs)
-  cut_push [] x = first (p x) x
-    where
-      first : (b : Bool) (x : X) → option_map_or (onto x) None (alone b x []) ≡ cut_more b [] x None
-      first true x = refl
-      first false x = refl
+  cut_push [] x = elim (cases_Bool (p x)) [ inl e ↦ rw e refl | inr e ↦ rw e refl ]
   cut_push (y ∷ xs) x = ap (λ o. option_map_or (onto y) o (alone (p y) y (xs ++ x ∷ []))) (cut_push xs x) ∙ cut_step (p x) (p y) y xs x (cut_at_last p xs)
 
   -- a cut gives the list's parts, and none that passes stands behind
@@ -89,31 +66,29 @@ module _ {X : Type 0} (p : X → Bool) where
     pub passes : p c.item ≡ true
     pub last : cut_at_last p c.behind ≡ None
 
-  is_cut_if : (x : X) (xs : List X) (b : Bool) (o : Option (CutAt X)) → p x ≡ b → cut_at_last p xs ≡ o → ((c : CutAt X) → cut_at_last p xs ≡ Some c → IsCut xs c)
-      → (c : CutAt X) → option_map_or (onto x) o (alone b x xs) ≡ Some c → IsCut (x ∷ xs) c
-  is_cut_if x xs b (Some d) px cut ih c e =
-      let h = ih d cut in
-      subst (IsCut (x ∷ xs)) (let same : record d { before = x ∷ d.before } ≡ c = cc in same) (record { parts = ap (λ l. x ∷ l) h.parts; passes = h.passes; last = h.last })
-  is_cut_if x xs true None px cut ih c e =
-      subst (IsCut (x ∷ xs)) (let same : ◌≡◌ {A = CutAt X} (record { before = []; item = x; behind = xs }) c = cc in same) (record { parts = refl; passes = px; last = cut })
-  is_cut_if x xs false None px cut ih c e = absurd cc
-
   pub is_cut : (xs : List X) (c : CutAt X) → cut_at_last p xs ≡ Some c → IsCut xs c
   is_cut [] c e = absurd cc
-  is_cut (x ∷ xs) c e = is_cut_if x xs (p x) (cut_at_last p xs) refl refl (is_cut xs) c e
+  is_cut (x ∷ xs) c e = elim (cases_Option (cut_at_last p xs)) [
+    | inr (d, found) ↦
+        let h = is_cut xs d found in
+        let same : record d { before = x ∷ d.before } ≡ c = cc (rw found at e) in
+        subst (IsCut (x ∷ xs)) same (record { parts = ap (λ l. x ∷ l) h.parts; passes = h.passes; last = h.last })
+    | inl none ↦ elim (cases_Bool (p x)) [
+      | inl passes ↦
+          let same : ◌≡◌ {A = CutAt X} (record { before = []; item = x; behind = xs }) c = cc (rw (none, passes) at e) in
+          subst (IsCut (x ∷ xs)) same (record { parts = refl; passes = passes; last = none })
+      | inr fails ↦ absurd (cc (rw (none, fails) at e))
+    ]
+  ]
 
   -- a list without an item that passes has no cut, nor have its first items
-  none_front : (xs : List X) (x : X) → cut_at_last p (xs ++ x ∷ []) ≡ None → cut_at_last p xs ≡ None
-  none_front xs x h = of (p x) (cut_at_last p xs) (sym (cut_push xs x) ∙ h)
-    where
-      of : (b : Bool) (o : Option (CutAt X)) → cut_more b xs x o ≡ None → o ≡ None
-      of true o e = absurd cc
-      of false None e = refl
-      of false (Some c) e = absurd cc
+  none_parts : (x : X) (xs : List X) → cut_at_last p (x ∷ xs) ≡ None → (p x ≡ false) × (cut_at_last p xs ≡ None)
+  none_parts x xs h = elim (cases_Option (cut_at_last p xs)) [
+    | inr (d, found) ↦ absurd (cc (rw found at h))
+    | inl none ↦ elim (cases_Bool (p x)) [ inl passes ↦ absurd (cc (rw (none, passes) at h)) | inr fails ↦ (fails, none) ]
+  ]
 
   pub none_take : (xs : List X) (n : ℕ) → cut_at_last p xs ≡ None → cut_at_last p (take n xs) ≡ None
-  none_take xs n h = go (drop n xs) (take n xs) (subst (λ l. cut_at_last p l ≡ None) (sym (Rattle.std.proofs.lemmas.List.take-append-drop n xs)) h)
-    where
-      go : (ys xs : List X) → cut_at_last p (xs ++ ys) ≡ None → cut_at_last p xs ≡ None
-      go [] xs e = subst (λ l. cut_at_last p l ≡ None) (append-nil xs) e
-      go (y ∷ ys) xs e = none_front xs y (go ys (xs ++ y ∷ []) (subst (λ l. cut_at_last p l ≡ None) (sym (append_assoc xs (y ∷ []) ys)) e))
+  none_take xs zero h = refl
+  none_take [] (suc n) h = refl
+  none_take (x ∷ xs) (suc n) h = let parts = none_parts x xs h in rw (none_take xs n parts.1, parts.0) refl

@@ -1,8 +1,7 @@
 -- A tag offends behind some items, where lines are filled, just where it does behind the items as they are laid out.
-use Rattle.std.proofs.Common.{◌≡◌, ℕ, ◌+◌, true, false, cond, not, ◌||◌, nat_lt, List, [], ◌∷◌, ◌++◌, Option, Some, refl, sym, ap, subst, ◌∙◌, append-nil}
-use Rattle.std.specs.List.{All, count_by, list_any}
-use Rattle.std.proofs.lemmas.Bool.{eq-eqb}
-use Rattle.std.proofs.lemmas.List.Elements.{All-push, All-weaker}
+use Rattle.std.proofs.Common.{◌≡◌, ℕ, ◌+◌, true, false, cond, not, ◌||◌, nat_lt, List, [], ◌∷◌, ◌++◌, Option, Some, refl, sym, ap, ◌∙◌, append-nil, eq-eqb}
+use Rattle.std.specs.List.{count_by, list_any}
+use Rattle.std.proofs.lemmas.List.Elements.{All-push}
 use Rattle.multi_tag.specs.declared.tag.Tag.{Tag}
 use Rattle.multi_tag.specs.declared.tag.Tag.TheVariants.{NewPage, NewLine, Font}
 use Rattle.multi_tag.specs.Just.{page_number}
@@ -19,8 +18,7 @@ use Rattle.multi_meaning.proofs.FilledOnLemmas.{HasWidth, largest_laid, one_more
 use Rattle.multi_meaning.proofs.GroupLaidLemmas.{in_areas}
 use Rattle.multi_meaning.proofs.LaidFitLemmas.{too_big_laid}
 use Rattle.multi_meaning.proofs.LaidItemLemmas.{are_laid}
-use Rattle.multi_meaning.proofs.LaidTagLemmas.{laid_tag}
-use Rattle.multi_meaning.proofs.RectangleLemmas.{same_rectangle}
+use Rattle.multi_meaning.proofs.LaidTagLemmas.{laid_tag, same_fill}
 use Rattle.multi_meaning.proofs.SpotsLemmas.{spots_more}
 
 module _ (sign : SignData) (items : List Meaning) where
@@ -36,12 +34,7 @@ module _ (sign : SignData) (items : List Meaning) where
 
   -- the lines of the area in which the next item stands are filled to one width
   pub same_width : (put : Put) → HasWidth Words (standing sign items).rectangle.width (standing sign items).area (all ++ record { at = standing sign items; put = put } ∷ [])
-  same_width put =
-      let here = standing sign items in
-      All-push (λ (x : Spot). x.at.area ≡ here.area → fill_at Words x.at ≡ Some here.rectangle.width) all (record { at = here; put = put })
-      (All-weaker (λ (x : Spot). x.at.area ≡ here.area → x.at.rectangle ≡ here.rectangle) (λ (x : Spot). x.at.area ≡ here.area → fill_at Words x.at ≡ Some here.rectangle.width)
-      (λ x h same. ap (λ r. Some r.width) (h same)) all (subst (λ l. All (λ (x : Spot). x.at.area ≡ here.area → x.at.rectangle ≡ here.rectangle) (spots sign l)) (append-nil items) (same_rectangle sign items [])))
-      (λ same. refl)
+  same_width put = All-push (λ (x : Spot). x.at.area ≡ (standing sign items).area → fill_at Words x.at ≡ Some (standing sign items).rectangle.width) all (record { at = standing sign items; put = put }) (same_fill Words sign items) (λ same. refl)
 
   -- an `nl` behind them
   module _ (gap : Option ℕ) where

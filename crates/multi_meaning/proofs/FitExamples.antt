@@ -54,29 +54,22 @@ the_largest_number = refl
 
 -- THREE PARTS
 
-parts_with_room_between_them : fit 2 4 2 10 ≡ true
-parts_with_room_between_them = refl
+-- three parts fit a length or not
+abbrev AreFits : List (ℕ × ℕ × ℕ × ℕ × Bool) → Type 0
+AreFits rows = map (λ row. fit row.0 row.1 row.2 row.3) rows ≡ map (λ row. row.4) rows
 
-parts_without_room_between_them : fit 3 4 3 10 ≡ true
-parts_without_room_between_them = refl
-
-a_start_reaches_into_the_middle : fit 4 4 0 10 ≡ false
-a_start_reaches_into_the_middle = refl
-
-a_middle_reaches_into_the_end : fit 0 4 4 10 ≡ false
-a_middle_reaches_into_the_end = refl
-
-a_middle_of_1_is_in_the_way : fit 3 1 0 6 ≡ false
-a_middle_of_1_is_in_the_way = refl
-
-a_middle_of_none_is_in_nobodys_way : fit 5 0 2 7 ≡ true
-a_middle_of_none_is_in_nobodys_way = refl
-
-a_start_and_an_end_are_too_long : fit 5 0 3 7 ≡ false
-a_start_and_an_end_are_too_long = refl
-
-a_middle_stands_nearer_to_the_start : fit 3 4 4 11 ∷ fit 4 4 3 11 ∷ [] ≡ true ∷ false ∷ []
-a_middle_stands_nearer_to_the_start = refl
+three_parts : AreFits (
+    (2, 4, 2, 10, true) ∷  -- parts with room between them
+    (3, 4, 3, 10, true) ∷  -- parts without room between them
+    (4, 4, 0, 10, false) ∷  -- a start reaches into the middle
+    (0, 4, 4, 10, false) ∷  -- a middle reaches into the end
+    (3, 1, 0, 6, false) ∷  -- a middle of 1 is in the way
+    (5, 0, 2, 7, true) ∷  -- a middle of none is in nobodys way
+    (5, 0, 3, 7, false) ∷  -- a start and an end are too long
+    (3, 4, 4, 11, true) ∷  -- a middle stands nearer to the start
+    (4, 4, 3, 11, false) ∷  -- and reaches into it
+    [])
+three_parts = refl
 
 -- LINES AND AREAS
 

@@ -1,6 +1,5 @@
 -- What fits, and the room that is left for one part.
-use Rattle.std.proofs.Common.{◌≡◌, ℕ, ◌-◌, ◌*◌, ◌/◌, true, ◌==◌, if◌then◌else◌, arith}
-use Rattle.std.specs.Prelude.{nat_le}
+use Rattle.std.proofs.Common.{◌≡◌, ℕ, ◌-◌, ◌*◌, ◌/◌, true, ◌==◌, if◌then◌else◌, arith, nat_le}
 use Rattle.std.proofs.lemmas.Bool.Decides.{nat_tests}
 use Rattle.multi_meaning.specs.Fit.{SmallerFits, fit, room_for}
 

@@ -1,8 +1,6 @@
 -- The cell that is found by a number, and whether it is a space.
-use Rattle.std.proofs.Common.{◌≡◌, ℕ, cond, ◌==◌, inl, inr, List, [], ◌∷◌, Some, sym, ap, ◌∙◌}
+use Rattle.std.proofs.Common.{◌≡◌, ℕ, ◌==◌, inl, inr, List, [], ◌∷◌, Some, sym, ap, ◌∙◌, find}
 use Rattle.std.proofs.lemmas.Bool.{cases_Bool, eqb-true}
-use Rattle.std.proofs.lemmas.Option.{same_Some}
-use Rattle.std.specs.List.{find}
 use Rattle.sign_font.specs.Sign.{SignData, CellData, cell_numbered}
 use Rattle.multi_meaning.specs.Address.{Glyph, standing}
 use Rattle.multi_meaning.specs.Filling.{is_space}
@@ -12,10 +10,8 @@ use Rattle.multi_meaning.specs.Meaning.{Meaning}
 pub found_cell : (cells : List CellData) (n : ℕ) (cell : CellData) → find (λ c. c.number == n) cells ≡ Some cell → cell.number ≡ n
 found_cell [] n cell e = cc
 found_cell (c ∷ cells) n cell e = elim (cases_Bool (c.number == n)) [
-  | inl here ↦
-      let is : Some c ≡ Some cell = sym (ap (λ b. cond b (Some c) (find (λ d. d.number == n) cells)) here) ∙ e in
-      ap (λ (d : CellData). d.number) (sym (same_Some c cell is)) ∙ eqb-true c.number n here
-  | inr there ↦ found_cell cells n cell (sym (ap (λ b. cond b (Some c) (find (λ d. d.number == n) cells)) there) ∙ e)
+  | inl here ↦ let same : c ≡ cell = cc (rw here at e) in ap (λ (d : CellData). d.number) (sym same) ∙ eqb-true c.number n here
+  | inr there ↦ found_cell cells n cell (rw there at e)
 ]
 
 -- it is a space by its number

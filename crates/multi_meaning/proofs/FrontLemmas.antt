@@ -1,7 +1,5 @@
 -- The front of some octets that goes into a room: its width, and which octets it has.
-use Rattle.std.proofs.Common.{◌^◌, ℕ, ◌<◌, List, Bool, Option, take, subst, arith}
-use Rattle.std.specs.Prelude.{slice_index, IfSome}
-use Rattle.std.specs.List.{All}
+use Rattle.std.proofs.Common.{◌^◌, ℕ, ◌<◌, List, Bool, Option, take, subst, arith, slice_index, IfSome, All}
 use Rattle.std.proofs.lemmas.List.{get_or_default}
 use Rattle.std.proofs.lemmas.List.Elements.{All-take}
 use Rattle.multi_token.specs.Run.{IsRun, taken}

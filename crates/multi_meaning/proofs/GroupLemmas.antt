@@ -1,17 +1,17 @@
 -- Placing items, and the groups of an area.
-use Rattle.std.proofs.Common.{◌≡◌, ℕ, Bool, true, false, cond, ◌&&◌, ◌||◌, ◌==◌, List, [], ◌∷◌, ◌++◌, None, refl, ap, ◌∙◌}
-use Rattle.std.proofs.lemmas.Bool.{eq-eqb, false≢true, ne_eqb, or_cases}
-use Rattle.std.proofs.lemmas.List.{append-nil}
-use Rattle.std.proofs.lemmas.List.Elements.{All-weaker, filter-append, All-filter, All-head, All-tail, filter_passes, All-nil, All-cons}
+use Rattle.std.proofs.Common.{◌≡◌, ℕ, Bool, true, false, ◌&&◌, ◌||◌, ◌==◌, List, [], ◌∷◌, ◌++◌, None, refl, ◌∙◌, append-nil}
+use Rattle.std.proofs.lemmas.Bool.{and_parts, eq-eqb, false≢true, ne_eqb, or_cases}
+use Rattle.std.proofs.lemmas.List.Elements.{All-weaker, filter-append, All-filter, filter_passes}
 use Rattle.std.specs.List.{filter, AllPass, All}
 use Rattle.multi_tag.specs.Just.{page_number}
 use Rattle.multi_meaning.specs.Address.{Spot, is_glyph, Standing, Put, Glyph, Break, Cover, is_break, in_group, area_of}
 use Rattle.multi_meaning.specs.Line.{given_gap}
 use Rattle.multi_meaning.specs.kept.Present.{IsPlacing}
+use Rattle.multi_meaning.proofs.WordLemmas.{All-around}
 
 -- an item that passes, put behind a list
 pub filter_yes : {X : Type 0} (p : X → Bool) (xs : List X) (x : X) → p x ≡ true → filter p (xs ++ x ∷ []) ≡ filter p xs ++ x ∷ []
-filter_yes p xs x h = filter-append p xs (x ∷ []) ∙ ap (λ b. filter p xs ++ cond b (x ∷ []) []) h
+filter_yes p xs x h = filter-append p xs (x ∷ []) ∙ rw h refl
 
 pub glyph_put : (at : Standing) (p : Put) → is_glyph (record { at = at; put = p }) ≡ true → (is_break (record { at = at; put = p }) ≡ false) × (given_gap (record { at = at; put = p }) ≡ None)
 glyph_put at (Glyph cell) e = (refl, refl)
@@ -32,25 +32,14 @@ own_group just area s e = filter_yes (λ t. page_number t.at.page_just == just) 
 
 -- a group after an item of another
 pub in_group_other : (just : ℕ) (area : List Spot) (s : Spot) → (page_number s.at.page_just ≡ just → ⊥) → in_group just (area ++ s ∷ []) ≡ in_group just area
-in_group_other just area s apart =
-    filter-append (λ t. page_number t.at.page_just == just) area (s ∷ [])
-    ∙ ap (λ b. in_group just area ++ cond b (s ∷ []) []) (ne_eqb (page_number s.at.page_just) just apart)
-    ∙ append-nil (in_group just area)
+in_group_other just area s apart = filter-append (λ t. page_number t.at.page_just == just) area (s ∷ []) ∙ rw (ne_eqb (page_number s.at.page_just) just apart) (append-nil (in_group just area))
 
 -- what an area has before an item is placing items, and so is the item
 pub area_placing : (before : List Spot) (s : Spot) → All IsPlacing (area_of s before)
 area_placing before s =
-    let placing = λ (t : Spot). is_glyph t || is_break t in
     let passes = λ (t : Spot). (is_glyph t || is_break t) && (t.at.area == s.at.area) in
-    All-weaker (λ t. passes t ≡ true) IsPlacing (λ t h. or_cases (is_glyph t) (is_break t) (left (placing t) (t.at.area == s.at.area) h)) (area_of s before) (filter_passes passes before)
-  where
-    left : (a b : Bool) → (a && b) ≡ true → a ≡ true
-    left true b h = refl
-    left false b h = absurd (false≢true h)
+    All-weaker (λ t. passes t ≡ true) IsPlacing (λ t h. or_cases (is_glyph t) (is_break t) (and_parts (is_glyph t || is_break t) (t.at.area == s.at.area) h).0) (area_of s before) (filter_passes passes before)
 
 -- what stands around an item of a line of characters is characters
 pub glyphs_around : (xs : List Spot) (x : Spot) (ys : List Spot) → AllPass is_glyph (xs ++ x ∷ ys) → AllPass is_glyph xs × AllPass is_glyph ys
-glyphs_around [] x ys h = (All-nil (λ x. is_glyph x ≡ true), All-tail (λ x. is_glyph x ≡ true) x ys h)
-glyphs_around (z ∷ xs) x ys h =
-    let rest = glyphs_around xs x ys (All-tail (λ x. is_glyph x ≡ true) z (xs ++ x ∷ ys) h) in
-    (All-cons (λ x. is_glyph x ≡ true) z xs (All-head (λ x. is_glyph x ≡ true) z (xs ++ x ∷ ys) h) rest.0, rest.1)
+glyphs_around xs x ys h = let parts = All-around (λ x. is_glyph x ≡ true) xs x ys h in (parts.0, parts.2)

@@ -1,62 +1,43 @@
 -- The height of a group by a running state: what code keeps of the placing items so far.
-use Rattle.std.proofs.Common.{◌≡◌, Bool, true, false, cond, ◌||◌, ◌⊎◌, inl, inr, List, [], ◌∷◌, ◌++◌, refl, sym, ap, subst, ◌∙◌}
+use Rattle.std.proofs.Common.{◌≡◌, true, false, inl, inr, List, [], ◌∷◌, ◌++◌, refl, ap, ◌∙◌, append-nil}
 use Rattle.std.specs.List.{filter, list_any, All, AllPass}
-use Rattle.std.proofs.lemmas.List.{append-nil}
+use Rattle.std.proofs.lemmas.Bool.{both_ways, cond_both}
 use Rattle.std.proofs.lemmas.List.Elements.{filter-append, All-nil, All-head, All-tail, All-push}
-use Rattle.std.proofs.lemmas.List.Folds.{list_any-append}
 use Rattle.multi_meaning.specs.Address.{Spot, is_glyph, is_break}
 use Rattle.multi_meaning.specs.Line.{bearers}
-use Rattle.multi_meaning.proofs.WordLemmas.{push_ind, All-split}
-use Rattle.multi_meaning.proofs.CutLemmas.{Cut, cut, cut_push}
-
-abbrev pub glyphs : List Spot → Type 0
-glyphs line = AllPass is_glyph line
+use Rattle.multi_meaning.specs.kept.Present.{IsPlacing}
+use Rattle.multi_meaning.proofs.CutLemmas.{cut, cut_ind_all}
 
 -- a line of characters is its own bearers
-filter_all : (line : List Spot) → glyphs line → filter is_glyph line ≡ line
+pub filter_all : (line : List Spot) → AllPass is_glyph line → filter is_glyph line ≡ line
 filter_all [] h = refl
-filter_all (s ∷ line) h = ap (λ b. cond b (s ∷ filter is_glyph line) (filter is_glyph line)) (All-head (λ x. is_glyph x ≡ true) s line h) ∙ ap (λ l. s ∷ l) (filter_all line (All-tail (λ x. is_glyph x ≡ true) s line h))
+filter_all (s ∷ line) h = rw (All-head (λ x. is_glyph x ≡ true) s line h) (ap (λ l. s ∷ l) (filter_all line (All-tail (λ x. is_glyph x ≡ true) s line h)))
 
-cond_same : {A : Type 0} (b : Bool) (x y : A) → x ≡ y → cond b x y ≡ y
-cond_same true x y e = e
-cond_same false x y e = refl
-
-pub bearers_glyphs : (line : List Spot) → glyphs line → bearers line ≡ line
-bearers_glyphs line h = cond_same (list_any is_glyph line) (filter is_glyph line) line (filter_all line h)
+pub bearers_glyphs : (line : List Spot) → AllPass is_glyph line → bearers line ≡ line
+bearers_glyphs line h = cond_both (list_any is_glyph line) (filter is_glyph line) line (λ l. l ≡ line) (λ some. filter_all line h) (λ none. refl)
 
 -- a `nl` ends a line: with characters it changes neither, without it gives both
-pub any_glyph : (s : Spot) (line : List Spot) → glyphs (s ∷ line) → list_any is_glyph (s ∷ line) ≡ true
-any_glyph s line h = ap (λ b. b || list_any is_glyph line) (All-head (λ x. is_glyph x ≡ true) s line h)
+pub any_glyph : (s : Spot) (line : List Spot) → AllPass is_glyph (s ∷ line) → list_any is_glyph (s ∷ line) ≡ true
+any_glyph s line h = rw (All-head (λ x. is_glyph x ≡ true) s line h) refl
 
-pub bearers_ended : (s : Spot) (line : List Spot) (b : Spot) → glyphs (s ∷ line) → is_glyph b ≡ false → bearers ((s ∷ line) ++ b ∷ []) ≡ s ∷ line
+pub bearers_ended : (s : Spot) (line : List Spot) (b : Spot) → AllPass is_glyph (s ∷ line) → is_glyph b ≡ false → bearers ((s ∷ line) ++ b ∷ []) ≡ s ∷ line
 bearers_ended s line b h n =
-    ap (λ t. cond t (filter is_glyph ((s ∷ line) ++ b ∷ [])) ((s ∷ line) ++ b ∷ [])) (list_any-append is_glyph (s ∷ line) (b ∷ []) ∙ ap (λ t. t || list_any is_glyph (b ∷ [])) (any_glyph s line h))
-    ∙ filter-append is_glyph (s ∷ line) (b ∷ [])
-    ∙ ap (λ l. filter is_glyph (s ∷ line) ++ l) (ap (λ t. cond t (b ∷ []) []) n)
-    ∙ append-nil (filter is_glyph (s ∷ line))
-    ∙ filter_all (s ∷ line) h
+    let rest = filter_all line (All-tail (λ x. is_glyph x ≡ true) s line h) in
+    rw (All-head (λ x. is_glyph x ≡ true) s line h) (ap (λ l. s ∷ l) (filter-append is_glyph line (b ∷ []) ∙ rw (n, rest) (append-nil line)))
 
 pub bearers_empty : (b : Spot) → is_glyph b ≡ false → bearers (b ∷ []) ≡ b ∷ []
-bearers_empty b n = ap (λ t. cond (t || false) (cond t (b ∷ []) []) (b ∷ [])) n
+bearers_empty b n = rw n refl
 
 -- of placing items, what stands open behind the last `nl` is characters
-abbrev pub placing : Spot → Type 0
-placing s = (is_glyph s ≡ true) ⊎ (is_break s ≡ true)
+module _ (P : List (List Spot) → Type 0) (none : P []) (more : (lines : List (List Spot)) (line : List Spot) (s : Spot) → AllPass is_glyph line → is_break s ≡ true → P lines → P (lines ++ (line ++ s ∷ []) ∷ [])) where
+  both_parts : (group : List Spot) → All IsPlacing group → AllPass is_glyph (cut is_break group).open' × P (cut is_break group).closed
+  both_parts = cut_ind_all is_break IsPlacing (λ c. AllPass is_glyph c.open' × P c.closed) (All-nil (λ x. is_glyph x ≡ true), none)
+      (λ c s is e h. (All-nil (λ x. is_glyph x ≡ true), more c.closed c.open' s h.0 e h.1))
+      (λ c s is e h. (All-push (λ x. is_glyph x ≡ true) c.open' s h.0 (elim is [ inl glyph ↦ glyph | inr breaks ↦ absurd (both_ways (is_break s) e breaks) ]), h.1))
 
-open_if : (b : Bool) (line : List Spot) (s : Spot) → is_break s ≡ b → placing s → glyphs line → glyphs (cond b [] (line ++ s ∷ []))
-open_if true line s e p h = All-nil (λ x. is_glyph x ≡ true)
-open_if false line s e (inl g) h = All-push (λ x. is_glyph x ≡ true) line s h g
-open_if false line s e (inr b) h = absurd (Rattle.std.proofs.lemmas.Bool.both_ways (is_break s) e b)
+  -- what holds of no lines, and stays with a line of characters and its end, holds of the lines of placing items that an `nl` ended
+  pub lines_ind : (group : List Spot) → All IsPlacing group → P (cut is_break group).closed
+  lines_ind group all = (both_parts group all).1
 
-cond_open : (b : Bool) (c : Cut Spot) (s : Spot) → (cond {A = Cut Spot} b (record { closed = c.closed ++ (c.open' ++ s ∷ []) ∷ []; open' = [] }) (record { closed = c.closed; open' = c.open' ++ s ∷ [] })).open' ≡ cond b [] (c.open' ++ s ∷ [])
-cond_open true c s = refl
-cond_open false c s = refl
-
-pub open_glyphs : (group : List Spot) → All placing group → glyphs (cut is_break group).open'
-open_glyphs = push_ind (λ group. All placing group → glyphs (cut is_break group).open') (λ h. All-nil (λ x. is_glyph x ≡ true)) step
-  where
-    step : (group : List Spot) (s : Spot) → (All placing group → glyphs (cut is_break group).open') → All placing (group ++ s ∷ []) → glyphs (cut is_break (group ++ s ∷ [])).open'
-    step group s ih h =
-        let parts = All-split placing group s h in
-        subst glyphs (sym (ap (λ (c : Cut Spot). c.open') (cut_push is_break group s) ∙ cond_open (is_break s) (cut is_break group) s))
-        (open_if (is_break s) (cut is_break group).open' s refl parts.1 (ih parts.0))
+pub open_glyphs : (group : List Spot) → All IsPlacing group → AllPass is_glyph (cut is_break group).open'
+open_glyphs group all = (both_parts (λ lines. Unit {0}) tt (λ lines line s h e k. tt) group all).0

@@ -1,12 +1,10 @@
 -- What is in force behind the items of an accepted string: the rectangle is inside the sign, and every font is at least one
 -- pixel high, with characters at least one column wide.
-use Rattle.std.proofs.Common.{◌≡◌, ℕ, ◌+◌, ◌-◌, ◌≤◌, Bool, true, false, cond, ◌&&◌, ◌||◌, ◌==◌, List, [], ◌∷◌, ◌++◌, Option, Some, None, refl, sym, subst, ◌∙◌, arith, inl, inr}
-use Rattle.std.specs.Prelude.{IsSome}
+use Rattle.std.proofs.Common.{◌≡◌, ℕ, ◌+◌, ◌-◌, ◌≤◌, Bool, true, cond, ◌&&◌, ◌||◌, ◌==◌, List, [], ◌∷◌, ◌++◌, Option, Some, None, sym, subst, ◌∙◌, arith, inl, inr, IsSome, IfSome, unwrap_or}
 use Rattle.std.specs.List.{All, cons_option, find}
-use Rattle.std.specs.Option.{IfSome, option_map, unwrap_or}
-use Rattle.std.proofs.lemmas.Bool.{cases_Bool, false≢true}
+use Rattle.std.proofs.lemmas.Bool.{cases_Bool, false≢true, true_from_ne_false}
 use Rattle.std.proofs.lemmas.Bool.Decides.{nat_tests}
-use Rattle.std.proofs.lemmas.List.Elements.{All-nil, All-cons, All-head, All-tail, All-append, All-filter, All-weaker}
+use Rattle.std.proofs.lemmas.List.Elements.{All-nil, All-head, All-tail, All-filter, All-weaker}
 use Rattle.multi_tag.specs.declared.tag.Tag.TheVariants.{NewPage, NewLine, Font, Back, Rect}
 use Rattle.sign_font.specs.declared.parts.Defaults.{Defaults}
 use Rattle.sign_font.specs.Sign.{SignData, CellData, FontData, font_numbered, cell_numbered}
@@ -14,15 +12,15 @@ use Rattle.sign_font.specs.Sound.{IsSound, IsSoundCell, IsSoundFont}
 use Rattle.multi_meaning.specs.declared.attributes.Rectangle.{Rectangle}
 use Rattle.multi_meaning.specs.Meaning.{Meaning, Shows, Does}
 use Rattle.multi_meaning.specs.Attributes.{default_font, given_font, given_rectangle, is_inside, rectangle, whole_sign}
-use Rattle.multi_meaning.specs.Address.{Standing, standing, Put, Glyph, Spot, put_at, spot_at, spots, is_glyph, is_break}
+use Rattle.multi_meaning.specs.Address.{Standing, standing, Spot, put_at, spots, is_glyph, is_break}
 use Rattle.multi_meaning.specs.Line.{glyph_width}
 use Rattle.multi_meaning.specs.Offence.{offence_by}
 use Rattle.multi_meaning.specs.kept.Present.{present_area}
 use Rattle.multi_meaning.specs.Words.{some_after}
-use Rattle.multi_meaning.proofs.LayoutLemmas.{spots_push}
+use Rattle.multi_meaning.proofs.LayoutLemmas.{spots_all}
 use Rattle.multi_meaning.proofs.OffenceLemmas.{offence-rectangle}
 use Rattle.multi_meaning.proofs.StandingLemmas.{standing_push}
-use Rattle.multi_meaning.proofs.WordLemmas.{left_nil, none_of, push_ind, right_nil, some_after_push, some_after-append}
+use Rattle.multi_meaning.proofs.WordLemmas.{cases_Option, left_nil, none_of, push_ind, right_nil, some_after_push, some_after-append}
 
 -- ---- the items of an accepted string, from the end
 
@@ -38,10 +36,8 @@ module _ (sign : SignData) where
   -- what holds before the first item, and behind each that doesn't offend if it holds before it, holds behind them all
   pub each_ind : (f : List Meaning → Meaning → Option ℕ) (P : List Meaning → Type 0) → P [] → ((before : List Meaning) (x : Meaning) → f before x ≡ None → P before → P (before ++ x ∷ []))
       → (items : List Meaning) → some_after f items ≡ [] → P items
-  each_ind f P first step = push_ind (λ items. some_after f items ≡ [] → P items) (λ none. first) more
-    where
-      more : (items : List Meaning) (item : Meaning) → (some_after f items ≡ [] → P items) → some_after f (items ++ item ∷ []) ≡ [] → P (items ++ item ∷ [])
-      more items item holds none = step items item (none_last f items item none) (holds (none_front f items (item ∷ []) none))
+  each_ind f P first step = push_ind (λ items. some_after f items ≡ [] → P items) (λ none. first)
+      (λ items item holds none. step items item (none_last f items item none) (holds (none_front f items (item ∷ []) none)))
 
 -- what holds of each value that is given and of the one before holds of the one in force
 in_force_by : {A : Type 0} (P : A → Type 0) (o : Option A) (a : A) → IfSome o P → P a → P (unwrap_or o a)
@@ -59,43 +55,21 @@ pub record IsInSign (sign : SignData) (r : Rectangle) : Type 0 where
 inside_side : (x w size : ℕ) → 1 ≤ x → x ≤ size → x - 1 + w ≤ size → x - 1 + cond (w == 0) (size - (x - 1)) w ≤ size
 inside_side x w size some at room = elim (cases_Bool (w == 0)) [ inl rest ↦ rw rest (omega arith) | inr given ↦ rw given room ]
 
--- the four sides of a rectangle that passes
-record Sides (sign : SignData) (x y w h : ℕ) : Type 0 where
-  left : 1 ≤ x
-  top : 1 ≤ y
-  from : x ≤ sign.width
-  from_row : y ≤ sign.height
-  right : x - 1 + w ≤ sign.width
-  bottom : y - 1 + h ≤ sign.height
-
-sides : (sign : SignData) (x y w h : ℕ) → is_inside sign x y w h ≡ true → Sides sign x y w h
-sides sign x y w h passes = record {
-  left = grind (arith, nat_tests);
-  top = grind (arith, nat_tests);
-  from = grind (arith, nat_tests);
-  from_row = grind (arith, nat_tests);
-  right = grind (arith, nat_tests);
-  bottom = grind (arith, nat_tests);
-}
-
 rectangle_in_sign : (sign : SignData) (x y w h : ℕ) → is_inside sign x y w h ≡ true → IsInSign sign (rectangle sign x y w h)
-rectangle_in_sign sign x y w h passes =
-    let s = sides sign x y w h passes in
-    record { across = inside_side x w sign.width s.left s.from s.right; down = inside_side y h sign.height s.top s.from_row s.bottom }
+rectangle_in_sign sign x y w h passes = record {
+  across = inside_side x w sign.width (grind (arith, nat_tests)) (grind (arith, nat_tests)) (grind (arith, nat_tests));
+  down = inside_side y h sign.height (grind (arith, nat_tests)) (grind (arith, nat_tests)) (grind (arith, nat_tests));
+}
 
 whole_in_sign : (sign : SignData) → IsInSign sign (whole_sign sign)
 whole_in_sign sign = record { across = omega arith; down = omega arith }
-
--- a test that refuses with an error where it fails
-passed : (b : Bool) (n : ℕ) → cond {A = Option ℕ} b None (Some n) ≡ None → b ≡ true
-passed true n e = refl
-passed false n e = cc
 
 module _ (sign : SignData) (big : List Spot → Spot → Bool) where
   -- a rectangle that an item gives is inside the sign
   given_in_sign : (before : List Meaning) (x : Meaning) → offence_by big sign before x ≡ None → IfSome (given_rectangle sign x) (IsInSign sign)
   given_in_sign before (Does NewPage) none = whole_in_sign sign
-  given_in_sign before (Does (Rect x y w h)) none = rectangle_in_sign sign x y w h (passed (is_inside sign x y w h) 4 (sym (offence-rectangle big sign before x y w h) ∙ none))
+  given_in_sign before (Does (Rect x y w h)) none =
+      rectangle_in_sign sign x y w h (true_from_ne_false (is_inside sign x y w h) (λ outside. let wrong : ◌≡◌ {A = Option ℕ} (Some 4) None = rw outside at (sym (offence-rectangle big sign before x y w h) ∙ none) in cc))
   given_in_sign before x none = tt
 
   first_in_sign : IsInSign sign (standing sign []).rectangle
@@ -151,20 +125,13 @@ high_default (Some found) font some high = high
 
 -- what an item puts where the font in force is high
 high_put : (defaults : Defaults) (here : Standing) (x : Meaning) → HighFont here.font → IfSome (put_at defaults here x) (λ put. let spot : Spot = record { at = here; put = put } in High spot)
-high_put defaults here (Shows number) high = mapped (cell_numbered here.font number) (found_each IsWideCell (λ cell. cell.number == number) here.font.cells high.1)
-  where
-    mapped : (o : Option CellData) → IfSome o IsWideCell → IfSome (option_map Glyph o) (λ put. let spot : Spot = record { at = here; put = put } in High spot)
-    mapped None wide = tt
-    mapped (Some cell) wide = (high.0, λ glyph. wide)
+high_put defaults here (Shows number) high =
+    let wide = found_each IsWideCell (λ cell. cell.number == number) here.font.cells high.1 in
+    elim (cases_Option (cell_numbered here.font number)) [ inl none ↦ rw none tt | inr (cell, found) ↦ rw found (high.0, λ glyph. rw found at wide) ]
 high_put defaults here (Does NewPage) high = (high.0, λ glyph. absurd (false≢true glyph))
 high_put defaults here (Does (NewLine gap)) high = (high.0, λ glyph. absurd (false≢true glyph))
 high_put defaults here (Does (Back colour)) high = (high.0, λ glyph. absurd (false≢true glyph))
 high_put defaults here x high = tt
-
-high_spot : (here : Standing) (o : Option Put) → IfSome o (λ put. let spot : Spot = record { at = here; put = put } in High spot)
-    → All High (cons_option (option_map (λ p. let s : Spot = record { at = here; put = p } in s) o) [])
-high_spot here None high = All-nil High
-high_spot here (Some put) high = All-cons High (record { at = here; put = put }) [] high (All-nil High)
 
 -- the font in force and all that is put are high
 record IsHigh (sign : SignData) (items : List Meaning) : Type 0 where
@@ -190,8 +157,7 @@ module _ (sign : SignData) (sound : IsSound sign) (some : IsSome (font_numbered 
       let here = standing sign before in
       record {
         font = subst (λ (s : Standing). HighFont s.font) (sym (standing_push sign before x)) (in_force_by HighFont (given_font sign x) here.font (given_high x) old.font);
-        each = subst (All High) (sym (spots_push sign before x))
-            (All-append High (spots sign before) (cons_option (spot_at sign.defaults here x) []) old.each (high_spot here (put_at sign.defaults here x) (high_put sign.defaults here x old.font)));
+        each = spots_all sign High before x (λ put e. rw e at (high_put sign.defaults here x old.font)) old.each;
       }
 
   -- whatever the items are, all that they put is high

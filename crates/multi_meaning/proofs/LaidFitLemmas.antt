@@ -18,12 +18,6 @@ module _ (setting : LineFill) (width : ℕ) (all : List Spot) (s : Spot) (placed
   abbrev pub laid_with : List Spot
   laid_with = in_area s.at.area (laid setting (all ++ s ∷ []) (all ++ s ∷ []))
 
-  fill : fill_at setting s.at ≡ Some width
-  fill = (All-split (λ (x : Spot). x.at.area ≡ s.at.area → fill_at setting x.at ≡ Some width) all s same).1 refl
-
-  area_is : area_of s all ++ s ∷ [] ≡ in_area s.at.area (all ++ s ∷ [])
-  area_is = sym (one_more setting width s.at.area all s ∙ ap (λ b. area_of s all ++ cond b (s ∷ []) []) placed)
-
   -- whether it is too big, by the groups of its area
   abbrev by_groups : (ℕ → List Spot) → Bool
   by_groups group =
@@ -33,7 +27,9 @@ module _ (setting : LineFill) (width : ℕ) (all : List Spot) (s : Spot) (placed
   -- it is too big just where, as laid out, its line doesn't fit, or its area
   pub too_big_laid : too_big setting all s ≡ ((is_glyph s && not (line_fits s.at.rectangle.width (after_last is_break (in_group (page_number s.at.page_just) laid_with)))) || not (plain.area_fits s.at.rectangle.height laid_with))
   too_big_laid =
+      let fill = (All-split (λ (x : Spot). x.at.area ≡ s.at.area → fill_at setting x.at ≡ Some width) all s same).1 refl in
+      let area = one_more setting width s.at.area all s ∙ ap (λ b. area_of s all ++ cond b (s ∷ []) []) placed in
       let groups : (j : ℕ) → filled (Some width) (in_group j (in_area s.at.area (all ++ s ∷ []))) ≡ in_group j laid_with = λ j. sym (groups_laid setting width s.at.area (all ++ s ∷ []) s refl same j) in
       ap (λ o. by_groups (λ j. laid_group o j (area_of s all ++ s ∷ []))) fill
-      ∙ ap (λ l. by_groups (λ j. laid_group (Some width) j l)) area_is
+      ∙ ap (λ l. by_groups (λ j. laid_group (Some width) j l)) (sym area)
       ∙ (λ i. by_groups (λ j. groups j i))

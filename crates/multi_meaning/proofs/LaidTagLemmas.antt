@@ -1,25 +1,115 @@
--- The items of a string as they are laid out, behind one more tag: it is laid as itself.
-use Rattle.std.proofs.Common.{◌≡◌, ℕ, true, List, [], ◌∷◌, ◌++◌, Option, Some, None, refl, ap, subst, ◌∙◌, append-nil}
-use Rattle.std.specs.List.{All}
-use Rattle.std.proofs.lemmas.List.Elements.{All-weaker}
+-- One more spot, and one more item, behind a string: the others are laid as they were, where it only goes behind its filled group;
+-- and a tag is laid as itself.
+use Rattle.std.proofs.Common.{◌≡◌, inl, inr, true, false, cond, List, [], ◌∷◌, ◌++◌, length, Some, None, refl, sym, ap, ◌∙◌, append_assoc, append-nil, slice_index_or, All, option_map}
+use Rattle.std.proofs.lemmas.Bool.{both_ways, cases_Bool, false_from_ne_true, eq-eqb}
+use Rattle.std.proofs.lemmas.List.{get_or_at, get_or_append_left}
+use Rattle.std.proofs.lemmas.List.Elements.{All-push, All-weaker}
+use Rattle.multi_tag.specs.Just.{page_number}
 use Rattle.multi_tag.specs.declared.tag.Tag.{Tag}
 use Rattle.multi_tag.specs.declared.tag.Tag.TheVariants.{NewPage, NewLine, Back}
-use Rattle.multi_tag.specs.Just.{page_number}
+use Rattle.sign_font.specs.Sign.{SignData}
 use Rattle.sign_font.specs.declared.parts.LineFill.{LineFill}
 use Rattle.sign_font.specs.declared.parts.LineFill.TheVariants.{Off, Words}
-use Rattle.sign_font.specs.Sign.{SignData}
-use Rattle.multi_meaning.specs.Address.{Break, Put, Spot, Standing, area_of, group_of, spots, standing}
+use Rattle.multi_meaning.specs.Address.{Spot, Put, is_glyph, is_break, group_of, put_at, spot_at, spots, standing, Break, Standing}
 use Rattle.multi_meaning.specs.Filling.{filled}
-use Rattle.multi_meaning.specs.Laid.{fill_at}
-use Rattle.multi_meaning.specs.LaidItems.{laid_items}
+use Rattle.multi_meaning.specs.Laid.{fill_at, laid_spot}
+use Rattle.multi_meaning.specs.LaidItems.{laid_item, laid_items, laid_of}
 use Rattle.multi_meaning.specs.Meaning.{Meaning, Does}
-use Rattle.multi_meaning.proofs.GroupLemmas.{area_placing, placing_group}
-use Rattle.multi_meaning.proofs.GroupLaidLemmas.{is_member, members_push}
-use Rattle.multi_meaning.proofs.LaidItemMoreLemmas.{laid_behind, laid_nothing}
-use Rattle.multi_meaning.proofs.LaidLemmas.{filled_break}
-use Rattle.multi_meaning.proofs.LaidMoreLemmas.{placed_leaves, unplaced_leaves}
-use Rattle.multi_meaning.proofs.RectangleLemmas.{same_rectangle}
-use Rattle.std.proofs.lemmas.Bool.{eq-eqb}
+use Rattle.multi_meaning.specs.Words.{each_after}
+use Rattle.multi_meaning.proofs.GroupLaidLemmas.{has_place, is_member, member_at, members_push, own_member, own_placing, there, whole_length}
+use Rattle.multi_meaning.proofs.SpotsLemmas.{spots_more, spots_nothing, spots_with}
+use Rattle.multi_meaning.proofs.WordLemmas.{cases_Option, each_after_push, each_same}
+use Rattle.multi_meaning.proofs.LaidLemmas.{filled_behind}
+use Rattle.multi_meaning.proofs.RectangleLemmas.{IsBehind, spots_placed}
+
+-- ONE MORE SPOT
+
+module _ (setting : LineFill) (all : List Spot) (s : Spot) where
+  -- one more spot leaves this one of the string where it is laid
+  abbrev pub Leaves : List Spot → Spot → Type 0
+  Leaves some x = laid_spot setting (all ++ s ∷ []) some x ≡ laid_spot setting all some x
+
+  -- and all of them
+  abbrev pub LeavesAll : Type 0
+  LeavesAll = (some more : List Spot) (x : Spot) → all ≡ some ++ x ∷ more → Leaves some x
+
+  -- it leaves what is in a group to which it doesn't belong
+  group_stays : (some : List Spot) (x : Spot) → is_member x.at.area (page_number x.at.page_just) s ≡ false → Leaves some x
+  group_stays some x none =
+      let same : group_of x (all ++ s ∷ []) ≡ group_of x all = members_push x.at.area (page_number x.at.page_just) all s false none ∙ append-nil (group_of x all) in
+      ap (λ g. cond (is_glyph x) (slice_index_or (filled (fill_at setting x.at) g) (length (group_of x some)) x) x) same
+
+  -- and so one that isn't in its group
+  pub other_leaves : (some : List Spot) (x : Spot) → is_member s.at.area (page_number s.at.page_just) x ≡ false → Leaves some x
+  other_leaves some x apart = elim (cases_Bool (is_glyph x)) [
+    | inl glyph ↦ group_stays some x (false_from_ne_true (is_member x.at.area (page_number x.at.page_just) s) (λ member.
+        let (area, just) = member_at x.at.area (page_number x.at.page_just) s member in
+        both_ways (is_member s.at.area (page_number s.at.page_just) x) apart ((λ i. is_member (area i) (just i) x) ∙ own_member x glyph)))
+    | inr other ↦ rw other refl
+  ]
+
+  -- a spot of no group leaves all others
+  pub unplaced_leaves : is_glyph s ≡ false → is_break s ≡ false → LeavesAll
+  unplaced_leaves glyph break some more x is = group_stays some x (rw (glyph, break) refl)
+
+  module _ (s' : Spot) (member : is_member s.at.area (page_number s.at.page_just) s ≡ true)
+      (same : All (λ (x : Spot). x.at.area ≡ s.at.area → fill_at setting x.at ≡ fill_at setting s.at) all)
+      (grows : filled (fill_at setting s.at) (group_of s (all ++ s ∷ [])) ≡ filled (fill_at setting s.at) (group_of s all) ++ s' ∷ []) where
+    -- a spot of its group, by its place in the filled group with the new one
+    with_it : (some more : List Spot) (x : Spot) → all ++ s ∷ [] ≡ some ++ x ∷ more → is_member s.at.area (page_number s.at.page_just) x ≡ true
+        → laid_spot setting (all ++ s ∷ []) some x ≡ slice_index_or (filled (fill_at setting s.at) (group_of s all) ++ s' ∷ []) (length (group_of s some)) x
+    with_it some more x is own =
+        let P = λ (x : Spot). x.at.area ≡ s.at.area → fill_at setting x.at ≡ fill_at setting s.at in
+        there setting (all ++ s ∷ []) s.at.area (page_number s.at.page_just) (fill_at setting s.at) (own_placing (all ++ s ∷ []) s) (All-push P all s same (λ e. refl)) some more x is own
+        ∙ ap (λ l. slice_index_or l (length (group_of s some)) x) grows
+
+    -- it leaves all others
+    pub placed_leaves : LeavesAll
+    placed_leaves some more x is = elim (cases_Bool (is_member s.at.area (page_number s.at.page_just) x)) [
+      | inr other ↦ other_leaves some x other
+      | inl own ↦
+          with_it some (more ++ s ∷ []) x (ap (λ l. l ++ s ∷ []) is ∙ append_assoc some (x ∷ more) (s ∷ [])) own
+          ∙ get_or_append_left (filled (fill_at setting s.at) (group_of s all)) (s' ∷ []) x (length (group_of s some)) (has_place setting all s.at.area (page_number s.at.page_just) (fill_at setting s.at) (own_placing all s) same some more x is own)
+          ∙ sym (there setting all s.at.area (page_number s.at.page_just) (fill_at setting s.at) (own_placing all s) same some more x is own)
+    ]
+
+    -- and is laid itself as the last of its group
+    pub laid_last : laid_spot setting (all ++ s ∷ []) all s ≡ s'
+    laid_last =
+        with_it all [] s refl member
+        ∙ get_or_at (filled (fill_at setting s.at) (group_of s all)) s' [] s (length (group_of s all)) (sym (whole_length setting all s.at.area (page_number s.at.page_just) (fill_at setting s.at) (own_placing all s) same))
+
+-- ONE MORE ITEM
+
+module _ (setting : LineFill) (sign : SignData) where
+  -- an item as it is laid out among these spots
+  abbrev pub among : List Spot → List Meaning → Meaning → Meaning
+  among all before item = laid_of item (option_map (laid_spot setting all (spots sign before)) (spot_at sign.defaults (standing sign before) item))
+
+  -- an item that puts nothing
+  pub laid_nothing : (items : List Meaning) (x : Meaning) → put_at sign.defaults (standing sign items) x ≡ None → laid_items setting sign (items ++ x ∷ []) (items ++ x ∷ []) ≡ laid_items setting sign items items ++ x ∷ []
+  laid_nothing items x none =
+      each_after_push (laid_item setting sign (items ++ x ∷ [])) items x
+      ∙ ap (λ all. each_after (among all) items ++ among all items x ∷ []) (spots_nothing sign items x none)
+      ∙ rw none refl
+
+  -- one that leaves the others where they are laid, and is laid itself as this spot
+  pub laid_behind : (items : List Meaning) (x : Meaning) (put : Put) (y : Spot) → put_at sign.defaults (standing sign items) x ≡ Some put
+      → LeavesAll setting (spots sign items) (record { at = standing sign items; put = put })
+      → laid_spot setting (spots sign items ++ record { at = standing sign items; put = put } ∷ []) (spots sign items) (record { at = standing sign items; put = put }) ≡ y
+      → laid_items setting sign (items ++ x ∷ []) (items ++ x ∷ []) ≡ laid_items setting sign items items ++ laid_of x (Some y) ∷ []
+  laid_behind items x put y puts leaves last =
+      let all = spots sign items ++ record { at = standing sign items; put = put } ∷ [] in
+      let stay : each_after (among all) items ≡ laid_items setting sign items items = each_same (among all) (among (spots sign items)) items (λ some more z is. elim (cases_Option (put_at sign.defaults (standing sign some) z)) [
+        | inl none ↦ rw none refl
+        | inr (p, e) ↦ rw e (ap (λ y. laid_of z (Some y)) (leaves (spots sign some) _ (record { at = standing sign some; put = p }) (ap (spots sign) is ∙ spots_with sign some z more p e)))
+      ]) in
+      each_after_push (laid_item setting sign (items ++ x ∷ [])) items x
+      ∙ ap (λ l. each_after (among l) items ++ among l items x ∷ []) (spots_more sign items x put puts)
+      ∙ ap (λ l. l ++ among all items x ∷ []) stay
+      ∙ rw puts (ap (λ y. laid_items setting sign items items ++ laid_of x (Some y) ∷ []) last)
+
+-- ONE MORE TAG
 
 -- lines are filled to one width in one rectangle
 fill_same : (setting : LineFill) (a b : Standing) → a.rectangle ≡ b.rectangle → fill_at setting a ≡ fill_at setting b
@@ -33,29 +123,28 @@ module _ (setting : LineFill) (sign : SignData) (items : List Meaning) where
   -- the spots of the area in which the next item stands are filled as it would be
   pub same_fill : All (λ (x : Spot). x.at.area ≡ (standing sign items).area → fill_at setting x.at ≡ fill_at setting (standing sign items)) (spots sign items)
   same_fill =
-      All-weaker (λ (x : Spot). x.at.area ≡ (standing sign items).area → x.at.rectangle ≡ (standing sign items).rectangle)
-      (λ (x : Spot). x.at.area ≡ (standing sign items).area → fill_at setting x.at ≡ fill_at setting (standing sign items))
-      (λ x h same. fill_same setting x.at (standing sign items) (h same)) (spots sign items)
-      (subst (λ l. All (λ (x : Spot). x.at.area ≡ (standing sign items).area → x.at.rectangle ≡ (standing sign items).rectangle) (spots sign l)) (append-nil items) (same_rectangle sign items []))
+      let here = standing sign items in
+      All-weaker (λ (x : Spot). IsBehind sign x.at.area x.at.rectangle items) (λ (x : Spot). x.at.area ≡ here.area → fill_at setting x.at ≡ fill_at setting here)
+      (λ x h same. fill_same setting x.at here (h.1 same)) (spots sign items) (spots_placed sign items)
 
-  -- what ends a line goes behind its filled group
-  break_grows : (o : Option ℕ) (gap : Option ℕ) → filled o (group_of (spot_of (Break gap)) (spots sign items ++ spot_of (Break gap) ∷ [])) ≡ filled o (group_of (spot_of (Break gap)) (spots sign items)) ++ spot_of (Break gap) ∷ []
-  break_grows o gap = ap (filled o) (members_push (standing sign items).area (page_number (standing sign items).page_just) (spots sign items) (spot_of (Break gap)) true member) ∙ filled_more o
-    where
-      member : is_member (standing sign items).area (page_number (standing sign items).page_just) (spot_of (Break gap)) ≡ true
-      member = rw (eq-eqb (standing sign items).area (standing sign items).area refl, eq-eqb (page_number (standing sign items).page_just) (page_number (standing sign items).page_just) refl) refl
-
-      filled_more : (o : Option ℕ) → filled o (group_of (spot_of (Break gap)) (spots sign items) ++ spot_of (Break gap) ∷ []) ≡ filled o (group_of (spot_of (Break gap)) (spots sign items)) ++ spot_of (Break gap) ∷ []
-      filled_more None = refl
-      filled_more (Some width) = filled_break width (group_of (spot_of (Break gap)) (spots sign items)) (spot_of (Break gap)) (placing_group (page_number (standing sign items).page_just) (area_of (spot_of (Break gap)) (spots sign items)) (area_placing (spots sign items) (spot_of (Break gap)))) refl
+  -- a placing item behind whose group goes this spot, as it is filled, is laid as this spot
+  pub laid_placing : (x : Meaning) (put : Put) (y : Spot) → put_at sign.defaults (standing sign items) x ≡ Some put → is_member (standing sign items).area (page_number (standing sign items).page_just) (spot_of put) ≡ true
+      → filled (fill_at setting (standing sign items)) (group_of (spot_of put) (spots sign items) ++ spot_of put ∷ []) ≡ filled (fill_at setting (standing sign items)) (group_of (spot_of put) (spots sign items)) ++ y ∷ []
+      → laid_items setting sign (items ++ x ∷ []) (items ++ x ∷ []) ≡ laid_items setting sign items items ++ laid_of x (Some y) ∷ []
+  laid_placing x put y puts member is =
+      let here = standing sign items in
+      let all = spots sign items in
+      let grows = ap (filled (fill_at setting here)) (members_push here.area (page_number here.page_just) all (spot_of put) true member) ∙ is in
+      laid_behind setting sign items x put y puts (placed_leaves setting all (spot_of put) y member same_fill grows) (laid_last setting all (spot_of put) y member same_fill grows)
 
   abbrev LaidAsItself : Tag → Type 0
   LaidAsItself tag = laid_items setting sign (items ++ Does tag ∷ []) (items ++ Does tag ∷ []) ≡ laid_items setting sign items items ++ Does tag ∷ []
 
   pub laid_tag : (tag : Tag) → LaidAsItself tag
   laid_tag (NewLine gap) =
-      laid_behind setting sign items (Does (NewLine gap)) (Break gap) (spot_of (Break gap)) refl
-      (placed_leaves setting (spots sign items) (spot_of (Break gap)) (spot_of (Break gap)) (rw (eq-eqb (standing sign items).area (standing sign items).area refl, eq-eqb (page_number (standing sign items).page_just) (page_number (standing sign items).page_just) refl) refl) same_fill (break_grows (fill_at setting (standing sign items)) gap)) refl
+      let here = standing sign items in
+      let member : is_member here.area (page_number here.page_just) (spot_of (Break gap)) ≡ true = rw (eq-eqb here.area here.area refl, eq-eqb (page_number here.page_just) (page_number here.page_just) refl) refl in
+      laid_placing (Does (NewLine gap)) (Break gap) (spot_of (Break gap)) refl member (filled_behind (fill_at setting here) (group_of (spot_of (Break gap)) (spots sign items)) (spot_of (Break gap)) (own_placing (spots sign items) (spot_of (Break gap))) refl)
   laid_tag NewPage = laid_behind setting sign items (Does NewPage) _ _ refl (unplaced_leaves setting (spots sign items) _ refl refl) refl
   laid_tag (Back colour) = laid_behind setting sign items (Does (Back colour)) _ _ refl (unplaced_leaves setting (spots sign items) _ refl refl) refl
   laid_tag tag = laid_nothing setting sign items (Does tag) refl

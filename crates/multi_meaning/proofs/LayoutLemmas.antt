@@ -1,43 +1,33 @@
 -- What one more item does to the values in force, the spots, the widths and the heights.
-use Rattle.std.proofs.Common.{◌≡◌, ℕ, ◌+◌, Bool, true, false, cond, ◌&&◌, ◌==◌, List, [], ◌∷◌, ◌++◌, Option, Some, None, refl, ap, ◌∙◌}
-use Rattle.std.specs.List.{filter, filter_map, last_or, cons_option}
-use Rattle.std.specs.Option.{unwrap_or}
-use Rattle.std.proofs.lemmas.List.{append-nil}
-use Rattle.std.proofs.lemmas.List.Elements.{filter_map-append, filter-append}
-use Rattle.multi_tag.specs.Just.{line_number}
+use Rattle.std.proofs.Common.{◌≡◌, inl, inr, ◌+◌, List, [], ◌∷◌, ◌++◌, Option, Some, None, refl, ap, ◌∙◌, unwrap_or, append-nil}
+use Rattle.std.specs.List.{All, filter_map, last_or, cons_option}
+use Rattle.std.proofs.lemmas.List.Elements.{All-push, filter_map-append}
 use Rattle.sign_font.specs.Sign.{SignData}
 use Rattle.multi_meaning.specs.Meaning.{Meaning}
 use Rattle.multi_meaning.specs.Attributes.{in_force}
-use Rattle.multi_meaning.specs.Address.{Spot, spot_at, spots, standing, is_glyph, segment}
+use Rattle.multi_meaning.specs.Address.{Put, Spot, put_at, spot_at, spots, standing}
 use Rattle.multi_meaning.specs.Line.{glyph_width, char_gap, width_of}
-use Rattle.multi_meaning.proofs.WordLemmas.{some_after_push, last_or-append, extent_push, gap_before}
+use Rattle.multi_meaning.proofs.WordLemmas.{cases_Option, some_after_push, last_or-append, extent_push, gap_before}
 
 -- one more item gives the attribute its value, or leaves it
-in_force_if : {A : Type 0} (o : Option A) (more : Option A) (default : A) → unwrap_or (last_or o (cons_option more [])) default ≡ unwrap_or more (unwrap_or o default)
-in_force_if o None default = refl
-in_force_if o (Some a) default = refl
-
 pub in_force_push : {A : Type 0} (given : Meaning → Option A) (default : A) (before : List Meaning) (x : Meaning) → in_force given default (before ++ x ∷ []) ≡ unwrap_or (given x) (in_force given default before)
 in_force_push given default before x =
     ap (λ l. unwrap_or (last_or None l) default) (filter_map-append given before (x ∷ []))
     ∙ ap (λ o. unwrap_or o default) (last_or-append None (filter_map given before) (cons_option (given x) []))
-    ∙ in_force_if (last_or None (filter_map given before)) (given x) default
+    ∙ elim (cases_Option (given x)) [ inl none ↦ rw none refl | inr (value, some) ↦ rw some refl ]
 
 pub spots_push : (sign : SignData) (items : List Meaning) (x : Meaning) → spots sign (items ++ x ∷ []) ≡ spots sign items ++ cons_option (spot_at sign.defaults (standing sign items) x) []
 unfolding spots
 spots_push sign items x = some_after_push (λ before x. spot_at sign.defaults (standing sign before) x) items x
 
+-- what holds of all spots holds with what one more item puts, if it holds of that
+pub spots_all : (sign : SignData) (P : Spot → Type 0) (items : List Meaning) (x : Meaning) → ((put : Put) → put_at sign.defaults (standing sign items) x ≡ Some put → P (record { at = standing sign items; put = put }))
+    → All P (spots sign items) → All P (spots sign (items ++ x ∷ []))
+spots_all sign P items x new old = rw (spots_push sign items x) (elim (cases_Option (put_at sign.defaults (standing sign items) x)) [
+  | inl none ↦ rw (none, append-nil (spots sign items)) old
+  | inr (put, e) ↦ rw e (All-push P (spots sign items) (record { at = standing sign items; put = put }) old (new put e))
+])
+
 -- a segment after one more character of its own
 pub width_push : (characters : List Spot) (s : Spot) → width_of (characters ++ s ∷ []) ≡ width_of characters + gap_before char_gap characters s + glyph_width s
 width_push characters s = extent_push glyph_width char_gap characters s
-
-filter_push : {X : Type 0} (p : X → Bool) (xs : List X) (x : X) → filter p (xs ++ x ∷ []) ≡ filter p xs ++ cond (p x) (x ∷ []) []
-filter_push p xs x = filter-append p xs (x ∷ [])
-
--- a segment of a line after one more character of the line
-segment_if : (characters : List Spot) (s : Spot) (b : Bool) → width_of (characters ++ cond b (s ∷ []) []) ≡ cond b (width_of characters + gap_before char_gap characters s + glyph_width s) (width_of characters)
-segment_if characters s true = width_push characters s
-segment_if characters s false = ap width_of (append-nil characters)
-
-pub segment_push : (just : ℕ) (line : List Spot) (s : Spot) → width_of (segment just (line ++ s ∷ [])) ≡ cond (is_glyph s && (line_number s.at.line_just == just)) (width_of (segment just line) + gap_before char_gap (segment just line) s + glyph_width s) (width_of (segment just line))
-segment_push just line s = ap width_of (filter_push (λ t. is_glyph t && (line_number t.at.line_just == just)) line s) ∙ segment_if (segment just line) s (is_glyph s && (line_number s.at.line_just == just))

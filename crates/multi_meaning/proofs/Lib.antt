@@ -27,12 +27,9 @@ pub mod GroupLemmas
 pub mod HeightLemmas
 pub mod InForceLemmas
 pub mod ItemAtLemmas
-pub mod JustLemmas
 pub mod LaidFitLemmas
 pub mod LaidItemLemmas
-pub mod LaidItemMoreLemmas
 pub mod LaidLemmas
-pub mod LaidMoreLemmas
 pub mod LaidSpotLemmas
 pub mod LaidTagLemmas
 pub mod LayoutLemmas
@@ -40,10 +37,8 @@ pub mod LinesFitLemmas
 pub mod MeaningLemmas
 pub mod NarrowLemmas
 pub mod OffenceLemmas
-pub mod OpenFitLemmas
 pub mod OrderlyLemmas
 pub mod PictureExamples
-pub mod PictureLemmas
 pub mod PixelExamples
 pub mod PixelLemmas
 pub mod PlaceExamples
@@ -55,7 +50,6 @@ pub mod StandingLemmas
 pub mod StateLemmas
 pub mod TimesLemmas
 pub mod UnfilledItemLemmas
-pub mod UnfilledLemmas
 pub mod UnplacedLemmas
 pub mod VerdictExamples
 pub mod VerdictLemmas

@@ -1,5 +1,5 @@
 -- How many lines fit a height, and how much of it each group may have.
-use Rattle.std.proofs.Common.{◌≡◌, ℕ, ◌+◌, ◌<◌, ◌≤◌, ⊎_elim, Bool, true, false, cond, ◌==◌, length, List, [], ◌∷◌, ◌++◌, refl, sym, subst, arith}
+use Rattle.std.proofs.Common.{◌≡◌, inl, inr, ℕ, ◌+◌, ◌<◌, ◌≤◌, ⊎_elim, Bool, true, ◌==◌, length, List, [], ◌∷◌, sym, subst, arith}
 use Rattle.std.proofs.lemmas.Bool.{cases_Bool, cases_eq, false≢true}
 use Rattle.std.proofs.lemmas.Bool.Decides.{nat_tests}
 use Rattle.std.proofs.lemmas.List.Elements.{All-nil, All-cons, All-head, All-tail, All-filter, All-weaker}
@@ -10,7 +10,7 @@ use Rattle.multi_meaning.specs.Words.{cut_behind, largest}
 use Rattle.multi_meaning.specs.Address.{Spot, is_glyph, is_break, in_group, lines_of}
 use Rattle.multi_meaning.specs.Line.{bearers, line_height, height_of}
 use Rattle.multi_meaning.specs.Fit.{fit, area_fits}
-use Rattle.multi_meaning.proofs.WordLemmas.{largest_push, push_ind, All-split}
+use Rattle.multi_meaning.proofs.WordLemmas.{largest_most}
 
 -- a list with an item, each of which passes
 record Filled {X : Type 0} (P : X → Type 0) (xs : List X) : Type 0 where
@@ -24,39 +24,36 @@ module _ {X : Type 0} (P : X → Type 0) where
       let head : Filled P part = All-head (Filled P) part parts all in
       All-cons (Filled P) (x ∷ part) parts (record { some = omega arith; each = All-cons P x part h head.each }) (All-tail (Filled P) part parts all)
 
-  filled_if : (b : Bool) (x : X) (parts : List (List X)) → P x → All (Filled P) parts → All (Filled P) (cond b ((x ∷ []) ∷ parts) (onto_first x parts))
-  filled_if true x parts h all = All-cons (Filled P) (x ∷ []) parts (record { some = omega arith; each = All-cons P x [] h (All-nil P) }) all
-  filled_if false x parts h all = filled_onto x parts h all
-
   -- no part of a cut list is empty
   filled_parts : (p : X → Bool) (xs : List X) → All P xs → All (Filled P) (cut_behind p xs)
   filled_parts p [] all = All-nil (Filled P)
-  filled_parts p (x ∷ xs) all = filled_if (p x) x (cut_behind p xs) (All-head P x xs all) (filled_parts p xs (All-tail P x xs all))
+  filled_parts p (x ∷ xs) all =
+      let here = All-head P x xs all in
+      let rest = filled_parts p xs (All-tail P x xs all) in
+      elim (cases_Bool (p x)) [
+        | inl e ↦ rw e (All-cons (Filled P) (x ∷ []) (cut_behind p xs) (record { some = omega arith; each = All-cons P x [] here (All-nil P) }) rest)
+        | inr e ↦ rw e (filled_onto x (cut_behind p xs) here rest)
+      ]
 
 -- an item of a font of at least one pixel
 abbrev High : Spot → Type 0
 High s = 1 ≤ s.at.font.height
 
 largest_some : {X : Type 0} (f : X → ℕ) (xs : List X) → 0 < length xs → All (λ x. 1 ≤ f x) xs → 1 ≤ largest f xs
-largest_some {X} f = push_ind (λ xs. 0 < length xs → All (λ x. 1 ≤ f x) xs → 1 ≤ largest f xs) (λ h all. absurd (omega arith)) step
-  where
-    step : (xs : List X) (x : X) → (0 < length xs → All (λ x. 1 ≤ f x) xs → 1 ≤ largest f xs) → 0 < length (xs ++ x ∷ []) → All (λ x. 1 ≤ f x) (xs ++ x ∷ []) → 1 ≤ largest f (xs ++ x ∷ [])
-    step xs x ih h all =
-        let last : 1 ≤ f x = (All-split (λ x. 1 ≤ f x) xs x all).1 in
-        omega (arith, largest_push f xs x)
+largest_some f [] some all = absurd (omega arith)
+largest_some f (x ∷ xs) some all = omega (arith, All-head (λ x. 1 ≤ f x) x xs all, All-head (λ y. f y ≤ largest f (x ∷ xs)) x xs (largest_most f (x ∷ xs)))
 
 filter_some : {X : Type 0} (p : X → Bool) (xs : List X) → list_any p xs ≡ true → 0 < length (filter p xs)
 filter_some p [] h = absurd (false≢true h)
 filter_some p (x ∷ xs) h = ⊎_elim (λ yes. rw yes (omega arith)) (λ no. rw no (filter_some p xs (rw no at h))) (cases_Bool (p x))
 
-bearers_if : (b : Bool) (line : List Spot) → list_any is_glyph line ≡ b → Filled High line → Filled High (cond b (filter is_glyph line) line)
-bearers_if true line e h = record { some = filter_some is_glyph line e; each = All-filter is_glyph High line h.each }
-bearers_if false line e h = h
-
 -- a line with an item has at least one pixel
 line_high : (line : List Spot) → Filled High line → 1 ≤ line_height line
 line_high line h =
-    let from : Filled High (bearers line) = bearers_if (list_any is_glyph line) line refl h in
+    let from : Filled High (bearers line) = elim (cases_Bool (list_any is_glyph line)) [
+      | inl e ↦ rw e (record { some = filter_some is_glyph line e; each = All-filter is_glyph High line h.each })
+      | inr e ↦ rw e h
+    ] in
     largest_some (λ t. t.at.font.height) (bearers line) from.some from.each
 
 pub sum_least : {X : Type 0} (f : X → ℕ) (xs : List X) → All (λ x. 1 ≤ f x) xs → length xs ≤ sum_by f xs
@@ -76,16 +73,13 @@ fit_each a b c height h = grind (arith, nat_tests)
 
 -- what holds of the line justifications left, centre, right and full
 pub each_just : (P : ℕ → Type 0) → P 2 → P 3 → P 4 → P 5 → (just : ℕ) → 2 ≤ just → just ≤ 5 → P just
-each_just P p2 p3 p4 p5 just low high = ⊎_elim (λ e. subst P (sym e) p2) not_left (cases_eq just 2)
-  where
-    not_right : (just ≡ 2 → ⊥) → (just ≡ 3 → ⊥) → (just ≡ 4 → ⊥) → P just
-    not_right n2 n3 n4 = let five : 5 ≡ just = omega arith in subst P five p5
-
-    not_centre : (just ≡ 2 → ⊥) → (just ≡ 3 → ⊥) → P just
-    not_centre n2 n3 = ⊎_elim (λ e. subst P (sym e) p4) (not_right n2 n3) (cases_eq just 4)
-
-    not_left : (just ≡ 2 → ⊥) → P just
-    not_left n2 = ⊎_elim (λ e. subst P (sym e) p3) (not_centre n2) (cases_eq just 3)
+each_just P p2 p3 p4 p5 just low high = elim (cases_eq just 2) [
+  | inl e ↦ subst P (sym e) p2
+  | inr n2 ↦ elim (cases_eq just 3) [
+    | inl e ↦ subst P (sym e) p3
+    | inr n3 ↦ elim (cases_eq just 4) [ inl e ↦ subst P (sym e) p4 | inr n4 ↦ let five : 5 ≡ just = omega arith in subst P five p5 ]
+  ]
+]
 
 pub part_most : (f : ℕ → ℕ) (just height : ℕ) → 2 ≤ just → just ≤ 4 → f 2 + f 3 + f 4 ≤ height → f just ≤ height
 part_most f just height low high room =

@@ -11,12 +11,9 @@ use Rattle.multi_tag.specs.TagOf.{tag_of}
 use Rattle.multi_meaning.specs.Meaning.{Does, meaning, meaning_of_tag, said_by}
 
 -- a tag that says that some tag is done is that tag
-does_same : (a b : Tag) → Does a ≡ Does b → a ≡ b
-does_same a b e = cc
-
 pub does_tag : (said tag : Tag) → said_by said ≡ Does tag → said ≡ tag
 does_tag (HexChar number) tag e = cc
-does_tag said tag e = does_same said tag e
+does_tag said tag e = cc
 
 -- the item of a tag means what its body is read as
 pub meaning-tag : (octets : List ℕ) (token : Token) (result : Result Tag TagFault) → token.kind ≡ kinds.Tag → tag_of (body_of octets token) ≡ result → meaning (item_of octets token) ≡ meaning_of_tag result

@@ -1,67 +1,90 @@
 -- The lines of an accepted string are no wider than the sign, and its groups no higher.
-use Rattle.std.proofs.Common.{◌≡◌, ℕ, ◌+◌, ◌≤◌, Bool, true, false, cond, not, ◌&&◌, ◌||◌, ◌==◌, length, List, [], ◌∷◌, ◌++◌, refl, sym, ap, subst, ◌∙◌, arith, inl, inr, append_assoc, append-nil, length-append}
-use Rattle.std.specs.Prelude.{nat_le}
+use Rattle.std.proofs.Common.{◌≡◌, ℕ, ◌≤◌, true, false, ◌&&◌, ◌||◌, ◌==◌, length, map, List, [], Option, Some, None, ◌∷◌, ◌++◌, refl, sym, ap, subst, ◌∙◌, arith, inl, inr, length-append}
 use Rattle.std.specs.List.{All, after_last, sum_by}
-use Rattle.std.proofs.lemmas.Bool.{and_parts, cases_Bool, cases_eq, false≢true, ne_eqb}
-use Rattle.std.proofs.lemmas.Bool.Decides.{nat_tests}
+use Rattle.std.proofs.lemmas.Bool.{and_parts, cases_Bool, cases_eq, not-false, or_parts, leb-true}
+use Rattle.std.proofs.lemmas.List.{map-append}
 use Rattle.std.proofs.lemmas.List.Elements.{All-cons, All-drop, All-filter, All-head, All-nil, All-tail, filter-append}
 use Rattle.multi_tag.specs.Just.{line_number, page_number}
 use Rattle.sign_font.specs.Sign.{SignData}
 use Rattle.sign_font.specs.Sound.{IsSound}
-use Rattle.sign_font.specs.declared.parts.LineFill.TheVariants.{Off}
-use Rattle.multi_meaning.specs.Laid.{too_big}
-use Rattle.multi_meaning.specs.Address.{Spot, in_group, is_break, is_glyph, lines_of, segment, spots, standing}
-use Rattle.multi_meaning.specs.Fit.{area_fits, fit, line_fits}
+use Rattle.sign_font.specs.declared.parts.LineFill.{LineFill}
+use Rattle.sign_font.specs.declared.parts.LineFill.TheVariants.{Off, Words}
+use Rattle.multi_token.specs.Spelling.{Item}
+use Rattle.multi_meaning.specs.declared.attributes.Rectangle.{Rectangle}
+use Rattle.multi_meaning.specs.Laid.{fill_at, too_big}
+use Rattle.multi_meaning.specs.Filling.{filled}
+use Rattle.multi_meaning.specs.Offence.{offence}
+use Rattle.multi_meaning.specs.Verdict.{offences}
+use Rattle.multi_meaning.specs.kept.FillOpen.{AllOpenFit}
+use Rattle.multi_meaning.specs.Address.{Put, Spot, Standing, in_group, is_break, is_glyph, lines_of, segment, spots, standing}
+use Rattle.multi_meaning.specs.Fit.{area_fits, line_fits}
 use Rattle.multi_meaning.specs.Line.{glyph_width, height_of, width_of}
-use Rattle.multi_meaning.specs.Meaning.{Meaning}
+use Rattle.multi_meaning.specs.Meaning.{Meaning, meaning}
 use Rattle.multi_meaning.specs.kept.Present.{present_area, IsNarrow, IsNarrowArea}
 use Rattle.multi_meaning.specs.kept.Fine.{IsFine}
 use Rattle.multi_meaning.proofs.BehindLemmas.{after_last_push}
-use Rattle.multi_meaning.proofs.FillLemmas.{nothing_fits, segment_grows}
+use Rattle.multi_meaning.proofs.FillLemmas.{nothing_fits, segment_front}
 use Rattle.multi_meaning.proofs.WordLemmas.{push_ind}
-use Rattle.multi_meaning.proofs.GroupLemmas.{own_group}
+use Rattle.multi_meaning.proofs.GroupLemmas.{area_placing, in_group_other, own_group, placing_group}
 use Rattle.multi_meaning.proofs.InForceLemmas.{area_wide, rectangle_width_within, rectangle_within}
 use Rattle.multi_meaning.proofs.LinesFitLemmas.{each_just, fit_each, part_most, sum_least}
-use Rattle.multi_meaning.proofs.RoomLemmas.{area_fits_always, holds_always}
+use Rattle.multi_meaning.proofs.RoomLemmas.{area_fits_always, first_holds, holds_always, next_holds}
+use Rattle.multi_meaning.proofs.LaidLemmas.{filled_behind, filled_none}
+use Rattle.multi_meaning.proofs.UnplacedLemmas.{last_fine}
 
 -- the present line of each group fits a width
 abbrev pub LinesFit : ℕ → List Spot → Type 0
 LinesFit width area = (just : ℕ) → line_fits width (after_last is_break (in_group just area)) ≡ true
 
--- a character whose line doesn't fit is too big
-pub line_where : (a b : Bool) → (not a || b) ≡ false → a ≡ true
-line_where true b e = refl
-line_where false b e = absurd (false≢true (sym e))
+-- lines are filled to a width of their rectangle, or to none
+module _ (setting : LineFill) (fill : Rectangle → Option ℕ) (is : (at : Standing) → fill_at setting at ≡ fill at.rectangle) (sign : SignData) where
+  -- the open line of each group of an area, as it is filled, fits a rectangle
+  abbrev pub Fits : Rectangle → List Spot → Type 0
+  Fits r area = (just : ℕ) → line_fits r.width (after_last is_break (filled (fill r) (in_group just area))) ≡ true
 
--- the present line of the group that a placing item joins
-joined : (before : List Spot) (area : List Spot) (s : Spot) (big : Bool) (glyph : Bool) → is_glyph s ≡ glyph → (is_glyph s || is_break s) ≡ true
-    → ((glyph && not (line_fits s.at.rectangle.width (after_last is_break (in_group (page_number s.at.page_just) (area ++ s ∷ []))))) || big) ≡ false
-    → line_fits s.at.rectangle.width (after_last is_break (in_group (page_number s.at.page_just) (area ++ s ∷ []))) ≡ true
-joined before area s big true g placing small = line_where (line_fits s.at.rectangle.width (after_last is_break (in_group (page_number s.at.page_just) (area ++ s ∷ [])))) big small
-joined before area s big false g placing small =
-    let broken : is_break s ≡ true = sym (ap (λ b. b || is_break s) g) ∙ placing in
-    let whole : after_last is_break (in_group (page_number s.at.page_just) (area ++ s ∷ [])) ≡ [] =
-    ap (after_last is_break) (own_group (page_number s.at.page_just) area s refl) ∙ after_last_push is_break (in_group (page_number s.at.page_just) area) s ∙ ap (λ b. cond b [] (after_last is_break (in_group (page_number s.at.page_just) area) ++ s ∷ [])) broken in
-    ap (line_fits s.at.rectangle.width) whole ∙ nothing_fits s.at.rectangle.width
+  pub none_fit : (r : Rectangle) → Fits r []
+  none_fit r just = ap (λ l. line_fits r.width (after_last is_break l)) (filled_none (fill r)) ∙ nothing_fits r.width
+
+  pub fits_joins : (before : List Meaning) (put : Put) → let s : Spot = record { at = standing sign before; put = put } in
+      (is_glyph s || is_break s) ≡ true → too_big setting (spots sign before) s ≡ false → Fits s.at.rectangle (present_area sign before) → Fits s.at.rectangle (present_area sign before ++ s ∷ [])
+  fits_joins before put placing small old just =
+      let s : Spot = record { at = standing sign before; put = put } in
+      let width = s.at.rectangle.width in
+      let area = present_area sign before in
+      let group = in_group (page_number s.at.page_just) area in
+      let joined : line_fits width (after_last is_break (filled (fill_at setting s.at) (in_group (page_number s.at.page_just) (area ++ s ∷ [])))) ≡ true = elim (cases_Bool (is_glyph s)) [
+        | inl glyph ↦ not-false _ (or_parts _ _ (rw glyph at small)).0
+        | inr other ↦
+            let broken : is_break s ≡ true = rw other at placing in
+            let whole = filled (fill_at setting s.at) group in
+            let more = ap (filled (fill_at setting s.at)) (own_group (page_number s.at.page_just) area s refl) ∙ filled_behind (fill_at setting s.at) group s (placing_group (page_number s.at.page_just) area (area_placing (spots sign before) s)) broken in
+            ap (λ l. line_fits width (after_last is_break l)) more ∙ ap (line_fits width) (after_last_push is_break whole s) ∙ rw broken (nothing_fits width)
+      ] in
+      elim (cases_eq (page_number s.at.page_just) just) [
+        | inl own ↦ subst (λ n. line_fits width (after_last is_break (filled (fill s.at.rectangle) (in_group n (area ++ s ∷ [])))) ≡ true) own
+            (ap (λ o. line_fits width (after_last is_break (filled o (in_group (page_number s.at.page_just) (area ++ s ∷ []))))) (sym (is s.at)) ∙ joined)
+        | inr other ↦ ap (λ g. line_fits width (after_last is_break (filled (fill s.at.rectangle) g))) (in_group_other just area s other) ∙ old just
+      ]
 
 -- behind the items of an accepted string the present line of each group fits the rectangle in force
 pub lines_fit_always : (sign : SignData) (items : List Meaning) → IsFine sign items → LinesFit (standing sign items).rectangle.width (present_area sign items)
-lines_fit_always sign =
-    holds_always sign (λ r area. LinesFit r.width area) (λ r just. nothing_fits r.width)
-    (λ before put placing small old just.
-    let s : Spot = record { at = standing sign before; put = put } in
-    let area = present_area sign before in
-    elim (cases_eq (page_number s.at.page_just) just) [
-      | inl own ↦ subst (λ n. line_fits s.at.rectangle.width (after_last is_break (in_group n (area ++ s ∷ []))) ≡ true) own (joined (spots sign before) area s _ (is_glyph s) refl placing small)
-      | inr other ↦
-          ap (λ l. line_fits s.at.rectangle.width (after_last is_break l))
-          (filter-append (λ t. page_number t.at.page_just == just) area (s ∷ []) ∙ ap (λ b. in_group just area ++ cond b (s ∷ []) []) (ne_eqb (page_number s.at.page_just) just other) ∙ append-nil (in_group just area))
-          ∙ old just
-    ])
+lines_fit_always sign = holds_always Off sign (Fits Off (λ r. None) (λ at. refl) sign) (none_fit Off (λ r. None) (λ at. refl) sign) (fits_joins Off (λ r. None) (λ at. refl) sign)
 
--- a line that fits a width has no wider segment
-line_each : (a b c d width : ℕ) → (fit a b c width && nat_le d width) ≡ true → (a + b + c ≤ width) × (d ≤ width)
-line_each a b c d width h = (grind (arith, nat_tests), grind (arith, nat_tests))
+-- where lines are filled and no item offends, the open line of each group of the present area fits
+module _ (sign : SignData) where
+  abbrev pub OpenLinesFit : List Meaning → Type 0
+  OpenLinesFit items = AllOpenFit (Some (standing sign items).rectangle.width) (present_area sign items)
+
+  pub open_lines_fit : sign.line_fill ≡ Words → (before : List Item) → offences sign before ≡ [] → OpenLinesFit (map meaning before)
+  open_lines_fit words =
+      let fill = λ (r : Rectangle). Some r.width in
+      let fits = Fits Words fill (λ at. refl) sign in
+      let first = none_fit Words fill (λ at. refl) sign in
+      let joins = fits_joins Words fill (λ at. refl) sign in
+      push_ind (λ before. offences sign before ≡ [] → OpenLinesFit (map meaning before)) (λ none. first_holds Words sign fits first joins) (λ before item ih none.
+      let (earlier, fine) = last_fine sign before item none in
+      let fine' = ap (λ setting. offence setting sign (map meaning before) (meaning item)) (sym words) ∙ fine in
+      subst OpenLinesFit (sym (map-append meaning before (item ∷ []))) (next_holds Words sign fits first joins (map meaning before) (meaning item) fine' (ih earlier)))
 
 -- the characters of a segment are at least one column wide
 wide_segment : (just : ℕ) (line : List Spot) → All (λ (s : Spot). is_glyph s ≡ true → 1 ≤ glyph_width s) line → All (λ (s : Spot). 1 ≤ glyph_width s) (segment just line)
@@ -78,28 +101,24 @@ module _ (sign : SignData) (sound : IsSound sign) (items : List Meaning) (fits :
   -- the present line of each group is narrow
   narrow : (just : ℕ) → IsNarrow (after_last is_break (in_group just (present_area sign items)))
   narrow just =
-      let spots = present_area sign items in
-      let line = after_last is_break (in_group just spots) in
-      let width = (standing sign items).rectangle.width in
-      let within = across in
-      let parts = line_each (width_of (segment 2 line)) (width_of (segment 3 line)) (width_of (segment 4 line)) (width_of (segment 5 line)) width (fits just) in
-      let widest = sound.width.1 in
-      let wide : All (λ (s : Spot). is_glyph s ≡ true → 1 ≤ glyph_width s) line =
-      All-drop (λ (s : Spot). is_glyph s ≡ true → 1 ≤ glyph_width s) _ (in_group just spots)
-      (All-filter (λ t. page_number t.at.page_just == just) (λ (s : Spot). is_glyph s ≡ true → 1 ≤ glyph_width s) spots (area_wide sign sound sound.font items)) in
+      let line = after_last is_break (in_group just (present_area sign items)) in
+      let (three, four) = and_parts _ _ (fits just) in
+      let parts = fit_each (width_of (segment 2 line)) (width_of (segment 3 line)) (width_of (segment 4 line)) (standing sign items).rectangle.width three in
+      let full = leb-true (width_of (segment 5 line)) (standing sign items).rectangle.width four in
+      let P = λ (s : Spot). is_glyph s ≡ true → 1 ≤ glyph_width s in
+      let wide : All P line = All-drop P _ (in_group just (present_area sign items)) (All-filter (λ t. page_number t.at.page_just == just) P (present_area sign items) (area_wide sign sound sound.font items)) in
       let many : length (segment 5 line) ≤ sum_by glyph_width (segment 5 line) = sum_least glyph_width (segment 5 line) (wide_segment 5 line wide) in
+      let widest = sound.width.1 in
       record {
-        width = each_just (λ just. width_of (segment just line) ≤ 1024) (omega (arith, parts.0, within, widest)) (omega (arith, parts.0, within, widest)) (omega (arith, parts.0, within, widest)) (omega (arith, parts.1, within, widest));
-        characters = omega (arith, many, parts.1, within, widest);
+        width = each_just (λ just. width_of (segment just line) ≤ 1024) (omega (arith, parts, across, widest)) (omega (arith, parts, across, widest)) (omega (arith, parts, across, widest)) (omega (arith, full, across, widest));
+        characters = omega (arith, many, full, across, widest);
       }
 
   -- and no group is higher than a sign
   height : (just : ℕ) → 2 ≤ just → just ≤ 4 → height_of (lines_of (in_group just (present_area sign items))) ≤ 1024
   height just low top =
-      let spots = present_area sign items in
-      let tall = λ (just : ℕ). height_of (lines_of (in_group just spots)) in
-      let most = (standing sign items).rectangle.height in
-      let room : tall just ≤ most = part_most tall just most low top (fit_each (tall 2) (tall 3) (tall 4) most high) in
+      let tall = λ (just : ℕ). height_of (lines_of (in_group just (present_area sign items))) in
+      let room : tall just ≤ (standing sign items).rectangle.height = part_most tall just (standing sign items).rectangle.height low top (fit_each (tall 2) (tall 3) (tall 4) (standing sign items).rectangle.height high) in
       omega (arith, room, down, sound.height.1)
 
   pub narrow_of : IsNarrowArea (present_area sign items)
@@ -112,13 +131,8 @@ narrow_area sign sound items none =
     (rectangle_width_within sign (too_big Off) items none) (rectangle_within sign (too_big Off) items none)
 
 -- and the front of a narrow line
-front_width : (just : ℕ) (line behind : List Spot) → width_of (segment just line) ≤ width_of (segment just (line ++ behind))
-front_width just line = push_ind (λ behind. width_of (segment just line) ≤ width_of (segment just (line ++ behind)))
-    (omega (arith, ap (λ l. width_of (segment just l)) (append-nil line)))
-    (λ behind s ih. omega (arith, ih, segment_grows just (line ++ behind) s, ap (λ l. width_of (segment just l)) (append_assoc line behind (s ∷ []))))
-
 pub narrow_front : (line behind : List Spot) → IsNarrow (line ++ behind) → IsNarrow line
 narrow_front line behind whole = record {
-  width = λ just low high. omega (arith, front_width just line behind, whole.width just low high);
+  width = λ just low high. omega (arith, segment_front just line behind, whole.width just low high);
   characters = omega (arith, whole.characters, ap length (filter-append (λ t. is_glyph t && (line_number t.at.line_just == 5)) line behind), length-append (segment 5 line) (segment 5 behind));
 }

@@ -1,8 +1,7 @@
 -- The error of an item, by the tests of its cases.
-use Rattle.std.proofs.Common.{◌≡◌, ℕ, ◌+◌, Bool, true, false, cond, List, [], ◌∷◌, Option, Some, None, refl, ap, ◌∙◌}
-use Rattle.std.specs.Prelude.{nat_lt, not, ◌==◌}
-use Rattle.std.specs.List.{count_by}
+use Rattle.std.proofs.Common.{◌≡◌, inl, inr, ℕ, ◌+◌, Bool, true, false, cond, List, [], ◌∷◌, Option, Some, None, refl, ap, ◌∙◌, nat_lt, not, ◌==◌, count_by}
 use Rattle.std.specs.Option.{option_map_or}
+use Rattle.std.proofs.lemmas.Bool.{cases_Bool}
 use Rattle.multi_tag.specs.declared.tag.Tag.TheVariants.{NewPage, NewLine, Font, Rect}
 use Rattle.multi_tag.specs.declared.tag.FontPick.{FontPick}
 use Rattle.sign_font.specs.Sign.{SignData, CellData, FontData, cell_numbered, font_numbered}
@@ -12,8 +11,7 @@ use Rattle.multi_meaning.specs.Meaning.{Meaning, Shows, Does, Faulty, is_new_pag
 use Rattle.multi_meaning.specs.Offence.{character_cases, conflicts, first_code, font_cases, offence_by}
 
 one_case : (a : Bool) (n : ℕ) → first_code ((a, n) ∷ []) ≡ cond a (Some n) None
-one_case true n = refl
-one_case false n = refl
+one_case a n = elim (cases_Bool a) [ inl e ↦ rw e refl | inr e ↦ rw e refl ]
 
 two_cases : (a b : Bool) (n m : ℕ) → first_code ((a, n) ∷ (b, m) ∷ []) ≡ cond a (Some n) (cond b (Some m) None)
 two_cases true b n m = refl
@@ -31,18 +29,14 @@ module _ (big : List Spot → Spot → Bool) (sign : SignData) (items : List Mea
       let spot : Spot = record { at = standing sign items; put = Glyph cell } in
       offence_by big sign items (Shows number) ≡ cond (conflicts (spots sign items) spot) (Some 11) (cond (big (spots sign items) spot) (Some 5) None)
   unfolding offence_by
-  offence-character number cell found =
-      let spot : Spot = record { at = standing sign items; put = Glyph cell } in
-      ap (λ o. first_code (character_cases big sign items o)) found ∙ two_cases (conflicts (spots sign items) spot) (big (spots sign items) spot) 11 5
+  offence-character number cell found = ap (λ o. first_code (character_cases big sign items o)) found ∙ two_cases _ _ 11 5
 
   -- the end of a line
   pub offence-break : (gap : Option ℕ) →
       let spot : Spot = record { at = standing sign items; put = Break gap } in
       offence_by big sign items (Does (NewLine gap)) ≡ cond (conflicts (spots sign items) spot) (Some 11) (cond (big (spots sign items) spot) (Some 5) None)
   unfolding offence_by
-  offence-break gap =
-      let spot : Spot = record { at = standing sign items; put = Break gap } in
-      two_cases (conflicts (spots sign items) spot) (big (spots sign items) spot) 11 5
+  offence-break gap = two_cases _ _ 11 5
 
   pub offence-page : offence_by big sign items (Does NewPage) ≡ cond (nat_lt sign.max_pages (count_by is_new_page items + 2)) (Some 12) None
   unfolding offence_by
@@ -50,11 +44,7 @@ module _ (big : List Spot → Spot → Bool) (sign : SignData) (items : List Mea
 
   pub offence-rectangle : (x y w h : ℕ) → offence_by big sign items (Does (Rect x y w h)) ≡ cond (is_inside sign x y w h) None (Some 4)
   unfolding offence_by
-  offence-rectangle x y w h = go (is_inside sign x y w h)
-    where
-      go : (b : Bool) → first_code ((not b, 4) ∷ []) ≡ cond b None (Some 4)
-      go true = refl
-      go false = refl
+  offence-rectangle x y w h = elim (cases_Bool (is_inside sign x y w h)) [ inl e ↦ rw e refl | inr e ↦ rw e refl ]
 
   pub offence-no_font : (pick : FontPick) → font_numbered sign pick.number ≡ None → offence_by big sign items (Does (Font (Some pick))) ≡ Some 6
   unfolding offence_by

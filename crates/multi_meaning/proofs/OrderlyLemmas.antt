@@ -1,8 +1,7 @@
 -- The items of a string as they are laid out offend by nothing but their size, where those of the string don't.
-use Rattle.std.proofs.Common.{◌≡◌, ℕ, ◌+◌, Bool, true, false, cond, ◌&&◌, ◌||◌, nat_lt, inl, inr, List, [], ◌∷◌, ◌++◌, map, Option, Some, None, refl, sym, ap, subst, ◌∙◌, append_assoc, append-nil}
-use Rattle.std.proofs.lemmas.Bool.{or_parts}
-use Rattle.std.specs.List.{after_last, cons_option, count_by, list_any}
-use Rattle.std.specs.Option.{option_map}
+use Rattle.std.proofs.Common.{◌≡◌, ℕ, ◌+◌, Bool, true, false, cond, ◌&&◌, ◌||◌, nat_lt, inl, inr, List, [], ◌∷◌, ◌++◌, map, Option, Some, None, refl, sym, ap, subst, ◌∙◌, append_assoc, append-nil, option_map}
+use Rattle.std.proofs.lemmas.Bool.{cases_Bool, or_from, or_parts}
+use Rattle.std.specs.List.{after_last, count_by, list_any}
 use Rattle.std.proofs.lemmas.List.{map-append}
 use Rattle.std.proofs.lemmas.List.Folds.{list_any-append}
 use Rattle.multi_token.specs.Spelling.{Item}
@@ -28,7 +27,7 @@ use Rattle.multi_meaning.proofs.LaidSpotLemmas.{LaidAs}
 use Rattle.multi_meaning.proofs.OffenceLemmas.{offence-break, offence-character, offence-undefined}
 use Rattle.multi_meaning.proofs.UnplacedLemmas.{unplaced_item, no_conflict, sized, last_fine}
 use Rattle.multi_meaning.proofs.SpotsLemmas.{spots_with}
-use Rattle.multi_meaning.proofs.WordLemmas.{each_after_push, push_ind, some_after_push}
+use Rattle.multi_meaning.proofs.WordLemmas.{cases_Option, each_after_push, front_ind, none_more, push_ind}
 
 -- THE LINE OF A CHARACTER
 
@@ -40,33 +39,30 @@ module _ (setting : LineFill) (all : List Spot) (a j : ℕ) (p : Spot → Bool) 
   abbrev None_of : List Spot → Type 0
   None_of spots = list_any p (line spots) ≡ false → list_any p (line (laid setting all spots)) ≡ false
 
-  one_more : (xs : List Spot) (x : Spot) (b : Bool) → is_member a j x ≡ b → line (xs ++ x ∷ []) ≡ cond b (cond (is_break x) [] (line xs ++ x ∷ [])) (line xs)
-  one_more xs x true e = ap (after_last is_break) (members_push a j xs x true e) ∙ after_last_push is_break (members a j xs) x
-  one_more xs x false e = ap (after_last is_break) (members_push a j xs x false e ∙ append-nil (members a j xs))
+  any_more : (xs : List Spot) (x : Spot) → is_member a j x ≡ true → list_any p (line (xs ++ x ∷ [])) ≡ cond (is_break x) false (list_any p (line xs) || (p x || false))
+  any_more xs x e = ap (list_any p) (ap (after_last is_break) (members_push a j xs x true e) ∙ after_last_push is_break (members a j xs) x) ∙ elim (cases_Bool (is_break x)) [
+    | inl ends ↦ rw ends refl
+    | inr stays ↦ rw stays (list_any-append p (line xs) (x ∷ []))
+  ]
 
-  joins : (xs ys : List Spot) (x y : Spot) (b : Bool) → LaidAs x y → (list_any p xs ≡ false → list_any p ys ≡ false) → is_break x ≡ b → list_any p (cond (is_break x) [] (xs ++ x ∷ [])) ≡ false
-      → list_any p (cond (is_break y) [] (ys ++ y ∷ [])) ≡ false
-  joins xs ys x y true (inl same) ih e none = ap (λ z. list_any p (cond (is_break z) [] (ys ++ y ∷ []))) same ∙ ap (λ b. list_any p (cond b [] (ys ++ y ∷ []))) e
-  joins xs ys x y false (inl same) ih e none =
-      let parts = or_parts (list_any p xs) (p x || false) (sym (list_any-append p xs (x ∷ [])) ∙ ap (λ b. list_any p (cond b [] (xs ++ x ∷ []))) (sym e) ∙ none) in
-      ap (λ z. list_any p (cond (is_break z) [] (ys ++ z ∷ []))) same ∙ ap (λ b. list_any p (cond b [] (ys ++ x ∷ []))) e
-      ∙ list_any-append p ys (x ∷ []) ∙ ap (λ b. b || (p x || false)) (ih parts.0) ∙ parts.1
-  joins xs ys x y b (inr (glyph, drop)) ih e none = ap (λ z. list_any p (cond (is_break z) [] (ys ++ y ∷ []))) drop
+  any_other : (xs : List Spot) (x : Spot) → is_member a j x ≡ false → list_any p (line (xs ++ x ∷ [])) ≡ list_any p (line xs)
+  any_other xs x e = ap (λ l. list_any p (after_last is_break l)) (members_push a j xs x false e ∙ append-nil (members a j xs))
 
-  step_if : (xs : List Spot) (x y : Spot) (b : Bool) → is_member a j x ≡ b → LaidAs x y → None_of xs → list_any p (line (xs ++ x ∷ [])) ≡ false → list_any p (line (laid setting all xs ++ y ∷ [])) ≡ false
-  step_if xs x y true e as' ih none =
-      ap (list_any p) (one_more (laid setting all xs) y true (same_member a j x y as' ∙ e))
-      ∙ joins (line xs) (line (laid setting all xs)) x y (is_break x) as' ih refl (ap (list_any p) (sym (one_more xs x true e)) ∙ none)
-  step_if xs x y false e as' ih none = ap (list_any p) (one_more (laid setting all xs) y false (same_member a j x y as' ∙ e)) ∙ ih (ap (list_any p) (sym (one_more xs x false e)) ∙ none)
+  joins : (b c : Bool) (x y : Spot) → LaidAs x y → (b ≡ false → c ≡ false) → cond (is_break x) false (b || (p x || false)) ≡ false → cond (is_break y) false (c || (p y || false)) ≡ false
+  joins b c x y (inr (glyph, drop)) ih none = rw drop refl
+  joins b c x y (inl same) ih none = rw same (elim (cases_Bool (is_break x)) [
+    | inl ends ↦ rw ends refl
+    | inr stays ↦ let parts = or_parts b (p x || false) (rw stays at none) in rw (stays, ih parts.0) parts.1
+  ])
 
-  pub none_laid : (some more : List Spot) → all ≡ some ++ more → None_of some
-  none_laid = push_ind (λ some. (more : List Spot) → all ≡ some ++ more → None_of some) (λ more is none. none) step
-    where
-      step : (some : List Spot) (x : Spot) → ((more : List Spot) → all ≡ some ++ more → None_of some) → (more : List Spot) → all ≡ (some ++ x ∷ []) ++ more → None_of (some ++ x ∷ [])
-      step some x ih more is none =
-          let is' : all ≡ some ++ x ∷ more = is ∙ append_assoc some (x ∷ []) more in
-          ap (λ l. list_any p (line l)) (each_after_push (laid_spot setting all) some x)
-          ∙ step_if some x (laid_spot setting all some x) (is_member a j x) refl (laid_as setting all some more x is') (ih (x ∷ more) is') none
+  none_laid : (some more : List Spot) → all ≡ some ++ more → None_of some
+  none_laid = front_ind all None_of (λ none. none) (λ some more x is ih none.
+      let y = laid_spot setting all some x in
+      let as' = laid_as setting all some more x is in
+      ap (λ l. list_any p (line l)) (each_after_push (laid_spot setting all) some x) ∙ elim (cases_Bool (is_member a j x)) [
+        | inl e ↦ any_more (laid setting all some) y (same_member a j x y as' ∙ e) ∙ joins (list_any p (line some)) (list_any p (line (laid setting all some))) x y as' ih (sym (any_more some x e) ∙ none)
+        | inr e ↦ any_other (laid setting all some) y (same_member a j x y as' ∙ e) ∙ ih (sym (any_other some x e) ∙ none)
+      ])
 
 -- A PLACING ITEM
 
@@ -84,13 +80,10 @@ module _ (setting : LineFill) (all some more : List Spot) (is : all ≡ some ++ 
 
   -- and neither does its segment
   pub stays_apart : conflicts (laid setting all some) s ≡ false
-  stays_apart = both (is_glyph s) refl
-    where
-      both : (b : Bool) → is_glyph s ≡ b → conflicts (laid setting all some) s ≡ false
-      both true e =
-          let none = none_laid setting all s.at.area (page_number s.at.page_just) (clashes s) some more is (ap (λ b. b && list_any (clashes s) (line_before some s)) (sym e) ∙ parts.1) in
-          ap (λ b. b || (is_glyph s && list_any (clashes s) (line_before (laid setting all some) s))) (goes_on s refl) ∙ ap (λ b. b && list_any (clashes s) (line_before (laid setting all some) s)) e ∙ none
-      both false e = ap (λ b. b || (is_glyph s && list_any (clashes s) (line_before (laid setting all some) s))) (goes_on s refl) ∙ ap (λ b. b && list_any (clashes s) (line_before (laid setting all some) s)) e
+  stays_apart = or_from (list_any (goes_back s) (area_of s (laid setting all some))) _ (goes_on s refl) (elim (cases_Bool (is_glyph s)) [
+    | inl e ↦ rw e (none_laid setting all s.at.area (page_number s.at.page_just) (clashes s) some more is (rw e at parts.1))
+    | inr e ↦ rw e refl
+  ])
 
 -- THE ITEMS
 
@@ -111,33 +104,33 @@ module _ (setting : LineFill) (sign : SignData) (all : List Meaning) where
     placed_fine put apart = (λ i. conflicts (are.1 i) (record { at = are.0 i; put = put })) ∙ apart
 
     break_fine : (gap : Option ℕ) → conflicts (laid setting (spots sign all) (spots sign some)) (record { at = standing sign some; put = Break gap }) ≡ false → Fine some (Does (NewLine gap))
-    break_fine gap apart = offence-break never_big sign (before some) gap ∙ ap (λ b. cond {A = Option ℕ} b (Some 11) None) (placed_fine (Break gap) apart)
+    break_fine gap apart = offence-break never_big sign (before some) gap ∙ rw (placed_fine (Break gap) apart) refl
 
     character_fine : (number : ℕ) (cell : CellData) → cell_numbered (standing sign some).font number ≡ Some cell → conflicts (laid setting (spots sign all) (spots sign some)) (record { at = standing sign some; put = Glyph cell }) ≡ false
         → Fine some (Shows number)
     character_fine number cell found apart =
-        offence-character never_big sign (before some) number cell (ap (λ (s : Standing). cell_numbered s.font number) are.0 ∙ found)
-        ∙ ap (λ b. cond {A = Option ℕ} b (Some 11) None) (placed_fine (Glyph cell) apart)
+        offence-character never_big sign (before some) number cell (ap (λ (s : Standing). cell_numbered s.font number) are.0 ∙ found) ∙ rw (placed_fine (Glyph cell) apart) refl
 
     -- an item that puts something
     put_split : (put : Put) → put_at sign.defaults (standing sign some) x ≡ Some put → (rest : List Spot) × (spots sign all ≡ spots sign some ++ record { at = standing sign some; put = put } ∷ rest)
     put_split put e = (_, ap (spots sign) is ∙ spots_with sign some x more put e)
 
-  character_if : (some more : List Meaning) (number : ℕ) → all ≡ some ++ Shows number ∷ more → unsized_offence sign some (Shows number) ≡ None → (o : Option CellData) → cell_numbered (standing sign some).font number ≡ o
-      → Fine some (laid_of (Shows number) (option_map (laid_spot setting (spots sign all) (spots sign some)) (option_map (λ put. let s : Spot = record { at = standing sign some; put = put } in s) (option_map Glyph o))))
-  character_if some more number is fine None e = let wrong : ◌≡◌ {A = Option ℕ} (Some 7) None = sym (offence-undefined never_big sign some number e) ∙ fine in absurd cc
-  character_if some more number is fine (Some cell) e =
-      let s : Spot = record { at = standing sign some; put = Glyph cell } in
-      let S = spots sign all in
-      let P = spots sign some in
-      let (rest, split) = put_split some more (Shows number) is (Glyph cell) (ap (option_map Glyph) e) in
-      let apart = no_conflict (conflicts P s) false (sym (offence-character never_big sign some number cell e) ∙ fine) in
-      of (laid_spot setting S P s) (laid_as setting S P rest s split) (character_fine some more (Shows number) is number cell e (stays_apart setting S P (s ∷ rest) split s apart))
-      (break_fine some more (Shows number) is None (ap (λ b. b || false) (goes_on setting S P (s ∷ rest) split s apart (record { at = standing sign some; put = Break None }) refl)))
-    where
-      of : (y : Spot) → LaidAs (record { at = standing sign some; put = Glyph cell }) y → Fine some (Shows number) → Fine some (Does (NewLine None)) → Fine some (laid_of (Shows number) (Some y))
-      of y (inl same) stands drops = ap (λ z. unsized_offence sign (before some) (laid_of (Shows number) (Some z))) same ∙ stands
-      of y (inr (glyph, drop)) stands drops = ap (λ z. unsized_offence sign (before some) (laid_of (Shows number) (Some z))) drop ∙ drops
+  laid_character : (some more : List Meaning) (number : ℕ) → all ≡ some ++ Shows number ∷ more → unsized_offence sign some (Shows number) ≡ None → Fine some (laid_item setting sign all some (Shows number))
+  laid_character some more number is fine = elim (cases_Option (cell_numbered (standing sign some).font number)) [
+    | inl none ↦ let wrong : ◌≡◌ {A = Option ℕ} (Some 7) None = sym (offence-undefined never_big sign some number none) ∙ fine in absurd cc
+    | inr (cell, found) ↦
+        let s : Spot = record { at = standing sign some; put = Glyph cell } in
+        let S = spots sign all in
+        let P = spots sign some in
+        let (rest, split) = put_split some more (Shows number) is (Glyph cell) (ap (option_map Glyph) found) in
+        let apart = no_conflict (conflicts P s) false (sym (offence-character never_big sign some number cell found) ∙ fine) in
+        rw found (elim (laid_as setting S P rest s split) [
+          | inl same ↦ ap (λ z. unsized_offence sign (before some) (laid_of (Shows number) (Some z))) same ∙ character_fine some more (Shows number) is number cell found (stays_apart setting S P (s ∷ rest) split s apart)
+          | inr (glyph, drop) ↦
+              ap (λ z. unsized_offence sign (before some) (laid_of (Shows number) (Some z))) drop
+              ∙ break_fine some more (Shows number) is None (ap (λ b. b || false) (goes_on setting S P (s ∷ rest) split s apart (record { at = standing sign some; put = Break None }) refl))
+        ])
+  ]
 
   -- an item that places nothing offends by its page alone
   same_offence : (xs ys : List Meaning) → count_by is_new_page xs ≡ count_by is_new_page ys → (x : Meaning) → has_place x ≡ false → unsized_offence sign xs x ≡ unsized_offence sign ys x
@@ -152,58 +145,37 @@ module _ (setting : LineFill) (sign : SignData) (all : List Meaning) where
   unfolding standing
   pages_same some more is = ap (λ (s : Standing). s.page) (are_laid setting sign all some more is).0
 
-  laid_fine : (some more : List Meaning) (x : Meaning) → all ≡ some ++ x ∷ more → unsized_offence sign some x ≡ None → (b : Bool) → has_place x ≡ b → Fine some (laid_item setting sign all some x)
-  laid_fine some more x is fine false e =
-      ap (unsized_offence sign (before some)) (unplaced_item setting sign all some x e) ∙ same_offence (before some) some (pages_same some (x ∷ more) is) x e ∙ fine
-  laid_fine some more (Shows number) is fine true e = character_if some more number is fine (cell_numbered (standing sign some).font number) refl
-  laid_fine some more (Does (NewLine gap)) is fine true e =
+  laid_fine : (some more : List Meaning) (x : Meaning) → all ≡ some ++ x ∷ more → unsized_offence sign some x ≡ None → Fine some (laid_item setting sign all some x)
+  laid_fine some more (Shows number) is fine = laid_character some more number is fine
+  laid_fine some more (Does (NewLine gap)) is fine =
       let s : Spot = record { at = standing sign some; put = Break gap } in
       let (rest, split) = put_split some more (Does (NewLine gap)) is (Break gap) refl in
       let apart = no_conflict (conflicts (spots sign some) s) false (sym (offence-break never_big sign some gap) ∙ fine) in
       break_fine some more (Does (NewLine gap)) is gap (stays_apart setting (spots sign all) (spots sign some) (s ∷ rest) split s apart)
-  laid_fine some more _ is fine true e = absurd cc
+  laid_fine some more x is fine = ap (unsized_offence sign (before some)) (unplaced_item setting sign all some x refl) ∙ same_offence (before some) some (pages_same some (x ∷ more) is) x refl ∙ fine
 
-  pub orderly_laid : ((some more : List Meaning) (x : Meaning) → all ≡ some ++ x ∷ more → unsized_offence sign some x ≡ None) → (some more : List Meaning) → all ≡ some ++ more → IsOrderly sign (before some)
-  orderly_laid fine = push_ind (λ some. (more : List Meaning) → all ≡ some ++ more → IsOrderly sign (before some)) (λ more is. refl) step
-    where
-      step : (some : List Meaning) (x : Meaning) → ((more : List Meaning) → all ≡ some ++ more → IsOrderly sign (before some)) → (more : List Meaning) → all ≡ (some ++ x ∷ []) ++ more → IsOrderly sign (before (some ++ x ∷ []))
-      step some x ih more is =
-          let is' : all ≡ some ++ x ∷ more = is ∙ append_assoc some (x ∷ []) more in
-          let y = laid_item setting sign all some x in
-          subst (IsOrderly sign) (sym (each_after_push (laid_item setting sign all) some x))
-          (some_after_push (unsized_offence sign) (before some) y
-          ∙ ap (λ l. l ++ cons_option (unsized_offence sign (before some) y) []) (ih (x ∷ more) is')
-          ∙ ap (λ o. cons_option o []) (laid_fine some more x is' (fine some more x is') (has_place x) refl))
+  orderly_laid : ((some more : List Meaning) (x : Meaning) → all ≡ some ++ x ∷ more → unsized_offence sign some x ≡ None) → (some more : List Meaning) → all ≡ some ++ more → IsOrderly sign (before some)
+  orderly_laid fine = front_ind all (λ some. IsOrderly sign (before some)) refl (λ some more x is ih.
+      ap (some_after (unsized_offence sign)) (each_after_push (laid_item setting sign all) some x)
+      ∙ none_more (unsized_offence sign) (before some) (laid_item setting sign all some x) ih (laid_fine some more x is (fine some more x is)))
 
 -- A STRING
 
 -- what doesn't offend doesn't by more than its size
 pub unsized_if : (setting : LineFill) (sign : SignData) (ms : List Meaning) (x : Meaning) → offence setting sign ms x ≡ None → (b : Bool) → has_place x ≡ b → unsized_offence sign ms x ≡ None
 unsized_if setting sign ms x fine false e = sym (sized setting sign ms x e) ∙ fine
-unsized_if setting sign ms (Shows number) fine true e = of (cell_numbered (standing sign ms).font number) refl
-  where
-    of : (o : Option CellData) → cell_numbered (standing sign ms).font number ≡ o → unsized_offence sign ms (Shows number) ≡ None
-    of None none = let wrong : ◌≡◌ {A = Option ℕ} (Some 7) None = sym (offence-undefined (too_big setting) sign ms number none) ∙ fine in absurd cc
-    of (Some cell) found =
-        let s : Spot = record { at = standing sign ms; put = Glyph cell } in
-        let apart = no_conflict (conflicts (spots sign ms) s) (too_big setting (spots sign ms) s) (sym (offence-character (too_big setting) sign ms number cell found) ∙ fine) in
-        offence-character never_big sign ms number cell found ∙ ap (λ b. cond {A = Option ℕ} b (Some 11) None) apart
-unsized_if setting sign ms (Does (NewLine gap)) fine true e =
-    let s : Spot = record { at = standing sign ms; put = Break gap } in
-    let apart = no_conflict (conflicts (spots sign ms) s) (too_big setting (spots sign ms) s) (sym (offence-break (too_big setting) sign ms gap) ∙ fine) in
-    offence-break never_big sign ms gap ∙ ap (λ b. cond {A = Option ℕ} b (Some 11) None) apart
+unsized_if setting sign ms (Shows number) fine true e = elim (cases_Option (cell_numbered (standing sign ms).font number)) [
+  | inl none ↦ let wrong : ◌≡◌ {A = Option ℕ} (Some 7) None = sym (offence-undefined (too_big setting) sign ms number none) ∙ fine in absurd cc
+  | inr (cell, found) ↦ offence-character never_big sign ms number cell found ∙ rw (no_conflict _ _ (sym (offence-character (too_big setting) sign ms number cell found) ∙ fine)) refl
+]
+unsized_if setting sign ms (Does (NewLine gap)) fine true e = offence-break never_big sign ms gap ∙ rw (no_conflict _ _ (sym (offence-break (too_big setting) sign ms gap) ∙ fine)) refl
 unsized_if setting sign ms _ fine true e = absurd cc
 
 pub orderly_items : (sign : SignData) (items : List Item) → offences sign items ≡ [] → IsOrderly sign (map meaning items)
-orderly_items sign = push_ind (λ items. offences sign items ≡ [] → IsOrderly sign (map meaning items)) (λ none. refl) step
-  where
-    step : (items : List Item) (item : Item) → (offences sign items ≡ [] → IsOrderly sign (map meaning items)) → offences sign (items ++ item ∷ []) ≡ [] → IsOrderly sign (map meaning (items ++ item ∷ []))
-    step items item ih none =
-        let (earlier, here) = last_fine sign items item none in
-        ap (some_after (unsized_offence sign)) (map-append meaning items (item ∷ []))
-        ∙ some_after_push (unsized_offence sign) (map meaning items) (meaning item)
-        ∙ ap (λ l. l ++ cons_option (unsized_offence sign (map meaning items) (meaning item)) []) (ih earlier)
-        ∙ ap (λ o. cons_option o []) (unsized_if sign.line_fill sign (map meaning items) (meaning item) here (has_place (meaning item)) refl)
+orderly_items sign = push_ind (λ items. offences sign items ≡ [] → IsOrderly sign (map meaning items)) (λ none. refl) (λ items item ih none.
+    let (earlier, here) = last_fine sign items item none in
+    ap (some_after (unsized_offence sign)) (map-append meaning items (item ∷ []))
+    ∙ none_more (unsized_offence sign) (map meaning items) (meaning item) (ih earlier) (unsized_if sign.line_fill sign (map meaning items) (meaning item) here (has_place (meaning item)) refl))
 
 -- the items of an accepted string, as they are laid out, don't offend by more than their size
 pub orderly_out : (sign : SignData) (items : List Item) → offences sign items ≡ [] → IsOrderly sign (laid_out sign (map meaning items))

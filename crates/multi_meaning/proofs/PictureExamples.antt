@@ -1,6 +1,5 @@
 -- Worked examples of pictures and of pages at clocks on the sample sign, computed.
-use Rattle.std.proofs.Common.{◌≡◌, ℕ, true, List, [], ◌∷◌, map, codes, refl}
-use Rattle.std.specs.Prelude.{if◌then◌else◌, nat_eq}
+use Rattle.std.proofs.Common.{◌≡◌, ℕ, true, List, [], ◌∷◌, map, codes, refl, if◌then◌else◌, nat_eq}
 use Rattle.std.specs.List.{range_with_len, count_by, sum_by}
 use Rattle.sign_font.specs.Sample.{sample}
 use Rattle.sign_font.specs.Sign.{SignData}
@@ -42,21 +41,18 @@ two_words_on_two_lines : rows words (codes "AA AA") 0 0 1
 unfolding rows
 two_words_on_two_lines = refl
 
-flash_on_first : map (λ phase. lit sample (codes "[flt5o5]A[/fl]") 0 phase 1) (0 ∷ 4 ∷ 5 ∷ 9 ∷ 10 ∷ []) ≡ 6 ∷ 6 ∷ 0 ∷ 0 ∷ 6 ∷ []
-unfolding lit
-flash_on_first = refl
+-- each of these strings lights so many pixels at these phases
+abbrev AreLit : List (List ℕ × List ℕ × List ℕ) → Type 0
+AreLit rows = map (λ row. map (λ phase. lit sample row.0 0 phase 1) row.1) rows ≡ map (λ row. row.2) rows
 
-an_absent_flash_time_is_the_default : map (λ phase. lit sample (codes "[flt3]A") 0 phase 1) (7 ∷ 8 ∷ []) ≡ 0 ∷ 6 ∷ []
+flashes : AreLit (
+    (codes "[flt5o5]A[/fl]", 0 ∷ 4 ∷ 5 ∷ 9 ∷ 10 ∷ [], 6 ∷ 6 ∷ 0 ∷ 0 ∷ 6 ∷ []) ∷  -- flash on first
+    (codes "[flt3]A", 7 ∷ 8 ∷ [], 0 ∷ 6 ∷ []) ∷  -- an absent flash time is the default
+    (codes "[flo5t5]A", 0 ∷ 5 ∷ 10 ∷ [], 0 ∷ 6 ∷ 0 ∷ []) ∷  -- flash off first
+    (codes "[flt0o0]A", 7 ∷ [], 6 ∷ []) ∷  -- flash without times is lit
+    [])
 unfolding lit
-an_absent_flash_time_is_the_default = refl
-
-flash_off_first : map (λ phase. lit sample (codes "[flo5t5]A") 0 phase 1) (0 ∷ 5 ∷ 10 ∷ []) ≡ 0 ∷ 6 ∷ 0 ∷ []
-unfolding lit
-flash_off_first = refl
-
-flash_without_times_is_lit : lit sample (codes "[flt0o0]A") 0 7 1 ≡ 6
-unfolding lit
-flash_without_times_is_lit = refl
+flashes = refl
 
 a_background_covers_what_stands_before_it : map (lit sample_classic (codes "[cf3]A[pb1]") 0 0) (1 ∷ 3 ∷ []) ≡ 84 ∷ 0 ∷ []
 unfolding lit
@@ -78,26 +74,17 @@ unfoldable at_clock : List ℕ → ℕ → Shown
 unfolding shown_at shown_within page_times standing reading read_items read_item tag_of
 at_clock octets clock = shown sample octets clock
 
-pages_and_their_off_times : map (at_clock (codes "[pt10o5]A[np]A")) (9 ∷ 10 ∷ 15 ∷ 29 ∷ 30 ∷ []) ≡ Page 0 9 ∷ Off ∷ Page 1 0 ∷ Off ∷ Page 0 0 ∷ []
-unfolding at_clock
-pages_and_their_off_times = refl
+-- each of these strings shows these pages at these clocks
+abbrev AreShown : List (List ℕ × List ℕ × List Shown) → Type 0
+AreShown rows = map (λ row. map (at_clock row.0) row.1) rows ≡ map (λ row. row.2) rows
 
-a_cycle_of_none_shows_page_0 : at_clock (codes "[pt0o0]A[np]A") 42 ≡ Page 0 42
+clocks : AreShown (
+    (codes "[pt10o5]A[np]A", 9 ∷ 10 ∷ 15 ∷ 29 ∷ 30 ∷ [], Page 0 9 ∷ Off ∷ Page 1 0 ∷ Off ∷ Page 0 0 ∷ []) ∷  -- pages and their off times
+    (codes "[pt0o0]A[np]A", 42 ∷ [], Page 0 42 ∷ []) ∷  -- a cycle of none shows page 0
+    (codes "[pt0o5]A", 3 ∷ [], Page 0 3 ∷ []) ∷  -- one page is always shown
+    (codes "[pt0o5]A[np]A", 0 ∷ [], Off ∷ []) ∷  -- an on time of none is skipped
+    (codes "A[np]A[pt10]", 30 ∷ 40 ∷ [], Page 1 0 ∷ Page 0 0 ∷ []) ∷  -- times are those at the end of a page
+    (codes "[pt10o5]A[pt20][np]A", 20 ∷ [], Page 1 0 ∷ []) ∷  -- an absent page time is the default
+    [])
 unfolding at_clock
-a_cycle_of_none_shows_page_0 = refl
-
-one_page_is_always_shown : at_clock (codes "[pt0o5]A") 3 ≡ Page 0 3
-unfolding at_clock
-one_page_is_always_shown = refl
-
-an_on_time_of_none_is_skipped : at_clock (codes "[pt0o5]A[np]A") 0 ≡ Off
-unfolding at_clock
-an_on_time_of_none_is_skipped = refl
-
-times_are_those_at_the_end_of_a_page : map (at_clock (codes "A[np]A[pt10]")) (30 ∷ 40 ∷ []) ≡ Page 1 0 ∷ Page 0 0 ∷ []
-unfolding at_clock
-times_are_those_at_the_end_of_a_page = refl
-
-an_absent_page_time_is_the_default : at_clock (codes "[pt10o5]A[pt20][np]A") 20 ≡ Page 1 0
-unfolding at_clock
-an_absent_page_time_is_the_default = refl
+clocks = refl

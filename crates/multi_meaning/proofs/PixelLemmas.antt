@@ -1,5 +1,5 @@
 -- What things give a pixel of a page.
-use Rattle.std.proofs.Common.{◌≡◌, ℕ, cond, ◌&&◌, ◌==◌, List, [], ◌∷◌, Option, Some, None, refl, sym, ap, ◌∙◌}
+use Rattle.std.proofs.Common.{◌≡◌, ℕ, cond, ◌&&◌, ◌==◌, List, [], ◌∷◌, Option, Some, None, refl, sym, ◌∙◌}
 use Rattle.std.specs.List.{AllByRecursion, cons_option, filter_map}
 use Rattle.multi_meaning.specs.Picture.{Thing}
 use Rattle.multi_meaning.specs.Words.{some_after}
@@ -27,6 +27,5 @@ all_same page column row f g Holds same (x ∷ xs) hold =
     let f_rest = some_after (λ before. f (x ∷ before)) xs in
     let g_rest = some_after (λ before. g (x ∷ before)) xs in
     pick_cons page column row (f [] x) f_rest
-    ∙ ap (λ o. cons_option o (filter_map (pick page column row) f_rest)) (same [] x hold.0)
-    ∙ ap (λ l. cons_option (picked page column row (g [] x)) l) (all_same page column row (λ before. f (x ∷ before)) (λ before. g (x ∷ before)) Holds (λ before. same (x ∷ before)) xs hold.1)
+    ∙ (λ i. cons_option (same [] x hold.0 i) (all_same page column row (λ before. f (x ∷ before)) (λ before. g (x ∷ before)) Holds (λ before. same (x ∷ before)) xs hold.1 i))
     ∙ sym (pick_cons page column row (g [] x) g_rest)

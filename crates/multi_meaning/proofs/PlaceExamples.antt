@@ -5,49 +5,27 @@ use Rattle.multi_tag.specs.TagOf.{tag_of}
 use Rattle.sign_font.specs.Sample.{sample}
 use Rattle.multi_meaning.specs.Meaning.{meaning}
 use Rattle.multi_meaning.specs.Address.{spots, standing}
-use Rattle.multi_meaning.specs.declared.place.Place.{Place}
 use Rattle.multi_meaning.specs.Place.{place_of, places}
 
-unfoldable placed : List ℕ → List Place
+unfoldable placed : List ℕ → List (ℕ × ℕ)
 unfolding places place_of spots standing reading read_items read_item tag_of
-placed octets = places sample (map meaning (reading octets).items)
+placed octets = map (λ p. (p.column, p.row)) (places sample (map meaning (reading octets).items))
 
-one_character_stands_in_the_middle : placed (codes "A") ≡ record { column = 4; row = 2 } ∷ []
-unfolding placed
-one_character_stands_in_the_middle = refl
+-- the cells of the characters of these strings are at these columns and rows
+abbrev ArePlaced : List (List ℕ × List (ℕ × ℕ)) → Type 0
+ArePlaced rows = map (λ row. placed row.0) rows ≡ map (λ row. row.1) rows
 
-a_gap_of_none_puts_lines_together : placed (codes "A[nl0]A") ≡ record { column = 4; row = 0 } ∷ record { column = 4; row = 3 } ∷ []
+cells : ArePlaced (
+    (codes "A", (4, 2) ∷ []) ∷  -- one character stands in the middle
+    (codes "A[nl0]A", (4, 0) ∷ (4, 3) ∷ []) ∷  -- a gap of none puts lines together
+    (codes "A[nl]A", (4, 0) ∷ (4, 4) ∷ []) ∷  -- two lines with the usual gap
+    (codes "[fo2]A[fo1]A", (1, 1) ∷ (7, 3) ∷ []) ∷  -- two fonts stand on the bottom of their line
+    (codes "[jl5]AAA", (0, 2) ∷ (4, 2) ∷ (9, 2) ∷ []) ∷  -- a full line is spread
+    (codes "[jl2]I[jl3]AA[jl4]I", (0, 2) ∷ (2, 2) ∷ (6, 2) ∷ (11, 2) ∷ []) ∷  -- left centre and right
+    (codes "A[sc4]A", (1, 2) ∷ (8, 2) ∷ []) ∷  -- spacing in force at the later one
+    (codes "[jp2]A[jp4]A", (4, 0) ∷ (4, 4) ∷ []) ∷  -- top and bottom
+    (codes "[tr1,1,3,3]A[tr10,5,3,3]A", (0, 0) ∷ (9, 4) ∷ []) ∷  -- two rectangles
+    (codes "[tr1,1,3,3][np]A", (4, 2) ∷ []) ∷  -- a new page has the whole sign
+    [])
 unfolding placed
-a_gap_of_none_puts_lines_together = refl
-
-two_lines_with_the_usual_gap : placed (codes "A[nl]A") ≡ record { column = 4; row = 0 } ∷ record { column = 4; row = 4 } ∷ []
-unfolding placed
-two_lines_with_the_usual_gap = refl
-
-two_fonts_stand_on_the_bottom_of_their_line : placed (codes "[fo2]A[fo1]A") ≡ record { column = 1; row = 1 } ∷ record { column = 7; row = 3 } ∷ []
-unfolding placed
-two_fonts_stand_on_the_bottom_of_their_line = refl
-
-a_full_line_is_spread : placed (codes "[jl5]AAA") ≡ record { column = 0; row = 2 } ∷ record { column = 4; row = 2 } ∷ record { column = 9; row = 2 } ∷ []
-unfolding placed
-a_full_line_is_spread = refl
-
-left_centre_and_right : placed (codes "[jl2]I[jl3]AA[jl4]I") ≡ record { column = 0; row = 2 } ∷ record { column = 2; row = 2 } ∷ record { column = 6; row = 2 } ∷ record { column = 11; row = 2 } ∷ []
-unfolding placed
-left_centre_and_right = refl
-
-spacing_in_force_at_the_later_one : placed (codes "A[sc4]A") ≡ record { column = 1; row = 2 } ∷ record { column = 8; row = 2 } ∷ []
-unfolding placed
-spacing_in_force_at_the_later_one = refl
-
-top_and_bottom : placed (codes "[jp2]A[jp4]A") ≡ record { column = 4; row = 0 } ∷ record { column = 4; row = 4 } ∷ []
-unfolding placed
-top_and_bottom = refl
-
-two_rectangles : placed (codes "[tr1,1,3,3]A[tr10,5,3,3]A") ≡ record { column = 0; row = 0 } ∷ record { column = 9; row = 4 } ∷ []
-unfolding placed
-two_rectangles = refl
-
-a_new_page_has_the_whole_sign : placed (codes "[tr1,1,3,3][np]A") ≡ record { column = 4; row = 2 } ∷ []
-unfolding placed
-a_new_page_has_the_whole_sign = refl
+cells = refl

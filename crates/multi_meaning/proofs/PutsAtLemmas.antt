@@ -1,7 +1,6 @@
 -- The item that puts a spot of a group, and what an item shows that puts a space.
-use Rattle.std.proofs.Common.{◌≡◌, inl, inr, ℕ, ◌+◌, ◌<◌, ◌≤◌, Bool, true, false, ◌==◌, List, [], ◌∷◌, ◌++◌, length, Option, Some, None, refl, sym, ap, ◌∙◌, arith, append_assoc, append-nil, length-append}
-use Rattle.std.specs.Option.{option_map}
-use Rattle.std.proofs.lemmas.Bool.{cases_lt, eqb-true}
+use Rattle.std.proofs.Common.{◌≡◌, inl, inr, ℕ, ◌<◌, ◌≤◌, true, false, List, [], ◌∷◌, ◌++◌, length, Some, refl, sym, ap, ◌∙◌, arith, append_assoc, append-nil, length-append}
+use Rattle.std.proofs.lemmas.Bool.{cases_Bool, cases_lt, eqb-true}
 use Rattle.multi_tag.specs.declared.tag.Tag.TheVariants.{NewPage, NewLine, Back}
 use Rattle.sign_font.specs.declared.parts.Defaults.{Defaults}
 use Rattle.sign_font.specs.Sign.{SignData, CellData, cell_numbered}
@@ -11,7 +10,7 @@ use Rattle.multi_meaning.specs.Meaning.{Does, Meaning, Shows}
 use Rattle.multi_meaning.proofs.FoundLemmas.{found_cell}
 use Rattle.multi_meaning.proofs.GroupLaidLemmas.{is_member, members, members_push, members_with}
 use Rattle.multi_meaning.proofs.SpotsLemmas.{spots_behind, spots_more, spots_nothing, spots_with}
-use Rattle.multi_meaning.proofs.WordLemmas.{push_ind}
+use Rattle.multi_meaning.proofs.WordLemmas.{cases_Option, push_ind}
 
 -- SPACES
 
@@ -20,20 +19,20 @@ space_glyph at (Glyph cell) e = refl
 space_glyph at (Break gap) e = absurd cc
 space_glyph at (Cover page colour) e = absurd cc
 
-space_cell : (here : Standing) (number : ℕ) (put : Put) (o : Option CellData) → cell_numbered here.font number ≡ o → option_map Glyph o ≡ Some put → is_space (record { at = here; put = put }) ≡ true → number ≡ 32
-space_cell here number put None found e space = absurd cc
-space_cell here number put (Some cell) found e space =
-    let is : Glyph cell ≡ put = cc in
-    let space' : (cell.number == 32) ≡ true = ap (λ put. let s : Spot = record { at = here; put = put } in is_space s) is ∙ space in
-    sym (found_cell here.font.cells number cell found) ∙ eqb-true cell.number 32 space'
-
 -- an item that puts a space shows 32
 pub space_shown : (defaults : Defaults) (here : Standing) (x : Meaning) (put : Put) → put_at defaults here x ≡ Some put → is_space (record { at = here; put = put }) ≡ true → x ≡ Shows 32
-space_shown defaults here (Shows number) put e space = ap Shows (space_cell here number put (cell_numbered here.font number) refl e space)
-space_shown defaults here (Does (NewLine gap)) put e space = absurd (let is : Break gap ≡ put = cc in let wrong : false ≡ true = ap (λ put. let s : Spot = record { at = here; put = put } in is_space s) is ∙ space in cc)
-space_shown defaults here (Does NewPage) put e space = absurd (let is : Cover (here.page + 1) here.back ≡ put = cc in let wrong : false ≡ true = ap (λ put. let s : Spot = record { at = here; put = put } in is_space s) is ∙ space in cc)
-space_shown defaults here (Does (Back colour)) put e space = absurd (let is : Cover here.page (Rattle.std.specs.Option.unwrap_or colour defaults.back) ≡ put = cc in let wrong : false ≡ true = ap (λ put. let s : Spot = record { at = here; put = put } in is_space s) is ∙ space in cc)
-space_shown defaults here x put e space = absurd cc
+space_shown defaults here (Shows number) (Glyph cell) e space = elim (cases_Option (cell_numbered here.font number)) [
+  | inl none ↦ absurd (cc (rw none at e))
+  | inr (other, found) ↦
+      let same : other ≡ cell = cc (rw found at e) in
+      ap Shows (sym (found_cell here.font.cells number other found) ∙ ap (λ (c : CellData). c.number) same ∙ eqb-true cell.number 32 space)
+]
+space_shown defaults here (Does (NewLine gap)) (Glyph cell) e space = absurd cc
+space_shown defaults here (Does NewPage) (Glyph cell) e space = absurd cc
+space_shown defaults here (Does (Back colour)) (Glyph cell) e space = absurd cc
+space_shown defaults here x (Glyph cell) e space = absurd cc
+space_shown defaults here x (Break gap) e space = absurd cc
+space_shown defaults here x (Cover page colour) e space = absurd cc
 
 -- THE ITEM OF A SPOT
 
@@ -55,22 +54,26 @@ module _ (sign : SignData) (a j : ℕ) where
     pub member : is_member a j (spot_of front put) ≡ true
     pub place : length (own_of front) ≡ k
 
-  put_last : (k : ℕ) (items : List Meaning) (x : Meaning) (o : Option Put) → put_at sign.defaults (standing sign items) x ≡ o → length (own_of items) ≤ k → k < length (own_of (items ++ x ∷ [])) → PutsAt k (items ++ x ∷ [])
-  put_last k items x None puts late within = absurd (omega (arith, late, within, ap (λ l. length (members a j l)) (spots_nothing sign items x puts)))
-  put_last k items x (Some put) puts late within = by_member (is_member a j (spot_of items put)) refl
-    where
-      by_member : (b : Bool) → is_member a j (spot_of items put) ≡ b → PutsAt k (items ++ x ∷ [])
-      by_member false e = absurd (omega (arith, late, within, ap (λ l. length (members a j l)) (spots_more sign items x put puts), ap length (members_push a j (spots sign items) (spot_of items put) false e ∙ append-nil (own_of items))))
-      by_member true e = record {
-        front = items;
-        item = x;
-        more = [];
-        put = put;
-        is = refl;
-        puts = puts;
-        member = e;
-        place = omega (arith, late, within, ap (λ l. length (members a j l)) (spots_more sign items x put puts), ap length (members_push a j (spots sign items) (spot_of items put) true e), length-append (own_of items) (spot_of items put ∷ []));
-      }
+  put_last : (k : ℕ) (items : List Meaning) (x : Meaning) → length (own_of items) ≤ k → k < length (own_of (items ++ x ∷ [])) → PutsAt k (items ++ x ∷ [])
+  put_last k items x late within = elim (cases_Option (put_at sign.defaults (standing sign items) x)) [
+    | inl none ↦ absurd (omega (arith, late, within, ap (λ l. length (members a j l)) (spots_nothing sign items x none)))
+    | inr (put, puts) ↦
+        let s = spot_of items put in
+        let more = ap (λ l. length (members a j l)) (spots_more sign items x put puts) in
+        elim (cases_Bool (is_member a j s)) [
+          | inr e ↦ absurd (omega (arith, late, within, more, ap length (members_push a j (spots sign items) s false e ∙ append-nil (own_of items))))
+          | inl e ↦ record {
+            front = items;
+            item = x;
+            more = [];
+            put = put;
+            is = refl;
+            puts = puts;
+            member = e;
+            place = omega (arith, late, within, more, ap length (members_push a j (spots sign items) s true e), length-append (own_of items) (s ∷ []));
+          }
+        ]
+  ]
 
   put_none : (k : ℕ) → k < length (own_of []) → PutsAt k []
   unfolding spots
@@ -94,7 +97,7 @@ module _ (sign : SignData) (a j : ℕ) where
               member = h.member;
               place = h.place;
             }
-        | inr late ↦ put_last k items x (put_at sign.defaults (standing sign items) x) refl late within
+        | inr late ↦ put_last k items x late within
       ]
 
   -- the group has a spot more behind such an item

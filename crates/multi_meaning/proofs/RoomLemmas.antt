@@ -1,28 +1,27 @@
 -- The present area behind the items of an accepted string fits the rectangle in force, and has no more lines than the sign
 -- has rows.
-use Rattle.std.proofs.Common.{◌≡◌, ℕ, ◌+◌, ◌≤◌, Bool, true, false, cond, not, ◌&&◌, ◌||◌, length, List, [], ◌∷◌, ◌++◌, Option, Some, None, refl, sym, ap, subst, ◌∙◌, arith}
-use Rattle.std.specs.Prelude.{IsSome}
-use Rattle.std.specs.List.{after_last}
-use Rattle.std.specs.Option.{option_map, unwrap_or}
-use Rattle.std.proofs.lemmas.Bool.{false≢true, le-leb}
+use Rattle.std.proofs.Common.{◌≡◌, inl, inr, ℕ, ◌+◌, ◌≤◌, Bool, true, false, cond, ◌&&◌, ◌||◌, length, List, [], ◌∷◌, ◌++◌, Option, Some, None, refl, sym, ap, subst, ◌∙◌, arith, IsSome, option_map}
+use Rattle.std.proofs.lemmas.Bool.{le-leb, not-false, or_parts}
 use Rattle.multi_tag.specs.declared.tag.Tag.TheVariants.{NewPage, NewLine, Back, Rect}
-use Rattle.multi_tag.specs.Just.{page_number}
+use Rattle.sign_font.specs.declared.parts.LineFill.{LineFill}
 use Rattle.sign_font.specs.declared.parts.LineFill.TheVariants.{Off}
-use Rattle.sign_font.specs.Sign.{SignData, CellData, font_numbered, cell_numbered}
+use Rattle.sign_font.specs.Sign.{SignData, font_numbered, cell_numbered}
 use Rattle.sign_font.specs.Sound.{IsSound}
 use Rattle.multi_meaning.specs.declared.attributes.Rectangle.{Rectangle}
 use Rattle.multi_meaning.specs.Meaning.{Meaning, Shows, Does, begins_area}
 use Rattle.multi_meaning.specs.Attributes.{given_rectangle, whole_sign}
-use Rattle.multi_meaning.specs.Address.{Standing, area_of, standing, Put, Glyph, Break, Cover, Spot, put_at, spots, is_glyph, is_break, in_group, lines_of}
-use Rattle.multi_meaning.specs.Fit.{area_fits, line_fits}
+use Rattle.multi_meaning.specs.Address.{standing, Put, Glyph, Break, Spot, put_at, spots, is_glyph, is_break, in_group, lines_of}
+use Rattle.multi_meaning.specs.Fit.{area_fits}
 use Rattle.multi_meaning.specs.Laid.{too_big}
-use Rattle.multi_meaning.specs.Offence.{conflicts, offence}
+use Rattle.multi_meaning.specs.Offence.{offence}
 use Rattle.multi_meaning.specs.kept.Present.{present_area}
 use Rattle.multi_meaning.specs.kept.Fine.{IsFine}
+use Rattle.multi_meaning.specs.Words.{some_after}
 use Rattle.multi_meaning.proofs.InForceLemmas.{area_high, each_ind, rectangle_within}
+use Rattle.multi_meaning.proofs.WordLemmas.{cases_Option}
 use Rattle.multi_meaning.proofs.OffenceLemmas.{offence-undefined, offence-character, offence-break}
 use Rattle.multi_meaning.proofs.LinesFitLemmas.{lines_within}
-use Rattle.multi_meaning.proofs.StandingLemmas.{standing_push}
+use Rattle.multi_meaning.proofs.RectangleLemmas.{rectangle_stays}
 use Rattle.multi_meaning.proofs.StateLemmas.{present_area-placing, present_area-nothing, present_area-cover, present_area-new}
 
 -- ---- the present area
@@ -33,27 +32,20 @@ not_big true b e = cc
 not_big false true e = cc
 not_big false false e = refl
 
-none≢some : (n : ℕ) → Some n ≡ None → ⊥
-none≢some n e = cc
-
 -- what holds of an empty area in each rectangle, and stays where a placing item joins that isn't too big, holds of the present
 -- area of an accepted string
-module _ (sign : SignData) (P : Rectangle → List Spot → Type 0) (first : (r : Rectangle) → P r [])
+module _ (setting : LineFill) (sign : SignData) (P : Rectangle → List Spot → Type 0) (first : (r : Rectangle) → P r [])
     (joins : (before : List Meaning) (put : Put) → let spot : Spot = record { at = standing sign before; put = put } in
-    (is_glyph spot || is_break spot) ≡ true → too_big Off (spots sign before) spot ≡ false → P spot.at.rectangle (present_area sign before) → P spot.at.rectangle (present_area sign before ++ spot ∷ [])) where
+    (is_glyph spot || is_break spot) ≡ true → too_big setting (spots sign before) spot ≡ false → P spot.at.rectangle (present_area sign before) → P spot.at.rectangle (present_area sign before ++ spot ∷ [])) where
   -- it holds of the area of these items in the rectangle in force
   abbrev Holds : List Meaning → Type 0
   Holds items = P (standing sign items).rectangle (present_area sign items)
 
-  first_holds : Holds []
+  pub first_holds : Holds []
   unfolding standing spots
   first_holds = first (whole_sign sign)
 
   module _ (before : List Meaning) (x : Meaning) where
-    -- an item that gives no rectangle leaves it
-    same_rectangle : given_rectangle sign x ≡ None → (standing sign (before ++ x ∷ [])).rectangle ≡ (standing sign before).rectangle
-    same_rectangle gives = ap (λ (s : Standing). s.rectangle) (standing_push sign before x) ∙ ap (λ o. unwrap_or o (standing sign before).rectangle) gives
-
     -- an area that begins is empty
     holds_new : begins_area x ≡ true → Holds (before ++ x ∷ [])
     holds_new begins =
@@ -63,63 +55,38 @@ module _ (sign : SignData) (P : Rectangle → List Spot → Type 0) (first : (r 
     -- the area behind the item, by what it is and by the rectangle before the item
     holds_by : (area : List Spot) → given_rectangle sign x ≡ None → present_area sign (before ++ x ∷ []) ≡ area → P (standing sign before).rectangle area → Holds (before ++ x ∷ [])
     holds_by area gives is holds =
-        subst (λ (r : Rectangle). P r (present_area sign (before ++ x ∷ []))) (sym (same_rectangle gives))
+        subst (λ (r : Rectangle). P r (present_area sign (before ++ x ∷ []))) (sym (rectangle_stays sign before x gives))
         (subst (P (standing sign before).rectangle) (sym is) holds)
-
-    -- an item that begins no area and puts nothing leaves it
-    holds_same : given_rectangle sign x ≡ None → begins_area x ≡ false → put_at sign.defaults (standing sign before) x ≡ None → Holds before → Holds (before ++ x ∷ [])
-    holds_same gives stays puts old = holds_by (present_area sign before) gives (present_area-nothing sign before x stays puts) old
 
     -- a placing item joins it
     holds_placing : (put : Put) → let spot : Spot = record { at = standing sign before; put = put } in
         given_rectangle sign x ≡ None → begins_area x ≡ false → put_at sign.defaults (standing sign before) x ≡ Some put → (is_glyph spot || is_break spot) ≡ true
-        → too_big Off (spots sign before) spot ≡ false → Holds before → Holds (before ++ x ∷ [])
+        → too_big setting (spots sign before) spot ≡ false → Holds before → Holds (before ++ x ∷ [])
     holds_placing put gives stays puts placing small old =
         let spot : Spot = record { at = standing sign before; put = put } in
         holds_by (present_area sign before ++ spot ∷ []) gives (present_area-placing sign before x put stays puts placing) (joins before put placing small old)
 
-  module _ (before : List Meaning) where
-    holds_character : (number : ℕ) (o : Option CellData) → cell_numbered (standing sign before).font number ≡ o → offence Off sign before (Shows number) ≡ None → Holds before → Holds (before ++ Shows number ∷ [])
-    holds_character number None found none old = absurd (none≢some 7 (sym (offence-undefined (too_big Off) sign before number found) ∙ none))
-    holds_character number (Some cell) found none old =
-        let spot : Spot = record { at = standing sign before; put = Glyph cell } in
-        let spots_before = spots sign before in
-        holds_placing before (Shows number) (Glyph cell) refl refl (ap (option_map Glyph) found) refl
-        (not_big (conflicts spots_before spot) (too_big Off spots_before spot) (sym (offence-character (too_big Off) sign before number cell found) ∙ none)) old
-
-    holds_break : (gap : Option ℕ) → offence Off sign before (Does (NewLine gap)) ≡ None → Holds before → Holds (before ++ Does (NewLine gap) ∷ [])
-    holds_break gap none old =
-        let spot : Spot = record { at = standing sign before; put = Break gap } in
-        let spots_before = spots sign before in
-        holds_placing before (Does (NewLine gap)) (Break gap) refl refl refl refl
-        (not_big (conflicts spots_before spot) (too_big Off spots_before spot) (sym (offence-break (too_big Off) sign before gap) ∙ none)) old
-
-    holds_cover : (colour : Option ℕ) → Holds before → Holds (before ++ Does (Back colour) ∷ [])
-    holds_cover colour old =
-        let here = standing sign before in
-        holds_by before (Does (Back colour)) (present_area sign before) refl (present_area-cover sign before (Does (Back colour)) (Cover here.page (unwrap_or colour sign.defaults.back)) refl refl refl) old
+  holds_character : (before : List Meaning) (number : ℕ) → offence setting sign before (Shows number) ≡ None → Holds before → Holds (before ++ Shows number ∷ [])
+  holds_character before number none old = elim (cases_Option (cell_numbered (standing sign before).font number)) [
+    | inl undefined ↦ absurd (let wrong : ◌≡◌ {A = Option ℕ} (Some 7) None = sym (offence-undefined (too_big setting) sign before number undefined) ∙ none in cc)
+    | inr (cell, found) ↦ holds_placing before (Shows number) (Glyph cell) refl refl (ap (option_map Glyph) found) refl (not_big _ _ (sym (offence-character (too_big setting) sign before number cell found) ∙ none)) old
+  ]
 
   -- it holds behind one more item that doesn't offend
-  next_holds : (before : List Meaning) (x : Meaning) → offence Off sign before x ≡ None → Holds before → Holds (before ++ x ∷ [])
-  next_holds before (Shows number) none old = holds_character before number (cell_numbered (standing sign before).font number) refl none old
-  next_holds before (Does (NewLine gap)) none old = holds_break before gap none old
+  pub next_holds : (before : List Meaning) (x : Meaning) → offence setting sign before x ≡ None → Holds before → Holds (before ++ x ∷ [])
+  next_holds before (Shows number) none old = holds_character before number none old
+  next_holds before (Does (NewLine gap)) none old = holds_placing before (Does (NewLine gap)) (Break gap) refl refl refl refl (not_big _ _ (sym (offence-break (too_big setting) sign before gap) ∙ none)) old
   next_holds before (Does NewPage) none old = holds_new before (Does NewPage) refl
   next_holds before (Does (Rect x y w h)) none old = holds_new before (Does (Rect x y w h)) refl
-  next_holds before (Does (Back colour)) none old = holds_cover before colour old
-  next_holds before x none old = holds_same before x refl refl refl old
+  next_holds before (Does (Back colour)) none old = holds_by before (Does (Back colour)) (present_area sign before) refl (present_area-cover sign before (Does (Back colour)) _ refl refl refl) old
+  next_holds before x none old = holds_by before x (present_area sign before) refl (present_area-nothing sign before x refl refl) old
 
-  pub holds_always : (items : List Meaning) → IsFine sign items → P (standing sign items).rectangle (present_area sign items)
-  holds_always = each_ind sign (offence Off sign) Holds first_holds next_holds
+  pub holds_always : (items : List Meaning) → some_after (offence setting sign) items ≡ [] → P (standing sign items).rectangle (present_area sign items)
+  holds_always = each_ind sign (offence setting sign) Holds first_holds next_holds
 
 -- an area without items fits
 fits_none : (height : ℕ) → area_fits height [] ≡ true
 fits_none height = ap (λ b. b && true) (le-leb 0 height (omega arith))
-
--- where an item isn't too big, its area fits
-fits_where : (a b : Bool) → (a || not b) ≡ false → b ≡ true
-fits_where true b e = absurd (false≢true (sym e))
-fits_where false true e = refl
-fits_where false false e = absurd (false≢true (sym e))
 
 -- an area fits a rectangle
 abbrev Fitting : Rectangle → List Spot → Type 0
@@ -127,22 +94,20 @@ Fitting r area = area_fits r.height area ≡ true
 
 fits_joined : (sign : SignData) (before : List Meaning) (put : Put) → let spot : Spot = record { at = standing sign before; put = put } in
     (is_glyph spot || is_break spot) ≡ true → too_big Off (spots sign before) spot ≡ false → Fitting spot.at.rectangle (present_area sign before) → Fitting spot.at.rectangle (present_area sign before ++ spot ∷ [])
-fits_joined sign before put placing small old =
-    let spot : Spot = record { at = standing sign before; put = put } in
-    fits_where (is_glyph spot && not (line_fits spot.at.rectangle.width (after_last is_break (in_group (page_number spot.at.page_just) (area_of spot (spots sign before) ++ spot ∷ []))))) (area_fits spot.at.rectangle.height (present_area sign before ++ spot ∷ [])) small
+fits_joined sign before put placing small old = not-false _ (or_parts _ _ small).1
 
 -- behind one more item that doesn't offend the present area fits the rectangle in force, if it does before it
 pub fits_next : (sign : SignData) (before : List Meaning) (x : Meaning) → offence Off sign before x ≡ None → area_fits (standing sign before).rectangle.height (present_area sign before) ≡ true
     → area_fits (standing sign (before ++ x ∷ [])).rectangle.height (present_area sign (before ++ x ∷ [])) ≡ true
-fits_next sign = next_holds sign Fitting (λ r. fits_none r.height) (fits_joined sign)
+fits_next sign = next_holds Off sign Fitting (λ r. fits_none r.height) (fits_joined sign)
 
 -- before the first item it does
 pub fits_first : (sign : SignData) → area_fits (standing sign []).rectangle.height (present_area sign []) ≡ true
-fits_first sign = first_holds sign Fitting (λ r. fits_none r.height) (fits_joined sign)
+fits_first sign = first_holds Off sign Fitting (λ r. fits_none r.height) (fits_joined sign)
 
 -- behind the items of an accepted string the present area fits the rectangle in force
 pub area_fits_always : (sign : SignData) (items : List Meaning) → IsFine sign items → area_fits (standing sign items).rectangle.height (present_area sign items) ≡ true
-area_fits_always sign = holds_always sign Fitting (λ r. fits_none r.height) (fits_joined sign)
+area_fits_always sign = holds_always Off sign Fitting (λ r. fits_none r.height) (fits_joined sign)
 
 -- ---- room for the lines of an area
 

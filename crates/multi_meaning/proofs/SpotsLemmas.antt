@@ -1,22 +1,19 @@
 -- What the items behind some others put: they leave what was put before, go on with its page and its area, and put nothing into
 -- an area that ended.
-use Rattle.std.proofs.Common.{◌≡◌, ℕ, ◌+◌, ◌≤◌, true, false, cond, ◌&&◌, ◌||◌, ◌==◌, List, [], ◌∷◌, ◌++◌, Option, Some, None, refl, sym, ap, ◌∙◌, arith, append-nil, append_assoc, subst, inl, inr}
-use Rattle.std.specs.List.{cons_option, All}
-use Rattle.std.specs.Option.{option_map, unwrap_or}
-use Rattle.std.proofs.lemmas.Bool.{eq-eqb, ne_eqb, and_right}
-use Rattle.std.proofs.lemmas.List.Elements.{All-nil, All-cons, All-head, All-tail, All-weaker}
+use Rattle.std.proofs.Common.{◌≡◌, ℕ, ◌+◌, ◌≤◌, true, false, cond, List, [], ◌∷◌, ◌++◌, Option, Some, None, refl, sym, ap, ◌∙◌, arith, append-nil, append_assoc, inl, inr, IfSome, option_map, eq-eqb}
+use Rattle.std.specs.List.{cons_option, All, Contains}
+use Rattle.std.proofs.lemmas.List.Elements.{All-contains_itself, All-weaker, All-nil, All-cons, All-head, All-tail}
 use Rattle.std.proofs.lemmas.List.Sums.{sum_by-append}
 use Rattle.multi_tag.specs.declared.tag.Tag.TheVariants.{NewPage, NewLine, Back, Rect}
 use Rattle.sign_font.specs.declared.parts.Defaults.{Defaults}
 use Rattle.sign_font.specs.Sign.{SignData, CellData, cell_numbered}
-use Rattle.multi_meaning.specs.Address.{Standing, standing, Put, Glyph, Break, Cover, Spot, spot_at, put_at, spots, is_glyph, is_break, in_area}
+use Rattle.multi_meaning.specs.Address.{Standing, standing, Put, Glyph, Cover, Spot, spot_at, put_at, spots, in_area}
 use Rattle.multi_meaning.specs.Meaning.{Meaning, Shows, Does, is_new_page, begins_area, EndsArea}
 use Rattle.multi_meaning.specs.Words.{some_after}
-use Rattle.multi_meaning.proofs.WordLemmas.{some_after-append}
+use Rattle.multi_meaning.proofs.WordLemmas.{cases_Option, push_ind, some_after-append}
 use Rattle.multi_meaning.proofs.LayoutLemmas.{spots_push}
-use Rattle.multi_meaning.proofs.AreaLemmas.{filter_none}
 use Rattle.multi_meaning.proofs.StandingLemmas.{standing_push}
-use Rattle.multi_meaning.proofs.StateLemmas.{in_area-append}
+use Rattle.multi_meaning.proofs.StateLemmas.{in_area-append, other_area}
 
 -- what the items behind some others put
 abbrev pub spots_behind : SignData → List Meaning → List Meaning → List Spot
@@ -33,39 +30,27 @@ spots_append sign before behind = (spots_behind sign before behind, spots_split 
 
 -- one more item that puts nothing
 pub spots_nothing : (sign : SignData) (before : List Meaning) (x : Meaning) → put_at sign.defaults (standing sign before) x ≡ None → spots sign (before ++ x ∷ []) ≡ spots sign before
-spots_nothing sign before x is =
-    let here = standing sign before in
-    spots_push sign before x
-    ∙ ap (λ o. spots sign before ++ cons_option (option_map (λ p. let s : Spot = record { at = here; put = p } in s) o) []) is
-    ∙ append-nil (spots sign before)
+spots_nothing sign before x is = spots_push sign before x ∙ rw is (append-nil (spots sign before))
 
 -- one more item that puts something
 pub spots_more : (sign : SignData) (before : List Meaning) (x : Meaning) (put : Put) → put_at sign.defaults (standing sign before) x ≡ Some put
     → spots sign (before ++ x ∷ []) ≡ spots sign before ++ record { at = standing sign before; put = put } ∷ []
-spots_more sign before x put is =
-    let here = standing sign before in
-    spots_push sign before x ∙ ap (λ o. spots sign before ++ cons_option (option_map (λ p. let s : Spot = record { at = here; put = p } in s) o) []) is
-
--- all items, cut behind one of them
-spots_cut : (sign : SignData) (before : List Meaning) (x : Meaning) (rest : List Meaning)
-    → spots sign (before ++ x ∷ rest) ≡ spots sign (before ++ x ∷ []) ++ spots_behind sign (before ++ x ∷ []) rest
-spots_cut sign before x rest = ap (spots sign) (sym (append_assoc before (x ∷ []) rest)) ∙ spots_split sign (before ++ x ∷ []) rest
+spots_more sign before x put is = spots_push sign before x ∙ rw is refl
 
 -- all items, with one of them that puts something
 pub spots_with : (sign : SignData) (before : List Meaning) (x : Meaning) (rest : List Meaning) (put : Put) → put_at sign.defaults (standing sign before) x ≡ Some put
     → spots sign (before ++ x ∷ rest) ≡ spots sign before ++ record { at = standing sign before; put = put } ∷ spots_behind sign (before ++ x ∷ []) rest
 spots_with sign before x rest put is =
     let more = spots_behind sign (before ++ x ∷ []) rest in
-    spots_cut sign before x rest
+    ap (spots sign) (sym (append_assoc before (x ∷ []) rest)) ∙ spots_split sign (before ++ x ∷ []) rest
     ∙ ap (λ l. l ++ more) (spots_more sign before x put is)
     ∙ append_assoc (spots sign before) (record { at = standing sign before; put = put } ∷ []) more
 
 -- an item that is no new page leaves the page
 pub same_page_behind : (sign : SignData) (before : List Meaning) (x : Meaning) → is_new_page x ≡ false → (standing sign (before ++ x ∷ [])).page ≡ (standing sign before).page
 same_page_behind sign before x stays =
-    let none : cond {A = ℕ} (is_new_page x) 1 0 ≡ 0 = ap (λ b. cond b 1 0) stays in
     let next : (standing sign (before ++ x ∷ [])).page ≡ (standing sign before).page + cond (is_new_page x) 1 0 = ap (λ (s : Standing). s.page) (standing_push sign before x) in
-    omega (arith, next, none)
+    omega (arith, rw stays at next)
 
 -- behind a new page stands the next page
 pub next_page_behind : (sign : SignData) (before : List Meaning) → (standing sign (before ++ Does NewPage ∷ [])).page ≡ (standing sign before).page + 1
@@ -75,22 +60,15 @@ next_page_behind sign before = ap (λ (s : Standing). s.page) (standing_push sig
 pub same_back : (sign : SignData) (before : List Meaning) → (standing sign (before ++ Does NewPage ∷ [])).back ≡ (standing sign before).back
 same_back sign before = ap (λ (s : Standing). s.back) (standing_push sign before (Does NewPage))
 
--- an item or none, and more items
-all_cons : {X : Type 0} (P : X → Type 0) (o : Option X) (xs : List X) → All P (cons_option o []) → All P xs → All P (cons_option o xs)
-all_cons P None xs first rest = rest
-all_cons P (Some x) xs first rest = All-cons P x xs (All-head P x [] first) rest
-
 -- what f makes of each of some items has a property
-pub some_all : {X Y : Type 0} (P : X → Type 0) (Q : Y → Type 0) (f : List X → X → Option Y) (xs : List X) → All P xs → ((before : List X) (x : X) → P x → All Q (cons_option (f before x) [])) → All Q (some_after f xs)
+pub some_all : {X Y : Type 0} (P : X → Type 0) (Q : Y → Type 0) (f : List X → X → Option Y) (xs : List X) → All P xs → ((before : List X) (x : X) → P x → IfSome (f before x) Q) → All Q (some_after f xs)
 some_all P Q f [] h each = All-nil Q
 some_all P Q f (x ∷ xs) h each =
-    all_cons Q (f [] x) (some_after (λ before. f (x ∷ before)) xs) (each [] x (All-head P x xs h))
-    (some_all P Q (λ before. f (x ∷ before)) xs (All-tail P x xs h) (λ before y p. each (x ∷ before) y p))
-
--- what holds of everything holds of each
-all_any : {X : Type 0} (xs : List X) → All (λ x. Unit {0}) xs
-all_any [] = All-nil (λ x. Unit {0})
-all_any (x ∷ xs) = All-cons (λ x. Unit {0}) x xs tt (all_any xs)
+    let rest = some_all P Q (λ before. f (x ∷ before)) xs (All-tail P x xs h) (λ before. each (x ∷ before)) in
+    elim (cases_Option (f [] x)) [
+      | inl none ↦ rw none rest
+      | inr (y, e) ↦ rw e (All-cons Q y (some_after (λ before. f (x ∷ before)) xs) (rw e at (each [] x (All-head P x xs h))) rest)
+    ]
 
 -- the page of what is put
 abbrev pub page_put : Standing → Put → ℕ
@@ -101,20 +79,12 @@ page_put at _ = at.page
 abbrev pub IsFrom : ℕ → Spot → Type 0
 IsFrom page s = page ≤ page_put s.at s.put
 
-module _ (here : Standing) (low : ℕ) (reached : low ≤ here.page) where
-  put_page : (put : Put) → low ≤ page_put here put → All (IsFrom low) (record { at = here; put = put } ∷ [])
-  put_page put h = All-cons (IsFrom low) (record { at = here; put = put }) [] h (All-nil (IsFrom low))
-
-  glyph_page : (o : Option CellData) → All (IsFrom low) (cons_option (option_map (λ p. let s : Spot = record { at = here; put = p } in s) (option_map Glyph o)) [])
-  glyph_page None = All-nil (IsFrom low)
-  glyph_page (Some cell) = put_page (Glyph cell) reached
-
-  spot_page : (defaults : Defaults) (x : Meaning) → All (IsFrom low) (cons_option (spot_at defaults here x) [])
-  spot_page defaults (Shows number) = glyph_page (cell_numbered here.font number)
-  spot_page defaults (Does (NewLine gap)) = put_page (Break gap) reached
-  spot_page defaults (Does NewPage) = put_page (Cover (here.page + 1) here.back) (omega arith)
-  spot_page defaults (Does (Back colour)) = put_page (Cover here.page (unwrap_or colour defaults.back)) reached
-  spot_page defaults _ = All-nil (IsFrom low)
+spot_page : (here : Standing) (low : ℕ) → low ≤ here.page → (defaults : Defaults) (x : Meaning) → IfSome (spot_at defaults here x) (IsFrom low)
+spot_page here low reached defaults (Shows number) = elim (cases_Option (cell_numbered here.font number)) [ inl none ↦ rw none tt | inr (cell, found) ↦ rw found reached ]
+spot_page here low reached defaults (Does (NewLine gap)) = reached
+spot_page here low reached defaults (Does NewPage) = omega arith
+spot_page here low reached defaults (Does (Back colour)) = reached
+spot_page here low reached defaults _ = tt
 
 -- pages don't fall along the items, nor do areas
 page_on : (sign : SignData) (before more : List Meaning) → (standing sign before).page ≤ (standing sign (before ++ more)).page
@@ -129,32 +99,8 @@ area_on sign before more = omega (arith, sum_by-append (λ x. cond (begins_area 
 pub pages_behind : (sign : SignData) (before behind : List Meaning) → All (IsFrom (standing sign before).page) (spots_behind sign before behind)
 pages_behind sign before behind =
     let low = (standing sign before).page in
-    some_all (λ x. Unit {0}) (IsFrom low) (λ more item. spot_at sign.defaults (standing sign (before ++ more)) item) behind (all_any behind)
+    some_all (λ x. Unit {0}) (IsFrom low) (λ more item. spot_at sign.defaults (standing sign (before ++ more)) item) behind (All-weaker (Contains behind) (λ x. Unit {0}) (λ x _. tt) behind (All-contains_itself behind))
     (λ more x _. spot_page (standing sign (before ++ more)) low (page_on sign before more) sign.defaults x)
-
--- a spot is of this area or a later one
-abbrev IsLater : ℕ → Spot → Type 0
-IsLater low s = low ≤ s.at.area
-
-spot_area : (defaults : Defaults) (here : Standing) (low : ℕ) (x : Meaning) → low ≤ here.area → All (IsLater low) (cons_option (spot_at defaults here x) [])
-spot_area defaults here low x reached = go (put_at defaults here x)
-  where
-    go : (o : Option Put) → All (IsLater low) (cons_option (option_map (λ p. let s : Spot = record { at = here; put = p } in s) o) [])
-    go None = All-nil (IsLater low)
-    go (Some put) = All-cons (IsLater low) (record { at = here; put = put }) [] reached (All-nil (IsLater low))
-
--- what the items behind some others put is of their area or a later one
-areas_behind : (sign : SignData) (before behind : List Meaning) → All (IsLater (standing sign before).area) (spots_behind sign before behind)
-areas_behind sign before behind =
-    let low = (standing sign before).area in
-    some_all (λ x. Unit {0}) (IsLater low) (λ more item. spot_at sign.defaults (standing sign (before ++ more)) item) behind (all_any behind)
-    (λ more x _. spot_area sign.defaults (standing sign (before ++ more)) low x (area_on sign before more))
-
--- spots of later areas are not in an area
-area_later : (k : ℕ) (spots : List Spot) → All (IsLater (k + 1)) spots → in_area k spots ≡ []
-area_later k spots later =
-    let test = λ (t : Spot). (is_glyph t || is_break t) && (t.at.area == k) in
-    filter_none test spots (All-weaker (IsLater (k + 1)) (λ t. test t ≡ false) (λ t h. and_right (is_glyph t || is_break t) (t.at.area == k) (ne_eqb t.at.area k (λ e. omega arith))) spots later)
 
 -- an item that begins an area places nothing
 begins_none : (k : ℕ) (defaults : Defaults) (here : Standing) (x : Meaning) → begins_area x ≡ true → in_area k (cons_option (spot_at defaults here x) []) ≡ []
@@ -171,20 +117,13 @@ module _ (sign : SignData) (before : List Meaning) where
   ends_next : (x : Meaning) (rest : List Meaning) → begins_area x ≡ true
       → in_area (standing sign before).area (spots sign (before ++ x ∷ rest)) ≡ in_area (standing sign before).area (spots sign before)
   ends_next x rest begins =
-      let at = standing sign before in
+      let k = (standing sign before).area in
       let next = before ++ x ∷ [] in
-      let one = cons_option (spot_at sign.defaults at x) [] in
-      let more = spots_behind sign next rest in
-      let is : spots sign (before ++ x ∷ rest) ≡ (spots sign before ++ one) ++ more =
-      spots_cut sign before x rest ∙ ap (λ l. l ++ more) (spots_push sign before x) in
-      let later : in_area at.area more ≡ [] = area_later at.area more (subst (λ low. All (IsLater low) more) (area_next x begins) (areas_behind sign next rest)) in
-      ap (in_area at.area) is
-      ∙ in_area-append at.area (spots sign before ++ one) more
-      ∙ ap (λ l. in_area at.area (spots sign before ++ one) ++ l) later
-      ∙ append-nil (in_area at.area (spots sign before ++ one))
-      ∙ in_area-append at.area (spots sign before) one
-      ∙ ap (λ l. in_area at.area (spots sign before) ++ l) (begins_none at.area sign.defaults at x begins)
-      ∙ append-nil (in_area at.area (spots sign before))
+      let later = push_ind (λ rest. in_area k (spots sign (next ++ rest)) ≡ in_area k (spots sign next)) (ap (λ l. in_area k (spots sign l)) (append-nil next)) (λ rest y ih.
+      ap (λ l. in_area k (spots sign l)) (sym (append_assoc next rest (y ∷ []))) ∙ other_area sign (next ++ rest) y k (λ e. omega (arith, e, area_on sign next rest, area_next x begins)) ∙ ih) in
+      ap (λ l. in_area k (spots sign l)) (sym (append_assoc before (x ∷ []) rest)) ∙ later rest
+      ∙ ap (in_area k) (spots_push sign before x) ∙ in_area-append k (spots sign before) (cons_option (spot_at sign.defaults (standing sign before) x) [])
+      ∙ rw (begins_none k sign.defaults (standing sign before) x begins) (append-nil (in_area k (spots sign before)))
 
   -- where an area ends, the rest of the string puts nothing into it
   pub area_ends : (behind : List Meaning) → EndsArea behind

@@ -1,11 +1,11 @@
 -- The times of pages, and the page at a clock.
-use Rattle.std.proofs.Common.{◌≡◌, ℕ, zero, suc, ◌+◌, ◌-◌, ◌%◌, ◌<◌, ◌≤◌, Bool, true, false, ◌||◌, ◌==◌, cond, nat_le, length, take, get_or, List, [], ◌∷◌, ◌++◌, Option, Some, None, refl, sym, ap, ◌∙◌, inl, inr, arith}
-use Rattle.std.specs.List.{find, range_with_len, slice_get, count_by}
-use Rattle.std.specs.Option.{option_map_or}
-use Rattle.std.proofs.lemmas.Bool.{lt-ltb, le-ltb, le-leb, lt-leb, and_left, and_right, and_from, cases_Bool, cases_eq, cases_order, cond-true, cond-false}
-use Rattle.std.proofs.lemmas.List.{append_assoc, append-nil, length-append, take-take}
+use Rattle.std.proofs.Common.{◌≡◌, ℕ, zero, suc, ◌+◌, ◌-◌, ◌%◌, ◌<◌, ◌≤◌, Bool, true, false, ◌||◌, ◌==◌, cond, nat_le, length, take, get_or, List, [], ◌∷◌, ◌++◌, Option, Some, None, refl, sym, ap, ◌∙◌, inl, inr, arith, append_assoc, append-nil, length-append, take-take}
+use Rattle.std.specs.List.{find, position_or_len, range_with_len, slice_get, count_by}
+use Rattle.std.proofs.lemmas.Bool.{lt-ltb, le-ltb, le-leb, lt-leb, and_left, and_right, and_from, cases_Bool, cases_eq, cases_order}
 use Rattle.std.proofs.lemmas.List.Sums.{sum_by-append, sum_by-cons, sum_by_push, sum_by_more, sum_by-take-le}
-use Rattle.std.proofs.lemmas.Option.{slice_get-get_or}
+use Rattle.std.proofs.lemmas.List.Folds.{find_at}
+use Rattle.std.proofs.lemmas.List.FromFn.{get_or-range_with_len, length-range_with_len}
+use Rattle.std.proofs.lemmas.Option.{get_or_from_slice_get, slice_get-get_or, slice_get_within}
 use Rattle.std.proofs.Math.Seq.{take-append_seam, get_or-append_seam}
 use Rattle.sign_font.specs.Sign.{SignData}
 use Rattle.multi_tag.specs.declared.tag.Tag.TheVariants.{NewPage}
@@ -15,7 +15,7 @@ use Rattle.multi_meaning.specs.declared.times.Shown.TheVariants.{Page, Off}
 use Rattle.multi_meaning.specs.Times.{Times, begin, cycle, ended_times, is_on, page_times, shown, shown_at, shown_within, times_at}
 use Rattle.multi_meaning.specs.Verdict.{pages_of}
 use Rattle.multi_meaning.specs.Words.{some_after}
-use Rattle.multi_meaning.proofs.WordLemmas.{some_after-append}
+use Rattle.multi_meaning.proofs.WordLemmas.{cases_Option, some_after-append}
 
 -- THE CYCLE
 
@@ -35,17 +35,14 @@ cycle_within before after here =
 find_first : (p : ℕ → Bool) (a n k : ℕ) → a ≤ k → k < a + n → p k ≡ true → ((j : ℕ) → a ≤ j → j < k → p j ≡ false) → find p (range_with_len a n) ≡ Some k
 find_first p a zero k from below passes fails = absurd (omega arith)
 find_first p a (suc n) k from below passes fails = elim (cases_eq a k) [
-  | inl e ↦ cond-true (p a) (Some a) (find p (range_with_len (a + 1) n)) (ap p e ∙ passes) ∙ ap (λ j. Some j) e
-  | inr e ↦ cond-false (p a) (Some a) (find p (range_with_len (a + 1) n)) (fails a (omega arith) (omega arith))
-      ∙ find_first p (a + 1) n k (omega arith) (omega arith) passes (λ j g. fails j (omega arith))
+  | inl e ↦ rw (ap p e ∙ passes) (ap (λ j. Some j) e)
+  | inr e ↦ rw (fails a (omega arith) (omega arith)) (find_first p (a + 1) n k (omega arith) (omega arith) passes (λ j g. fails j (omega arith)))
 ]
 
 -- where no number of a range passes a test, none is found
 find_none : (p : ℕ → Bool) (a n : ℕ) → ((j : ℕ) → a ≤ j → j < a + n → p j ≡ false) → find p (range_with_len a n) ≡ None
 find_none p a zero fails = refl
-find_none p a (suc n) fails =
-    cond-false (p a) (Some a) (find p (range_with_len (a + 1) n)) (fails a (omega arith) (omega arith))
-    ∙ find_none p (a + 1) n (λ j g h. fails j (omega arith) (omega arith))
+find_none p a (suc n) fails = rw (fails a (omega arith) (omega arith)) (find_none p (a + 1) n (λ j g h. fails j (omega arith) (omega arith)))
 
 -- a later page begins no earlier
 begins_later : (pages : List Times) (j k : ℕ) → j ≤ k → begin pages j ≤ begin pages k
@@ -167,27 +164,21 @@ times_count sign items =
 
 -- what is found in a range is below its end
 found_below : (p : ℕ → Bool) (a n k : ℕ) → find p (range_with_len a n) ≡ Some k → k < a + n
-found_below p a zero k is = absurd cc
-found_below p a (suc n) k is = elim (cases_Bool (p a)) [
-  | inl e ↦
-      let here : Some a ≡ Some k = sym (cond-true (p a) (Some a) (find p (range_with_len (a + 1) n)) e) ∙ is in
-      let same : a ≡ k = cc in
-      omega arith
-  | inr e ↦
-      let below : k < a + 1 + n = found_below p (a + 1) n k (sym (cond-false (p a) (Some a) (find p (range_with_len (a + 1) n)) e) ∙ is) in
-      omega arith
-]
-
-page_found : (pages : List Times) (time page phase : ℕ) (found : Option ℕ) → find (is_on pages time) (range_with_len 0 (length pages)) ≡ found
-    → option_map_or (λ k. Page k (time - begin pages k)) found Off ≡ Page page phase → page < length pages
-page_found pages time page phase None from is = absurd cc
-page_found pages time page phase (Some k) from is =
-    let same : k ≡ page = cc in
-    omega (arith, found_below (is_on pages time) 0 (length pages) k from)
+found_below p a n k is =
+    let range = range_with_len a n in
+    let i = position_or_len p range in
+    let at : slice_get range i ≡ Some k = sym (find_at p range) ∙ is in
+    let within : i < n = omega (arith, slice_get_within range i k at, length-range_with_len a n) in
+    omega (arith, within, get_or_from_slice_get range i k 0 at, get_or-range_with_len a n i 0 within)
 
 within_below : (pages : List Times) (time page phase : ℕ) → shown_within pages time ≡ Page page phase → page < length pages
 unfolding shown_within
-within_below pages time page phase is = page_found pages time page phase _ refl is
+within_below pages time page phase is = elim (cases_Option (find (is_on pages time) (range_with_len 0 (length pages)))) [
+  | inl none ↦ absurd (cc (rw none at is))
+  | inr (k, found) ↦
+      let same : k ≡ page = cc (rw found at is) in
+      omega (arith, same, found_below (is_on pages time) 0 (length pages) k found)
+]
 
 at_below : (pages : List Times) (clock page phase : ℕ) → 0 < length pages → shown_at pages clock ≡ Page page phase → page < length pages
 at_below pages clock page phase some is = elim (cases_Bool ((length pages == 1) || (cycle pages == 0))) [

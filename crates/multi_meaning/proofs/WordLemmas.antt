@@ -1,15 +1,19 @@
 -- The words on lists, at one more item and at two lists.
-use Rattle.std.proofs.Common.{◌≡◌, ℕ, ◌+◌, ◌≤◌, max, length, List, [], ◌∷◌, ◌++◌, Option, Some, None, suc, refl, sym, ap, subst, ◌∙◌, arith}
+use Rattle.std.proofs.Common.{◌≡◌, ◌⊎◌, inl, inr, ℕ, ◌+◌, ◌≤◌, max, length, List, [], ◌∷◌, ◌++◌, Option, Some, None, suc, refl, sym, ap, subst, ◌∙◌, arith, append_assoc, append-nil}
 use Rattle.std.specs.List.{sum_by, filter_map, last_or, cons_option, All}
 use Rattle.std.specs.Option.{option_map, option_map_or}
-use Rattle.std.proofs.lemmas.List.{append_assoc, append-nil}
 use Rattle.std.proofs.lemmas.List.Elements.{filter_map-append, All-nil, All-cons, All-head, All-push, All-tail, All-weaker}
-use Rattle.std.proofs.lemmas.List.Sums.{sum_by_push, sum_by-append, fold_push}
+use Rattle.std.proofs.lemmas.List.Sums.{sum_by_push, sum_by-cons, fold_push}
 use Rattle.multi_meaning.specs.Words.{each_after, some_after, successive, largest, extent}
 
+-- each item of two lists
+pub each_after-append : {X Y : Type 0} (f : List X → X → Y) (xs ys : List X) → each_after f (xs ++ ys) ≡ each_after f xs ++ each_after (λ before. f (xs ++ before)) ys
+each_after-append f [] ys = refl
+each_after-append f (x ∷ xs) ys = ap (λ l. f [] x ∷ l) (each_after-append (λ before. f (x ∷ before)) xs ys)
+
+-- one more item
 pub each_after_push : {X Y : Type 0} (f : List X → X → Y) (xs : List X) (x : X) → each_after f (xs ++ x ∷ []) ≡ each_after f xs ++ f xs x ∷ []
-each_after_push f [] x = refl
-each_after_push f (y ∷ xs) x = ap (λ l. f [] y ∷ l) (each_after_push (λ before. f (y ∷ before)) xs x)
+each_after_push f xs x = each_after-append f xs (x ∷ []) ∙ ap (λ l. each_after f xs ++ f l x ∷ []) (append-nil xs)
 
 pub each_after_length : {X Y : Type 0} (f : List X → X → Y) (xs : List X) → length (each_after f xs) ≡ length xs
 each_after_length f [] = refl
@@ -24,43 +28,24 @@ pub last_or-append : {X : Type 0} (o : Option X) (xs ys : List X) → last_or o 
 last_or-append o [] ys = refl
 last_or-append o (x ∷ xs) ys = last_or-append (Some x) xs ys
 
--- the pair that one more item makes with the last before it
-abbrev pub next_pair : {X : Type 0} → Option X → X → List (X × X)
-next_pair None y = []
-next_pair (Some x) y = (x, y) ∷ []
-
-successive_from : {X : Type 0} (a : X) (xs : List X) (y : X) → successive (a ∷ (xs ++ y ∷ [])) ≡ successive (a ∷ xs) ++ next_pair (last_or (Some a) xs) y
-successive_from a [] y = refl
-successive_from a (x ∷ xs) y = ap (λ l. (a, x) ∷ l) (successive_from x xs y)
-
-pub successive_push : {X : Type 0} (xs : List X) (y : X) → successive (xs ++ y ∷ []) ≡ successive xs ++ next_pair (last_or None xs) y
-successive_push [] y = refl
-successive_push (x ∷ xs) y = successive_from x xs y
-
 -- the gap between the last item and one more
 abbrev pub gap_before : {X : Type 0} → (X → X → ℕ) → List X → X → ℕ
 gap_before gap xs y = option_map_or (λ x. gap x y) (last_or None xs) 0
 
-sum_next_pair : {X : Type 0} (gap : X → X → ℕ) (o : Option X) (y : X) → sum_by (λ (p : X × X). gap p.0 p.1) (next_pair o y) ≡ option_map_or (λ x. gap x y) o 0
-sum_next_pair gap None y = refl
-sum_next_pair gap (Some x) y = omega arith
+gaps_from : {X : Type 0} (gap : X → X → ℕ) (a : X) (xs : List X) (y : X) → let gaps = sum_by (λ (p : X × X). gap p.0 p.1) in
+    gaps (successive (a ∷ (xs ++ y ∷ []))) ≡ gaps (successive (a ∷ xs)) + option_map_or (λ x. gap x y) (last_or (Some a) xs) 0
+gaps_from gap a [] y = omega arith
+gaps_from {X} gap a (x ∷ xs) y =
+    let more = sum_by-cons (λ (p : X × X). gap p.0 p.1) (a, x) in
+    omega (arith, more (successive (x ∷ (xs ++ y ∷ []))), more (successive (x ∷ xs)), gaps_from gap x xs y)
 
 -- one more item adds its size and the gap before it
 pub extent_push : {X : Type 0} (size : X → ℕ) (gap : X → X → ℕ) (xs : List X) (y : X) → extent size gap (xs ++ y ∷ []) ≡ extent size gap xs + gap_before gap xs y + size y
-extent_push {X} size gap xs y =
-    let pairs : sum_by (λ (p : X × X). gap p.0 p.1) (successive (xs ++ y ∷ [])) ≡ sum_by (λ (p : X × X). gap p.0 p.1) (successive xs) + gap_before gap xs y =
-    ap (λ l. sum_by (λ (p : X × X). gap p.0 p.1) l) (successive_push xs y)
-    ∙ sum_by-append (λ (p : X × X). gap p.0 p.1) (successive xs) (next_pair (last_or None xs) y)
-    ∙ ap (λ n. sum_by (λ (p : X × X). gap p.0 p.1) (successive xs) + n) (sum_next_pair gap (last_or None xs) y) in
-    omega (arith, pairs, sum_by_push size xs y)
+extent_push size gap [] y = omega arith
+extent_push size gap (x ∷ xs) y = omega (arith, gaps_from gap x xs y, sum_by_push size (x ∷ xs) y)
 
 pub largest_push : {X : Type 0} (f : X → ℕ) (xs : List X) (x : X) → largest f (xs ++ x ∷ []) ≡ max (largest f xs) (f x)
 largest_push f xs x = fold_push (λ a x. max a (f x)) 0 xs x
-
--- each item of two lists
-pub each_after-append : {X Y : Type 0} (f : List X → X → Y) (xs ys : List X) → each_after f (xs ++ ys) ≡ each_after f xs ++ each_after (λ before. f (xs ++ before)) ys
-each_after-append f [] ys = refl
-each_after-append f (x ∷ xs) ys = ap (λ l. f [] x ∷ l) (each_after-append (λ before. f (x ∷ before)) xs ys)
 
 pub some_after-append : {X Y : Type 0} (f : List X → X → Option Y) (xs ys : List X) → some_after f (xs ++ ys) ≡ some_after f xs ++ some_after (λ before. f (xs ++ before)) ys
 some_after-append f xs ys = ap (λ l. filter_map (λ o. o) l) (each_after-append f xs ys) ∙ filter_map-append (λ o. o) (each_after f xs) (each_after (λ before. f (xs ++ before)) ys)
@@ -81,6 +66,17 @@ push_ind_from P step (y ∷ ys) xs h = subst P (append_assoc xs (y ∷ []) ys) (
 pub push_ind : {X : Type 0} (P : List X → Type 0) → P [] → ((xs : List X) (x : X) → P xs → P (xs ++ x ∷ [])) → (xs : List X) → P xs
 push_ind P none step xs = push_ind_from P step xs [] none
 
+-- what holds of no items, and of each of these behind those before it, holds of every front of them
+pub front_ind : {X : Type 0} (all : List X) (P : List X → Type 0) → P [] → ((some more : List X) (x : X) → all ≡ some ++ x ∷ more → P some → P (some ++ x ∷ [])) → (some more : List X) → all ≡ some ++ more → P some
+front_ind {X} all P none step = push_ind (λ some. (more : List X) → all ≡ some ++ more → P some) (λ more is. none)
+    (λ some x ih more is. let is' : all ≡ some ++ x ∷ more = is ∙ append_assoc some (x ∷ []) more in step some more x is' (ih (x ∷ more) is'))
+
+-- where the same is made of each item, the same is made of all
+pub each_same : {X Y : Type 0} (f g : List X → X → Y) (xs : List X) → ((some more : List X) (x : X) → xs ≡ some ++ x ∷ more → f some x ≡ g some x) → each_after f xs ≡ each_after g xs
+each_same f g xs same =
+    front_ind xs (λ some. each_after f some ≡ each_after g some) refl
+    (λ some more x is ih. each_after_push f some x ∙ (λ i. ih i ++ same some more x is i ∷ []) ∙ sym (each_after_push g some x)) xs [] (sym (append-nil xs))
+
 -- no value is more than the largest
 pub largest_most : {X : Type 0} (f : X → ℕ) (xs : List X) → All (λ x. f x ≤ largest f xs) xs
 largest_most {X} f = push_ind (λ xs. All (λ x. f x ≤ largest f xs) xs) (All-nil (λ x. f x ≤ 0)) step
@@ -92,11 +88,20 @@ largest_most {X} f = push_ind (λ xs. All (λ x. f x ≤ largest f xs) xs) (All-
         (All-weaker (λ y. f y ≤ largest f xs) (λ y. f y ≤ largest f (xs ++ x ∷ [])) (λ y h. omega (arith, h, more)) xs ih)
         (omega (arith, more))
 
+-- what holds of each holds around one of them, and of it
+pub All-around : {X : Type 0} (P : X → Type 0) (xs : List X) (x : X) (ys : List X) → All P (xs ++ x ∷ ys) → All P xs × P x × All P ys
+All-around P [] x ys h = (All-nil P, All-head P x ys h, All-tail P x ys h)
+All-around P (z ∷ xs) x ys h =
+    let rest = All-around P xs x ys (All-tail P z (xs ++ x ∷ ys) h) in
+    (All-cons P z xs (All-head P z (xs ++ x ∷ ys) h) rest.0, rest.1, rest.2)
+
 pub All-split : {X : Type 0} (P : X → Type 0) (xs : List X) (x : X) → All P (xs ++ x ∷ []) → All P xs × P x
-All-split P [] x h = (All-nil P, All-head P x [] h)
-All-split P (y ∷ xs) x h =
-    let more = All-split P xs x (All-tail P y (xs ++ x ∷ []) h) in
-    (All-cons P y xs (All-head P y (xs ++ x ∷ []) h) more.0, more.1)
+All-split P xs x h = let parts = All-around P xs x [] h in (parts.0, parts.1)
+
+-- there is a value or none
+pub cases_Option : {X : Type 0} (o : Option X) → (o ≡ None) ⊎ ((x : X) × (o ≡ Some x))
+cases_Option None = inl refl
+cases_Option (Some x) = inr (x, refl)
 
 -- two lists of nothing
 pub left_nil : {X : Type 0} (xs ys : List X) → xs ++ ys ≡ [] → xs ≡ []

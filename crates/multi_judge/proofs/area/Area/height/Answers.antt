@@ -2,7 +2,7 @@ use Rattle.std.proofs.Common.{ap, sym, ◌∙◌, arith}
 use Rattle.multi_tag.specs.Just.{page_number}
 use Rattle.multi_meaning.specs.Address.{lines_of}
 use Rattle.multi_meaning.specs.Line.{height_of}
-use Rattle.multi_meaning.proofs.JustLemmas.{page_number_known}
+use Rattle.multi_tag.proofs.JustLemmas.{page_number_known}
 use Rattle.multi_judge.specs.declared.area.Area.{Area}
 use Rattle.multi_judge.proofs.AreaSumLemmas.{other_height, present_height, none_of_later_group}
 use Rattle.multi_judge.proofs.area.Area.height.Goals as goal

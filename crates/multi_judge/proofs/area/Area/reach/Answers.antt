@@ -4,7 +4,7 @@ use Rattle.std.proofs.lemmas.Bool.{le-leb}
 use Rattle.multi_tag.specs.Just.{page_number}
 use Rattle.multi_meaning.specs.Address.{in_group, is_break}
 use Rattle.multi_meaning.proofs.FitLemmas.{room_alone}
-use Rattle.multi_meaning.proofs.JustLemmas.{page_number_known}
+use Rattle.multi_tag.proofs.JustLemmas.{page_number_known}
 use Rattle.multi_judge.specs.declared.area.Area.{Area}
 use Rattle.multi_judge.specs.declared.area.Group.{Group}
 use Rattle.multi_judge.specs.Sums.{group_sum, line_sum}

@@ -3,7 +3,7 @@ use Rattle.std.proofs.lemmas.Bool.{false≢true, le-ltb, leb-false, leb-true, lt
 use Rattle.multi_tag.specs.Just.{page_number}
 use Rattle.multi_meaning.specs.Address.{in_group}
 use Rattle.multi_meaning.proofs.GroupLemmas.{own_group, placing_group}
-use Rattle.multi_meaning.proofs.JustLemmas.{page_number_known}
+use Rattle.multi_tag.proofs.JustLemmas.{page_number_known}
 use Rattle.multi_judge.specs.declared.area.Area.{Area}
 use Rattle.multi_judge.specs.Sums.{group_sum}
 use Rattle.multi_judge.proofs.AreaSumLemmas.{area_with, conflicts_break}

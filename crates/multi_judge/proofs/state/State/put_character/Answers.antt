@@ -5,7 +5,7 @@ use Rattle.multi_tag.specs.Just.{page_number}
 use Rattle.multi_meaning.specs.Address.{area_of, in_group, is_break}
 use Rattle.multi_meaning.specs.Offence.{clashes}
 use Rattle.multi_meaning.proofs.GroupLemmas.{area_placing}
-use Rattle.multi_meaning.proofs.JustLemmas.{page_number_known}
+use Rattle.multi_tag.proofs.JustLemmas.{page_number_known}
 use Rattle.multi_judge.specs.declared.area.Area.{Area}
 use Rattle.multi_judge.specs.declared.line.Character.{Character}
 use Rattle.multi_judge.specs.Adding.{PutsCharacter, character_of}

@@ -4,7 +4,7 @@ use Rattle.std.specs.List.{after_last}
 use Rattle.std.proofs.lemmas.Bool.{leb-true}
 use Rattle.multi_meaning.specs.Address.{in_group, is_break}
 use Rattle.multi_meaning.specs.kept.Present.{present_area}
-use Rattle.multi_meaning.proofs.JustLemmas.{line_number_known}
+use Rattle.multi_tag.proofs.JustLemmas.{line_number_known}
 use Rattle.multi_judge.specs.Run.{line_in_force, kept_fits, lengthened_line}
 use Rattle.multi_judge.proofs.AreaSumLemmas.{own_line}
 use Rattle.multi_judge.proofs.BeforeLemmas.{fits_before}
