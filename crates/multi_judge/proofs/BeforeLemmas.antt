@@ -15,7 +15,7 @@ use Rattle.multi_meaning.specs.Meaning.{Meaning}
 use Rattle.multi_meaning.specs.Offence.{offence}
 use Rattle.multi_meaning.specs.kept.Present.{present_area, IsPlacing}
 use Rattle.multi_meaning.specs.Words.{some_after}
-use Rattle.multi_meaning.proofs.GroupLemmas.{area_placing, in_group_other}
+use Rattle.multi_meaning.proofs.GroupLemmas.{area_placing}
 use Rattle.multi_meaning.proofs.FitLemmas.{room_end, room_middle, room_start, smaller_fits}
 use Rattle.multi_meaning.proofs.NarrowLemmas.{lines_fit_always}
 use Rattle.multi_meaning.proofs.LinesFitLemmas.{each_just}
@@ -25,7 +25,7 @@ use Rattle.multi_judge.specs.declared.line.Line.{Line}
 use Rattle.multi_judge.specs.declared.line.Segment.{Segment}
 use Rattle.multi_judge.specs.declared.attributes.Attributes.{Attributes}
 use Rattle.multi_judge.specs.declared.state.State.{State}
-use Rattle.multi_judge.specs.State.{IsUnfilledOf, group_room}
+use Rattle.multi_judge.specs.State.{AreaFits, IsStateOf, IsUnfilledOf, group_room}
 use Rattle.multi_judge.specs.Run.{Fits, line_in_force, FitsBefore, GroupsFitBefore, kept_before, kept_fits, kept_fits_height, kept_group_height, kept_height, kept_width, lengthened_line}
 use Rattle.multi_judge.specs.Sums.{area_sum, line_sum}
 use Rattle.multi_judge.proofs.AreaSumLemmas.{own_line}
@@ -64,18 +64,18 @@ fits_before width l fits =
     let (parts, full) = and_parts (fit (w 2) (w 3) (w 4) width) (nat_le (w 5) width) fits in
     and_from (fit (k 2) (k 3) (k 4) width) (nat_le (k 5) width) (smaller_fits (w 2) (w 3) (w 4) (k 2) (k 3) (k 4) width (less 2) (less 3) (less 4) parts) (le_test (k 5) (w 5) width (less 5) full)
 
--- ---- the area of a character
+-- ---- the area of a character, whose group alone grows by it
 
-module _ (height : ℕ) (area : List Spot) (s : Spot) (a : Area) (e : a ≡ area_sum (area ++ s ∷ [])) (placing : All IsPlacing (area ++ s ∷ [])) (own : a.present ≡ page_number s.at.page_just) (known : a.present ≤ 4)
-    (fits : area_fits height area ≡ true) where
+module _ (height : ℕ) (area more : List Spot) (page : ℕ) (others : (just : ℕ) → (just ≡ page → ⊥) → in_group just more ≡ in_group just area) (a : Area) (e : a ≡ area_sum more) (placing : All IsPlacing more)
+    (own : a.present ≡ page) (known : a.present ≤ 4) (fits : area_fits height area ≡ true) where
   -- the other groups are as high as without the character
   no_higher : (just : ℕ) → 2 ≤ just → just ≤ 4 → kept_before just a ≤ height_of (lines_of (in_group just area))
   no_higher just low high = elim (cases_eq just a.present) [
     | inl same ↦ rw (eq-eqb just a.present same) (omega arith)
     | inr other ↦
         let kept : kept_before just a ≡ kept_group_height just a = rw (ne_eqb just a.present other) refl in
-        let without = ap (λ l. height_of (lines_of l)) (in_group_other just area s (λ h. other (sym (own ∙ h)))) in
-        omega (arith, kept, kept_group_height_is (area ++ s ∷ []) a just placing e low high known, without)
+        let without = ap (λ l. height_of (lines_of l)) (others just (λ h. other (h ∙ sym own))) in
+        omega (arith, kept, kept_group_height_is more a just placing e low high known, without)
   ]
 
   pub groups_fit_before : GroupsFitBefore height a
@@ -110,17 +110,20 @@ module _ (sign : SignData) (items : List Meaning) (none : some_after (offence Of
       subst (λ (t : Standing). (line_fits t.rectangle.width (after_last is_break (in_group (page_number t.page_just) (in_area t.area before))) ≡ true) × (area_fits t.rectangle.height (in_area t.area before) ≡ true)) (sym at)
       (lines_fit_always sign items none (page_number (standing sign items).page_just), area_fits_always sign items none)
 
--- by what is kept too
-pub unfilled_fits : (sign : SignData) (items : List Meaning) (state : State) → IsUnfilledOf sign state items → Fits state
-unfilled_fits sign items state of =
-    let st = of.state_is in
+-- by what is kept too, where the present line and the present area fit
+pub kept_fit : (sign : SignData) (items : List Meaning) (state : State) → IsStateOf sign items state → line_fits (standing sign items).rectangle.width (after_last is_break (in_group state.area.present (present_area sign items))) ≡ true
+    → AreaFits sign items → Fits state
+kept_fit sign items state st wide high =
     let area = present_area sign items in
     let line = after_last is_break (in_group state.area.present area) in
     let width : (standing sign items).rectangle.width ≡ state.attributes.rectangle.width = sym (ap (λ (a : Attributes). a.rectangle.width) st.attributes) in
     let height : (standing sign items).rectangle.height ≡ state.attributes.rectangle.height = sym (ap (λ (a : Attributes). a.rectangle.height) st.attributes) in
     record {
       width = kept_fits_is line (line_in_force state) state.attributes.rectangle.width (own_line area state.area st.area) st.below.group.line.known
-          ∙ subst (λ w. line_fits w line ≡ true) width (lines_fit_always sign items of.fine state.area.present);
+          ∙ subst (λ w. line_fits w line ≡ true) width wide;
       height = kept_area_fits area state.area state.attributes.rectangle.height (area_placing (spots sign items) (record { at = standing sign items; put = Break None })) st.area st.below.known
-          ∙ subst (λ h. area_fits h area ≡ true) height (area_fits_always sign items of.fine);
+          ∙ subst (λ h. area_fits h area ≡ true) height high;
     }
+
+pub unfilled_fits : (sign : SignData) (items : List Meaning) (state : State) → IsUnfilledOf sign state items → Fits state
+unfilled_fits sign items state of = kept_fit sign items state of.state_is (lines_fit_always sign items of.fine state.area.present) (area_fits_always sign items of.fine)

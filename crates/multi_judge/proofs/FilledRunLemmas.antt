@@ -33,6 +33,7 @@ use Rattle.multi_judge.specs.Run.{IsBehindOne, IsRun, kept_fits, kept_fits_heigh
 use Rattle.multi_judge.specs.Sums.{IsBelow, IsCharacter, IsLineBelow, area_sum_in, group_sum, line_sum, segment_sum}
 use Rattle.multi_judge.proofs.AreaFillLemmas.{area_filled}
 use Rattle.multi_judge.proofs.AreaSumLemmas.{group_of_own}
+use Rattle.multi_judge.proofs.BeforeLemmas.{fits_before}
 use Rattle.multi_judge.proofs.FillGroupLemmas.{present_glyphs, present_line, stands_ended, stands_line, stands_sum}
 use Rattle.multi_judge.proofs.FillSplitLemmas.{line_below, split_none, split_space, split_word}
 use Rattle.multi_judge.proofs.FilledJudgedLemmas.{filled_free}
@@ -160,7 +161,6 @@ module _ (kept : Pass) (run : IsFilledRun kept) (gap room : ℕ) (runs : IsRun k
           group = run.behind.group;
           line = record { segment = one.segment; parts = one.parts; any = one.any; height = one.height; spacing = one.spacing; last = one.last };
         };
-        fits = record { width = still_fits; height = run.fits.height };
         order = run.order;
         split = split_goes_on here gap width runs.gap_is space line kept.split run.split;
       }
@@ -177,10 +177,11 @@ module _ (kept : Pass) (run : IsFilledRun kept) (gap room : ℕ) (runs : IsRun k
       let grown = line_lengthened (after_last is_break (filled (Some w) group)) s (seen here width) glyphs is line line_is one.segment one.parts one.any one.height one.spacing one.last gap runs.gap_is in
       let fits_so : (l : List Spot) → longer ≡ line_sum l → true ≡ line_fits w l = λ l is. sym still_fits ∙ kept_fits_is l longer w is known in
       let turned : area ≡ area_sum_in (page_number here.page_just) old = e ∙ ap (λ n. area_sum_in n old) (sym (ap (λ (a : Area). a.present) e) ∙ run.behind.group) in (
-        area_filled old new group s (page_number here.page_just) w on area area' turned refl refl refl (stands_sum w group s (seen here width) placing' is fits' apart area.group own longer grown true fits_so refl),
+        area_filled old new group s (page_number here.page_just) w on area area' turned refl refl refl (stands_sum w group s (seen here width) placing' is fits' apart area.group own longer grown true (fits_so (after_last is_break (filled (Some w) group) ++ s ∷ []) grown) refl),
         split_more here gap width runs.gap_is space kept.split run.split line (after_last is_break (filled (Some w) group)) s glyphs is spaces apart line_is (o run.behind.group)
-            ∙ ap split_sum (sym (stands_line w group s (seen here width) placing' is fits' apart area.group own longer grown true fits_so refl)),
-        stands_ended w group s (seen here width) placing' is fits' apart area.group own longer grown true fits_so refl,
+            ∙ ap split_sum (sym (stands_line w group s (seen here width) placing' is fits' apart area.group own longer grown true (fits_so (after_last is_break (filled (Some w) group) ++ s ∷ []) grown) refl)),
+        stands_ended w group s (seen here width) placing' is fits' apart area.group own longer grown true (fits_so (after_last is_break (filled (Some w) group) ++ s ∷ []) grown) refl,
+        fits_before w longer still_fits,
       )
 
 -- one more octet of a run
@@ -206,12 +207,13 @@ module _ (sign : SignData) (octets : List ℕ) (at : ℕ) (kept : Pass) (r : Rea
       true (sym (eq-eqb (page_number attributes.page_just) kept.state.area.present (sym run.behind.group)))
       (seen attributes wide) refl refl is refl area (split_one attributes gap wide (octet == 32) line kept.split) None
       (λ cell found. fills_one kept run gap room runs wide some fits (octet == 32) known)
+      kept.state.limits (record { width = of.limited.width; height = of.limited.height })
       (kept_fits attributes.rectangle.width longer) (kept_fits_height attributes.rectangle.height area)
-      (λ l e. kept_fits_is l longer attributes.rectangle.width e known) (λ l placing e. kept_area_fits l area attributes.rectangle.height placing e (omega (arith, st.below.known)))
+      (λ l glyphs e before. kept_fits_is l longer attributes.rectangle.width e known) (λ l placing e low above. kept_area_fits l area attributes.rectangle.height placing e (omega (arith, st.below.known)))
       kept.order (λ line s just apart goes stays. order_stays line s kept.order (goes refl) (run.order.0 ∙ ap line_number (sym just)) (run.order.1 ∙ ap (λ j. nat_lt (line_number j) 5) (sym just)))
       (longer_below (1024 * length items) (line.part.width + (gap + wide)) (line.part.count + 1) kept.state.area below (omega (arith, below.group.line.part.width, runs.narrow, small)) (omega (arith, below.group.line.part.count)))
       (split_grows attributes gap wide runs.gap_is (1024 * length items) (octet == 32) line kept.split runs.narrow small below.group.line of.split_below) in
-      let fits' = and_from (kept_fits attributes.rectangle.width longer) (kept_fits_height attributes.rectangle.height area) (still_fits kept run gap room runs wide some fits (octet == 32)) run.fits.height in
+      let fits' = and_from (kept_fits attributes.rectangle.width longer) (kept_fits_height attributes.rectangle.height area) (still_fits kept run gap room runs wide some fits (octet == 32)) runs.heights in
       let token : Token = record { at = at; len = 1; kind = kinds.Char octet } in
       read_more sign octets at (IsFilledFor sign kept) r token refl (single_token octets at octet short here plain) (IsFilledFor sign (with_one gap wide (octet == 32) kept))
       (put.size ∙ ap {B = Option ℕ} (λ b. cond b None (Some 5)) fits') (put.passed fits').of

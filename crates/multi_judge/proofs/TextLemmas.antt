@@ -82,7 +82,6 @@ module _ (sign : SignData) (cells : FontData) (octets : List ℕ) (at : ℕ) (ru
         };
         fits = one_goes_on kept word_runs run.gap room word_room width some enough true;
         runs = subst (IsRun _ run.gap) same (run_stays kept.state run.gap room (line.part.width + (run.gap + width)) (line.part.count + 1) word_room);
-        left = omega (arith, text.left);
         widths = text.widths;
       }
 

@@ -44,6 +44,10 @@ kept_group_height just area =
 abbrev pub kept_fits_height : ℕ → Area → Bool
 kept_fits_height height area = fit (kept_group_height 2 area) (kept_group_height 3 area) (kept_group_height 4 area) height
 
+-- by what is kept, the present segment and the present group have at most what they may have (own)
+abbrev pub is_within : State → Bool
+is_within state = nat_le state.area.group.line.part.width state.limits.width && nat_le (kept_height state.area.group) state.limits.height
+
 -- a line whose present segment has this width and number of characters (own)
 abbrev pub lengthened_line : ℕ → ℕ → Line → Line
 lengthened_line width count line = record line { part = record line.part { width = width; count = count } }

@@ -9,7 +9,7 @@ ghost use Rattle.multi_meaning.specs.Meaning.{Meaning};
 ghost use Rattle.multi_judge.specs.PassState.{IsPassBehind, IsPassOf};
 ghost use Rattle.multi_judge.specs.Judging.{IsAt, IsBehind};
 ghost use Rattle.multi_judge.specs.Run.{Fits, IsBehindCharacter, IsRun, IsRunPassed, lengthened, line_in_force};
-ghost use Rattle.multi_judge.specs.State.{IsLimited, IsReady, IsStateOf, IsUnfilledOf, segment_room};
+ghost use Rattle.multi_judge.specs.State.{IsLimited, IsReady, IsStateOf, IsUnfilledOf};
 
 use crate::fill_run::judge_text;
 use crate::pass::Pass;
@@ -56,17 +56,19 @@ impl Run {
 }
 
 impl State {
-    /// The run that goes on behind the last character, whose segment may have so many pixels.
-    pub(crate) fn run(&self, most: u64) -> Run
+    /// The run that goes on behind the last character.
+    pub(crate) fn run(&self) -> Run
         requires behind { IsBehindCharacter self.now }
-        requires most { most ≡ segment_room (line_in_force self.now) self.now.attributes.rectangle.width }
-        ensures run { (items : List Meaning) (sign : SignData) → IsStateOf sign items self.now → Fits self.now
+        requires limited { IsLimited self.now }
+        ensures { (items : List Meaning) (sign : SignData) → IsStateOf sign items self.now → Fits self.now
             → IsRun self.now result.gap ((line_in_force self.now).part.width + result.left) }
-        ensures left { result.left ≤ most }
     {
         Run {
             gap: self.attributes.gap(),
-            left: most.saturating_sub(self.area.group.line.part.width),
+            left: self
+                .limits
+                .width
+                .saturating_sub(self.area.group.line.part.width),
         }
     }
 
@@ -145,7 +147,7 @@ pub fn go_along(
     ensures next { result.1 ≡ slice_get source.old.octets result.0 }
     ensures steps { RisesBetween source.old source.new (2 * (result.0 - at) + 1) (2 * (result.0 - at) + 2) }
 {
-    let run = state.run(state.limits.width);
+    let run = state.run();
     let front = run.read(cells, source, at, false);
     state.lengthen(u64::from(front.width), front.len as u64);
     (at + front.len, front.next)

@@ -24,6 +24,6 @@ returns-clause-run c =
       plain = subst (All IsPlain) text front.plain;
       width = subst (λ t. HasWidth (width_in c.args.sign.now state.attributes.font.number) c.run-run.result.gap t c.read-front.result.width) text (front.width c.args.sign.now state.attributes.font.number c.requires.cells);
       narrow = front.left;
-      run = c.run-run.ensures.run;
+      run = c.run-run.ensures;
       is = c.lengthen.ensures ∙ (λ i. lengthened ((line_in_force state).part.width + c.from.ensures i) ((line_in_force state).part.count + long i) state);
     }

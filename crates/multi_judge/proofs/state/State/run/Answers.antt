@@ -11,8 +11,8 @@ use Rattle.multi_judge.proofs.BeforeLemmas.{fits_before}
 use Rattle.multi_judge.proofs.LimitLemmas.{segment_room_fits}
 use Rattle.multi_judge.proofs.state.State.run.Goals as goal
 
-pub returns-clause-run : goal.returns-clause-run
-returns-clause-run c = λ items sign st fits.
+pub returns : goal.returns
+returns c = λ items sign st fits.
     let state = c.args.self.now in
     let is = own_line (present_area sign items) state.area st.area in
     let spots = after_last is_break (in_group state.area.present (present_area sign items)) in
@@ -22,10 +22,10 @@ returns-clause-run c = λ items sign st fits.
     let before = fits_before wide line fits.width in
     let low : 2 ≤ line.present = omega (arith, (line_number_known state.attributes.line_just).0, behind.line.segment) in
     let high : line.present ≤ 5 = omega (arith, (line_number_known state.attributes.line_just).1, behind.line.segment) in
-    let room : (pixels count : ℕ) → kept_fits wide (lengthened_line pixels count line) ≡ nat_le pixels c.args.most = λ pixels count.
-    segment_room_fits spots line is wide pixels count low high before ∙ ap (nat_le pixels) (sym c.requires.most) in
-    let inside = leb-true line.part.width c.args.most (sym (room line.part.width line.part.count) ∙ fits.width) in
-    let whole : line.part.width + c.saturating_sub.result ≡ c.args.most = omega (arith, inside, c.saturating_sub.ensures) in
+    let room : (pixels count : ℕ) → kept_fits wide (lengthened_line pixels count line) ≡ nat_le pixels state.limits.width = λ pixels count.
+    segment_room_fits spots line is wide pixels count low high before ∙ ap (nat_le pixels) (sym (c.requires.limited.width behind.line.any)) in
+    let inside = leb-true line.part.width state.limits.width (sym (room line.part.width line.part.count) ∙ fits.width) in
+    let whole : line.part.width + c.saturating_sub.result ≡ state.limits.width = omega (arith, inside, c.saturating_sub.ensures) in
     record {
       group = behind.group;
       line = behind.line;
