@@ -177,7 +177,7 @@ impl Line {
         ensures left { result ≡ false → (self.new ≡ self.old) × (most.new ≡ most.old) }
         ensures most { IsMost width self.old most.old → IsMost width self.new most.new }
     {
-        if self.clashes(character.just) {
+        if self.any && self.clashes(character.just) {
             return false;
         }
         self.grow(character, width, most);
@@ -193,7 +193,8 @@ impl Line {
         ensures sum { (line : List Spot) (s : Spot) → AllPass is_glyph line → IsCharacter s character.now → self.old ≡ line_sum line
             → list_any (clashes s) line ≡ false → self.new ≡ line_sum (line ++ s ∷ []) }
         ensures grows { (k : ℕ) → IsLineBelow k self.old → IsLineBelow (k + 1024) self.new }
-        ensures behind { IsOpen character.now.just self.old → IsBehindOne character.now.just character.now.font self.new }
+        ensures behind { (self.old.any ≡ true → IsOpen character.now.just self.old)
+            → IsBehindOne character.now.just character.now.font self.new }
         ensures bare { IsBare self.new }
         ensures most { IsMost width self.old most.old → most.new ≡ segment_room self.new width }
     {
