@@ -1,5 +1,5 @@
 -- What fits behind one more character, where what was before it fits: only the present segment and the present group can be too much.
-use Rattle.std.proofs.Common.{◌≡◌, ℕ, ◌≤◌, true, inl, inr, List, [], ◌∷◌, ◌++◌, None, refl, sym, ap, subst, ◌∙◌, arith}
+use Rattle.std.proofs.Common.{◌≡◌, ℕ, ◌≤◌, true, inl, inr, List, [], ◌∷◌, ◌++◌, refl, sym, ap, subst, ◌∙◌, arith}
 use Rattle.multi_tag.specs.Just.{line_number, page_number}
 use Rattle.multi_meaning.proofs.FillLemmas.{le_test}
 use Rattle.std.specs.Prelude.{nat_le}
@@ -8,14 +8,13 @@ use Rattle.sign_font.specs.declared.parts.LineFill.TheVariants.{Off}
 use Rattle.sign_font.specs.Sign.{SignData}
 use Rattle.std.proofs.lemmas.Bool.{and_from, and_parts, cases_eq, eq-eqb, ne_eqb}
 use Rattle.std.proofs.lemmas.Bool.Decides.{nat_tests}
-use Rattle.multi_meaning.specs.Address.{Break, Spot, Standing, in_area, in_group, is_break, lines_of, segment, spots, standing}
+use Rattle.multi_meaning.specs.Address.{Spot, Standing, in_area, in_group, is_break, lines_of, segment, spots, standing}
 use Rattle.multi_meaning.specs.Fit.{FitsWithout, area_fits, fit, line_fits, room_for}
 use Rattle.multi_meaning.specs.Line.{height_of, width_of}
 use Rattle.multi_meaning.specs.Meaning.{Meaning}
 use Rattle.multi_meaning.specs.Offence.{offence}
-use Rattle.multi_meaning.specs.kept.Present.{present_area, IsPlacing}
+use Rattle.multi_meaning.specs.kept.Present.{IsPlacing}
 use Rattle.multi_meaning.specs.Words.{some_after}
-use Rattle.multi_meaning.proofs.GroupLemmas.{area_placing}
 use Rattle.multi_meaning.proofs.FitLemmas.{room_end, room_middle, room_start, smaller_fits}
 use Rattle.multi_meaning.proofs.NarrowLemmas.{lines_fit_always}
 use Rattle.multi_meaning.proofs.LinesFitLemmas.{each_just}
@@ -23,14 +22,11 @@ use Rattle.multi_meaning.proofs.RoomLemmas.{area_fits_always}
 use Rattle.multi_judge.specs.declared.area.Area.{Area}
 use Rattle.multi_judge.specs.declared.line.Line.{Line}
 use Rattle.multi_judge.specs.declared.line.Segment.{Segment}
-use Rattle.multi_judge.specs.declared.attributes.Attributes.{Attributes}
-use Rattle.multi_judge.specs.declared.state.State.{State}
-use Rattle.multi_judge.specs.State.{AreaFits, IsStateOf, IsUnfilledOf, group_room}
-use Rattle.multi_judge.specs.Run.{Fits, line_in_force, FitsBefore, GroupsFitBefore, kept_before, kept_fits, kept_fits_height, kept_group_height, kept_height, kept_width, lengthened_line}
+use Rattle.multi_judge.specs.State.{group_room}
+use Rattle.multi_judge.specs.Run.{FitsBefore, GroupsFitBefore, kept_before, kept_fits_height, kept_group_height, kept_height, kept_width, lengthened_line}
 use Rattle.multi_judge.specs.Sums.{area_sum, line_sum}
-use Rattle.multi_judge.proofs.AreaSumLemmas.{own_line}
 use Rattle.multi_judge.proofs.LineSumLemmas.{segment_other}
-use Rattle.multi_judge.proofs.RunLemmas.{kept_area_fits, kept_fits_is, kept_group_height_is, kept_width_is}
+use Rattle.multi_judge.proofs.RunLemmas.{kept_group_height_is, kept_width_is}
 
 -- ---- the line of a character
 
@@ -51,18 +47,6 @@ module _ (width : ℕ) (line : List Spot) (s : Spot) (l : Line) (e : l ≡ line_
       let k = λ (just : ℕ). kept_width just (lengthened_line 0 0 l) in
       let (parts, full) = and_parts (fit (w 2) (w 3) (w 4) width) (nat_le (w 5) width) fits in
       and_from (fit (k 2) (k 3) (k 4) width) (nat_le (k 5) width) (smaller_fits (w 2) (w 3) (w 4) (k 2) (k 3) (k 4) width (no_wider 2 (omega arith) (omega arith)) (no_wider 3 (omega arith) (omega arith)) (no_wider 4 (omega arith) (omega arith)) parts) (le_test (k 5) (w 5) width (no_wider 5 (omega arith) (omega arith)) full)
-
--- what fits still fits without its present segment
-pub fits_before : (width : ℕ) (l : Line) → kept_fits width l ≡ true → FitsBefore width l
-fits_before width l fits =
-    let w = λ (just : ℕ). kept_width just l in
-    let k = λ (just : ℕ). kept_width just (lengthened_line 0 0 l) in
-    let less : (just : ℕ) → k just ≤ w just = λ just. elim (cases_eq just l.present) [
-      | inl same ↦ rw (eq-eqb just l.present same) (omega arith)
-      | inr other ↦ rw (ne_eqb just l.present other) (omega arith)
-    ] in
-    let (parts, full) = and_parts (fit (w 2) (w 3) (w 4) width) (nat_le (w 5) width) fits in
-    and_from (fit (k 2) (k 3) (k 4) width) (nat_le (k 5) width) (smaller_fits (w 2) (w 3) (w 4) (k 2) (k 3) (k 4) width (less 2) (less 3) (less 4) parts) (le_test (k 5) (w 5) width (less 5) full)
 
 -- ---- the area of a character, whose group alone grows by it
 
@@ -109,21 +93,3 @@ module _ (sign : SignData) (items : List Meaning) (none : some_after (offence Of
       let before = spots sign items in
       subst (λ (t : Standing). (line_fits t.rectangle.width (after_last is_break (in_group (page_number t.page_just) (in_area t.area before))) ≡ true) × (area_fits t.rectangle.height (in_area t.area before) ≡ true)) (sym at)
       (lines_fit_always sign items none (page_number (standing sign items).page_just), area_fits_always sign items none)
-
--- by what is kept too, where the present line and the present area fit
-pub kept_fit : (sign : SignData) (items : List Meaning) (state : State) → IsStateOf sign items state → line_fits (standing sign items).rectangle.width (after_last is_break (in_group state.area.present (present_area sign items))) ≡ true
-    → AreaFits sign items → Fits state
-kept_fit sign items state st wide high =
-    let area = present_area sign items in
-    let line = after_last is_break (in_group state.area.present area) in
-    let width : (standing sign items).rectangle.width ≡ state.attributes.rectangle.width = sym (ap (λ (a : Attributes). a.rectangle.width) st.attributes) in
-    let height : (standing sign items).rectangle.height ≡ state.attributes.rectangle.height = sym (ap (λ (a : Attributes). a.rectangle.height) st.attributes) in
-    record {
-      width = kept_fits_is line (line_in_force state) state.attributes.rectangle.width (own_line area state.area st.area) st.below.group.line.known
-          ∙ subst (λ w. line_fits w line ≡ true) width wide;
-      height = kept_area_fits area state.area state.attributes.rectangle.height (area_placing (spots sign items) (record { at = standing sign items; put = Break None })) st.area st.below.known
-          ∙ subst (λ h. area_fits h area ≡ true) height high;
-    }
-
-pub unfilled_fits : (sign : SignData) (items : List Meaning) (state : State) → IsUnfilledOf sign state items → Fits state
-unfilled_fits sign items state of = kept_fit sign items state of.state_is (lines_fit_always sign items of.fine state.area.present) (area_fits_always sign items of.fine)

@@ -1,16 +1,15 @@
 -- The verdict from the items read so far, where lines are filled.
 use Rattle.std.proofs.Common.{◌≡◌, ℕ, ◌*◌, ◌^◌, ◌<◌, ◌≤◌, true, ◌&&◌, List, [], ◌∷◌, length, map, Some, None, refl, sym, ap, subst, ◌∙◌, arith, append-nil}
-use Rattle.std.specs.List.{All, after_last}
+use Rattle.std.specs.List.{after_last}
 use Rattle.std.proofs.lemmas.Bool.{le-leb}
-use Rattle.std.proofs.lemmas.List.Elements.{All-head, All-weaker}
+use Rattle.std.proofs.lemmas.List.Elements.{All-head}
 use Rattle.multi_tag.specs.Just.{page_number}
 use Rattle.sign_font.specs.declared.parts.LineFill.TheVariants.{Words}
 use Rattle.sign_font.specs.Sign.{SignData}
-use Rattle.multi_meaning.specs.Address.{Break, Spot, Standing, in_area, in_group, is_break, spots, standing}
+use Rattle.multi_meaning.specs.Address.{Spot, Standing, in_group, is_break, standing}
 use Rattle.multi_meaning.specs.Filling.{filled}
-use Rattle.multi_meaning.specs.Fit.{area_fits, line_fits}
+use Rattle.multi_meaning.specs.Fit.{area_fits}
 use Rattle.multi_meaning.specs.kept.FillOpen.{AllOpenFit}
-use Rattle.multi_meaning.specs.Laid.{fill_at}
 use Rattle.multi_meaning.specs.LaidItems.{laid_items}
 use Rattle.multi_meaning.specs.Meaning.{Meaning, meaning}
 use Rattle.multi_meaning.specs.kept.Present.{present_area}
@@ -18,10 +17,8 @@ use Rattle.multi_meaning.specs.Times.{cycle, ended_times}
 use Rattle.multi_meaning.specs.Verdict.{pages_of}
 use Rattle.multi_meaning.specs.Words.{largest}
 use Rattle.multi_meaning.proofs.FillLemmas.{nothing_fits}
-use Rattle.multi_meaning.proofs.FilledOnLemmas.{groups_laid}
 use Rattle.multi_meaning.proofs.JustLemmas.{page_number_known}
 use Rattle.multi_meaning.proofs.LaidItemLemmas.{are_laid}
-use Rattle.multi_meaning.proofs.RectangleLemmas.{same_rectangle}
 use Rattle.multi_meaning.proofs.WordLemmas.{largest_most}
 use Rattle.multi_judge.specs.declared.area.Area.{Area}
 use Rattle.multi_judge.specs.declared.pass.Pass.{Pass}
@@ -29,10 +26,8 @@ use Rattle.multi_judge.specs.declared.state.State.{State}
 use Rattle.multi_judge.specs.FillSums.{order_sum, split_sum}
 use Rattle.multi_judge.specs.FilledState.{IsFilledFor, IsFilledOf, IsFilledReady}
 use Rattle.multi_judge.specs.Judging.{ReadSoFar}
-use Rattle.multi_judge.specs.Run.{Fits}
 use Rattle.multi_judge.specs.State.{IsStateOf}
 use Rattle.multi_judge.specs.Sums.{area_sum}
-use Rattle.multi_judge.proofs.BeforeLemmas.{kept_fit}
 use Rattle.multi_judge.proofs.BoundLemmas.{split_more}
 use Rattle.multi_judge.proofs.FilledBehindLemmas.{present_laid}
 use Rattle.multi_judge.proofs.FilledKeptLemmas.{laid_count}
@@ -69,25 +64,7 @@ filled_start sign items state st none =
       fits = subst (AllOpenFit (Some width)) (sym none) (λ just. nothing_fits width);
     }
 
--- the groups of the present area as it is laid out are its groups, filled
-pub laid_group_is : (sign : SignData) (items : List Meaning) (j : ℕ) → in_group j (present_area sign (laid_items Words sign items items)) ≡ filled (Some (standing sign items).rectangle.width) (in_group j (present_area sign items))
-laid_group_is sign items j =
-    let (stands, put) = are_laid Words sign items items [] (sym (append-nil items)) in
-    let here = standing sign items in
-    let same = subst (λ l. All (λ (x : Spot). x.at.area ≡ here.area → x.at.rectangle ≡ here.rectangle) (spots sign l)) (append-nil items) (same_rectangle sign items []) in
-    (λ i. in_group j (in_area (stands i).area (put i)))
-    ∙ groups_laid Words here.rectangle.width here.area (spots sign items) (record { at = here; put = Break None }) refl
-    (All-weaker (λ (x : Spot). x.at.area ≡ here.area → x.at.rectangle ≡ here.rectangle) (λ (x : Spot). x.at.area ≡ here.area → fill_at Words x.at ≡ Some here.rectangle.width) (λ x h at. ap (λ r. Some r.width) (h at)) (spots sign items) same) j
-
 module _ (sign : SignData) (items : List Meaning) (kept : Pass) (of : IsFilledOf sign items kept) where
-  -- by what is kept, the present line and the present area fit
-  pub filled_fits : Fits kept.state
-  filled_fits =
-      let laid = laid_items Words sign items items in
-      let here = (are_laid Words sign items items [] (sym (append-nil items))).0 in
-      let j = kept.state.area.present in
-      kept_fit sign laid kept.state of.state_is ((λ i. line_fits (here i).rectangle.width (after_last is_break (laid_group_is sign items j i))) ∙ of.fits j) of.area_fits
-
   -- what is kept of few items is small enough
   pub filled_ready : length items ≤ 2 ^ 32 → IsFilledReady kept
   filled_ready few = record {

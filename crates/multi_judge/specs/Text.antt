@@ -17,7 +17,8 @@ pub record IsInText (sign : SignData) (cells : FontData) (octets : List ℕ) (at
   where
     pub behind : IsBehind sign octets at (IsFilledFor sign pass) source
     pub fits : IsFilledRun pass
-    pub runs : IsRun pass.state run.gap ((line_in_force pass.state).part.width + run.left)
+    pub runs : IsRun pass.state run.gap
+    pub left : (line_in_force pass.state).part.width + run.left ≡ pass.state.limits.width
     pub widths : AreWidthsOf sign pass.state.attributes.font.number cells
 
 -- a space whose cell among these has this width in pixels is taken: it fits what is left (own)

@@ -7,7 +7,7 @@ ghost use Rattle.sign_font.specs.Text.{AreWidthsOf};
 ghost use Rattle.multi_judge.specs.FilledRun.{GoesOnBehind, IsFilledRun, with_run, with_space, with_word};
 ghost use Rattle.multi_judge.specs.FilledState.{IsFilledFor, IsFilledReady};
 ghost use Rattle.multi_judge.specs.Judging.{IsAt, IsBehind};
-ghost use Rattle.multi_judge.specs.Run.{IsBehindOne};
+ghost use Rattle.multi_judge.specs.Run.{IsBehindOne, is_within};
 ghost use Rattle.multi_judge.specs.Text.{IsInText, TakesSpace};
 
 use crate::attributes::Attributes;
@@ -80,6 +80,7 @@ pub(crate) fn judge_text(
 ) -> (usize, Option<u8>)
     requires short { length source.old.octets < 2 ^ 32 }
     requires behind { IsBehind sign.now source.old.octets at (IsFilledFor sign.now pass.old) source.old }
+    requires room { is_within pass.old.state ≡ true }
     requires cells { AreWidthsOf sign.now pass.old.state.attributes.font.number cells.now }
     ensures further { at ≤ result.0 }
     ensures at { IsAt sign.now source.old.octets result.0 result.1 (IsFilledFor sign.now pass.new) source.new }
@@ -101,6 +102,7 @@ fn take_text(
 ) -> (usize, Option<u8>)
     requires short { length source.old.octets < 2 ^ 32 }
     requires behind { IsBehind sign.now source.old.octets at (IsFilledFor sign.now pass.old) source.old }
+    requires room { is_within pass.old.state ≡ true }
     requires run { IsFilledRun pass.old }
     requires cells { AreWidthsOf sign.now pass.old.state.attributes.font.number cells.now }
     ensures further { at ≤ result.0 }

@@ -6,7 +6,7 @@ ghost use Rattle.multi_token.specs.Counted.{RisesBetween};
 ghost use Rattle.sign_font.specs.Sign.{SignData};
 ghost use Rattle.sign_font.specs.Text.{width_in};
 ghost use Rattle.multi_meaning.specs.Meaning.{Does, Meaning, Shows};
-ghost use Rattle.multi_judge.specs.Run.{IsBehindCharacter};
+ghost use Rattle.multi_judge.specs.Run.{IsBehindCharacter, is_within};
 ghost use Rattle.multi_judge.specs.State.{IsJudged, JudgesTag, IsLimited, IsReady, IsUnfilledOf, Judges};
 
 use crate::area::Area;
@@ -50,6 +50,7 @@ pub(crate) fn judge_cell(state: &mut State, number: u16, width: u8) -> Result<()
         → width_in sign state.old.attributes.font.number number ≡ Some width → IsJudged sign items (Shows number) result state.new }
     ensures limited { IsLimited state.old → IsLimited state.new }
     ensures behind { OnOk result (IsBehindCharacter state.new) }
+    ensures within { OnOk result (is_within state.new ≡ true) }
     ensures same { OnOk result (state.new.attributes ≡ state.old.attributes) }
 {
     if !state.put_character(width) {

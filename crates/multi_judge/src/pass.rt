@@ -15,6 +15,7 @@ ghost use Rattle.multi_judge.specs.Passed.{PassesCharacter, PutsFilled};
 ghost use Rattle.multi_judge.specs.FilledState.{IsFilledOf, IsFilledReady, begins_line};
 ghost use Rattle.multi_judge.specs.FillSums.{order_sum};
 ghost use Rattle.multi_judge.specs.KnownItem.{meant_by};
+ghost use Rattle.multi_judge.specs.Run.{is_within};
 ghost use Rattle.multi_judge.specs.PassState.{IsPassBehind, IsPassReady, JudgesCell, JudgesItem};
 ghost use Rattle.multi_judge.specs.State.{IsStateOf};
 ghost use Rattle.multi_judge.specs.Sums.{IsBelow, IsLineBelow};
@@ -196,6 +197,7 @@ impl Pass {
     fn fill_cell(&mut self, number: u16, width: u8) -> Result<(), SyntaxError>
         requires ready { IsFilledReady self.old }
         ensures judged { JudgesCell true self.old number width result self.new }
+        ensures within { OnOk result (is_within self.new.state ≡ true) }
         ensures same { self.new.state.attributes ≡ self.old.state.attributes }
     {
         let attributes = self.state.attributes;

@@ -5,11 +5,10 @@ ghost use Rattle.multi_token.specs.Counted.{RisesBetween};
 ghost use Rattle.multi_token.specs.Spelling.{IsPlain};
 ghost use Rattle.sign_font.specs.Sign.{SignData};
 ghost use Rattle.sign_font.specs.Text.{AreWidthsOf, HasWidth, IsNoSpace, width_in};
-ghost use Rattle.multi_meaning.specs.Meaning.{Meaning};
 ghost use Rattle.multi_judge.specs.PassState.{IsPassBehind, IsPassOf};
 ghost use Rattle.multi_judge.specs.Judging.{IsAt, IsBehind};
-ghost use Rattle.multi_judge.specs.Run.{Fits, IsBehindCharacter, IsRun, IsRunPassed, lengthened, line_in_force};
-ghost use Rattle.multi_judge.specs.State.{IsLimited, IsReady, IsStateOf, IsUnfilledOf};
+ghost use Rattle.multi_judge.specs.Run.{IsBehindCharacter, IsRun, IsRunPassed, is_within, lengthened, line_in_force};
+ghost use Rattle.multi_judge.specs.State.{IsLimited, IsReady, IsUnfilledOf};
 
 use crate::fill_run::judge_text;
 use crate::pass::Pass;
@@ -60,8 +59,8 @@ impl State {
     pub(crate) fn run(&self) -> Run
         requires behind { IsBehindCharacter self.now }
         requires limited { IsLimited self.now }
-        ensures { (items : List Meaning) (sign : SignData) → IsStateOf sign items self.now → Fits self.now
-            → IsRun self.now result.gap ((line_in_force self.now).part.width + result.left) }
+        ensures { is_within self.now ≡ true
+            → IsRun self.now result.gap × ((line_in_force self.now).part.width + result.left ≡ self.now.limits.width) }
     {
         Run {
             gap: self.attributes.gap(),
@@ -121,6 +120,7 @@ fn judge_line(
     requires short { length source.old.octets < 2 ^ 32 }
     requires behind { IsBehind sign.now source.old.octets at (IsUnfilledOf sign.now state.old) source.old }
     requires character { IsBehindCharacter state.old }
+    requires room { is_within state.old ≡ true }
     requires cells { AreWidthsOf sign.now state.old.attributes.font.number cells.now }
     ensures further { at ≤ result.0 }
     ensures at { IsAt sign.now source.old.octets result.0 result.1 (IsUnfilledOf sign.now state.new) source.new }

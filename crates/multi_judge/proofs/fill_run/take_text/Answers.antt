@@ -1,11 +1,7 @@
-use Rattle.std.proofs.Common.{ℕ, List, length, map, ap, subst, arith}
-use Rattle.sign_font.specs.declared.parts.LineFill.TheVariants.{Words}
-use Rattle.multi_meaning.specs.LaidItems.{laid_items}
-use Rattle.multi_meaning.specs.Meaning.{meaning}
+use Rattle.std.proofs.Common.{ℕ, List, length, ap, subst, arith}
 use Rattle.multi_judge.specs.FilledState.{IsFilledFor}
 use Rattle.multi_judge.specs.Judging.{IsAt}
 use Rattle.multi_judge.specs.Text.{IsInText}
-use Rattle.multi_judge.proofs.FilledReadLemmas.{filled_fits}
 use Rattle.multi_judge.proofs.fill_run.take_text.Goals as goal
 
 pub run-run-requires : goal.run-run-requires
@@ -13,16 +9,8 @@ run-run-requires c = record { behind = c.requires.run.behind; limited = c.requir
 
 pub loop-behind-init : goal.loop-behind-init
 loop-behind-init c =
-    let r = c.requires.behind.so_far in
-    let items = map meaning r.items in (
-      record {
-        behind = c.requires.behind;
-        fits = c.requires.run;
-        runs = c.run-run.ensures (laid_items Words c.args.sign.now items items) c.args.sign.now r.is.of.state_is (filled_fits c.args.sign.now items c.args.pass.now r.is.of);
-        widths = c.requires.cells;
-      },
-      omega arith,
-    )
+    let (runs, left) = c.run-run.ensures c.requires.room in
+    (record { behind = c.requires.behind; fits = c.requires.run; runs = runs; left = left; widths = c.requires.cells }, omega arith)
 
 pub loop-behind-smaller : goal.loop-behind-smaller
 loop-behind-smaller c =
