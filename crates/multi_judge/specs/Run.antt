@@ -115,5 +115,7 @@ pub record IsRunPassed (sign : SignData) (octets : List ℕ) (at : ℕ) (state :
   pub within : at' ≤ length octets
   pub plain : All IsPlain (slice_range octets at at')
   pub width : HasWidth (width_in sign state.attributes.font.number) gap (slice_range octets at at') pixels
+  pub gap_is : gap ≡ unwrap_or state.attributes.spacing state.attributes.font.char_spacing
+  pub narrow : gap ≤ 255
   pub run : is_within state ≡ true → IsRun state gap × ((line_in_force state).part.width + pixels ≤ state.limits.width)
   pub is : state' ≡ lengthened ((line_in_force state).part.width + pixels) ((line_in_force state).part.count + (at' - at)) state

@@ -1,6 +1,7 @@
 //! Characters behind one with the same attributes: each only lengthens the line that they share.
 
 ghost use Rattle.std.specs.Prelude.{◌≡◌, ◌+◌, ◌-◌, ◌*◌, ◌^◌, ◌<◌, ◌≤◌, ℕ, true, All, List, drop, length, slice_get, take};
+ghost use Rattle.std.specs.Option.{unwrap_or};
 ghost use Rattle.multi_token.specs.Counted.{RisesBetween};
 ghost use Rattle.multi_token.specs.Spelling.{IsPlain};
 ghost use Rattle.sign_font.specs.Sign.{SignData};
@@ -59,7 +60,8 @@ impl State {
     pub(crate) fn run(&self) -> Run
         requires behind { IsBehindCharacter self.now }
         requires limited { IsLimited self.now }
-        ensures { is_within self.now ≡ true
+        ensures gap { (result.gap ≡ unwrap_or self.now.attributes.spacing self.now.attributes.font.char_spacing) × (result.gap ≤ 255) }
+        ensures run { is_within self.now ≡ true
             → IsRun self.now result.gap × ((line_in_force self.now).part.width + result.left ≡ self.now.limits.width) }
     {
         Run {

@@ -9,7 +9,7 @@ run-run-requires c = record { behind = c.requires.run.behind; limited = c.requir
 
 pub loop-behind-init : goal.loop-behind-init
 loop-behind-init c =
-    let (runs, left) = c.run-run.ensures c.requires.room in
+    let (runs, left) = c.run-run.ensures.run c.requires.room in
     (record { behind = c.requires.behind; fits = c.requires.run; runs = runs; left = left; widths = c.requires.cells }, omega arith)
 
 pub loop-behind-smaller : goal.loop-behind-smaller

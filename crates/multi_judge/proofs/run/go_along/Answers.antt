@@ -22,6 +22,8 @@ returns-clause-run c =
       within = front.within;
       plain = subst (All IsPlain) text front.plain;
       width = subst (λ t. HasWidth (width_in c.args.sign.now state.attributes.font.number) c.run-run.result.gap t c.read-front.result.width) text (front.width c.args.sign.now state.attributes.font.number c.requires.cells);
-      run = λ within. let (run, left) = c.run-run.ensures within in (run, omega (arith, left, front.left));
+      gap_is = c.run-run.ensures.gap.0;
+      narrow = c.run-run.ensures.gap.1;
+      run = λ within. let (run, left) = c.run-run.ensures.run within in (run, omega (arith, left, front.left));
       is = c.lengthen.ensures ∙ (λ i. lengthened ((line_in_force state).part.width + c.from.ensures i) ((line_in_force state).part.count + long i) state);
     }

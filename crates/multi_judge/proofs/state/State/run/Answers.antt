@@ -4,8 +4,8 @@ use Rattle.std.proofs.lemmas.Bool.{and_parts, leb-true}
 use Rattle.multi_judge.specs.Run.{kept_height}
 use Rattle.multi_judge.proofs.state.State.run.Goals as goal
 
-pub returns : goal.returns
-returns c = λ within.
+pub returns-clause-run : goal.returns-clause-run
+returns-clause-run c = λ within.
     let state = c.args.self.now in
     let wide = state.area.group.line.part.width in
     let (width, height) = and_parts (nat_le wide state.limits.width) (nat_le (kept_height state.area.group) state.limits.height) within in (
