@@ -1,8 +1,8 @@
 -- What fits behind one more character, where what was before it fits: only the present segment and the present group can be too much.
-use Rattle.std.proofs.Common.{◌≡◌, ℕ, ◌≤◌, true, inl, inr, List, [], ◌∷◌, ◌++◌, refl, sym, ap, subst, ◌∙◌, arith}
+use Rattle.std.proofs.Common.{◌≡◌, ℕ, ◌≤◌, Bool, true, inl, inr, List, [], ◌∷◌, ◌++◌, refl, sym, ap, subst, ◌∙◌, arith}
 use Rattle.multi_tag.specs.Just.{line_number, page_number}
 use Rattle.multi_meaning.proofs.FillLemmas.{le_test}
-use Rattle.std.specs.Prelude.{nat_le}
+use Rattle.std.specs.Prelude.{nat_le, ◌==◌, if◌then◌else◌}
 use Rattle.std.specs.List.{All, after_last}
 use Rattle.sign_font.specs.declared.parts.LineFill.TheVariants.{Off}
 use Rattle.sign_font.specs.Sign.{SignData}
@@ -23,10 +23,10 @@ use Rattle.multi_judge.specs.declared.area.Area.{Area}
 use Rattle.multi_judge.specs.declared.line.Line.{Line}
 use Rattle.multi_judge.specs.declared.line.Segment.{Segment}
 use Rattle.multi_judge.specs.State.{group_room}
-use Rattle.multi_judge.specs.Run.{FitsBefore, GroupsFitBefore, kept_before, kept_fits_height, kept_group_height, kept_height, kept_width, lengthened_line}
+use Rattle.multi_judge.specs.Run.{FitsBefore, kept_height, kept_width, lengthened_line}
 use Rattle.multi_judge.specs.Sums.{area_sum, line_sum}
 use Rattle.multi_judge.proofs.LineSumLemmas.{segment_other}
-use Rattle.multi_judge.proofs.RunLemmas.{kept_group_height_is, kept_width_is}
+use Rattle.multi_judge.proofs.RunLemmas.{kept_group_height, kept_group_height_is, kept_width_is}
 
 -- ---- the line of a character
 
@@ -50,6 +50,14 @@ module _ (width : ℕ) (line : List Spot) (s : Spot) (l : Line) (e : l ≡ line_
 
 -- ---- the area of a character, whose group alone grows by it
 
+-- the height of the group with a page justification, if it is before the present one, by what is kept of the area
+abbrev pub kept_before : ℕ → Area → ℕ
+kept_before just area = if just == area.present then 0 else (if just == 2 then area.top else (if just == 3 then area.middle else 0))
+
+-- by what is kept of an area, its groups before the present one fit a height
+abbrev pub GroupsFitBefore : ℕ → Area → Type 0
+GroupsFitBefore height area = fit (kept_before 2 area) (kept_before 3 area) (kept_before 4 area) height ≡ true
+
 module _ (height : ℕ) (area more : List Spot) (page : ℕ) (others : (just : ℕ) → (just ≡ page → ⊥) → in_group just more ≡ in_group just area) (a : Area) (e : a ≡ area_sum more) (placing : All IsPlacing more)
     (own : a.present ≡ page) (known : a.present ≤ 4) (fits : area_fits height area ≡ true) where
   -- the other groups are as high as without the character
@@ -67,6 +75,10 @@ module _ (height : ℕ) (area more : List Spot) (page : ℕ) (others : (just : �
       let h = λ (just : ℕ). height_of (lines_of (in_group just area)) in
       smaller_fits (h 2) (h 3) (h 4) (kept_before 2 a) (kept_before 3 a) (kept_before 4 a) height
       (no_higher 2 (omega arith) (omega arith)) (no_higher 3 (omega arith) (omega arith)) (no_higher 4 (omega arith) (omega arith)) fits
+
+-- the groups of an area stand apart within a height, by what is kept of the area
+abbrev pub kept_fits_height : ℕ → Area → Bool
+kept_fits_height height area = fit (kept_group_height 2 area) (kept_group_height 3 area) (kept_group_height 4 area) height
 
 -- what its present group may have
 module _ (area : List Spot) (a : Area) (e : a ≡ area_sum area) (height : ℕ) where

@@ -24,12 +24,12 @@ use Rattle.multi_judge.specs.declared.attributes.Attributes.{Attributes}
 use Rattle.multi_judge.specs.declared.pass.Pass.{Pass}
 use Rattle.multi_judge.specs.FillSums.{EndsLine, FillsArea, order_sum, split_sum}
 use Rattle.multi_judge.specs.FilledState.{IsFilledOf}
-use Rattle.multi_judge.specs.Run.{FitsBefore, GroupsFitBefore}
+use Rattle.multi_judge.specs.Run.{FitsBefore}
 use Rattle.multi_judge.specs.State.{attributes_of}
 use Rattle.multi_judge.specs.Sums.{IsCharacter, area_sum, line_sum}
 use Rattle.multi_judge.proofs.AreaSumLemmas.{both_fit, no_back, no_clash}
 use Rattle.multi_judge.proofs.FilledCharacterLemmas.{area_with, conflicts_by, doesn't_fit, goes_behind, offends_by, offends_without, present_is, shown}
-use Rattle.multi_judge.proofs.BeforeLemmas.{groups_fit_before}
+use Rattle.multi_judge.proofs.BeforeLemmas.{GroupsFitBefore, groups_fit_before}
 use Rattle.multi_judge.proofs.FilledOrderLemmas.{no_clash_filled}
 use Rattle.multi_judge.proofs.GroupSumLemmas.{present_glyphs}
 use Rattle.multi_judge.proofs.JudgedLemmas.{cell_found, cell_missing}

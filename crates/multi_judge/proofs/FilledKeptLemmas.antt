@@ -33,10 +33,11 @@ use Rattle.multi_judge.specs.declared.line.Line.{Line}
 use Rattle.multi_judge.specs.Passed.{IsFilledPut}
 use Rattle.multi_judge.specs.FilledState.{IsFilledFor, IsFilledOf}
 use Rattle.multi_judge.specs.FillSums.{EndsLine, IsSplitBelow, order_sum, split_sum}
-use Rattle.multi_judge.specs.Run.{FitsBefore, GroupsFitBefore}
+use Rattle.multi_judge.specs.Run.{FitsBefore}
 use Rattle.multi_judge.specs.State.{IsLimited}
 use Rattle.multi_judge.specs.Sums.{IsBelow, IsCharacter, area_sum, line_sum}
 use Rattle.multi_judge.proofs.AreaSumLemmas.{group_behind, no_back, no_clash}
+use Rattle.multi_judge.proofs.BeforeLemmas.{GroupsFitBefore}
 use Rattle.multi_judge.proofs.FilledCharacterLemmas.{area_with, doesn't_fit, goes_behind, offends_by, offends_without, present_is, shown}
 use Rattle.multi_judge.proofs.FilledJudgedLemmas.{Fills, attributes_here, filled_fit, filled_grown, filled_size, found_here, shown_character}
 use Rattle.multi_judge.proofs.FilledStateLemmas.{filled_state}

@@ -28,11 +28,11 @@ use Rattle.multi_judge.specs.declared.line.Line.{Line}
 use Rattle.multi_judge.specs.declared.state.State.{State}
 use Rattle.multi_judge.specs.declared.attributes.Attributes.{Attributes}
 use Rattle.multi_judge.specs.Adding.{AddsBreak, AddsCharacter}
-use Rattle.multi_judge.specs.Run.{FitsBefore, GroupsFitBefore, IsBehindCharacter, IsBehindOne, kept_fits, kept_height, lengthened_line}
+use Rattle.multi_judge.specs.Run.{FitsBefore, IsBehindCharacter, IsBehindOne, kept_fits, kept_height, lengthened_line}
 use Rattle.multi_judge.specs.State.{AreaFits, IsLimited, IsMost, IsStateOf, attributes_of, group_room, segment_room}
 use Rattle.multi_judge.specs.Sums.{area_sum, line_sum}
 use Rattle.multi_judge.proofs.AreaSumLemmas.{fits_break, fits_character, group_of_own, placing_break, placing_character, present_line}
-use Rattle.multi_judge.proofs.BeforeLemmas.{group_room_fits, groups_fit_before, segments_fit_before}
+use Rattle.multi_judge.proofs.BeforeLemmas.{GroupsFitBefore, group_room_fits, groups_fit_before, segments_fit_before}
 use Rattle.multi_judge.proofs.LineSumLemmas.{in_order, no_character}
 use Rattle.multi_judge.proofs.RunLemmas.{kept_area_fits, kept_fits_is}
 

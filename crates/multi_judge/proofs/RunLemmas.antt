@@ -1,6 +1,6 @@
 -- A character that only lengthens its segment.
 use Rattle.std.proofs.Common.{◌≡◌, ℕ, ◌+◌, ◌*◌, ◌≤◌, Bool, true, false, ◌&&◌, ◌||◌, ◌==◌, inl, inr, List, [], ◌∷◌, ◌++◌, length, Some, None, refl, sym, ap, ◌∙◌, arith}
-use Rattle.std.specs.Prelude.{nat_lt}
+use Rattle.std.specs.Prelude.{nat_lt, if◌then◌else◌}
 use Rattle.std.specs.List.{All, AllPass, after_last, list_any}
 use Rattle.std.specs.Option.{option_map_or, unwrap_or}
 use Rattle.std.proofs.lemmas.Bool.{cases_eq, eq-eqb, ne_eqb}
@@ -21,7 +21,7 @@ use Rattle.multi_judge.specs.declared.line.Line.{Line}
 use Rattle.multi_judge.specs.declared.line.Segment.{Segment}
 use Rattle.multi_judge.specs.declared.state.State.{State}
 use Rattle.multi_judge.specs.Adding.{character_of}
-use Rattle.multi_judge.specs.Run.{IsBehindCharacter, IsRun, kept_fits, kept_group_height, kept_height, kept_width, lengthened, lengthened_area, lengthened_line, line_in_force}
+use Rattle.multi_judge.specs.Run.{IsBehindCharacter, IsRun, kept_fits, kept_height, kept_width, lengthened, lengthened_area, lengthened_line, line_in_force}
 use Rattle.multi_judge.specs.State.{IsStateOf}
 use Rattle.multi_judge.specs.Sums.{IsBelow, IsCharacter, area_sum, group_sum, height_before, line_sum, segment_sum, width_before}
 use Rattle.multi_judge.proofs.AreaSumLemmas.{area_stays, area_with, group_of_own, other_height, present_height, none_of_later_group, own_line}
@@ -60,7 +60,11 @@ kept_height_is spots group placing e = by_any group.line.any refl
     by_any true some = rw some (height_present spots placing group e some _ group.line.height refl refl)
     by_any false none = rw none (height_ended spots placing group e none)
 
--- the height of a group
+-- the height of the group with a page justification, by what is kept of the area: top 2, middle 3, bottom 4
+abbrev pub kept_group_height : ℕ → Area → ℕ
+kept_group_height just area =
+    if just == area.present then kept_height area.group else (if just == 2 then area.top else (if just == 3 then area.middle else 0))
+
 pub kept_group_height_is : (spots : List Spot) (area : Area) (just : ℕ) → All IsPlacing spots → area ≡ area_sum spots → 2 ≤ just → just ≤ 4 → area.present ≤ 4 → kept_group_height just area ≡ height_of (lines_of (in_group just spots))
 kept_group_height_is spots area just placing e low high known = elim (cases_eq just area.present) [
   | inl own ↦ rw (eq-eqb just area.present own) (present_height spots area e placing just (kept_height area.group) own (λ group placing e. kept_height_is group area.group placing e))

@@ -34,15 +34,6 @@ kept_height group =
     0 + group.line.height
     else group.closed
 
--- the height of the group with a page justification, by what is kept of the area: top 2, middle 3, bottom 4 (own)
-abbrev pub kept_group_height : ℕ → Area → ℕ
-kept_group_height just area =
-    if just == area.present then kept_height area.group else (if just == 2 then area.top else (if just == 3 then area.middle else 0))
-
--- the groups of an area stand apart within a height, by what is kept of the area (own)
-abbrev pub kept_fits_height : ℕ → Area → Bool
-kept_fits_height height area = fit (kept_group_height 2 area) (kept_group_height 3 area) (kept_group_height 4 area) height
-
 -- by what is kept, the present segment and the present group have at most what they may have (own)
 abbrev pub is_within : State → Bool
 is_within state = nat_le state.area.group.line.part.width state.limits.width && nat_le (kept_height state.area.group) state.limits.height
@@ -54,14 +45,6 @@ lengthened_line width count line = record line { part = record line.part { width
 -- by what is kept of a line, its segments before the present one fit a width (own)
 abbrev pub FitsBefore : ℕ → Line → Type 0
 FitsBefore width line = kept_fits width (lengthened_line 0 0 line) ≡ true
-
--- the height of the group with a page justification, if it is before the present one, by what is kept of the area (own)
-abbrev pub kept_before : ℕ → Area → ℕ
-kept_before just area = if just == area.present then 0 else (if just == 2 then area.top else (if just == 3 then area.middle else 0))
-
--- by what is kept of an area, its groups before the present one fit a height (own)
-abbrev pub GroupsFitBefore : ℕ → Area → Type 0
-GroupsFitBefore height area = fit (kept_before 2 area) (kept_before 3 area) (kept_before 4 area) height ≡ true
 
 -- by what is kept of a line, a character with a line justification may stand on it (own)
 abbrev pub IsOpen : LineJust → Line → Type 0

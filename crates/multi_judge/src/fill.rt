@@ -68,7 +68,7 @@ impl Group {
         ensures small { IfSome result (IsLineBelow (2 ^ 62)) }
     {
         let before = self.line;
-        self.line.grow(character, width, most);
+        self.line.put(character, width, most);
         if self.line.part.width <= *most {
             grow(split, &before, character, space);
             return None;

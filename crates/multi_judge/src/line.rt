@@ -177,37 +177,20 @@ impl Line {
         ensures left { result ≡ false → (self.new ≡ self.old) × (most.new ≡ most.old) }
         ensures most { IsMost width self.old most.old → IsMost width self.new most.new }
     {
-        if self.any && self.clashes(character.just) {
-            return false;
-        }
-        self.grow(character, width, most);
-        true
-    }
-
-    /// Adds a character, which doesn't clash, to the line, which has this width in pixels, and works out the most that the present
-    /// segment may have then.
-    #[inline(always)]
-    pub(crate) fn grow(&mut self, character: &Character, width: u16, most: &mut u64)
-        requires below { IsLineBelow (2 ^ 62) self.old }
-        requires bare { IsBare self.old }
-        ensures sum { (line : List Spot) (s : Spot) → AllPass is_glyph line → IsCharacter s character.now → self.old ≡ line_sum line
-            → list_any (clashes s) line ≡ false → self.new ≡ line_sum (line ++ s ∷ []) }
-        ensures grows { (k : ℕ) → IsLineBelow k self.old → IsLineBelow (k + 1024) self.new }
-        ensures behind { (self.old.any ≡ true → IsOpen character.now.just self.old)
-            → IsBehindOne character.now.just character.now.font self.new }
-        ensures bare { IsBare self.new }
-        ensures most { IsMost width self.old most.old → most.new ≡ segment_room self.new width }
-    {
         if !self.any {
             self.begin(character);
             *most = u64::from(width);
-            return;
+            return true;
+        }
+        if self.clashes(character.just) {
+            return false;
         }
         let stays = character.just.number() == self.present;
         self.add(character);
         if !stays {
             *most = self.room(width);
         }
+        true
     }
 
     /// Goes on to the segment with a line justification, which isn't before that of the present one.
