@@ -49,7 +49,7 @@ segment_behind just x line = by_member (is_glyph x && (line_number x.at.line_jus
     by_member false = omega arith
 
 -- what stands behind the front of a line that fits fits too
-pub part_fits : (width : ℕ) (front line : List Spot) → line_fits width (front ++ line) ≡ true → line_fits width line ≡ true
+part_fits : (width : ℕ) (front line : List Spot) → line_fits width (front ++ line) ≡ true → line_fits width line ≡ true
 part_fits width [] line h = h
 part_fits width (x ∷ front) line h =
     let w = λ (just : ℕ). width_of (segment just (front ++ line)) in

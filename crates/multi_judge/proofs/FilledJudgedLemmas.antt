@@ -70,7 +70,7 @@ module _ (sign : SignData) (items : List Meaning) (kept : Pass) (of : IsFilledOf
   module _ (number : ℕ) (c : SizedCell) (some : cell_in sign kept.state.attributes.font.number number ≡ Some c) (clash : Bool)
       (clashing : (line : List Spot) (s : Spot) → kept.order ≡ order_sum line → s.at.line_just ≡ kept.state.attributes.line_just → clash ≡ list_any (clashes s) line) where
     -- whether it conflicts is told by what is kept
-    pub conflict_is : (cell : CellData) (found : cell_numbered (standing sign items).font number ≡ Some cell) → conflicts (spots sign items) (shown sign items number cell found)
+    conflict_is : (cell : CellData) (found : cell_numbered (standing sign items).font number ≡ Some cell) → conflicts (spots sign items) (shown sign items number cell found)
         ≡ (nat_lt (page_number kept.state.attributes.page_just) kept.state.area.present || ((page_number kept.state.attributes.page_just == kept.state.area.present) && clash))
     conflict_is cell found =
         sym (conflicts_by sign items number cell found kept.state of.state_is clash (clashing _ (shown sign items number cell found) of.order_is (sym (ap (λ (a : Attributes). a.line_just) attributes_here))))

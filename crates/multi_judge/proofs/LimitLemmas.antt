@@ -76,7 +76,7 @@ module _ (line : List Spot) (l : Line) (e : l ≡ line_sum line) (width pixels c
   segment_room_fits low high = segment_by l.present refl low high
 
 -- it is told by its limit
-pub line_told : (line : List Spot) (l : Line) (width most : ℕ) → l ≡ line_sum line → 2 ≤ l.present → l.present ≤ 5 → FitsBefore width l → most ≡ segment_room l width → nat_le l.part.width most ≡ line_fits width line
+line_told : (line : List Spot) (l : Line) (width most : ℕ) → l ≡ line_sum line → 2 ≤ l.present → l.present ≤ 5 → FitsBefore width l → most ≡ segment_room l width → nat_le l.part.width most ≡ line_fits width line
 line_told line l width most e low high before is = ap (nat_le l.part.width) is ∙ sym (segment_room_fits line l e width l.part.width l.part.count low high before) ∙ kept_fits_is line l width e high
 
 -- an area into which its groups before the present one fit is told by its limit

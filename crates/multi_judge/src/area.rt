@@ -8,7 +8,7 @@ ghost use Rattle.multi_meaning.specs.Address.{Spot, is_break, area_of, in_group,
 ghost use Rattle.multi_meaning.specs.Line.{average, height_of};
 ghost use Rattle.multi_meaning.specs.kept.Present.{IsPlacing};
 ghost use Rattle.multi_judge.specs.Adding.{ReachesGroup};
-ghost use Rattle.multi_judge.specs.Run.{kept_height, lengthened_area};
+ghost use Rattle.multi_judge.specs.Run.{kept_height};
 ghost use Rattle.multi_judge.specs.State.{group_room};
 ghost use Rattle.multi_judge.specs.Sums.{IsBare, group_sum, area_sum, area_sum_in, IsBreak, IsGroupBelow, IsBelow};
 
@@ -202,12 +202,5 @@ impl Area {
         ensures { result ≡ group_room self.now height }
     {
         room_for(self.present, self.top, self.middle, height)
-    }
-
-    /// Gives the present segment of the present group this width and number of characters.
-    pub(crate) fn lengthen(&mut self, width: u64, count: u64)
-        ensures { self.new ≡ lengthened_area width count self.old }
-    {
-        self.group.line.lengthen(width, count);
     }
 }

@@ -82,7 +82,7 @@ impl State {
     {
         let part = &self.area.group.line.part;
         let (width, count) = (part.width + width, part.count + count);
-        self.area.lengthen(width, count);
+        self.area.group.line.lengthen(width, count);
     }
 }
 
