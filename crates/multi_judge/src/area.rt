@@ -1,10 +1,10 @@
 //! The running sums of an area's groups.
 
-ghost use Rattle.std.specs.Prelude.{◌≡◌, ◌≢◌, ℕ, ◌+◌, ◌^◌, ◌<◌, ◌≤◌, ◌&&◌, true, false, nat_le, not, List, [], ◌∷◌, ◌++◌};
+ghost use Rattle.std.specs.Prelude.{◌≡◌, ◌≢◌, ℕ, ◌+◌, ◌^◌, ◌<◌, ◌≤◌, ◌&&◌, true, false, List, [], ◌∷◌, ◌++◌};
 ghost use Rattle.std.specs.List.{All};
 ghost use Rattle.std.specs.Option.{option_map_or, unwrap_or};
 ghost use Rattle.multi_tag.specs.Just.{page_number};
-ghost use Rattle.multi_meaning.specs.Address.{Spot, is_break, area_of, in_group, lines_of};
+ghost use Rattle.multi_meaning.specs.Address.{Spot, in_group, lines_of};
 ghost use Rattle.multi_meaning.specs.Line.{average, height_of};
 ghost use Rattle.multi_meaning.specs.kept.Present.{IsPlacing};
 ghost use Rattle.multi_judge.specs.Adding.{ReachesGroup};

@@ -1,6 +1,6 @@
 //! Characters behind one with the same attributes: each only lengthens the line that they share.
 
-ghost use Rattle.std.specs.Prelude.{◌≡◌, ◌+◌, ◌-◌, ◌*◌, ◌^◌, ◌<◌, ◌≤◌, ℕ, true, All, List, drop, length, slice_get, take};
+ghost use Rattle.std.specs.Prelude.{◌≡◌, ◌+◌, ◌-◌, ◌*◌, ◌^◌, ◌<◌, ◌≤◌, ℕ, true, All, drop, length, slice_get, take};
 ghost use Rattle.std.specs.Option.{unwrap_or};
 ghost use Rattle.multi_token.specs.Counted.{RisesBetween};
 ghost use Rattle.multi_token.specs.Spelling.{IsPlain};
