@@ -1,16 +1,18 @@
 -- The sums of an area at one more character, where lines are filled.
-use Rattle.std.proofs.Common.{◌≡◌, inl, inr, ℕ, ◌<◌, cond, List, [], ◌∷◌, ◌++◌, Option, Some, None, refl, sym, ap, ◌∙◌, arith}
+use Rattle.std.proofs.Common.{◌≡◌, inl, inr, ℕ, ◌+◌, ◌<◌, ◌≤◌, Bool, false, cond, List, [], ◌∷◌, ◌++◌, Option, Some, None, refl, sym, ap, ◌∙◌, arith}
 use Rattle.std.specs.Prelude.{nat_lt}
 use Rattle.std.specs.List.{after_last}
-use Rattle.std.proofs.lemmas.Bool.{cases_lt, le-ltb}
+use Rattle.std.proofs.lemmas.Bool.{cases_Bool, cases_lt, false≢true, le-ltb, leb-false, leb-true}
 use Rattle.multi_meaning.specs.Address.{Spot, in_group, is_break, lines_of}
 use Rattle.multi_meaning.specs.Filling.{filled}
 use Rattle.multi_meaning.specs.kept.Present.{IsFilledOn}
 use Rattle.multi_meaning.specs.Line.{height_of}
 use Rattle.multi_judge.specs.declared.area.Area.{Area}
 use Rattle.multi_judge.specs.declared.fill.Split.{Split}
+use Rattle.multi_judge.specs.Adding.{ReachesGroup}
 use Rattle.multi_judge.specs.FillSums.{split_sum}
-use Rattle.multi_judge.specs.Sums.{area_sum, area_sum_in, group_sum, height_before}
+use Rattle.multi_judge.specs.State.{IsMost, group_room}
+use Rattle.multi_judge.specs.Sums.{IsBare, IsBelow, IsGroupBelow, area_sum, area_sum_in, group_sum, height_before}
 use Rattle.multi_judge.proofs.AreaSumLemmas.{group_behind}
 
 -- an area whose present group is filled with one more character
@@ -28,6 +30,39 @@ area_filled old new group s just width on kept r is present top middle own =
     let group' : r.group ≡ group_sum (in_group just new) = own ∙ ap group_sum (sym on.after) in
     let whole : r ≡ area_sum_in just new = rw (← top', ← middle', ← group', ← present') refl in
     whole ∙ ap (λ n. area_sum_in n new) (sym on.last)
+
+-- an area that goes on to the group with a page justification, or doesn't where that is before its present one
+module _ (page height : ℕ) (page_known : (2 ≤ page) × (page ≤ 4)) (old : Area) (most : ℕ) (reached : Bool) (new : Area) (most' : ℕ) (r : ReachesGroup page height old most reached new most') where
+  before : reached ≡ false → page < old.present
+  before off = leb-false old.present page (sym r.order ∙ off)
+
+  -- has numbers that grew by no more than 1,024
+  pub reached_below : (k : ℕ) → IsBelow k old → (new.top ≤ k + 1024) × (new.middle ≤ k + 1024) × IsGroupBelow k new.group × IsBare new.group.line × (2 ≤ new.present) × (new.present ≤ 4)
+  reached_below k b = elim (cases_Bool reached) [
+    | inl on ↦
+        let goes = r.goes on in
+        let (top, middle, group, bare) = goes.grows k b in
+        (top, middle, group, bare, omega (arith, goes.present, page_known.0), omega (arith, goes.present, page_known.1))
+    | inr off ↦ rw ((r.left off).0) (omega (arith, b.top), omega (arith, b.middle), b.group, b.bare, omega (arith, before off, page_known.0), b.known)
+  ]
+
+  -- and the limits of its present group and of its present line are known where they were
+  pub reached_group : (2 ≤ old.present → most ≡ group_room old height) → most' ≡ group_room new height
+  reached_group is = elim (cases_Bool reached) [
+    | inl on ↦ r.limit on is
+    | inr off ↦ let (same, kept) = r.left off in rw (same, kept) (is (omega (arith, before off, page_known.0)))
+  ]
+
+  pub reached_line : (width most : ℕ) → IsMost width old.group.line most → IsMost width new.group.line most
+  reached_line width most is = elim (cases_Bool reached) [
+    | inl on ↦
+        let goes = r.goes on in
+        elim (cases_lt old.present page) [
+          | inl later ↦ λ any. absurd (false≢true (sym (goes.begins later) ∙ any))
+          | inr same ↦ rw (goes.stays (omega (arith, same, leb-true old.present page (sym r.order ∙ on)))) is
+        ]
+    | inr off ↦ rw ((r.left off).0) is
+  ]
 
 -- a group behind the present one has no line yet
 pub nothing_yet : (old group : List Spot) (just width : ℕ) → in_group just old ≡ filled (Some width) group → (a : Area) → a ≡ area_sum old → a.present < just

@@ -1,21 +1,20 @@
 -- What fits behind one more character, where what was before it fits: only the present segment and the present group can be too much.
-use Rattle.std.proofs.Common.{◌≡◌, ℕ, ◌≤◌, true, inl, inr, List, [], ◌∷◌, ◌++◌, None, refl, sym, ap, subst, ◌∙◌, arith}
+use Rattle.std.proofs.Common.{◌≡◌, ℕ, ◌≤◌, Bool, true, inl, inr, List, [], ◌∷◌, ◌++◌, refl, sym, ap, subst, ◌∙◌, arith}
 use Rattle.multi_tag.specs.Just.{line_number, page_number}
 use Rattle.multi_meaning.proofs.FillLemmas.{le_test}
-use Rattle.std.specs.Prelude.{nat_le}
+use Rattle.std.specs.Prelude.{nat_le, ◌==◌, if◌then◌else◌}
 use Rattle.std.specs.List.{All, after_last}
 use Rattle.sign_font.specs.declared.parts.LineFill.TheVariants.{Off}
 use Rattle.sign_font.specs.Sign.{SignData}
 use Rattle.std.proofs.lemmas.Bool.{and_from, and_parts, cases_eq, eq-eqb, ne_eqb}
 use Rattle.std.proofs.lemmas.Bool.Decides.{nat_tests}
-use Rattle.multi_meaning.specs.Address.{Break, Spot, Standing, in_area, in_group, is_break, lines_of, segment, spots, standing}
+use Rattle.multi_meaning.specs.Address.{Spot, Standing, in_area, in_group, is_break, lines_of, segment, spots, standing}
 use Rattle.multi_meaning.specs.Fit.{FitsWithout, area_fits, fit, line_fits, room_for}
 use Rattle.multi_meaning.specs.Line.{height_of, width_of}
 use Rattle.multi_meaning.specs.Meaning.{Meaning}
 use Rattle.multi_meaning.specs.Offence.{offence}
-use Rattle.multi_meaning.specs.kept.Present.{present_area, IsPlacing}
+use Rattle.multi_meaning.specs.kept.Present.{IsPlacing}
 use Rattle.multi_meaning.specs.Words.{some_after}
-use Rattle.multi_meaning.proofs.GroupLemmas.{area_placing, in_group_other}
 use Rattle.multi_meaning.proofs.FitLemmas.{room_end, room_middle, room_start, smaller_fits}
 use Rattle.multi_meaning.proofs.NarrowLemmas.{lines_fit_always}
 use Rattle.multi_meaning.proofs.LinesFitLemmas.{each_just}
@@ -23,14 +22,11 @@ use Rattle.multi_meaning.proofs.RoomLemmas.{area_fits_always}
 use Rattle.multi_judge.specs.declared.area.Area.{Area}
 use Rattle.multi_judge.specs.declared.line.Line.{Line}
 use Rattle.multi_judge.specs.declared.line.Segment.{Segment}
-use Rattle.multi_judge.specs.declared.attributes.Attributes.{Attributes}
-use Rattle.multi_judge.specs.declared.state.State.{State}
-use Rattle.multi_judge.specs.State.{IsUnfilledOf, group_room}
-use Rattle.multi_judge.specs.Run.{Fits, line_in_force, FitsBefore, GroupsFitBefore, kept_before, kept_fits, kept_fits_height, kept_group_height, kept_height, kept_width, lengthened_line}
+use Rattle.multi_judge.specs.State.{group_room}
+use Rattle.multi_judge.specs.Run.{FitsBefore, kept_height, kept_width, lengthened_line}
 use Rattle.multi_judge.specs.Sums.{area_sum, line_sum}
-use Rattle.multi_judge.proofs.AreaSumLemmas.{own_line}
 use Rattle.multi_judge.proofs.LineSumLemmas.{segment_other}
-use Rattle.multi_judge.proofs.RunLemmas.{kept_area_fits, kept_fits_is, kept_group_height_is, kept_width_is}
+use Rattle.multi_judge.proofs.RunLemmas.{kept_group_height, kept_group_height_is, kept_width_is}
 
 -- ---- the line of a character
 
@@ -52,30 +48,26 @@ module _ (width : ℕ) (line : List Spot) (s : Spot) (l : Line) (e : l ≡ line_
       let (parts, full) = and_parts (fit (w 2) (w 3) (w 4) width) (nat_le (w 5) width) fits in
       and_from (fit (k 2) (k 3) (k 4) width) (nat_le (k 5) width) (smaller_fits (w 2) (w 3) (w 4) (k 2) (k 3) (k 4) width (no_wider 2 (omega arith) (omega arith)) (no_wider 3 (omega arith) (omega arith)) (no_wider 4 (omega arith) (omega arith)) parts) (le_test (k 5) (w 5) width (no_wider 5 (omega arith) (omega arith)) full)
 
--- what fits still fits without its present segment
-pub fits_before : (width : ℕ) (l : Line) → kept_fits width l ≡ true → FitsBefore width l
-fits_before width l fits =
-    let w = λ (just : ℕ). kept_width just l in
-    let k = λ (just : ℕ). kept_width just (lengthened_line 0 0 l) in
-    let less : (just : ℕ) → k just ≤ w just = λ just. elim (cases_eq just l.present) [
-      | inl same ↦ rw (eq-eqb just l.present same) (omega arith)
-      | inr other ↦ rw (ne_eqb just l.present other) (omega arith)
-    ] in
-    let (parts, full) = and_parts (fit (w 2) (w 3) (w 4) width) (nat_le (w 5) width) fits in
-    and_from (fit (k 2) (k 3) (k 4) width) (nat_le (k 5) width) (smaller_fits (w 2) (w 3) (w 4) (k 2) (k 3) (k 4) width (less 2) (less 3) (less 4) parts) (le_test (k 5) (w 5) width (less 5) full)
+-- ---- the area of a character, whose group alone grows by it
 
--- ---- the area of a character
+-- the height of the group with a page justification, if it is before the present one, by what is kept of the area
+abbrev pub kept_before : ℕ → Area → ℕ
+kept_before just area = if just == area.present then 0 else (if just == 2 then area.top else (if just == 3 then area.middle else 0))
 
-module _ (height : ℕ) (area : List Spot) (s : Spot) (a : Area) (e : a ≡ area_sum (area ++ s ∷ [])) (placing : All IsPlacing (area ++ s ∷ [])) (own : a.present ≡ page_number s.at.page_just) (known : a.present ≤ 4)
-    (fits : area_fits height area ≡ true) where
+-- by what is kept of an area, its groups before the present one fit a height
+abbrev pub GroupsFitBefore : ℕ → Area → Type 0
+GroupsFitBefore height area = fit (kept_before 2 area) (kept_before 3 area) (kept_before 4 area) height ≡ true
+
+module _ (height : ℕ) (area more : List Spot) (page : ℕ) (others : (just : ℕ) → (just ≡ page → ⊥) → in_group just more ≡ in_group just area) (a : Area) (e : a ≡ area_sum more) (placing : All IsPlacing more)
+    (own : a.present ≡ page) (known : a.present ≤ 4) (fits : area_fits height area ≡ true) where
   -- the other groups are as high as without the character
   no_higher : (just : ℕ) → 2 ≤ just → just ≤ 4 → kept_before just a ≤ height_of (lines_of (in_group just area))
   no_higher just low high = elim (cases_eq just a.present) [
     | inl same ↦ rw (eq-eqb just a.present same) (omega arith)
     | inr other ↦
         let kept : kept_before just a ≡ kept_group_height just a = rw (ne_eqb just a.present other) refl in
-        let without = ap (λ l. height_of (lines_of l)) (in_group_other just area s (λ h. other (sym (own ∙ h)))) in
-        omega (arith, kept, kept_group_height_is (area ++ s ∷ []) a just placing e low high known, without)
+        let without = ap (λ l. height_of (lines_of l)) (others just (λ h. other (h ∙ sym own))) in
+        omega (arith, kept, kept_group_height_is more a just placing e low high known, without)
   ]
 
   pub groups_fit_before : GroupsFitBefore height a
@@ -83,6 +75,10 @@ module _ (height : ℕ) (area : List Spot) (s : Spot) (a : Area) (e : a ≡ area
       let h = λ (just : ℕ). height_of (lines_of (in_group just area)) in
       smaller_fits (h 2) (h 3) (h 4) (kept_before 2 a) (kept_before 3 a) (kept_before 4 a) height
       (no_higher 2 (omega arith) (omega arith)) (no_higher 3 (omega arith) (omega arith)) (no_higher 4 (omega arith) (omega arith)) fits
+
+-- the groups of an area stand apart within a height, by what is kept of the area
+abbrev pub kept_fits_height : ℕ → Area → Bool
+kept_fits_height height area = fit (kept_group_height 2 area) (kept_group_height 3 area) (kept_group_height 4 area) height
 
 -- what its present group may have
 module _ (area : List Spot) (a : Area) (e : a ≡ area_sum area) (height : ℕ) where
@@ -109,18 +105,3 @@ module _ (sign : SignData) (items : List Meaning) (none : some_after (offence Of
       let before = spots sign items in
       subst (λ (t : Standing). (line_fits t.rectangle.width (after_last is_break (in_group (page_number t.page_just) (in_area t.area before))) ≡ true) × (area_fits t.rectangle.height (in_area t.area before) ≡ true)) (sym at)
       (lines_fit_always sign items none (page_number (standing sign items).page_just), area_fits_always sign items none)
-
--- by what is kept too
-pub unfilled_fits : (sign : SignData) (items : List Meaning) (state : State) → IsUnfilledOf sign state items → Fits state
-unfilled_fits sign items state of =
-    let st = of.state_is in
-    let area = present_area sign items in
-    let line = after_last is_break (in_group state.area.present area) in
-    let width : (standing sign items).rectangle.width ≡ state.attributes.rectangle.width = sym (ap (λ (a : Attributes). a.rectangle.width) st.attributes) in
-    let height : (standing sign items).rectangle.height ≡ state.attributes.rectangle.height = sym (ap (λ (a : Attributes). a.rectangle.height) st.attributes) in
-    record {
-      width = kept_fits_is line (line_in_force state) state.attributes.rectangle.width (own_line area state.area st.area) st.below.group.line.known
-          ∙ subst (λ w. line_fits w line ≡ true) width (lines_fit_always sign items of.fine state.area.present);
-      height = kept_area_fits area state.area state.attributes.rectangle.height (area_placing (spots sign items) (record { at = standing sign items; put = Break None })) st.area st.below.known
-          ∙ subst (λ h. area_fits h area ≡ true) height (area_fits_always sign items of.fine);
-    }

@@ -1,11 +1,19 @@
 -- The sums of a filled group at one more character, in each case that filling tells apart.
-use Rattle.std.proofs.Common.{◌≡◌, inl, inr, ℕ, Bool, true, false, List, [], ◌∷◌, ◌++◌, Option, Some, None, refl, sym, ap, subst, ◌∙◌, append_assoc, append-nil}
+use Rattle.std.proofs.Common.{◌≡◌, ◌≤◌, inl, inr, ℕ, Bool, true, false, cond, ◌&&◌, ◌==◌, arith, List, [], ◌∷◌, ◌++◌, Option, Some, None, refl, sym, ap, subst, ◌∙◌, append_assoc, append-nil}
 use Rattle.std.specs.List.{after_last, list_any, All, AllPass}
 use Rattle.std.specs.Option.{option_map}
+use Rattle.std.specs.Prelude.{nat_le}
+use Rattle.std.proofs.lemmas.Bool.{and_from, and_parts}
+use Rattle.std.proofs.lemmas.List.Sums.{sum_by-append}
+use Rattle.multi_tag.specs.Just.{line_number}
+use Rattle.multi_meaning.specs.Line.{char_gap, glyph_width, width_of}
+use Rattle.multi_meaning.specs.Words.{successive}
+use Rattle.multi_meaning.proofs.FillLemmas.{le_test}
+use Rattle.multi_meaning.proofs.FitLemmas.{smaller_fits}
 use Rattle.std.proofs.lemmas.List.Elements.{All-nil, All-cons, All-head, All-tail}
 use Rattle.sign_font.specs.Sign.{info_of}
-use Rattle.multi_meaning.specs.Address.{Spot, is_break, is_glyph}
-use Rattle.multi_meaning.specs.Fit.{line_fits}
+use Rattle.multi_meaning.specs.Address.{Spot, is_break, is_glyph, segment}
+use Rattle.multi_meaning.specs.Fit.{fit, line_fits}
 use Rattle.multi_meaning.specs.Filling.{CutAt, cut_at_last, dropped, filled, is_space}
 use Rattle.multi_meaning.specs.Offence.{clashes}
 use Rattle.multi_meaning.specs.kept.Present.{IsPlacing, ended_lines}
@@ -26,6 +34,29 @@ use Rattle.multi_judge.specs.Sums.{IsBreak, IsCharacter, group_sum, line_sum}
 use Rattle.multi_judge.proofs.BreakLemmas.{all_glyphs, none_behind, relined}
 use Rattle.multi_judge.proofs.FillSplitLemmas.{no_split, parts_of}
 use Rattle.multi_judge.proofs.GroupSumLemmas.{present_push}
+
+-- a segment is as wide as what stands behind its first character, or wider
+wider : (x : Spot) (line : List Spot) → width_of line ≤ width_of (x ∷ line)
+wider x [] = omega arith
+wider x (y ∷ line) =
+    omega (arith, sum_by-append glyph_width (x ∷ []) (y ∷ line), sum_by-append (λ (pair : Spot × Spot). char_gap pair.0 pair.1) ((x, y) ∷ []) (successive (y ∷ line)))
+
+segment_behind : (just : ℕ) (x : Spot) (line : List Spot) → width_of (segment just line) ≤ width_of (segment just (x ∷ line))
+segment_behind just x line = by_member (is_glyph x && (line_number x.at.line_just == just))
+  where
+    by_member : (b : Bool) → width_of (segment just line) ≤ width_of (cond b (x ∷ segment just line) (segment just line))
+    by_member true = wider x (segment just line)
+    by_member false = omega arith
+
+-- what stands behind the front of a line that fits fits too
+part_fits : (width : ℕ) (front line : List Spot) → line_fits width (front ++ line) ≡ true → line_fits width line ≡ true
+part_fits width [] line h = h
+part_fits width (x ∷ front) line h =
+    let w = λ (just : ℕ). width_of (segment just (front ++ line)) in
+    let v = λ (just : ℕ). width_of (segment just (x ∷ (front ++ line))) in
+    let (parts, full) = and_parts (fit (v 2) (v 3) (v 4) width) (nat_le (v 5) width) h in
+    let less = λ (just : ℕ). segment_behind just x (front ++ line) in
+    part_fits width front line (and_from (fit (w 2) (w 3) (w 4) width) (nat_le (w 5) width) (smaller_fits (v 2) (v 3) (v 4) (w 2) (w 3) (w 4) width (less 2) (less 3) (less 4) parts) (le_test (w 5) (v 5) width (less 5) full))
 
 -- with another present line
 abbrev pub with_line : Group → Line → Group
@@ -108,12 +139,12 @@ module _ (width : ℕ) (group : List Spot) (s : Spot) (character : Character) (p
   glyphs_more = all_glyphs line s [] glyphs is.glyph (All-nil (λ x. is_glyph x ≡ true))
 
   -- the line with the character, as it fits
-  module _ (grown : Line) (sum : grown ≡ line_sum (after_last is_break (filled (Some width) group) ++ s ∷ [])) (r : Bool) (answer : (l : List Spot) → grown ≡ line_sum l → r ≡ line_fits width l) where
+  module _ (grown : Line) (sum : grown ≡ line_sum (after_last is_break (filled (Some width) group) ++ s ∷ [])) (r : Bool) (answer : r ≡ line_fits width (after_last is_break (filled (Some width) group) ++ s ∷ [])) where
     sum' : grown ≡ line_sum (line ++ s ∷ [])
     sum' = sum ∙ ap (λ l. line_sum (l ++ s ∷ [])) line_is
 
     r_is : r ≡ line_fits width (line ++ s ∷ [])
-    r_is = answer (line ++ s ∷ []) sum'
+    r_is = answer ∙ ap (λ l. line_fits width (l ++ s ∷ [])) line_is
 
     one_more : with_line self grown ≡ group_sum (filled (Some width) group ++ s ∷ [])
     one_more =
@@ -138,9 +169,12 @@ module _ (width : ℕ) (group : List Spot) (s : Spot) (character : Character) (p
         ends (filled (Some width) group) (dropped s) whole e (record { put = refl; font = is.font })
         ∙ ap group_sum (sym (drops width group s placing is.glyph fits (sym r_is ∙ h) space))
 
+    -- nothing stands behind it
+    pub drops_line : r ≡ false → is_space s ≡ true → after_last is_break more ≡ []
+    drops_line h space = ap (after_last is_break) (drops width group s placing is.glyph fits (sym r_is ∙ h) space) ∙ none_behind (filled (Some width) group) (dropped s) refl
+
     pub drops_split : r ≡ false → is_space s ≡ true → ◌≡◌ {A = Option Split} None (split_sum (after_last is_break more))
-    drops_split h space =
-        ap split_sum (sym (ap (after_last is_break) (drops width group s placing is.glyph fits (sym r_is ∙ h) space) ∙ none_behind (filled (Some width) group) (dropped s) refl))
+    drops_split h space = ap split_sum (sym (drops_line h space))
 
     -- it ends its line
     pub drops_ended : r ≡ false → is_space s ≡ true → EndsLine (filled (Some width) group) more (Some self.line)
@@ -179,6 +213,10 @@ module _ (width : ℕ) (group : List Spot) (s : Spot) (character : Character) (p
 
       line_parts : line ≡ c.before ++ c.item ∷ c.behind
       line_parts = (is_cut is_space line c found).parts
+
+      -- what stands behind it fits, since the whole line did
+      pub behind_fits : line_fits width c.behind ≡ true
+      behind_fits = part_fits width (c.before ++ c.item ∷ []) c.behind (ap (line_fits width) (append_assoc c.before (c.item ∷ []) c.behind ∙ sym line_parts) ∙ fits)
 
       abbrev broken_front : List Spot
       broken_front = (front ++ c.before) ++ dropped c.item ∷ []

@@ -28,6 +28,7 @@ use Rattle.multi_meaning.proofs.LaidItemLemmas.{are_laid}
 use Rattle.multi_meaning.proofs.LaidLemmas.{filled_break}
 use Rattle.multi_meaning.proofs.LaidTagLemmas.{laid_tag}
 use Rattle.multi_meaning.proofs.OffenceLemmas.{offence-break}
+use Rattle.multi_meaning.proofs.RoomLemmas.{fits_next}
 use Rattle.multi_meaning.proofs.UnplacedLemmas.{no_conflict}
 use Rattle.multi_meaning.proofs.StandingLemmas.{standing_push}
 use Rattle.multi_meaning.proofs.StateLemmas.{present_area-cover, present_area-new, present_area-nothing, present_area-placing}
@@ -39,7 +40,7 @@ use Rattle.multi_judge.specs.declared.state.State.{State}
 use Rattle.multi_judge.specs.FilledState.{IsFilledOf, begins_line}
 use Rattle.multi_judge.specs.FillSums.{order_sum, split_sum}
 use Rattle.multi_judge.specs.PassState.{IsItemJudged}
-use Rattle.multi_judge.specs.State.{IsJudged, IsStateOf}
+use Rattle.multi_judge.specs.State.{AreaFits, IsJudged, IsLimited, IsStateOf}
 use Rattle.multi_judge.proofs.AreaSumLemmas.{no_back}
 use Rattle.multi_judge.proofs.BoundLemmas.{split_more}
 
@@ -53,12 +54,16 @@ present_laid sign items state st =
     ∙ largest_laid Words (standing sign items).rectangle.width (standing sign items).area all all [] (sym (append-nil all))
 
 module _ (sign : SignData) (items : List Meaning) (kept : Pass) (of : IsFilledOf sign items kept) (tag : Tag) (state : State)
-    (st : IsStateOf sign (laid_items Words sign items items ++ Does tag ∷ []) state) where
+    (st : IsStateOf sign (laid_items Words sign items items ++ Does tag ∷ []) state) (limited : IsLimited state) (fine : offence Off sign (laid_items Words sign items items) (Does tag) ≡ None) where
   abbrev more : List Meaning
   more = items ++ Does tag ∷ []
 
   laid_state : IsStateOf sign (laid_items Words sign more more) state
   laid_state = subst (λ l. IsStateOf sign l state) (sym (laid_tag Words sign items tag)) st
+
+  -- the area still fits
+  still_fits : AreaFits sign (laid_items Words sign more more)
+  still_fits = subst (AreaFits sign) (sym (laid_tag Words sign items tag)) (fits_next sign (laid_items Words sign items items) (Does tag) fine of.area_fits)
 
   count : 1024 * length items ≤ 1024 * length more
   count = omega (arith, length-append items (Does tag ∷ []))
@@ -74,6 +79,8 @@ module _ (sign : SignData) (items : List Meaning) (kept : Pass) (of : IsFilledOf
         split_is = of.split_is ∙ sym (λ i. split_sum (after_last is_break (filled (Some (width i)) (in_group (present i) (area i)))));
         order_is = of.order_is ∙ sym (λ i. order_sum (after_last is_break (in_group (present i) (area i))));
         split_below = split_more (1024 * length items) (1024 * length more) kept.split count of.split_below;
+        limited = limited;
+        area_fits = still_fits;
         fits = λ j. (λ i. line_fits (width i) (after_last is_break (filled (Some (width i)) (in_group j (area i))))) ∙ of.fits j;
       }
 
@@ -84,12 +91,14 @@ module _ (sign : SignData) (items : List Meaning) (kept : Pass) (of : IsFilledOf
     split_is = sym (ap (λ l. split_sum (after_last is_break (filled (Some (standing sign more).rectangle.width) (in_group state.area.present l)))) area);
     order_is = sym (ap (λ l. order_sum (after_last is_break (in_group state.area.present l))) area);
     split_below = tt;
+    limited = limited;
+    area_fits = still_fits;
     fits = λ j. ap (λ l. line_fits (standing sign more).rectangle.width (after_last is_break (filled (Some (standing sign more).rectangle.width) (in_group j l)))) area ∙ nothing_fits (standing sign more).rectangle.width;
   }
 
 -- a line ends
 module _ (sign : SignData) (items : List Meaning) (kept : Pass) (of : IsFilledOf sign items kept) (gap : Option ℕ) (fine : offence Off sign (laid_items Words sign items items) (Does (NewLine gap)) ≡ None)
-    (state : State) (st : IsStateOf sign (laid_items Words sign items items ++ Does (NewLine gap) ∷ []) state) where
+    (state : State) (st : IsStateOf sign (laid_items Words sign items items ++ Does (NewLine gap) ∷ []) state) (limited : IsLimited state) where
   abbrev nl : Spot
   nl = record { at = standing sign items; put = Break gap }
 
@@ -114,7 +123,7 @@ module _ (sign : SignData) (items : List Meaning) (kept : Pass) (of : IsFilledOf
         order,
         present_laid sign items kept.state of.state_is,
         largest_push (λ t. page_number t.at.page_just) (present_area sign items) nl,
-        present_laid sign behind state (laid_state sign items kept of (NewLine gap) state st) ∙ ap (largest (λ (t : Spot). page_number t.at.page_just)) area_is,
+        present_laid sign behind state (laid_state sign items kept of (NewLine gap) state st limited fine) ∙ ap (largest (λ (t : Spot). page_number t.at.page_just)) area_is,
       )
 
   width : (standing sign behind).rectangle.width ≡ nl.at.rectangle.width
@@ -136,10 +145,12 @@ module _ (sign : SignData) (items : List Meaning) (kept : Pass) (of : IsFilledOf
 
   ends : IsFilledOf sign behind (record { state = state; split = None; order = order_sum [] })
   ends = record {
-    state_is = laid_state sign items kept of (NewLine gap) state st;
+    state_is = laid_state sign items kept of (NewLine gap) state st limited fine;
     split_is = sym (ap (λ j. split_sum (after_last is_break (filled (Some (standing sign behind).rectangle.width) (in_group j (present_area sign behind))))) present ∙ ap split_sum soft);
     order_is = sym (ap (λ j. order_sum (after_last is_break (in_group j (present_area sign behind)))) present ∙ ap order_sum hard);
     split_below = tt;
+    limited = limited;
+    area_fits = still_fits sign items kept of (NewLine gap) state st limited fine;
     fits = λ j. elim (cases_eq (page_number nl.at.page_just) j) [
       | inl same ↦
           ap (λ j. line_fits (standing sign behind).rectangle.width (after_last is_break (filled (Some (standing sign behind).rectangle.width) (in_group j (present_area sign behind))))) (sym same)
@@ -173,19 +184,19 @@ module _ (sign : SignData) (items : List Meaning) (kept : Pass) (of : IsFilledOf
   as_laid : sign.line_fill ≡ Words → (tag : Tag) → offence sign.line_fill sign items (Does tag) ≡ offence Off sign laid (Does tag)
   as_laid words tag = ap (λ (setting : LineFill). offence setting sign items (Does tag)) words ∙ offends_as_laid sign items tag
 
-  pub judged-stays : sign.line_fill ≡ Words → (tag : Tag) (result : Result (Unit {0}) SyntaxError) (state : State) → begins_line tag ≡ false → IsJudged sign laid (Does tag) result state
+  pub judged-stays : sign.line_fill ≡ Words → (tag : Tag) (result : Result (Unit {0}) SyntaxError) (state : State) → begins_line tag ≡ false → IsLimited state → IsJudged sign laid (Does tag) result state
       → IsItemJudged true sign items (Does tag) result (record { state = state; split = kept.split; order = kept.order })
-  judged-stays words tag (Err error) state e j = as_laid words tag ∙ j
-  judged-stays words tag (Ok done) state e j = (as_laid words tag ∙ j.0, record { words = words; of = stays sign items kept of tag state j.1 (area_stays tag e) (width_stays tag e) })
+  judged-stays words tag (Err error) state e limited j = as_laid words tag ∙ j
+  judged-stays words tag (Ok done) state e limited j = (as_laid words tag ∙ j.0, record { words = words; of = stays sign items kept of tag state j.1 limited j.0 (area_stays tag e) (width_stays tag e) })
 
-  begins_of : (tag : Tag) (state : State) → begins_line tag ≡ true → offence Off sign laid (Does tag) ≡ None → IsStateOf sign (laid ++ Does tag ∷ []) state
+  begins_of : (tag : Tag) (state : State) → begins_line tag ≡ true → IsLimited state → offence Off sign laid (Does tag) ≡ None → IsStateOf sign (laid ++ Does tag ∷ []) state
       → IsFilledOf sign (items ++ Does tag ∷ []) (record { state = state; split = None; order = order_sum [] })
-  begins_of NewPage state e fine st = begins sign items kept of NewPage state st (present_area-new sign items (Does NewPage) refl)
-  begins_of (NewLine gap) state e fine st = ends sign items kept of gap fine state st
-  begins_of (Rect x y w h) state e fine st = begins sign items kept of (Rect x y w h) state st (present_area-new sign items (Does (Rect x y w h)) refl)
-  begins_of tag state e fine st = cc
+  begins_of NewPage state e limited fine st = begins sign items kept of NewPage state st limited fine (present_area-new sign items (Does NewPage) refl)
+  begins_of (NewLine gap) state e limited fine st = ends sign items kept of gap fine state st limited
+  begins_of (Rect x y w h) state e limited fine st = begins sign items kept of (Rect x y w h) state st limited fine (present_area-new sign items (Does (Rect x y w h)) refl)
+  begins_of tag state e limited fine st = cc
 
-  pub judged-begins : sign.line_fill ≡ Words → (tag : Tag) (result : Result (Unit {0}) SyntaxError) (state : State) → begins_line tag ≡ true → IsJudged sign laid (Does tag) result state
+  pub judged-begins : sign.line_fill ≡ Words → (tag : Tag) (result : Result (Unit {0}) SyntaxError) (state : State) → begins_line tag ≡ true → IsLimited state → IsJudged sign laid (Does tag) result state
       → IsItemJudged true sign items (Does tag) result (record { state = state; split = None; order = order_sum [] })
-  judged-begins words tag (Err error) state e j = as_laid words tag ∙ j
-  judged-begins words tag (Ok done) state e j = (as_laid words tag ∙ j.0, record { words = words; of = begins_of tag state e j.0 j.1 })
+  judged-begins words tag (Err error) state e limited j = as_laid words tag ∙ j
+  judged-begins words tag (Ok done) state e limited j = (as_laid words tag ∙ j.0, record { words = words; of = begins_of tag state e limited j.0 j.1 })

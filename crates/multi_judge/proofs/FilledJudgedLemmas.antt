@@ -1,11 +1,11 @@
 -- One more character is judged where lines are filled, by what is kept of the items before it.
-use Rattle.std.proofs.Common.{◌≡◌, ℕ, Bool, true, false, cond, not, ◌&&◌, ◌||◌, ◌==◌, nat_lt, List, [], ◌∷◌, ◌++◌, Option, Some, None, refl, sym, ap, subst, ◌∙◌, append-nil}
-use Rattle.std.specs.List.{All, after_last, list_any}
+use Rattle.std.proofs.Common.{◌≡◌, ◌≤◌, ℕ, Bool, true, false, cond, not, ◌&&◌, ◌||◌, ◌==◌, nat_lt, List, [], ◌∷◌, ◌++◌, Option, Some, None, refl, sym, ap, subst, ◌∙◌, arith, append-nil}
+use Rattle.std.specs.List.{All, AllPass, after_last, list_any}
 use Rattle.multi_tag.specs.Just.{page_number}
 use Rattle.sign_font.specs.declared.parts.LineFill.TheVariants.{Words}
 use Rattle.sign_font.specs.Cell.{SizedCell}
 use Rattle.sign_font.specs.Sign.{SignData, CellData, cell_in, cell_numbered}
-use Rattle.multi_meaning.specs.Address.{Glyph, Spot, Standing, area_of, group_of, in_group, is_break, spots, standing}
+use Rattle.multi_meaning.specs.Address.{Glyph, Spot, Standing, area_of, group_of, in_group, is_break, is_glyph, spots, standing}
 use Rattle.multi_meaning.specs.Filling.{filled, is_space}
 use Rattle.multi_meaning.specs.Fit.{area_fits, line_fits}
 use Rattle.multi_meaning.specs.LaidItems.{laid_items}
@@ -13,6 +13,7 @@ use Rattle.multi_meaning.specs.Meaning.{Meaning, Shows}
 use Rattle.multi_meaning.specs.Offence.{clashes, conflicts, first_code, never_big, offence, unsized_offence}
 use Rattle.multi_meaning.specs.kept.Present.{present_area, IsPlacing}
 use Rattle.multi_meaning.proofs.GroupLemmas.{area_placing, placing_group}
+use Rattle.multi_tag.proofs.JustLemmas.{page_number_known}
 use Rattle.multi_meaning.proofs.LaidItemLemmas.{are_laid}
 use Rattle.multi_meaning.proofs.OffenceLemmas.{offence-character}
 use Rattle.multi_judge.specs.declared.area.Area.{Area}
@@ -23,11 +24,14 @@ use Rattle.multi_judge.specs.declared.attributes.Attributes.{Attributes}
 use Rattle.multi_judge.specs.declared.pass.Pass.{Pass}
 use Rattle.multi_judge.specs.FillSums.{EndsLine, FillsArea, order_sum, split_sum}
 use Rattle.multi_judge.specs.FilledState.{IsFilledOf}
+use Rattle.multi_judge.specs.Run.{FitsBefore}
 use Rattle.multi_judge.specs.State.{attributes_of}
 use Rattle.multi_judge.specs.Sums.{IsCharacter, area_sum, line_sum}
 use Rattle.multi_judge.proofs.AreaSumLemmas.{both_fit, no_back, no_clash}
 use Rattle.multi_judge.proofs.FilledCharacterLemmas.{area_with, conflicts_by, doesn't_fit, goes_behind, offends_by, offends_without, present_is, shown}
+use Rattle.multi_judge.proofs.BeforeLemmas.{GroupsFitBefore, groups_fit_before}
 use Rattle.multi_judge.proofs.FilledOrderLemmas.{no_clash_filled}
+use Rattle.multi_judge.proofs.GroupSumLemmas.{present_glyphs}
 use Rattle.multi_judge.proofs.JudgedLemmas.{cell_found, cell_missing}
 
 not_not : (a b : Bool) → not a ≡ not b → a ≡ b
@@ -66,7 +70,7 @@ module _ (sign : SignData) (items : List Meaning) (kept : Pass) (of : IsFilledOf
   module _ (number : ℕ) (c : SizedCell) (some : cell_in sign kept.state.attributes.font.number number ≡ Some c) (clash : Bool)
       (clashing : (line : List Spot) (s : Spot) → kept.order ≡ order_sum line → s.at.line_just ≡ kept.state.attributes.line_just → clash ≡ list_any (clashes s) line) where
     -- whether it conflicts is told by what is kept
-    pub conflict_is : (cell : CellData) (found : cell_numbered (standing sign items).font number ≡ Some cell) → conflicts (spots sign items) (shown sign items number cell found)
+    conflict_is : (cell : CellData) (found : cell_numbered (standing sign items).font number ≡ Some cell) → conflicts (spots sign items) (shown sign items number cell found)
         ≡ (nat_lt (page_number kept.state.attributes.page_just) kept.state.area.present || ((page_number kept.state.attributes.page_just == kept.state.area.present) && clash))
     conflict_is cell found =
         sym (conflicts_by sign items number cell found kept.state of.state_is clash (clashing _ (shown sign items number cell found) of.order_is (sym (ap (λ (a : Attributes). a.line_just) attributes_here))))
@@ -110,6 +114,7 @@ module _ (sign : SignData) (items : List Meaning) (kept : Pass) (of : IsFilledOf
           × (split' ≡ split_sum (after_last is_break (filled (Some (standing sign items).rectangle.width) (group_of (shown sign items number cell found) (spots sign items) ++ shown sign items number cell found ∷ []))))
           × EndsLine (filled (Some (standing sign items).rectangle.width) (group_of (shown sign items number cell found) (spots sign items)))
           (filled (Some (standing sign items).rectangle.width) (group_of (shown sign items number cell found) (spots sign items) ++ shown sign items number cell found ∷ [])) ended
+          × FitsBefore (standing sign items).rectangle.width area'.group.line
       filled_grown =
           let all = spots sign items in
           let s : Spot = shown sign items number cell found in
@@ -124,8 +129,25 @@ module _ (sign : SignData) (items : List Meaning) (kept : Pass) (of : IsFilledOf
           (no_clash_filled s.at.rectangle.width (group_of s all) s placing (no_clash all s (page_number s.at.page_just) refl refl apart))
           (λ e. of.split_is ∙ ap (λ j. split_sum (after_last is_break (filled (Some s.at.rectangle.width) (in_group j (present_area sign items))))) e)
 
-      module _ (f h : Bool) (line : (l : List Spot) → area'.group.line ≡ line_sum l → f ≡ line_fits kept.state.attributes.rectangle.width l)
-          (height : (l : List Spot) → All IsPlacing l → area' ≡ area_sum l → h ≡ area_fits kept.state.attributes.rectangle.height l) where
+      module _ (f h : Bool) (line : (l : List Spot) → AllPass is_glyph l → area'.group.line ≡ line_sum l → FitsBefore kept.state.attributes.rectangle.width area'.group.line → f ≡ line_fits kept.state.attributes.rectangle.width l)
+          (height : (l : List Spot) → All IsPlacing l → area' ≡ area_sum l → 2 ≤ area'.present → GroupsFitBefore kept.state.attributes.rectangle.height area' → h ≡ area_fits kept.state.attributes.rectangle.height l) where
+        present : area'.present ≡ page_number (shown sign items number cell found).at.page_just
+        present = ap (λ (a : Area). a.present) filled_grown.0 ∙ (goes_behind sign items number cell found apart).last
+
+        -- its groups before the present one fit, since they did without it
+        above : GroupsFitBefore kept.state.attributes.rectangle.height area'
+        above =
+            let s : Spot = shown sign items number cell found in
+            let laid = laid_items Words sign items items in
+            let more = laid_items Words sign (items ++ Shows number ∷ []) (items ++ Shows number ∷ []) in
+            let new = area_with sign items number cell found in
+            let on = goes_behind sign items number cell found apart in
+            let sum = filled_grown.0 in
+            let last : Spot = record { at = standing sign more; put = Glyph cell } in
+            let fits = subst (λ (a : Attributes). area_fits a.rectangle.height (present_area sign laid) ≡ true) (sym of.state_is.attributes) of.area_fits in
+            groups_fit_before kept.state.attributes.rectangle.height (present_area sign laid) new (page_number s.at.page_just) on.others area' sum (area_placing (spots sign more) last) present
+            (omega (arith, present, (page_number_known s.at.page_just).1)) fits
+
         fits_is : (f && h) ≡ not (doesn't_fit sign items number cell found)
         fits_is =
             let s : Spot = shown sign items number cell found in
@@ -135,8 +157,10 @@ module _ (sign : SignData) (items : List Meaning) (kept : Pass) (of : IsFilledOf
             let line_is : area'.group.line ≡ line_sum (after_last is_break (in_group (page_number s.at.page_just) new)) =
             ap (λ (a : Area). a.group.line) sum ∙ ap (λ j. line_sum (after_last is_break (in_group j new))) (goes_behind sign items number cell found apart).last in
             let last : Spot = record { at = standing sign more; put = Glyph cell } in
-            let wide = line (after_last is_break (in_group (page_number s.at.page_just) new)) line_is ∙ ap (λ (a : Attributes). line_fits a.rectangle.width (after_last is_break (in_group (page_number s.at.page_just) new))) attributes_here in
-            let high = height new (area_placing (spots sign more) last) sum ∙ ap (λ (a : Attributes). area_fits a.rectangle.height new) attributes_here in
+            let placing = area_placing (spots sign more) last in
+            let before = subst (λ (a : Attributes). FitsBefore a.rectangle.width area'.group.line) (sym attributes_here) filled_grown.3 in
+            let wide = line (after_last is_break (in_group (page_number s.at.page_just) new)) (present_glyphs (page_number s.at.page_just) new placing) line_is before ∙ ap (λ (a : Attributes). line_fits a.rectangle.width (after_last is_break (in_group (page_number s.at.page_just) new))) attributes_here in
+            let high = height new placing sum (omega (arith, present, (page_number_known s.at.page_just).0)) above ∙ ap (λ (a : Attributes). area_fits a.rectangle.height new) attributes_here in
             (λ i. wide i && high i) ∙ both_fit (line_fits s.at.rectangle.width (after_last is_break (in_group (page_number s.at.page_just) new))) (area_fits s.at.rectangle.height new)
 
         -- so its size is told

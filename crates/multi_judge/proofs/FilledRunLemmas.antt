@@ -1,6 +1,6 @@
 -- A character with the attributes of the one before it, where lines are filled: it only lengthens what is kept.
 use Rattle.std.proofs.Common.{◌≡◌, ℕ, ◌+◌, ◌-◌, ◌*◌, ◌^◌, ◌<◌, ◌≤◌, Bool, true, false, cond, ◌&&◌, ◌||◌, ◌==◌, List, [], ◌∷◌, ◌++◌, length, map, slice_get, Option, Some, None, refl, sym, ap, subst, ◌∙◌, arith}
-use Rattle.std.specs.Prelude.{nat_lt}
+use Rattle.std.specs.Prelude.{nat_le, nat_lt}
 use Rattle.std.specs.List.{AllPass, after_last, list_any}
 use Rattle.std.specs.Option.{option_map, unwrap_or}
 use Rattle.std.proofs.lemmas.Bool.{and_from, and_right, eq-eqb, false≢true, le-leb, le-ltb}
@@ -14,7 +14,6 @@ use Rattle.sign_font.specs.Cell.{SizedCell}
 use Rattle.sign_font.specs.Sign.{SignData, cell_in}
 use Rattle.multi_meaning.specs.Address.{Spot, is_break, is_glyph}
 use Rattle.multi_meaning.specs.Filling.{filled, is_space}
-use Rattle.multi_meaning.specs.Fit.{line_fits}
 use Rattle.multi_meaning.specs.Meaning.{meaning}
 use Rattle.multi_meaning.specs.Offence.{clashes}
 use Rattle.multi_tag.proofs.JustLemmas.{line_number_known}
@@ -29,10 +28,11 @@ use Rattle.multi_judge.specs.FilledRun.{GoesOnBehind, IsFilledRun, even_line, lo
 use Rattle.multi_judge.specs.FilledState.{IsFilledFor}
 use Rattle.multi_judge.specs.FillSums.{FillsArea, IsSplitBelow, split_sum}
 use Rattle.multi_judge.specs.Judging.{ReadSoFar}
-use Rattle.multi_judge.specs.Run.{IsBehindOne, IsRun, kept_fits, kept_fits_height, lengthened, lengthened_area, lengthened_line, line_in_force}
+use Rattle.multi_judge.specs.Run.{IsBehindOne, IsRun, kept_height, lengthened, lengthened_area, lengthened_line, line_in_force}
 use Rattle.multi_judge.specs.Sums.{IsBelow, IsCharacter, IsLineBelow, area_sum_in, group_sum, line_sum, segment_sum}
 use Rattle.multi_judge.proofs.AreaFillLemmas.{area_filled}
 use Rattle.multi_judge.proofs.AreaSumLemmas.{group_of_own}
+use Rattle.multi_judge.proofs.LimitLemmas.{area_told, fits_behind, open_told, told_behind}
 use Rattle.multi_judge.proofs.FillGroupLemmas.{present_glyphs, present_line, stands_ended, stands_line, stands_sum}
 use Rattle.multi_judge.proofs.FillSplitLemmas.{line_below, split_none, split_space, split_word}
 use Rattle.multi_judge.proofs.FilledJudgedLemmas.{filled_free}
@@ -40,7 +40,7 @@ use Rattle.multi_judge.proofs.FilledKeptLemmas.{filled_put, laid_count}
 use Rattle.multi_judge.proofs.FilledOrderLemmas.{order_apart, order_stays}
 use Rattle.multi_judge.proofs.ReadLemmas.{read_more}
 use Rattle.multi_judge.proofs.LineSumLemmas.{cond_zero, line_with, segment_own}
-use Rattle.multi_judge.proofs.RunLemmas.{kept_area_fits, kept_fits_is, line_lengthened, longer_below}
+use Rattle.multi_judge.proofs.RunLemmas.{line_lengthened, longer_below}
 use Rattle.multi_judge.proofs.RunReadLemmas.{cell_of_width}
 
 -- characters of which there is none
@@ -135,7 +135,7 @@ with_one gap width space kept = record {
   order = kept.order;
 }
 
-module _ (kept : Pass) (run : IsFilledRun kept) (gap room : ℕ) (runs : IsRun kept.state gap room) (width : ℕ) (some : 1 ≤ width) (fits : (line_in_force kept.state).part.width + (gap + width) ≤ room) (space : Bool) where
+module _ (kept : Pass) (run : IsFilledRun kept) (gap : ℕ) (runs : IsRun kept.state gap) (width : ℕ) (fits : (line_in_force kept.state).part.width + (gap + width) ≤ kept.state.limits.width) (space : Bool) where
   abbrev here : Attributes
   here = kept.state.attributes
 
@@ -148,8 +148,8 @@ module _ (kept : Pass) (run : IsFilledRun kept) (gap room : ℕ) (runs : IsRun k
   abbrev area' : Area
   area' = lengthened_area (line.part.width + (gap + width)) (line.part.count + 1) kept.state.area
 
-  still_fits : kept_fits here.rectangle.width longer ≡ true
-  still_fits = runs.room_is (line.part.width + (gap + width)) (line.part.count + 1) (omega (arith, some)) ∙ le-leb (line.part.width + (gap + width)) room fits
+  still_fits : nat_le longer.part.width kept.state.limits.width ≡ true
+  still_fits = le-leb (line.part.width + (gap + width)) kept.state.limits.width fits
 
   -- what is kept with it is that of a run
   pub one_goes_on : IsFilledRun (with_one gap width space kept)
@@ -160,14 +160,13 @@ module _ (kept : Pass) (run : IsFilledRun kept) (gap room : ℕ) (runs : IsRun k
           group = run.behind.group;
           line = record { segment = one.segment; parts = one.parts; any = one.any; height = one.height; spacing = one.spacing; last = one.last };
         };
-        fits = record { width = still_fits; height = run.fits.height };
         order = run.order;
         split = split_goes_on here gap width runs.gap_is space line kept.split run.split;
       }
 
   -- the group grows by it
-  fills_one : line.present ≤ 5 → FillsArea (page_number here.page_just) here.rectangle.width kept.state.area kept.split (seen here width) space area' (split_one here gap width space line kept.split) None
-  fills_one known old new group s placing placing' e order on is spaces fits' apart o =
+  fills_one : FillsArea (page_number here.page_just) here.rectangle.width kept.state.area kept.split (seen here width) space area' (split_one here gap width space line kept.split) None
+  fills_one old new group s placing placing' e order on is spaces fits' apart o =
       let w = here.rectangle.width in
       let area = kept.state.area in
       let own : area.group ≡ group_sum (filled (Some w) group) = group_of_own old area e (page_number here.page_just) (sym run.behind.group) ∙ ap group_sum on.before in
@@ -175,18 +174,20 @@ module _ (kept : Pass) (run : IsFilledRun kept) (gap room : ℕ) (runs : IsRun k
       let line_is = present_line w group s (seen here width) placing' is fits' apart area.group own in
       let one = run.behind.line in
       let grown = line_lengthened (after_last is_break (filled (Some w) group)) s (seen here width) glyphs is line line_is one.segment one.parts one.any one.height one.spacing one.last gap runs.gap_is in
-      let fits_so : (l : List Spot) → longer ≡ line_sum l → true ≡ line_fits w l = λ l is. sym still_fits ∙ kept_fits_is l longer w is known in
+      let open' = after_last is_break (filled (Some w) group) in
+      let told = sym still_fits ∙ told_behind w open' s longer grown apart fits' kept.state.limits.width (runs.limited.width one.any) in
       let turned : area ≡ area_sum_in (page_number here.page_just) old = e ∙ ap (λ n. area_sum_in n old) (sym (ap (λ (a : Area). a.present) e) ∙ run.behind.group) in (
-        area_filled old new group s (page_number here.page_just) w on area area' turned refl refl refl (stands_sum w group s (seen here width) placing' is fits' apart area.group own longer grown true fits_so refl),
+        area_filled old new group s (page_number here.page_just) w on area area' turned refl refl refl (stands_sum w group s (seen here width) placing' is fits' apart area.group own longer grown true told refl),
         split_more here gap width runs.gap_is space kept.split run.split line (after_last is_break (filled (Some w) group)) s glyphs is spaces apart line_is (o run.behind.group)
-            ∙ ap split_sum (sym (stands_line w group s (seen here width) placing' is fits' apart area.group own longer grown true fits_so refl)),
-        stands_ended w group s (seen here width) placing' is fits' apart area.group own longer grown true fits_so refl,
+            ∙ ap split_sum (sym (stands_line w group s (seen here width) placing' is fits' apart area.group own longer grown true told refl)),
+        stands_ended w group s (seen here width) placing' is fits' apart area.group own longer grown true told refl,
+        fits_behind w open' s longer grown apart fits',
       )
 
 -- one more octet of a run
 module _ (sign : SignData) (octets : List ℕ) (at : ℕ) (kept : Pass) (r : ReadSoFar sign octets at (IsFilledFor sign kept)) (octet : ℕ) (short : length octets < 2 ^ 63) (here : slice_get octets at ≡ Some octet) (plain : IsPlain octet)
-    (run : IsFilledRun kept) (gap room : ℕ) (runs : IsRun kept.state gap room) (wide : ℕ) (some : 1 ≤ wide) (small : wide ≤ 64)
-    (width_is : Some wide ≡ option_map (λ (c : SizedCell). c.width) (cell_in sign kept.state.attributes.font.number octet)) (fits : (line_in_force kept.state).part.width + (gap + wide) ≤ room) where
+    (run : IsFilledRun kept) (gap : ℕ) (runs : IsRun kept.state gap) (wide : ℕ) (small : wide ≤ 64)
+    (width_is : Some wide ≡ option_map (λ (c : SizedCell). c.width) (cell_in sign kept.state.attributes.font.number octet)) (fits : (line_in_force kept.state).part.width + (gap + wide) ≤ kept.state.limits.width) where
   pub one_taken : ReadSoFar sign octets (at + 1) (IsFilledFor sign (with_one gap wide (octet == 32) kept))
   one_taken =
       let (cell, found, is) = cell_of_width (cell_in sign kept.state.attributes.font.number octet) wide width_is in
@@ -205,13 +206,15 @@ module _ (sign : SignData) (octets : List ℕ) (at : ℕ) (kept : Pass) (r : Rea
       (ap (λ b. b || ((page_number attributes.page_just == kept.state.area.present) && false)) (le-ltb (page_number attributes.page_just) kept.state.area.present (omega (arith, run.behind.group))) ∙ and_right (page_number attributes.page_just == kept.state.area.present) false refl))
       true (sym (eq-eqb (page_number attributes.page_just) kept.state.area.present (sym run.behind.group)))
       (seen attributes wide) refl refl is refl area (split_one attributes gap wide (octet == 32) line kept.split) None
-      (λ cell found. fills_one kept run gap room runs wide some fits (octet == 32) known)
-      (kept_fits attributes.rectangle.width longer) (kept_fits_height attributes.rectangle.height area)
-      (λ l e. kept_fits_is l longer attributes.rectangle.width e known) (λ l placing e. kept_area_fits l area attributes.rectangle.height placing e (omega (arith, st.below.known)))
+      (λ cell found. fills_one kept run gap runs wide fits (octet == 32))
+      kept.state.limits (record { width = of.limited.width; height = of.limited.height })
+      (nat_le longer.part.width kept.state.limits.width) (nat_le (kept_height area.group) kept.state.limits.height)
+      (λ l glyphs e before. open_told l longer attributes.rectangle.width kept.state.limits.width glyphs e known before of.limited.width)
+      (λ l placing e low above. area_told l area attributes.rectangle.height kept.state.limits.height e placing low (omega (arith, st.below.known)) above (of.limited.height low))
       kept.order (λ line s just apart goes stays. order_stays line s kept.order (goes refl) (run.order.0 ∙ ap line_number (sym just)) (run.order.1 ∙ ap (λ j. nat_lt (line_number j) 5) (sym just)))
       (longer_below (1024 * length items) (line.part.width + (gap + wide)) (line.part.count + 1) kept.state.area below (omega (arith, below.group.line.part.width, runs.narrow, small)) (omega (arith, below.group.line.part.count)))
       (split_grows attributes gap wide runs.gap_is (1024 * length items) (octet == 32) line kept.split runs.narrow small below.group.line of.split_below) in
-      let fits' = and_from (kept_fits attributes.rectangle.width longer) (kept_fits_height attributes.rectangle.height area) (still_fits kept run gap room runs wide some fits (octet == 32)) run.fits.height in
+      let fits' = and_from (nat_le longer.part.width kept.state.limits.width) (nat_le (kept_height area.group) kept.state.limits.height) (still_fits kept run gap runs wide fits (octet == 32)) runs.height in
       let token : Token = record { at = at; len = 1; kind = kinds.Char octet } in
       read_more sign octets at (IsFilledFor sign kept) r token refl (single_token octets at octet short here plain) (IsFilledFor sign (with_one gap wide (octet == 32) kept))
       (put.size ∙ ap {B = Option ℕ} (λ b. cond b None (Some 5)) fits') (put.passed fits').of

@@ -16,6 +16,7 @@ use Rattle.multi_meaning.proofs.SpotsLemmas.{spots_more}
 use Rattle.multi_meaning.proofs.StandingLemmas.{standing_push}
 use Rattle.multi_meaning.proofs.WordLemmas.{each_after_push, push_ind, some_after_push}
 use Rattle.multi_judge.specs.declared.area.Area.{Area}
+use Rattle.multi_judge.specs.declared.state.Limits.{Limits}
 use Rattle.multi_judge.specs.declared.state.State.{State}
 use Rattle.multi_judge.specs.State.{IsStateOf, attributes_of}
 use Rattle.multi_judge.specs.Sums.{IsBelow, area_sum}
@@ -91,9 +92,9 @@ module _ (setting : LineFill) (sign : SignData) where
         ap (λ k. in_area k (spots sign laid_more)) here
         ∙ ap (in_area (standing sign items).area) (behind.1 ∙ ap (λ l. laid setting l l) (spots_more sign items (Shows number) (Glyph cell) put))
 
-    pub filled_state : (state : State) (area : Area) → IsStateOf sign laid_before state → area ≡ area_sum (present_area sign laid_more) → IsBelow (1024 * length laid_more) area
-        → IsStateOf sign laid_more (record state { area = area })
-    filled_state state area st sum below =
+    pub filled_state : (state : State) (area : Area) (limits : Limits) → IsStateOf sign laid_before state → area ≡ area_sum (present_area sign laid_more) → IsBelow (1024 * length laid_more) area
+        → IsStateOf sign laid_more (record state { area = area; limits = limits })
+    filled_state state area limits st sum below =
         let after : standing sign laid_more ≡ standing_behind sign (standing sign items) (Shows number) = behind.0 ∙ standing_push sign items (Shows number) in
         let page : (standing sign laid_more).page ≡ (standing sign laid_before).page = ap (λ (s : Standing). s.page) after ∙ omega (arith, ap (λ (s : Standing). s.page) before.0) in
         record {

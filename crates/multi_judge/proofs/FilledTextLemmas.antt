@@ -79,19 +79,19 @@ with_twice gap pixels count width kept =
     let many : line.part.count + 1 + count ≡ line.part.count + (1 + count) = omega arith in
     rw (wide, many, split_twice kept.state.attributes gap pixels count width kept.split) refl
 
-module _ (sign : SignData) (octets : List ℕ) (short : length octets < 2 ^ 63) (gap room : ℕ) where
+module _ (sign : SignData) (octets : List ℕ) (short : length octets < 2 ^ 63) (gap : ℕ) where
   -- the first octet of a text
-  first_taken : (octet : ℕ) (rest : List ℕ) (width at : ℕ) (kept : Pass) → ReadSoFar sign octets at (IsFilledFor sign kept) → IsFilledRun kept → IsRun kept.state gap room → drop at octets ≡ octet ∷ rest → IsPlain octet
-      → Some width ≡ width_in sign kept.state.attributes.font.number octet → IsWithin 1 64 width → (line_in_force kept.state).part.width + (gap + width) ≤ room
+  first_taken : (octet : ℕ) (rest : List ℕ) (width at : ℕ) (kept : Pass) → ReadSoFar sign octets at (IsFilledFor sign kept) → IsFilledRun kept → IsRun kept.state gap → drop at octets ≡ octet ∷ rest → IsPlain octet
+      → Some width ≡ width_in sign kept.state.attributes.font.number octet → IsWithin 1 64 width → (line_in_force kept.state).part.width + (gap + width) ≤ kept.state.limits.width
       → ReadSoFar sign octets (at + 1) (IsFilledFor sign (with_one gap width (octet == 32) kept)) × (drop (at + 1) octets ≡ rest)
   first_taken octet rest width at kept r run runs e plain is within fits =
       let here : slice_get octets at ≡ Some octet = read_drop octets at octet rest e in (
-        one_taken sign octets at kept r octet short here plain run gap room runs width within.0 within.1 is fits,
+        one_taken sign octets at kept r octet short here plain run gap runs width within.1 is fits,
         behind_first (sym (drop_read octets at octet here) ∙ e),
       )
 
-  word_taken : (text rest widths : List ℕ) (at : ℕ) (kept : Pass) → ReadSoFar sign octets at (IsFilledFor sign kept) → IsFilledRun kept → IsRun kept.state gap room → drop at octets ≡ text ++ rest → All IsPlain text → All IsNoSpace text
-      → map (width_in sign kept.state.attributes.font.number) text ≡ map Some widths → All (IsWithin 1 64) widths → (line_in_force kept.state).part.width + sum_by (λ w. gap + w) widths ≤ room
+  word_taken : (text rest widths : List ℕ) (at : ℕ) (kept : Pass) → ReadSoFar sign octets at (IsFilledFor sign kept) → IsFilledRun kept → IsRun kept.state gap → drop at octets ≡ text ++ rest → All IsPlain text → All IsNoSpace text
+      → map (width_in sign kept.state.attributes.font.number) text ≡ map Some widths → All (IsWithin 1 64) widths → (line_in_force kept.state).part.width + sum_by (λ w. gap + w) widths ≤ kept.state.limits.width
       → ReadSoFar sign octets (at + length text) (IsFilledFor sign (with_word gap (sum_by (λ w. gap + w) widths) (length text) kept))
   word_taken [] rest [] at kept r run runs e plain word each within fits =
       let to : at + 0 ≡ at = omega arith in
@@ -107,12 +107,12 @@ module _ (sign : SignData) (octets : List ℕ) (short : length octets < 2 ^ 63) 
       let is : Some w ≡ width_in sign kept.state.attributes.font.number octet = cc in
       let more : map (width_in sign kept.state.attributes.font.number) text ≡ map Some widths = cc in
       let total : sum_by (λ v. gap + v) (w ∷ widths) ≡ gap + w + sum_by (λ v. gap + v) widths = sum_by-append (λ v. gap + v) (w ∷ []) widths ∙ omega arith in
-      let here : line.part.width + (gap + w) ≤ room = omega (arith, total, fits) in
+      let here : line.part.width + (gap + w) ≤ kept.state.limits.width = omega (arith, total, fits) in
       let no : (octet == 32) ≡ false = ne_eqb octet 32 (All-head IsNoSpace octet text word) in
       let one = first_taken octet (text ++ rest) w at kept r run runs e first is small here in
       let read : ReadSoFar sign octets (at + 1) (IsFilledFor sign (with_one gap w false kept)) = subst (λ b. ReadSoFar sign octets (at + 1) (IsFilledFor sign (with_one gap w b kept))) no one.0 in
-      let all = word_taken text rest widths (at + 1) (with_one gap w false kept) read (one_goes_on kept run gap room runs w small.0 here false)
-      (run_stays kept.state gap room (line.part.width + (gap + w)) (line.part.count + 1) runs) one.1 others (All-tail IsNoSpace octet text word) more narrow (omega (arith, total, fits)) in
+      let all = word_taken text rest widths (at + 1) (with_one gap w false kept) read (one_goes_on kept run gap runs w here false)
+      (run_stays kept.state gap (line.part.width + (gap + w)) (line.part.count + 1) runs) one.1 others (All-tail IsNoSpace octet text word) more narrow (omega (arith, total, fits)) in
       let to : at + 1 + length text ≡ at + suc (length text) = omega arith in
       let one_more : 1 + length text ≡ suc (length text) = omega arith in
       let same : with_word gap (sum_by (λ v. gap + v) widths) (length text) (with_one gap w false kept) ≡ with_word gap (sum_by (λ v. gap + v) (w ∷ widths)) (suc (length text)) kept =
@@ -120,16 +120,16 @@ module _ (sign : SignData) (octets : List ℕ) (short : length octets < 2 ^ 63) 
       rw (← to, ← same) all
 
 -- what is kept with a word is that of a run
-word_goes_on : (gap room : ℕ) (widths : List ℕ) (kept : Pass) → IsFilledRun kept → IsRun kept.state gap room → All (IsWithin 1 64) widths → (line_in_force kept.state).part.width + sum_by (λ w. gap + w) widths ≤ room
+word_goes_on : (gap : ℕ) (widths : List ℕ) (kept : Pass) → IsFilledRun kept → IsRun kept.state gap → All (IsWithin 1 64) widths → (line_in_force kept.state).part.width + sum_by (λ w. gap + w) widths ≤ kept.state.limits.width
     → IsFilledRun (with_word gap (sum_by (λ w. gap + w) widths) (length widths) kept)
-word_goes_on gap room [] kept run runs within fits = rw (with_none gap kept) run
-word_goes_on gap room (w ∷ widths) kept run runs within fits =
+word_goes_on gap [] kept run runs within fits = rw (with_none gap kept) run
+word_goes_on gap (w ∷ widths) kept run runs within fits =
     let line = line_in_force kept.state in
     let small = All-head (IsWithin 1 64) w widths within in
     let total : sum_by (λ v. gap + v) (w ∷ widths) ≡ gap + w + sum_by (λ v. gap + v) widths = sum_by-append (λ v. gap + v) (w ∷ []) widths ∙ omega arith in
-    let here : line.part.width + (gap + w) ≤ room = omega (arith, total, fits) in
-    let one = one_goes_on kept run gap room runs w small.0 here false in
-    let all = word_goes_on gap room widths (with_one gap w false kept) one (run_stays kept.state gap room (line.part.width + (gap + w)) (line.part.count + 1) runs)
+    let here : line.part.width + (gap + w) ≤ kept.state.limits.width = omega (arith, total, fits) in
+    let one = one_goes_on kept run gap runs w here false in
+    let all = word_goes_on gap widths (with_one gap w false kept) one (run_stays kept.state gap (line.part.width + (gap + w)) (line.part.count + 1) runs)
     (All-tail (IsWithin 1 64) w widths within) (omega (arith, total, fits)) in
     let one_more : 1 + length widths ≡ suc (length widths) = omega arith in
     let same : with_word gap (sum_by (λ v. gap + v) widths) (length widths) (with_one gap w false kept) ≡ with_word gap (sum_by (λ v. gap + v) (w ∷ widths)) (suc (length widths)) kept =
@@ -137,34 +137,33 @@ word_goes_on gap room (w ∷ widths) kept run runs within fits =
     subst IsFilledRun same all
 
 -- a text without a space
-module _ (sign : SignData) (octets : List ℕ) (at : ℕ) (kept : Pass) (r : ReadSoFar sign octets at (IsFilledFor sign kept)) (short : length octets < 2 ^ 63) (run : IsFilledRun kept) (gap left : ℕ)
-    (runs : IsRun kept.state gap ((line_in_force kept.state).part.width + left)) where
+module _ (sign : SignData) (octets : List ℕ) (at : ℕ) (kept : Pass) (r : ReadSoFar sign octets at (IsFilledFor sign kept)) (short : length octets < 2 ^ 63) (run : IsFilledRun kept) (gap : ℕ) (runs : IsRun kept.state gap) where
   abbrev width_of : ℕ → Option ℕ
   width_of = width_in sign kept.state.attributes.font.number
 
   abbrev line : Line
   line = line_in_force kept.state
 
-  word_front : (text rest : List ℕ) (pixels : ℕ) → drop at octets ≡ text ++ rest → All IsPlain text → All IsNoSpace text → HasWidth width_of gap text pixels → pixels ≤ left
+  word_front : (text rest : List ℕ) (pixels : ℕ) → drop at octets ≡ text ++ rest → All IsPlain text → All IsNoSpace text → HasWidth width_of gap text pixels → (line_in_force kept.state).part.width + pixels ≤ kept.state.limits.width
       → ReadSoFar sign octets (at + length text) (IsFilledFor sign (with_word gap pixels (length text) kept))
   word_front text rest pixels here plain word has narrow =
       let together = has.together in
-      rw together (word_taken sign octets short gap (line.part.width + left) text rest has.widths at kept r run runs here plain word has.each has.within (omega (arith, narrow, together)))
+      rw together (word_taken sign octets short gap text rest has.widths at kept r run runs here plain word has.each has.within (omega (arith, narrow, together)))
 
-  word_runs : (text : List ℕ) (pixels : ℕ) → HasWidth width_of gap text pixels → pixels ≤ left → IsFilledRun (with_word gap pixels (length text) kept)
+  word_runs : (text : List ℕ) (pixels : ℕ) → HasWidth width_of gap text pixels → (line_in_force kept.state).part.width + pixels ≤ kept.state.limits.width → IsFilledRun (with_word gap pixels (length text) kept)
   word_runs text pixels has narrow =
       let together = has.together in
       let many : length has.widths ≡ length text = sym (length-map has.widths Some) ∙ sym (ap length has.each) ∙ length-map text width_of in
       subst (λ n. IsFilledRun (with_word gap pixels n kept)) many
-      (rw together (word_goes_on gap (line.part.width + left) has.widths kept run runs has.within (omega (arith, narrow, together))))
+      (rw together (word_goes_on gap has.widths kept run runs has.within (omega (arith, narrow, together))))
 
   -- the same for the front of what stands there
-  pub front_runs : (len pixels : ℕ) → at + len ≤ length octets → HasWidth width_of gap (take len (drop at octets)) pixels → pixels ≤ left → IsFilledRun (with_word gap pixels len kept)
+  pub front_runs : (len pixels : ℕ) → at + len ≤ length octets → HasWidth width_of gap (take len (drop at octets)) pixels → (line_in_force kept.state).part.width + pixels ≤ kept.state.limits.width → IsFilledRun (with_word gap pixels len kept)
   front_runs len pixels within has narrow =
       let size : length (take len (drop at octets)) ≡ len = length-take-le len (drop at octets) (rw (length-drop at octets) (omega (arith, within))) in
       rw size at (word_runs (take len (drop at octets)) pixels has narrow)
 
-  pub front_taken : (len pixels : ℕ) → at + len ≤ length octets → All IsPlain (take len (drop at octets)) → All IsNoSpace (take len (drop at octets)) → HasWidth width_of gap (take len (drop at octets)) pixels → pixels ≤ left
+  pub front_taken : (len pixels : ℕ) → at + len ≤ length octets → All IsPlain (take len (drop at octets)) → All IsNoSpace (take len (drop at octets)) → HasWidth width_of gap (take len (drop at octets)) pixels → (line_in_force kept.state).part.width + pixels ≤ kept.state.limits.width
       → ReadSoFar sign octets (at + len) (IsFilledFor sign (with_word gap pixels len kept))
   front_taken len pixels within plain word has narrow =
       let size : length (take len (drop at octets)) ≡ len = length-take-le len (drop at octets) (rw (length-drop at octets) (omega (arith, within))) in

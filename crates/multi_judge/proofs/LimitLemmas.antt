@@ -1,17 +1,25 @@
 -- What the present segment and the present group may have: the limits that are kept, and what fits them.
-use Rattle.std.proofs.Common.{◌≡◌, ℕ, ◌≤◌, Bool, true, false, ◌&&◌, not, inl, inr, [], ◌∷◌, ◌++◌, List, Option, refl, sym, ap, subst, ◌∙◌, arith}
+use Rattle.std.proofs.Common.{◌≡◌, ℕ, ◌≤◌, Bool, true, false, ◌&&◌, not, [], ◌∷◌, ◌++◌, List, Option, refl, sym, ap, subst, ◌∙◌, arith}
 use Rattle.std.specs.Prelude.{nat_le}
-use Rattle.std.proofs.lemmas.Bool.{and_parts, cases_Bool, false≢true, le-leb}
+use Rattle.std.specs.List.{All, AllPass, list_any}
+use Rattle.std.proofs.lemmas.List.Elements.{All-head}
+use Rattle.std.proofs.lemmas.Bool.{and_parts, false≢true, le-leb}
 use Rattle.std.proofs.lemmas.Bool.Decides.{nat_tests}
 use Rattle.multi_tag.specs.Just.{line_number, page_number}
 use Rattle.sign_font.specs.declared.parts.LineFill.TheVariants.{Off}
 use Rattle.multi_meaning.specs.declared.attributes.Rectangle.{Rectangle}
-use Rattle.multi_meaning.specs.Address.{Spot, area_of, is_break, is_glyph, line_before, spots, standing}
+use Rattle.multi_meaning.specs.Address.{Spot, Standing, area_of, in_area, in_group, is_break, is_glyph, line_before, spots, standing}
 use Rattle.multi_meaning.specs.Meaning.{Meaning}
-use Rattle.multi_meaning.specs.Fit.{FitsWithout, fit, line_fits, room_for}
+use Rattle.multi_meaning.specs.Fit.{FitsWithout, area_fits, fit, line_fits, room_for}
 use Rattle.multi_meaning.specs.Laid.{too_big}
 use Rattle.multi_meaning.proofs.FitLemmas.{room_end, room_middle, room_start}
+use Rattle.multi_meaning.proofs.FillLemmas.{nothing_fits}
+use Rattle.multi_meaning.proofs.GroupLemmas.{in_group_other}
 use Rattle.multi_meaning.proofs.LinesFitLemmas.{each_just}
+use Rattle.multi_meaning.proofs.WordLemmas.{largest_most, largest_push}
+use Rattle.multi_meaning.specs.Offence.{clashes}
+use Rattle.multi_meaning.specs.Words.{largest}
+use Rattle.multi_meaning.specs.kept.Present.{IsPlacing}
 use Rattle.multi_tag.proofs.JustLemmas.{line_number_known, page_number_known}
 use Rattle.multi_judge.specs.declared.area.Area.{Area}
 use Rattle.sign_font.specs.Sign.{SignData}
@@ -21,10 +29,11 @@ use Rattle.multi_judge.specs.declared.state.State.{State}
 use Rattle.multi_judge.specs.declared.attributes.Attributes.{Attributes}
 use Rattle.multi_judge.specs.Adding.{AddsBreak, AddsCharacter}
 use Rattle.multi_judge.specs.Run.{FitsBefore, IsBehindCharacter, IsBehindOne, kept_fits, kept_height, lengthened_line}
-use Rattle.multi_judge.specs.State.{IsLimited, IsStateOf, IsUnfilledOf, attributes_of, group_room, segment_room}
+use Rattle.multi_judge.specs.State.{AreaFits, IsLimited, IsMost, IsStateOf, attributes_of, group_room, segment_room}
 use Rattle.multi_judge.specs.Sums.{area_sum, line_sum}
 use Rattle.multi_judge.proofs.AreaSumLemmas.{fits_break, fits_character, group_of_own, placing_break, placing_character, present_line}
-use Rattle.multi_judge.proofs.BeforeLemmas.{fits_without, group_room_fits, groups_fit_before, segments_fit_before}
+use Rattle.multi_judge.proofs.BeforeLemmas.{GroupsFitBefore, group_room_fits, groups_fit_before, segments_fit_before}
+use Rattle.multi_judge.proofs.LineSumLemmas.{in_order, no_character}
 use Rattle.multi_judge.proofs.RunLemmas.{kept_area_fits, kept_fits_is}
 
 -- ---- what fits them
@@ -66,6 +75,57 @@ module _ (line : List Spot) (l : Line) (e : l ≡ line_sum line) (width pixels c
   pub segment_room_fits : 2 ≤ l.present → l.present ≤ 5 → FitsBefore width l → kept_fits width (lengthened_line pixels count l) ≡ nat_le pixels (segment_room l width)
   segment_room_fits low high = segment_by l.present refl low high
 
+-- it is told by its limit
+line_told : (line : List Spot) (l : Line) (width most : ℕ) → l ≡ line_sum line → 2 ≤ l.present → l.present ≤ 5 → FitsBefore width l → most ≡ segment_room l width → nat_le l.part.width most ≡ line_fits width line
+line_told line l width most e low high before is = ap (nat_le l.part.width) is ∙ sym (segment_room_fits line l e width l.part.width l.part.count low high before) ∙ kept_fits_is line l width e high
+
+-- an area into which its groups before the present one fit is told by its limit
+pub area_told : (area : List Spot) (a : Area) (height most : ℕ) → a ≡ area_sum area → All IsPlacing area → 2 ≤ a.present → a.present ≤ 4 → GroupsFitBefore height a → most ≡ group_room a height
+    → nat_le (kept_height a.group) most ≡ area_fits height area
+area_told area a height most e placing low high before is = ap (nat_le (kept_height a.group)) is ∙ group_room_fits area a e height low high before ∙ kept_area_fits area a height placing e high
+
+-- a line with a character has a known justification
+some_present : (line : List Spot) → list_any is_glyph line ≡ true → 2 ≤ largest (λ (t : Spot). line_number t.at.line_just) line
+some_present [] any = absurd (false≢true any)
+some_present (s ∷ line) any =
+    let f : Spot → ℕ = λ t. line_number t.at.line_just in
+    omega (arith, All-head (λ t. f t ≤ largest f (s ∷ line)) s line (largest_most f (s ∷ line)), (line_number_known s.at.line_just).0)
+
+-- the present line is told by its limit, whether it has a character or not
+pub open_told : (line : List Spot) (l : Line) (width most : ℕ) → AllPass is_glyph line → l ≡ line_sum line → l.present ≤ 5 → FitsBefore width l → IsMost width l most → nat_le l.part.width most ≡ line_fits width line
+open_told line l width most glyphs e high before is = by_any l.any refl
+  where
+    by_any : (b : Bool) → l.any ≡ b → nat_le l.part.width most ≡ line_fits width line
+    by_any true some =
+        let low : 2 ≤ l.present = omega (arith, ap (λ (l : Line). l.present) e, some_present line (sym (ap (λ (l : Line). l.any) e) ∙ some)) in
+        line_told line l width most e low high before (is some)
+    by_any false none =
+        let empty = no_character line l glyphs e none in
+        let narrow : l.part.width ≡ 0 = ap (λ (l : Line). l.part.width) (e ∙ ap line_sum empty) in
+        ap (λ n. nat_le n most) narrow ∙ le-leb 0 most (omega arith) ∙ sym (ap (line_fits width) empty ∙ nothing_fits width)
+
+-- the segments of no character fit
+pub none_before : (width : ℕ) (l : Line) → l ≡ line_sum [] → FitsBefore width l
+none_before width l e = subst (FitsBefore width) (sym e) (nothing_fits width)
+
+-- a line that fitted, with one more character that clashes with none of it
+module _ (width : ℕ) (line : List Spot) (s : Spot) (l : Line) (e : l ≡ line_sum (line ++ s ∷ [])) (apart : list_any (clashes s) line ≡ false) (fits : line_fits width line ≡ true) where
+  present : l.present ≡ line_number s.at.line_just
+  present = omega (arith, ap (λ (l : Line). l.present) e, largest_push (λ (t : Spot). line_number t.at.line_just) line s, in_order line s (line_sum line) refl apart)
+
+  known : (2 ≤ l.present) × (l.present ≤ 5)
+  known = let k = line_number_known s.at.line_just in (omega (arith, present, k.0), omega (arith, present, k.1))
+
+  pub fits_behind : FitsBefore width l
+  fits_behind = segments_fit_before width line s l e present known.1 fits
+
+  pub told_behind : (most : ℕ) → most ≡ segment_room l width → nat_le l.part.width most ≡ line_fits width (line ++ s ∷ [])
+  told_behind most is = line_told (line ++ s ∷ []) l width most e known.0 known.1 fits_behind is
+
+-- one more item leaves the groups that it isn't in
+one_apart : (area : List Spot) (s : Spot) (just : ℕ) → (just ≡ page_number s.at.page_just → ⊥) → in_group just (area ++ s ∷ []) ≡ in_group just area
+one_apart area s just other = in_group_other just area s (λ h. other (sym h))
+
 -- a character that was put where all before it fits
 module _ (before : List Spot) (s : Spot) (glyph : is_glyph s ≡ true) (area : Area) (is : area ≡ area_sum (area_of s before ++ s ∷ [])) (present : area.present ≡ page_number s.at.page_just) (just : area.group.line.present ≡ line_number s.at.line_just)
     (page_known : (2 ≤ area.present) × (area.present ≤ 4)) (line_known : (2 ≤ area.group.line.present) × (area.group.line.present ≤ 5)) where
@@ -81,12 +141,10 @@ module _ (before : List Spot) (s : Spot) (glyph : is_glyph s ≡ true) (area : A
       let high = s.at.rectangle.height in
       let placing = placing_character before s glyph in
       let earlier = segments_fit_before wide (line_before before s) s area.group.line line just line_known.1 without.0 in
-      let above = groups_fit_before high (area_of s before) s area is placing present page_known.1 without.1 in
+      let above = groups_fit_before high (area_of s before) more page (one_apart (area_of s before) s) area is placing present page_known.1 without.1 in
       fits_character before s page wide high _ _ glyph refl refl refl
-      (ap (nat_le area.group.line.part.width) w
-      ∙ sym (segment_room_fits spots area.group.line line wide area.group.line.part.width area.group.line.part.count line_known.0 line_known.1 earlier)
-      ∙ kept_fits_is spots area.group.line wide line line_known.1 ∙ ap (line_fits wide) (sym own))
-      (ap (nat_le (kept_height area.group)) h ∙ group_room_fits more area is high page_known.0 page_known.1 above ∙ kept_area_fits more area high placing is page_known.1)
+      (line_told spots area.group.line wide width line line_known.0 line_known.1 earlier w ∙ ap (line_fits wide) (sym own))
+      (area_told more area high height is placing page_known.0 page_known.1 above h)
 
 -- one more character, which doesn't conflict
 module _ (state new : State) (cell_width : ℕ) (added : AddsCharacter state cell_width new) where
@@ -118,7 +176,8 @@ module _ (state new : State) (cell_width : ℕ) (added : AddsCharacter state cel
 -- one more end of a line, behind which no group is before that of the items so far
 module _ (state new : State) (gap : Option ℕ) (added : AddsBreak state gap new) (limited : IsLimited state) where
   pub break_fits : (before : List Spot) (s : Spot) → is_break s ≡ true → state.area.present ≤ page_number state.attributes.page_just → s.at.page_just ≡ state.attributes.page_just
-      → s.at.rectangle.height ≡ state.attributes.rectangle.height → new.area ≡ area_sum (area_of s before ++ s ∷ []) → FitsWithout before s → nat_le new.area.group.closed new.limits.height ≡ not (too_big Off before s)
+      → s.at.rectangle.height ≡ state.attributes.rectangle.height → new.area ≡ area_sum (area_of s before ++ s ∷ []) → area_fits s.at.rectangle.height (area_of s before) ≡ true
+      → nat_le new.area.group.closed new.limits.height ≡ not (too_big Off before s)
   break_fits before s ends order page high is without =
       let on = added.present order in
       let known = page_number_known state.attributes.page_just in
@@ -130,26 +189,18 @@ module _ (state new : State) (gap : Option ℕ) (added : AddsBreak state gap new
       let rectangle : new.attributes.rectangle ≡ state.attributes.rectangle = ap (λ (t : State). t.attributes.rectangle) added.same in
       let h : new.limits.height ≡ group_room new.area height =
       (added.limited limited).height low ∙ ap (λ (r : Rectangle). group_room new.area r.height) rectangle ∙ ap (group_room new.area) (sym high) in
-      let above = groups_fit_before height (area_of s before) s new.area is placing (on ∙ ap page_number (sym page)) top without.1 in
+      let above = groups_fit_before height (area_of s before) more (page_number s.at.page_just) (one_apart (area_of s before) s) new.area is placing (on ∙ ap page_number (sym page)) top without in
       let closed : kept_height new.area.group ≡ new.area.group.closed = rw added.none refl in
       fits_break before s height _ ends refl
-      (ap (λ n. nat_le n new.limits.height) (sym closed) ∙ ap (nat_le (kept_height new.area.group)) h
-      ∙ group_room_fits more new.area is height low top above ∙ kept_area_fits more new.area height placing is top)
+      (ap (λ n. nat_le n new.limits.height) (sym closed) ∙ area_told more new.area height new.limits.height is placing low top above h)
 
--- the answer whether it fits: by the limits behind items that fit, and else by the sums
-module _ (sign : SignData) (items : List Meaning) (state new : State) (st : IsStateOf sign items state) (gap : Option ℕ) (added : AddsBreak state gap new) (words r : Bool)
-    (sums : words ≡ true → (before : List Spot) (s : Spot) → is_break s ≡ true → new.area ≡ area_sum (area_of s before ++ s ∷ []) → s.at.rectangle.height ≡ new.attributes.rectangle.height → r ≡ not (too_big Off before s))
-    (limits : words ≡ false → r ≡ nat_le new.area.group.closed new.limits.height) (unfilled : words ≡ false → IsUnfilledOf sign state items) where
-  pub break_told : (s : Spot) → s.at ≡ standing sign items → is_break s ≡ true → state.area.present ≤ page_number state.attributes.page_just → new.area ≡ area_sum (area_of s (spots sign items) ++ s ∷ []) → r ≡ not (too_big Off (spots sign items) s)
-  break_told s at ends order grown =
+  -- the same behind these items, whose area fits
+  pub break_told : (sign : SignData) (items : List Meaning) → IsStateOf sign items state → AreaFits sign items → (s : Spot) → s.at ≡ standing sign items → is_break s ≡ true → state.area.present ≤ page_number state.attributes.page_just
+      → new.area ≡ area_sum (area_of s (spots sign items) ++ s ∷ []) → nat_le new.area.group.closed new.limits.height ≡ not (too_big Off (spots sign items) s)
+  break_told sign items st fits s at ends order grown =
       let own : attributes_of s.at ≡ state.attributes = ap attributes_of at ∙ sym st.attributes in
-      let high = ap (λ (a : Attributes). a.rectangle.height) own in
-      elim (cases_Bool words) [
-        | inl filled ↦ sums filled (spots sign items) s ends grown (high ∙ ap (λ (t : State). t.attributes.rectangle.height) (sym added.same))
-        | inr plain ↦
-            let of = unfilled plain in
-            limits plain ∙ break_fits state new gap added of.limited (spots sign items) s ends order (ap (λ (a : Attributes). a.page_just) own) high grown (fits_without sign items of.fine s at)
-      ]
+      break_fits (spots sign items) s ends order (ap (λ (a : Attributes). a.page_just) own) (ap (λ (a : Attributes). a.rectangle.height) own) grown
+      (subst (λ (t : Standing). area_fits t.rectangle.height (in_area t.area (spots sign items)) ≡ true) (sym at) fits)
 
 -- an area of no item has no limits yet
 pub limited_none : (state : State) → state.area ≡ area_sum [] → IsLimited state

@@ -1,19 +1,17 @@
 -- A character that only lengthens its segment.
-use Rattle.std.proofs.Common.{◌≡◌, ℕ, ◌+◌, ◌*◌, ◌≤◌, Bool, true, false, not, ◌&&◌, ◌||◌, ◌==◌, inl, inr, List, [], ◌∷◌, ◌++◌, length, Some, None, refl, sym, ap, ◌∙◌, arith}
-use Rattle.std.specs.Prelude.{nat_le, nat_lt}
+use Rattle.std.proofs.Common.{◌≡◌, ℕ, ◌+◌, ◌*◌, ◌≤◌, Bool, true, false, ◌&&◌, ◌||◌, ◌==◌, inl, inr, List, [], ◌∷◌, ◌++◌, length, Some, None, refl, sym, ap, ◌∙◌, arith}
+use Rattle.std.specs.Prelude.{nat_lt, if◌then◌else◌}
 use Rattle.std.specs.List.{All, AllPass, after_last, list_any}
 use Rattle.std.specs.Option.{option_map_or, unwrap_or}
-use Rattle.std.proofs.lemmas.Bool.{cases_eq, eq-eqb, le-leb, le-ltb, ne_eqb}
+use Rattle.std.proofs.lemmas.Bool.{cases_eq, eq-eqb, ne_eqb}
 use Rattle.multi_tag.specs.Just.{line_number, page_number}
-use Rattle.sign_font.specs.declared.parts.LineFill.TheVariants.{Off}
-use Rattle.multi_meaning.specs.Laid.{too_big}
 use Rattle.sign_font.specs.Cell.{SizedCell}
 use Rattle.sign_font.specs.Sign.{SignData, cell_in}
-use Rattle.multi_meaning.specs.Address.{Spot, area_of, in_group, is_break, is_glyph, lines_of, segment, spots, standing}
-use Rattle.multi_meaning.specs.Fit.{FitsWithout, area_fits, fit, line_fits}
+use Rattle.multi_meaning.specs.Address.{Spot, in_group, is_break, is_glyph, lines_of, segment, spots}
+use Rattle.multi_meaning.specs.Fit.{area_fits, fit, line_fits}
 use Rattle.multi_meaning.specs.Line.{average, height_of, width_of}
 use Rattle.multi_meaning.specs.Meaning.{Meaning, Shows}
-use Rattle.multi_meaning.specs.Offence.{clashes, conflicts, offence, unsized_offence}
+use Rattle.multi_meaning.specs.Offence.{clashes, unsized_offence}
 use Rattle.multi_meaning.specs.kept.Present.{IsPlacing}
 use Rattle.multi_meaning.specs.Words.{largest}
 use Rattle.multi_judge.specs.declared.area.Area.{Area}
@@ -23,14 +21,14 @@ use Rattle.multi_judge.specs.declared.line.Line.{Line}
 use Rattle.multi_judge.specs.declared.line.Segment.{Segment}
 use Rattle.multi_judge.specs.declared.state.State.{State}
 use Rattle.multi_judge.specs.Adding.{character_of}
-use Rattle.multi_judge.specs.Run.{IsBehindCharacter, IsRun, kept_fits, kept_group_height, kept_height, kept_width, lengthened, lengthened_area, lengthened_line, line_in_force}
+use Rattle.multi_judge.specs.Run.{IsBehindCharacter, IsRun, kept_fits, kept_height, kept_width, lengthened, lengthened_area, lengthened_line, line_in_force}
 use Rattle.multi_judge.specs.State.{IsStateOf}
 use Rattle.multi_judge.specs.Sums.{IsBelow, IsCharacter, area_sum, group_sum, height_before, line_sum, segment_sum, width_before}
-use Rattle.multi_judge.proofs.AreaSumLemmas.{area_stays, area_with, conflicts_kept, fits_character, group_of_own, other_height, present_height, none_of_later_group, own_line, placing_character}
+use Rattle.multi_judge.proofs.AreaSumLemmas.{area_stays, area_with, group_of_own, other_height, present_height, none_of_later_group, own_line}
 use Rattle.multi_judge.proofs.GroupHeightLemmas.{height_ended, height_present}
 use Rattle.multi_judge.proofs.GroupSumLemmas.{group_character, present_glyphs}
-use Rattle.multi_judge.proofs.LineSumLemmas.{line_clashes, line_with, none_of_later, segment_own, width_other_of, width_present}
-use Rattle.multi_judge.proofs.PlacingLemmas.{character-accepted, character-exit-fits}
+use Rattle.multi_judge.proofs.LineSumLemmas.{line_with, none_of_later, segment_own, width_other_of, width_present}
+use Rattle.multi_judge.proofs.PlacingLemmas.{character-accepted}
 
 -- ---- what is kept of a line and of a group
 
@@ -62,7 +60,11 @@ kept_height_is spots group placing e = by_any group.line.any refl
     by_any true some = rw some (height_present spots placing group e some _ group.line.height refl refl)
     by_any false none = rw none (height_ended spots placing group e none)
 
--- the height of a group
+-- the height of the group with a page justification, by what is kept of the area: top 2, middle 3, bottom 4
+abbrev pub kept_group_height : ℕ → Area → ℕ
+kept_group_height just area =
+    if just == area.present then kept_height area.group else (if just == 2 then area.top else (if just == 3 then area.middle else 0))
+
 pub kept_group_height_is : (spots : List Spot) (area : Area) (just : ℕ) → All IsPlacing spots → area ≡ area_sum spots → 2 ≤ just → just ≤ 4 → area.present ≤ 4 → kept_group_height just area ≡ height_of (lines_of (in_group just spots))
 kept_group_height_is spots area just placing e low high known = elim (cases_eq just area.present) [
   | inl own ↦ rw (eq-eqb just area.present own) (present_height spots area e placing just (kept_height area.group) own (λ group placing e. kept_height_is group area.group placing e))
@@ -86,14 +88,6 @@ kept_area_fits spots area height placing e known =
 pub or_same : (b : Bool) → b ≡ (b || b)
 or_same true = refl
 or_same false = refl
-
-and_true : (b : Bool) → (b && true) ≡ b
-and_true true = refl
-and_true false = refl
-
-and_none : (b : Bool) → (b && false) ≡ false
-and_none true = refl
-and_none false = refl
 
 -- the average of a number with itself
 pub average_same : (n : ℕ) → average n n ≡ n
@@ -127,17 +121,6 @@ pub area_lengthened : (xs : List Spot) (s : Spot) (area : Area) (page width coun
 area_lengthened xs s area page width count e glyph own present line =
     area_with xs s page own area e (omega (arith, present)) area _ (area_stays xs page area e (omega (arith, present)) (omega (arith, present))) refl refl refl
     (group_character page xs s own glyph area.group (lengthened_line width count area.group.line) (group_of_own xs area e page (sym present)) line)
-
--- the run goes on with what is lengthened
-pub run_stays : (state : State) (gap room width count : ℕ) → IsRun state gap room → IsRun (lengthened width count state) gap room
-run_stays state gap room width count run = record {
-  group = run.group;
-  line = record { segment = run.line.segment; parts = run.line.parts; any = run.line.any; height = run.line.height; spacing = run.line.spacing; last = run.line.last };
-  gap_is = run.gap_is;
-  narrow = run.narrow;
-  heights = run.heights;
-  room_is = run.room_is;
-}
 
 -- the area's numbers grow by no more than the segment's
 pub longer_below : (k width count : ℕ) (area : Area) → IsBelow k area → width ≤ k + 1024 → count ≤ k + 1024 → IsBelow (k + 1024) (lengthened_area width count area)
@@ -181,6 +164,16 @@ behind_stays state width count b = record {
   line = record { segment = b.line.segment; parts = b.line.parts; any = b.line.any; height = b.line.height; spacing = b.line.spacing; last = b.line.last };
 }
 
+-- and the run goes on
+pub run_stays : (state : State) (gap width count : ℕ) → IsRun state gap → IsRun (lengthened width count state) gap
+run_stays state gap width count run = record {
+  behind = behind_stays state width count run.behind;
+  gap_is = run.gap_is;
+  narrow = run.narrow;
+  limited = record { width = run.limited.width; height = run.limited.height };
+  height = run.height;
+}
+
 module _ (state : State) (behind : IsBehindCharacter state) (gap : ℕ) (gap_is : gap ≡ unwrap_or state.attributes.spacing state.attributes.font.char_spacing) (cell : SizedCell) where
   pub area_beside : (xs : List Spot) (s : Spot) → All IsPlacing xs → state.area ≡ area_sum xs → IsCharacter s (character_of state.attributes cell.width) → s.at.page_just ≡ state.attributes.page_just → state.area.present ≤ page_number state.attributes.page_just
       → list_any (clashes s) (after_last is_break (in_group (page_number state.attributes.page_just) xs)) ≡ false → longer_by state gap cell ≡ area_sum (xs ++ s ∷ [])
@@ -199,55 +192,3 @@ module _ (state : State) (behind : IsBehindCharacter state) (gap : ℕ) (gap_is 
       let below = longer_below (1024 * length items) ((line_in_force state).part.width + (gap + cell.width)) ((line_in_force state).part.count + 1) state.area st.below
       (omega (arith, st.below.group.line.part.width, narrow, small)) (omega (arith, st.below.group.line.part.count)) in
       character-accepted sign items state st number cell found (character_of state.attributes cell.width) refl refl refl refl (longer_by state gap cell) area_beside below fine
-
--- ---- what a character of the run does
-
-module _ (sign : SignData) (items : List Meaning) (state : State) (st : IsStateOf sign items state) (gap room : ℕ) (run : IsRun state gap room)
-    (number : ℕ) (cell : SizedCell) (found : cell_in sign state.attributes.font.number number ≡ Some cell) (wide : 1 ≤ cell.width)
-    (without : (s : Spot) → s.at ≡ standing sign items → FitsWithout (spots sign items) s) where
-  abbrev longer : Area
-  longer = longer_by state gap cell
-
-  abbrev seen : Character
-  seen = character_of state.attributes cell.width
-
-  -- it doesn't conflict
-  agrees : (before : List Spot) (s : Spot) → state.area ≡ area_sum (area_of s before) → is_glyph s ≡ true → s.at.page_just ≡ state.attributes.page_just → s.at.line_just ≡ state.attributes.line_just
-      → false ≡ conflicts before s
-  agrees before s sum glyph page line =
-      let spots = after_last is_break (in_group state.area.present (area_of s before)) in
-      let here : line_in_force state ≡ line_sum spots = own_line (area_of s before) state.area sum in
-      let present : largest (λ (t : Spot). line_number t.at.line_just) spots ≡ line_number state.attributes.line_just = sym (ap (λ (l : Line). l.present) here) ∙ run.line.segment in
-      let parts : list_any (λ (t : Spot). nat_lt (line_number t.at.line_just) 5) spots ≡ nat_lt (line_number state.attributes.line_just) 5 = sym (ap (λ (l : Line). l.has_parts) here) ∙ run.line.parts in
-      let clash : list_any (clashes s) spots ≡ false =
-      line_clashes spots s
-      ∙ ap (λ n. nat_lt n (largest (λ (t : Spot). line_number t.at.line_just) spots) || ((n == 5) && list_any (λ (t : Spot). nat_lt (line_number t.at.line_just) 5) spots)) (ap line_number line)
-      ∙ ap (λ n. nat_lt (line_number state.attributes.line_just) n || ((line_number state.attributes.line_just == 5) && list_any (λ (t : Spot). nat_lt (line_number t.at.line_just) 5) spots)) present
-      ∙ ap (λ b. nat_lt (line_number state.attributes.line_just) (line_number state.attributes.line_just) || ((line_number state.attributes.line_just == 5) && b)) parts
-      ∙ ap (λ b. b || ((line_number state.attributes.line_just == 5) && nat_lt (line_number state.attributes.line_just) 5)) (le-ltb (line_number state.attributes.line_just) (line_number state.attributes.line_just) (omega arith))
-      ∙ not_full (line_number state.attributes.line_just) in
-      let whole = conflicts_kept before s (page_number state.attributes.page_just) state.area.present false glyph (ap page_number page) (ap (λ (a : Area). a.present) sum) (sym clash) in
-      sym (and_none (page_number state.attributes.page_just == state.area.present))
-      ∙ ap (λ b. b || ((page_number state.attributes.page_just == state.area.present) && false)) (sym (le-ltb (page_number state.attributes.page_just) state.area.present (omega (arith, run.group))))
-      ∙ whole
-
-  -- whether it fits
-  fits_behind : (before : List Spot) (s : Spot) → is_glyph s ≡ true → longer ≡ area_sum (area_of s before ++ s ∷ []) → longer.present ≡ page_number s.at.page_just
-      → s.at.rectangle.width ≡ state.attributes.rectangle.width → s.at.rectangle.height ≡ state.attributes.rectangle.height
-      → nat_le ((line_in_force state).part.width + (gap + cell.width)) room ≡ not (too_big Off before s)
-  fits_behind before s glyph sum present w h =
-      let more = area_of s before ++ s ∷ [] in
-      let line = lengthened_line ((line_in_force state).part.width + (gap + cell.width)) ((line_in_force state).part.count + 1) (line_in_force state) in
-      let same : line ≡ line_sum (after_last is_break (in_group (page_number s.at.page_just) more)) = own_line more longer sum ∙ ap (λ n. line_sum (after_last is_break (in_group n more))) present in
-      let room_left = run.room_is ((line_in_force state).part.width + (gap + cell.width)) ((line_in_force state).part.count + 1) (omega (arith, wide)) in
-      let fits_line = sym room_left ∙ kept_fits_is (after_last is_break (in_group (page_number s.at.page_just) more)) line state.attributes.rectangle.width same st.below.group.line.known in
-      let fits_area = sym run.heights ∙ kept_area_fits more longer state.attributes.rectangle.height (placing_character before s glyph) sum (omega (arith, st.below.known)) in
-      sym (and_true (nat_le ((line_in_force state).part.width + (gap + cell.width)) room))
-      ∙ fits_character before s (page_number s.at.page_just) state.attributes.rectangle.width state.attributes.rectangle.height
-      (nat_le ((line_in_force state).part.width + (gap + cell.width)) room) true glyph refl w h fits_line fits_area
-
-  pub run_goes_on : (line_in_force state).part.width + (gap + cell.width) ≤ room → IsBelow (1024 * length items + 1024) longer
-      → (offence Off sign items (Shows number) ≡ None) × IsStateOf sign (items ++ Shows number ∷ []) (lengthened ((line_in_force state).part.width + (gap + cell.width)) ((line_in_force state).part.count + 1) state)
-  run_goes_on fits below =
-      character-exit-fits sign items state st number cell found false agrees seen longer refl refl refl refl (area_beside state (record { group = run.group; line = run.line }) gap run.gap_is cell)
-      (nat_le ((line_in_force state).part.width + (gap + cell.width)) room) (λ before s glyph sum present line w h alone. fits_behind before s glyph sum present w h) without refl (le-leb ((line_in_force state).part.width + (gap + cell.width)) room fits) below

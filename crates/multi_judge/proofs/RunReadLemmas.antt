@@ -1,6 +1,10 @@
 -- One more octet of a run, in the string that is read.
-use Rattle.std.proofs.Common.{◌≡◌, ℕ, suc, ◌+◌, ◌*◌, ◌^◌, ◌<◌, ◌≤◌, List, [], ◌∷◌, ◌++◌, length, map, drop, take, slice_get, Option, Some, None, refl, sym, ◌∙◌, arith}
-use Rattle.std.specs.List.{All, sum_by}
+use Rattle.std.proofs.Common.{◌≡◌, ℕ, suc, ◌+◌, ◌*◌, ◌^◌, ◌<◌, ◌≤◌, List, [], ◌∷◌, ◌++◌, length, map, drop, take, slice_get, Option, Some, None, refl, sym, ◌∙◌, arith, true, false, ◌&&◌, ◌||◌, ◌==◌, ap}
+use Rattle.std.specs.Prelude.{nat_le, nat_lt}
+use Rattle.std.specs.List.{All, after_last, list_any, sum_by}
+use Rattle.std.proofs.lemmas.Bool.{and_from, and_right, le-leb, le-ltb}
+use Rattle.multi_tag.specs.Just.{line_number, page_number}
+use Rattle.sign_font.specs.declared.parts.LineFill.TheVariants.{Off}
 use Rattle.std.specs.Option.{option_map}
 use Rattle.std.proofs.lemmas.List.{length-drop, length-take-le, take-append-drop}
 use Rattle.std.proofs.lemmas.List.Elements.{All-head, All-tail}
@@ -14,15 +18,26 @@ use Rattle.sign_font.specs.Cell.{SizedCell}
 use Rattle.sign_font.specs.Sign.{SignData, cell_in}
 use Rattle.sign_font.specs.Sound.{IsWithin}
 use Rattle.sign_font.specs.Text.{HasWidth, width_in}
-use Rattle.multi_meaning.specs.Meaning.{meaning}
+use Rattle.multi_meaning.specs.Address.{Spot, area_of, is_break, is_glyph, in_group, spots, standing}
+use Rattle.multi_meaning.specs.Fit.{FitsWithout}
+use Rattle.multi_meaning.specs.Meaning.{Meaning, Shows, meaning}
+use Rattle.multi_meaning.specs.Offence.{clashes, conflicts, offence}
+use Rattle.multi_meaning.specs.Words.{largest}
+use Rattle.multi_judge.specs.declared.area.Area.{Area}
+use Rattle.multi_judge.specs.declared.line.Line.{Line}
 use Rattle.multi_judge.specs.declared.state.State.{State}
 use Rattle.multi_judge.specs.Judging.{ReadSoFar}
-use Rattle.multi_judge.specs.Run.{IsRun, lengthened, line_in_force}
-use Rattle.multi_judge.specs.State.{IsUnfilledOf}
-use Rattle.multi_judge.specs.Sums.{IsBelow}
+use Rattle.multi_judge.specs.Run.{IsRun, is_within, kept_height, lengthened, line_in_force}
+use Rattle.multi_judge.specs.State.{IsStateOf, IsUnfilledOf}
+use Rattle.multi_judge.specs.Sums.{area_sum, line_sum}
+use Rattle.multi_judge.specs.Adding.{AddsCharacter, character_of}
+use Rattle.multi_judge.proofs.AreaSumLemmas.{conflicts_kept, own_line}
 use Rattle.multi_judge.proofs.BeforeLemmas.{fits_without}
+use Rattle.multi_judge.proofs.LimitLemmas.{added_fits}
+use Rattle.multi_judge.proofs.LineSumLemmas.{line_clashes}
+use Rattle.multi_judge.proofs.PlacingLemmas.{character-exit-fits}
 use Rattle.multi_judge.proofs.ReadLemmas.{unfilled_more}
-use Rattle.multi_judge.proofs.RunLemmas.{longer_below, run_goes_on, run_stays}
+use Rattle.multi_judge.proofs.RunLemmas.{area_beside, behind_stays, longer_below, not_full, run_stays}
 
 -- a cell of which the width is known
 pub cell_of_width : (o : Option SizedCell) (width : ℕ) → Some width ≡ option_map (λ (c : SizedCell). c.width) o → (c : SizedCell) × (o ≡ Some c) × (width ≡ c.width)
@@ -33,6 +48,54 @@ pub no_cell : (o : Option SizedCell) → None ≡ option_map (λ (c : SizedCell)
 no_cell None e = refl
 no_cell (Some c) e = absurd (cc)
 
+-- ---- what a character of the run does
+
+module _ (sign : SignData) (items : List Meaning) (state : State) (st : IsStateOf sign items state) (gap : ℕ) (run : IsRun state gap)
+    (number : ℕ) (cell : SizedCell) (found : cell_in sign state.attributes.font.number number ≡ Some cell) (small : cell.width ≤ 64)
+    (without : (s : Spot) → s.at ≡ standing sign items → FitsWithout (spots sign items) s) where
+  abbrev longer : State
+  longer = lengthened ((line_in_force state).part.width + (gap + cell.width)) ((line_in_force state).part.count + 1) state
+
+  -- it doesn't conflict
+  agrees : (before : List Spot) (s : Spot) → state.area ≡ area_sum (area_of s before) → is_glyph s ≡ true → s.at.page_just ≡ state.attributes.page_just → s.at.line_just ≡ state.attributes.line_just
+      → false ≡ conflicts before s
+  agrees before s sum glyph page line =
+      let spots = after_last is_break (in_group state.area.present (area_of s before)) in
+      let here : line_in_force state ≡ line_sum spots = own_line (area_of s before) state.area sum in
+      let present : largest (λ (t : Spot). line_number t.at.line_just) spots ≡ line_number state.attributes.line_just = sym (ap (λ (l : Line). l.present) here) ∙ run.behind.line.segment in
+      let parts : list_any (λ (t : Spot). nat_lt (line_number t.at.line_just) 5) spots ≡ nat_lt (line_number state.attributes.line_just) 5 = sym (ap (λ (l : Line). l.has_parts) here) ∙ run.behind.line.parts in
+      let clash : list_any (clashes s) spots ≡ false =
+      line_clashes spots s
+      ∙ ap (λ n. nat_lt n (largest (λ (t : Spot). line_number t.at.line_just) spots) || ((n == 5) && list_any (λ (t : Spot). nat_lt (line_number t.at.line_just) 5) spots)) (ap line_number line)
+      ∙ ap (λ n. nat_lt (line_number state.attributes.line_just) n || ((line_number state.attributes.line_just == 5) && list_any (λ (t : Spot). nat_lt (line_number t.at.line_just) 5) spots)) present
+      ∙ ap (λ b. nat_lt (line_number state.attributes.line_just) (line_number state.attributes.line_just) || ((line_number state.attributes.line_just == 5) && b)) parts
+      ∙ ap (λ b. b || ((line_number state.attributes.line_just == 5) && nat_lt (line_number state.attributes.line_just) 5)) (le-ltb (line_number state.attributes.line_just) (line_number state.attributes.line_just) (omega arith))
+      ∙ not_full (line_number state.attributes.line_just) in
+      let whole = conflicts_kept before s (page_number state.attributes.page_just) state.area.present false glyph (ap page_number page) (ap (λ (a : Area). a.present) sum) (sym clash) in
+      sym (and_right (page_number state.attributes.page_just == state.area.present) false refl)
+      ∙ ap (λ b. b || ((page_number state.attributes.page_just == state.area.present) && false)) (sym (le-ltb (page_number state.attributes.page_just) state.area.present (omega (arith, run.behind.group))))
+      ∙ whole
+
+  -- it is added
+  added : AddsCharacter state cell.width longer
+  added = record {
+    sum = area_beside state run.behind gap run.gap_is cell;
+    grows = λ k below. longer_below k ((line_in_force state).part.width + (gap + cell.width)) ((line_in_force state).part.count + 1) state.area below
+        (omega (arith, below.group.line.part.width, run.narrow, small)) (omega (arith, below.group.line.part.count));
+    behind = let b = behind_stays state ((line_in_force state).part.width + (gap + cell.width)) ((line_in_force state).part.count + 1) run.behind in (b.group, b.line);
+    same = refl;
+    limited = λ l. record { width = l.width; height = l.height };
+  }
+
+  pub run_goes_on : (line_in_force state).part.width + (gap + cell.width) ≤ state.limits.width
+      → (offence Off sign items (Shows number) ≡ None) × IsStateOf sign (items ++ Shows number ∷ []) longer
+  run_goes_on fits =
+      character-exit-fits sign items state st number cell found false agrees (character_of state.attributes cell.width) longer.area refl refl refl refl added.sum
+      (is_within longer) (added_fits state longer cell.width added run.limited) without refl
+      (and_from (nat_le ((line_in_force state).part.width + (gap + cell.width)) state.limits.width) (nat_le (kept_height state.area.group) state.limits.height)
+      (le-leb ((line_in_force state).part.width + (gap + cell.width)) state.limits.width fits) run.height)
+      (added.grows (1024 * length items) st.below)
+
 module _ (sign : SignData) (octets : List ℕ) (at : ℕ) (state : State) (r : ReadSoFar sign octets at (IsUnfilledOf sign state)) (octet : ℕ)
     (short : length octets < 2 ^ 63) (here : slice_get octets at ≡ Some octet) (plain : IsPlain octet) where
   abbrev token : Token
@@ -41,16 +104,13 @@ module _ (sign : SignData) (octets : List ℕ) (at : ℕ) (state : State) (r : R
   stands : IsTokenOf octets token
   stands = single_token octets at octet short here plain
 
-  module _ (gap room : ℕ) (run : IsRun state gap room) (wide : ℕ) (some : 1 ≤ wide) (width_is : Some wide ≡ option_map (λ (c : SizedCell). c.width) (cell_in sign state.attributes.font.number octet)) where
-    pub octet_goes_on : wide ≤ 64 → (line_in_force state).part.width + (gap + wide) ≤ room
+  module _ (gap : ℕ) (run : IsRun state gap) (wide : ℕ) (width_is : Some wide ≡ option_map (λ (c : SizedCell). c.width) (cell_in sign state.attributes.font.number octet)) where
+    pub octet_goes_on : wide ≤ 64 → (line_in_force state).part.width + (gap + wide) ≤ state.limits.width
         → ReadSoFar sign octets (at + 1) (IsUnfilledOf sign (lengthened ((line_in_force state).part.width + (gap + wide)) ((line_in_force state).part.count + 1) state))
     octet_goes_on narrow fits =
         let (cell, found, is) = cell_of_width (cell_in sign state.attributes.font.number octet) wide width_is in
         let st = r.is.state_is in
-        let below : IsBelow (1024 * length (map meaning r.items) + 1024) (lengthened ((line_in_force state).part.width + (gap + cell.width)) ((line_in_force state).part.count + 1) state).area =
-        longer_below (1024 * length (map meaning r.items)) ((line_in_force state).part.width + (gap + cell.width)) ((line_in_force state).part.count + 1) state.area st.below
-        (omega (arith, st.below.group.line.part.width, run.narrow, narrow, is)) (omega (arith, st.below.group.line.part.count)) in
-        let behind = run_goes_on sign (map meaning r.items) state st gap room run octet cell found (omega (arith, some, is)) (fits_without sign (map meaning r.items) r.is.fine) (omega (arith, fits, is)) below in
+        let behind = run_goes_on sign (map meaning r.items) state st gap run octet cell found (omega (arith, narrow, is)) (fits_without sign (map meaning r.items) r.is.fine) (omega (arith, fits, is)) in
         let longer = unfilled_more sign octets at state r token refl stands (lengthened ((line_in_force state).part.width + (gap + cell.width)) ((line_in_force state).part.count + 1) state) behind.0 behind.1
         (record { width = r.is.limited.width; height = r.is.limited.height }) in
         rw is longer
@@ -58,18 +118,18 @@ module _ (sign : SignData) (octets : List ℕ) (at : ℕ) (state : State) (r : R
 -- the same, where the run began in a state whose segment has been lengthened since
 module _ (sign : SignData) (octets : List ℕ) (at : ℕ) (state : State) (width count : ℕ) (r : ReadSoFar sign octets at (IsUnfilledOf sign (lengthened width count state))) where
   module _ (octet : ℕ) (short : length octets < 2 ^ 63) (here : slice_get octets at ≡ Some octet) (plain : IsPlain octet)
-      (gap room : ℕ) (run : IsRun state gap room) (wide : ℕ) (some : 1 ≤ wide) (width_is : Some wide ≡ option_map (λ (c : SizedCell). c.width) (cell_in sign state.attributes.font.number octet)) where
-    pub more_goes_on : wide ≤ 64 → width + (gap + wide) ≤ room → ReadSoFar sign octets (at + 1) (IsUnfilledOf sign (lengthened (width + (gap + wide)) (count + 1) state))
+      (gap : ℕ) (run : IsRun state gap) (wide : ℕ) (width_is : Some wide ≡ option_map (λ (c : SizedCell). c.width) (cell_in sign state.attributes.font.number octet)) where
+    pub more_goes_on : wide ≤ 64 → width + (gap + wide) ≤ state.limits.width → ReadSoFar sign octets (at + 1) (IsUnfilledOf sign (lengthened (width + (gap + wide)) (count + 1) state))
     more_goes_on narrow fits =
-        octet_goes_on sign octets at (lengthened width count state) r octet short here plain gap room (run_stays state gap room width count run) wide some width_is narrow fits
+        octet_goes_on sign octets at (lengthened width count state) r octet short here plain gap (run_stays state gap width count run) wide width_is narrow fits
 
 pub behind_first : {x y : ℕ} {xs ys : List ℕ} → x ∷ xs ≡ y ∷ ys → xs ≡ ys
 behind_first e = cc
 
--- a text of a run: octets without brackets, each with a cell, all within the room
-module _ (sign : SignData) (octets : List ℕ) (state : State) (short : length octets < 2 ^ 63) (gap room : ℕ) (run : IsRun state gap room) where
+-- a text of a run: octets without brackets, each with a cell, all within the limit
+module _ (sign : SignData) (octets : List ℕ) (state : State) (short : length octets < 2 ^ 63) (gap : ℕ) (run : IsRun state gap) where
   pub text_goes_on : (text rest widths : List ℕ) (at width count : ℕ) → ReadSoFar sign octets at (IsUnfilledOf sign (lengthened width count state)) → drop at octets ≡ text ++ rest → All IsPlain text
-      → map (width_in sign state.attributes.font.number) text ≡ map Some widths → All (IsWithin 1 64) widths → width + sum_by (λ w. gap + w) widths ≤ room
+      → map (width_in sign state.attributes.font.number) text ≡ map Some widths → All (IsWithin 1 64) widths → width + sum_by (λ w. gap + w) widths ≤ state.limits.width
       → ReadSoFar sign octets (at + length text) (IsUnfilledOf sign (lengthened (width + sum_by (λ w. gap + w) widths) (count + length text) state))
   text_goes_on [] rest [] at width count r e plain each within fits =
       let to : at + 0 ≡ at = omega arith in
@@ -88,7 +148,7 @@ module _ (sign : SignData) (octets : List ℕ) (state : State) (short : length o
       let more : map (width_in sign state.attributes.font.number) text ≡ map Some widths = cc in
       let behind : drop (at + 1) octets ≡ text ++ rest = behind_first (sym (drop_read octets at octet here) ∙ e) in
       let total : sum_by (λ v. gap + v) (w ∷ widths) ≡ 0 + (gap + w) + sum_by (λ v. gap + v) widths = sum_by-append (λ v. gap + v) (w ∷ []) widths in
-      let one = more_goes_on sign octets at state width count r octet short here first gap room run w wide.0 is wide.1 (omega (arith, total)) in
+      let one = more_goes_on sign octets at state width count r octet short here first gap run w is wide.1 (omega (arith, total)) in
       let all = text_goes_on text rest widths (at + 1) (width + (gap + w)) (count + 1) one behind others more narrow (omega (arith, total)) in
       let to : at + 1 + length text ≡ at + suc (length text) = omega arith in
       let wider : width + (gap + w) + sum_by (λ v. gap + v) widths ≡ width + sum_by (λ v. gap + v) (w ∷ widths) = omega (arith, total) in
@@ -96,19 +156,18 @@ module _ (sign : SignData) (octets : List ℕ) (state : State) (short : length o
       rw (← to, ← wider, ← number) all
 
 -- a text behind a character with the same attributes
-module _ (sign : SignData) (octets : List ℕ) (at : ℕ) (state : State) (r : ReadSoFar sign octets at (IsUnfilledOf sign state)) (short : length octets < 2 ^ 63) (gap left : ℕ)
-    (run : IsRun state gap ((line_in_force state).part.width + left)) where
+module _ (sign : SignData) (octets : List ℕ) (at : ℕ) (state : State) (r : ReadSoFar sign octets at (IsUnfilledOf sign state)) (short : length octets < 2 ^ 63) (gap : ℕ) (run : IsRun state gap) where
   abbrev width_of : ℕ → Option ℕ
   width_of = width_in sign state.attributes.font.number
 
-  text_read : (text rest : List ℕ) → drop at octets ≡ text ++ rest → All IsPlain text → (pixels : ℕ) → HasWidth width_of gap text pixels → pixels ≤ left
+  text_read : (text rest : List ℕ) → drop at octets ≡ text ++ rest → All IsPlain text → (pixels : ℕ) → HasWidth width_of gap text pixels → (line_in_force state).part.width + pixels ≤ state.limits.width
       → ReadSoFar sign octets (at + length text) (IsUnfilledOf sign (lengthened ((line_in_force state).part.width + pixels) ((line_in_force state).part.count + length text) state))
   text_read text rest here plain pixels has narrow =
       let together = has.together in
-      rw together (text_goes_on sign octets state short gap ((line_in_force state).part.width + left) run text rest has.widths at (line_in_force state).part.width (line_in_force state).part.count r here plain has.each has.within (omega (arith, narrow, together)))
+      rw together (text_goes_on sign octets state short gap run text rest has.widths at (line_in_force state).part.width (line_in_force state).part.count r here plain has.each has.within (omega (arith, narrow, together)))
 
   -- the same for the front of what stands there
-  pub front_read : (len pixels : ℕ) → at + len ≤ length octets → All IsPlain (take len (drop at octets)) → HasWidth width_of gap (take len (drop at octets)) pixels → pixels ≤ left
+  pub front_read : (len pixels : ℕ) → at + len ≤ length octets → All IsPlain (take len (drop at octets)) → HasWidth width_of gap (take len (drop at octets)) pixels → (line_in_force state).part.width + pixels ≤ state.limits.width
       → ReadSoFar sign octets (at + len) (IsUnfilledOf sign (lengthened ((line_in_force state).part.width + pixels) ((line_in_force state).part.count + len) state))
   front_read len pixels within plain has narrow =
       let size : length (take len (drop at octets)) ≡ len = length-take-le len (drop at octets) (rw (length-drop at octets) (omega (arith, within))) in

@@ -1,5 +1,5 @@
 -- A word and the space behind it, where lines are filled.
-use Rattle.std.proofs.Common.{◌≡◌, ℕ, ◌+◌, ◌-◌, ◌*◌, ◌^◌, ◌<◌, ◌≤◌, List, length, take, drop, slice_get, true, Option, Some, sym, ap, subst, ◌∙◌, arith}
+use Rattle.std.proofs.Common.{◌≡◌, ℕ, ◌+◌, ◌-◌, ◌*◌, ◌^◌, ◌<◌, ◌≤◌, List, length, take, drop, slice_get, true, Option, Some, sym, ap, ◌∙◌, arith}
 use Rattle.std.specs.List.{All}
 use Rattle.multi_token.specs.Counted.{Counted, RisesBetween, charged}
 use Rattle.multi_token.specs.Spelling.{IsPlain}
@@ -25,19 +25,17 @@ module _ (sign : SignData) (cells : FontData) (octets : List ℕ) (at : ℕ) (ru
   abbrev kept : Pass
   kept = with_word run.gap pixels len pass
 
+  room : (line_in_force pass.state).part.width + pixels ≤ pass.state.limits.width
+  room = omega (arith, narrow, text.left)
+
   word_read : ReadSoFar sign octets (at + len) (IsFilledFor sign kept)
-  word_read = front_taken sign octets at pass text.behind.so_far short text.fits run.gap run.left text.runs len pixels within plain word has narrow
+  word_read = front_taken sign octets at pass text.behind.so_far short text.fits run.gap text.runs len pixels within plain word has room
 
   word_runs : IsFilledRun kept
-  word_runs = front_runs sign octets at pass text.behind.so_far short text.fits run.gap run.left text.runs len pixels within has narrow
+  word_runs = front_runs sign octets at pass text.behind.so_far short text.fits run.gap text.runs len pixels within has room
 
-  room_same : (line_in_force pass.state).part.width + run.left ≡ (line_in_force kept.state).part.width + (run.left - pixels)
-  room_same = omega (arith, narrow)
-
-  word_room : IsRun kept.state run.gap ((line_in_force kept.state).part.width + (run.left - pixels))
-  word_room =
-      subst (IsRun kept.state run.gap) room_same
-      (run_stays pass.state run.gap ((line_in_force pass.state).part.width + run.left) ((line_in_force pass.state).part.width + pixels) ((line_in_force pass.state).part.count + len) text.runs)
+  word_room : IsRun kept.state run.gap
+  word_room = run_stays pass.state run.gap ((line_in_force pass.state).part.width + pixels) ((line_in_force pass.state).part.count + len) text.runs
 
   pub word_ready : length octets < 2 ^ 32 → IsFilledReady kept
   word_ready small = filled_ready_here sign octets (at + len) kept word_read small
@@ -65,24 +63,21 @@ module _ (sign : SignData) (cells : FontData) (octets : List ℕ) (at : ℕ) (ru
       → IsInText sign cells octets (at + len + 1) (record { gap = run.gap; left = run.left - pixels - (run.gap + width) }) (with_space (run.gap + width) kept) behind
   word_spaced small here width is narrow_cell fits =
       let line = line_in_force kept.state in
-      let room = line.part.width + (run.left - pixels) in
       let fewest = rises.1 in
       let few = rises.2 in
       let least = text.behind.least in
       let most = text.behind.most in
-      let some = narrow_cell.0 in
-      let enough : line.part.width + (run.gap + width) ≤ room = omega (arith, fits) in
-      let same : room ≡ line.part.width + (run.gap + width) + (run.left - pixels - (run.gap + width)) = omega (arith, fits) in
+      let enough : line.part.width + (run.gap + width) ≤ pass.state.limits.width = omega (arith, fits, narrow, text.left) in
       record {
         behind = record {
-          so_far = one_taken sign octets (at + len) kept word_read 32 short here (λ e. omega (arith, e), λ e. omega (arith, e)) word_runs run.gap room word_room width some narrow_cell.1 (is ∙ sym (text.widths 32)) enough;
+          so_far = one_taken sign octets (at + len) kept word_read 32 short here (λ e. omega (arith, e), λ e. omega (arith, e)) word_runs run.gap word_room width narrow_cell.1 (is ∙ sym (text.widths 32)) enough;
           same = ap (λ (s : Counted). s.octets) rises.3 ∙ text.behind.same;
           least = omega (arith, steps, fewest, least, within, small);
           most = omega (arith, steps, few, most, within, small);
         };
-        fits = one_goes_on kept word_runs run.gap room word_room width some enough true;
-        runs = subst (IsRun _ run.gap) same (run_stays kept.state run.gap room (line.part.width + (run.gap + width)) (line.part.count + 1) word_room);
-        left = omega (arith, text.left);
+        fits = one_goes_on kept word_runs run.gap word_room width enough true;
+        runs = run_stays kept.state run.gap (line.part.width + (run.gap + width)) (line.part.count + 1) word_room;
+        left = omega (arith, fits, narrow, text.left);
         widths = text.widths;
       }
 

@@ -16,6 +16,7 @@ use Rattle.multi_judge.specs.declared.fill.Split.{Split}
 use Rattle.multi_judge.specs.declared.pass.Order.{Order}
 use Rattle.multi_judge.specs.declared.line.Character.{Character}
 use Rattle.multi_judge.specs.declared.line.Line.{Line}
+use Rattle.multi_judge.specs.Run.{FitsBefore}
 use Rattle.multi_judge.specs.Sums.{IsCharacter, IsLineBelow, area_sum, group_sum, line_sum}
 
 -- the sums around a space of a line: of the characters before it, its font, and of those behind it (own)
@@ -46,8 +47,8 @@ EndsLine old new (Some line) =
     × (is_break end ≡ true) × (ended_lines new ≡ ended_lines old ++ (characters ++ end ∷ []) ∷ [])
 
 -- a character joins a group whose lines are filled to this width, where these are the sums of the group and of its open line's
--- parts before it: if the open line fits and the character clashes with none of it, then group and split are those with it, and the
--- line is ended that is (own)
+-- parts before it: if the open line fits and the character clashes with none of it, then group and split are those with it, the
+-- line is ended that is, and the segments before the present one fit (own)
 abbrev pub FillsGroup : ℕ → Group → Option Split → Character → Bool → Group → Option Split → Option Line → Type 0
 FillsGroup width old split character space new split' ended =
     (group : List Spot) (s : Spot) → All IsPlacing group → IsCharacter s character → is_space s ≡ space
@@ -56,10 +57,11 @@ FillsGroup width old split character space new split' ended =
     → old ≡ group_sum (filled (Some width) group) → split ≡ split_sum (after_last is_break (filled (Some width) group))
     → (new ≡ group_sum (filled (Some width) (group ++ s ∷ [])))
     × (split' ≡ split_sum (after_last is_break (filled (Some width) (group ++ s ∷ []))))
-    × EndsLine (filled (Some width) group) (filled (Some width) (group ++ s ∷ [])) ended
+    × EndsLine (filled (Some width) group) (filled (Some width) (group ++ s ∷ [])) ended × FitsBefore width new.line
 
 -- a character joins the group of an area with this page justification, where lines are filled to this width: if the open line fits
--- and the character clashes with none of it, then area and split are those with it, and the line is ended that is (own)
+-- and the character clashes with none of it, then area and split are those with it, the line is ended that is, and the segments before
+-- the present one fit (own)
 abbrev pub FillsArea : ℕ → ℕ → Area → Option Split → Character → Bool → Area → Option Split → Option Line → Type 0
 FillsArea just width area split character space area' split' ended =
     (old new group : List Spot) (s : Spot) → All IsPlacing old → All IsPlacing group → area ≡ area_sum old → area.present ≤ just
@@ -68,7 +70,7 @@ FillsArea just width area split character space area' split' ended =
     → list_any (clashes s) (after_last is_break (filled (Some width) group)) ≡ false
     → (area.present ≡ just → split ≡ split_sum (after_last is_break (filled (Some width) group)))
     → (area' ≡ area_sum new) × (split' ≡ split_sum (after_last is_break (filled (Some width) (group ++ s ∷ []))))
-    × EndsLine (filled (Some width) group) (filled (Some width) (group ++ s ∷ [])) ended
+    × EndsLine (filled (Some width) group) (filled (Some width) (group ++ s ∷ [])) ended × FitsBefore width area'.group.line
 
 -- a group is broken at the last space of its present line, where these are the sums of the group and of that line's parts around the
 -- space: it is then the group with that space dropped (own)

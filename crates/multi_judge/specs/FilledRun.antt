@@ -8,7 +8,7 @@ use Rattle.multi_judge.specs.declared.pass.Pass.{Pass}
 use Rattle.multi_judge.specs.declared.pass.Order.{Order}
 use Rattle.multi_judge.specs.declared.line.Line.{Line}
 use Rattle.multi_judge.specs.Sums.{line_sum}
-use Rattle.multi_judge.specs.Run.{Fits, IsBehindCharacter, IsBehindOne, lengthened, lengthened_line, line_in_force}
+use Rattle.multi_judge.specs.Run.{IsBehindCharacter, IsBehindOne, lengthened, lengthened_line, line_in_force}
 
 -- the order is that of characters of which the last has this line justification (own)
 abbrev pub IsOrderOf : ℕ → Order → Type 0
@@ -18,11 +18,9 @@ IsOrderOf just order = (order.largest ≡ just) × (order.has_parts ≡ nat_lt j
 abbrev pub GoesOnBehind : Attributes → Option Split → Type 0
 GoesOnBehind here split = IfSome split (λ s. s.behind.any ≡ true → IsBehindOne here.line_just here.font s.behind)
 
--- the last character was put into the present area with the attributes in force, what is there fits, and so a character here only
--- lengthens what is kept (own)
+-- the last character was put into the present area with the attributes in force, and so a character here only lengthens what is kept (own)
 pub record IsFilledRun (kept : Pass) : Type 0 where
   pub behind : IsBehindCharacter kept.state
-  pub fits : Fits kept.state
   pub order : IsOrderOf (line_number kept.state.attributes.line_just) kept.order
   pub split : GoesOnBehind kept.state.attributes kept.split
 

@@ -13,10 +13,11 @@ use Rattle.multi_meaning.specs.Meaning.{Meaning}
 use Rattle.multi_meaning.specs.kept.Present.{present_area}
 use Rattle.multi_judge.specs.declared.pass.Pass.{Pass}
 use Rattle.multi_judge.specs.FillSums.{IsSplitBelow, order_sum, split_sum}
-use Rattle.multi_judge.specs.State.{IsReady, IsStateOf}
+use Rattle.multi_judge.specs.State.{AreaFits, IsLimited, IsReady, IsStateOf}
 
 -- it is what is kept of these items: the state of the items as they are laid out, the parts of the present line around its last
--- space, and the order of all characters of the present group since the last `nl`; no sum overflows, and the open lines fit (own)
+-- space, and the order of all characters of the present group since the last `nl`; the limits are known, no sum overflows, and the open
+-- lines and the area fit (own)
 pub record IsFilledOf (sign : SignData) (items : List Meaning) (kept : Pass) : Type 0 where
   pub state_is : IsStateOf sign (laid_items Words sign items items) kept.state
   pub split_is :
@@ -26,6 +27,8 @@ pub record IsFilledOf (sign : SignData) (items : List Meaning) (kept : Pass) : T
       (filled (Some (standing sign items).rectangle.width) (in_group kept.state.area.present (present_area sign items))))
   pub order_is : kept.order ≡ order_sum (after_last is_break (in_group kept.state.area.present (present_area sign items)))
   pub split_below : IsSplitBelow (1024 * length items) kept.split
+  pub limited : IsLimited kept.state
+  pub area_fits : AreaFits sign (laid_items Words sign items items)
   pub fits : AllOpenFit (Some (standing sign items).rectangle.width) (present_area sign items)
 
 -- lines are filled, and this is what is kept of these items (own)

@@ -10,7 +10,7 @@ use Rattle.multi_meaning.specs.Meaning.{Meaning, Shows}
 use Rattle.multi_meaning.specs.Offence.{offence}
 use Rattle.multi_judge.specs.declared.pass.Pass.{Pass}
 use Rattle.multi_judge.specs.FilledState.{IsFilledFor, IsFilledReady}
-use Rattle.multi_judge.specs.Run.{Fits, IsBehindCharacter}
+use Rattle.multi_judge.specs.Run.{IsBehindCharacter, is_within}
 use Rattle.multi_judge.specs.State.{IsReady, IsUnfilledOf}
 
 -- whether lines are filled, as a sign says it (own)
@@ -28,10 +28,10 @@ abbrev pub IsPassReady : Bool → Pass → Type 0
 IsPassReady true pass = IsFilledReady pass
 IsPassReady false pass = IsReady pass.state
 
--- a pass over lines of this kind is behind a character (own)
-abbrev pub IsPassBehind : Bool → Pass → Type 0
-IsPassBehind true pass = Fits pass.state
-IsPassBehind false pass = IsBehindCharacter pass.state
+-- a pass over lines of this kind is behind a character, as far as it knows, and what is there is within its limits (own)
+pub record IsPassBehind (words : Bool) (pass : Pass) : Type 0 where
+  pub within : is_within pass.state ≡ true
+  pub behind : words ≡ false → IsBehindCharacter pass.state
 
 -- one more item is judged: it doesn't offend and the pass is then that of the items with it, or it offends by this error (own)
 abbrev pub IsItemJudged : Bool → SignData → List Meaning → Meaning → Result (Unit {0}) SyntaxError → Pass → Type 0

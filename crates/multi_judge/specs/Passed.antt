@@ -8,12 +8,11 @@ use Rattle.multi_meaning.specs.LaidItems.{laid_items}
 use Rattle.multi_meaning.specs.Meaning.{Meaning, Shows}
 use Rattle.multi_meaning.specs.kept.Present.{present_area}
 use Rattle.multi_meaning.specs.Offence.{offence, unsized_offence}
-use Rattle.multi_judge.specs.declared.fill.Placed.{Placed}
 use Rattle.multi_judge.specs.declared.pass.Pass.{Pass}
 use Rattle.multi_judge.specs.declared.line.Line.{Line}
 use Rattle.multi_judge.specs.FillSums.{EndsLine}
 use Rattle.multi_judge.specs.PassState.{IsPassOf, fill_of}
-use Rattle.multi_judge.specs.Run.{IsBehindCharacter}
+use Rattle.multi_judge.specs.Run.{IsBehindCharacter, is_within}
 
 -- the placing items of the present area behind these items, as they are laid out among them (own)
 abbrev pub laid_area : Bool → SignData → List Meaning → List Spot
@@ -41,14 +40,14 @@ PassesCharacter words number width old new ended =
 
 -- one more character is put where lines are filled, which doesn't offend by more than its size: it doesn't offend if it fits, and is passed
 -- then (own)
-pub record IsFilledPut (sign : SignData) (items : List Meaning) (number : ℕ) (old new : Pass) (placed : Placed) : Type 0 where
-  pub size : offence sign.line_fill sign items (Shows number) ≡ (if placed.fits then None else Some 5)
-  pub passed : placed.fits ≡ true
-      → IsItemPassed true sign items (Shows number) (page_number old.state.attributes.page_just) old new placed.ended
+pub record IsFilledPut (sign : SignData) (items : List Meaning) (number : ℕ) (old new : Pass) (fits : Bool) (ended : Option Line) : Type 0
+  where
+    pub size : offence sign.line_fill sign items (Shows number) ≡ (if fits then None else Some 5)
+    pub passed : fits ≡ true → IsItemPassed true sign items (Shows number) (page_number old.state.attributes.page_just) old new ended
 
--- so it is of one whose cell has this width, whatever the items before are of which the old is kept (own)
-abbrev pub PutsFilled : ℕ → ℕ → Pass → Pass → Placed → Type 0
-PutsFilled number width old new placed =
+-- so it is of one whose cell has this width, whatever the items before are of which the old is kept: it fits by its limits (own)
+abbrev pub PutsFilled : ℕ → ℕ → Pass → Pass → Option Line → Type 0
+PutsFilled number width old new ended =
     (sign : SignData) (items : List Meaning) → IsPassOf true sign old items
     → width_in sign old.state.attributes.font.number number ≡ Some width → unsized_offence sign items (Shows number) ≡ None
-    → IsFilledPut sign items number old new placed
+    → IsFilledPut sign items number old new (is_within new.state) ended

@@ -10,12 +10,11 @@ use Rattle.sign_font.specs.Sign.{SignData}
 use Rattle.sign_font.specs.Text.{HasWidth, width_in}
 use Rattle.multi_meaning.specs.Fit.{fit}
 use Rattle.multi_meaning.specs.Line.{average}
-use Rattle.multi_meaning.specs.Meaning.{Meaning}
 use Rattle.multi_judge.specs.declared.area.Area.{Area}
 use Rattle.multi_judge.specs.declared.area.Group.{Group}
 use Rattle.multi_judge.specs.declared.line.Line.{Line}
 use Rattle.multi_judge.specs.declared.state.State.{State}
-use Rattle.multi_judge.specs.State.{IsStateOf}
+use Rattle.multi_judge.specs.State.{IsLimited}
 
 -- the width of the characters with a line justification, by what is kept of the line: left 2, centre 3, right 4, full 5 (own)
 abbrev pub kept_width : ℕ → Line → ℕ
@@ -35,14 +34,9 @@ kept_height group =
     0 + group.line.height
     else group.closed
 
--- the height of the group with a page justification, by what is kept of the area: top 2, middle 3, bottom 4 (own)
-abbrev pub kept_group_height : ℕ → Area → ℕ
-kept_group_height just area =
-    if just == area.present then kept_height area.group else (if just == 2 then area.top else (if just == 3 then area.middle else 0))
-
--- the groups of an area stand apart within a height, by what is kept of the area (own)
-abbrev pub kept_fits_height : ℕ → Area → Bool
-kept_fits_height height area = fit (kept_group_height 2 area) (kept_group_height 3 area) (kept_group_height 4 area) height
+-- by what is kept, the present segment and the present group have at most what they may have (own)
+abbrev pub is_within : State → Bool
+is_within state = nat_le state.area.group.line.part.width state.limits.width && nat_le (kept_height state.area.group) state.limits.height
 
 -- a line whose present segment has this width and number of characters (own)
 abbrev pub lengthened_line : ℕ → ℕ → Line → Line
@@ -51,14 +45,6 @@ lengthened_line width count line = record line { part = record line.part { width
 -- by what is kept of a line, its segments before the present one fit a width (own)
 abbrev pub FitsBefore : ℕ → Line → Type 0
 FitsBefore width line = kept_fits width (lengthened_line 0 0 line) ≡ true
-
--- the height of the group with a page justification, if it is before the present one, by what is kept of the area (own)
-abbrev pub kept_before : ℕ → Area → ℕ
-kept_before just area = if just == area.present then 0 else (if just == 2 then area.top else (if just == 3 then area.middle else 0))
-
--- by what is kept of an area, its groups before the present one fit a height (own)
-abbrev pub GroupsFitBefore : ℕ → Area → Type 0
-GroupsFitBefore height area = fit (kept_before 2 area) (kept_before 3 area) (kept_before 4 area) height ≡ true
 
 -- by what is kept of a line, a character with a line justification may stand on it (own)
 abbrev pub IsOpen : LineJust → Line → Type 0
@@ -94,34 +80,25 @@ pub record IsBehindCharacter (state : State) : Type 0 where
   pub group : state.area.present ≡ page_number state.attributes.page_just
   pub line : IsBehindOne state.attributes.line_just state.attributes.font (line_in_force state)
 
--- by what is kept, the present line and the present area fit the rectangle in force (own)
-pub record Fits (state : State) : Type 0 where
-  pub width : kept_fits state.attributes.rectangle.width (line_in_force state) ≡ true
-  pub height : kept_fits_height state.attributes.rectangle.height state.area ≡ true
-
--- a character here has the attributes of the one before it, so that it only lengthens their segment: by its width and this gap,
--- and it fits where the segment then has at most so much room (own)
-pub record IsRun (state : State) (gap room : ℕ) : Type 0 where
-  pub group : state.area.present ≡ page_number state.attributes.page_just
-  pub line : IsBehindOne state.attributes.line_just state.attributes.font (line_in_force state)
+-- a character here has the attributes of the one before it, so that it only lengthens their segment: by its width and this gap; the limits
+-- are known, and the present group is within its own (own)
+pub record IsRun (state : State) (gap : ℕ) : Type 0 where
+  pub behind : IsBehindCharacter state
   pub gap_is : gap ≡ unwrap_or state.attributes.spacing state.attributes.font.char_spacing
   pub narrow : gap ≤ 255
-  pub heights : kept_fits_height state.attributes.rectangle.height state.area ≡ true
-  pub room_is :
-      (width count : ℕ) → 1 ≤ width
-      → kept_fits state.attributes.rectangle.width (lengthened_line width count (line_in_force state)) ≡ nat_le width room
+  pub limited : IsLimited state
+  pub height : nat_le (kept_height state.area.group) state.limits.height ≡ true
 
--- the octets between two offsets are characters that lengthen the segment of the one before them, by these pixels: they go into what is
--- left where the line fits, and the new state is the old one with them (own)
+-- the octets between two offsets are characters that lengthen the segment of the one before them, by these pixels: where what is there is
+-- within its limits, it still is with them, and the new state is the old one with them (own)
 pub record IsRunPassed (sign : SignData) (octets : List ℕ) (at : ℕ) (state : State) (at' : ℕ) (state' : State) : Type 0 where
   pub gap : ℕ
-  pub left : ℕ
   pub pixels : ℕ
   pub forward : at ≤ at'
   pub within : at' ≤ length octets
   pub plain : All IsPlain (slice_range octets at at')
   pub width : HasWidth (width_in sign state.attributes.font.number) gap (slice_range octets at at') pixels
-  pub narrow : pixels ≤ left
-  pub run : (items : List Meaning) (sign : SignData) → IsStateOf sign items state → Fits state
-      → IsRun state gap ((line_in_force state).part.width + left)
+  pub gap_is : gap ≡ unwrap_or state.attributes.spacing state.attributes.font.char_spacing
+  pub narrow : gap ≤ 255
+  pub run : is_within state ≡ true → IsRun state gap × ((line_in_force state).part.width + pixels ≤ state.limits.width)
   pub is : state' ≡ lengthened ((line_in_force state).part.width + pixels) ((line_in_force state).part.count + (at' - at)) state

@@ -1,13 +1,13 @@
 -- What is kept of the items that were read (own).
-use Rattle.std.specs.Prelude.{◌≡◌, ℕ, ◌+◌, ◌*◌, ◌^◌, ◌≤◌, true, List, [], ◌∷◌, ◌++◌, length, Some, None, Result, Ok, Err, Bool, false}
+use Rattle.std.specs.Prelude.{◌≡◌, ℕ, ◌+◌, ◌*◌, ◌^◌, ◌≤◌, true, List, [], ◌∷◌, ◌++◌, length, Some, None, Result, Ok, Err}
 use Rattle.multi_tag.specs.declared.tag.Tag.{Tag}
 use Rattle.multi_tag.specs.declared.tag.Tag.TheVariants.{NewPage, NewLine, Font, Rect}
 use Rattle.sign_font.specs.declared.parts.LineFill.TheVariants.{Off}
 use Rattle.sign_font.specs.Sign.{SignData, font_numbered, info_of}
 use Rattle.multi_meaning.specs.declared.fault.SyntaxError.{SyntaxError}
 use Rattle.multi_meaning.specs.Codes.{code_of}
-use Rattle.multi_meaning.specs.Fit.{room_for}
-use Rattle.multi_meaning.specs.Meaning.{Meaning}
+use Rattle.multi_meaning.specs.Fit.{area_fits, room_for}
+use Rattle.multi_meaning.specs.Meaning.{Meaning, has_place}
 use Rattle.multi_meaning.specs.Address.{Standing, standing}
 use Rattle.multi_meaning.specs.Offence.{offence}
 use Rattle.multi_meaning.specs.Times.{cycle, ended_times}
@@ -58,11 +58,14 @@ segment_room line width = room_for line.present line.left line.centre width
 abbrev pub group_room : Area → ℕ → ℕ
 group_room area height = room_for area.present area.top area.middle height
 
+-- a number is the most that the present segment of a line may have within a width, if the line has a character (own)
+abbrev pub IsMost : ℕ → Line → ℕ → Type 0
+IsMost width line most = line.any ≡ true → most ≡ segment_room line width
+
 -- the limits are what the present segment, if the line in force has a character, and the present group, if there is one, may have in the
 -- rectangle in force (own)
 pub record IsLimited (state : State) : Type 0 where
-  pub width : state.area.group.line.any ≡ true
-      → state.limits.width ≡ segment_room state.area.group.line state.attributes.rectangle.width
+  pub width : IsMost state.attributes.rectangle.width state.area.group.line state.limits.width
   pub height : 2 ≤ state.area.present → state.limits.height ≡ group_room state.area state.attributes.rectangle.height
 
 -- lines aren't filled, the state is that of these items with their limits, and none of them offends (own)
@@ -87,10 +90,15 @@ IsJudged sign items item (Err error) state = offence Off sign items item ≡ Som
 abbrev pub Judges : SignData → State → Meaning → Result (Unit {0}) SyntaxError → State → Type 0
 Judges sign old item result new = (items : List Meaning) → IsStateOf sign items old → IsJudged sign items item result new
 
--- the same behind items of which none offends, where lines aren't filled, and else behind any (own)
-abbrev pub JudgesTag : Bool → SignData → State → Meaning → Result (Unit {0}) SyntaxError → State → Type 0
-JudgesTag words sign old item result new =
-    (items : List Meaning) → IsStateOf sign items old → (words ≡ false → IsUnfilledOf sign old items) → IsJudged sign items item result new
+-- the present area of these items fits the rectangle in force (own)
+abbrev pub AreaFits : SignData → List Meaning → Type 0
+AreaFits sign items = area_fits (standing sign items).rectangle.height (present_area sign items) ≡ true
+
+-- the same, and of an item that has a place where the limits are known and what is before it fits (own)
+abbrev pub JudgesTag : SignData → State → Meaning → Result (Unit {0}) SyntaxError → State → Type 0
+JudgesTag sign old item result new =
+    (items : List Meaning) → IsStateOf sign items old → (has_place item ≡ true → IsLimited old × AreaFits sign items)
+    → IsJudged sign items item result new
 
 -- a tag that the layout of the sign has no part in: it begins nothing, places nothing, and asks for no font (own)
 abbrev pub IsSimple : Tag → Type 0

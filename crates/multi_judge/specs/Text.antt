@@ -1,5 +1,5 @@
 -- Text where lines are filled: words and spaces that stay on the line of the character before them (own).
-use Rattle.std.specs.Prelude.{◌≡◌, ℕ, ◌+◌, ◌-◌, ◌^◌, ◌<◌, ◌≤◌, List, Some}
+use Rattle.std.specs.Prelude.{◌≡◌, ℕ, ◌+◌, ◌-◌, ◌≤◌, List, Some}
 use Rattle.multi_token.specs.Counted.{Counted}
 use Rattle.sign_font.specs.Sign.{FontData, SignData}
 use Rattle.sign_font.specs.Sound.{IsWithin}
@@ -17,8 +17,8 @@ pub record IsInText (sign : SignData) (cells : FontData) (octets : List ℕ) (at
   where
     pub behind : IsBehind sign octets at (IsFilledFor sign pass) source
     pub fits : IsFilledRun pass
-    pub runs : IsRun pass.state run.gap ((line_in_force pass.state).part.width + run.left)
-    pub left : run.left < 2 ^ 16
+    pub runs : IsRun pass.state run.gap
+    pub left : (line_in_force pass.state).part.width + run.left ≡ pass.state.limits.width
     pub widths : AreWidthsOf sign pass.state.attributes.font.number cells
 
 -- a space whose cell among these has this width in pixels is taken: it fits what is left (own)

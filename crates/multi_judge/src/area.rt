@@ -1,21 +1,18 @@
 //! The running sums of an area's groups.
 
-ghost use Rattle.std.specs.Prelude.{◌≡◌, ◌≢◌, ℕ, ◌+◌, ◌^◌, ◌<◌, ◌≤◌, ◌&&◌, true, false, nat_le, not, List, [], ◌∷◌, ◌++◌};
+ghost use Rattle.std.specs.Prelude.{◌≡◌, ◌≢◌, ℕ, ◌+◌, ◌^◌, ◌<◌, ◌≤◌, ◌&&◌, true, false, List, [], ◌∷◌, ◌++◌};
 ghost use Rattle.std.specs.List.{All};
 ghost use Rattle.std.specs.Option.{option_map_or, unwrap_or};
-ghost use Rattle.sign_font.specs.declared.parts.LineFill.TheVariants.{Off};
 ghost use Rattle.multi_tag.specs.Just.{page_number};
-ghost use Rattle.multi_meaning.specs.Address.{Spot, is_break, area_of, in_group, lines_of};
-ghost use Rattle.multi_meaning.specs.Fit.{area_fits};
-ghost use Rattle.multi_meaning.specs.Laid.{too_big};
+ghost use Rattle.multi_meaning.specs.Address.{Spot, in_group, lines_of};
 ghost use Rattle.multi_meaning.specs.Line.{average, height_of};
 ghost use Rattle.multi_meaning.specs.kept.Present.{IsPlacing};
 ghost use Rattle.multi_judge.specs.Adding.{ReachesGroup};
-ghost use Rattle.multi_judge.specs.Run.{kept_fits_height, kept_group_height, kept_height, lengthened_area};
+ghost use Rattle.multi_judge.specs.Run.{kept_height};
 ghost use Rattle.multi_judge.specs.State.{group_room};
 ghost use Rattle.multi_judge.specs.Sums.{IsBare, group_sum, area_sum, area_sum_in, IsBreak, IsGroupBelow, IsBelow};
 
-use crate::line::{Line, gap_or_average, parts_fit, room_for};
+use crate::line::{Line, gap_or_average, room_for};
 use multi_tag::PageJust;
 use sign_font::FontInfo;
 
@@ -199,72 +196,11 @@ impl Area {
         }
     }
 
-    /// The height of the group with a page justification, in pixels.
-    #[inline(always)]
-    pub(crate) fn height(&self, page_just: PageJust) -> u64
-        requires below { IsBelow (2 ^ 62 + 1024) self.now }
-        ensures sum { (area : List Spot) → All IsPlacing area → self.now ≡ area_sum area
-            → result ≡ height_of (lines_of (in_group (page_number page_just) area)) }
-        ensures kept { result ≡ kept_group_height (page_number page_just) self.now }
-        ensures below { result ≤ 2 ^ 62 + 2048 }
-    {
-        if page_just.number() == self.present {
-            return self.group.height();
-        }
-        match page_just {
-            PageJust::Top => self.top,
-            PageJust::Middle => self.middle,
-            PageJust::Bottom => 0,
-        }
-    }
-
     /// The most pixels that the present group may have within a height, into which those before it fit.
     pub(crate) fn room(&self, height: u16) -> u64
         requires below { IsBelow (2 ^ 62 + 1024) self.now }
         ensures { result ≡ group_room self.now height }
     {
         room_for(self.present, self.top, self.middle, height)
-    }
-
-    /// Whether the present segment has at most this width, and the present group at most this height, in pixels.
-    #[inline(always)]
-    pub(crate) fn is_within(&self, width: u64, height: u64) -> bool
-        requires below { IsBelow (2 ^ 62 + 1024) self.now }
-        ensures { result ≡ nat_le self.now.group.line.part.width width && nat_le (kept_height self.now.group) height }
-    {
-        (self.group.line.part.width <= width) & (self.group.height() <= height)
-    }
-
-    /// Whether the area fits a rectangle of this height in pixels, as far as its last item goes: an `nl`.
-    #[inline(always)]
-    pub(crate) fn fits_with_break(&self, height: u16) -> bool
-        requires below { IsBelow (2 ^ 62 + 1024) self.now }
-        ensures { (before : List Spot) (s : Spot) → is_break s ≡ true → self.now ≡ area_sum (area_of s before ++ s ∷ [])
-            → s.at.rectangle.height ≡ height → result ≡ not (too_big Off before s) }
-    {
-        self.fits_height(height)
-    }
-
-    /// Gives the present segment of the present group this width and number of characters.
-    pub(crate) fn lengthen(&mut self, width: u64, count: u64)
-        ensures { self.new ≡ lengthened_area width count self.old }
-    {
-        self.group.line.lengthen(width, count);
-    }
-
-    /// Whether the groups stand apart within a height in pixels.
-    #[inline(always)]
-    pub(crate) fn fits_height(&self, height: u16) -> bool
-        requires below { IsBelow (2 ^ 62 + 1024) self.now }
-        ensures sum { (area : List Spot) → All IsPlacing area → self.now ≡ area_sum area
-            → result ≡ area_fits height area }
-        ensures kept { result ≡ kept_fits_height height self.now }
-    {
-        parts_fit(
-            self.height(PageJust::Top),
-            self.height(PageJust::Middle),
-            self.height(PageJust::Bottom),
-            u64::from(height),
-        )
     }
 }

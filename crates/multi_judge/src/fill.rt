@@ -4,26 +4,18 @@ ghost use Rattle.std.specs.Prelude.{◌≡◌, ℕ, ◌+◌, ◌^◌, ◌≤◌,
 ghost use Rattle.std.specs.List.{AllPass, list_any};
 ghost use Rattle.multi_tag.specs.Just.{page_number};
 ghost use Rattle.multi_meaning.specs.Address.{Spot, is_glyph};
-ghost use Rattle.multi_meaning.specs.Fit.{line_fits};
 ghost use Rattle.multi_meaning.specs.Filling.{is_space};
 ghost use Rattle.multi_meaning.specs.Offence.{clashes};
+ghost use Rattle.multi_judge.specs.Adding.{character_of};
 ghost use Rattle.multi_judge.specs.FillSums.{BreaksGroup, FillsArea, FillsGroup, IsSplitBelow, split_sum};
-ghost use Rattle.multi_judge.specs.Run.{kept_fits};
+ghost use Rattle.multi_judge.specs.State.{IsLimited, IsMost};
 ghost use Rattle.multi_judge.specs.Sums.{IsBare, IsBelow, IsCharacter, IsGroupBelow, IsLineBelow, line_sum};
 
-use crate::area::{Area, Group};
+use crate::area::Group;
 use crate::line::{Character, Line};
-use multi_tag::PageJust;
+use crate::state::State;
+use multi_meaning::Rectangle;
 use sign_font::FontInfo;
-
-/// What became of a character that was put where lines are filled.
-#[derive(Clone, Copy)]
-pub(crate) struct Placed {
-    /// Whether its line fits.
-    pub(crate) fits: bool,
-    /// The line that it ended, if it did.
-    pub(crate) ended: Option<Line>,
-}
 
 /// The parts of the open line around its last space.
 #[derive(Clone, Copy)]
@@ -53,88 +45,84 @@ impl Group {
 
     /// Adds a character, where lines are filled to a width. Where it doesn't fit the present line, the line is ended: before
     /// the character, a space that is dropped, or else at its last space. Without one it stays, and doesn't fit. The parts are
-    /// those of the present line around its last space, and then those of the new present line.
+    /// those of the present line around its last space, and then those of the new present line, and so is the most that its present
+    /// segment may have. The answer is the line that is ended, if one is.
     #[inline(always)]
     pub(crate) fn fill_character(
         &mut self,
         split: &mut Option<Split>,
         width: u16,
+        most: &mut u64,
         character: &Character,
         space: bool,
-    ) -> Placed
+    ) -> Option<Line>
         requires below { IsGroupBelow (2 ^ 62) self.old }
+        requires bare { IsBare self.old.line }
         requires parts { IsSplitBelow (2 ^ 62) split.old }
-        ensures sum { FillsGroup width self.old split.old character.now space self.new split.new result.ended }
-        ensures fits { (line : List Spot) → self.new.line ≡ line_sum line → result.fits ≡ line_fits width line }
-        ensures kept_fits { result.fits ≡ kept_fits width self.new.line }
+        ensures sum { IsMost width self.old.line most.old
+            → FillsGroup width self.old split.old character.now space self.new split.new result }
+        ensures most { IsMost width self.old.line most.old → IsMost width self.new.line most.new }
         ensures grows { (k : ℕ) → IsGroupBelow k self.old → IsSplitBelow k split.old
             → IsGroupBelow (k + 1024) self.new × IsSplitBelow (k + 1024) split.new }
-        ensures bare { IsBare self.old.line → IsBare self.new.line }
-        ensures small { IfSome result.ended (IsLineBelow (2 ^ 62)) }
+        ensures bare { IsBare self.new.line }
+        ensures small { IfSome result (IsLineBelow (2 ^ 62)) }
     {
         let before = self.line;
-        self.line.add(character);
-        if self.line.fits(width) {
+        self.line.put(character, width, most);
+        if self.line.part.width <= *most {
             grow(split, &before, character, space);
-            return Placed {
-                fits: true,
-                ended: None,
-            };
+            return None;
         }
         if space {
             self.line = before;
             self.add_break(None, &character.font);
             forget(split);
-            return Placed {
-                fits: self.line.fits(width),
-                ended: Some(before),
-            };
+            return Some(before);
         }
         match *split {
             Some(parts) => {
                 self.line = before;
                 self.break_at(&parts);
                 self.line.add(character);
+                *most = self.line.room(width);
                 forget(split);
-                Placed {
-                    fits: self.line.fits(width),
-                    ended: Some(parts.before),
-                }
+                Some(parts.before)
             }
-            None => Placed {
-                fits: false,
-                ended: None,
-            },
+            None => None,
         }
     }
 }
 
-impl Area {
-    /// Adds a character, where lines are filled to a width, with this page justification in force, which isn't before that of the
-    /// present group. The parts are those of the present line around its last space, and then those of the new present line.
+impl State {
+    /// Puts a character whose cell has this width in pixels, where lines are filled: the line that it ended, if it did. The parts are
+    /// those of the present line around its last space, and then those of the new present line.
     #[inline(always)]
     pub(crate) fn fill_character(
         &mut self,
         split: &mut Option<Split>,
-        page_just: PageJust,
-        width: u16,
-        character: &Character,
+        cell_width: u8,
         space: bool,
-    ) -> Placed
-        requires below { IsBelow (2 ^ 62) self.old }
+    ) -> Option<Line>
+        requires below { IsBelow (2 ^ 62) self.old.area }
         requires parts { IsSplitBelow (2 ^ 62) split.old }
-        ensures sum { FillsArea (page_number page_just) width self.old split.old character.now space self.new split.new result.ended }
-        ensures fits { (line : List Spot) → self.new.group.line ≡ line_sum line → result.fits ≡ line_fits width line }
-        ensures kept_fits { result.fits ≡ kept_fits width self.new.group.line }
-        ensures grows { (k : ℕ) → IsBelow k self.old → IsSplitBelow k split.old
-            → IsBelow (k + 1024) self.new × IsSplitBelow (k + 1024) split.new }
-        ensures small { IfSome result.ended (IsLineBelow (2 ^ 62)) }
+        ensures sum { IsLimited self.old → FillsArea (page_number self.old.attributes.page_just) self.old.attributes.rectangle.width
+            self.old.area split.old (character_of self.old.attributes cell_width) space self.new.area split.new result }
+        ensures limited { IsLimited self.old → IsLimited self.new }
+        ensures grows { (k : ℕ) → IsBelow k self.old.area → IsSplitBelow k split.old
+            → IsBelow (k + 1024) self.new.area × IsSplitBelow (k + 1024) split.new }
+        ensures same { self.new ≡ record self.old { area = self.new.area; limits = self.new.limits } }
+        ensures small { IfSome result (IsLineBelow (2 ^ 62)) }
     {
-        if page_just.number() > self.present {
+        let Rectangle { width, height, .. } = self.attributes.rectangle;
+        let page_just = self.attributes.page_just;
+        if page_just.number() > self.area.present {
             *split = None;
         }
-        self.go_on(page_just);
-        self.group.fill_character(split, width, character, space)
+        self.area.reach(page_just, height, &mut self.limits.height);
+        let character = self.attributes.character(cell_width);
+        self.area
+            .group
+            .fill_character(split, width, &mut self.limits.width, &character, space)
     }
 }
 

@@ -7,7 +7,7 @@ ghost use Rattle.sign_font.specs.Text.{AreWidthsOf};
 ghost use Rattle.multi_judge.specs.FilledRun.{GoesOnBehind, IsFilledRun, with_run, with_space, with_word};
 ghost use Rattle.multi_judge.specs.FilledState.{IsFilledFor, IsFilledReady};
 ghost use Rattle.multi_judge.specs.Judging.{IsAt, IsBehind};
-ghost use Rattle.multi_judge.specs.Run.{Fits, IsBehindOne};
+ghost use Rattle.multi_judge.specs.Run.{IsBehindOne, is_within};
 ghost use Rattle.multi_judge.specs.Text.{IsInText, TakesSpace};
 
 use crate::attributes::Attributes;
@@ -80,7 +80,7 @@ pub(crate) fn judge_text(
 ) -> (usize, Option<u8>)
     requires short { length source.old.octets < 2 ^ 32 }
     requires behind { IsBehind sign.now source.old.octets at (IsFilledFor sign.now pass.old) source.old }
-    requires fits { Fits pass.old.state }
+    requires room { is_within pass.old.state ≡ true }
     requires cells { AreWidthsOf sign.now pass.old.state.attributes.font.number cells.now }
     ensures further { at ≤ result.0 }
     ensures at { IsAt sign.now source.old.octets result.0 result.1 (IsFilledFor sign.now pass.new) source.new }
@@ -102,14 +102,13 @@ fn take_text(
 ) -> (usize, Option<u8>)
     requires short { length source.old.octets < 2 ^ 32 }
     requires behind { IsBehind sign.now source.old.octets at (IsFilledFor sign.now pass.old) source.old }
+    requires room { is_within pass.old.state ≡ true }
     requires run { IsFilledRun pass.old }
     requires cells { AreWidthsOf sign.now pass.old.state.attributes.font.number cells.now }
     ensures further { at ≤ result.0 }
     ensures at { IsAt sign.now source.old.octets result.0 result.1 (IsFilledFor sign.now pass.new) source.new }
 {
-    let Attributes { rectangle, .. } = pass.state.attributes;
-    let most = pass.state.area.group.line.room(rectangle.width);
-    let mut run = pass.state.run(most);
+    let mut run = pass.state.run();
     let mut at = at;
     loop {
         match take_word(sign, cells, pass, source, &mut run, at) {
@@ -174,7 +173,6 @@ fn take_space(
 impl Pass {
     /// Whether a character here has the attributes of the one before it, so that it only lengthens what is kept.
     fn goes_on(&self) -> bool
-        requires { Fits self.now.state }
         ensures { result ≡ true → IsFilledRun self.now }
     {
         let here = &self.state.attributes;

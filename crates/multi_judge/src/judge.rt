@@ -1,42 +1,38 @@
 //! The verdict on a string, in one reading from the left with running sums.
 
-ghost use Rattle.std.specs.Prelude.{◌≡◌, ◌+◌, ◌-◌, ◌≤◌, ◌==◌, if◌then◌else◌, length, List, IfSome, IfNone, OnOk, Some, true, false, not, nat_le, [], ◌∷◌, ◌++◌, ◌^◌};
+ghost use Rattle.std.specs.Prelude.{◌≡◌, ◌+◌, ◌-◌, ◌≤◌, ◌==◌, if◌then◌else◌, length, List, IfSome, IfNone, OnOk, Some, true, [], ◌∷◌, ◌++◌, ◌^◌};
 ghost use Rattle.std.specs.Option.{option_map_or};
 ghost use Rattle.multi_token.specs.Counted.{RisesBetween};
 ghost use Rattle.sign_font.specs.Sign.{SignData};
 ghost use Rattle.sign_font.specs.Text.{width_in};
-ghost use Rattle.sign_font.specs.declared.parts.LineFill.TheVariants.{Off};
-ghost use Rattle.multi_meaning.specs.Address.{Spot, area_of, is_break};
-ghost use Rattle.multi_meaning.specs.Laid.{too_big};
 ghost use Rattle.multi_meaning.specs.Meaning.{Does, Meaning, Shows};
-ghost use Rattle.multi_judge.specs.Run.{IsBehindCharacter};
-ghost use Rattle.multi_judge.specs.Sums.{IsBelow, area_sum};
+ghost use Rattle.multi_judge.specs.Run.{IsBehindCharacter, is_within};
 ghost use Rattle.multi_judge.specs.State.{IsJudged, JudgesTag, IsLimited, IsReady, IsUnfilledOf, Judges};
 
 use crate::area::Area;
 use crate::attributes::whole_sign;
-use crate::state::{Limits, State};
+use crate::state::State;
 use crate::terms::Terms;
 use multi_meaning::{Rectangle, SyntaxError};
 use multi_tag::{FontPick, Tag};
 use multi_token::Source;
 
-/// Judges what a tag says. `WORDS` says whether lines are filled, where the limits aren't known.
+/// Judges what a tag says.
 #[inline(always)]
-pub fn judge_tag<const WORDS: bool>(
+pub fn judge_tag(
     sign: &Terms<'_>,
     state: &mut State,
     source: &mut Source<'_>,
     tag: Tag,
 ) -> Result<(), SyntaxError>
     requires ready { IsReady state.old }
-    ensures judged { JudgesTag WORDS sign.now state.old (Does tag) result state.new }
+    ensures judged { JudgesTag sign.now state.old (Does tag) result state.new }
     ensures limited { IsLimited state.old → IsLimited state.new }
     ensures steps { RisesBetween source.old source.new 0 1 }
 {
     match tag {
         Tag::NewPage => judge_page(sign, state),
-        Tag::NewLine(gap) => judge_break::<WORDS>(state, gap),
+        Tag::NewLine(gap) => judge_break(state, gap),
         Tag::Font(pick) => judge_font(sign, state, source, pick),
         Tag::Rect { x, y, w, h } => judge_rectangle(sign, state, x, y, w, h),
         _ => {
@@ -54,13 +50,13 @@ pub(crate) fn judge_cell(state: &mut State, number: u16, width: u8) -> Result<()
         → width_in sign state.old.attributes.font.number number ≡ Some width → IsJudged sign items (Shows number) result state.new }
     ensures limited { IsLimited state.old → IsLimited state.new }
     ensures behind { OnOk result (IsBehindCharacter state.new) }
+    ensures within { OnOk result (is_within state.new ≡ true) }
     ensures same { OnOk result (state.new.attributes ≡ state.old.attributes) }
 {
     if !state.put_character(width) {
         return Err(SyntaxError::TagConflict);
     }
-    let Limits { width, height } = state.limits;
-    if state.area.is_within(width, height) {
+    if state.fits() {
         Ok(())
     } else {
         Err(SyntaxError::TextTooBig)
@@ -69,36 +65,18 @@ pub(crate) fn judge_cell(state: &mut State, number: u16, width: u8) -> Result<()
 
 /// Judges the end of a line.
 #[inline(always)]
-fn judge_break<const WORDS: bool>(state: &mut State, gap: Option<u8>) -> Result<(), SyntaxError>
+fn judge_break(state: &mut State, gap: Option<u8>) -> Result<(), SyntaxError>
     requires { IsReady state.old }
-    ensures judged { (sign : SignData) → JudgesTag WORDS sign state.old (Does (Tag.NewLine gap)) result state.new }
+    ensures judged { (sign : SignData) → JudgesTag sign state.old (Does (Tag.NewLine gap)) result state.new }
     ensures limited { IsLimited state.old → IsLimited state.new }
 {
     if !state.put_break(gap) {
         return Err(SyntaxError::TagConflict);
     }
-    if fits_with_break::<WORDS>(state) {
+    if state.area.group.closed <= state.limits.height {
         Ok(())
     } else {
         Err(SyntaxError::TextTooBig)
-    }
-}
-
-/// Whether the area fits as far as its last item goes, an `nl`: by the limit, or where lines are filled by the sums.
-#[inline(always)]
-fn fits_with_break<const WORDS: bool>(state: &State) -> bool
-    requires below { IsBelow (2 ^ 62 + 1024) state.now.area }
-    ensures sums { WORDS ≡ true → (before : List Spot) (s : Spot) → is_break s ≡ true
-        → state.now.area ≡ area_sum (area_of s before ++ s ∷ [])
-        → s.at.rectangle.height ≡ state.now.attributes.rectangle.height → result ≡ not (too_big Off before s) }
-    ensures limits { WORDS ≡ false → result ≡ nat_le state.now.area.group.closed state.now.limits.height }
-{
-    if WORDS {
-        state
-            .area
-            .fits_with_break(state.attributes.rectangle.height)
-    } else {
-        state.area.group.closed <= state.limits.height
     }
 }
 

@@ -5,12 +5,12 @@ ghost use Rattle.std.specs.List.{AllPass, list_any};
 ghost use Rattle.std.specs.Option.{option_map_or, unwrap_or};
 ghost use Rattle.multi_tag.specs.Just.{line_number};
 ghost use Rattle.multi_meaning.specs.Address.{Spot, is_glyph, segment};
-ghost use Rattle.multi_meaning.specs.Fit.{fit, line_fits, room_for};
+ghost use Rattle.multi_meaning.specs.Fit.{room_for};
 ghost use Rattle.multi_meaning.specs.Line.{average, width_of};
 ghost use Rattle.multi_meaning.specs.Offence.{clashes};
 ghost use Rattle.multi_judge.specs.Adding.{IsSameBefore, PutsCharacter};
-ghost use Rattle.multi_judge.specs.Run.{IsBehindOne, IsOpen, kept_fits, kept_width, lengthened_line};
-ghost use Rattle.multi_judge.specs.State.{segment_room};
+ghost use Rattle.multi_judge.specs.Run.{IsBehindOne, IsOpen, kept_width, lengthened_line};
+ghost use Rattle.multi_judge.specs.State.{IsMost, segment_room};
 ghost use Rattle.multi_judge.specs.Sums.{segment_sum, line_sum, line_sum_in, IsCharacter, IsSegmentBelow, IsBare, IsLineBelow};
 
 use multi_tag::LineJust;
@@ -175,8 +175,7 @@ impl Line {
             → s.at.line_just ≡ character.now.just → not result ≡ list_any (clashes s) line }
         ensures put { result ≡ true → PutsCharacter self.old character.now self.new }
         ensures left { result ≡ false → (self.new ≡ self.old) × (most.new ≡ most.old) }
-        ensures most { (self.old.any ≡ true → most.old ≡ segment_room self.old width) → self.new.any ≡ true
-            → most.new ≡ segment_room self.new width }
+        ensures most { IsMost width self.old most.old → IsMost width self.new most.new }
     {
         if !self.any {
             self.begin(character);
@@ -255,8 +254,7 @@ impl Line {
     #[inline(always)]
     pub(crate) fn room(&self, width: u16) -> u64
         requires below { IsLineBelow (2 ^ 62 + 1024) self.now }
-        ensures room { result ≡ segment_room self.now width }
-        ensures most { result < 2 ^ 16 }
+        ensures { result ≡ segment_room self.now width }
     {
         room_for(self.present, self.left, self.centre, width)
     }
@@ -297,16 +295,6 @@ impl Line {
         let just = just.number();
         (just < self.present) | ((just == 5) & self.has_parts)
     }
-
-    /// Whether the line fits a width in pixels.
-    pub(crate) fn fits(&self, width: u16) -> bool
-        requires below { IsLineBelow (2 ^ 62 + 1024) self.now }
-        ensures sum { (line : List Spot) → self.now ≡ line_sum line → result ≡ line_fits width line }
-        ensures kept { result ≡ kept_fits width self.now }
-    {
-        let width = u64::from(width);
-        parts_fit(self.width(2), self.width(3), self.width(4), width) && self.width(5) <= width
-    }
 }
 
 /// The pixels between two things: the number that is given, else the average of their spacings, rounded up.
@@ -339,16 +327,4 @@ pub(crate) fn room_for(just: u8, start: u64, middle: u64, length: u16) -> u64
         }
         _ => length,
     }
-}
-
-/// Whether parts of these sizes at the start, in the middle and at the end stand apart within a length.
-pub(crate) fn parts_fit(start: u64, middle: u64, end: u64, length: u64) -> bool
-    requires below { (start ≤ 2 ^ 62 + 2048) × (middle ≤ 2 ^ 62 + 2048) × (end ≤ 2 ^ 62 + 2048) }
-    ensures { result ≡ fit start middle end length }
-{
-    if start + middle + end > length {
-        return false;
-    }
-    let before = (length - middle) / 2;
-    middle == 0 || (start <= before && before + middle <= length - end)
 }

@@ -15,18 +15,18 @@ ghost use Rattle.multi_judge.specs.Passed.{PassesCharacter, PutsFilled};
 ghost use Rattle.multi_judge.specs.FilledState.{IsFilledOf, IsFilledReady, begins_line};
 ghost use Rattle.multi_judge.specs.FillSums.{order_sum};
 ghost use Rattle.multi_judge.specs.KnownItem.{meant_by};
-ghost use Rattle.multi_judge.specs.Run.{Fits};
+ghost use Rattle.multi_judge.specs.Run.{is_within};
 ghost use Rattle.multi_judge.specs.PassState.{IsPassBehind, IsPassReady, JudgesCell, JudgesItem};
 ghost use Rattle.multi_judge.specs.State.{IsStateOf};
-ghost use Rattle.multi_judge.specs.Sums.{IsLineBelow};
+ghost use Rattle.multi_judge.specs.Sums.{IsBelow, IsLineBelow};
 
-use crate::fill::{Placed, Split};
+use crate::fill::Split;
 use crate::item::KnownItem;
 use crate::judge::{judge_cell, judge_tag};
 use crate::line::Line;
 use crate::state::State;
 use crate::terms::Terms;
-use multi_meaning::{Rectangle, SyntaxError};
+use multi_meaning::SyntaxError;
 use multi_tag::{LineJust, Tag};
 use multi_token::Source;
 use sign_font::FontCells;
@@ -185,7 +185,7 @@ impl Pass {
         ensures judged { JudgesItem WORDS sign.now self.old (Does tag) result self.new }
         ensures steps { RisesBetween source.old source.new 0 1 }
     {
-        let judged = judge_tag::<WORDS>(sign, &mut self.state, source, tag);
+        let judged = judge_tag(sign, &mut self.state, source, tag);
         if WORDS && begins_line(tag) {
             self.split = None;
             self.order = Order::new();
@@ -197,7 +197,7 @@ impl Pass {
     fn fill_cell(&mut self, number: u16, width: u8) -> Result<(), SyntaxError>
         requires ready { IsFilledReady self.old }
         ensures judged { JudgesCell true self.old number width result self.new }
-        ensures fits { OnOk result (Fits self.new.state) }
+        ensures within { OnOk result (is_within self.new.state ≡ true) }
         ensures same { self.new.state.attributes ≡ self.old.state.attributes }
     {
         let attributes = self.state.attributes;
@@ -207,41 +207,28 @@ impl Pass {
         {
             return Err(SyntaxError::TagConflict);
         }
-        if self.put_filled(number, width).fits {
+        self.put_filled(number, width);
+        if self.state.fits() {
             Ok(())
         } else {
             Err(SyntaxError::TextTooBig)
         }
     }
 
-    /// Puts a character whose cell has this width in pixels, where lines are filled: whether it fits, and the line that it ended.
+    /// Puts a character whose cell has this width in pixels, where lines are filled: the line that it ended, if it did.
     #[inline(always)]
-    fn put_filled(&mut self, number: u16, width: u8) -> Placed
+    fn put_filled(&mut self, number: u16, width: u8) -> Option<Line>
         requires ready { IsFilledReady self.old }
         ensures put { PutsFilled number width self.old self.new result }
         ensures same { self.new.state.attributes ≡ self.old.state.attributes }
-        ensures fits { result.fits ≡ true → Fits self.new.state }
-        ensures small { IfSome result.ended (IsLineBelow (2 ^ 62)) }
+        ensures below { IsBelow (2 ^ 62 + 1024) self.new.state.area }
+        ensures small { IfSome result (IsLineBelow (2 ^ 62)) }
     {
-        let attributes = self.state.attributes;
-        let (page_just, present) = (attributes.page_just, self.state.area.present);
-        let character = attributes.character(width);
-        self.order = self
-            .order
-            .with(page_just.number() == present, attributes.line_just);
-        let Rectangle { width, height, .. } = attributes.rectangle;
-        let area = &mut self.state.area;
-        let placed = area.fill_character(
-            &mut self.split,
-            page_just,
-            width,
-            &character,
-            number == 32,
-        );
-        Placed {
-            fits: placed.fits & self.state.area.fits_height(height),
-            ended: placed.ended,
-        }
+        let attributes = &self.state.attributes;
+        let goes_on = attributes.page_just.number() == self.state.area.present;
+        self.order = self.order.with(goes_on, attributes.line_just);
+        self.state
+            .fill_character(&mut self.split, width, number == 32)
     }
 
     /// Goes behind a character of an accepted string, whose cell has this width in pixels. The answer is the line that it ended, if
@@ -252,7 +239,7 @@ impl Pass {
         ensures small { IfSome result (IsLineBelow (2 ^ 62)) }
     {
         if WORDS {
-            self.put_filled(number, width).ended
+            self.put_filled(number, width)
         } else {
             // It doesn't offend.
             let _ = judge_cell(&mut self.state, number, width);

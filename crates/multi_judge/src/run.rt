@@ -1,15 +1,15 @@
 //! Characters behind one with the same attributes: each only lengthens the line that they share.
 
-ghost use Rattle.std.specs.Prelude.{◌≡◌, ◌+◌, ◌-◌, ◌*◌, ◌^◌, ◌<◌, ◌≤◌, ℕ, true, All, List, drop, length, slice_get, take};
+ghost use Rattle.std.specs.Prelude.{◌≡◌, ◌+◌, ◌-◌, ◌*◌, ◌^◌, ◌<◌, ◌≤◌, ℕ, true, All, drop, length, slice_get, take};
+ghost use Rattle.std.specs.Option.{unwrap_or};
 ghost use Rattle.multi_token.specs.Counted.{RisesBetween};
 ghost use Rattle.multi_token.specs.Spelling.{IsPlain};
 ghost use Rattle.sign_font.specs.Sign.{SignData};
 ghost use Rattle.sign_font.specs.Text.{AreWidthsOf, HasWidth, IsNoSpace, width_in};
-ghost use Rattle.multi_meaning.specs.Meaning.{Meaning};
 ghost use Rattle.multi_judge.specs.PassState.{IsPassBehind, IsPassOf};
 ghost use Rattle.multi_judge.specs.Judging.{IsAt, IsBehind};
-ghost use Rattle.multi_judge.specs.Run.{Fits, IsBehindCharacter, IsRun, IsRunPassed, lengthened, line_in_force};
-ghost use Rattle.multi_judge.specs.State.{IsLimited, IsReady, IsStateOf, IsUnfilledOf, segment_room};
+ghost use Rattle.multi_judge.specs.Run.{IsBehindCharacter, IsRun, IsRunPassed, is_within, lengthened, line_in_force};
+ghost use Rattle.multi_judge.specs.State.{IsLimited, IsReady, IsUnfilledOf};
 
 use crate::fill_run::judge_text;
 use crate::pass::Pass;
@@ -56,17 +56,20 @@ impl Run {
 }
 
 impl State {
-    /// The run that goes on behind the last character, whose segment may have so many pixels.
-    pub(crate) fn run(&self, most: u64) -> Run
+    /// The run that goes on behind the last character.
+    pub(crate) fn run(&self) -> Run
         requires behind { IsBehindCharacter self.now }
-        requires most { most ≡ segment_room (line_in_force self.now) self.now.attributes.rectangle.width }
-        ensures run { (items : List Meaning) (sign : SignData) → IsStateOf sign items self.now → Fits self.now
-            → IsRun self.now result.gap ((line_in_force self.now).part.width + result.left) }
-        ensures left { result.left ≤ most }
+        requires limited { IsLimited self.now }
+        ensures gap { (result.gap ≡ unwrap_or self.now.attributes.spacing self.now.attributes.font.char_spacing) × (result.gap ≤ 255) }
+        ensures run { is_within self.now ≡ true
+            → IsRun self.now result.gap × ((line_in_force self.now).part.width + result.left ≡ self.now.limits.width) }
     {
         Run {
             gap: self.attributes.gap(),
-            left: most.saturating_sub(self.area.group.line.part.width),
+            left: self
+                .limits
+                .width
+                .saturating_sub(self.area.group.line.part.width),
         }
     }
 
@@ -79,7 +82,7 @@ impl State {
     {
         let part = &self.area.group.line.part;
         let (width, count) = (part.width + width, part.count + count);
-        self.area.lengthen(width, count);
+        self.area.group.line.lengthen(width, count);
     }
 }
 
@@ -119,6 +122,7 @@ fn judge_line(
     requires short { length source.old.octets < 2 ^ 32 }
     requires behind { IsBehind sign.now source.old.octets at (IsUnfilledOf sign.now state.old) source.old }
     requires character { IsBehindCharacter state.old }
+    requires room { is_within state.old ≡ true }
     requires cells { AreWidthsOf sign.now state.old.attributes.font.number cells.now }
     ensures further { at ≤ result.0 }
     ensures at { IsAt sign.now source.old.octets result.0 result.1 (IsUnfilledOf sign.now state.new) source.new }
@@ -145,7 +149,7 @@ pub fn go_along(
     ensures next { result.1 ≡ slice_get source.old.octets result.0 }
     ensures steps { RisesBetween source.old source.new (2 * (result.0 - at) + 1) (2 * (result.0 - at) + 2) }
 {
-    let run = state.run(state.limits.width);
+    let run = state.run();
     let front = run.read(cells, source, at, false);
     state.lengthen(u64::from(front.width), front.len as u64);
     (at + front.len, front.next)

@@ -1,6 +1,6 @@
 //! What is kept of the items that were read.
 
-ghost use Rattle.std.specs.Prelude.{◌≡◌, ◌*◌, ◌≤◌, []};
+ghost use Rattle.std.specs.Prelude.{◌≡◌, ◌+◌, ◌*◌, ◌^◌, ◌≤◌, []};
 ghost use Rattle.sign_font.specs.Sound.{IsSound};
 
 use crate::area::Area;
@@ -17,7 +17,7 @@ pub struct State {
     pub cycle: u32,
     pub attributes: Attributes,
     pub area: Area,
-    /// What may stand in that area, where lines aren't filled.
+    /// What may stand in that area.
     pub(crate) limits: Limits,
 }
 
@@ -33,7 +33,8 @@ impl State {
     ghost use Rattle.multi_meaning.specs.Address.{Spot, area_of, is_glyph};
     ghost use Rattle.multi_meaning.specs.Offence.{conflicts};
     ghost use Rattle.multi_judge.specs.Adding.{AddsBreak, AddsCharacter};
-    ghost use Rattle.multi_judge.specs.Sums.{area_sum};
+    ghost use Rattle.multi_judge.specs.Run.{is_within};
+    ghost use Rattle.multi_judge.specs.Sums.{IsBelow, area_sum};
     ghost use Rattle.multi_judge.specs.State.{IsLimited, IsReady, IsStateOf, whole_times};
 
     /// The state before the first item.
@@ -105,6 +106,16 @@ impl State {
         }
         self.area.group.add_break(gap, &self.attributes.font);
         true
+    }
+
+    /// Whether the present segment and the present group have at most what they may have.
+    #[inline(always)]
+    pub(crate) fn fits(&self) -> bool
+        requires below { IsBelow (2 ^ 62 + 1024) self.now.area }
+        ensures { result ≡ is_within self.now }
+    {
+        let group = &self.area.group;
+        (group.line.part.width <= self.limits.width) & (group.height() <= self.limits.height)
     }
 
     /// The times of all pages of a string that ends here, in tenths of a second.

@@ -29,7 +29,6 @@ use Rattle.multi_layout.proofs.AreaLinesLemmas.{SoFar, read_on, so_first, so_nex
 use Rattle.multi_judge.proofs.PassedLemmas.{plain_passed}
 use Rattle.multi_layout.proofs.AreaReadLemmas.{next_fine}
 use Rattle.multi_layout.proofs.AreaStepLemmas.{step_stays}
-use Rattle.multi_judge.proofs.BeforeLemmas.{unfilled_fits}
 use Rattle.multi_judge.proofs.RunLemmas.{behind_stays, state_beside}
 use Rattle.multi_judge.proofs.RunReadLemmas.{behind_first, cell_of_width}
 use Rattle.multi_layout.proofs.WalkLemmas.{item_is}
@@ -93,13 +92,10 @@ module _ {sign : SignData} (sound : IsSound sign) {octets : List ℕ} (short : l
 pub run_read : {sign : SignData} → IsSound sign → {octets : List ℕ} → length octets < 2 ^ 63 → {before behind : List LaidItem} (at at' : ℕ) (kept : Pass) (state' : State) (lines : LineTable) → IsBehindCharacter kept.state
     → SoFar false sign octets before behind at kept lines → IsRunPassed sign octets at kept.state at' state' → SoFar false sign octets before behind at' (in_state kept state') lines
 run_read {sign} sound {octets} short {before} {behind} at at' kept state' lines b so p =
-    let of = so.read.of in
-    let items = map meaning (items_of (before ++ so.pieces)) in
-    let run = p.run items sign of.state_is (unfilled_fits sign items kept.state of) in
     let text = slice_range octets at at' in
     let line = line_in_force kept.state in
     let size : length text ≡ at' - at = length-take-le (at' - at) (drop at octets) (rw (length-drop at octets) (omega (arith, p.forward, p.within))) in
-    let all = text_passed sound short kept lines b p.gap run.gap_is run.narrow text (drop (at' - at) (drop at octets)) p.width.widths at line.part.width line.part.count so (sym (take-append-drop (at' - at) (drop at octets))) p.plain p.width.each p.width.within in
+    let all = text_passed sound short kept lines b p.gap p.gap_is p.narrow text (drop (at' - at) (drop at octets)) p.width.widths at line.part.width line.part.count so (sym (take-append-drop (at' - at) (drop at octets))) p.plain p.width.each p.width.within in
     let to : at + length text ≡ at' = omega (arith, size, p.forward) in
     let wide : line.part.width + sum_by (λ w. p.gap + w) p.width.widths ≡ line.part.width + p.pixels = ap (λ n. line.part.width + n) (sym p.width.together) in
     let state : lengthened (line.part.width + sum_by (λ w. p.gap + w) p.width.widths) (line.part.count + length text) kept.state ≡ state' = (λ i. lengthened (wide i) (line.part.count + size i) kept.state) ∙ sym p.is in

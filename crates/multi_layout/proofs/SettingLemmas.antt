@@ -71,7 +71,7 @@ no_line tag e = refl
 pub setting_passed : (words : Bool) (sign : SignData) (items : List Meaning) (kept : Pass) (state : State) (tag : Tag) → IsPassOf words sign kept items → PutsSetting sign tag kept.state state
     → IsPassOf words sign (record kept { state = state }) (items ++ Does tag ∷ [])
 setting_passed true sign items kept state tag of puts =
-    (judged-stays sign items kept of.of of.words tag (Ok tt) state (no_line tag puts.setting) (puts.judged (laid_items Words sign items items) of.of.state_is)).1
+    (judged-stays sign items kept of.of of.words tag (Ok tt) state (no_line tag puts.setting) (puts.limited of.of.limited) (puts.judged (laid_items Words sign items items) of.of.state_is)).1
 setting_passed false sign items kept state tag of puts =
     (judged_unfilled sign items (Does tag) (Ok tt) (record kept { state = state }) of.off of.fine (puts.limited of.limited) (puts.judged items of.state_is)).1
 

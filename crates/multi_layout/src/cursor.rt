@@ -140,7 +140,7 @@ impl Cursor {
             // A character is placed.
             unreachable!();
         };
-        match judge_tag::<true>(sign, &mut self.state, source, tag) {
+        match judge_tag(sign, &mut self.state, source, tag) {
             Ok(()) => self.at += next.len,
             // No item of an accepted string offends.
             Err(_) => unreachable!(),
@@ -280,7 +280,7 @@ fn meet_bracket(
     if !item.is_setting() {
         return Met::Item(NextItem { item, len });
     }
-    let Ok(()) = judge_tag::<true>(sign, state, source, tag) else {
+    let Ok(()) = judge_tag(sign, state, source, tag) else {
         // No item of an accepted string offends.
         unreachable!();
     };

@@ -1,32 +1,16 @@
-use Rattle.std.proofs.Common.{ℕ, ◌+◌, ◌^◌, List, length, map, ap, subst, arith}
-use Rattle.sign_font.specs.declared.parts.LineFill.TheVariants.{Words}
-use Rattle.multi_meaning.specs.LaidItems.{laid_items}
-use Rattle.multi_meaning.specs.Meaning.{meaning}
+use Rattle.std.proofs.Common.{ℕ, List, length, ap, subst, arith}
 use Rattle.multi_judge.specs.FilledState.{IsFilledFor}
 use Rattle.multi_judge.specs.Judging.{IsAt}
 use Rattle.multi_judge.specs.Text.{IsInText}
-use Rattle.multi_judge.proofs.BoundLemmas.{below_more}
-use Rattle.multi_judge.proofs.FilledReadLemmas.{filled_ready_here}
 use Rattle.multi_judge.proofs.fill_run.take_text.Goals as goal
 
-pub room-most-requires : goal.room-most-requires
-room-most-requires c =
-    let ready = (filled_ready_here c.args.sign.now c.args.source.now.octets c.args.at c.args.pass.now c.requires.behind.so_far c.requires.short).state in
-    record { below = (below_more (2 ^ 62) (2 ^ 62 + 1024) c.args.pass.now.state.area (omega arith) ready.below).group.line }
+pub run-run-requires : goal.run-run-requires
+run-run-requires c = record { behind = c.requires.run.behind; limited = c.requires.behind.so_far.is.of.limited }
 
 pub loop-behind-init : goal.loop-behind-init
 loop-behind-init c =
-    let r = c.requires.behind.so_far in
-    let items = map meaning r.items in (
-      record {
-        behind = c.requires.behind;
-        fits = c.requires.run;
-        runs = c.run-run.ensures.run (laid_items Words c.args.sign.now items items) c.args.sign.now r.is.of.state_is c.requires.run.fits;
-        left = omega (arith, c.run-run.ensures.left, c.room-most.ensures.most);
-        widths = c.requires.cells;
-      },
-      omega arith,
-    )
+    let (runs, left) = c.run-run.ensures.run c.requires.room in
+    (record { behind = c.requires.behind; fits = c.requires.run; runs = runs; left = left; widths = c.requires.cells }, omega arith)
 
 pub loop-behind-smaller : goal.loop-behind-smaller
 loop-behind-smaller c =

@@ -15,33 +15,33 @@ returns-then-not-put_character-clause-judged c = λ sign items of own.
     character-exit-conflict sign items c.args.state.now of.state_is c.args.number cell some (not c.put_character.result) c.put_character.ensures.conflicts
     (ap not c.if-not-put_character.true)
 
-pub is_within-requires : goal.is_within-requires
-is_within-requires c = record { below = (c.put_character.ensures.added c.if-not-put_character.false).grows (2 ^ 62) c.requires.below }
+pub fits-requires : goal.fits-requires
+fits-requires c = record { below = (c.put_character.ensures.added c.if-not-put_character.false).grows (2 ^ 62) c.requires.below }
 
-pub returns-then-is_within-clause-judged : goal.returns-then-is_within-clause-judged
-returns-then-is_within-clause-judged c = λ sign items of own.
+pub returns-then-fits-clause-judged : goal.returns-then-fits-clause-judged
+returns-then-fits-clause-judged c = λ sign items of own.
     let (cell, some, wide) = cell_of_width (cell_in sign c.args.state.now.attributes.font.number c.args.number) c.args.width (sym own) in
     let state = c.args.state.now in
     let new = c.put_character.new.self in
     let added = c.put_character.ensures.added c.if-not-put_character.false in
     let fits = added_fits state new c.args.width added of.limited in
     let (fine, st) = character-exit-fits sign items state of.state_is c.args.number cell some (not c.put_character.result) c.put_character.ensures.conflicts
-    (character_of state.attributes c.args.width) new.area refl refl wide refl added.sum c.is_within.result
-    (λ before s glyph sum on own w h without. c.is_within.ensures ∙ fits before s glyph sum on own w h without) (fits_without sign items of.fine)
-    (ap not c.if-not-put_character.false) c.if-is_within.true (added.grows (1024 * length items) of.state_is.below) in
+    (character_of state.attributes c.args.width) new.area refl refl wide refl added.sum c.fits.result
+    (λ before s glyph sum on own w h without. c.fits.ensures ∙ fits before s glyph sum on own w h without) (fits_without sign items of.fine)
+    (ap not c.if-not-put_character.false) c.if-fits.true (added.grows (1024 * length items) of.state_is.below) in
     (fine, state-limits sign (items ++ Shows c.args.number ∷ []) state new added.same st)
 
-pub returns-else-is_within-clause-judged : goal.returns-else-is_within-clause-judged
-returns-else-is_within-clause-judged c = λ sign items of own.
+pub returns-else-fits-clause-judged : goal.returns-else-fits-clause-judged
+returns-else-fits-clause-judged c = λ sign items of own.
     let (cell, some, wide) = cell_of_width (cell_in sign c.args.state.now.attributes.font.number c.args.number) c.args.width (sym own) in
     let state = c.args.state.now in
     let new = c.put_character.new.self in
     let added = c.put_character.ensures.added c.if-not-put_character.false in
     let fits = added_fits state new c.args.width added of.limited in
     character-exit-too_big sign items state of.state_is c.args.number cell some (not c.put_character.result) c.put_character.ensures.conflicts
-    (character_of state.attributes c.args.width) new.area refl refl wide refl added.sum c.is_within.result
-    (λ before s glyph sum on own w h without. c.is_within.ensures ∙ fits before s glyph sum on own w h without) (fits_without sign items of.fine)
-    (ap not c.if-not-put_character.false) c.if-is_within.false
+    (character_of state.attributes c.args.width) new.area refl refl wide refl added.sum c.fits.result
+    (λ before s glyph sum on own w h without. c.fits.ensures ∙ fits before s glyph sum on own w h without) (fits_without sign items of.fine)
+    (ap not c.if-not-put_character.false) c.if-fits.false
 
-pub returns-then-is_within-clause-behind : goal.returns-then-is_within-clause-behind
-returns-then-is_within-clause-behind c = behind_added c.args.state.now c.put_character.new.self c.args.width (c.put_character.ensures.added c.if-not-put_character.false)
+pub returns-then-fits-clause-behind : goal.returns-then-fits-clause-behind
+returns-then-fits-clause-behind c = behind_added c.args.state.now c.put_character.new.self c.args.width (c.put_character.ensures.added c.if-not-put_character.false)

@@ -7,14 +7,14 @@ use Rattle.multi_judge.proofs.TagLemmas.{judged-simple, simple_of}
 use Rattle.multi_judge.proofs.judge.judge_tag.Goals as goal
 
 pub returns-in_default-clause-judged : goal.returns-in_default-clause-judged
-returns-in_default-clause-judged g c = λ items st unfilled.
+returns-in_default-clause-judged c = λ items st held.
     let sign = c.args.sign.now in
     let simple = simple_of c.args.tag c.in_default.not-NewPage c.in_default.not-NewLine c.in_default.not-Font c.in_default.not-Rect in
     let after = c.set.ensures.set (standing sign items) st.attributes simple in
     judged-simple sign items c.args.state.now st c.set.new.self c.args.tag simple after
 
 pub returns-in_default-clause-limited : goal.returns-in_default-clause-limited
-returns-in_default-clause-limited g c = λ limited.
+returns-in_default-clause-limited c = λ limited.
     let same : c.set.new.self.rectangle ≡ c.args.state.now.attributes.rectangle = c.set.ensures.rectangle in
     record {
       width = λ any. limited.width any ∙ ap (λ (r : Rectangle). segment_room c.args.state.now.area.group.line r.width) (sym same);
@@ -22,4 +22,4 @@ returns-in_default-clause-limited g c = λ limited.
     }
 
 pub returns-in_default-clause-steps : goal.returns-in_default-clause-steps
-returns-in_default-clause-steps g c = (0, omega arith, omega arith, sym (charged-zero c.args.source.now))
+returns-in_default-clause-steps c = (0, omega arith, omega arith, sym (charged-zero c.args.source.now))

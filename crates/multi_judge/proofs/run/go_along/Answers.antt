@@ -17,13 +17,13 @@ returns-clause-run c =
     let text : take len (drop at octets) ≡ slice_range octets at (at + len) = λ i. take (long i) (drop at octets) in
     record {
       gap = c.run-run.result.gap;
-      left = c.run-run.result.left;
       pixels = c.read-front.result.width;
       forward = omega arith;
       within = front.within;
       plain = subst (All IsPlain) text front.plain;
       width = subst (λ t. HasWidth (width_in c.args.sign.now state.attributes.font.number) c.run-run.result.gap t c.read-front.result.width) text (front.width c.args.sign.now state.attributes.font.number c.requires.cells);
-      narrow = front.left;
-      run = c.run-run.ensures.run;
+      gap_is = c.run-run.ensures.gap.0;
+      narrow = c.run-run.ensures.gap.1;
+      run = λ within. let (run, left) = c.run-run.ensures.run within in (run, omega (arith, left, front.left));
       is = c.lengthen.ensures ∙ (λ i. lengthened ((line_in_force state).part.width + c.from.ensures i) ((line_in_force state).part.count + long i) state);
     }

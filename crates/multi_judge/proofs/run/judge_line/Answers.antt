@@ -1,10 +1,8 @@
-use Rattle.std.proofs.Common.{◌≡◌, ℕ, ◌+◌, ◌-◌, map, sym, ap, subst, arith}
+use Rattle.std.proofs.Common.{◌≡◌, ℕ, ◌+◌, ◌-◌, sym, ap, subst, arith}
 use Rattle.multi_token.specs.Counted.{Counted, charged}
-use Rattle.multi_meaning.specs.Meaning.{meaning}
 use Rattle.multi_judge.specs.declared.state.State.{State}
 use Rattle.multi_judge.specs.Judging.{ReadSoFar}
 use Rattle.multi_judge.specs.State.{IsUnfilledOf}
-use Rattle.multi_judge.proofs.BeforeLemmas.{unfilled_fits}
 use Rattle.multi_judge.proofs.ReadLemmas.{ready_here}
 use Rattle.multi_judge.proofs.RunReadLemmas.{front_read}
 use Rattle.multi_judge.proofs.run.judge_line.Goals as goal
@@ -22,9 +20,9 @@ returns-clause-at c =
     let r = c.requires.behind.so_far in
     let p = c.go_along.ensures.run in
     let to = c.go_along.result.0 in
-    let run = p.run (map meaning r.items) sign r.is.state_is (unfilled_fits sign (map meaning r.items) state r.is) in
+    let (run, narrow) = p.run c.requires.room in
     let here : at + (to - at) ≡ to = omega (arith, p.forward) in
-    let front = front_read sign xs at state r (omega (arith, c.requires.short)) p.gap p.left run (to - at) p.pixels (omega (arith, p.forward, p.within)) p.plain p.width p.narrow in
+    let front = front_read sign xs at state r (omega (arith, c.requires.short)) p.gap run (to - at) p.pixels (omega (arith, p.forward, p.within)) p.plain p.width narrow in
     let k = c.go_along.ensures.steps in
     let rises : c.go_along.new.source.steps ≡ (charged c.args.source.now k.0).steps = ap (λ (s : Counted). s.steps) k.3 in
     record {

@@ -1,4 +1,5 @@
 use Rattle.std.proofs.Common.{◌≡◌, true, ℕ, ◌+◌, ◌-◌, ◌*◌, List, Some, length, inl, refl, ap, sym, subst, ◌∙◌, arith}
+use Rattle.std.proofs.lemmas.Bool.{false≢true}
 use Rattle.std.specs.Prelude.{min, slice_get}
 use Rattle.std.proofs.lemmas.Option.{slice_get_within}
 use Rattle.multi_token.specs.Counted.{Counted, charged}
@@ -16,7 +17,7 @@ use Rattle.multi_judge.specs.declared.item.KnownItem.TheVariants as known
 use Rattle.multi_judge.specs.declared.item.NextItem.{NextItem}
 use Rattle.multi_layout.specs.kept.Settings.{IsNextAt}
 use Rattle.multi_judge.specs.KnownItem.{is_setting, meant_by}
-use Rattle.multi_layout.proofs.SettingLemmas.{never_refused, said_setting, setting_fine}
+use Rattle.multi_layout.proofs.SettingLemmas.{never_refused, said_setting, setting_fine, setting_is}
 use Rattle.multi_layout.proofs.WalkLemmas.{item_is, no_fault}
 use Rattle.multi_layout.proofs.cursor.meet_bracket.Goals as goal
 
@@ -79,14 +80,14 @@ unreachable-requires-in_default-judge_tag c =
     let (means, setting) = means_it c.in-Some.tag c.said-item.result c.said-item.ensures.meant (sym c.is_setting.ensures ∙ c.if-not-is_setting.false) in
     let first = tag_first sign octets c.read.new.self.octets c.args.at c.in-Some.tag c.in-Some.len c.said-item.result (ap (λ (s : Counted). s.octets) c.read.ensures.step) c.in-Some.ensures.some c.said-item.ensures.meant before behind p in
     never_refused sign c.in-Some.tag c.judge_tag.new.state (setting_fine sign octets before behind c.args.at p next first c.in-Some.tag means setting) c.in_default-judge_tag.field-0 items
-    (c.in_default-judge_tag.ensures.judged items st (λ off. absurd cc))
+    (c.in_default-judge_tag.ensures.judged items st (λ placed. absurd (false≢true (sym (setting_is c.in-Some.tag setting).2 ∙ placed))))
 
 pub returns-clause-met : goal.returns-clause-met
 returns-clause-met c =
     let (means, setting) = means_it c.in-Some.tag c.said-item.result c.said-item.ensures.meant (sym c.is_setting.ensures ∙ c.if-not-is_setting.false) in
     let same = ap (λ (s : Counted). s.octets) c.read.ensures.step in (
       c.in-Some.tag,
-      record { setting = setting; judged = λ items st. c.in-Ok.ensures.judged items st (λ off. absurd cc); limited = c.in-Ok.ensures.limited },
+      record { setting = setting; judged = λ items st. c.in-Ok.ensures.judged items st (λ placed. absurd (false≢true (sym (setting_is c.in-Some.tag setting).2 ∙ placed))); limited = c.in-Ok.ensures.limited },
       tag_first c.args.sign.now c.args.source.now.octets c.read.new.self.octets c.args.at c.in-Some.tag c.in-Some.len (known.Tag c.in-Some.tag) same c.in-Some.ensures.some (sym means ∙ c.said-item.ensures.meant),
     )
 

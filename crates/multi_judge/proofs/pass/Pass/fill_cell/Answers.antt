@@ -13,14 +13,15 @@ returns-then-page_just-present-clause-judged c = λ sign items is own.
     ap (λ (setting : LineFill). offence setting sign items (Shows c.args.number)) is.words
     ∙ filled_conflict sign items c.args.self.now is.of c.args.number cell some c.clashes.result c.clashes.ensures (rw c.number-page_just.ensures.number at c.if-page_just-present.true)
 
-pub returns-then-put_filled-clause-judged : goal.returns-then-put_filled-clause-judged
-returns-then-put_filled-clause-judged c = λ sign items is own.
+pub returns-then-fits-clause-judged : goal.returns-then-fits-clause-judged
+returns-then-fits-clause-judged c = λ sign items is own.
     let (cell, some, wide) = cell_of_width (cell_in sign c.args.self.now.state.attributes.font.number c.args.number) c.args.width (sym own) in
     let put = c.put_filled.ensures.put sign items is own (filled_free sign items c.args.self.now is.of c.args.number cell some c.clashes.result c.clashes.ensures (rw c.number-page_just.ensures.number at c.if-page_just-present.false)) in
-    (put.size ∙ ap {B = Option ℕ} (λ b. cond b None (Some 5)) c.if-put_filled.true, (put.passed c.if-put_filled.true).of)
+    let told = sym c.fits.ensures ∙ c.if-fits.true in
+    (put.size ∙ ap {B = Option ℕ} (λ b. cond b None (Some 5)) told, (put.passed told).of)
 
-pub returns-else-put_filled-clause-judged : goal.returns-else-put_filled-clause-judged
-returns-else-put_filled-clause-judged c = λ sign items is own.
+pub returns-else-fits-clause-judged : goal.returns-else-fits-clause-judged
+returns-else-fits-clause-judged c = λ sign items is own.
     let (cell, some, wide) = cell_of_width (cell_in sign c.args.self.now.state.attributes.font.number c.args.number) c.args.width (sym own) in
     let put = c.put_filled.ensures.put sign items is own (filled_free sign items c.args.self.now is.of c.args.number cell some c.clashes.result c.clashes.ensures (rw c.number-page_just.ensures.number at c.if-page_just-present.false)) in
-    put.size ∙ ap {B = Option ℕ} (λ b. cond b None (Some 5)) c.if-put_filled.false
+    put.size ∙ ap {B = Option ℕ} (λ b. cond b None (Some 5)) (sym c.fits.ensures ∙ c.if-fits.false)

@@ -2,6 +2,7 @@ use Rattle.std.proofs.Common.{[], None, ◌==◌, not, subst, sym, ◌∙◌}
 use Rattle.sign_font.specs.declared.parts.LineFill.TheVariants.{Words}
 use Rattle.multi_meaning.specs.LaidItems.{laid_items}
 use Rattle.multi_meaning.specs.Meaning.{Does}
+use Rattle.multi_meaning.proofs.RoomLemmas.{area_fits_always}
 use Rattle.multi_judge.specs.declared.pass.Order.{Order}
 use Rattle.multi_judge.specs.declared.pass.Pass.{Pass}
 use Rattle.multi_judge.specs.FillSums.{order_sum}
@@ -22,7 +23,8 @@ returns-then-begins_line-clause-judged g c =
     subst (λ (l : Order). JudgesItem (not (g.row.WORDS == 0)) sign c.args.self.now item result (new l)) (sym c.new-self.ensures)
     (subst (λ w. JudgesItem w sign c.args.self.now item result (new (order_sum []))) (sym words) (λ items is.
     judged-begins sign items c.args.self.now is.of is.words c.args.tag result state (sym c.begins_line.ensures ∙ c.if-begins_line.true)
-    (c.judge_tag-judged.ensures.judged (laid_items Words sign items items) is.of.state_is (λ off. absurd cc))))
+    (c.judge_tag-judged.ensures.limited is.of.limited)
+    (c.judge_tag-judged.ensures.judged (laid_items Words sign items items) is.of.state_is (λ placed. (is.of.limited, is.of.area_fits)))))
 
 pub returns-else-this-ne0-clause-judged : goal.returns-else-this-ne0-clause-judged
 returns-else-this-ne0-clause-judged g c =
@@ -36,9 +38,10 @@ returns-else-this-ne0-clause-judged g c =
           let words = is_true g.row.WORDS w.if-this-ne0.true in
           subst (λ w. JudgesItem w sign c.args.self.now item result new) (sym words) (λ items is.
           judged-stays sign items c.args.self.now is.of is.words c.args.tag result state (sym w.begins_line.ensures ∙ w.if-begins_line.false)
-          (c.judge_tag-judged.ensures.judged (laid_items Words sign items items) is.of.state_is (λ off. absurd cc)))
+          (c.judge_tag-judged.ensures.limited is.of.limited)
+          (c.judge_tag-judged.ensures.judged (laid_items Words sign items items) is.of.state_is (λ placed. (is.of.limited, is.of.area_fits))))
       | else-this-ne0-via-else-this-ne0 w ↦
           subst (λ w. JudgesItem w sign c.args.self.now item result new) (sym (is_false g.row.WORDS w.if-this-ne0.false)) (λ items kept.
           judged_unfilled sign items item result new kept.off kept.fine (c.judge_tag-judged.ensures.limited kept.limited)
-          (c.judge_tag-judged.ensures.judged items kept.state_is (λ off. kept)))
+          (c.judge_tag-judged.ensures.judged items kept.state_is (λ placed. (kept.limited, area_fits_always sign items kept.fine))))
     ]

@@ -1,26 +1,31 @@
-use Rattle.std.proofs.Common.{◌^◌, ◌*◌, length, ap, subst, sym, ◌∙◌, ◌==◌}
-use Rattle.std.proofs.lemmas.Bool.{and_parts}
+use Rattle.std.proofs.Common.{◌*◌, length, ap, refl, subst, sym, ◌==◌}
+use Rattle.std.specs.Prelude.{nat_le}
 use Rattle.sign_font.specs.Sign.{cell_in}
-use Rattle.multi_judge.specs.declared.line.Character.{Character}
+use Rattle.multi_judge.specs.declared.state.State.{State}
+use Rattle.multi_judge.specs.Adding.{character_of}
+use Rattle.multi_judge.specs.Passed.{IsFilledPut}
+use Rattle.multi_judge.specs.Run.{is_within, kept_height}
+use Rattle.multi_judge.specs.State.{IsLimited}
 use Rattle.multi_judge.specs.Sums.{IsBelow}
 use Rattle.multi_judge.proofs.FilledKeptLemmas.{filled_put, laid_count}
+use Rattle.multi_judge.proofs.LimitLemmas.{area_told, open_told}
 use Rattle.multi_judge.proofs.RunReadLemmas.{cell_of_width}
 use Rattle.multi_judge.proofs.pass.Pass.put_filled.Goals as goal
 
-pub fits_height-requires : goal.fits_height-requires
-fits_height-requires c = record { below = (c.fill_character-placed.ensures.grows (2 ^ 62) c.requires.ready.state.below c.requires.ready.split).0 }
-
 pub returns-clause-put : goal.returns-clause-put
 returns-clause-put c = λ sign items is own fine.
-    let (cell, some, wide) = cell_of_width (cell_in sign c.args.self.now.state.attributes.font.number c.args.number) c.args.width (sym own) in
-    let (below, split) = c.fill_character-placed.ensures.grows (1024 * length items) (subst (λ n. IsBelow (1024 * n) c.args.self.now.state.area) (laid_count sign items) is.of.state_is.below) is.of.split_below in
-    filled_put sign items c.args.self.now is c.args.number cell some fine _ (ap (λ n. n == c.args.self.now.state.area.present) c.number.ensures.number)
-    c.character-character.result (ap (λ (k : Character). k.just) c.character-character.ensures) (ap (λ (k : Character). k.spacing) c.character-character.ensures)
-    (ap (λ (k : Character). k.width) c.character-character.ensures ∙ wide) (ap (λ (k : Character). k.font) c.character-character.ensures) _ _ c.fill_character-placed.result.ended (λ cell found. c.fill_character-placed.ensures.sum)
-    c.fill_character-placed.result.fits c.fits_height.result c.fill_character-placed.ensures.fits c.fits_height.ensures.sum
-    c.with-self.result (λ line s just. c.with-self.ensures line s (just ∙ ap (λ (k : Character). k.just) c.character-character.ensures)) below split
-
-pub returns-clause-fits : goal.returns-clause-fits
-returns-clause-fits c = λ fits.
-    let (wide, high) = and_parts c.fill_character-placed.result.fits c.fits_height.result fits in
-    record { width = sym c.fill_character-placed.ensures.kept_fits ∙ wide; height = sym c.fits_height.ensures.kept ∙ high }
+    let kept = c.args.self.now in
+    let filled = c.fill_character.ensures in
+    let new = c.fill_character.new.self in
+    let width = kept.state.attributes.rectangle.width in
+    let height = kept.state.attributes.rectangle.height in
+    let (cell, some, wide) = cell_of_width (cell_in sign kept.state.attributes.font.number c.args.number) c.args.width (sym own) in
+    let (below, split) = filled.grows (1024 * length items) (subst (λ n. IsBelow (1024 * n) kept.state.area) (laid_count sign items) is.of.state_is.below) is.of.split_below in
+    let limited = subst IsLimited filled.same (filled.limited is.of.limited) in
+    subst (λ (t : State). IsFilledPut sign items c.args.number kept (record { state = t; split = c.fill_character.new.split; order = c.with-self.result }) (is_within new) c.fill_character.result) (sym filled.same)
+    (filled_put sign items kept is c.args.number cell some fine _ (ap (λ n. n == kept.state.area.present) c.number.ensures.number)
+    (character_of kept.state.attributes c.args.width) refl refl wide refl new.area c.fill_character.new.split c.fill_character.result (λ cell found. filled.sum is.of.limited)
+    new.limits limited (nat_le new.area.group.line.part.width new.limits.width) (nat_le (kept_height new.area.group) new.limits.height)
+    (λ l glyphs e before. open_told l new.area.group.line width new.limits.width glyphs e below.group.line.known before limited.width)
+    (λ l placing e low above. area_told l new.area height new.limits.height e placing low below.known above (limited.height low))
+    c.with-self.result c.with-self.ensures below split)

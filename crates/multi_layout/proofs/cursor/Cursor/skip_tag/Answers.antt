@@ -1,4 +1,5 @@
 use Rattle.std.proofs.Common.{◌≡◌, Some, None, sym, ap, ◌∙◌}
+use Rattle.std.proofs.lemmas.Bool.{false≢true}
 use Rattle.sign_font.specs.declared.parts.LineFill.TheVariants.{Off}
 use Rattle.multi_meaning.specs.Codes.{code_of}
 use Rattle.multi_meaning.specs.Meaning.{Does, has_place}
@@ -11,8 +12,9 @@ pub unreachable-requires-in-Err : goal.unreachable-requires-in-Err
 unreachable-requires-in-Err c =
     let sign = c.args.sign.now in
     let (items, st, fine) = c.requires.fine in
-    let offends = c.in-Err.ensures.judged items st (λ off. absurd cc) in
     let is = ap meant_by c.in-Tag.is in
-    let plain = sized Off sign items (Does c.in-Tag.tag) (ap has_place (sym is) ∙ c.requires.unplaced) in
+    let unplaced = ap has_place (sym is) ∙ c.requires.unplaced in
+    let offends = c.in-Err.ensures.judged items st (λ placed. absurd (false≢true (sym unplaced ∙ placed))) in
+    let plain = sized Off sign items (Does c.in-Tag.tag) unplaced in
     let wrong : Some (code_of c.in-Err.field-0) ≡ None = sym offends ∙ plain ∙ ap (unsized_offence sign items) (sym is) ∙ fine in
     cc
