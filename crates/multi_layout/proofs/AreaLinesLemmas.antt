@@ -1,5 +1,5 @@
 -- The first reading of an area: the table of its lines, item by item.
-use Rattle.std.proofs.Common.{◌≡◌, ℕ, Bool, true, ◌+◌, ◌-◌, ◌*◌, ◌^◌, ◌<◌, ◌≤◌, false, cond, inl, inr, slice_get, None, length, map, List, [], ◌∷◌, ◌++◌, Some, Option, refl, sym, ap, subst, ◌∙◌, arith, append_assoc, append-nil, length-append}
+use Rattle.std.proofs.Common.{◌≡◌, ℕ, Bool, true, ◌+◌, ◌-◌, ◌*◌, ◌<◌, ◌≤◌, false, cond, inl, inr, slice_get, None, length, map, List, [], ◌∷◌, ◌++◌, Some, Option, refl, sym, ap, subst, ◌∙◌, arith, append_assoc, append-nil, length-append}
 use Rattle.std.specs.List.{All}
 use Rattle.std.proofs.lemmas.List.{map-append}
 use Rattle.std.proofs.lemmas.List.Elements.{All-nil, All-push}
@@ -36,7 +36,7 @@ use Rattle.multi_judge.specs.Passed.{laid_area}
 use Rattle.multi_layout.specs.kept.AreaReading.{IsNextRead, IsReadOf}
 use Rattle.multi_judge.specs.FilledState.{IsFilledOf}
 use Rattle.multi_judge.specs.KnownItem.{meant_by}
-use Rattle.multi_layout.specs.kept.AreaDrawing.{BeginsNoArea, HasCounted, HasKnown, IsAreaRead, IsLow, first_steps, next_group, whole_area}
+use Rattle.multi_layout.specs.kept.AreaDrawing.{BeginsNoArea, HasCounted, HasKnown, IsAreaRead, first_steps, next_group, whole_area}
 use Rattle.multi_judge.specs.PassState.{IsPassOf, fill_of}
 use Rattle.multi_judge.specs.State.{IsStateOf}
 use Rattle.multi_judge.specs.Table.{group_lines, table_of}
@@ -150,7 +150,6 @@ module _ (words : Bool) {sign : SignData} (kind : sign.line_fill ≡ fill_of wor
           };
           of = made_of kept same (made sign ms) fine words kind state;
           known = subst (λ a. HasKnown kept.state.area.present a lines) (sym no_laid) (λ just least most. empty just ∙ ap table_of (sym (known_none kept.state.area.present just [] refl)));
-          low = λ just least most. subst (All (λ l. l.bottom ≤ 2 ^ 43)) (sym (empty just)) (All-nil (λ l. l.bottom ≤ 2 ^ 43));
         });
       }
 
@@ -297,9 +296,9 @@ module _ {words : Bool} {sign : SignData} {octets : List ℕ} {before behind : L
 
   -- the end of the area
   pub area_read : sign.line_fill ≡ fill_of words → (start : Cursor) (begun : Begun) (read : AreaLines) (source source' : Counted) (taken : ℕ) → start.at ≡ length (spell_of before) → EndsArea (map meaning (items_of so.left))
-      → HasCounted (present_area sign (laid_items (fill_of words) sign (map meaning (items_of done)) (map meaning (items_of done)))) read.lines → IsLow read.lines → read.end ≡ at → IsFirst (items_of so.left) read.next
+      → HasCounted (present_area sign (laid_items (fill_of words) sign (map meaning (items_of done)) (map meaning (items_of done)))) read.lines → read.end ≡ at → IsFirst (items_of so.left) read.next
       → RisesBetween source source' 0 taken → taken + 1 + item_steps begun.item ≤ 9 * (at - start.at) + first_steps (items_of so.left) → IsAreaRead sign before behind start begun read source source'
-  area_read kind start begun read source source' taken place ends counted low end first steps few =
+  area_read kind start begun read source source' taken place ends counted end first steps few =
       let ms = map meaning (items_of done) in
       let rest = map meaning (items_of so.left) in
       let octets_of : length (spell_of done) ≡ length (spell_of before) + length (spell_of so.pieces) = ap length (spell_of-append before so.pieces) ∙ length-append (spell_of before) (spell_of so.pieces) in
@@ -319,7 +318,6 @@ module _ {words : Bool} {sign : SignData} {octets : List ℕ} {before behind : L
         end = end ∙ long;
         next = first;
         table = subst (λ a. HasCounted a read.lines) (sym whole) (counted_among words sign ms rest ends read.lines counted);
-        low = low;
         taken = taken;
         steps = steps;
         few = omega (arith, few, long);

@@ -31,7 +31,7 @@ use Rattle.multi_judge.specs.declared.table.LineTable.{LineTable}
 use Rattle.multi_judge.specs.Passed.{laid_area}
 use Rattle.multi_layout.specs.kept.AreaReading.{IsNextRead, IsReadOf}
 use Rattle.multi_judge.specs.KnownItem.{meant_by}
-use Rattle.multi_layout.specs.kept.AreaDrawing.{HasKnown, HasRoom, IsLow, next_group}
+use Rattle.multi_layout.specs.kept.AreaDrawing.{HasKnown, HasRoom, next_group}
 use Rattle.multi_judge.specs.PassState.{IsPassOf, IsPassReady, fill_of}
 use Rattle.multi_judge.specs.Run.{kept_height}
 use Rattle.multi_judge.specs.State.{IsStateOf}
@@ -117,15 +117,14 @@ module _ {words : Bool} {sign : SignData} (sound : IsSound sign) {items : List I
 -- the group before the item is left, if the item belongs to a later one
 pub group_left : {words : Bool} {sign : SignData} {items : List Item} {kept : Pass} {lines : LineTable} → IsReadOf words sign items kept.state.area.present kept lines → (x : Meaning) (lines' : LineTable)
     → ((spots : List Spot) → All IsPlacing spots → kept.state.area ≡ area_sum spots → HasKnown kept.state.area.present spots lines → HasKnown (next_group kept.state x) spots lines')
-    → (IsLow lines → IsLow lines') → IsReadOf words sign items (next_group kept.state x) kept lines'
-group_left {words} {sign} {items} {kept} {lines} r x lines' known low =
+    → IsReadOf words sign items (next_group kept.state x) kept lines'
+group_left {words} {sign} {items} {kept} {lines} r x lines' known =
     let ms = map meaning items in
     let laid = laid_items (fill_of words) sign ms ms in
     record {
       fine = r.fine;
       of = r.of;
       known = known (present_area sign laid) (present_placing sign laid) (state_of words sign kept ms r.of).area r.known;
-      low = low r.low;
     }
 
 -- ONE MORE ITEM

@@ -25,14 +25,14 @@ use Rattle.multi_judge.specs.declared.table.LineTable.{LineTable}
 use Rattle.multi_judge.specs.FillSums.{EndsLine}
 use Rattle.multi_judge.specs.Passed.{IsItemPassed, laid_area}
 use Rattle.multi_layout.specs.kept.AreaReading.{IsNextRead, IsReadOf}
-use Rattle.multi_layout.specs.kept.AreaDrawing.{HasKnown, HasRoom, IsLow, next_group}
+use Rattle.multi_layout.specs.kept.AreaDrawing.{HasKnown, HasRoom, next_group}
 use Rattle.multi_judge.specs.PassState.{IsPassOf, fill_of}
 use Rattle.multi_judge.specs.State.{IsStateOf}
 use Rattle.multi_judge.specs.Sums.{area_sum, group_sum, line_sum}
 use Rattle.multi_judge.specs.Table.{group_lines, line_count, line_entry}
 use Rattle.multi_judge.proofs.AreaSumLemmas.{group_of_own}
 use Rattle.multi_layout.proofs.FilledTableLemmas.{entry_ended, known_pushed, known_unchanged, pushed_room}
-use Rattle.multi_layout.proofs.KnownLinesLemmas.{Pushed, behind_empty, pushed_low}
+use Rattle.multi_layout.proofs.KnownLinesLemmas.{Pushed, behind_empty}
 use Rattle.multi_judge.proofs.KnownStepLemmas as steps
 use Rattle.multi_layout.proofs.AreaReadLemmas.{closed_below, present_placing, state_of, room_of, narrow_of, items_with, tag_unsized}
 
@@ -62,17 +62,16 @@ module _ {words : Bool} {sign : SignData} (sound : IsSound sign) {items : List I
   of_more = subst (IsPassOf words sign new) (sym (items_with next)) b.of
 
   -- a table with the lines that are known then
-  known_more : (lines' : LineTable) → HasKnown page area_more lines' → IsLow lines' → IsReadOf words sign (items ++ item ∷ []) new.state.area.present new lines'
-  known_more lines' known low = record {
+  known_more : (lines' : LineTable) → HasKnown page area_more lines' → IsReadOf words sign (items ++ item ∷ []) new.state.area.present new lines'
+  known_more lines' known = record {
     fine = next.fine;
     of = of_more;
     known = subst (λ l. HasKnown new.state.area.present (laid_area words sign l) lines') (sym (items_with next)) (subst (λ n. HasKnown n area_more lines') (sym b.present) known);
-    low = low;
   }
 
   -- it ends no line
   pub step_stays : ended ≡ None → IsReadOf words sign (items ++ item ∷ []) new.state.area.present new lines
-  step_stays none = known_more lines (known_unchanged page area area_more b.others (subst (EndsLine (in_group page area) (in_group page area_more)) none b.own) lines r.known) r.low
+  step_stays none = known_more lines (known_unchanged page area area_more b.others (subst (EndsLine (in_group page area) (in_group page area_more)) none b.own) lines r.known)
 
   -- it ends one of the group in force
   module _ (at : page ≡ page_number old.state.attributes.page_just) (line : Line) (is : ended ≡ Some line) where
@@ -111,16 +110,15 @@ module _ {words : Bool} {sign : SignData} (sound : IsSound sign) {items : List I
     step_closed = closed_below area_more new.state.area new_state.area (present_placing sign (laid_items (fill_of words) sign more more)) narrow_more new.state.area.present step_just.0 step_just.1 refl
 
     -- it is put into the table
-    pub step_ended : (entry : CountedLine) (lines' : LineTable) → ((spots : List Spot) → line ≡ line_sum spots → entry ≡ line_entry spots new.state.area.group.closed) → entry.bottom ≡ new.state.area.group.closed
+    pub step_ended : (entry : CountedLine) (lines' : LineTable) → ((spots : List Spot) → line ≡ line_sum spots → entry ≡ line_entry spots new.state.area.group.closed)
         → Pushed new.state.area.present entry lines lines' → IsReadOf words sign (items ++ item ∷ []) new.state.area.present new lines'
-    step_ended entry lines' made bottom pushed =
+    step_ended entry lines' made pushed =
         let group = group_of_own area_more new.state.area new_state.area page (sym b.present) in
         let height : new.state.area.group.closed ≡ height_of (ended_lines (in_group page area_more)) = ap (λ (g : Group). g.closed) group in
         known_more lines'
         (known_pushed page area area_more b.others (characters ++ own_line.1 ∷ []) entry lines lines' low_page high_page own_line.5
         (made characters own_line.2 ∙ ap (line_entry characters) height ∙ sym (entry_ended characters own_line.1 (height_of (ended_lines (in_group page area_more))) own_line.4))
         (subst (λ n. Pushed n entry lines lines') b.present pushed) r.known)
-        (pushed_low new.state.area.present entry lines lines' pushed (omega (arith, bottom, step_closed)) r.low)
 
 -- A TAG
 

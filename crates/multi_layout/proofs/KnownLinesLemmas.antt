@@ -1,10 +1,9 @@
 -- The lines that the table has while an area is read.
-use Rattle.std.proofs.Common.{◌≡◌, ◌≢◌, ℕ, ◌+◌, ◌^◌, ◌<◌, ◌≤◌, Bool, true, false, cond, ◌==◌, inl, inr, length, List, [], ◌∷◌, ◌++◌, refl, sym, ap, subst, ◌∙◌, arith}
+use Rattle.std.proofs.Common.{◌≡◌, ◌≢◌, ℕ, ◌+◌, ◌<◌, ◌≤◌, Bool, true, false, cond, ◌==◌, inl, inr, length, List, [], ◌∷◌, ◌++◌, refl, sym, ap, ◌∙◌, arith}
 use Rattle.std.specs.Prelude.{nat_lt, if◌then◌else◌}
 use Rattle.std.specs.List.{All, after_last, list_any}
 use Rattle.std.proofs.lemmas.Bool.{cases_eq, cases_lt, eq-eqb, le-ltb, lt-ltb, ne_eqb}
 use Rattle.std.proofs.lemmas.List.{length_push}
-use Rattle.std.proofs.lemmas.List.Elements.{All-push}
 use Rattle.multi_tag.specs.Just.{page_number}
 use Rattle.multi_meaning.specs.Address.{Spot, in_group, is_break, is_glyph, lines_of}
 use Rattle.multi_meaning.specs.Line.{height_of}
@@ -15,7 +14,7 @@ use Rattle.multi_judge.specs.declared.area.Area.{Area}
 use Rattle.multi_judge.specs.declared.area.Group.{Group}
 use Rattle.multi_judge.specs.declared.table.CountedLine.{CountedLine}
 use Rattle.multi_judge.specs.declared.table.LineTable.{LineTable}
-use Rattle.multi_layout.specs.kept.AreaDrawing.{HasCounted, HasKnown, HasRoom, IsLow, known_lines}
+use Rattle.multi_layout.specs.kept.AreaDrawing.{HasCounted, HasKnown, HasRoom, known_lines}
 use Rattle.multi_judge.specs.Sums.{area_sum, group_sum}
 use Rattle.multi_judge.specs.Table.{group_lines, line_count, table_of}
 use Rattle.multi_judge.proofs.AreaSumLemmas.{group_behind, group_of_own}
@@ -29,10 +28,6 @@ use Rattle.multi_judge.proofs.TableLemmas.{lines_closed, lines_open, open_entry,
 abbrev pub Pushed : ℕ → CountedLine → LineTable → LineTable → Type 0
 Pushed page_just line old new = (just : ℕ) → (2 ≤ just) × (just ≤ 4) → group_lines just new ≡ (if just == page_just then group_lines just old ++ line ∷ [] else group_lines just old)
 
-low_if : (b : Bool) (lines : List CountedLine) (line : CountedLine) → All (λ l. l.bottom ≤ 2 ^ 43) lines → line.bottom ≤ 2 ^ 43 → All (λ l. l.bottom ≤ 2 ^ 43) (if b then lines ++ line ∷ [] else lines)
-low_if true lines line all low = All-push (λ l. l.bottom ≤ 2 ^ 43) lines line all low
-low_if false lines line all low = all
-
 module _ (page_just : ℕ) (line : CountedLine) (old new : LineTable) (pushed : Pushed page_just line old new) where
   -- its own group has it
   pushed_own : 2 ≤ page_just → page_just ≤ 4 → group_lines page_just new ≡ group_lines page_just old ++ line ∷ []
@@ -41,10 +36,6 @@ module _ (page_just : ℕ) (line : CountedLine) (old new : LineTable) (pushed : 
   -- the others stay
   pushed_other : (just : ℕ) → 2 ≤ just → just ≤ 4 → just ≢ page_just → group_lines just new ≡ group_lines just old
   pushed_other just least most other = pushed just (least, most) ∙ ap (λ b. if b then group_lines just old ++ line ∷ [] else group_lines just old) (ne_eqb just page_just other)
-
-  -- and no sum overflows
-  pub pushed_low : line.bottom ≤ 2 ^ 43 → IsLow old → IsLow new
-  pushed_low low all just least most = subst (All (λ l. l.bottom ≤ 2 ^ 43)) (sym (pushed just (least, most))) (low_if (just == page_just) (group_lines just old) line (all just least most) low)
 
 -- KNOWN LINES
 

@@ -11,7 +11,7 @@ ghost use Rattle.multi_meaning.specs.Picture.{in_plane, shown_colour};
 ghost use Rattle.multi_judge.specs.Sums.{IsBelow};
 ghost use Rattle.multi_layout.specs.Pages.{IsSized};
 ghost use Rattle.multi_layout.specs.kept.PageDrawing.{IsFilledFew, IsPagePassed, IsPageStart, IsReadTwice};
-ghost use Rattle.multi_layout.specs.kept.AreaDrawing.{DrawsOn, HasCounted, IsFilledBy, OverArea, IsLow, BeginsNoArea, IsQuiet, whole_area};
+ghost use Rattle.multi_layout.specs.kept.AreaDrawing.{DrawsOn, HasCounted, IsFilledBy, OverArea, BeginsNoArea, IsQuiet, whole_area};
 ghost use Rattle.multi_layout.specs.kept.RunDrawing.{AreaSoFar, IsItemHere, IsNextDrawn, IsReadBehind, PlacesNext, octets_read};
 ghost use Rattle.multi_layout.specs.Limits.{plane_octets};
 ghost use Rattle.multi_layout.specs.kept.Cursors.{GoesBehind, IsBetween, IsItemRead, IsRead, meant, LaidItem, spell_of};
@@ -75,7 +75,6 @@ fn draw_area(
     requires known { (before area rest : List LaidItem) × IsBetween sign.now source.old.octets before (area ++ rest) cursor.old
         × BeginsNoArea area × (read.now.end ≡ cursor.old.at + length (spell_of area))
         × HasCounted (whole_area sign.now before (area ++ rest)) read.now.lines }
-    requires low { IsLow read.now.lines }
     requires size { IsSized plane.old sign.now }
     ensures passed { OverArea sign.now source.old.octets cursor.old read.now
         (λ before area rest. IsBetween sign.now source.old.octets (before ++ area) rest cursor.new) }
@@ -170,7 +169,6 @@ fn draw_next(
 ) -> Option<u8>
     requires known { (before area rest : List LaidItem) × (item : LaidItem) × IsNextDrawn sign.now source.old.octets before area rest item
         next read.now cursor.old }
-    requires low { IsLow read.now.lines }
     requires size { IsSized plane.old sign.now }
     ensures so_far { (before area rest : List LaidItem) (item : LaidItem)
         → IsNextDrawn sign.now source.old.octets before area rest item next read.now cursor.old
@@ -196,7 +194,6 @@ fn draw_item(
 ) -> Option<Place>
     requires known { (before rest : List LaidItem) × (item : LaidItem)
         × IsItemHere sign.now source.old.octets before rest item next lines.now cursor.old }
-    requires low { IsLow lines.now }
     requires size { IsSized plane.old sign.now }
     ensures passed { GoesBehind sign.now source.old.octets next cursor.old cursor.new }
     ensures drawn { (before rest : List LaidItem) (item : LaidItem)

@@ -15,7 +15,7 @@ ghost use Rattle.multi_layout.specs.kept.AreaReading.{GoesOn, IsNextRead, IsRead
 ghost use Rattle.multi_judge.specs.KnownItem.{IsOctet, meant_by};
 ghost use Rattle.multi_judge.specs.PassState.{fill_of};
 ghost use Rattle.multi_judge.specs.Run.{IsBehindCharacter};
-ghost use Rattle.multi_layout.specs.kept.AreaDrawing.{HasKnown, HasRoom, IsAreaRead, IsLow, next_group};
+ghost use Rattle.multi_layout.specs.kept.AreaDrawing.{HasKnown, HasRoom, IsAreaRead, next_group};
 ghost use Rattle.multi_judge.specs.State.{IsLimited, IsReady};
 ghost use Rattle.multi_judge.specs.Sums.{IsBelow, area_sum};
 ghost use Rattle.multi_judge.specs.Table.{group_lines};
@@ -242,7 +242,6 @@ fn leave_group(lines: &mut LineTable, item: KnownItem, state: &State)
     ensures known { (spots : List Spot) → All IsPlacing spots → state.now.area ≡ area_sum spots
         → HasKnown state.now.area.present spots lines.old
         → HasKnown (next_group state.now (meant_by item)) spots lines.new }
-    ensures low { IsLow lines.old → IsLow lines.new }
 {
     if item.has_place() && state.area.present < state.attributes.page_just.number() {
         end_group(lines, &state.area);
@@ -256,7 +255,6 @@ fn end_group(lines: &mut LineTable, area: &Area)
         × HasRoom spots × IsNarrowArea spots }
     ensures known { (present : ℕ) (spots : List Spot) → area.now.present < present → All IsPlacing spots → area.now ≡ area_sum spots
         → HasKnown area.now.present spots lines.old → HasKnown present spots lines.new }
-    ensures low { IsLow lines.old → IsLow lines.new }
 {
     let group = &area.group;
     if group.line.any {
@@ -271,7 +269,6 @@ fn end_area(read: &mut AreaLines, area: &Area, at: usize, next: Option<NextItem>
         × HasKnown area.now.present spots read.old.lines × HasRoom spots × IsNarrowArea spots }
     ensures known { (present : ℕ) (spots : List Spot) → area.now.present < present → All IsPlacing spots → area.now ≡ area_sum spots
         → HasKnown area.now.present spots read.old.lines → HasKnown present spots read.new.lines }
-    ensures low { IsLow read.old.lines → IsLow read.new.lines }
     ensures end { (read.new.end ≡ at) × (read.new.next ≡ next) }
 {
     end_group(&mut read.lines, area);

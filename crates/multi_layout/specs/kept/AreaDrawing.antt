@@ -1,5 +1,5 @@
 -- The two readings of an area: one for the table of its lines, one to put its cells.
-use Rattle.std.specs.Prelude.{◌≡◌, ℕ, ◌+◌, ◌-◌, ◌*◌, ◌^◌, ◌≤◌, false, nat_lt, List, [], ◌∷◌, ◌++◌, map, length, if◌then◌else◌}
+use Rattle.std.specs.Prelude.{◌≡◌, ℕ, ◌+◌, ◌-◌, ◌*◌, ◌≤◌, false, nat_lt, List, [], ◌∷◌, ◌++◌, map, length, if◌then◌else◌}
 use Rattle.std.specs.List.{All}
 use Rattle.multi_token.specs.Counted.{Counted, RisesBetween}
 use Rattle.multi_token.specs.Spelling.{Item, spelling}
@@ -40,10 +40,6 @@ HasKnown present area table = (just : ℕ) → 2 ≤ just → just ≤ 4 → gro
 abbrev pub HasCounted : List Spot → LineTable → Type 0
 HasCounted area table = (just : ℕ) → 2 ≤ just → just ≤ 4 → group_lines just table ≡ table_of (lines_of (in_group just area))
 
--- the bottoms of the table's lines are low enough that no sum overflows (own)
-abbrev pub IsLow : LineTable → Type 0
-IsLow table = (just : ℕ) → 2 ≤ just → just ≤ 4 → All (λ line. line.bottom ≤ 2 ^ 43) (group_lines just table)
-
 -- an area has no more counted lines than a table has room for (own)
 abbrev pub HasRoom : List Spot → Type 0
 HasRoom area = length (lines_of (in_group 2 area)) + length (lines_of (in_group 3 area)) + length (lines_of (in_group 4 area)) ≤ 128
@@ -77,7 +73,6 @@ pub record IsAreaRead (sign : SignData) (before behind : List LaidItem) (cursor 
   pub end : read.end ≡ cursor.at + length (spell_of area)
   pub next : IsFirst (items_of rest) read.next
   pub table : HasCounted (whole_area sign before behind) read.lines
-  pub low : IsLow read.lines
   pub taken : ℕ
   pub steps : RisesBetween source source' 0 taken
   pub few : taken + 1 + item_steps begun.item ≤ 9 * length (spell_of area) + first_steps (items_of rest)

@@ -10,7 +10,7 @@ use Rattle.multi_judge.specs.declared.state.State.{State}
 use Rattle.multi_judge.specs.declared.table.LineTable.{LineTable}
 use Rattle.multi_judge.specs.KnownItem.{meant_by}
 use Rattle.multi_judge.specs.Passed.{laid_area}
-use Rattle.multi_layout.specs.kept.AreaDrawing.{HasKnown, IsLow}
+use Rattle.multi_layout.specs.kept.AreaDrawing.{HasKnown}
 use Rattle.multi_judge.specs.PassState.{IsPassOf}
 use Rattle.multi_judge.specs.Run.{IsBehindCharacter, IsRunPassed}
 
@@ -25,7 +25,6 @@ pub record IsReadOf (words : Bool) (sign : SignData) (items : List Item) (presen
   pub fine : AreFine sign items
   pub of : IsPassOf words sign kept (map meaning items)
   pub known : HasKnown present (laid_area words sign (map meaning items)) lines
-  pub low : IsLow lines
 
 -- this is read of one more item, and none offends with it (own)
 pub record IsNextRead (sign : SignData) (items : List Item) (item : Item) (read : KnownItem) : Type 0 where

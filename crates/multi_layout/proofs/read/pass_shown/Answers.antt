@@ -39,7 +39,7 @@ push-requires g c =
 pub returns-in-Some-pass_cell-clause-known : goal.returns-in-Some-pass_cell-clause-known
 returns-in-Some-pass_cell-clause-known g c = λ before item r next.
     let (b, on) = c.pass_cell.ensures.passed c.args.sign.now (map meaning before) r.of (rw (← c.sign.view_is) (sym c.cell_width.ensures.width ∙ c.in-Some.is)) (next_fine next) in
-    step_ended c.requires.sound r next b refl c.in-Some-pass_cell.line c.in-Some-pass_cell.is c.of.result c.push.new.self c.of.ensures.entry c.of.ensures.bottom c.push.ensures.pushed
+    step_ended c.requires.sound r next b refl c.in-Some-pass_cell.line c.in-Some-pass_cell.is c.of.result c.push.new.self c.of.ensures.entry c.push.ensures.pushed
 
 pub returns-in_default-pass_cell-clause-known : goal.returns-in_default-pass_cell-clause-known
 returns-in_default-pass_cell-clause-known g c = λ before item r next.

@@ -39,7 +39,7 @@ returns-in_default g c =
           let none = no_more so (sym i.first ∙ c.in_default.is) in
           let (known, last) = none_known so none c.loop-first.item i.item in
           let counted = all_counted so c.requires.sound c.end_area.new.read.lines c.end_area.ensures.known in
-          area_read so c.requires.kind c.args.cursor.now c.args.begun c.end_area.new.read c.args.source.now c.loop-first.source i.taken b.placed.place (none_ends so none) counted (c.end_area.ensures.low so.read.low)
+          area_read so c.requires.kind c.args.cursor.now c.args.begun c.end_area.new.read c.args.source.now c.loop-first.source i.taken b.placed.place (none_ends so none) counted
           c.end_area.ensures.end.0 (subst (λ n. IsFirst (items_of so.left) n) (sym c.end_area.ensures.end.1) none) i.steps (omega (arith, i.few, known, last));
     }
 
@@ -106,7 +106,7 @@ returns-then-begins_area g c =
           let (ends, last) = area_ended so' c.in-Item.next first (sym c.begins_area.ensures ∙ c.if-begins_area.true) in
           let counted = all_counted so' c.requires.sound c.end_area-then-begins_area.new.read.lines c.end_area-then-begins_area.ensures.known in
           let steps = rises_then c.args.source.now c.loop-first.source c.meet_known.new.source 0 i.taken 0 _ i.steps c.in-Item.ensures.steps in
-          area_read so' c.requires.kind c.args.cursor.now c.args.begun c.end_area-then-begins_area.new.read c.args.source.now c.meet_known.new.source _ b.placed.place ends counted (c.end_area-then-begins_area.ensures.low so.read.low)
+          area_read so' c.requires.kind c.args.cursor.now c.args.begun c.end_area-then-begins_area.new.read c.args.source.now c.meet_known.new.source _ b.placed.place ends counted
           c.end_area-then-begins_area.ensures.end.0 (subst (λ n. IsFirst (items_of so.left) n) (sym c.end_area-then-begins_area.ensures.end.1) first) steps
           (omega (arith, i.few, last, c.in-Item.ensures.known, c.in-Item.ensures.some));
     }
