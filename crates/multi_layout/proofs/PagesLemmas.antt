@@ -29,7 +29,7 @@ use Rattle.multi_layout.specs.Limits.{drawing_limit, plane_limit, plane_octets, 
 use Rattle.multi_layout.specs.declared.next_page.NextPage.{NextPage}
 use Rattle.multi_layout.specs.NextPage.{IsNextPage}
 use Rattle.multi_layout.specs.CheckedData.{CheckedData}
-use Rattle.multi_layout.specs.Pages.{IsTurned, page_count}
+use Rattle.multi_layout.specs.Pages.{page_count}
 use Rattle.multi_layout.specs.kept.PageDrawing.{IsFilledFew, IsPagePassed, IsPageStart, IsReadTwice, IsStartOf}
 use Rattle.multi_layout.specs.kept.Cursors.{IsBetween, IsPlaced, items_of, laid_meanings, meant, LaidItem}
 use Rattle.multi_layout.specs.kept.Passing.{IsPageSkipped, IsPassing}
@@ -80,31 +80,23 @@ pages_left sign octets before behind cursor b =
 
 -- ---- a page that is passed
 
-pub turned : (sign : SignData) (octets : List ℕ) (before behind : List LaidItem) (old new : Cursor)
-    → IsBetween sign octets before behind old → IsPagePassed sign octets before behind old new → IsTurned sign octets old new
-turned sign octets before behind old new b p = record {
-  on = p.on;
-  within = within_between sign octets (before ++ p.page) p.rest new p.between;
-  ends = elim p.ends [
-    | inl last ↦ inl (omega (arith, last.1, at_end last.0), last.1)
-    | inr more ↦ inr (omega (arith, more.1, pages_left sign octets (before ++ p.page) p.rest new p.between), more.1, (before ++ p.page, p.rest, p.between, more.0))
-  ];
-}
-  where
-    at_end : p.rest ≡ [] → new.state.pages ≡ pages_of (meanings octets)
-    at_end none = omega (arith, pages_left sign octets (before ++ p.page) p.rest new p.between, ap (λ l. count_by is_new_page (map meant l)) none)
+pub passed_within : (sign : SignData) (octets : List ℕ) (before behind : List LaidItem) (old new : Cursor) → IsPagePassed sign octets before behind old new → (old.at ≤ new.at) × (new.at ≤ length octets)
+passed_within sign octets before behind old new p = (p.on, within_between sign octets (before ++ p.page) p.rest new p.between)
 
--- behind a page the one after it is next, of the same string with whatever count
-pub turns_to : (old new : CheckedData) (next : NextPage) (cursor : Cursor) (page : ℕ) → IsNextPage old next page → IsTurned old.sign old.source.octets next.cursor cursor
+-- behind it the one after it is next, of the same string with whatever count
+pub turns_to : (old new : CheckedData) (next : NextPage) (cursor : Cursor) (page : ℕ) → IsNextPage old next page
+    → ((before behind : List LaidItem) → IsBetween old.sign old.source.octets before behind next.cursor → IsPagePassed old.sign old.source.octets before behind next.cursor cursor)
     → new.sign ≡ old.sign → new.source.octets ≡ old.source.octets → IsNextPage new (record { cursor = cursor }) (page + 1)
-turns_to old new next cursor page is t sign octets = rw (sign, octets) further
+turns_to old new next cursor page is passed sign octets = rw (sign, octets) further
   where
     further : page + 1 < page_count old → IsPageStart old.sign old.source.octets cursor × (cursor.state.pages ≡ page + 1 + 1)
     further more =
-        let begun = (is (omega (arith, more))).1 in
-        elim t.ends [
-          | inl last ↦ absurd (omega (arith, begun, last.0, more))
-          | inr then ↦ (then.2, omega (arith, begun, then.1))
+        let ((before, behind, b, begins), begun) = is (omega (arith, more)) in
+        let p = passed before behind b in
+        let left = pages_left old.sign old.source.octets (before ++ p.page) p.rest cursor p.between in
+        elim p.ends [
+          | inl last ↦ absurd (omega (arith, begun, last.1, left, ap (λ l. count_by is_new_page (map meant l)) last.0, more))
+          | inr then ↦ ((before ++ p.page, p.rest, p.between, then.0), omega (arith, begun, then.1))
         ]
 
 -- the first page is next where the items begin

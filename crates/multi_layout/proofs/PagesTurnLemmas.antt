@@ -1,7 +1,7 @@
 -- The pages of an accepted string, drawn in turn.
 use Rattle.std.proofs.Common.{◌≡◌, ℕ, ◌+◌, ◌-◌, ◌*◌, ◌^◌, ◌<◌, ◌≤◌, ◌⊎◌, inl, inr, false, cond, List, [], length, refl, sym, ap, subst, ◌∙◌, arith}
 use Rattle.std.specs.Prelude.{◌==◌}
-use Rattle.std.proofs.lemmas.Bool.{eq-eqb}
+use Rattle.std.proofs.lemmas.Bool.{cases_eq, eq-eqb, ne_eqb}
 use Rattle.std.proofs.lemmas.Bool.Decides.{nat_tests}
 use Rattle.std.proofs.Math.Nat.{mul-add}
 use Rattle.multi_token.specs.Counted.{charged}
@@ -10,9 +10,11 @@ use Rattle.page_plane.specs.Plane.{BitPlane}
 use Rattle.sign_font.specs.Sign.{tallest}
 use Rattle.sign_font.specs.Sound.{IsSound}
 use Rattle.multi_layout.specs.declared.cursor.Cursor.{Cursor}
+use Rattle.multi_layout.specs.declared.next_page.NextPage.{NextPage}
+use Rattle.multi_layout.specs.NextPage.{IsNextPage, IsReadOn}
 use Rattle.multi_layout.specs.CheckedData.{CheckedData}
 use Rattle.multi_layout.specs.Limits.{drawing_limit, plane_limit, plane_octets, reading_limit}
-use Rattle.multi_layout.specs.Pages.{IsSized, IsTurned, IsUnderWay, PagesState, TurnsPage, page_count}
+use Rattle.multi_layout.specs.Pages.{IsSized, IsUnderWay, PagesState, TurnsPage, page_count}
 use Rattle.multi_layout.specs.kept.PageDrawing.{IsFilledFew, IsPageStart, IsReadTwice}
 use Rattle.multi_layout.specs.kept.Cursors.{IsBetween, LaidItem}
 use Rattle.multi_layout.proofs.WalkLemmas.{within_between}
@@ -41,36 +43,16 @@ under_way_first pages cursor sound short size first read drawn items b = record 
   drawn_most = omega (arith, drawn);
 }
 
--- the page was the last of the string just where no other begins
-same_end : (next count new : ℕ) → ((next + 1 ≡ count) × (new ≡ next + 1)) ⊎ ((next + 1 < count) × (new ≡ next + 1 + 1)) → (new == next + 1) ≡ (next + 1 == count)
-same_end next count new (inl last) = eq-eqb new (next + 1) last.1 ∙ sym (eq-eqb (next + 1) count last.0)
-same_end next count new (inr more) = grind (arith, nat_tests)
-
 not_all : (next count : ℕ) → next < count → (next == count) ≡ false
 not_all next count more = grind (arith, nat_tests)
 
-module _ (old : PagesState) (cursor cursor' : Cursor) (u : IsUnderWay old cursor) (more : old.next < page_count old.string) (t : IsTurned old.string.sign old.string.source.octets cursor cursor') where
-  begun : cursor.state.pages ≡ old.next + 1
-  begun = (u.begins more).1
-
-  ends : ((old.next + 1 ≡ page_count old.string) × (cursor'.state.pages ≡ old.next + 1)) ⊎ ((old.next + 1 < page_count old.string) × (cursor'.state.pages ≡ old.next + 1 + 1))
-  ends = elim t.ends [
-    | inl last ↦ inl (omega (arith, begun, last.0), omega (arith, begun, last.1))
-    | inr then ↦ inr (omega (arith, begun, then.0), omega (arith, begun, then.1))
-  ]
-
-  extra : (n : ℕ) → cond (cursor'.state.pages == cursor.state.pages) n 0 ≡ cond (old.next + 1 == page_count old.string) n 0
-  extra n = ap (λ p. cond (cursor'.state.pages == p) n 0) begun ∙ ap (λ b. cond b n 0) (same_end old.next (page_count old.string) cursor'.state.pages ends)
-
+module _ (old : PagesState) (start next : NextPage) (u : IsUnderWay old start.cursor) (more : old.next < page_count old.string) where
   none_yet : (n : ℕ) → cond (old.next == page_count old.string) n 0 ≡ 0
   none_yet n = ap (λ b. cond b n 0) (not_all old.next (page_count old.string) more)
 
-  begins_next : old.next + 1 < page_count old.string → IsPageStart old.string.sign old.string.source.octets cursor' × (cursor'.state.pages ≡ old.next + 1 + 1)
-  begins_next = turns_to old.string old.string (record { cursor = cursor }) cursor' old.next u.begins t refl refl
-
   -- behind one more page
   module _ (string : CheckedData) (plane : BitPlane) (sign_kept : string.sign ≡ old.string.sign) (size_kept : (plane.width ≡ old.plane.width) × (plane.height ≡ old.plane.height))
-      (twice : IsReadTwice old.string.source string.source cursor cursor') (f : IsFilledFew old.string.sign old.plane plane cursor cursor') where
+      (on : IsReadOn old.string.source string.source start next) (f : IsFilledFew old.string.sign old.plane plane start.cursor next.cursor) (begins : IsNextPage string next (old.next + 1)) where
     abbrev pub moved : ℕ → PagesState
     moved k = record {
       string = record { sign = old.string.sign; source = charged old.string.source k };
@@ -82,41 +64,53 @@ module _ (old : PagesState) (cursor cursor' : Cursor) (u : IsUnderWay old cursor
       plane_started = old.plane_started;
     }
 
-    string_is : string ≡ (moved twice.0).string
-    string_is = judged_is string (moved twice.0).string sign_kept twice.3
+    string_is : string ≡ (moved on.2.0).string
+    string_is = judged_is string (moved on.2.0).string sign_kept on.2.3
 
-    rows : tallest old.string.sign * cursor'.at ≡ tallest old.string.sign * cursor.at + tallest old.string.sign * (cursor'.at - cursor.at)
+    begins_next : IsNextPage (moved on.2.0).string next (old.next + 1)
+    begins_next = subst (λ s. IsNextPage s next (old.next + 1)) string_is begins
+
+    -- only the last page of the string ends with no other
+    extra : (n : ℕ) → cond (next.cursor.state.pages == start.cursor.state.pages) n 0 ≤ cond (old.next + 1 == page_count old.string) n 0
+    extra n = elim (cases_eq (old.next + 1) (page_count old.string)) [
+      | inl last ↦ omega (arith, at_most (next.cursor.state.pages == start.cursor.state.pages) n, ap {B = ℕ} (λ b. cond b n 0) (eq-eqb (old.next + 1) (page_count old.string) last))
+      | inr other ↦
+          let further = (begins_next (omega (arith, more, other))).1 in
+          omega (arith, ap {B = ℕ} (λ b. cond b n 0) (ne_eqb next.cursor.state.pages start.cursor.state.pages (λ e. omega (arith, e, further, (u.begins more).1))))
+    ]
+
+    rows : tallest old.string.sign * next.cursor.at ≡ tallest old.string.sign * start.cursor.at + tallest old.string.sign * (next.cursor.at - start.cursor.at)
     rows =
-        let sum : cursor'.at ≡ cursor.at + (cursor'.at - cursor.at) = omega (arith, t.on) in
-        ap (λ n. tallest old.string.sign * n) sum ∙ mul-add (tallest old.string.sign) cursor.at (cursor'.at - cursor.at)
+        let sum : next.cursor.at ≡ start.cursor.at + (next.cursor.at - start.cursor.at) = omega (arith, on.0) in
+        ap (λ n. tallest old.string.sign * n) sum ∙ mul-add (tallest old.string.sign) start.cursor.at (next.cursor.at - start.cursor.at)
 
-    still : IsUnderWay (moved twice.0) cursor'
+    still : IsUnderWay (moved on.2.0) next.cursor
     still = record {
       sound = u.sound;
       short = u.short;
       size = (omega (arith, size_kept.0, u.size.0), omega (arith, size_kept.1, u.size.1));
       next_most = omega (arith, more);
       begins = begins_next;
-      within = t.within;
+      within = on.1;
       read_least = omega (arith, u.read_least);
-      read_most = omega (arith, u.read_most, twice.2, t.on, extra 2, none_yet 2);
+      read_most = omega (arith, u.read_most, on.2.2, on.0, extra 2, none_yet 2);
       fills = u.fills + f.fills;
-      fills_few = omega (arith, u.fills_few, f.few, t.on, extra 4, none_yet 4);
+      fills_few = omega (arith, u.fills_few, f.few, on.0, extra 4, none_yet 4);
       drawn_least = omega (arith, u.drawn_least, f.least);
-      drawn_most = omega (arith, u.drawn_most, f.most, t.on, rows, mul-add (plane_octets old.string.sign) u.fills f.fills);
+      drawn_most = omega (arith, u.drawn_most, f.most, on.0, rows, mul-add (plane_octets old.string.sign) u.fills f.fills);
     }
 
-    pub under_way_further : IsUnderWay (record (moved twice.0) { string = string }) cursor'
-    under_way_further = subst (λ s. IsUnderWay (record (moved twice.0) { string = s }) cursor') (sym string_is) still
+    pub under_way_further : IsUnderWay (record (moved on.2.0) { string = string }) next.cursor
+    under_way_further = subst (λ s. IsUnderWay (record (moved on.2.0) { string = s }) next.cursor) (sym string_is) still
 
-    pub turns_page : TurnsPage old (record (moved twice.0) { string = string })
+    pub turns_page : TurnsPage old (record (moved on.2.0) { string = string })
     turns_page = record {
       sign_kept = sign_kept;
       read = rises_more old.string.source string.source 0 _ (reading_limit (length old.string.source.octets))
-          (omega (arith, t.within, at_most (cursor'.state.pages == cursor.state.pages) 2)) twice;
+          (omega (arith, on.1, at_most (next.cursor.state.pages == start.cursor.state.pages) 2)) on.2;
       size_kept = size_kept;
       drawn_least = f.least;
-      drawn_most = drawing_fills old.string.sign old.plane plane cursor cursor' (length old.string.source.octets) f t.within;
+      drawn_most = drawing_fills old.string.sign old.plane plane start.cursor next.cursor (length old.string.source.octets) f on.1;
       phase_kept = refl;
       colour_kept = refl;
       next_page = refl;

@@ -1,5 +1,5 @@
 -- The pages of an accepted string, drawn one after the other into one plane.
-use Rattle.std.specs.Prelude.{◌≡◌, ◌⊎◌, ℕ, ◌+◌, ◌*◌, ◌^◌, ◌<◌, ◌≤◌, ◌==◌, List, length, if◌then◌else◌}
+use Rattle.std.specs.Prelude.{◌≡◌, ℕ, ◌+◌, ◌*◌, ◌^◌, ◌<◌, ◌≤◌, ◌==◌, List, length, if◌then◌else◌}
 use Rattle.multi_token.specs.Counted.{RisesBetween}
 use Rattle.page_plane.specs.Plane.{BitPlane}
 use Rattle.sign_font.specs.Sign.{SignData, tallest}
@@ -32,13 +32,6 @@ page_count string = pages_of (meanings string.source.octets)
 -- the plane has the size of the sign (own)
 abbrev pub IsSized : BitPlane → SignData → Type 0
 IsSized plane sign = (plane.width ≡ sign.width) × (plane.height ≡ sign.height)
-
--- the page that begins at the old cursor is passed: it is the last of the string, or the next begins at the new one (own)
-pub record IsTurned (sign : SignData) (octets : List ℕ) (old new : Cursor) : Type 0 where
-  pub on : old.at ≤ new.at
-  pub within : new.at ≤ length octets
-  pub ends : ((old.state.pages ≡ pages_of (meanings octets)) × (new.state.pages ≡ old.state.pages))
-      ⊎ ((old.state.pages < pages_of (meanings octets)) × (new.state.pages ≡ old.state.pages + 1) × IsPageStart sign octets new)
 
 -- the next page begins at the cursor, and the octets before it are all that was read and drawn so far (own)
 pub record IsUnderWay (pages : PagesState) (cursor : Cursor) : Type 0 where
