@@ -1,5 +1,5 @@
 -- The pages of an accepted string, drawn in turn.
-use Rattle.std.proofs.Common.{◌≡◌, ℕ, ◌+◌, ◌-◌, ◌*◌, ◌^◌, ◌<◌, ◌≤◌, ◌⊎◌, inl, inr, false, cond, List, [], length, refl, sym, ap, subst, ◌∙◌, arith}
+use Rattle.std.proofs.Common.{◌≡◌, ℕ, ◌+◌, ◌-◌, ◌*◌, ◌^◌, ◌<◌, ◌≤◌, inl, inr, false, cond, List, [], length, refl, sym, ap, subst, ◌∙◌, arith}
 use Rattle.std.specs.Prelude.{◌==◌}
 use Rattle.std.proofs.lemmas.Bool.{cases_eq, eq-eqb, ne_eqb}
 use Rattle.std.proofs.lemmas.Bool.Decides.{nat_tests}
@@ -15,10 +15,10 @@ use Rattle.multi_layout.specs.NextPage.{IsNextPage, IsReadOn}
 use Rattle.multi_layout.specs.CheckedData.{CheckedData}
 use Rattle.multi_layout.specs.Limits.{drawing_limit, plane_limit, plane_octets, reading_limit}
 use Rattle.multi_layout.specs.Pages.{IsSized, IsUnderWay, PagesState, TurnsPage, page_count}
-use Rattle.multi_layout.specs.kept.PageDrawing.{IsFilledFew, IsPageStart, IsReadTwice}
+use Rattle.multi_layout.specs.kept.PageDrawing.{IsFilledFew}
 use Rattle.multi_layout.specs.kept.Cursors.{IsBetween, LaidItem}
 use Rattle.multi_layout.proofs.WalkLemmas.{within_between}
-use Rattle.multi_layout.proofs.PagesLemmas.{at_most, drawing_few, drawing_fills, first_next, plane_few, turns_to}
+use Rattle.multi_layout.proofs.PagesLemmas.{at_most, drawing_few, drawing_fills, first_next, plane_few}
 
 -- what was judged is its parts
 judged_is : (a b : CheckedData) → a.sign ≡ b.sign → a.source ≡ b.source → a ≡ b

@@ -7,9 +7,6 @@ use Rattle.multi_layout.proofs.draw.lay.Goals as goal
 pub returns-in-Off-clause-read : goal.returns-in-Off-clause-read
 returns-in-Off-clause-read c = λ octets before rest item b counted read. read_unfilled b (rw (← c.sign.view_is) (sym c.line_fill.ensures.line_fill ∙ c.in-Off.is)) read
 
-pub returns-in-Words-clause-read : goal.returns-in-Words-clause-read
-returns-in-Words-clause-read c = λ octets before rest item b counted read. c.lay_filled.ensures.read octets before rest item b counted read
-
 pub lay_filled-requires-clause-below : goal.lay_filled-requires-clause-below
 lay_filled-requires-clause-below c =
     let (octets, before, rest, item, b) = c.requires.stands in

@@ -8,7 +8,7 @@ use Rattle.multi_layout.specs.kept.Settings.{item_steps}
 use Rattle.multi_layout.proofs.AreaLinesLemmas.{all_counted, area_ended, area_read, met_stays, no_more, none_ends, none_known, nothing_read, placed_in, read_on, setting_read, so_advances, so_met, so_next, so_read, steps_on, steps_set}
 use Rattle.multi_layout.proofs.AreaReadLemmas.{read_below, read_lines, read_ready, read_state}
 use Rattle.multi_judge.proofs.PassLemmas.{limited_of}
-use Rattle.multi_layout.proofs.RunLinesLemmas.{gone_forward, gone_within, ready_state, went_on}
+use Rattle.multi_layout.proofs.RunLinesLemmas.{gone_forward, ready_state, went_on}
 use Rattle.multi_layout.proofs.WalkLemmas.{same_octets}
 use Rattle.multi_layout.proofs.read.read_lines.Goals as goal
 
@@ -118,14 +118,6 @@ pass_item-requires-clause-known g c =
     let (so, n) = so_met (i.so_far before behind b begins) (same_octets i.steps.3) c.in-Item.next c.meet_known.new.state c.in-Item.ensures.met in
     (items_of (before ++ so.pieces), n.piece.item, so.read, so_next so n)
 
-pub overflow_add-behind : goal.overflow_add-behind
-overflow_add-behind g c =
-    let i = c.loop-first.invariant in
-    let (before, behind, b, begins) = c.requires.begins in
-    let (so, n) = so_met (i.so_far before behind b begins) (same_octets i.steps.3) c.in-Item.next c.meet_known.new.state c.in-Item.ensures.met in
-    let on = so_advances so n (c.loop-first.at + c.in-Item.next.len) refl in
-    omega (arith, on, b.placed.accepted.short)
-
 pub go_on-requires : goal.go_on-requires
 go_on-requires g c =
     let i = c.loop-first.invariant in
@@ -139,17 +131,6 @@ go_on-requires g c =
       behind = λ is off. c.pass_item.ensures.behind (c.is_octet.ensures.octet is) off;
       within = omega (arith, (so_advances so n (c.loop-first.at + c.in-Item.next.len) refl).1, ap length octets);
     }
-
-pub loop-first-smaller : goal.loop-first-smaller
-loop-first-smaller g c =
-    let i = c.loop-first.invariant in
-    let (before, behind, b, begins) = c.requires.begins in
-    let (so, n) = so_met (i.so_far before behind b begins) (same_octets i.steps.3) c.in-Item.next c.meet_known.new.state c.in-Item.ensures.met in
-    let octets : c.pass_item.new.source.octets ≡ c.args.source.now.octets = same_octets c.pass_item.ensures.steps.3 ∙ same_octets c.in-Item.ensures.steps.3 ∙ same_octets i.steps.3 in
-    let at = c.loop-first.at + c.in-Item.next.len in
-    let on = gone_forward at c.go_on.result.0 c.pass_item.new.kept c.go_on.new.kept c.go_on.ensures.gone in
-    let within = gone_within {octets = c.pass_item.new.source.octets} at c.go_on.result.0 c.pass_item.new.kept c.go_on.new.kept c.go_on.ensures.gone (omega (arith, (so_advances so n at refl).1, ap length octets)) in
-    omega (arith, on, within, c.in-Item.ensures.some, ap length octets)
 
 pub loop-first-preserved : goal.loop-first-preserved
 loop-first-preserved g c =

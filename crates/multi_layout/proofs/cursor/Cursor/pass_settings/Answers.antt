@@ -30,15 +30,6 @@ overflow_add-self c =
     let t = one_more s c.in-Setting.len c.meet.new.state met in
     omega (arith, within_between c.args.sign.now c.read-first.new.self.octets (before ++ t.settings) t.rest _ t.between, ap length (same_octets c.read-first.ensures.step), b.placed.accepted.short)
 
-pub loop-first-smaller : goal.loop-first-smaller
-loop-first-smaller c =
-    let i = c.loop-first.invariant in
-    let (before, behind, b) = c.requires in
-    let s = i.way before behind (stands_in (same_octets c.read-first.ensures.step) b) in
-    let met = subst (λ o. IsMet c.args.sign.now o c.loop-first.self.at c.loop-first.self.state (Setting c.in-Setting.len) c.meet.new.state) (same_octets i.steps.3) c.in-Setting.ensures.met in
-    let t = one_more s c.in-Setting.len c.meet.new.state met in
-    omega (arith, within_between c.args.sign.now c.read-first.new.self.octets (before ++ t.settings) t.rest _ t.between, c.in-Setting.ensures.some)
-
 pub loop-first-preserved : goal.loop-first-preserved
 loop-first-preserved c =
     let i = c.loop-first.invariant in

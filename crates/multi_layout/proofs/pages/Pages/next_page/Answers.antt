@@ -1,4 +1,4 @@
-use Rattle.std.proofs.Common.{◌≡◌, ◌-◌, ◌<◌, ◌∙◌, refl, arith}
+use Rattle.std.proofs.Common.{◌≡◌, ◌<◌, ◌∙◌, refl, arith}
 use Rattle.multi_meaning.proofs.AcceptedLemmas.{accepted_is}
 use Rattle.multi_layout.specs.Pages.{IsSized, page_count}
 use Rattle.multi_layout.proofs.PagesTurnLemmas.{turns_page, under_way_further}
