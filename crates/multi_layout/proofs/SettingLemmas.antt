@@ -3,7 +3,7 @@ use Rattle.std.proofs.Common.{◌≡◌, ℕ, Bool, true, false, List, [], ◌�
 use Rattle.std.proofs.lemmas.Bool.{false≢true}
 use Rattle.multi_token.specs.Spelling.{Item}
 use Rattle.multi_tag.specs.declared.tag.Tag.{Tag}
-use Rattle.multi_tag.specs.declared.tag.Tag.TheVariants.{NewPage, NewLine, Font, HexChar, Rect, Back}
+use Rattle.multi_tag.specs.declared.tag.Tag.TheVariants.{NewPage, NewLine, Font, Rect, Back}
 use Rattle.sign_font.specs.declared.parts.LineFill.TheVariants.{Off, Words}
 use Rattle.sign_font.specs.Sign.{SignData}
 use Rattle.multi_meaning.specs.declared.fault.SyntaxError.{SyntaxError}
@@ -11,7 +11,7 @@ use Rattle.multi_meaning.specs.Address.{Spot}
 use Rattle.multi_meaning.specs.Codes.{code_of}
 use Rattle.multi_meaning.specs.Laid.{too_big}
 use Rattle.multi_meaning.specs.LaidItems.{laid_items}
-use Rattle.multi_meaning.specs.Meaning.{Does, Meaning, begins_area, has_place, meaning, said_by}
+use Rattle.multi_meaning.specs.Meaning.{Does, Meaning, begins_area, has_place, meaning}
 use Rattle.multi_meaning.specs.Offence.{offence, offence_by}
 use Rattle.multi_judge.specs.declared.item.NextItem.{NextItem}
 use Rattle.multi_judge.specs.declared.pass.Pass.{Pass}
@@ -74,8 +74,3 @@ setting_passed true sign items kept state tag of puts =
     (judged-stays sign items kept of.of of.words tag (Ok tt) state (no_line tag puts.setting) (puts.judged (laid_items Words sign items items) of.of.state_is)).1
 setting_passed false sign items kept state tag of puts =
     (judged_unfilled sign items (Does tag) (Ok tt) (record kept { state = state }) of.off of.fine (puts.limited of.limited) (puts.judged items of.state_is)).1
-
--- what a setting says is the tag
-pub said_setting : (tag : Tag) → is_setting (said_by tag) ≡ true → said_by tag ≡ Does tag
-said_setting (HexChar number) e = absurd (false≢true e)
-said_setting tag e = refl

@@ -46,13 +46,3 @@ module _ {sign : SignData} {octets : List ℕ} {before behind : List LaidItem} w
         each = All-push (λ piece. is_setting (meant piece) ≡ true) s.settings piece s.each (ap is_setting seen.meant ∙ puts.setting);
         between = subst (λ l. IsBetween sign octets l rest after) (append_assoc before s.settings (piece ∷ [])) b;
       }
-
-  -- an item that is no setting was met there
-  abbrev pub met_there : {cursor : Cursor} → AreSettingsPassed sign octets before behind cursor → (state : State) → state ≡ cursor.state → AreSettingsPassed sign octets before behind (record { at = cursor.at; state = state })
-  met_there {cursor} s state same = record {
-    settings = s.settings;
-    rest = s.rest;
-    split = s.split;
-    each = s.each;
-    between = subst (λ (t : State). IsBetween sign octets (before ++ s.settings) s.rest (record { at = cursor.at; state = t })) (sym same) s.between;
-  }

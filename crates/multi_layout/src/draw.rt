@@ -111,36 +111,20 @@ fn lay(sign: &Terms<'_>, cursor: &Cursor, lines: &LineTable, next: NextItem) -> 
         → HasCounted (whole_area sign.now before (item ∷ rest)) lines.now → IsItemRead item.item next → IsRead item result }
     ensures len { result.len ≡ next.len }
 {
-    match sign.bare.line_fill() {
-        LineFill::Off => next,
-        LineFill::Words => lay_filled(sign, cursor, lines, next),
+    if let LineFill::Off = sign.bare.line_fill() {
+        return next;
     }
-}
-
-/// The same where lines are filled.
-fn lay_filled(sign: &Terms<'_>, cursor: &Cursor, lines: &LineTable, next: NextItem) -> NextItem
-    requires sound { IsSound sign.now }
-    requires below { IsBelow (2 ^ 43) cursor.now.state.area }
-    ensures read { (octets : List ℕ) (before rest : List LaidItem) (item : LaidItem)
-        → IsBetween sign.now octets before (item ∷ rest) cursor.now
-        → HasCounted (whole_area sign.now before (item ∷ rest)) lines.now → IsItemRead item.item next → IsRead item result }
-    ensures len { result.len ≡ next.len }
-{
     let KnownItem::Char(_) = next.item else {
         return next;
     };
     let attributes = &cursor.state.attributes;
-    if is_full(
-        attributes,
-        &cursor.state.area,
-        lines.group(attributes.page_just),
-    ) {
-        NextItem {
-            item: KnownItem::Tag(Tag::NewLine(None)),
-            len: next.len,
-        }
-    } else {
-        next
+    let lines = lines.group(attributes.page_just);
+    if !is_full(attributes, &cursor.state.area, lines) {
+        return next;
+    }
+    NextItem {
+        item: KnownItem::Tag(Tag::NewLine(None)),
+        len: next.len,
     }
 }
 

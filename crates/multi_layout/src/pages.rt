@@ -186,7 +186,8 @@ pub(crate) fn draw_told(
     requires size { IsSized plane.old sign.now }
     ensures shown { ShowsAt sign.now source.old.octets clock colour plane.new result }
     ensures size { (plane.new.width ≡ plane.old.width) × (plane.new.height ≡ plane.old.height) }
-    ensures steps { RisesBetween source.old source.new 0 (check_limit (length source.old.octets) + reading_limit (length source.old.octets)) }
+    ensures steps { RisesBetween source.old source.new 0
+        (check_limit (length source.old.octets) + reading_limit (length source.old.octets)) }
     ensures plane_steps { TakesFew sign.now (length source.old.octets) plane.old plane.new }
 {
     let mut start = Cursor::new(sign);
