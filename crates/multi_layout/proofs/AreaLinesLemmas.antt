@@ -42,9 +42,8 @@ use Rattle.multi_judge.specs.State.{IsStateOf}
 use Rattle.multi_judge.specs.Table.{group_lines, table_of}
 use Rattle.multi_layout.specs.kept.Cursors.{IsBetween, IsFirst, IsItemRead, IsPlaced, items_of, laid_meanings, meant, LaidItem, spell_of}
 use Rattle.multi_layout.specs.kept.Settings.{IsMet, IsNextAt, item_steps}
-use Rattle.multi_layout.proofs.AreaReadLemmas.{next_fine, present_placing, read_state}
+use Rattle.multi_layout.proofs.AreaReadLemmas.{next_fine, present_placing, read_state, step_stays, tag_stays}
 use Rattle.multi_meaning.proofs.UnfilledItemLemmas.{laid_plain}
-use Rattle.multi_layout.proofs.AreaStepLemmas.{step_stays, tag_stays}
 use Rattle.multi_layout.proofs.FilledStartLemmas.{area_empty, laid_empty, state_begins}
 use Rattle.multi_layout.proofs.KnownLinesLemmas.{counted_at_end, known_none}
 use Rattle.multi_judge.specs.Sums.{area_sum}

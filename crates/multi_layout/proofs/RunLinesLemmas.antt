@@ -27,8 +27,7 @@ use Rattle.multi_judge.specs.State.{IsReady}
 use Rattle.multi_judge.specs.Run.{IsBehindCharacter, IsRunPassed, lengthened, line_in_force}
 use Rattle.multi_layout.proofs.AreaLinesLemmas.{SoFar, read_on, so_first, so_next}
 use Rattle.multi_judge.proofs.PassedLemmas.{plain_passed}
-use Rattle.multi_layout.proofs.AreaReadLemmas.{next_fine}
-use Rattle.multi_layout.proofs.AreaStepLemmas.{step_stays}
+use Rattle.multi_layout.proofs.AreaReadLemmas.{next_fine, step_stays}
 use Rattle.multi_judge.proofs.BeforeLemmas.{unfilled_fits}
 use Rattle.multi_judge.proofs.RunLemmas.{behind_stays, state_beside}
 use Rattle.multi_judge.proofs.RunReadLemmas.{behind_first, cell_of_width}

@@ -2,8 +2,7 @@ use Rattle.std.proofs.Common.{◌≡◌, ℕ, Option, None, Some, map, refl, sym
 use Rattle.sign_font.specs.Sign.{cell_in}
 use Rattle.multi_meaning.specs.Meaning.{meaning}
 use Rattle.multi_judge.proofs.PassLemmas.{pass_undefined}
-use Rattle.multi_layout.proofs.AreaReadLemmas.{next_fine, read_ready}
-use Rattle.multi_layout.proofs.AreaStepLemmas.{step_closed, step_ended, step_just, step_last, step_narrow, step_room, step_stays}
+use Rattle.multi_layout.proofs.AreaReadLemmas.{next_fine, read_ready, step_closed, step_ended, step_just, step_last, step_narrow, step_room, step_stays}
 use Rattle.multi_judge.proofs.RunReadLemmas.{no_cell}
 use Rattle.multi_layout.proofs.read.pass_shown.Goals as goal
 

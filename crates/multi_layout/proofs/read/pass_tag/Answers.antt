@@ -5,8 +5,7 @@ use Rattle.multi_meaning.specs.Codes.{code_of}
 use Rattle.multi_meaning.specs.Meaning.{Does, meaning}
 use Rattle.multi_judge.specs.PassState.{IsItemJudged}
 use Rattle.multi_judge.specs.KnownItem.{ends_line}
-use Rattle.multi_layout.proofs.AreaReadLemmas.{next_fine, read_below, read_ready}
-use Rattle.multi_layout.proofs.AreaStepLemmas.{step_closed, step_ended, step_just, step_last, step_narrow, step_room, step_stays, tag_ends, tag_group, tag_stays}
+use Rattle.multi_layout.proofs.AreaReadLemmas.{next_fine, read_below, read_ready, step_closed, step_ended, step_just, step_last, step_narrow, step_room, step_stays, tag_ends, tag_group, tag_stays}
 use Rattle.multi_judge.proofs.KnownStepLemmas.{ends_not}
 use Rattle.multi_layout.proofs.read.pass_tag.Goals as goal
 

@@ -2,7 +2,7 @@ use Rattle.std.proofs.Common.{rules, ◌≡◌, ◌+◌, ◌++◌, length, slice
 use Rattle.multi_token.proofs.StepLemmas.{charged-zero, rises_more, rises_then}
 use Rattle.multi_layout.specs.declared.cursor.Met.TheVariants.{Setting}
 use Rattle.multi_layout.specs.kept.Settings.{IsMet}
-use Rattle.multi_layout.proofs.SettingPassLemmas.{none_passed, one_more}
+use Rattle.multi_layout.proofs.SettingLemmas.{none_passed, one_more}
 use Rattle.multi_layout.proofs.WalkLemmas.{ready_between, same_octets, stands_in, within_between}
 use Rattle.multi_layout.proofs.cursor.Cursor.pass_settings.Goals as goal
 

@@ -1,4 +1,4 @@
-use Rattle.multi_layout.proofs.PagesTurnLemmas.{all_drawn}
+use Rattle.multi_layout.proofs.PagesLemmas.{all_drawn}
 use Rattle.multi_layout.proofs.pages.Pages.finish.Goals as goal
 
 pub returns-clause-drawn : goal.returns-clause-drawn

@@ -1,5 +1,5 @@
 use Rattle.std.proofs.Common.{arith}
-use Rattle.multi_layout.proofs.PagesTurnLemmas.{all_drawn, all_few, risen_few}
+use Rattle.multi_layout.proofs.PagesLemmas.{all_drawn, all_few, risen_few}
 use Rattle.multi_layout.proofs.pages.Pages.steps.Goals as goal
 
 pub overflow_add-result : goal.overflow_add-result
