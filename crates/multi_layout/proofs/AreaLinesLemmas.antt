@@ -52,7 +52,7 @@ use Rattle.multi_layout.proofs.PieceLemmas.{ends_laid, first_piece, laid_front, 
 use Rattle.multi_judge.proofs.ReadLemmas.{at_end}
 use Rattle.multi_layout.proofs.SettingLemmas.{setting_is, setting_passed}
 use Rattle.multi_layout.proofs.WalkLemmas.{few_placed, fine_items, none_at_end, placed_more, spell_of-append, within}
-use Rattle.multi_layout.proofs.WholeAreaLemmas.{counted_whole}
+use Rattle.multi_layout.proofs.FilledRoomLemmas.{counted_whole}
 
 -- the steps of one more item, of which this is still to be read, and of what goes on behind it, the octet there too
 pub steps_on : (source a b d e : Counted) (from at len to taken known paid : ℕ) (octet : Bool) → from ≤ at → at + len ≤ to → 1 ≤ len → (octet ≡ false → to ≡ at + len) → RisesBetween source a 0 taken → taken + paid ≤ 9 * (at - from) + known → known ≤ 9 * len - 9

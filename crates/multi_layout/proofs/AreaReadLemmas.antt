@@ -115,12 +115,9 @@ module _ {words : Bool} {sign : SignData} (sound : IsSound sign) {items : List I
   pub read_below : IsBelow (2 ^ 42) kept.state.area
   read_below = below_more (1024 * length laid) (2 ^ 42) kept.state.area (omega (arith, each_after_length (laid_item (fill_of words) sign ms) ms, length-meanings items, r.fine.few)) read_state.below
 
-  read_narrow : IsNarrowArea (present_area sign laid)
-  read_narrow = narrow_of sign sound items r.fine.none words kept r.of
-
   -- the lines are few and narrow
   pub read_lines : (spots : List Spot) × All IsPlacing spots × (kept.state.area ≡ area_sum spots) × HasKnown present spots lines × HasRoom spots × IsNarrowArea spots
-  read_lines = (present_area sign laid, present_placing sign laid, read_state.area, r.known, room_of sign sound items r.fine.none words kept r.of, read_narrow)
+  read_lines = (present_area sign laid, present_placing sign laid, read_state.area, r.known, room_of sign sound items r.fine.none words kept r.of, narrow_of sign sound items r.fine.none words kept r.of)
 
 -- the group before the item is left, if the item belongs to a later one
 pub group_left : {words : Bool} {sign : SignData} {items : List Item} {kept : Pass} {lines : LineTable} → IsReadOf words sign items kept.state.area.present kept lines → (x : Meaning) (lines' : LineTable)
@@ -185,9 +182,6 @@ module _ {words : Bool} {sign : SignData} (sound : IsSound sign) {items : List I
   abbrev area_more : List Spot
   area_more = laid_area words sign more
 
-  old_state : IsStateOf sign (laid_items (fill_of words) sign here here) old.state
-  old_state = state_of words sign old here r.of
-
   new_state : IsStateOf sign (laid_items (fill_of words) sign more more) new.state
   new_state = state_of words sign new more b.of
 
@@ -228,7 +222,7 @@ module _ {words : Bool} {sign : SignData} (sound : IsSound sign) {items : List I
     step_just = (omega (arith, b.present, low_page), omega (arith, b.present, high_page))
 
     pub step_last : (just : ℕ) → new.state.area.present < just → just ≤ 4 → group_lines just lines ≡ []
-    step_last just later high = behind_empty area lines page (omega (arith, ap (λ (a : Area). a.present) old_state.area, b.order)) low_page r.known just (omega (arith, b.present, later)) high
+    step_last just later high = behind_empty area lines page (omega (arith, ap (λ (a : Area). a.present) (state_of words sign old here r.of).area, b.order)) low_page r.known just (omega (arith, b.present, later)) high
 
     -- there is room for its line
     pub step_room : line_count lines < 128

@@ -13,11 +13,9 @@ pub mod LocateLemmas
 pub mod PageDrawLemmas
 pub mod PageLoopLemmas
 pub mod PagesLemmas
-pub mod PaintLemmas
 pub mod PieceLemmas
 mod RunLinesLemmas
 mod SettingDrawLemmas
 mod SettingLemmas
 pub mod SkipLemmas
 pub mod WalkLemmas
-pub mod WholeAreaLemmas

@@ -216,10 +216,6 @@ drawing_fills sign plane plane' old cursor n f few =
 
 -- PAGES IN TURN
 
--- what was judged is its parts
-judged_is : (a b : CheckedData) → a.sign ≡ b.sign → a.source ≡ b.source → a ≡ b
-judged_is a b p q = λ i. record { sign = p i; source = q i }
-
 -- at the start
 pub under_way_first : (pages : PagesState) (cursor : Cursor) → IsSound pages.string.sign → length pages.string.source.octets < 2 ^ 32 → IsSized pages.plane pages.string.sign
     → pages.next ≡ 0 → pages.string_started ≡ pages.string.source.steps → pages.plane_started ≡ pages.plane.steps
@@ -261,7 +257,7 @@ module _ (old : PagesState) (start next : NextPage) (u : IsUnderWay old start.cu
     }
 
     string_is : string ≡ (moved on.2.0).string
-    string_is = judged_is string (moved on.2.0).string sign_kept on.2.3
+    string_is = λ i. record { sign = sign_kept i; source = on.2.3 i }
 
     begins_next : IsNextPage (moved on.2.0).string next (old.next + 1)
     begins_next = subst (λ s. IsNextPage s next (old.next + 1)) string_is begins

@@ -117,10 +117,6 @@ pub gone_forward : {words : Bool} {sign : SignData} {octets : List ℕ} (at at' 
 gone_forward at at' kept kept' (inl (to, same)) = omega (arith, to)
 gone_forward at at' kept kept' (inr (off, b, state, is, run)) = run.forward
 
-pub gone_within : {words : Bool} {sign : SignData} {octets : List ℕ} (at at' : ℕ) (kept kept' : Pass) → GoesOn words sign octets at kept at' kept' → at ≤ length octets → at' ≤ length octets
-gone_within at at' kept kept' (inl (to, same)) within = omega (arith, to, within)
-gone_within at at' kept kept' (inr (off, b, state, is, run)) within = run.within
-
 -- what is ready for either kind of lines has a state that is
 pub ready_state : (words : Bool) (kept : Pass) → IsPassReady words kept → IsReady kept.state
 ready_state true kept r = r.state

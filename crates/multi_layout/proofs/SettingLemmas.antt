@@ -31,10 +31,7 @@ use Rattle.multi_layout.specs.declared.cursor.Met.TheVariants.{Setting}
 use Rattle.multi_judge.specs.declared.item.KnownItem.TheVariants as known
 use Rattle.multi_layout.proofs.PieceLemmas.{first_piece, read_unplaced}
 
-abbrev Big : Type 0
-Big = List Spot → Spot → Bool
-
-offends_alike : (f g : Big) (sign : SignData) (one other : List Meaning) (tag : Tag) → is_setting (Does tag) ≡ true → offence_by f sign one (Does tag) ≡ offence_by g sign other (Does tag)
+offends_alike : (f g : List Spot → Spot → Bool) (sign : SignData) (one other : List Meaning) (tag : Tag) → is_setting (Does tag) ≡ true → offence_by f sign one (Does tag) ≡ offence_by g sign other (Does tag)
 unfolding offence_by
 offends_alike f g sign one other NewPage e = absurd (false≢true e)
 offends_alike f g sign one other (NewLine gap) e = absurd (false≢true e)

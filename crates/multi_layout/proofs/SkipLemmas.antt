@@ -1,11 +1,10 @@
 -- The items of a string that place nothing: they alone tell what is in force, and the pages and their times.
-use Rattle.std.proofs.Common.{◌≡◌, ℕ, ◌+◌, ◌*◌, ◌≤◌, Bool, true, false, cond, not, inl, inr, List, [], ◌∷◌, ◌++◌, length, map, Option, Some, None, refl, sym, ap, subst, ◌∙◌, arith, append-nil, suc, ◌^◌, ◌<◌, drop, slice_get, append_assoc}
+use Rattle.std.proofs.Common.{◌≡◌, ℕ, ◌+◌, ◌*◌, ◌≤◌, Bool, true, false, cond, not, inl, inr, List, [], ◌∷◌, ◌++◌, length, map, Some, None, refl, sym, ap, subst, ◌∙◌, arith, append-nil, suc, ◌^◌, ◌<◌, drop, slice_get, append_assoc}
 use Rattle.std.specs.Prelude.{nat_lt}
 use Rattle.std.specs.List.{cons_option, count_by, All}
 use Rattle.std.proofs.lemmas.List.{length-append, map-append}
 use Rattle.std.proofs.lemmas.List.Elements.{filter-append, All-head, All-tail}
 use Rattle.multi_token.specs.Spelling.{Item, IsPlain}
-use Rattle.multi_tag.specs.declared.tag.Tag.{Tag}
 use Rattle.multi_tag.specs.declared.tag.Tag.TheVariants.{NewPage, NewLine, Font}
 use Rattle.sign_font.specs.declared.parts.LineFill.{LineFill}
 use Rattle.sign_font.specs.Sign.{SignData, font_numbered}
@@ -127,11 +126,6 @@ module _ (sign : SignData) where
       let (here, times, pages) = same_unplaced ms in
       state_moved sign (unplaced ms) laid state (here ∙ sym here') (times ∙ sym times') (pages ∙ sym pages')
       (omega (arith, few_unplaced ms, long)) (empty (unplaced ms) (empty ms begins).1).0 (empty laid begins').0
-
--- each tag but `nl` places nothing
-pub tag_unplaced : (tag : Tag) → ((gap : Option ℕ) → tag ≡ NewLine gap → ⊥) → has_place (Does tag) ≡ false
-tag_unplaced (NewLine gap) other = absurd (other gap refl)
-tag_unplaced _ other = refl
 
 -- THE WAY
 

@@ -19,10 +19,9 @@ use Rattle.multi_judge.specs.KnownItem.{meant_by}
 use Rattle.multi_layout.specs.kept.AreaDrawing.{HasCounted, IsDrawnTo}
 use Rattle.multi_layout.specs.kept.RunDrawing.{NextStandsAt}
 use Rattle.multi_layout.proofs.BesideLemmas.{beside_stands, same_standing}
-use Rattle.multi_layout.proofs.DrawLemmas.{low_between, cell_height, glyph_drawn, map_split, four_octets, tag_drawn, rows_few, tag_filled}
+use Rattle.multi_layout.proofs.DrawLemmas.{low_between, cell_height, glyph_drawn, map_split, four_octets, tag_drawn, rows_few, tag_filled, stands_at}
 use Rattle.multi_judge.proofs.BoundLemmas.{below_more}
 use Rattle.multi_judge.proofs.JudgedLemmas.{unsized-undefined}
-use Rattle.multi_layout.proofs.PaintLemmas.{stands_at}
 use Rattle.multi_layout.proofs.PieceLemmas.{itself}
 use Rattle.multi_layout.proofs.WalkLemmas.{never_offends}
 use Rattle.multi_layout.proofs.draw.draw_item.Goals as goal
