@@ -1,6 +1,5 @@
 -- The first reading of an area: the table of its lines, item by item.
 use Rattle.std.proofs.Common.{◌≡◌, ℕ, Bool, true, ◌+◌, ◌-◌, ◌*◌, ◌<◌, ◌≤◌, false, cond, inl, inr, slice_get, None, length, map, List, [], ◌∷◌, ◌++◌, Some, Option, refl, sym, ap, subst, ◌∙◌, arith, append_assoc, append-nil, length-append}
-use Rattle.std.specs.List.{All}
 use Rattle.std.proofs.lemmas.List.{map-append}
 use Rattle.std.proofs.lemmas.List.Elements.{All-nil, All-push}
 use Rattle.std.specs.Prelude.{IfSome, if◌then◌else◌}
@@ -13,10 +12,10 @@ use Rattle.sign_font.specs.declared.parts.LineFill.{LineFill}
 use Rattle.sign_font.specs.declared.parts.LineFill.TheVariants.{Words}
 use Rattle.sign_font.specs.Sign.{SignData}
 use Rattle.sign_font.specs.Sound.{IsSound}
-use Rattle.multi_meaning.specs.Address.{Spot, Standing, in_area, spots, standing}
+use Rattle.multi_meaning.specs.Address.{Standing, in_area, spots, standing}
 use Rattle.multi_meaning.specs.LaidItems.{laid_items}
 use Rattle.multi_meaning.specs.Meaning.{Does, EndsArea, Meaning, begins_area, meaning}
-use Rattle.multi_meaning.specs.kept.Present.{present_area, IsPlacing}
+use Rattle.multi_meaning.specs.kept.Present.{present_area}
 use Rattle.multi_meaning.specs.Verdict.{fault_at, offences}
 use Rattle.multi_meaning.proofs.LaidItemLemmas.{are_laid}
 use Rattle.multi_meaning.proofs.SpotsLemmas.{area_ends}
@@ -33,7 +32,7 @@ use Rattle.multi_layout.specs.declared.read.AreaLines.{AreaLines}
 use Rattle.multi_judge.specs.declared.state.State.{State}
 use Rattle.multi_judge.specs.declared.table.LineTable.{LineTable}
 use Rattle.multi_judge.specs.Passed.{laid_area}
-use Rattle.multi_layout.specs.kept.AreaReading.{IsNextRead, IsReadOf}
+use Rattle.multi_layout.specs.kept.AreaReading.{EndsGroup, IsNextRead, IsReadOf}
 use Rattle.multi_judge.specs.FilledState.{IsFilledOf}
 use Rattle.multi_judge.specs.KnownItem.{meant_by}
 use Rattle.multi_layout.specs.kept.AreaDrawing.{BeginsNoArea, HasCounted, HasKnown, IsAreaRead, first_steps, next_group, whole_area}
@@ -281,9 +280,7 @@ module _ {words : Bool} {sign : SignData} {octets : List ℕ} {before behind : L
   none_known none (Some next) is = let (item, rest, first, read) = is (items_of done) (items_of so.left) so.placed in let wrong : [] ≡ item ∷ rest = sym none ∙ first in absurd (cc)
 
   -- the table has all lines behind the last one
-  pub all_counted : IsSound sign → (lines' : LineTable)
-      → ((present : ℕ) (spots : List Spot) → kept.state.area.present < present → All IsPlacing spots → kept.state.area ≡ area_sum spots → HasKnown kept.state.area.present spots lines → HasKnown present spots lines')
-      → HasCounted (laid_area words sign (map meaning (items_of done))) lines'
+  pub all_counted : IsSound sign → (lines' : LineTable) → EndsGroup kept.state.area lines lines' → HasCounted (laid_area words sign (map meaning (items_of done))) lines'
   all_counted sound lines' known =
       let ms = map meaning (items_of done) in
       let laid = laid_items (fill_of words) sign ms ms in
@@ -291,7 +288,7 @@ module _ {words : Bool} {sign : SignData} {octets : List ℕ} {before behind : L
       let present = kept.state.area.present in
       let is = ap (λ (a : Area). a.present) st.area in
       counted_at_end (present_area sign laid) lines' (present + 1) (omega (arith, is)) (omega (arith, is, st.below.known))
-      (known (present + 1) (present_area sign laid) (omega arith) (present_placing sign laid) st.area so.read.known)
+      (known (present + 1) (omega arith) (present_area sign laid) (present_placing sign laid) st.area so.read.known)
 
   -- the end of the area
   pub area_read : sign.line_fill ≡ fill_of words → (start : Cursor) (begun : Begun) (read : AreaLines) (source source' : Counted) (taken : ℕ) → start.at ≡ length (spell_of before) → EndsArea (map meaning (items_of so.left))

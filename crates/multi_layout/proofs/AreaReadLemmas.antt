@@ -29,7 +29,7 @@ use Rattle.multi_judge.specs.declared.item.KnownItem.TheVariants as known
 use Rattle.multi_judge.specs.declared.item.KnownItem.TheVariants.{Char}
 use Rattle.multi_judge.specs.declared.table.LineTable.{LineTable}
 use Rattle.multi_judge.specs.Passed.{laid_area, IsItemPassed}
-use Rattle.multi_layout.specs.kept.AreaReading.{IsNextRead, IsReadOf}
+use Rattle.multi_layout.specs.kept.AreaReading.{IsNextRead, IsReadOf, KnowsArea, KnowsOn}
 use Rattle.multi_judge.specs.KnownItem.{meant_by, ends_line}
 use Rattle.multi_layout.specs.kept.AreaDrawing.{HasKnown, HasRoom, next_group}
 use Rattle.multi_judge.specs.PassState.{IsPassOf, IsPassReady, fill_of}
@@ -116,12 +116,12 @@ module _ {words : Bool} {sign : SignData} (sound : IsSound sign) {items : List I
   read_below = below_more (1024 * length laid) (2 ^ 42) kept.state.area (omega (arith, each_after_length (laid_item (fill_of words) sign ms) ms, length-meanings items, r.fine.few)) read_state.below
 
   -- the lines are few and narrow
-  pub read_lines : (spots : List Spot) × All IsPlacing spots × (kept.state.area ≡ area_sum spots) × HasKnown present spots lines × HasRoom spots × IsNarrowArea spots
+  pub read_lines : KnowsArea present kept.state.area lines
   read_lines = (present_area sign laid, present_placing sign laid, read_state.area, r.known, room_of sign sound items r.fine.none words kept r.of, narrow_of sign sound items r.fine.none words kept r.of)
 
 -- the group before the item is left, if the item belongs to a later one
 pub group_left : {words : Bool} {sign : SignData} {items : List Item} {kept : Pass} {lines : LineTable} → IsReadOf words sign items kept.state.area.present kept lines → (x : Meaning) (lines' : LineTable)
-    → ((spots : List Spot) → All IsPlacing spots → kept.state.area ≡ area_sum spots → HasKnown kept.state.area.present spots lines → HasKnown (next_group kept.state x) spots lines')
+    → KnowsOn kept.state.area (next_group kept.state x) lines lines'
     → IsReadOf words sign items (next_group kept.state x) kept lines'
 group_left {words} {sign} {items} {kept} {lines} r x lines' known =
     let ms = map meaning items in

@@ -12,7 +12,7 @@ ghost use Rattle.multi_meaning.specs.Times.{shown};
 ghost use Rattle.multi_meaning.specs.Verdict.{Accepted, IsCycle, IsVerdict, pages_of};
 ghost use Rattle.multi_meaning.specs.kept.Fine.{IsAccepted, IsOrderly};
 ghost use Rattle.multi_layout.specs.Limits.{check_limit, drawing_limit, plane_limit, reading_limit};
-ghost use Rattle.multi_layout.specs.Pages.{IsSized, ShowsAt, TakesFew, page_count};
+ghost use Rattle.multi_layout.specs.Pages.{HasDrawnFew, HasReadFew, IsSized, ShowsAt, TakesFew, page_count};
 ghost use Rattle.multi_layout.specs.kept.PageDrawing.{IsPageStart};
 
 use crate::checked::{Checked, Told};
@@ -254,10 +254,8 @@ impl<'a> Pages<'a> {
         ensures risen { result
             ≡ (self.now.string.source.steps - self.now.string_started) + (self.now.plane.steps - self.now.plane_started) }
         ensures most { result ≤ drawing_limit self.now.string.sign (length self.now.string.source.octets) }
-        ensures read { (self.now.string_started ≤ self.now.string.source.steps)
-            × (self.now.string.source.steps ≤ self.now.string_started + reading_limit (length self.now.string.source.octets)) }
-        ensures drawn { (self.now.plane_started ≤ self.now.plane.steps)
-            × (self.now.plane.steps ≤ self.now.plane_started + plane_limit self.now.string.sign (length self.now.string.source.octets)) }
+        ensures read { HasReadFew self.now }
+        ensures drawn { HasDrawnFew self.now }
     {
         (self.string.steps() - self.string_started) + (self.plane.steps() - self.plane_started)
     }
@@ -266,11 +264,8 @@ impl<'a> Pages<'a> {
     pub fn finish(self) -> (Checked<'a>, Plane)
         ensures given_back { result ≡ (self.entry.string, self.entry.plane) }
         ensures size { IsSized self.entry.plane self.entry.string.sign }
-        ensures read { (self.entry.string_started ≤ self.entry.string.source.steps)
-            × (self.entry.string.source.steps ≤ self.entry.string_started + reading_limit (length self.entry.string.source.octets)) }
-        ensures drawn { (self.entry.plane_started ≤ self.entry.plane.steps)
-            × (self.entry.plane.steps
-            ≤ self.entry.plane_started + plane_limit self.entry.string.sign (length self.entry.string.source.octets)) }
+        ensures read { HasReadFew self.entry }
+        ensures drawn { HasDrawnFew self.entry }
     {
         let Pages { string, plane, .. } = self;
         (string, plane)

@@ -11,7 +11,7 @@ use Rattle.sign_font.specs.Sign.{SignData, tallest}
 use Rattle.multi_meaning.specs.Address.{Spot, spots, standing, in_group, lines_of, in_area}
 use Rattle.multi_meaning.specs.Drawn.{Lights, has_colour}
 use Rattle.multi_meaning.specs.Meaning.{Meaning, Shows, EndsArea, begins_area, has_place}
-use Rattle.multi_meaning.specs.kept.Present.{ended_lines}
+use Rattle.multi_meaning.specs.kept.Present.{ended_lines, present_area}
 use Rattle.multi_layout.specs.declared.cursor.Begun.{Begun}
 use Rattle.multi_layout.specs.declared.cursor.Cursor.{Cursor}
 use Rattle.multi_layout.specs.declared.paint.Layer.{Layer}
@@ -76,6 +76,17 @@ pub record IsAreaRead (sign : SignData) (before behind : List LaidItem) (cursor 
   pub taken : ℕ
   pub steps : RisesBetween source source' 0 taken
   pub few : taken + 1 + item_steps begun.item ≤ 9 * length (spell_of area) + first_steps (items_of rest)
+
+-- an area begins at the cursor (own)
+abbrev pub BeginsArea : SignData → List ℕ → Cursor → Type 0
+BeginsArea sign octets cursor =
+    (before behind : List LaidItem) × IsBetween sign octets before behind cursor × (present_area sign (map meant before) ≡ [])
+
+-- it was read, wherever the cursor stands where it begins (own)
+abbrev pub ReadsArea : SignData → List ℕ → Cursor → Begun → AreaLines → Counted → Counted → Type 0
+ReadsArea sign octets cursor begun read source source' =
+    (before behind : List LaidItem) → IsBetween sign octets before behind cursor → present_area sign (map meant before) ≡ []
+    → IsAreaRead sign before behind cursor begun read source source'
 
 -- the plane shows what these items put on their page, of all the items of the string (own)
 abbrev pub IsDrawnTo : SignData → Layer → List Meaning → List Meaning → BitPlane → Type 0

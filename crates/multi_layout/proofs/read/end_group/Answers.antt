@@ -35,7 +35,7 @@ push-requires-clause-last c =
 
 pub returns-then-group : goal.returns-then-group
 returns-then-group c = record {
-  known = λ present spots later placing sum known.
+  known = λ present later spots placing sum known.
       let area = c.args.area.now in
       let own = ap (λ (a : Area). a.present) sum in
       let height = c.height.ensures.sum (in_group area.present spots) (placing_group area.present spots placing) (group_of_own spots area sum area.present refl) in
@@ -46,7 +46,7 @@ returns-then-group c = record {
 
 pub returns-else-group : goal.returns-else-group
 returns-else-group c = record {
-  known = λ present spots later placing sum known.
+  known = λ present later spots placing sum known.
       let area = c.args.area.now in
       let own = ap (λ (a : Area). a.present) sum in
       known_later spots c.args.lines.now (area.present + 1) present (omega (arith, own)) (omega (arith, own, later)) (nothing_left spots area sum placing c.args.lines.now c.if-group.false known);
