@@ -304,19 +304,13 @@ setting_unput defaults at tag e = refl
 no_more : (n a b : ℕ) → n ≤ n + a + b * 0
 no_more n a b = omega arith
 
-one_fill : (old new k a b : ℕ) → new ≤ old + k → k ≡ b → new ≤ old + a + b * 1
-one_fill old new k a b most is = omega (arith, most, is)
-
-some_rows : (old new rows tall a b : ℕ) → new ≤ old + rows → rows ≤ tall → tall ≤ a → new ≤ old + a + b * 0
-some_rows old new rows tall a b most few product = omega (arith, most, few, product)
-
 -- no more than a row for each row of a font
 pub rows_few : (sign : SignData) (old new : BitPlane) (octets rows : ℕ) → 1 ≤ octets → rows ≤ tallest sign → old.steps ≤ new.steps → new.steps ≤ old.steps + rows → new.width ≡ old.width → new.height ≡ old.height → IsFilledBy sign old new octets
 rows_few sign old new octets rows some tall least most width height = record {
   fills = 0;
   few = omega arith;
   least = least;
-  most = some_rows old.steps new.steps rows (tallest sign) (tallest sign * octets) (plane_octets sign) most tall (le-mul_of_pos_right {m = octets} (tallest sign) some);
+  most = omega (arith, most, tall, le-mul_of_pos_right {m = octets} (tallest sign) some);
   width = width;
   height = height;
 }
@@ -327,12 +321,11 @@ fill_few sign old new octets k four least most is width height = record {
   fills = 1;
   few = omega arith;
   least = least;
-  most = one_fill old.steps new.steps k (tallest sign * octets) (plane_octets sign) most is;
+  most = omega (arith, most, is);
   width = width;
   height = height;
 }
 
--- the sums of the present area are small
 -- a tag fills the plane once where it sets the background, and else never
 pub tag_filled : (sign : SignData) (old new : BitPlane) (octets : ℕ) (tag : Tag) → ((given : Option ℕ) → tag ≡ Back given → 4 ≤ octets) → old.steps ≤ new.steps → new.steps ≤ old.steps + plane_octets sign
     → (IsQuiet tag → new ≡ old) → new.width ≡ old.width → new.height ≡ old.height → IsFilledBy sign old new octets

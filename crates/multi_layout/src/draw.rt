@@ -4,11 +4,9 @@ ghost use Rattle.std.specs.Prelude.{◌^◌, ◌≡◌, ◌≢◌, ℕ, ◌+◌,
 ghost use Rattle.std.specs.Option.{unwrap_or};
 ghost use Rattle.multi_token.specs.Counted.{RisesBetween, charged};
 ghost use Rattle.multi_tag.specs.declared.just.LineJust.TheVariants.{Full};
-ghost use Rattle.sign_font.specs.Sound.{IsSound};
 ghost use Rattle.multi_meaning.specs.Drawn.{Lights};
 ghost use Rattle.multi_meaning.specs.Meaning.{begins_area};
 ghost use Rattle.multi_meaning.specs.Picture.{in_plane, shown_colour};
-ghost use Rattle.multi_judge.specs.Sums.{IsBelow};
 ghost use Rattle.multi_layout.specs.Pages.{IsSized};
 ghost use Rattle.multi_layout.specs.kept.PageDrawing.{IsFilledFew, IsPagePassed, IsPageStart, IsReadTwice};
 ghost use Rattle.multi_layout.specs.kept.AreaDrawing.{DrawsOn, HasCounted, IsFilledBy, OverArea, BeginsNoArea, IsQuiet, whole_area};

@@ -11,7 +11,7 @@ ghost use Rattle.multi_meaning.specs.Picture.{picture, pixel_at};
 ghost use Rattle.multi_meaning.specs.Times.{shown};
 ghost use Rattle.multi_meaning.specs.Verdict.{Accepted, IsCycle, IsVerdict, pages_of};
 ghost use Rattle.multi_meaning.specs.kept.Fine.{IsAccepted, IsOrderly};
-ghost use Rattle.multi_layout.specs.Limits.{check_limit, drawing_limit, plane_limit, reading_limit};
+ghost use Rattle.multi_layout.specs.Limits.{check_limit, drawing_limit, reading_limit};
 ghost use Rattle.multi_layout.specs.Pages.{HasDrawnFew, HasReadFew, IsSized, ShowsAt, TakesFew, page_count};
 ghost use Rattle.multi_layout.specs.kept.PageDrawing.{IsPageStart};
 

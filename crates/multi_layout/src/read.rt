@@ -1,14 +1,11 @@
 //! The first reading of an area, for the table of its lines.
 
-ghost use Rattle.std.specs.Prelude.{◌≡◌, ℕ, ◌+◌, ◌-◌, ◌*◌, ◌^◌, ◌≤◌, ◌<◌, [], List, Some, length, map, slice_get, true, false, if◌then◌else◌};
-ghost use Rattle.std.specs.List.{All};
+ghost use Rattle.std.specs.Prelude.{◌≡◌, ℕ, ◌+◌, ◌-◌, ◌*◌, ◌^◌, ◌≤◌, ◌<◌, [], List, Some, length, slice_get, true, false, if◌then◌else◌};
 ghost use Rattle.multi_token.specs.Counted.{RisesBetween, charged};
 ghost use Rattle.multi_token.specs.Spelling as spelled;
 ghost use Rattle.multi_tag.specs.Just.{page_number};
 ghost use Rattle.sign_font.specs.Sound.{IsSound};
-ghost use Rattle.multi_meaning.specs.Address.{Spot};
 ghost use Rattle.multi_meaning.specs.Meaning.{begins_area, Does, has_place};
-ghost use Rattle.multi_meaning.specs.kept.Present.{present_area, IsPlacing, IsNarrowArea};
 ghost use Rattle.multi_judge.specs.declared.item.KnownItem.TheVariants as items;
 ghost use Rattle.multi_judge.specs.declared.item.KnownItem.TheVariants.{Char};
 ghost use Rattle.multi_layout.specs.kept.AreaReading.{EndsGroup, GoesOn, IsNextRead, IsReadOf, KnowsArea, KnowsOn, ReadsOn};
@@ -17,9 +14,8 @@ ghost use Rattle.multi_judge.specs.PassState.{fill_of};
 ghost use Rattle.multi_judge.specs.Run.{IsBehindCharacter};
 ghost use Rattle.multi_layout.specs.kept.AreaDrawing.{BeginsArea, ReadsArea, next_group};
 ghost use Rattle.multi_judge.specs.State.{IsLimited, IsReady};
-ghost use Rattle.multi_judge.specs.Sums.{IsBelow, area_sum};
+ghost use Rattle.multi_judge.specs.Sums.{IsBelow};
 ghost use Rattle.multi_judge.specs.Table.{group_lines};
-ghost use Rattle.multi_layout.specs.kept.Cursors.{IsBetween, meant, LaidItem};
 ghost use Rattle.multi_layout.specs.kept.Settings.{IsBegun};
 
 use crate::cursor::{Begun, Cursor, Met, meet_known};
