@@ -1,6 +1,5 @@
 -- The first reading of an area: the table of its lines, item by item.
-use Rattle.std.proofs.Common.{◌≡◌, ℕ, Bool, true, ◌+◌, ◌-◌, ◌*◌, ◌^◌, ◌<◌, ◌≤◌, false, cond, inl, inr, slice_get, None, length, map, List, [], ◌∷◌, ◌++◌, Some, Option, refl, sym, ap, subst, ◌∙◌, arith, append_assoc, append-nil, length-append}
-use Rattle.std.specs.List.{All}
+use Rattle.std.proofs.Common.{◌≡◌, ℕ, Bool, true, ◌+◌, ◌-◌, ◌*◌, ◌<◌, ◌≤◌, false, cond, inl, inr, slice_get, None, length, map, List, [], ◌∷◌, ◌++◌, Some, Option, refl, sym, ap, subst, ◌∙◌, arith, append_assoc, append-nil, length-append}
 use Rattle.std.proofs.lemmas.List.{map-append}
 use Rattle.std.proofs.lemmas.List.Elements.{All-nil, All-push}
 use Rattle.std.specs.Prelude.{IfSome, if◌then◌else◌}
@@ -13,10 +12,10 @@ use Rattle.sign_font.specs.declared.parts.LineFill.{LineFill}
 use Rattle.sign_font.specs.declared.parts.LineFill.TheVariants.{Words}
 use Rattle.sign_font.specs.Sign.{SignData}
 use Rattle.sign_font.specs.Sound.{IsSound}
-use Rattle.multi_meaning.specs.Address.{Spot, Standing, in_area, spots, standing}
+use Rattle.multi_meaning.specs.Address.{Standing, in_area, spots, standing}
 use Rattle.multi_meaning.specs.LaidItems.{laid_items}
 use Rattle.multi_meaning.specs.Meaning.{Does, EndsArea, Meaning, begins_area, meaning}
-use Rattle.multi_meaning.specs.kept.Present.{present_area, IsPlacing}
+use Rattle.multi_meaning.specs.kept.Present.{present_area}
 use Rattle.multi_meaning.specs.Verdict.{fault_at, offences}
 use Rattle.multi_meaning.proofs.LaidItemLemmas.{are_laid}
 use Rattle.multi_meaning.proofs.SpotsLemmas.{area_ends}
@@ -33,18 +32,17 @@ use Rattle.multi_layout.specs.declared.read.AreaLines.{AreaLines}
 use Rattle.multi_judge.specs.declared.state.State.{State}
 use Rattle.multi_judge.specs.declared.table.LineTable.{LineTable}
 use Rattle.multi_judge.specs.Passed.{laid_area}
-use Rattle.multi_layout.specs.kept.AreaReading.{IsNextRead, IsReadOf}
+use Rattle.multi_layout.specs.kept.AreaReading.{EndsGroup, IsNextRead, IsReadOf}
 use Rattle.multi_judge.specs.FilledState.{IsFilledOf}
 use Rattle.multi_judge.specs.KnownItem.{meant_by}
-use Rattle.multi_layout.specs.kept.AreaDrawing.{BeginsNoArea, HasCounted, HasKnown, IsAreaRead, IsLow, first_steps, next_group, whole_area}
+use Rattle.multi_layout.specs.kept.AreaDrawing.{BeginsNoArea, HasCounted, HasKnown, IsAreaRead, first_steps, next_group, whole_area}
 use Rattle.multi_judge.specs.PassState.{IsPassOf, fill_of}
 use Rattle.multi_judge.specs.State.{IsStateOf}
 use Rattle.multi_judge.specs.Table.{group_lines, table_of}
 use Rattle.multi_layout.specs.kept.Cursors.{IsBetween, IsFirst, IsItemRead, IsPlaced, items_of, laid_meanings, meant, LaidItem, spell_of}
 use Rattle.multi_layout.specs.kept.Settings.{IsMet, IsNextAt, item_steps}
-use Rattle.multi_layout.proofs.AreaReadLemmas.{next_fine, present_placing, read_state}
+use Rattle.multi_layout.proofs.AreaReadLemmas.{next_fine, present_placing, read_state, step_stays, tag_stays}
 use Rattle.multi_meaning.proofs.UnfilledItemLemmas.{laid_plain}
-use Rattle.multi_layout.proofs.AreaStepLemmas.{step_stays, tag_stays}
 use Rattle.multi_layout.proofs.FilledStartLemmas.{area_empty, laid_empty, state_begins}
 use Rattle.multi_layout.proofs.KnownLinesLemmas.{counted_at_end, known_none}
 use Rattle.multi_judge.specs.Sums.{area_sum}
@@ -53,7 +51,7 @@ use Rattle.multi_layout.proofs.PieceLemmas.{ends_laid, first_piece, laid_front, 
 use Rattle.multi_judge.proofs.ReadLemmas.{at_end}
 use Rattle.multi_layout.proofs.SettingLemmas.{setting_is, setting_passed}
 use Rattle.multi_layout.proofs.WalkLemmas.{few_placed, fine_items, none_at_end, placed_more, spell_of-append, within}
-use Rattle.multi_layout.proofs.WholeAreaLemmas.{counted_whole}
+use Rattle.multi_layout.proofs.FilledRoomLemmas.{counted_whole}
 
 -- the steps of one more item, of which this is still to be read, and of what goes on behind it, the octet there too
 pub steps_on : (source a b d e : Counted) (from at len to taken known paid : ℕ) (octet : Bool) → from ≤ at → at + len ≤ to → 1 ≤ len → (octet ≡ false → to ≡ at + len) → RisesBetween source a 0 taken → taken + paid ≤ 9 * (at - from) + known → known ≤ 9 * len - 9
@@ -150,7 +148,6 @@ module _ (words : Bool) {sign : SignData} (kind : sign.line_fill ≡ fill_of wor
           };
           of = made_of kept same (made sign ms) fine words kind state;
           known = subst (λ a. HasKnown kept.state.area.present a lines) (sym no_laid) (λ just least most. empty just ∙ ap table_of (sym (known_none kept.state.area.present just [] refl)));
-          low = λ just least most. subst (All (λ l. l.bottom ≤ 2 ^ 43)) (sym (empty just)) (All-nil (λ l. l.bottom ≤ 2 ^ 43));
         });
       }
 
@@ -283,9 +280,7 @@ module _ {words : Bool} {sign : SignData} {octets : List ℕ} {before behind : L
   none_known none (Some next) is = let (item, rest, first, read) = is (items_of done) (items_of so.left) so.placed in let wrong : [] ≡ item ∷ rest = sym none ∙ first in absurd (cc)
 
   -- the table has all lines behind the last one
-  pub all_counted : IsSound sign → (lines' : LineTable)
-      → ((present : ℕ) (spots : List Spot) → kept.state.area.present < present → All IsPlacing spots → kept.state.area ≡ area_sum spots → HasKnown kept.state.area.present spots lines → HasKnown present spots lines')
-      → HasCounted (laid_area words sign (map meaning (items_of done))) lines'
+  pub all_counted : IsSound sign → (lines' : LineTable) → EndsGroup kept.state.area lines lines' → HasCounted (laid_area words sign (map meaning (items_of done))) lines'
   all_counted sound lines' known =
       let ms = map meaning (items_of done) in
       let laid = laid_items (fill_of words) sign ms ms in
@@ -293,13 +288,13 @@ module _ {words : Bool} {sign : SignData} {octets : List ℕ} {before behind : L
       let present = kept.state.area.present in
       let is = ap (λ (a : Area). a.present) st.area in
       counted_at_end (present_area sign laid) lines' (present + 1) (omega (arith, is)) (omega (arith, is, st.below.known))
-      (known (present + 1) (present_area sign laid) (omega arith) (present_placing sign laid) st.area so.read.known)
+      (known (present + 1) (omega arith) (present_area sign laid) (present_placing sign laid) st.area so.read.known)
 
   -- the end of the area
   pub area_read : sign.line_fill ≡ fill_of words → (start : Cursor) (begun : Begun) (read : AreaLines) (source source' : Counted) (taken : ℕ) → start.at ≡ length (spell_of before) → EndsArea (map meaning (items_of so.left))
-      → HasCounted (present_area sign (laid_items (fill_of words) sign (map meaning (items_of done)) (map meaning (items_of done)))) read.lines → IsLow read.lines → read.end ≡ at → IsFirst (items_of so.left) read.next
+      → HasCounted (present_area sign (laid_items (fill_of words) sign (map meaning (items_of done)) (map meaning (items_of done)))) read.lines → read.end ≡ at → IsFirst (items_of so.left) read.next
       → RisesBetween source source' 0 taken → taken + 1 + item_steps begun.item ≤ 9 * (at - start.at) + first_steps (items_of so.left) → IsAreaRead sign before behind start begun read source source'
-  area_read kind start begun read source source' taken place ends counted low end first steps few =
+  area_read kind start begun read source source' taken place ends counted end first steps few =
       let ms = map meaning (items_of done) in
       let rest = map meaning (items_of so.left) in
       let octets_of : length (spell_of done) ≡ length (spell_of before) + length (spell_of so.pieces) = ap length (spell_of-append before so.pieces) ∙ length-append (spell_of before) (spell_of so.pieces) in
@@ -319,7 +314,6 @@ module _ {words : Bool} {sign : SignData} {octets : List ℕ} {before behind : L
         end = end ∙ long;
         next = first;
         table = subst (λ a. HasCounted a read.lines) (sym whole) (counted_among words sign ms rest ends read.lines counted);
-        low = low;
         taken = taken;
         steps = steps;
         few = omega (arith, few, long);

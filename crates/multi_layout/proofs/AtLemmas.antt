@@ -1,5 +1,5 @@
 -- What begins at an offset, whose first octet was read: how it is refused, and what is judged and read behind it.
-use Rattle.std.proofs.Common.{◌≡◌, ℕ, ◌+◌, ◌-◌, ◌^◌, ◌<◌, ◌≤◌, ◌*◌, inl, inr, List, [], ◌∷◌, ◌++◌, length, map, slice_get, Option, Some, None, refl, sym, ap, subst, ◌∙◌, arith}
+use Rattle.std.proofs.Common.{◌≡◌, ℕ, ◌+◌, ◌-◌, ◌^◌, ◌<◌, ◌≤◌, ◌*◌, inl, inr, List, [], ◌∷◌, ◌++◌, length, map, slice_get, Option, Some, None, refl, sym, ap, subst, ◌∙◌, arith, Bool, true, false}
 use Rattle.std.proofs.lemmas.Option.{slice_get_within}
 use Rattle.multi_token.specs.Counted.{Counted, RisesBetween, charged}
 use Rattle.multi_token.specs.Spelling.{IsPlain}
@@ -17,9 +17,16 @@ use Rattle.multi_meaning.specs.Meaning.{Meaning, Shows, meaning}
 use Rattle.multi_meaning.specs.Offence.{offence}
 use Rattle.multi_meaning.specs.Verdict.{IsVerdict, Refused}
 use Rattle.multi_meaning.proofs.OffenceLemmas.{offence-faulty}
-use Rattle.multi_layout.specs.kept.Told.{IsRefused}
+use Rattle.multi_layout.specs.kept.Told.{IsRefused, IsTold}
 use Rattle.multi_judge.specs.Judging.{IsAt, IsBehind}
-use Rattle.multi_judge.proofs.ReadLemmas.{nothing_read, read_more, refused_at_bracket, refused_here}
+use Rattle.multi_judge.proofs.ReadLemmas.{nothing_read, read_more, refused_at_bracket, refused_here, accepted_at_end, at_end, cycle_at_end}
+use Rattle.multi_judge.specs.declared.pass.Pass.{Pass}
+use Rattle.multi_judge.specs.declared.state.State.{State}
+use Rattle.multi_judge.specs.FilledState.{IsFilledFor}
+use Rattle.multi_judge.specs.PassState.{IsPassOf}
+use Rattle.multi_judge.specs.State.{IsUnfilledOf, whole_times}
+use Rattle.multi_judge.proofs.FilledJudgedLemmas.{attributes_here}
+use Rattle.multi_judge.proofs.FilledReadLemmas.{kept_pages, kept_times}
 
 -- the first octet is read
 pub first_read : (sign : SignData) (source : Counted) (IsKept : List Meaning → Type 0) → IsKept [] → source.steps ≡ 0 → (next : Option ℕ) (read : Counted) → next ≡ slice_get source.octets 0 → read ≡ charged source 1
@@ -151,3 +158,41 @@ module _ (sign : SignData) (octets : List ℕ) (at first : ℕ) (IsKept : List M
         least = omega (arith, rises, few, least, most, before, short);
         most = omega (arith, rises, few, least, most, before, short);
       }
+
+-- WHAT IS TOLD AT THE END
+
+-- where lines aren't filled
+unfilled_told : (sign : SignData) (octets : List ℕ) (at : ℕ) (state : State) (source : Counted) → IsAt sign octets at None (IsUnfilledOf sign state) source → IsTold sign octets state.pages (whole_times state) source
+unfilled_told sign octets at state source i =
+    let end = at_end octets at i.so_far.within (sym i.octet) in
+    let of = i.so_far.is.state_is in
+    let least = i.least in
+    let most = i.most in
+    record {
+      verdict = accepted_at_end sign octets at (IsUnfilledOf sign state) i.so_far end state.pages of.pages;
+      cycle = cycle_at_end sign octets at (IsUnfilledOf sign state) i.so_far end state of.times of.attributes;
+      same = i.same;
+      least = omega (arith, least, end);
+      most = omega (arith, most, end);
+    }
+
+-- where they are
+filled_told : (sign : SignData) (octets : List ℕ) (at : ℕ) (kept : Pass) (source : Counted) → IsAt sign octets at None (IsFilledFor sign kept) source → IsTold sign octets kept.state.pages (whole_times kept.state) source
+filled_told sign octets at kept source i =
+    let end = at_end octets at i.so_far.within (sym i.octet) in
+    let items = map meaning i.so_far.items in
+    let of = i.so_far.is.of in
+    let least = i.least in
+    let most = i.most in
+    record {
+      verdict = accepted_at_end sign octets at (IsFilledFor sign kept) i.so_far end kept.state.pages (kept_pages sign items kept of);
+      cycle = cycle_at_end sign octets at (IsFilledFor sign kept) i.so_far end kept.state (kept_times sign items kept of) (attributes_here sign items kept of);
+      same = i.same;
+      least = omega (arith, least, end);
+      most = omega (arith, most, end);
+    }
+
+-- what is told of a string where all its items are read
+pub pass_told : (sign : SignData) (octets : List ℕ) (at : ℕ) (pass : Pass) (words : Bool) (source : Counted) → IsAt sign octets at None (IsPassOf words sign pass) source → IsTold sign octets pass.state.pages (whole_times pass.state) source
+pass_told sign octets at pass true source i = filled_told sign octets at pass source i
+pass_told sign octets at pass false source i = unfilled_told sign octets at pass.state source i

@@ -40,10 +40,9 @@ use Rattle.multi_layout.specs.kept.Cursors.{IsBetween, IsRead, LaidItem, items_o
 use Rattle.multi_judge.specs.Run.{IsBehindCharacter, lengthened, line_in_force}
 use Rattle.multi_judge.specs.State.{IsStateOf}
 use Rattle.multi_layout.proofs.AreaDrawLemmas.{area_begins, area_left, area_more, area_next, none_first}
-use Rattle.multi_layout.proofs.DrawLemmas.{glyph_drawn, map_split}
+use Rattle.multi_layout.proofs.DrawLemmas.{glyph_drawn, map_split, glyph_found}
 use Rattle.multi_judge.proofs.GroupSumLemmas.{present_push}
 use Rattle.multi_judge.proofs.JudgedLemmas.{unsized-undefined}
-use Rattle.multi_layout.proofs.PaintLemmas.{glyph_found}
 use Rattle.multi_layout.proofs.PieceLemmas.{first_piece, no_piece, read_unfilled}
 use Rattle.multi_judge.proofs.ReadLemmas.{at_end}
 use Rattle.multi_judge.proofs.RunLemmas.{average_same, state_beside}

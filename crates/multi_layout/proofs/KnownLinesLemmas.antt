@@ -1,37 +1,33 @@
 -- The lines that the table has while an area is read.
-use Rattle.std.proofs.Common.{◌≡◌, ◌≢◌, ℕ, ◌+◌, ◌^◌, ◌<◌, ◌≤◌, Bool, true, false, cond, ◌==◌, inl, inr, length, List, [], ◌∷◌, ◌++◌, refl, sym, ap, subst, ◌∙◌, arith}
+use Rattle.std.proofs.Common.{◌≡◌, ◌≢◌, ℕ, ◌+◌, ◌<◌, ◌≤◌, Bool, true, false, cond, ◌==◌, inl, inr, length, List, [], ◌∷◌, ◌++◌, refl, sym, ap, ◌∙◌, arith, ◌&&◌, subst, append-nil}
 use Rattle.std.specs.Prelude.{nat_lt, if◌then◌else◌}
 use Rattle.std.specs.List.{All, after_last, list_any}
 use Rattle.std.proofs.lemmas.Bool.{cases_eq, cases_lt, eq-eqb, le-ltb, lt-ltb, ne_eqb}
 use Rattle.std.proofs.lemmas.List.{length_push}
-use Rattle.std.proofs.lemmas.List.Elements.{All-push}
-use Rattle.multi_tag.specs.Just.{page_number}
-use Rattle.multi_meaning.specs.Address.{Spot, in_group, is_break, is_glyph, lines_of}
-use Rattle.multi_meaning.specs.Line.{height_of}
+use Rattle.multi_tag.specs.Just.{page_number, line_number}
+use Rattle.multi_meaning.specs.Address.{Spot, in_group, is_break, is_glyph, lines_of, segment}
+use Rattle.multi_meaning.specs.Line.{height_of, width_of}
 use Rattle.multi_meaning.specs.kept.Present.{IsPlacing, ended_lines}
 use Rattle.multi_meaning.specs.Words.{largest}
-use Rattle.multi_meaning.proofs.GroupLemmas.{placing_group}
+use Rattle.multi_meaning.proofs.GroupLemmas.{placing_group, break_put}
 use Rattle.multi_judge.specs.declared.area.Area.{Area}
 use Rattle.multi_judge.specs.declared.area.Group.{Group}
 use Rattle.multi_judge.specs.declared.table.CountedLine.{CountedLine}
 use Rattle.multi_judge.specs.declared.table.LineTable.{LineTable}
-use Rattle.multi_layout.specs.kept.AreaDrawing.{HasCounted, HasKnown, HasRoom, IsLow, known_lines}
+use Rattle.multi_layout.specs.kept.AreaDrawing.{HasCounted, HasKnown, HasRoom, known_lines}
 use Rattle.multi_judge.specs.Sums.{area_sum, group_sum}
-use Rattle.multi_judge.specs.Table.{group_lines, line_count, table_of}
+use Rattle.multi_judge.specs.Table.{group_lines, line_count, table_of, line_entry}
 use Rattle.multi_judge.proofs.AreaSumLemmas.{group_behind, group_of_own}
 use Rattle.multi_judge.proofs.PlaceLemmas.{ended_most}
 use Rattle.multi_judge.proofs.SplitLemmas.{each_group}
-use Rattle.multi_judge.proofs.TableLemmas.{lines_closed, lines_open, open_entry, table_length, table_open}
+use Rattle.multi_judge.proofs.TableLemmas.{lines_closed, lines_open, open_entry, table_length, table_open, table_push}
+use Rattle.std.proofs.lemmas.List.Elements.{filter-append}
 
 -- ONE MORE LINE
 
 -- a line is put behind those of the group with a page justification
 abbrev pub Pushed : ℕ → CountedLine → LineTable → LineTable → Type 0
 Pushed page_just line old new = (just : ℕ) → (2 ≤ just) × (just ≤ 4) → group_lines just new ≡ (if just == page_just then group_lines just old ++ line ∷ [] else group_lines just old)
-
-low_if : (b : Bool) (lines : List CountedLine) (line : CountedLine) → All (λ l. l.bottom ≤ 2 ^ 43) lines → line.bottom ≤ 2 ^ 43 → All (λ l. l.bottom ≤ 2 ^ 43) (if b then lines ++ line ∷ [] else lines)
-low_if true lines line all low = All-push (λ l. l.bottom ≤ 2 ^ 43) lines line all low
-low_if false lines line all low = all
 
 module _ (page_just : ℕ) (line : CountedLine) (old new : LineTable) (pushed : Pushed page_just line old new) where
   -- its own group has it
@@ -41,10 +37,6 @@ module _ (page_just : ℕ) (line : CountedLine) (old new : LineTable) (pushed : 
   -- the others stay
   pushed_other : (just : ℕ) → 2 ≤ just → just ≤ 4 → just ≢ page_just → group_lines just new ≡ group_lines just old
   pushed_other just least most other = pushed just (least, most) ∙ ap (λ b. if b then group_lines just old ++ line ∷ [] else group_lines just old) (ne_eqb just page_just other)
-
-  -- and no sum overflows
-  pub pushed_low : line.bottom ≤ 2 ^ 43 → IsLow old → IsLow new
-  pushed_low low all just least most = subst (All (λ l. l.bottom ≤ 2 ^ 43)) (sym (pushed just (least, most))) (low_if (just == page_just) (group_lines just old) line (all just least most) low)
 
 -- KNOWN LINES
 
@@ -151,3 +143,67 @@ module _ (area : List Spot) (a : Area) (e : a ≡ area_sum area) where
         let less : f a.present < g a.present =
         omega (arith, ap length (known_from a.present a.present area (omega arith)), ap length (lines_open spots (any_is true some)), length_push (ended_lines spots) (after_last is_break spots)) in
         omega (arith, room, table_count area old a.present has, less_total f g a.present low high (known_most a.present 2 area) (known_most a.present 3 area) (known_most a.present 4 area) less)
+
+-- WHERE LINES ARE FILLED
+
+-- what ends a line adds nothing to its entry
+pub entry_ended : (line : List Spot) (s : Spot) (bottom : ℕ) → is_break s ≡ true → line_entry (line ++ s ∷ []) bottom ≡ line_entry line bottom
+entry_ended line s bottom breaks = λ i. record {
+  left = width_of (same 2 i);
+  centre = width_of (same 3 i);
+  right = width_of (same 4 i);
+  full = width_of (same 5 i);
+  characters = length (same 5 i);
+  bottom = bottom;
+}
+  where
+    same : (j : ℕ) → segment j (line ++ s ∷ []) ≡ segment j line
+    same j =
+        filter-append (λ t. is_glyph t && (line_number t.at.line_just == j)) line (s ∷ [])
+        ∙ ap (λ b. segment j line ++ cond b (s ∷ []) []) (ap (λ b. b && (line_number s.at.line_just == j)) (break_put s.at s.put breaks)) ∙ append-nil (segment j line)
+
+module _ (just : ℕ) (old new : List Spot) (others : (j : ℕ) → (j ≡ just → ⊥) → in_group j new ≡ in_group j old) where
+  own_known : (area : List Spot) → known_lines just just area ≡ ended_lines (in_group just area)
+  own_known area = ap (λ b. cond b (lines_of (in_group just area)) (ended_lines (in_group just area))) (le-ltb just just (omega arith))
+
+  other_known : (j : ℕ) → (j ≡ just → ⊥) → known_lines just j new ≡ known_lines just j old
+  other_known j differ = ap (λ g. cond (nat_lt j just) (lines_of g) (ended_lines g)) (others j differ)
+
+  -- no line is ended
+  pub known_unchanged : ended_lines (in_group just new) ≡ ended_lines (in_group just old) → (table : LineTable) → HasKnown just old table → HasKnown just new table
+  known_unchanged same table has = λ j least most. has j least most ∙ ap table_of (sym (elim (cases_eq j just) [
+    | inl own ↦ ap (λ n. known_lines just n new) own ∙ own_known new ∙ same ∙ sym (own_known old) ∙ ap (λ n. known_lines just n old) (sym own)
+    | inr differ ↦ other_known j differ
+  ]))
+
+  -- one is, and it is put into the table
+  pub known_pushed : (line : List Spot) (entry : CountedLine) (table table' : LineTable) → 2 ≤ just → just ≤ 4 → ended_lines (in_group just new) ≡ ended_lines (in_group just old) ++ line ∷ []
+      → entry ≡ line_entry line (height_of (ended_lines (in_group just new))) → Pushed just entry table table' → HasKnown just old table → HasKnown just new table'
+  known_pushed line entry table table' low high more is pushed has = λ j least most. elim (cases_eq j just) [
+    | inl own ↦ ap (λ n. group_lines n table') own ∙ here ∙ ap (λ n. table_of (known_lines just n new)) (sym own)
+    | inr differ ↦
+        pushed j (least, most) ∙ ap (λ b. cond b (group_lines j table ++ entry ∷ []) (group_lines j table)) (ne_eqb j just differ)
+        ∙ has j least most ∙ ap table_of (sym (other_known j differ))
+  ]
+    where
+      here : group_lines just table' ≡ table_of (known_lines just just new)
+      here =
+          let lines = ended_lines (in_group just old) in
+          pushed just (low, high) ∙ ap (λ b. cond b (group_lines just table ++ entry ∷ []) (group_lines just table)) (eq-eqb just just refl)
+          ∙ ap (λ l. l ++ entry ∷ []) (has just low high ∙ ap table_of (own_known old))
+          ∙ ap (λ (e : CountedLine). table_of lines ++ e ∷ []) (is ∙ ap (λ l. line_entry line (height_of l)) more)
+          ∙ sym (table_push lines line)
+          ∙ ap table_of (sym more ∙ sym (own_known new))
+
+  -- and there is room for it
+  pub pushed_room : (line : List Spot) (table : LineTable) → 2 ≤ just → just ≤ 4 → ended_lines (in_group just new) ≡ ended_lines (in_group just old) ++ line ∷ [] → HasKnown just old table
+      → HasRoom new → line_count table < 128
+  pushed_room line table low high more has room =
+      let f = λ (j : ℕ). length (known_lines just j old) in
+      let g = λ (j : ℕ). length (lines_of (in_group j new)) in
+      let less : f just < g just = omega (arith, ap length (own_known old), ap length more, length_push (ended_lines (in_group just old)) line, ended_most (in_group just new)) in
+      let each : (j : ℕ) → f j ≤ g j = λ j. elim (cases_eq j just) [
+        | inl own ↦ subst (λ n. f n ≤ g n) (sym own) (omega (arith, less))
+        | inr differ ↦ omega (arith, known_most just j old, ap (λ l. length (lines_of l)) (others j differ))
+      ] in
+      omega (arith, room, table_count old table just has, less_total f g just low high (each 2) (each 3) (each 4) less)

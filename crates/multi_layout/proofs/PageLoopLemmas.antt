@@ -1,17 +1,16 @@
 -- A round of the loop over the areas of a page.
-use Rattle.std.proofs.Common.{◌≡◌, ℕ, ◌+◌, ◌-◌, ◌*◌, ◌≤◌, true, [], length, map, List, ◌∷◌, ◌++◌, Some, sym, ap, ◌∙◌, subst, arith}
+use Rattle.std.proofs.Common.{◌≡◌, ℕ, ◌+◌, ◌-◌, ◌*◌, ◌≤◌, true, length, map, List, ◌∷◌, ◌++◌, Some, sym, ap, ◌∙◌, subst, arith}
 use Rattle.std.proofs.lemmas.List.{length-append}
 use Rattle.multi_token.specs.Counted.{Counted, RisesBetween}
 use Rattle.page_plane.specs.Plane.{BitPlane}
 use Rattle.sign_font.specs.Sign.{SignData}
 use Rattle.multi_meaning.specs.Meaning.{EndsArea, begins_area}
-use Rattle.multi_meaning.specs.kept.Present.{present_area}
 use Rattle.multi_layout.specs.declared.cursor.Begun.{Begun}
 use Rattle.multi_layout.specs.declared.cursor.Cursor.{Cursor}
 use Rattle.multi_judge.specs.declared.item.NextItem.{NextItem}
 use Rattle.multi_layout.specs.declared.paint.Layer.{Layer}
 use Rattle.multi_layout.specs.declared.read.AreaLines.{AreaLines}
-use Rattle.multi_layout.specs.kept.AreaDrawing.{BeginsNoArea, DrawsOn, HasCounted, IsAreaRead, OverArea, first_steps, whole_area}
+use Rattle.multi_layout.specs.kept.AreaDrawing.{BeginsNoArea, DrawsOn, HasCounted, IsAreaRead, OverArea, ReadsArea, first_steps, whole_area}
 use Rattle.multi_layout.specs.kept.Cursors.{IsBetween, IsFirst, IsRead, LaidItem, items_of, meant, spell_of}
 use Rattle.multi_layout.specs.kept.Settings.{AreSettingsPassed, item_steps}
 use Rattle.multi_layout.proofs.PageDrawLemmas.{PageDrawn, PageSoFar, page_area}
@@ -41,7 +40,7 @@ behind_settings {sign} {octets} {octets'} {before} s same new passed =
 -- the area that begins at the cursor was read
 module _ {sign : SignData} {octets : List ℕ} {before behind : List LaidItem} {layer : Layer} {cursor : Cursor} {plane : BitPlane} (s : PageSoFar sign octets before behind layer cursor plane)
     {source source' : Counted} (same : source.octets ≡ octets) {begun : Begun} {read : AreaLines}
-    (reads : (before behind : List LaidItem) → IsBetween sign source.octets before behind cursor → present_area sign (map meant before) ≡ [] → IsAreaRead sign before behind cursor begun read source source') where
+    (reads : ReadsArea sign source.octets cursor begun read source source') where
   pub area_here : IsAreaRead sign (before ++ s.so.done) s.so.left cursor begun read source source'
   area_here = reads (before ++ s.so.done) s.so.left (stands_in same s.so.between) s.begins
 

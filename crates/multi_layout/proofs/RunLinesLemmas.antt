@@ -27,8 +27,7 @@ use Rattle.multi_judge.specs.State.{IsReady}
 use Rattle.multi_judge.specs.Run.{IsBehindCharacter, IsRunPassed, lengthened, line_in_force}
 use Rattle.multi_layout.proofs.AreaLinesLemmas.{SoFar, read_on, so_first, so_next}
 use Rattle.multi_judge.proofs.PassedLemmas.{plain_passed}
-use Rattle.multi_layout.proofs.AreaReadLemmas.{next_fine}
-use Rattle.multi_layout.proofs.AreaStepLemmas.{step_stays}
+use Rattle.multi_layout.proofs.AreaReadLemmas.{next_fine, step_stays}
 use Rattle.multi_judge.proofs.RunLemmas.{behind_stays, state_beside}
 use Rattle.multi_judge.proofs.RunReadLemmas.{behind_first, cell_of_width}
 use Rattle.multi_layout.proofs.WalkLemmas.{item_is}
@@ -113,10 +112,6 @@ went_on {words} {sign} sound {octets} short {before} {behind} at at' kept kept' 
 pub gone_forward : {words : Bool} {sign : SignData} {octets : List ℕ} (at at' : ℕ) (kept kept' : Pass) → GoesOn words sign octets at kept at' kept' → at ≤ at'
 gone_forward at at' kept kept' (inl (to, same)) = omega (arith, to)
 gone_forward at at' kept kept' (inr (off, b, state, is, run)) = run.forward
-
-pub gone_within : {words : Bool} {sign : SignData} {octets : List ℕ} (at at' : ℕ) (kept kept' : Pass) → GoesOn words sign octets at kept at' kept' → at ≤ length octets → at' ≤ length octets
-gone_within at at' kept kept' (inl (to, same)) within = omega (arith, to, within)
-gone_within at at' kept kept' (inr (off, b, state, is, run)) within = run.within
 
 -- what is ready for either kind of lines has a state that is
 pub ready_state : (words : Bool) (kept : Pass) → IsPassReady words kept → IsReady kept.state

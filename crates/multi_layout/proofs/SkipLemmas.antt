@@ -1,11 +1,10 @@
 -- The items of a string that place nothing: they alone tell what is in force, and the pages and their times.
-use Rattle.std.proofs.Common.{◌≡◌, ℕ, ◌+◌, ◌*◌, ◌≤◌, Bool, true, false, cond, not, inl, inr, List, [], ◌∷◌, ◌++◌, length, map, Option, Some, None, refl, sym, ap, subst, ◌∙◌, arith, append-nil}
+use Rattle.std.proofs.Common.{◌≡◌, ℕ, ◌+◌, ◌*◌, ◌≤◌, Bool, true, false, cond, not, inl, inr, List, [], ◌∷◌, ◌++◌, length, map, Some, None, refl, sym, ap, subst, ◌∙◌, arith, append-nil, suc, ◌^◌, ◌<◌, drop, slice_get, append_assoc}
 use Rattle.std.specs.Prelude.{nat_lt}
-use Rattle.std.specs.List.{cons_option, count_by}
+use Rattle.std.specs.List.{cons_option, count_by, All}
 use Rattle.std.proofs.lemmas.List.{length-append, map-append}
-use Rattle.std.proofs.lemmas.List.Elements.{filter-append}
-use Rattle.multi_token.specs.Spelling.{Item}
-use Rattle.multi_tag.specs.declared.tag.Tag.{Tag}
+use Rattle.std.proofs.lemmas.List.Elements.{filter-append, All-head, All-tail}
+use Rattle.multi_token.specs.Spelling.{Item, IsPlain}
 use Rattle.multi_tag.specs.declared.tag.Tag.TheVariants.{NewPage, NewLine, Font}
 use Rattle.sign_font.specs.declared.parts.LineFill.{LineFill}
 use Rattle.sign_font.specs.Sign.{SignData, font_numbered}
@@ -25,11 +24,16 @@ use Rattle.multi_judge.specs.KnownItem.{meant_by}
 use Rattle.multi_judge.specs.State.{IsReady, IsStateOf, attributes_of}
 use Rattle.multi_judge.specs.Sums.{area_sum}
 use Rattle.multi_layout.specs.kept.Cursors.{IsItemRead}
-use Rattle.multi_layout.specs.kept.Passing.{IsPassing, unplaced}
+use Rattle.multi_layout.specs.kept.Passing.{IsPassing, unplaced, IsTextPassed}
 use Rattle.multi_judge.proofs.BoundLemmas.{below_more}
 use Rattle.multi_judge.proofs.JudgedLemmas.{ended_times-push, pages_of-push, ready}
-use Rattle.multi_layout.proofs.WalkLemmas.{few_placed, none_offends, placed_more}
+use Rattle.multi_layout.proofs.WalkLemmas.{few_placed, none_offends, placed_more, item_is}
 use Rattle.multi_meaning.proofs.VerdictLemmas.{length-meanings}
+use Rattle.multi_token.specs.declared.token.Token.{Token}
+use Rattle.multi_token.specs.declared.token.Kind.TheVariants as kinds
+use Rattle.multi_token.proofs.PlaceLemmas.{drop_read, read_drop, single_token}
+use Rattle.multi_judge.specs.declared.item.KnownItem.TheVariants as known
+use Rattle.multi_judge.proofs.RunReadLemmas.{behind_first}
 
 -- where the present area is empty, the state is that of all items with these pages, times and values in force
 pub state_moved : (sign : SignData) (one other : List Meaning) (state : State) → standing sign one ≡ standing sign other → ended_times sign one ≡ ended_times sign other → pages_of one ≡ pages_of other
@@ -123,11 +127,6 @@ module _ (sign : SignData) where
       state_moved sign (unplaced ms) laid state (here ∙ sym here') (times ∙ sym times') (pages ∙ sym pages')
       (omega (arith, few_unplaced ms, long)) (empty (unplaced ms) (empty ms begins).1).0 (empty laid begins').0
 
--- each tag but `nl` places nothing
-pub tag_unplaced : (tag : Tag) → ((gap : Option ℕ) → tag ≡ NewLine gap → ⊥) → has_place (Does tag) ≡ false
-tag_unplaced (NewLine gap) other = absurd (other gap refl)
-tag_unplaced _ other = refl
-
 -- THE WAY
 
 -- the state is small enough
@@ -161,3 +160,32 @@ module _ {sign : SignData} {octets : List ℕ} {before rest : List Item} {item :
       passing_with new at
       (subst (λ ms. IsStateOf sign ms new.state)
       (ap (λ m. unplaced (map meaning before) ++ m ∷ []) (sym read.meant) ∙ sym (unplaced_grows (map meaning before) (meaning item) (ap has_place read.meant ∙ e))) st)
+
+-- TEXT
+
+-- the cursor with another offset
+abbrev pub moved : Cursor → ℕ → Cursor
+moved cursor at = record { at = at; state = cursor.state }
+
+pub text_skipped : (sign : SignData) (octets : List ℕ) → length octets < 2 ^ 63 → (text more : List ℕ) (cursor : Cursor) (before behind : List Item) → IsPassing sign octets before behind cursor
+    → drop cursor.at octets ≡ text ++ more → All IsPlain text → IsTextPassed sign octets before behind (moved cursor (cursor.at + length text))
+text_skipped sign octets short [] more cursor before behind p e plain =
+    let to : cursor.at ≡ cursor.at + 0 = omega arith in
+    record { text = []; rest = behind; split = refl; between = subst (λ n. IsPassing sign octets (before ++ []) behind (moved cursor n)) to (subst (λ l. IsPassing sign octets l behind cursor) (sym (append-nil before)) p) }
+text_skipped sign octets short (octet ∷ text) more cursor before behind p e plain =
+    let next : NextItem = record { item = known.Char octet; len = 1 } in
+    let token : Token = record { at = cursor.at; len = 1; kind = kinds.Char octet } in
+    let here : slice_get octets cursor.at ≡ Some octet = read_drop octets cursor.at octet (text ++ more) e in
+    let stands = single_token octets cursor.at octet short here (All-head IsPlain octet text plain) in
+    let (item, rest, is, read) = item_is sign octets before behind cursor.at p.placed next (token, refl, refl, stands, refl) in
+    let one = passing_placed (subst (λ l. IsPassing sign octets before l cursor) is p) read (moved cursor (cursor.at + 1)) refl refl refl in
+    let on = behind_first (sym (drop_read octets cursor.at octet here) ∙ e) in
+    let others = text_skipped sign octets short text more (moved cursor (cursor.at + 1)) (before ++ item ∷ []) rest one on (All-tail IsPlain octet text plain) in
+    let to : cursor.at + 1 + length text ≡ cursor.at + suc (length text) = omega arith in
+    record {
+      text = item ∷ others.text;
+      rest = others.rest;
+      split = is ∙ ap (λ l. item ∷ l) others.split;
+      between = subst (λ n. IsPassing sign octets (before ++ item ∷ others.text) others.rest (moved cursor n)) to
+          (subst (λ l. IsPassing sign octets l others.rest (moved cursor (cursor.at + 1 + length text))) (append_assoc before (item ∷ []) others.text) others.between);
+    }

@@ -1,5 +1,5 @@
 -- The pages of an accepted string, drawn one after the other into one plane.
-use Rattle.std.specs.Prelude.{◌≡◌, ◌⊎◌, ℕ, ◌+◌, ◌*◌, ◌^◌, ◌<◌, ◌≤◌, ◌==◌, List, length, if◌then◌else◌}
+use Rattle.std.specs.Prelude.{◌≡◌, ℕ, ◌+◌, ◌*◌, ◌^◌, ◌<◌, ◌≤◌, ◌==◌, List, length, if◌then◌else◌}
 use Rattle.multi_token.specs.Counted.{RisesBetween}
 use Rattle.page_plane.specs.Plane.{BitPlane}
 use Rattle.sign_font.specs.Sign.{SignData, tallest}
@@ -33,13 +33,6 @@ page_count string = pages_of (meanings string.source.octets)
 abbrev pub IsSized : BitPlane → SignData → Type 0
 IsSized plane sign = (plane.width ≡ sign.width) × (plane.height ≡ sign.height)
 
--- the page that begins at the old cursor is passed: it is the last of the string, or the next begins at the new one (own)
-pub record IsTurned (sign : SignData) (octets : List ℕ) (old new : Cursor) : Type 0 where
-  pub on : old.at ≤ new.at
-  pub within : new.at ≤ length octets
-  pub ends : ((old.state.pages ≡ pages_of (meanings octets)) × (new.state.pages ≡ old.state.pages))
-      ⊎ ((old.state.pages < pages_of (meanings octets)) × (new.state.pages ≡ old.state.pages + 1) × IsPageStart sign octets new)
-
 -- the next page begins at the cursor, and the octets before it are all that was read and drawn so far (own)
 pub record IsUnderWay (pages : PagesState) (cursor : Cursor) : Type 0 where
   pub sound : IsSound pages.string.sign
@@ -69,6 +62,16 @@ pub record TurnsPage (old new : PagesState) : Type 0 where
   pub next_page : new.next ≡ old.next + 1
   pub string_started_kept : new.string_started ≡ old.string_started
   pub plane_started_kept : new.plane_started ≡ old.plane_started
+
+-- drawing pages has taken no more steps over the string than the limit (own)
+abbrev pub HasReadFew : PagesState → Type 0
+HasReadFew pages = (pages.string_started ≤ pages.string.source.steps)
+    × (pages.string.source.steps ≤ pages.string_started + reading_limit (length pages.string.source.octets))
+
+-- and no more over the plane (own)
+abbrev pub HasDrawnFew : PagesState → Type 0
+HasDrawnFew pages = (pages.plane_started ≤ pages.plane.steps)
+    × (pages.plane.steps ≤ pages.plane_started + plane_limit pages.string.sign (length pages.string.source.octets))
 
 -- this is what an accepted string shows at a clock, and the plane of a colour of it (own)
 abbrev pub ShowsAt : SignData → List ℕ → ℕ → ℕ → BitPlane → Shown → Type 0

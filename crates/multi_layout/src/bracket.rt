@@ -61,7 +61,7 @@ pub(crate) fn read_spelled(
 
 /// The item that says this: a character, or the tag.
 #[inline(always)]
-pub(crate) fn said(tag: Tag) -> KnownItem
+fn said(tag: Tag) -> KnownItem
     ensures meant { meant_by result ≡ said_by tag }
 {
     match tag {
@@ -72,7 +72,7 @@ pub(crate) fn said(tag: Tag) -> KnownItem
 
 /// The error of a single opening bracket at an offset with which no tag begins that has a value.
 #[inline(never)]
-pub(crate) fn fault_of(source: &mut Source<'_>, at: usize) -> SyntaxError
+fn fault_of(source: &mut Source<'_>, at: usize) -> SyntaxError
     requires stands { slice_get source.old.octets at ≡ Some 91 }
     requires single { slice_get source.old.octets (at + 1) ≢ Some 91 }
     requires none { HasNoTagAt source.old.octets at }

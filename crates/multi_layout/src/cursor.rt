@@ -15,9 +15,9 @@ ghost use Rattle.multi_layout.specs.kept.Cursors.{GoesBehind, IsBefore, IsBetwee
 ghost use Rattle.multi_layout.specs.kept.Passing.{IsAtStart, IsPageSkipped, IsPassing, IsPassingBefore, IsTextPassed, PassesOn};
 ghost use Rattle.multi_layout.specs.kept.Settings.{AreSettingsPassed, IsBegun, IsMet, IsNextAt, MayMeet, item_steps, met_octets, met_steps};
 
-use crate::bracket::{fault_of, is_bracket, said};
+use crate::bracket::{is_bracket, read_spelled};
 use multi_judge::{KnownItem, NextItem, Run, State, Terms, judge_tag};
-use multi_tag::{Tag, read_ahead};
+use multi_tag::Tag;
 use multi_token::Source;
 
 /// A place between two items of an accepted string: the offset of the next, and the state behind those before it.
@@ -261,28 +261,19 @@ fn meet_bracket(
     ensures some { 1 ≤ met_octets result }
     ensures steps { RisesBetween source.old source.new 0 (met_steps result) }
 {
-    if source.read(at + 1) == Some(bracket) {
-        return Met::Item(NextItem {
-            item: KnownItem::Char(u16::from(bracket)),
-            len: 2,
-        });
-    }
-    if bracket == b']' {
-        // An accepted string has no broken bracket,
-        unreachable!();
-    }
-    let Some((tag, len)) = read_ahead(source, at) else {
-        // nor a tag with an error.
-        let _ = fault_of(source, at);
+    let Ok(next) = read_spelled(source, at, bracket) else {
+        // An accepted string has no broken bracket and no tag with an error.
         unreachable!();
     };
-    let item = said(tag);
-    if !item.is_setting() {
-        return Met::Item(NextItem { item, len });
+    let KnownItem::Tag(tag) = next.item else {
+        return Met::Item(next);
+    };
+    if !next.item.is_setting() {
+        return Met::Item(next);
     }
     let Ok(()) = judge_tag(sign, state, source, tag) else {
         // No item of an accepted string offends.
         unreachable!();
     };
-    Met::Setting(len)
+    Met::Setting(next.len)
 }

@@ -4,14 +4,12 @@ ghost use Rattle.std.specs.Prelude.{◌^◌, ◌≡◌, ◌≢◌, ℕ, ◌+◌,
 ghost use Rattle.std.specs.Option.{unwrap_or};
 ghost use Rattle.multi_token.specs.Counted.{RisesBetween, charged};
 ghost use Rattle.multi_tag.specs.declared.just.LineJust.TheVariants.{Full};
-ghost use Rattle.sign_font.specs.Sound.{IsSound};
 ghost use Rattle.multi_meaning.specs.Drawn.{Lights};
 ghost use Rattle.multi_meaning.specs.Meaning.{begins_area};
 ghost use Rattle.multi_meaning.specs.Picture.{in_plane, shown_colour};
-ghost use Rattle.multi_judge.specs.Sums.{IsBelow};
 ghost use Rattle.multi_layout.specs.Pages.{IsSized};
 ghost use Rattle.multi_layout.specs.kept.PageDrawing.{IsFilledFew, IsPagePassed, IsPageStart, IsReadTwice};
-ghost use Rattle.multi_layout.specs.kept.AreaDrawing.{DrawsOn, HasCounted, IsFilledBy, OverArea, IsLow, BeginsNoArea, IsQuiet, whole_area};
+ghost use Rattle.multi_layout.specs.kept.AreaDrawing.{DrawsOn, HasCounted, IsFilledBy, OverArea, BeginsNoArea, IsQuiet, whole_area};
 ghost use Rattle.multi_layout.specs.kept.RunDrawing.{AreaSoFar, IsItemHere, IsNextDrawn, IsReadBehind, PlacesNext, octets_read};
 ghost use Rattle.multi_layout.specs.Limits.{plane_octets};
 ghost use Rattle.multi_layout.specs.kept.Cursors.{GoesBehind, IsBetween, IsItemRead, IsRead, meant, LaidItem, spell_of};
@@ -75,7 +73,6 @@ fn draw_area(
     requires known { (before area rest : List LaidItem) × IsBetween sign.now source.old.octets before (area ++ rest) cursor.old
         × BeginsNoArea area × (read.now.end ≡ cursor.old.at + length (spell_of area))
         × HasCounted (whole_area sign.now before (area ++ rest)) read.now.lines }
-    requires low { IsLow read.now.lines }
     requires size { IsSized plane.old sign.now }
     ensures passed { OverArea sign.now source.old.octets cursor.old read.now
         (λ before area rest. IsBetween sign.now source.old.octets (before ++ area) rest cursor.new) }
@@ -112,36 +109,20 @@ fn lay(sign: &Terms<'_>, cursor: &Cursor, lines: &LineTable, next: NextItem) -> 
         → HasCounted (whole_area sign.now before (item ∷ rest)) lines.now → IsItemRead item.item next → IsRead item result }
     ensures len { result.len ≡ next.len }
 {
-    match sign.bare.line_fill() {
-        LineFill::Off => next,
-        LineFill::Words => lay_filled(sign, cursor, lines, next),
+    if let LineFill::Off = sign.bare.line_fill() {
+        return next;
     }
-}
-
-/// The same where lines are filled.
-fn lay_filled(sign: &Terms<'_>, cursor: &Cursor, lines: &LineTable, next: NextItem) -> NextItem
-    requires sound { IsSound sign.now }
-    requires below { IsBelow (2 ^ 43) cursor.now.state.area }
-    ensures read { (octets : List ℕ) (before rest : List LaidItem) (item : LaidItem)
-        → IsBetween sign.now octets before (item ∷ rest) cursor.now
-        → HasCounted (whole_area sign.now before (item ∷ rest)) lines.now → IsItemRead item.item next → IsRead item result }
-    ensures len { result.len ≡ next.len }
-{
     let KnownItem::Char(_) = next.item else {
         return next;
     };
     let attributes = &cursor.state.attributes;
-    if is_full(
-        attributes,
-        &cursor.state.area,
-        lines.group(attributes.page_just),
-    ) {
-        NextItem {
-            item: KnownItem::Tag(Tag::NewLine(None)),
-            len: next.len,
-        }
-    } else {
-        next
+    let lines = lines.group(attributes.page_just);
+    if !is_full(attributes, &cursor.state.area, lines) {
+        return next;
+    }
+    NextItem {
+        item: KnownItem::Tag(Tag::NewLine(None)),
+        len: next.len,
     }
 }
 
@@ -170,7 +151,6 @@ fn draw_next(
 ) -> Option<u8>
     requires known { (before area rest : List LaidItem) × (item : LaidItem) × IsNextDrawn sign.now source.old.octets before area rest item
         next read.now cursor.old }
-    requires low { IsLow read.now.lines }
     requires size { IsSized plane.old sign.now }
     ensures so_far { (before area rest : List LaidItem) (item : LaidItem)
         → IsNextDrawn sign.now source.old.octets before area rest item next read.now cursor.old
@@ -196,7 +176,6 @@ fn draw_item(
 ) -> Option<Place>
     requires known { (before rest : List LaidItem) × (item : LaidItem)
         × IsItemHere sign.now source.old.octets before rest item next lines.now cursor.old }
-    requires low { IsLow lines.now }
     requires size { IsSized plane.old sign.now }
     ensures passed { GoesBehind sign.now source.old.octets next cursor.old cursor.new }
     ensures drawn { (before rest : List LaidItem) (item : LaidItem)

@@ -4,12 +4,14 @@ ghost use Rattle.std.specs.Prelude.{◌≡◌, ℕ, ◌+◌, ◌<◌, ◌≤◌,
 ghost use Rattle.multi_token.specs.Counted.{RisesBetween};
 ghost use Rattle.multi_meaning.specs.Drawn.{Lights};
 ghost use Rattle.multi_meaning.specs.Picture.{picture};
-ghost use Rattle.multi_layout.specs.Limits.{plane_limit, reading_limit};
-ghost use Rattle.multi_layout.specs.Pages.{IsSized, page_count};
+ghost use Rattle.multi_layout.specs.Limits.{reading_limit};
+ghost use Rattle.multi_layout.specs.Pages.{IsSized, TakesFew, page_count};
 ghost use Rattle.multi_layout.specs.NextPage.{IsNextPage, IsReadOn};
+ghost use Rattle.multi_layout.specs.kept.PageDrawing.{IsFilledFew};
 
 use crate::checked::Checked;
 use crate::cursor::Cursor;
+use crate::draw::draw_page;
 use crate::paint::Layer;
 use crate::read::AreaLines;
 use page_plane::Plane;
@@ -51,9 +53,11 @@ impl<'a> Checked<'a> {
         ensures size { (plane.new.width ≡ plane.old.width) × (plane.new.height ≡ plane.old.height) }
         ensures on { IsReadOn self.old.source self.new.source next.old next.new }
         ensures steps { RisesBetween self.old.source self.new.source 0 (reading_limit (length self.old.source.octets)) }
-        ensures plane_steps { (plane.old.steps ≤ plane.new.steps)
-            × (plane.new.steps ≤ plane.old.steps + plane_limit self.old.sign (length self.old.source.octets)) }
+        ensures plane_steps { TakesFew self.old.sign (length self.old.source.octets) plane.old plane.new }
+        ensures fills { IsFilledFew self.old.sign plane.old plane.new next.old.cursor next.new.cursor }
     {
-        self.draw_from(&mut next.cursor, Layer { phase, colour }, lines, plane);
+        let layer = Layer { phase, colour };
+        let cursor = &mut next.cursor;
+        draw_page(&self.terms, &mut self.source, cursor, layer, lines, plane);
     }
 }

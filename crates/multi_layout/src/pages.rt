@@ -1,6 +1,6 @@
 //! The drawing of one page of an accepted string, or of all its pages in order into one plane.
 
-ghost use Rattle.std.specs.Prelude.{◌≡◌, ◌+◌, ◌-◌, ◌*◌, ◌<◌, ◌≤◌, true, false, nat_lt, length, IfSome, MatchOption};
+ghost use Rattle.std.specs.Prelude.{◌≡◌, ◌+◌, ◌-◌, ◌*◌, ◌^◌, ◌<◌, ◌≤◌, true, false, nat_lt, length, IfSome, MatchOption};
 ghost use Rattle.std.specs.Borrow.{sem};
 ghost use Rattle.multi_token.specs.Counted.{RisesBetween};
 ghost use Rattle.multi_token.specs.Reading.{reading};
@@ -9,15 +9,16 @@ ghost use Rattle.multi_meaning.specs.Drawn.{Lights};
 ghost use Rattle.multi_meaning.specs.Meaning.{meanings};
 ghost use Rattle.multi_meaning.specs.Picture.{picture, pixel_at};
 ghost use Rattle.multi_meaning.specs.Times.{shown};
-ghost use Rattle.multi_meaning.specs.Verdict.{pages_of};
+ghost use Rattle.multi_meaning.specs.Verdict.{Accepted, IsCycle, IsVerdict, pages_of};
 ghost use Rattle.multi_meaning.specs.kept.Fine.{IsAccepted, IsOrderly};
-ghost use Rattle.multi_layout.specs.Limits.{check_limit, drawing_limit, plane_limit, reading_limit};
-ghost use Rattle.multi_layout.specs.Pages.{IsSized, IsTurned, page_count};
-ghost use Rattle.multi_layout.specs.kept.PageDrawing.{IsFilledFew, IsPageStart, IsReadTwice, IsStartOf};
+ghost use Rattle.multi_layout.specs.Limits.{check_limit, drawing_limit, reading_limit};
+ghost use Rattle.multi_layout.specs.Pages.{HasDrawnFew, HasReadFew, IsSized, ShowsAt, TakesFew, page_count};
+ghost use Rattle.multi_layout.specs.kept.PageDrawing.{IsPageStart};
 
-use crate::checked::Checked;
+use crate::checked::{Checked, Told};
 use crate::cursor::Cursor;
 use crate::draw::draw_page;
+use crate::next_page::NextPage;
 use crate::paint::Layer;
 use crate::read::AreaLines;
 use crate::times::find_shown;
@@ -44,7 +45,7 @@ pub struct Pages<'a> {
     lines: AreaLines,
     layer: Layer,
     /// Where the next page begins, or the end of the string.
-    cursor: Cursor,
+    start: NextPage,
     /// The number of the next page, or of all pages.
     next: u8,
     /// The count of the string at the start.
@@ -76,7 +77,7 @@ impl<'a> Model for Pages<'a> {
       next = p.next;
       string_started = p.string_started;
       plane_started = p.plane_started;
-    }) p.cursor };
+    }) p.start.cursor };
 }
 
 impl<'a> Checked<'a> {
@@ -97,19 +98,14 @@ impl<'a> Checked<'a> {
         ensures kept { self.new.sign ≡ self.old.sign }
         ensures size { (plane.new.width ≡ plane.old.width) × (plane.new.height ≡ plane.old.height) }
         ensures steps { RisesBetween self.old.source self.new.source 0 (reading_limit (length self.old.source.octets)) }
-        ensures plane_steps { (plane.old.steps ≤ plane.new.steps)
-            × (plane.new.steps ≤ plane.old.steps + plane_limit self.old.sign (length self.old.source.octets)) }
+        ensures plane_steps { TakesFew self.old.sign (length self.old.source.octets) plane.old plane.new }
     {
         if page >= self.pages {
             return false;
         }
-        let mut cursor = page_start(&self.terms, &mut self.source, page);
-        self.draw_from(
-            &mut cursor,
-            Layer { phase, colour },
-            &mut AreaLines::new(),
-            plane,
-        );
+        let cursor = page_start(&self.terms, &mut self.source, page);
+        let mut next = NextPage { cursor };
+        self.draw_next(&mut next, phase, colour, &mut AreaLines::new(), plane);
         true
     }
 
@@ -131,43 +127,18 @@ impl<'a> Checked<'a> {
         ensures size { (plane.new.width ≡ plane.old.width) × (plane.new.height ≡ plane.old.height) }
         ensures steps { RisesBetween self.old.source self.new.source 0
             (check_limit (length self.old.source.octets) + reading_limit (length self.old.source.octets)) }
-        ensures plane_steps { (plane.old.steps ≤ plane.new.steps)
-            × (plane.new.steps ≤ plane.old.steps + plane_limit self.old.sign (length self.old.source.octets)) }
+        ensures plane_steps { TakesFew self.old.sign (length self.old.source.octets) plane.old plane.new }
     {
-        let mut start = Cursor::new(&self.terms);
         let told = self.told();
-        let shown = find_shown(&self.terms, &mut self.source, told, clock, &mut start);
-        draw_found(
+        draw_told(
             &self.terms,
             &mut self.source,
-            shown,
-            &mut start,
+            told,
+            clock,
             colour,
             lines,
             plane,
-        );
-        shown
-    }
-
-    /// Draws the page that begins at a cursor, and goes behind it.
-    pub(crate) fn draw_from(
-        &mut self,
-        cursor: &mut Cursor,
-        layer: Layer,
-        lines: &mut AreaLines,
-        plane: &mut Plane,
-    )
-        requires begins { IsPageStart self.old.sign self.old.source.octets cursor.old }
-        requires size { IsSized plane.old self.old.sign }
-        ensures drawn { Lights plane.new
-            (picture self.old.sign self.old.source.octets (cursor.old.state.pages - 1) layer.phase layer.colour) }
-        ensures turned { IsTurned self.old.sign self.old.source.octets cursor.old cursor.new }
-        ensures kept { self.new.sign ≡ self.old.sign }
-        ensures size { (plane.new.width ≡ plane.old.width) × (plane.new.height ≡ plane.old.height) }
-        ensures steps { IsReadTwice self.old.source self.new.source cursor.old cursor.new }
-        ensures fills { IsFilledFew self.old.sign plane.old plane.new cursor.old cursor.new }
-    {
-        draw_page(&self.terms, &mut self.source, cursor, layer, lines, plane);
+        )
     }
 
     /// Takes the plane, to draw one page after another into it from page 0 on, each at this phase and in this colour as
@@ -185,7 +156,9 @@ impl<'a> Checked<'a> {
         } }
     {
         Pages {
-            cursor: Cursor::new(&self.terms),
+            start: NextPage {
+                cursor: Cursor::new(&self.terms),
+            },
             layer: Layer { phase, colour },
             lines: AreaLines::new(),
             next: 0,
@@ -197,30 +170,36 @@ impl<'a> Checked<'a> {
     }
 }
 
-/// Draws what an accepted string shows, where a page that it shows begins at a cursor.
-pub(crate) fn draw_found(
+/// Draws what an accepted string shows at a clock, by what is told of the string, and tells it.
+pub(crate) fn draw_told(
     sign: &Terms<'_>,
     source: &mut Source<'_>,
-    shown: Shown,
-    start: &mut Cursor,
+    told: Told,
+    clock: u64,
     colour: u8,
     lines: &mut AreaLines,
     plane: &mut Plane,
-)
-    requires begins { IsStartOf sign.now source.old.octets shown start.old }
+) -> Shown
+    requires pages { IsVerdict sign.now source.old.octets (Accepted told.pages) }
+    requires cycle { IsCycle sign.now source.old.octets told.cycle }
+    requires short { length source.old.octets < 2 ^ 32 }
     requires size { IsSized plane.old sign.now }
-    ensures drawn { Lights plane.new (pixel_at sign.now (meanings source.old.octets) shown colour) }
+    ensures shown { ShowsAt sign.now source.old.octets clock colour plane.new result }
     ensures size { (plane.new.width ≡ plane.old.width) × (plane.new.height ≡ plane.old.height) }
-    ensures steps { RisesBetween source.old source.new 0 (reading_limit (length source.old.octets)) }
-    ensures plane_steps { (plane.old.steps ≤ plane.new.steps)
-        × (plane.new.steps ≤ plane.old.steps + plane_limit sign.now (length source.old.octets)) }
+    ensures steps { RisesBetween source.old source.new 0
+        (check_limit (length source.old.octets) + reading_limit (length source.old.octets)) }
+    ensures plane_steps { TakesFew sign.now (length source.old.octets) plane.old plane.new }
 {
+    let mut start = Cursor::new(sign);
+    let shown = find_shown(sign, source, told, clock, &mut start);
     match shown {
         Shown::Page { phase, .. } => {
-            draw_page(sign, source, start, Layer { phase, colour }, lines, plane);
+            let layer = Layer { phase, colour };
+            draw_page(sign, source, &mut start, layer, lines, plane);
         }
         Shown::Off => plane.fill(colour == 0),
     }
+    shown
 }
 
 /// The cursor where a page begins, read from the front of the string.
@@ -256,9 +235,10 @@ impl<'a> Pages<'a> {
         if page >= self.string.pages() {
             return None;
         }
-        self.string.draw_from(
-            &mut self.cursor,
-            self.layer,
+        self.string.draw_next(
+            &mut self.start,
+            self.layer.phase,
+            self.layer.colour,
             &mut self.lines,
             &mut self.plane,
         );
@@ -274,10 +254,8 @@ impl<'a> Pages<'a> {
         ensures risen { result
             ≡ (self.now.string.source.steps - self.now.string_started) + (self.now.plane.steps - self.now.plane_started) }
         ensures most { result ≤ drawing_limit self.now.string.sign (length self.now.string.source.octets) }
-        ensures read { (self.now.string_started ≤ self.now.string.source.steps)
-            × (self.now.string.source.steps ≤ self.now.string_started + reading_limit (length self.now.string.source.octets)) }
-        ensures drawn { (self.now.plane_started ≤ self.now.plane.steps)
-            × (self.now.plane.steps ≤ self.now.plane_started + plane_limit self.now.string.sign (length self.now.string.source.octets)) }
+        ensures read { HasReadFew self.now }
+        ensures drawn { HasDrawnFew self.now }
     {
         (self.string.steps() - self.string_started) + (self.plane.steps() - self.plane_started)
     }
@@ -286,11 +264,8 @@ impl<'a> Pages<'a> {
     pub fn finish(self) -> (Checked<'a>, Plane)
         ensures given_back { result ≡ (self.entry.string, self.entry.plane) }
         ensures size { IsSized self.entry.plane self.entry.string.sign }
-        ensures read { (self.entry.string_started ≤ self.entry.string.source.steps)
-            × (self.entry.string.source.steps ≤ self.entry.string_started + reading_limit (length self.entry.string.source.octets)) }
-        ensures drawn { (self.entry.plane_started ≤ self.entry.plane.steps)
-            × (self.entry.plane.steps
-            ≤ self.entry.plane_started + plane_limit self.entry.string.sign (length self.entry.string.source.octets)) }
+        ensures read { HasReadFew self.entry }
+        ensures drawn { HasDrawnFew self.entry }
     {
         let Pages { string, plane, .. } = self;
         (string, plane)

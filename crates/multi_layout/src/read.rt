@@ -1,25 +1,21 @@
 //! The first reading of an area, for the table of its lines.
 
-ghost use Rattle.std.specs.Prelude.{◌≡◌, ℕ, ◌+◌, ◌-◌, ◌*◌, ◌^◌, ◌≤◌, ◌<◌, [], List, Some, length, map, slice_get, true, false, if◌then◌else◌};
-ghost use Rattle.std.specs.List.{All};
+ghost use Rattle.std.specs.Prelude.{◌≡◌, ℕ, ◌+◌, ◌-◌, ◌*◌, ◌^◌, ◌≤◌, ◌<◌, [], List, Some, length, slice_get, true, false, if◌then◌else◌};
 ghost use Rattle.multi_token.specs.Counted.{RisesBetween, charged};
 ghost use Rattle.multi_token.specs.Spelling as spelled;
 ghost use Rattle.multi_tag.specs.Just.{page_number};
 ghost use Rattle.sign_font.specs.Sound.{IsSound};
-ghost use Rattle.multi_meaning.specs.Address.{Spot};
 ghost use Rattle.multi_meaning.specs.Meaning.{begins_area, Does, has_place};
-ghost use Rattle.multi_meaning.specs.kept.Present.{present_area, IsPlacing, IsNarrowArea};
 ghost use Rattle.multi_judge.specs.declared.item.KnownItem.TheVariants as items;
 ghost use Rattle.multi_judge.specs.declared.item.KnownItem.TheVariants.{Char};
-ghost use Rattle.multi_layout.specs.kept.AreaReading.{GoesOn, IsNextRead, IsReadOf, ReadsOn};
+ghost use Rattle.multi_layout.specs.kept.AreaReading.{EndsGroup, GoesOn, IsNextRead, IsReadOf, KnowsArea, KnowsOn, ReadsOn};
 ghost use Rattle.multi_judge.specs.KnownItem.{IsOctet, meant_by};
 ghost use Rattle.multi_judge.specs.PassState.{fill_of};
 ghost use Rattle.multi_judge.specs.Run.{IsBehindCharacter};
-ghost use Rattle.multi_layout.specs.kept.AreaDrawing.{HasKnown, HasRoom, IsAreaRead, IsLow, next_group};
+ghost use Rattle.multi_layout.specs.kept.AreaDrawing.{BeginsArea, ReadsArea, next_group};
 ghost use Rattle.multi_judge.specs.State.{IsLimited, IsReady};
-ghost use Rattle.multi_judge.specs.Sums.{IsBelow, area_sum};
+ghost use Rattle.multi_judge.specs.Sums.{IsBelow};
 ghost use Rattle.multi_judge.specs.Table.{group_lines};
-ghost use Rattle.multi_layout.specs.kept.Cursors.{IsBetween, meant, LaidItem};
 ghost use Rattle.multi_layout.specs.kept.Settings.{IsBegun};
 
 use crate::cursor::{Begun, Cursor, Met, meet_known};
@@ -62,11 +58,8 @@ pub(crate) fn read_area(
 )
     requires sound { IsSound sign.now }
     requires begun { IsBegun sign.now source.old.octets cursor.now.at begun }
-    requires begins { (before behind : List LaidItem) × IsBetween sign.now source.old.octets before behind cursor.now
-        × (present_area sign.now (map meant before) ≡ []) }
-    ensures read { (before behind : List LaidItem) → IsBetween sign.now source.old.octets before behind cursor.now
-        → present_area sign.now (map meant before) ≡ []
-        → IsAreaRead sign.now before behind cursor.now begun read.new source.old source.new }
+    requires begins { BeginsArea sign.now source.old.octets cursor.now }
+    ensures read { ReadsArea sign.now source.old.octets cursor.now begun read.new source.old source.new }
 {
     read.lines.clear();
     match sign.bare.line_fill() {
@@ -87,11 +80,8 @@ fn read_lines<const WORDS: bool>(
     requires kind { sign.now.line_fill ≡ fill_of WORDS }
     requires begun { IsBegun sign.now source.old.octets cursor.now.at begun }
     requires none { (just : ℕ) → group_lines just read.old.lines ≡ [] }
-    requires begins { (before behind : List LaidItem) × IsBetween sign.now source.old.octets before behind cursor.now
-        × (present_area sign.now (map meant before) ≡ []) }
-    ensures read { (before behind : List LaidItem) → IsBetween sign.now source.old.octets before behind cursor.now
-        → present_area sign.now (map meant before) ≡ []
-        → IsAreaRead sign.now before behind cursor.now begun read.new source.old source.new }
+    requires begins { BeginsArea sign.now source.old.octets cursor.now }
+    ensures read { ReadsArea sign.now source.old.octets cursor.now begun read.new source.old source.new }
 {
     let mut at = cursor.at;
     let mut kept = Pass::new(cursor.state);
@@ -235,14 +225,9 @@ fn pass_tag<const WORDS: bool>(
 /// Puts the last line of the present group into the table, if the item belongs to a later group.
 fn leave_group(lines: &mut LineTable, item: KnownItem, state: &State)
     requires below { IsBelow (2 ^ 42) state.now.area }
-    requires known { (spots : List Spot) × All IsPlacing spots × (state.now.area ≡ area_sum spots)
-        × HasKnown state.now.area.present spots lines.old
-        × HasRoom spots × IsNarrowArea spots }
+    requires known { KnowsArea state.now.area.present state.now.area lines.old }
     requires order { has_place (meant_by item) ≡ true → state.now.area.present ≤ page_number state.now.attributes.page_just }
-    ensures known { (spots : List Spot) → All IsPlacing spots → state.now.area ≡ area_sum spots
-        → HasKnown state.now.area.present spots lines.old
-        → HasKnown (next_group state.now (meant_by item)) spots lines.new }
-    ensures low { IsLow lines.old → IsLow lines.new }
+    ensures known { KnowsOn state.now.area (next_group state.now (meant_by item)) lines.old lines.new }
 {
     if item.has_place() && state.area.present < state.attributes.page_just.number() {
         end_group(lines, &state.area);
@@ -252,11 +237,8 @@ fn leave_group(lines: &mut LineTable, item: KnownItem, state: &State)
 /// Puts the last line of the present group into the table, if it has characters.
 fn end_group(lines: &mut LineTable, area: &Area)
     requires below { IsBelow (2 ^ 42) area.now }
-    requires known { (spots : List Spot) × All IsPlacing spots × (area.now ≡ area_sum spots) × HasKnown area.now.present spots lines.old
-        × HasRoom spots × IsNarrowArea spots }
-    ensures known { (present : ℕ) (spots : List Spot) → area.now.present < present → All IsPlacing spots → area.now ≡ area_sum spots
-        → HasKnown area.now.present spots lines.old → HasKnown present spots lines.new }
-    ensures low { IsLow lines.old → IsLow lines.new }
+    requires known { KnowsArea area.now.present area.now lines.old }
+    ensures known { EndsGroup area.now lines.old lines.new }
 {
     let group = &area.group;
     if group.line.any {
@@ -267,11 +249,8 @@ fn end_group(lines: &mut LineTable, area: &Area)
 /// Ends the table of an area with its last line, if it has characters, at this offset, where this item stands, if the string goes on.
 fn end_area(read: &mut AreaLines, area: &Area, at: usize, next: Option<NextItem>)
     requires below { IsBelow (2 ^ 42) area.now }
-    requires known { (spots : List Spot) × All IsPlacing spots × (area.now ≡ area_sum spots)
-        × HasKnown area.now.present spots read.old.lines × HasRoom spots × IsNarrowArea spots }
-    ensures known { (present : ℕ) (spots : List Spot) → area.now.present < present → All IsPlacing spots → area.now ≡ area_sum spots
-        → HasKnown area.now.present spots read.old.lines → HasKnown present spots read.new.lines }
-    ensures low { IsLow read.old.lines → IsLow read.new.lines }
+    requires known { KnowsArea area.now.present area.now read.old.lines }
+    ensures known { EndsGroup area.now read.old.lines read.new.lines }
     ensures end { (read.new.end ≡ at) × (read.new.next ≡ next) }
 {
     end_group(&mut read.lines, area);

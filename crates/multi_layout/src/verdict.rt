@@ -13,11 +13,9 @@ ghost use Rattle.multi_judge.specs.PassState.{IsPassOf, fill_of};
 
 use crate::bracket::{is_bracket, read_spelled};
 use crate::checked::{Checked, Told};
-use crate::cursor::Cursor;
 use crate::fault::Fault;
-use crate::pages::draw_found;
+use crate::pages::draw_told;
 use crate::read::AreaLines;
-use crate::times::find_shown;
 use multi_judge::{Pass, State, Terms, judge_run};
 use multi_meaning::{Shown, SyntaxError};
 use multi_token::Source;
@@ -174,10 +172,8 @@ impl<'a> Judge<'a> {
     {
         match judge_string(&self.terms, source) {
             Ok(told) => {
-                let mut start = Cursor::new(&self.terms);
-                let shown = find_shown(&self.terms, source, told, clock, &mut start);
-                draw_found(&self.terms, source, shown, &mut start, colour, lines, plane);
-                Ok(shown)
+                let sign = &self.terms;
+                Ok(draw_told(sign, source, told, clock, colour, lines, plane))
             }
             Err(offence) => Err(offence),
         }

@@ -1,5 +1,5 @@
 -- The two readings of an area: one for the table of its lines, one to put its cells.
-use Rattle.std.specs.Prelude.{◌≡◌, ℕ, ◌+◌, ◌-◌, ◌*◌, ◌^◌, ◌≤◌, false, nat_lt, List, [], ◌∷◌, ◌++◌, map, length, if◌then◌else◌}
+use Rattle.std.specs.Prelude.{◌≡◌, ℕ, ◌+◌, ◌-◌, ◌*◌, ◌≤◌, false, nat_lt, List, [], ◌∷◌, ◌++◌, map, length, if◌then◌else◌}
 use Rattle.std.specs.List.{All}
 use Rattle.multi_token.specs.Counted.{Counted, RisesBetween}
 use Rattle.multi_token.specs.Spelling.{Item, spelling}
@@ -11,7 +11,7 @@ use Rattle.sign_font.specs.Sign.{SignData, tallest}
 use Rattle.multi_meaning.specs.Address.{Spot, spots, standing, in_group, lines_of, in_area}
 use Rattle.multi_meaning.specs.Drawn.{Lights, has_colour}
 use Rattle.multi_meaning.specs.Meaning.{Meaning, Shows, EndsArea, begins_area, has_place}
-use Rattle.multi_meaning.specs.kept.Present.{ended_lines}
+use Rattle.multi_meaning.specs.kept.Present.{ended_lines, present_area}
 use Rattle.multi_layout.specs.declared.cursor.Begun.{Begun}
 use Rattle.multi_layout.specs.declared.cursor.Cursor.{Cursor}
 use Rattle.multi_layout.specs.declared.paint.Layer.{Layer}
@@ -39,10 +39,6 @@ HasKnown present area table = (just : ℕ) → 2 ≤ just → just ≤ 4 → gro
 -- the table has the counted lines of each group of an area (own)
 abbrev pub HasCounted : List Spot → LineTable → Type 0
 HasCounted area table = (just : ℕ) → 2 ≤ just → just ≤ 4 → group_lines just table ≡ table_of (lines_of (in_group just area))
-
--- the bottoms of the table's lines are low enough that no sum overflows (own)
-abbrev pub IsLow : LineTable → Type 0
-IsLow table = (just : ℕ) → 2 ≤ just → just ≤ 4 → All (λ line. line.bottom ≤ 2 ^ 43) (group_lines just table)
 
 -- an area has no more counted lines than a table has room for (own)
 abbrev pub HasRoom : List Spot → Type 0
@@ -77,10 +73,20 @@ pub record IsAreaRead (sign : SignData) (before behind : List LaidItem) (cursor 
   pub end : read.end ≡ cursor.at + length (spell_of area)
   pub next : IsFirst (items_of rest) read.next
   pub table : HasCounted (whole_area sign before behind) read.lines
-  pub low : IsLow read.lines
   pub taken : ℕ
   pub steps : RisesBetween source source' 0 taken
   pub few : taken + 1 + item_steps begun.item ≤ 9 * length (spell_of area) + first_steps (items_of rest)
+
+-- an area begins at the cursor (own)
+abbrev pub BeginsArea : SignData → List ℕ → Cursor → Type 0
+BeginsArea sign octets cursor =
+    (before behind : List LaidItem) × IsBetween sign octets before behind cursor × (present_area sign (map meant before) ≡ [])
+
+-- it was read, wherever the cursor stands where it begins (own)
+abbrev pub ReadsArea : SignData → List ℕ → Cursor → Begun → AreaLines → Counted → Counted → Type 0
+ReadsArea sign octets cursor begun read source source' =
+    (before behind : List LaidItem) → IsBetween sign octets before behind cursor → present_area sign (map meant before) ≡ []
+    → IsAreaRead sign before behind cursor begun read source source'
 
 -- the plane shows what these items put on their page, of all the items of the string (own)
 abbrev pub IsDrawnTo : SignData → Layer → List Meaning → List Meaning → BitPlane → Type 0

@@ -1,18 +1,23 @@
 -- The first reading of an area, for the table of its lines (own).
-use Rattle.std.specs.Prelude.{◌≡◌, ℕ, ◌^◌, ◌≤◌, Bool, false, ◌⊎◌, List, [], ◌∷◌, ◌++◌, map, length}
+use Rattle.std.specs.Prelude.{◌≡◌, ℕ, ◌^◌, ◌<◌, ◌≤◌, Bool, false, ◌⊎◌, List, [], ◌∷◌, ◌++◌, map, length}
+use Rattle.std.specs.List.{All}
 use Rattle.multi_token.specs.Spelling.{Item}
 use Rattle.sign_font.specs.Sign.{SignData}
+use Rattle.multi_meaning.specs.Address.{Spot}
 use Rattle.multi_meaning.specs.Meaning.{meaning}
+use Rattle.multi_meaning.specs.kept.Present.{IsNarrowArea, IsPlacing}
 use Rattle.multi_meaning.specs.Verdict.{offences}
+use Rattle.multi_judge.specs.declared.area.Area.{Area}
 use Rattle.multi_judge.specs.declared.pass.Pass.{Pass}
 use Rattle.multi_judge.specs.declared.item.KnownItem.{KnownItem}
 use Rattle.multi_judge.specs.declared.state.State.{State}
 use Rattle.multi_judge.specs.declared.table.LineTable.{LineTable}
 use Rattle.multi_judge.specs.KnownItem.{meant_by}
 use Rattle.multi_judge.specs.Passed.{laid_area}
-use Rattle.multi_layout.specs.kept.AreaDrawing.{HasKnown, IsLow}
+use Rattle.multi_layout.specs.kept.AreaDrawing.{HasKnown, HasRoom}
 use Rattle.multi_judge.specs.PassState.{IsPassOf}
 use Rattle.multi_judge.specs.Run.{IsBehindCharacter, IsRunPassed}
+use Rattle.multi_judge.specs.Sums.{area_sum}
 
 -- some items of which none offends, and which a string can have (own)
 pub record AreFine (sign : SignData) (items : List Item) : Type 0 where
@@ -25,7 +30,20 @@ pub record IsReadOf (words : Bool) (sign : SignData) (items : List Item) (presen
   pub fine : AreFine sign items
   pub of : IsPassOf words sign kept (map meaning items)
   pub known : HasKnown present (laid_area words sign (map meaning items)) lines
-  pub low : IsLow lines
+
+-- the sums are those of placing items that fit, and the table has their lines that are known when items go on in this group (own)
+abbrev pub KnowsArea : ℕ → Area → LineTable → Type 0
+KnowsArea present area lines =
+    (spots : List Spot) × All IsPlacing spots × (area ≡ area_sum spots) × HasKnown present spots lines × HasRoom spots × IsNarrowArea spots
+
+-- where the old table had the lines that are known in the present group, the new one has those that are known in this group (own)
+abbrev pub KnowsOn : Area → ℕ → LineTable → LineTable → Type 0
+KnowsOn area present old new =
+    (spots : List Spot) → All IsPlacing spots → area ≡ area_sum spots → HasKnown area.present spots old → HasKnown present spots new
+
+-- so the new one has in any group behind the present one, which ends (own)
+abbrev pub EndsGroup : Area → LineTable → LineTable → Type 0
+EndsGroup area old new = (present : ℕ) → area.present < present → KnowsOn area present old new
 
 -- this is read of one more item, and none offends with it (own)
 pub record IsNextRead (sign : SignData) (items : List Item) (item : Item) (read : KnownItem) : Type 0 where

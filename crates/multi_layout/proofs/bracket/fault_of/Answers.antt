@@ -1,5 +1,4 @@
 use Rattle.std.proofs.Common.{◌≡◌, ℕ, ◌+◌, ◌-◌, ◌*◌, length, List, Err, refl, ap, subst, ◌∙◌, arith}
-use Rattle.std.specs.Prelude.{IfOk}
 use Rattle.multi_token.specs.Counted.{Counted, RisesBetween, charged}
 use Rattle.multi_token.specs.declared.token.Bracketed.{Bracketed}
 use Rattle.multi_token.specs.declared.token.Bracketed.TheVariants as bracketed
@@ -7,7 +6,6 @@ use Rattle.multi_token.specs.declared.token.Kind.TheVariants as kinds
 use Rattle.multi_token.specs.declared.token.Token.{Token}
 use Rattle.multi_token.specs.Tokens.{IsBracketed, body_of, octets_of}
 use Rattle.multi_token.proofs.StepLemmas.{rises_then, rises_more}
-use Rattle.multi_tag.specs.Body.{Spells}
 use Rattle.multi_tag.specs.TagOf.{tag_of}
 use Rattle.multi_tag.proofs.TagOfLemmas.{tag_of-read}
 use Rattle.multi_meaning.proofs.ItemAtLemmas.{fault_at}
@@ -33,18 +31,4 @@ returns-in-Err-clause-fault c =
 
 pub returns-in-Err-clause-steps : goal.returns-in-Err-clause-steps
 returns-in-Err-clause-steps c =
-    steps_of c.args.source.now c.read_bracket.new.source c.read_tag.new.source c.args.at c.in-Ok-Tag.len c.in-Ok-Tag.field-0 c.in-Ok-Tag.field-0-is c.in-Ok-Tag.ensures.spelled c.in-Ok-Tag.ensures.steps c.read_tag.ensures.steps
-
-pub returns-in-Ok-clause-fault : goal.returns-in-Ok-clause-fault
-returns-in-Ok-clause-fault c =
-    let token : Token = record { at = c.args.at; len = c.in-Ok-Tag.len + 2; kind = kinds.Tag } in
-    let same = ap (λ (s : Counted). s.octets) c.in-Ok-Tag.ensures.steps in
-    let spells = subst (λ r. IfOk r (Spells (body_of c.read_bracket.new.source.octets token))) c.in-Ok.is c.read_tag.ensures.spelled in
-    absurd (c.requires.none _ (c.in-Ok-Tag.len + 2) (
-      record { is = subst (IsBracketed c.args.source.now.octets c.args.at 91) c.in-Ok-Tag.field-0-is c.in-Ok-Tag.ensures.spelled; kind = refl },
-      subst (λ (os : List ℕ). Spells (body_of os token) c.in-Ok.field-0) same spells,
-    ))
-
-pub returns-in-Ok-clause-steps : goal.returns-in-Ok-clause-steps
-returns-in-Ok-clause-steps c =
     steps_of c.args.source.now c.read_bracket.new.source c.read_tag.new.source c.args.at c.in-Ok-Tag.len c.in-Ok-Tag.field-0 c.in-Ok-Tag.field-0-is c.in-Ok-Tag.ensures.spelled c.in-Ok-Tag.ensures.steps c.read_tag.ensures.steps

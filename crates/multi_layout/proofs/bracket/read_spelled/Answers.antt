@@ -19,11 +19,6 @@ returns-then-bracket-eq93-clause-fault c =
     let other = λ (next : slice_get octets (c.args.at + 1) ≡ Some 93). read_not c.read.result c.args.bracket (sym c.if-eq.false ∙ c.eq.ensures) (c.read.ensures.octet ∙ next ∙ ap Some (sym c.if-bracket-eq93.true)) in
     inl (none_closing octets c.args.at (c.requires.stands ∙ ap Some c.if-bracket-eq93.true) other, refl)
 
-pub returns-then-bracket-eq93-clause-fault_steps : goal.returns-then-bracket-eq93-clause-fault_steps
-returns-then-bracket-eq93-clause-fault_steps c =
-    let within = slice_get_within c.args.source.now.octets c.args.at c.args.bracket c.requires.stands in
-    (1, omega arith, omega (arith, within), c.read.ensures.step)
-
 pub returns-in-Some-clause-item : goal.returns-in-Some-clause-item
 returns-in-Some-clause-item c =
     rw c.said.ensures.meant (tag_at c.args.source.now.octets c.args.at c.in-Some.tag c.in-Some.len (subst (λ (os : List ℕ). IsTagAt os c.args.at c.in-Some.tag c.in-Some.len) (ap (λ (s : Counted). s.octets) c.read.ensures.step) c.in-Some.ensures.some))

@@ -88,9 +88,6 @@ draw_next-first-requires-clause-known c =
     (λ earlier behind x counted. laid_first c.args.read.now.lines c.in-Item.next c.lay-next.result earlier behind x counted (c.in-Item.ensures.met.1 (items_of earlier) (items_of behind) (subst (λ o. IsPlaced sign o (items_of earlier) (items_of behind) c.loop-cursor.cursor.at) (sym same) x.placed)) (c.lay-next.ensures.read octets)) in
     (before ++ s.done, more, rest, item, subst (λ o. IsNextDrawn sign o (before ++ s.done) more rest item c.lay-next.result c.args.read.now (record { at = c.loop-cursor.cursor.at; state = c.meet.new.state })) (sym read_same) n)
 
-pub loop-cursor-smaller : goal.loop-cursor-smaller
-loop-cursor-smaller c = omega (arith, c.loop-cursor-test.true, c.draw_next-first.ensures.forward, c.lay-next.ensures.len, c.in-Item.ensures.some)
-
 pub loop-cursor-preserved : goal.loop-cursor-preserved
 loop-cursor-preserved c =
     let i = c.loop-cursor.invariant in

@@ -19,10 +19,9 @@ use Rattle.multi_judge.specs.KnownItem.{meant_by}
 use Rattle.multi_layout.specs.kept.AreaDrawing.{HasCounted, IsDrawnTo}
 use Rattle.multi_layout.specs.kept.RunDrawing.{NextStandsAt}
 use Rattle.multi_layout.proofs.BesideLemmas.{beside_stands, same_standing}
-use Rattle.multi_layout.proofs.DrawLemmas.{low_between, cell_height, glyph_drawn, map_split, four_octets, tag_drawn, rows_few, tag_filled}
+use Rattle.multi_layout.proofs.DrawLemmas.{low_between, cell_height, glyph_drawn, map_split, four_octets, tag_drawn, rows_few, tag_filled, stands_at}
 use Rattle.multi_judge.proofs.BoundLemmas.{below_more}
 use Rattle.multi_judge.proofs.JudgedLemmas.{unsized-undefined}
-use Rattle.multi_layout.proofs.PaintLemmas.{stands_at}
 use Rattle.multi_layout.proofs.PieceLemmas.{itself}
 use Rattle.multi_layout.proofs.WalkLemmas.{never_offends}
 use Rattle.multi_layout.proofs.draw.draw_item.Goals as goal
@@ -39,13 +38,13 @@ unreachable-requires c =
     let wrong : ◌≡◌ {A = Option ℕ} (Some 7) None = sym offends ∙ ap (unsized_offence sign (map meant before)) (sym shows) ∙ fine in
     cc
 
-pub place_at-place-requires-clause-below : goal.place_at-place-requires-clause-below
-place_at-place-requires-clause-below c =
+pub place_at-place-requires : goal.place_at-place-requires
+place_at-place-requires c =
     let (before, rest, item, h) = c.requires.known in
     let found : cell_in c.args.sign.now c.args.cursor.now.state.attributes.font.number c.in-Char.number ≡ Some c.in-Some.cell = rw (← c.sign.view_is) (sym c.cell.ensures.cell ∙ c.in-Some.is) in
     let new = c.pass_character.ensures.passed c.args.sign.now c.args.source.now.octets (ap (option_map (λ (c : SizedCell). c.width)) found ∙ ap Some (sym c.width-width.ensures)) before rest item h.between
     (record { meant = h.read_is.meant ∙ ap meant_by c.in-Char.is; len = h.read_is.len }) in
-    below_more (2 ^ 42) (2 ^ 43) c.pass_character.new.self.state.area (omega arith) (low_between c.args.sign.now c.args.source.now.octets (before ++ item ∷ []) rest c.pass_character.new.self new)
+    record { below = below_more (2 ^ 42) (2 ^ 43) c.pass_character.new.self.state.area (omega arith) (low_between c.args.sign.now c.args.source.now.octets (before ++ item ∷ []) rest c.pass_character.new.self new) }
 
 pub returns-in-Some-clause-passed : goal.returns-in-Some-clause-passed
 returns-in-Some-clause-passed c = λ before rest item b read.

@@ -12,7 +12,7 @@ use Rattle.multi_layout.specs.kept.Settings.{IsBegun, item_steps}
 use Rattle.multi_layout.proofs.AreaDrawLemmas.{filled_longer, filled_none, filled_then}
 use Rattle.multi_layout.proofs.DrawLemmas.{four_octets}
 use Rattle.multi_layout.proofs.PageDrawLemmas.{area_no_page, first_ends, first_filled, if_same, last_passed, more_filled, new_page_is, no_less, one_place, page_begins, page_filled, page_goes_on, page_passed, page_shown, rises_far, same_pages, string_end, string_more}
-use Rattle.multi_layout.proofs.PageLoopLemmas.{area_here, area_known, behind_settings, next_area, round}
+use Rattle.multi_layout.proofs.PageLoopLemmas.{area_known, behind_settings, next_area, round}
 use Rattle.multi_layout.proofs.PieceLemmas.{begins_tag, itself, no_piece}
 use Rattle.multi_layout.proofs.WalkLemmas.{same_octets, stands_in, within_between}
 use Rattle.multi_layout.proofs.draw.draw_page.Goals as goal
@@ -55,8 +55,7 @@ draw_area-requires c =
     let (before, behind, b, begins) = c.requires.begins in
     let s = behind_settings (i.so_far before behind b) (same_octets i.steps.3) c.pass_settings-begun.new.self c.pass_settings-begun.ensures.passed in
     let same = same_octets c.pass_settings-begun.ensures.steps.3 ∙ same_octets i.steps.3 in
-    let read = area_here s same c.read_area.ensures.read in
-    record { known = area_known s same c.read_area.ensures.read; low = read.low; size = search rules }
+    record { known = area_known s same c.read_area.ensures.read; size = search rules }
 
 pub returns-in_default : goal.returns-in_default
 returns-in_default c =

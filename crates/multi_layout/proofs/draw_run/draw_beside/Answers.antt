@@ -111,13 +111,5 @@ loop-at-preserved c =
           (rows_few sign c.loop-at.plane c.put_character.new.plane 1 c.in-Some-cell.cell.height (omega arith) tall c.put_character.ensures.counted c.put_character.ensures.steps c.put_character.ensures.width c.put_character.ensures.height));
     }
 
-pub returns-clause-forward : goal.returns-clause-forward
-returns-clause-forward c =
-    let i = c.loop-at.invariant in
-    let (before, area, rest, h) = c.requires.known in
-    let r = i.so_far before area rest h in
-    let within = within_between c.args.sign.now c.args.source.now.octets (before ++ r.so_far.done) (r.so_far.left ++ rest) _ r.so_far.between in
-    (i.forward, omega (arith, within, h.between.placed.accepted.short), i.least, i.most)
-
 pub returns-clause-so_far : goal.returns-clause-so_far
 returns-clause-so_far c = λ before area rest h. (c.loop-at.invariant.so_far before area rest h).so_far

@@ -1,24 +1,8 @@
-use Rattle.std.proofs.Common.{[], inl, refl, sym, arith}
-use Rattle.multi_token.specs.Reading.{reading}
-use Rattle.multi_token.proofs.StepLemmas.{charged-zero}
-use Rattle.multi_layout.proofs.LocateLemmas.{clock_of, passing_in, skipped_in}
+use Rattle.std.proofs.Common.{arith}
+use Rattle.multi_layout.proofs.LocateLemmas.{skipped_in}
 use Rattle.multi_layout.proofs.PagesLemmas.{page_starts, passes_whole, way_on}
 use Rattle.multi_layout.proofs.WalkLemmas.{same_octets}
 use Rattle.multi_layout.proofs.pages.page_start.Goals as goal
-
-pub loop-cursor-init : goal.loop-cursor-init
-loop-cursor-init c =
-    let octets = c.args.source.now.octets in
-    let p = c.new-cursor.ensures.start.passing octets (reading octets).items c.requires.accepted in
-    record {
-      way = record { before = []; behind = (reading octets).items; between = p; begins = inl refl; few = omega (arith, (clock_of p).pages) };
-      steps = (0, omega arith, omega arith, sym (charged-zero c.args.source.now));
-    }
-
-pub pass_page-requires : goal.pass_page-requires
-pass_page-requires c =
-    let i = c.loop-cursor.invariant in
-    (i.way.before, i.way.behind, passing_in (same_octets i.steps.3) i.way.between)
 
 pub loop-cursor-smaller : goal.loop-cursor-smaller
 loop-cursor-smaller c =
@@ -43,6 +27,3 @@ pub returns-clause-begins : goal.returns-clause-begins
 returns-clause-begins c =
     let w = c.loop-cursor.invariant.way in
     page_starts c.args.sign.now c.args.source.now.octets w.before w.behind c.loop-cursor.cursor w.between w.begins c.requires.orderly
-
-pub returns-clause-page : goal.returns-clause-page
-returns-clause-page c = omega (arith, c.loop-cursor.invariant.way.few, c.loop-cursor-test.false)

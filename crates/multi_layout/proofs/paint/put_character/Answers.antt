@@ -2,7 +2,7 @@ use Rattle.std.proofs.Common.{◌==◌, sym, ap, ◌∙◌}
 use Rattle.sign_font.specs.Sign.{cell_in}
 use Rattle.multi_meaning.specs.Picture.{is_lit_at, shown_colour}
 use Rattle.multi_judge.specs.declared.attributes.Attributes.{Attributes}
-use Rattle.multi_layout.proofs.PaintLemmas.{lit_drawn, dark_drawn}
+use Rattle.multi_layout.proofs.DrawLemmas.{lit_drawn, dark_drawn}
 use Rattle.multi_layout.proofs.paint.put_character.Goals as goal
 
 pub returns-else-is_lit-clause-drawn : goal.returns-else-is_lit-clause-drawn

@@ -23,21 +23,21 @@ leave_group-requires-clause-order g c =
 pub pass_shown-requires-clause-known : goal.pass_shown-requires-clause-known
 pass_shown-requires-clause-known g c =
     let (before, item, r, next) = c.requires.known in
-    let r' = group_left r (meant_by c.args.item) c.leave_group.new.lines c.leave_group.ensures.known c.leave_group.ensures.low in
+    let r' = group_left r (meant_by c.args.item) c.leave_group.new.lines c.leave_group.ensures.known in
     (before, item, subst (λ k. IsReadOf (not (g.row.WORDS == 0)) c.args.sign.now before (next_group c.args.kept.now.state (meant_by k)) c.args.kept.now c.leave_group.new.lines) c.in-Char.is r', subst (IsNextRead c.args.sign.now before item) c.in-Char.is next)
 
 pub returns-in-Char-clause-known : goal.returns-in-Char-clause-known
 returns-in-Char-clause-known g c = λ before item r next.
-    let r' = group_left r (meant_by c.args.item) c.leave_group.new.lines c.leave_group.ensures.known c.leave_group.ensures.low in
+    let r' = group_left r (meant_by c.args.item) c.leave_group.new.lines c.leave_group.ensures.known in
     c.pass_shown.ensures.known before item (subst (λ k. IsReadOf (not (g.row.WORDS == 0)) c.args.sign.now before (next_group c.args.kept.now.state (meant_by k)) c.args.kept.now c.leave_group.new.lines) c.in-Char.is r') (subst (IsNextRead c.args.sign.now before item) c.in-Char.is next)
 
 pub pass_tag-requires-clause-known : goal.pass_tag-requires-clause-known
 pass_tag-requires-clause-known g c =
     let (before, item, r, next) = c.requires.known in
-    let r' = group_left r (meant_by c.args.item) c.leave_group.new.lines c.leave_group.ensures.known c.leave_group.ensures.low in
+    let r' = group_left r (meant_by c.args.item) c.leave_group.new.lines c.leave_group.ensures.known in
     (before, item, subst (λ k. IsReadOf (not (g.row.WORDS == 0)) c.args.sign.now before (next_group c.args.kept.now.state (meant_by k)) c.args.kept.now c.leave_group.new.lines) c.in-Tag.is r', subst (IsNextRead c.args.sign.now before item) c.in-Tag.is next)
 
 pub returns-in-Tag-clause-known : goal.returns-in-Tag-clause-known
 returns-in-Tag-clause-known g c = λ before item r next.
-    let r' = group_left r (meant_by c.args.item) c.leave_group.new.lines c.leave_group.ensures.known c.leave_group.ensures.low in
+    let r' = group_left r (meant_by c.args.item) c.leave_group.new.lines c.leave_group.ensures.known in
     c.pass_tag.ensures.known before item (subst (λ k. IsReadOf (not (g.row.WORDS == 0)) c.args.sign.now before (next_group c.args.kept.now.state (meant_by k)) c.args.kept.now c.leave_group.new.lines) c.in-Tag.is r') (subst (IsNextRead c.args.sign.now before item) c.in-Tag.is next)

@@ -2,8 +2,7 @@ use Rattle.std.proofs.Common.{◌≡◌, ℕ, Option, None, Some, map, refl, sym
 use Rattle.sign_font.specs.Sign.{cell_in}
 use Rattle.multi_meaning.specs.Meaning.{meaning}
 use Rattle.multi_judge.proofs.PassLemmas.{pass_undefined}
-use Rattle.multi_layout.proofs.AreaReadLemmas.{next_fine, read_ready}
-use Rattle.multi_layout.proofs.AreaStepLemmas.{step_closed, step_ended, step_just, step_last, step_narrow, step_room, step_stays}
+use Rattle.multi_layout.proofs.AreaReadLemmas.{next_fine, read_ready, step_closed, step_ended, step_just, step_last, step_narrow, step_room, step_stays}
 use Rattle.multi_judge.proofs.RunReadLemmas.{no_cell}
 use Rattle.multi_layout.proofs.read.pass_shown.Goals as goal
 
@@ -39,7 +38,7 @@ push-requires g c =
 pub returns-in-Some-pass_cell-clause-known : goal.returns-in-Some-pass_cell-clause-known
 returns-in-Some-pass_cell-clause-known g c = λ before item r next.
     let (b, on) = c.pass_cell.ensures.passed c.args.sign.now (map meaning before) r.of (rw (← c.sign.view_is) (sym c.cell_width.ensures.width ∙ c.in-Some.is)) (next_fine next) in
-    step_ended c.requires.sound r next b refl c.in-Some-pass_cell.line c.in-Some-pass_cell.is c.of.result c.push.new.self c.of.ensures.entry c.of.ensures.bottom c.push.ensures.pushed
+    step_ended c.requires.sound r next b refl c.in-Some-pass_cell.line c.in-Some-pass_cell.is c.of.result c.push.new.self c.of.ensures.entry c.push.ensures.pushed
 
 pub returns-in_default-pass_cell-clause-known : goal.returns-in_default-pass_cell-clause-known
 returns-in_default-pass_cell-clause-known g c = λ before item r next.

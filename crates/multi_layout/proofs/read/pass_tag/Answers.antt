@@ -5,8 +5,7 @@ use Rattle.multi_meaning.specs.Codes.{code_of}
 use Rattle.multi_meaning.specs.Meaning.{Does, meaning}
 use Rattle.multi_judge.specs.PassState.{IsItemJudged}
 use Rattle.multi_judge.specs.KnownItem.{ends_line}
-use Rattle.multi_layout.proofs.AreaReadLemmas.{next_fine, read_below, read_ready}
-use Rattle.multi_layout.proofs.AreaStepLemmas.{step_closed, step_ended, step_just, step_last, step_narrow, step_room, step_stays, tag_ends, tag_group, tag_stays}
+use Rattle.multi_layout.proofs.AreaReadLemmas.{next_fine, read_below, read_ready, step_closed, step_ended, step_just, step_last, step_narrow, step_room, step_stays, tag_ends, tag_group, tag_stays}
 use Rattle.multi_judge.proofs.KnownStepLemmas.{ends_not}
 use Rattle.multi_layout.proofs.read.pass_tag.Goals as goal
 
@@ -51,7 +50,7 @@ returns-in-NewLine-clause-known g c = λ before item r next.
     let ends = ap (λ (t : Tag). ends_line (Does t)) c.in-NewLine.is in
     let b = tag_ends (not (g.row.WORDS == 0)) c.args.sign.now (map meaning before) c.args.kept.now c.judge_tag.new.self c.args.tag r.of (next_fine next) of' ends c.group_for-group.result c.group_for-group.ensures.sum in
     let own = tag_group (not (g.row.WORDS == 0)) c.args.sign.now (map meaning before) c.args.kept.now c.judge_tag.new.self c.args.tag r.of (next_fine next) of' ends in
-    step_ended c.requires.sound r next b own c.group_for-group.result.line refl c.of.result c.push.new.self c.of.ensures.entry c.of.ensures.bottom c.push.ensures.pushed
+    step_ended c.requires.sound r next b own c.group_for-group.result.line refl c.of.result c.push.new.self c.of.ensures.entry c.push.ensures.pushed
 
 pub returns-in_default-tag : goal.returns-in_default-tag
 returns-in_default-tag g c = record {

@@ -8,7 +8,7 @@ use Rattle.multi_layout.specs.kept.Settings.{item_steps}
 use Rattle.multi_layout.proofs.AreaLinesLemmas.{all_counted, area_ended, area_read, met_stays, no_more, none_ends, none_known, nothing_read, placed_in, read_on, setting_read, so_advances, so_met, so_next, so_read, steps_on, steps_set}
 use Rattle.multi_layout.proofs.AreaReadLemmas.{read_below, read_lines, read_ready, read_state}
 use Rattle.multi_judge.proofs.PassLemmas.{limited_of}
-use Rattle.multi_layout.proofs.RunLinesLemmas.{gone_forward, gone_within, ready_state, went_on}
+use Rattle.multi_layout.proofs.RunLinesLemmas.{gone_forward, ready_state, went_on}
 use Rattle.multi_layout.proofs.WalkLemmas.{same_octets}
 use Rattle.multi_layout.proofs.read.read_lines.Goals as goal
 
@@ -39,7 +39,7 @@ returns-in_default g c =
           let none = no_more so (sym i.first ∙ c.in_default.is) in
           let (known, last) = none_known so none c.loop-first.item i.item in
           let counted = all_counted so c.requires.sound c.end_area.new.read.lines c.end_area.ensures.known in
-          area_read so c.requires.kind c.args.cursor.now c.args.begun c.end_area.new.read c.args.source.now c.loop-first.source i.taken b.placed.place (none_ends so none) counted (c.end_area.ensures.low so.read.low)
+          area_read so c.requires.kind c.args.cursor.now c.args.begun c.end_area.new.read c.args.source.now c.loop-first.source i.taken b.placed.place (none_ends so none) counted
           c.end_area.ensures.end.0 (subst (λ n. IsFirst (items_of so.left) n) (sym c.end_area.ensures.end.1) none) i.steps (omega (arith, i.few, known, last));
     }
 
@@ -106,7 +106,7 @@ returns-then-begins_area g c =
           let (ends, last) = area_ended so' c.in-Item.next first (sym c.begins_area.ensures ∙ c.if-begins_area.true) in
           let counted = all_counted so' c.requires.sound c.end_area-then-begins_area.new.read.lines c.end_area-then-begins_area.ensures.known in
           let steps = rises_then c.args.source.now c.loop-first.source c.meet_known.new.source 0 i.taken 0 _ i.steps c.in-Item.ensures.steps in
-          area_read so' c.requires.kind c.args.cursor.now c.args.begun c.end_area-then-begins_area.new.read c.args.source.now c.meet_known.new.source _ b.placed.place ends counted (c.end_area-then-begins_area.ensures.low so.read.low)
+          area_read so' c.requires.kind c.args.cursor.now c.args.begun c.end_area-then-begins_area.new.read c.args.source.now c.meet_known.new.source _ b.placed.place ends counted
           c.end_area-then-begins_area.ensures.end.0 (subst (λ n. IsFirst (items_of so.left) n) (sym c.end_area-then-begins_area.ensures.end.1) first) steps
           (omega (arith, i.few, last, c.in-Item.ensures.known, c.in-Item.ensures.some));
     }
@@ -117,14 +117,6 @@ pass_item-requires-clause-known g c =
     let (before, behind, b, begins) = c.requires.begins in
     let (so, n) = so_met (i.so_far before behind b begins) (same_octets i.steps.3) c.in-Item.next c.meet_known.new.state c.in-Item.ensures.met in
     (items_of (before ++ so.pieces), n.piece.item, so.read, so_next so n)
-
-pub overflow_add-behind : goal.overflow_add-behind
-overflow_add-behind g c =
-    let i = c.loop-first.invariant in
-    let (before, behind, b, begins) = c.requires.begins in
-    let (so, n) = so_met (i.so_far before behind b begins) (same_octets i.steps.3) c.in-Item.next c.meet_known.new.state c.in-Item.ensures.met in
-    let on = so_advances so n (c.loop-first.at + c.in-Item.next.len) refl in
-    omega (arith, on, b.placed.accepted.short)
 
 pub go_on-requires : goal.go_on-requires
 go_on-requires g c =
@@ -139,17 +131,6 @@ go_on-requires g c =
       behind = λ is off. c.pass_item.ensures.behind (c.is_octet.ensures.octet is) off;
       within = omega (arith, (so_advances so n (c.loop-first.at + c.in-Item.next.len) refl).1, ap length octets);
     }
-
-pub loop-first-smaller : goal.loop-first-smaller
-loop-first-smaller g c =
-    let i = c.loop-first.invariant in
-    let (before, behind, b, begins) = c.requires.begins in
-    let (so, n) = so_met (i.so_far before behind b begins) (same_octets i.steps.3) c.in-Item.next c.meet_known.new.state c.in-Item.ensures.met in
-    let octets : c.pass_item.new.source.octets ≡ c.args.source.now.octets = same_octets c.pass_item.ensures.steps.3 ∙ same_octets c.in-Item.ensures.steps.3 ∙ same_octets i.steps.3 in
-    let at = c.loop-first.at + c.in-Item.next.len in
-    let on = gone_forward at c.go_on.result.0 c.pass_item.new.kept c.go_on.new.kept c.go_on.ensures.gone in
-    let within = gone_within {octets = c.pass_item.new.source.octets} at c.go_on.result.0 c.pass_item.new.kept c.go_on.new.kept c.go_on.ensures.gone (omega (arith, (so_advances so n at refl).1, ap length octets)) in
-    omega (arith, on, within, c.in-Item.ensures.some, ap length octets)
 
 pub loop-first-preserved : goal.loop-first-preserved
 loop-first-preserved g c =

@@ -2,7 +2,7 @@ use Rattle.std.proofs.Common.{[], ◌++◌, Some, inl, refl, sym, ap, ◌∙◌,
 use Rattle.std.specs.Prelude.{◌==◌}
 use Rattle.multi_token.specs.Reading.{reading}
 use Rattle.multi_token.proofs.StepLemmas.{charged-zero, rises_more}
-use Rattle.multi_layout.proofs.LocateLemmas.{clock_of, page_here, passing_in, searched_on, shown_here, skipped_in}
+use Rattle.multi_layout.proofs.LocateLemmas.{clock_of, page_here, searched_on, shown_here, skipped_in}
 use Rattle.multi_layout.proofs.PagesLemmas.{at_most, page_starts, passes_page, passes_whole, starts_shown}
 use Rattle.multi_layout.proofs.WalkLemmas.{same_octets, within}
 use Rattle.multi_layout.proofs.times.find_page.Goals as goal
@@ -15,18 +15,6 @@ loop-shown-init c =
       searched = record { before = []; behind = (reading octets).items; between = p; begins = inl refl; whole = refl; began = omega (arith, (clock_of p).times) };
       steps = (0, omega arith, omega arith, sym (charged-zero c.args.source.now));
     }
-
-pub pass_page-requires : goal.pass_page-requires
-pass_page-requires c =
-    let i = c.loop-shown.invariant in
-    let s = i.searched in
-    (s.before, s.behind, passing_in (same_octets i.steps.3) s.between)
-
-pub shown_in-requires-clause-some : goal.shown_in-requires-clause-some
-shown_in-requires-clause-some c = omega (arith, (clock_of c.loop-shown.invariant.searched.between).pages)
-
-pub shown_in-requires-clause-began : goal.shown_in-requires-clause-began
-shown_in-requires-clause-began c = c.loop-shown.invariant.searched.began
 
 pub returns-in-Some : goal.returns-in-Some
 returns-in-Some c =

@@ -15,9 +15,6 @@ checked sign octets pages cycle source short told =
       subst (λ (o : List ℕ). length o < 2 ^ 32) kept short,
     )
 
-pub invariant_of-result : goal.invariant_of-result
-invariant_of-result c = checked c.new-terms.result c.args.source.octets _ _ c.judge_string.new.source c.requires.short c.in-Ok.ensures.told
-
 pub returns-in-Ok-clause-accepted : goal.returns-in-Ok-clause-accepted
 returns-in-Ok-clause-accepted c =
     (c.in-Ok.told.pages, subst (λ (s : SignData). IsVerdict s c.args.source.octets (Accepted c.in-Ok.told.pages)) c.new-terms.ensures c.in-Ok.ensures.told.verdict)

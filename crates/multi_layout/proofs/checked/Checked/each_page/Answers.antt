@@ -2,7 +2,7 @@ use Rattle.std.proofs.Common.{refl}
 use Rattle.multi_token.specs.Reading.{reading}
 use Rattle.multi_meaning.proofs.AcceptedLemmas.{accepted_orderly, accepted_is}
 use Rattle.multi_layout.specs.kept.Cursors.{pieces_of}
-use Rattle.multi_layout.proofs.PagesTurnLemmas.{under_way_first}
+use Rattle.multi_layout.proofs.PagesLemmas.{under_way_first}
 use Rattle.multi_layout.proofs.checked.Checked.each_page.Goals as goal
 
 pub invariant_of-result : goal.invariant_of-result

@@ -1,4 +1,4 @@
-use Rattle.std.proofs.Common.{rules, ℕ, ◌+◌, ◌-◌, ◌*◌, ◌++◌, ◌∷◌, [], cond, sym, ap, subst, refl, ◌∙◌, slice_get, arith}
+use Rattle.std.proofs.Common.{rules, ℕ, ◌+◌, ◌-◌, ◌*◌, ◌++◌, cond, sym, ap, subst, refl, ◌∙◌, slice_get, arith}
 use Rattle.std.proofs.lemmas.Bool.{eq-eqb}
 use Rattle.multi_token.specs.Counted.{RisesBetween}
 use Rattle.multi_token.proofs.StepLemmas.{charged-zero, rises_more, rises_then}
@@ -93,31 +93,6 @@ returns-then-ends_page-clause-steps c =
     let item = rises_then start c.read.new.self c.meet.new.source 0 _ 0 _ one c.in-Item.ensures.steps in
     let all = rises_then start c.meet.new.source c.skip.new.source 0 _ 0 1 item c.skip.ensures.steps in
     rises_more start c.skip.new.source 0 _ _ (omega (arith, i.on, c.skip.ensures.at, c.in-Item.ensures.some)) all
-
-pub skip_text-requires : goal.skip_text-requires
-skip_text-requires c =
-    let i = c.loop-first.invariant in
-    let (before, behind, p) = c.requires in
-    let s = i.way before behind p in
-    let read = same_octets c.read.ensures.step ∙ same_octets i.steps.3 in
-    let (same, is) = c.in-Item.ensures.met in
-    let s' = met_in p s c.meet.new.state same in
-    let first = first_here p s' read c.in-Item.next is in
-    let met = same_octets c.in-Item.ensures.steps.3 ∙ read in
-    let b = passes_here p s' first met c.skip.ensures.passed in
-    ((before ++ s'.passed.text) ++ first.0 ∷ [], first.1, passing_in (same_octets c.skip.ensures.steps.3 ∙ met) b)
-
-pub loop-first-smaller : goal.loop-first-smaller
-loop-first-smaller c =
-    let i = c.loop-first.invariant in
-    let (before, behind, p) = c.requires in
-    let s = i.way before behind p in
-    let read = same_octets c.read.ensures.step ∙ same_octets i.steps.3 in
-    let (same, is) = c.in-Item.ensures.met in
-    let s' = met_in p s c.meet.new.state same in
-    let first = first_here p s' read c.in-Item.next is in
-    let fits = room c.args.sign.now c.args.source.now.octets (before ++ s'.passed.text) first.1 first.0 c.loop-first.self.at (stands p s' first).placed in
-    omega (arith, fits, first.3.len, c.in-Item.ensures.some, c.skip.ensures.at, c.skip_text.ensures.on)
 
 pub loop-first-preserved : goal.loop-first-preserved
 loop-first-preserved c =

@@ -2,7 +2,7 @@ use Rattle.std.proofs.Common.{rules, ◌≡◌, ◌+◌, ◌++◌, length, slice
 use Rattle.multi_token.proofs.StepLemmas.{charged-zero, rises_more, rises_then}
 use Rattle.multi_layout.specs.declared.cursor.Met.TheVariants.{Setting}
 use Rattle.multi_layout.specs.kept.Settings.{IsMet}
-use Rattle.multi_layout.proofs.SettingPassLemmas.{none_passed, one_more}
+use Rattle.multi_layout.proofs.SettingLemmas.{none_passed, one_more}
 use Rattle.multi_layout.proofs.WalkLemmas.{ready_between, same_octets, stands_in, within_between}
 use Rattle.multi_layout.proofs.cursor.Cursor.pass_settings.Goals as goal
 
@@ -29,15 +29,6 @@ overflow_add-self c =
     let met = subst (λ o. IsMet c.args.sign.now o c.loop-first.self.at c.loop-first.self.state (Setting c.in-Setting.len) c.meet.new.state) (same_octets i.steps.3) c.in-Setting.ensures.met in
     let t = one_more s c.in-Setting.len c.meet.new.state met in
     omega (arith, within_between c.args.sign.now c.read-first.new.self.octets (before ++ t.settings) t.rest _ t.between, ap length (same_octets c.read-first.ensures.step), b.placed.accepted.short)
-
-pub loop-first-smaller : goal.loop-first-smaller
-loop-first-smaller c =
-    let i = c.loop-first.invariant in
-    let (before, behind, b) = c.requires in
-    let s = i.way before behind (stands_in (same_octets c.read-first.ensures.step) b) in
-    let met = subst (λ o. IsMet c.args.sign.now o c.loop-first.self.at c.loop-first.self.state (Setting c.in-Setting.len) c.meet.new.state) (same_octets i.steps.3) c.in-Setting.ensures.met in
-    let t = one_more s c.in-Setting.len c.meet.new.state met in
-    omega (arith, within_between c.args.sign.now c.read-first.new.self.octets (before ++ t.settings) t.rest _ t.between, c.in-Setting.ensures.some)
 
 pub loop-first-preserved : goal.loop-first-preserved
 loop-first-preserved c =

@@ -1,14 +1,13 @@
 use Rattle.std.proofs.Common.{◌≡◌, ◌+◌, ◌*◌, [], ◌∷◌, ◌++◌, length, map, not, sym, ap, subst, ◌∙◌}
 use Rattle.std.proofs.lemmas.Bool.{not-false}
 use Rattle.multi_tag.specs.declared.tag.Tag.TheVariants.{NewLine}
-use Rattle.multi_meaning.specs.Meaning.{Does, Meaning, has_place}
+use Rattle.multi_meaning.specs.Meaning.{Does, Meaning}
 use Rattle.multi_meaning.specs.Offence.{unsized_offence}
 use Rattle.multi_layout.specs.kept.Cursors.{meant}
 use Rattle.multi_judge.specs.KnownItem.{meant_by}
 use Rattle.multi_judge.specs.State.{IsStateOf}
 use Rattle.multi_judge.proofs.JudgedLemmas.{state-limits}
 use Rattle.multi_judge.proofs.PlacingLemmas.{break-accepted, break-free}
-use Rattle.multi_layout.proofs.SkipLemmas.{tag_unplaced}
 use Rattle.multi_layout.proofs.WalkLemmas.{between_more, never_offends, ready_between}
 use Rattle.multi_layout.proofs.cursor.Cursor.pass_tag.Goals as goal
 
@@ -37,9 +36,6 @@ pub skip_tag-requires-clause-ready : goal.skip_tag-requires-clause-ready
 skip_tag-requires-clause-ready c =
     let (before, rest, item, b, read) = c.requires.before in
     ready_between c.args.sign.now c.args.source.now.octets before (item ∷ rest) c.args.self.now b
-
-pub skip_tag-requires-clause-unplaced : goal.skip_tag-requires-clause-unplaced
-skip_tag-requires-clause-unplaced c = ap (λ i. has_place (meant_by i)) c.in-Tag.is ∙ tag_unplaced c.in-Tag.tag c.in_default-tag.not-NewLine
 
 pub skip_tag-requires-clause-fine : goal.skip_tag-requires-clause-fine
 skip_tag-requires-clause-fine c =

@@ -1,7 +1,7 @@
-use Rattle.std.proofs.Common.{map, refl, sym, ◌∙◌}
+use Rattle.std.proofs.Common.{map, sym, ◌∙◌}
 use Rattle.multi_meaning.specs.Meaning.{meaning}
 use Rattle.multi_layout.specs.kept.Passing.{unplaced}
-use Rattle.multi_layout.proofs.SkipLemmas.{fine_passing, passing_placed, passing_tag, ready_there}
+use Rattle.multi_layout.proofs.SkipLemmas.{fine_passing, passing_tag, ready_there}
 use Rattle.multi_layout.proofs.cursor.Cursor.skip.Goals as goal
 
 pub skip_tag-requires-clause-ready : goal.skip_tag-requires-clause-ready
@@ -13,9 +13,6 @@ pub skip_tag-requires-clause-fine : goal.skip_tag-requires-clause-fine
 skip_tag-requires-clause-fine c =
     let (before, rest, item, p, read) = c.requires in
     (unplaced (map meaning before), p.state_is, fine_passing p read (sym c.has_place.ensures ∙ c.if-has_place.false))
-
-pub returns-then-has_place-clause-passed : goal.returns-then-has_place-clause-passed
-returns-then-has_place-clause-passed c = λ before rest item p read. passing_placed p read _ (sym c.has_place.ensures ∙ c.if-has_place.true) refl refl
 
 pub returns-else-has_place-clause-passed : goal.returns-else-has_place-clause-passed
 returns-else-has_place-clause-passed c = λ before rest item p read.

@@ -3,7 +3,7 @@ use Rattle.std.proofs.lemmas.List.{length-drop, length-take-le, take-append-drop
 use Rattle.multi_token.specs.Counted.{Counted}
 use Rattle.multi_token.proofs.StepLemmas.{rises_then}
 use Rattle.multi_layout.specs.kept.Passing.{IsTextPassed}
-use Rattle.multi_layout.proofs.TextSkipLemmas.{moved, text_skipped}
+use Rattle.multi_layout.proofs.SkipLemmas.{moved, text_skipped}
 use Rattle.multi_layout.proofs.cursor.Cursor.skip_text.Goals as goal
 
 pub returns-clause-passed : goal.returns-clause-passed
