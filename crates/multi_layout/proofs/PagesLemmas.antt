@@ -29,7 +29,7 @@ use Rattle.multi_layout.specs.Limits.{drawing_limit, plane_limit, plane_octets, 
 use Rattle.multi_layout.specs.declared.next_page.NextPage.{NextPage}
 use Rattle.multi_layout.specs.NextPage.{IsNextPage, IsReadOn}
 use Rattle.multi_layout.specs.CheckedData.{CheckedData}
-use Rattle.multi_layout.specs.Pages.{HasDrawnFew, HasReadFew, IsSized, IsUnderWay, PagesState, TurnsPage, page_count}
+use Rattle.multi_layout.specs.Pages.{IsSized, IsUnderWay, PagesState, TurnsPage, page_count}
 use Rattle.multi_layout.specs.kept.PageDrawing.{IsFilledFew, IsPagePassed, IsPageStart, IsReadTwice, IsStartOf}
 use Rattle.multi_layout.specs.kept.Cursors.{IsBetween, IsPlaced, items_of, laid_meanings, meant, LaidItem}
 use Rattle.multi_layout.specs.kept.Passing.{IsPageSkipped, IsPassing}
@@ -313,10 +313,10 @@ module _ (old : PagesState) (start next : NextPage) (u : IsUnderWay old start.cu
 -- ---- the bounds of all pages
 
 module _ (pages : PagesState) (cursor : Cursor) (u : IsUnderWay pages cursor) where
-  pub all_read : HasReadFew pages
+  pub all_read : (pages.string_started ≤ pages.string.source.steps) × (pages.string.source.steps ≤ pages.string_started + reading_limit (length pages.string.source.octets))
   all_read = (u.read_least, omega (arith, u.read_most, u.within, at_most (pages.next == page_count pages.string) 2))
 
-  pub all_drawn : HasDrawnFew pages
+  pub all_drawn : (pages.plane_started ≤ pages.plane.steps) × (pages.plane.steps ≤ pages.plane_started + plane_limit pages.string.sign (length pages.string.source.octets))
   all_drawn = (
     u.drawn_least,
     omega (

@@ -63,16 +63,6 @@ pub record TurnsPage (old new : PagesState) : Type 0 where
   pub string_started_kept : new.string_started ≡ old.string_started
   pub plane_started_kept : new.plane_started ≡ old.plane_started
 
--- drawing pages has taken no more steps over the string than the limit (own)
-abbrev pub HasReadFew : PagesState → Type 0
-HasReadFew pages = (pages.string_started ≤ pages.string.source.steps)
-    × (pages.string.source.steps ≤ pages.string_started + reading_limit (length pages.string.source.octets))
-
--- and no more over the plane (own)
-abbrev pub HasDrawnFew : PagesState → Type 0
-HasDrawnFew pages = (pages.plane_started ≤ pages.plane.steps)
-    × (pages.plane.steps ≤ pages.plane_started + plane_limit pages.string.sign (length pages.string.source.octets))
-
 -- this is what an accepted string shows at a clock, and the plane of a colour of it (own)
 abbrev pub ShowsAt : SignData → List ℕ → ℕ → ℕ → BitPlane → Shown → Type 0
 ShowsAt sign octets clock colour plane here =

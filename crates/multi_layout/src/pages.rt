@@ -11,8 +11,8 @@ ghost use Rattle.multi_meaning.specs.Picture.{picture, pixel_at};
 ghost use Rattle.multi_meaning.specs.Times.{shown};
 ghost use Rattle.multi_meaning.specs.Verdict.{Accepted, IsCycle, IsVerdict, pages_of};
 ghost use Rattle.multi_meaning.specs.kept.Fine.{IsAccepted, IsOrderly};
-ghost use Rattle.multi_layout.specs.Limits.{check_limit, drawing_limit, reading_limit};
-ghost use Rattle.multi_layout.specs.Pages.{HasDrawnFew, HasReadFew, IsSized, ShowsAt, TakesFew, page_count};
+ghost use Rattle.multi_layout.specs.Limits.{check_limit, drawing_limit, plane_limit, reading_limit};
+ghost use Rattle.multi_layout.specs.Pages.{IsSized, ShowsAt, TakesFew, page_count};
 ghost use Rattle.multi_layout.specs.kept.PageDrawing.{IsPageStart};
 
 use crate::checked::{Checked, Told};
@@ -98,7 +98,8 @@ impl<'a> Checked<'a> {
         ensures kept { self.new.sign ≡ self.old.sign }
         ensures size { (plane.new.width ≡ plane.old.width) × (plane.new.height ≡ plane.old.height) }
         ensures steps { RisesBetween self.old.source self.new.source 0 (reading_limit (length self.old.source.octets)) }
-        ensures plane_steps { TakesFew self.old.sign (length self.old.source.octets) plane.old plane.new }
+        ensures plane_steps { (plane.old.steps ≤ plane.new.steps)
+            × (plane.new.steps ≤ plane.old.steps + plane_limit self.old.sign (length self.old.source.octets)) }
     {
         if page >= self.pages {
             return false;
@@ -127,7 +128,8 @@ impl<'a> Checked<'a> {
         ensures size { (plane.new.width ≡ plane.old.width) × (plane.new.height ≡ plane.old.height) }
         ensures steps { RisesBetween self.old.source self.new.source 0
             (check_limit (length self.old.source.octets) + reading_limit (length self.old.source.octets)) }
-        ensures plane_steps { TakesFew self.old.sign (length self.old.source.octets) plane.old plane.new }
+        ensures plane_steps { (plane.old.steps ≤ plane.new.steps)
+            × (plane.new.steps ≤ plane.old.steps + plane_limit self.old.sign (length self.old.source.octets)) }
     {
         let told = self.told();
         draw_told(
@@ -254,8 +256,10 @@ impl<'a> Pages<'a> {
         ensures risen { result
             ≡ (self.now.string.source.steps - self.now.string_started) + (self.now.plane.steps - self.now.plane_started) }
         ensures most { result ≤ drawing_limit self.now.string.sign (length self.now.string.source.octets) }
-        ensures read { HasReadFew self.now }
-        ensures drawn { HasDrawnFew self.now }
+        ensures read { (self.now.string_started ≤ self.now.string.source.steps)
+            × (self.now.string.source.steps ≤ self.now.string_started + reading_limit (length self.now.string.source.octets)) }
+        ensures drawn { (self.now.plane_started ≤ self.now.plane.steps)
+            × (self.now.plane.steps ≤ self.now.plane_started + plane_limit self.now.string.sign (length self.now.string.source.octets)) }
     {
         (self.string.steps() - self.string_started) + (self.plane.steps() - self.plane_started)
     }
@@ -264,8 +268,11 @@ impl<'a> Pages<'a> {
     pub fn finish(self) -> (Checked<'a>, Plane)
         ensures given_back { result ≡ (self.entry.string, self.entry.plane) }
         ensures size { IsSized self.entry.plane self.entry.string.sign }
-        ensures read { HasReadFew self.entry }
-        ensures drawn { HasDrawnFew self.entry }
+        ensures read { (self.entry.string_started ≤ self.entry.string.source.steps)
+            × (self.entry.string.source.steps ≤ self.entry.string_started + reading_limit (length self.entry.string.source.octets)) }
+        ensures drawn { (self.entry.plane_started ≤ self.entry.plane.steps)
+            × (self.entry.plane.steps
+            ≤ self.entry.plane_started + plane_limit self.entry.string.sign (length self.entry.string.source.octets)) }
     {
         let Pages { string, plane, .. } = self;
         (string, plane)
