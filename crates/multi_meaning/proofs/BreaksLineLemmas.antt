@@ -1,32 +1,53 @@
 -- One more character breaks its line at an earlier space: the items before it are laid out as they were, but that space.
-use Rattle.std.proofs.Common.{◌≡◌, inl, inr, ℕ, ◌<◌, Bool, true, cond, List, [], ◌∷◌, ◌++◌, length, take, Some, None, zero, suc, refl, sym, ap, ◌∙◌, arith, append_assoc, append-nil, length-append, slice_index_or, option_map}
-use Rattle.std.specs.List.{All, AllPass, count_by}
+use Rattle.std.proofs.Common.{◌≡◌, ◌⊎◌, inl, inr, ℕ, ◌<◌, ◌≤◌, Bool, true, false, cond, List, [], ◌∷◌, ◌++◌, length, take, Some, None, zero, suc, refl, sym, ap, ◌∙◌, arith, append_assoc, append-nil, length-append, slice_index_or, option_map}
+use Rattle.std.specs.List.{AllPass, count_by}
 use Rattle.std.proofs.Math.Seq.{take-append_seam}
-use Rattle.std.proofs.lemmas.Bool.{both_ways, cases_Bool}
-use Rattle.std.proofs.lemmas.List.{get_or_append_left, get_or_at}
+use Rattle.std.proofs.lemmas.Bool.{both_ways, cases_Bool, cases_eq, eqb-true}
+use Rattle.std.proofs.lemmas.List.{get_or_append_left, get_or_at, length_push}
 use Rattle.std.proofs.lemmas.List.Elements.{All-head}
 use Rattle.std.proofs.lemmas.List.Sums.{length-filter, sum_by-append}
-use Rattle.multi_tag.specs.declared.tag.Tag.TheVariants.{NewLine}
+use Rattle.multi_tag.specs.declared.tag.Tag.TheVariants.{Back, NewLine, NewPage}
 use Rattle.multi_tag.specs.Just.{page_number}
 use Rattle.multi_tag.proofs.JustLemmas.{same_page_just}
+use Rattle.sign_font.specs.declared.parts.Defaults.{Defaults}
 use Rattle.sign_font.specs.declared.parts.LineFill.{LineFill}
 use Rattle.sign_font.specs.declared.parts.LineFill.TheVariants.{Words}
 use Rattle.sign_font.specs.Sign.{SignData, CellData, cell_numbered}
-use Rattle.multi_meaning.specs.Address.{Glyph, Put, Spot, Standing, is_break, is_glyph, put_at, spots, standing}
+use Rattle.multi_meaning.specs.Address.{Break, Cover, Glyph, Put, Spot, Standing, is_break, is_glyph, put_at, spots, standing}
 use Rattle.multi_meaning.specs.Filling.{dropped, filled, is_space}
-use Rattle.multi_meaning.specs.Laid.{fill_at, laid, laid_spot}
+use Rattle.multi_meaning.specs.Laid.{fill_at, laid_spot}
 use Rattle.multi_meaning.specs.LaidItems.{laid_items, laid_of}
 use Rattle.multi_meaning.specs.Meaning.{Does, Meaning, Shows}
 use Rattle.multi_meaning.specs.Words.{each_after}
+use Rattle.multi_meaning.proofs.FoundLemmas.{found_cell}
 use Rattle.multi_meaning.proofs.GroupLemmas.{glyph_put}
 use Rattle.multi_meaning.proofs.FilledTagLemmas.{same_width}
-use Rattle.multi_meaning.proofs.GroupLaidLemmas.{group_laid, group_whole, has_place, is_member, laid_as, member_at, members, own_member, own_placing, there, whole_length}
+use Rattle.multi_meaning.proofs.GroupLaidLemmas.{HasFill, group_laid, group_whole, has_place, is_member, laid_as, member_at, members, members_push, own_member, there, whole_length}
 use Rattle.multi_meaning.proofs.LaidItemLemmas.{are_laid}
 use Rattle.multi_meaning.proofs.LaidLemmas.{glyph_none}
 use Rattle.multi_meaning.proofs.LaidTagLemmas.{among, other_leaves}
-use Rattle.multi_meaning.proofs.PutsAtLemmas.{PutsAt, own_longer, puts_at, space_shown}
-use Rattle.multi_meaning.proofs.SpotsLemmas.{spots_behind, spots_more, spots_with}
-use Rattle.multi_meaning.proofs.WordLemmas.{All-split, cases_Option, each_after-append, each_after_push, each_same}
+use Rattle.multi_meaning.proofs.SpotsLemmas.{spots_behind, spots_more, spots_nothing, spots_split, spots_with}
+use Rattle.multi_meaning.proofs.WordLemmas.{All-split, cases_Option, each_after_push, front_ind}
+
+pub space_glyph : (at : Standing) (put : Put) → is_space (record { at = at; put = put }) ≡ true → is_glyph (record { at = at; put = put }) ≡ true
+space_glyph at (Glyph cell) e = refl
+space_glyph at (Break gap) e = absurd cc
+space_glyph at (Cover page colour) e = absurd cc
+
+-- an item that puts a space shows 32
+pub space_shown : (defaults : Defaults) (here : Standing) (x : Meaning) (put : Put) → put_at defaults here x ≡ Some put → is_space (record { at = here; put = put }) ≡ true → x ≡ Shows 32
+space_shown defaults here (Shows number) (Glyph cell) e space = elim (cases_Option (cell_numbered here.font number)) [
+  | inl none ↦ absurd (cc (rw none at e))
+  | inr (other, found) ↦
+      let same : other ≡ cell = cc (rw found at e) in
+      ap Shows (sym (found_cell here.font.cells number other found) ∙ ap (λ (c : CellData). c.number) same ∙ eqb-true cell.number 32 space)
+]
+space_shown defaults here (Does (NewLine gap)) (Glyph cell) e space = absurd cc
+space_shown defaults here (Does NewPage) (Glyph cell) e space = absurd cc
+space_shown defaults here (Does (Back colour)) (Glyph cell) e space = absurd cc
+space_shown defaults here x (Glyph cell) e space = absurd cc
+space_shown defaults here x (Break gap) e space = absurd cc
+space_shown defaults here x (Cover page colour) e space = absurd cc
 
 -- a list with another item in one place, and more behind it, is the same in every other place
 get_other : (xs ys zs : List Spot) (a b d : Spot) (n : ℕ) → (n ≡ length xs → ⊥) → n < length (xs ++ a ∷ ys) → slice_index_or (xs ++ b ∷ (ys ++ zs)) n d ≡ slice_index_or (xs ++ a ∷ ys) n d
@@ -66,125 +87,153 @@ module _ (sign : SignData) (items : List Meaning) (number : ℕ) (cell : CellDat
   abbrev is_own : Spot → Bool
   is_own x = is_member s.at.area (page_number s.at.page_just) x
 
-  abbrev more : List Meaning
-  more = items ++ Shows number ∷ []
+  abbrev ended : List Spot → ℕ
+  ended l = count_by is_break (own l)
 
-  puts_cell : put_at sign.defaults (standing sign items) (Shows number) ≡ Some (Glyph cell)
-  puts_cell = ap (option_map Glyph) found
-
-  same_more : All (λ (x : Spot). x.at.area ≡ s.at.area → fill_at Words x.at ≡ Some width) (all ++ s ∷ [])
+  same_more : HasFill Words (Some width) s.at.area (all ++ s ∷ [])
   same_more = same_width sign items (Glyph cell)
 
-  same : All (λ (x : Spot). x.at.area ≡ s.at.area → fill_at Words x.at ≡ Some width) all
+  same : HasFill Words (Some width) s.at.area all
   same = (All-split (λ (x : Spot). x.at.area ≡ s.at.area → fill_at Words x.at ≡ Some width) all s same_more).0
+
+  -- how many spots of its group these items put
+  abbrev count : List Meaning → ℕ
+  count some = length (own (spots sign some))
+
+  -- the items as they are laid out, and as they are with the character
+  abbrev before' : List Meaning → Meaning → Meaning
+  before' = among Words sign all
+
+  abbrev after' : List Meaning → Meaning → Meaning
+  after' = among Words sign (all ++ s ∷ [])
 
   module _ (closed : List Spot) (space : Spot) (open' : List Spot) (old : filled (Some width) (own all) ≡ closed ++ space ∷ open')
       (new : filled (Some width) (own (all ++ s ∷ [])) ≡ closed ++ dropped space ∷ (open' ++ s ∷ [])) (is_sp : is_space space ≡ true) (glyphs : AllPass is_glyph (space ∷ open')) where
     -- a spot of its group is laid as the filled group has it
     laid_old : (some behind : List Spot) (x : Spot) → all ≡ some ++ x ∷ behind → is_own x ≡ true → laid_spot Words all some x ≡ slice_index_or (closed ++ space ∷ open') (length (own some)) x
-    laid_old some behind x is m = there Words all s.at.area (page_number s.at.page_just) (Some width) (own_placing all s) same some behind x is m ∙ ap (λ l. slice_index_or l (length (own some)) x) old
+    laid_old some behind x is m = there Words all s.at.area (page_number s.at.page_just) (Some width) same some behind x is m ∙ ap (λ l. slice_index_or l (length (own some)) x) old
 
     laid_new : (some behind : List Spot) (x : Spot) → all ++ s ∷ [] ≡ some ++ x ∷ behind → is_own x ≡ true
         → laid_spot Words (all ++ s ∷ []) some x ≡ slice_index_or (closed ++ dropped space ∷ (open' ++ s ∷ [])) (length (own some)) x
-    laid_new some behind x is m =
-        there Words (all ++ s ∷ []) s.at.area (page_number s.at.page_just) (Some width) (own_placing (all ++ s ∷ []) s) same_more some behind x is m ∙ ap (λ l. slice_index_or l (length (own some)) x) new
+    laid_new some behind x is m = there Words (all ++ s ∷ []) s.at.area (page_number s.at.page_just) (Some width) same_more some behind x is m ∙ ap (λ l. slice_index_or l (length (own some)) x) new
 
     size : length (own all) ≡ length (closed ++ space ∷ open')
-    size = whole_length Words all s.at.area (page_number s.at.page_just) (Some width) (own_placing all s) same ∙ ap length old
+    size = whole_length Words all s.at.area (page_number s.at.page_just) (Some width) same ∙ ap length old
 
-    longer : (some behind : List Spot) (x : Spot) → all ≡ some ++ x ∷ behind → all ++ s ∷ [] ≡ some ++ x ∷ (behind ++ s ∷ [])
-    longer some behind x is = ap (λ l. l ++ s ∷ []) is ∙ append_assoc some (x ∷ behind) (s ∷ [])
+    -- an item that stays as it is laid, before the space or behind it
+    record Stays (some : List Meaning) (x : Meaning) : Type 0 where
+      same' : after' some x ≡ before' some x
+      least : count some ≤ count (some ++ x ∷ [])
+      most : count some ≤ length closed → count (some ++ x ∷ []) ≤ length closed
 
-    -- all spots in another place are laid as they were
-    kept_spot : (some behind : List Spot) (x : Spot) → all ≡ some ++ x ∷ behind → (length (own some) ≡ length closed → is_own x ≡ true → ⊥) → laid_spot Words (all ++ s ∷ []) some x ≡ laid_spot Words all some x
-    kept_spot some behind x is other = elim (cases_Bool (is_own x)) [
-      | inr apart ↦ other_leaves Words all s some x apart
-      | inl m ↦
-          let within = has_place Words all s.at.area (page_number s.at.page_just) (Some width) (own_placing all s) same some behind x is m in
-          laid_new some (behind ++ s ∷ []) x (longer some behind x is) m
-          ∙ get_other closed open' (s ∷ []) space (dropped space) x (length (own some)) (λ e. other e m) (omega (arith, within, ap length old))
-          ∙ sym (laid_old some behind x is m)
+    -- the space, which stands on the line of the character and ends it now
+    record Breaks (some : List Meaning) (x : Meaning) : Type 0 where
+      place : count some ≡ length closed
+      next : length closed < count (some ++ x ∷ [])
+      area : (standing sign some).area ≡ s.at.area
+      just : page_number (standing sign some).page_just ≡ page_number s.at.page_just
+      was : before' some x ≡ Shows 32
+      ends : after' some x ≡ Does (NewLine None)
+
+    one_item : (some behind : List Meaning) (x : Meaning) → items ≡ some ++ x ∷ behind → Stays some x ⊎ Breaks some x
+    one_item some behind x is = elim (cases_Option (put_at sign.defaults (standing sign some) x)) [
+      | inl none ↦ let n = ap (λ l. length (own l)) (spots_nothing sign some x none) in inl (record { same' = rw none refl; least = omega (arith, n); most = λ h. omega (arith, h, n) })
+      | inr (put, puts) ↦
+          let t : Spot = record { at = standing sign some; put = put } in
+          let front = spots sign some in
+          let rest = spots_behind sign (some ++ x ∷ []) behind in
+          let split : all ≡ front ++ t ∷ rest = ap (spots sign) is ∙ spots_with sign some x behind put puts in
+          let longer = ap (λ l. l ++ s ∷ []) split ∙ append_assoc front (t ∷ rest) (s ∷ []) in
+          let shown = λ (y z : Spot) (e : y ≡ z). ap (λ y. laid_of x (Some y)) e in
+          let count_is = λ (b : Bool) (e : is_own t ≡ b). ap (λ l. length (own l)) (spots_more sign some x put puts) ∙ ap length (members_push s.at.area (page_number s.at.page_just) front t b e) in
+          elim (cases_Bool (is_own t)) [
+            | inr apart ↦
+                let n = count_is false apart ∙ ap length (append-nil (own front)) in
+                inl (record { same' = rw puts (shown _ _ (other_leaves Words all s front t apart)); least = omega (arith, n); most = λ h. omega (arith, h, n) })
+            | inl m ↦
+                let n = count_is true m ∙ length_push (own front) t in
+                let within = has_place all s.at.area (page_number s.at.page_just) front rest t split m in
+                elim (cases_eq (length (own front)) (length closed)) [
+                  | inr other ↦
+                      let stays = laid_new front (rest ++ s ∷ []) t longer m ∙ get_other closed open' (s ∷ []) space (dropped space) t (length (own front)) other (omega (arith, within, size)) ∙ sym (laid_old front rest t split m) in
+                      inl (record { same' = rw puts (shown _ _ stays); least = omega (arith, n); most = λ h. omega (arith, h, n, other) })
+                  | inl e ↦
+                      let old_at = laid_old front rest t split m ∙ get_or_at closed space open' t (length (own front)) (sym e) in
+                      let new_at = laid_new front (rest ++ s ∷ []) t longer m ∙ get_or_at closed (dropped space) (open' ++ s ∷ []) t (length (own front)) (sym e) in
+                      let is_t : space ≡ t = elim (laid_as Words all front rest t split) [
+                        | inl itself ↦ sym old_at ∙ itself
+                        | inr (glyph, drop) ↦ absurd (both_ways (is_space space) (ap is_space (sym old_at ∙ drop)) is_sp)
+                      ] in
+                      let item = space_shown sign.defaults (standing sign some) x put puts (ap is_space (sym is_t) ∙ is_sp) in
+                      let (area, just) = member_at s.at.area (page_number s.at.page_just) t m in
+                      inr (record {
+                        place = e;
+                        next = omega (arith, n, e);
+                        area = area;
+                        just = just;
+                        was = rw puts (shown _ _ old_at ∙ rw (glyph_put space.at space.put (All-head (λ x. is_glyph x ≡ true) space open' glyphs)).0 item);
+                        ends = rw puts (shown _ _ new_at);
+                      })
+                ]
+          ]
     ]
 
-    abbrev before' : List Meaning → Meaning → Meaning
-    before' = among Words sign all
+    -- these items as far as the space, and behind it
+    record Broken (some : List Meaning) : Type 0 where
+      late : length closed < count some
+      front : List Meaning
+      item : Meaning
+      more : List Meaning
+      behind : List Meaning
+      is : some ≡ front ++ item ∷ more
+      breaks : Breaks front item
+      was_all : each_after before' some ≡ each_after before' front ++ Shows 32 ∷ behind
+      are : each_after after' some ≡ each_after before' front ++ Does (NewLine None) ∷ behind
 
-    abbrev after' : List Meaning → Meaning → Meaning
-    after' = among Words sign (all ++ s ∷ [])
+    abbrev SoFar : List Meaning → Type 0
+    SoFar some = ((count some ≤ length closed) × (each_after after' some ≡ each_after before' some)) ⊎ Broken some
 
-    -- and so are all other items
-    kept_item : (some behind : List Meaning) (x : Meaning) → items ≡ some ++ x ∷ behind
-        → (length (own (spots sign some)) ≡ length closed → (put : Put) → put_at sign.defaults (standing sign some) x ≡ Some put → is_own (record { at = standing sign some; put = put }) ≡ true → ⊥)
-        → after' some x ≡ before' some x
-    kept_item some behind x is other = elim (cases_Option (put_at sign.defaults (standing sign some) x)) [
-      | inl none ↦ rw none refl
-      | inr (put, puts) ↦ rw puts (ap (λ y. laid_of x (Some y)) (kept_spot (spots sign some) (spots_behind sign (some ++ x ∷ []) behind) (record { at = standing sign some; put = put })
-          (ap (spots sign) is ∙ spots_with sign some x behind put puts) (λ e m. other e put puts m)))
+    one_more : (some behind : List Meaning) (x : Meaning) → items ≡ some ++ x ∷ behind → SoFar some → SoFar (some ++ x ∷ [])
+    one_more some behind x is so_far = let before = each_after_push before' some x in let after = each_after_push after' some x in elim (one_item some behind x is) [
+      | inl stays ↦ elim so_far [
+        | inl (early, alike) ↦ inl (stays.most early, after ∙ (λ i. alike i ++ stays.same' i ∷ []) ∙ sym before)
+        | inr b ↦ inr (record {
+          late = omega (arith, b.late, stays.least);
+          front = b.front;
+          item = b.item;
+          more = b.more ++ x ∷ [];
+          behind = b.behind ++ before' some x ∷ [];
+          is = ap (λ l. l ++ x ∷ []) b.is ∙ append_assoc b.front (b.item ∷ b.more) (x ∷ []);
+          breaks = b.breaks;
+          was_all = before ∙ ap (λ l. l ++ before' some x ∷ []) b.was_all ∙ append_assoc (each_after before' b.front) (Shows 32 ∷ b.behind) (before' some x ∷ []);
+          are = after ∙ (λ i. b.are i ++ stays.same' i ∷ []) ∙ append_assoc (each_after before' b.front) (Does (NewLine None) ∷ b.behind) (before' some x ∷ []);
+        })
+      ]
+      | inr breaks ↦ elim so_far [
+        | inl (early, alike) ↦ inr (record {
+          late = breaks.next;
+          front = some;
+          item = x;
+          more = [];
+          behind = [];
+          is = refl;
+          breaks = breaks;
+          was_all = before ∙ ap (λ y. each_after before' some ++ y ∷ []) breaks.was;
+          are = after ∙ (λ i. alike i ++ breaks.ends i ∷ []);
+        })
+        | inr b ↦ absurd (omega (arith, b.late, breaks.place))
+      ]
     ]
 
-    -- the space
-    at : PutsAt sign s.at.area (page_number s.at.page_just) (length closed) items
-    at = puts_at sign s.at.area (page_number s.at.page_just) (length closed) items (omega (arith, size, length-append closed (space ∷ open')))
+    none_yet : SoFar []
+    unfolding spots
+    none_yet = inl (omega arith, refl)
 
-    abbrev t : Spot
-    t = record { at = standing sign at.front; put = at.put }
-
-    abbrev rest : List Spot
-    rest = spots_behind sign (at.front ++ at.item ∷ []) at.more
-
-    split : all ≡ spots sign at.front ++ t ∷ rest
-    split = ap (spots sign) at.is ∙ spots_with sign at.front at.item at.more at.put at.puts
-
-    old_at : laid_spot Words all (spots sign at.front) t ≡ space
-    old_at = laid_old (spots sign at.front) rest t split at.member ∙ get_or_at closed space open' t (length (own (spots sign at.front))) (sym at.place)
-
-    new_at : laid_spot Words (all ++ s ∷ []) (spots sign at.front) t ≡ dropped space
-    new_at =
-        laid_new (spots sign at.front) (rest ++ s ∷ []) t (longer (spots sign at.front) rest t split) at.member
-        ∙ get_or_at closed (dropped space) (open' ++ s ∷ []) t (length (own (spots sign at.front))) (sym at.place)
-
-    is_t : space ≡ t
-    is_t = elim (laid_as Words all (spots sign at.front) rest t split) [
-      | inl same ↦ sym old_at ∙ same
-      | inr (glyph, drop) ↦ absurd (both_ways (is_space space) (ap is_space (sym old_at ∙ drop)) is_sp)
+    broken : Broken items
+    broken = elim (front_ind items SoFar none_yet (λ some more x is h. one_more some more x is h) items [] (sym (append-nil items))) [
+      | inl (early, alike) ↦ absurd (omega (arith, early, size, length-append closed (space ∷ open')))
+      | inr b ↦ b
     ]
-
-    shown : at.item ≡ Shows 32
-    shown = space_shown sign.defaults (standing sign at.front) at.item at.put at.puts (ap is_space (sym is_t) ∙ is_sp)
-
-    -- it was a space, and is the end of its line
-    was : before' at.front at.item ≡ Shows 32
-    was = rw at.puts (ap (λ y. laid_of at.item (Some y)) old_at ∙ rw (glyph_put space.at space.put (All-head (λ x. is_glyph x ≡ true) space open' glyphs)).0 shown)
-
-    ends : after' at.front at.item ≡ Does (NewLine None)
-    ends = rw at.puts (ap (λ y. laid_of at.item (Some y)) new_at)
-
-    -- the items before it and behind it stay
-    abbrev laid_front : List Meaning
-    laid_front = laid_items Words sign items at.front
-
-    abbrev laid_rest : List Meaning
-    laid_rest = each_after (λ before. before' (at.front ++ at.item ∷ before)) at.more
-
-    front_stays : each_after after' at.front ≡ laid_front
-    front_stays = each_same after' before' at.front (λ some behind x is.
-        kept_item some (behind ++ at.item ∷ at.more) x (at.is ∙ ap (λ l. l ++ at.item ∷ at.more) is ∙ append_assoc some (x ∷ behind) (at.item ∷ at.more))
-        (λ e put puts m. absurd (omega (arith, e, at.place, ap (λ l. length (own (spots sign l))) is, own_longer sign s.at.area (page_number s.at.page_just) some x behind put puts m))))
-
-    rest_stays : each_after (λ before. after' (at.front ++ at.item ∷ before)) at.more ≡ laid_rest
-    rest_stays = each_same (λ before. after' (at.front ++ at.item ∷ before)) (λ before. before' (at.front ++ at.item ∷ before)) at.more (λ some behind x is.
-        kept_item (at.front ++ at.item ∷ some) behind x (at.is ∙ ap (λ l. at.front ++ at.item ∷ l) is ∙ sym (append_assoc at.front (at.item ∷ some) (x ∷ behind)))
-        (λ e put puts m. absurd (omega (arith, e, at.place, own_longer sign s.at.area (page_number s.at.page_just) at.front at.item some at.put at.puts at.member))))
-
-    -- the items, with the space in its place
-    parted : (f : List Meaning → Meaning → Meaning) (y : Meaning) → f at.front at.item ≡ y
-        → each_after f items ++ Shows number ∷ [] ≡ each_after f at.front ++ y ∷ (each_after (λ before. f (at.front ++ at.item ∷ before)) at.more ++ Shows number ∷ [])
-    parted f y e =
-        let behind = each_after (λ before. f (at.front ++ at.item ∷ before)) at.more in
-        ap (λ l. each_after f l ++ Shows number ∷ []) at.is
-        ∙ ap (λ l. l ++ Shows number ∷ []) (each_after-append f at.front (at.item ∷ at.more))
-        ∙ ap (λ z. (each_after f at.front ++ z ∷ behind) ++ Shows number ∷ []) (ap (λ l. f l at.item) (append-nil at.front) ∙ e)
-        ∙ append_assoc (each_after f at.front) (y ∷ behind) (Shows number ∷ [])
 
     -- the character itself stands
     last_stands : after' items (Shows number) ≡ Shows number
@@ -196,38 +245,25 @@ module _ (sign : SignData) (items : List Meaning) (number : ℕ) (cell : CellDat
         ∙ get_or_at (closed ++ dropped space ∷ open') s [] s (length (own all)) place in
         rw found (ap (λ y. laid_of (Shows number) (Some y)) itself)
 
-    whole_after : laid_items Words sign more more ≡ laid_front ++ Does (NewLine None) ∷ (laid_rest ++ Shows number ∷ [])
-    whole_after =
-        ap (λ l. each_after (among Words sign l) more) (spots_more sign items (Shows number) (Glyph cell) puts_cell)
-        ∙ each_after_push after' items (Shows number)
-        ∙ ap (λ y. each_after after' items ++ y ∷ []) last_stands
-        ∙ parted after' (Does (NewLine None)) ends
-        ∙ (λ i. front_stays i ++ Does (NewLine None) ∷ (rest_stays i ++ Shows number ∷ []))
-
-    -- the space stands on the line of the character
-    front_laid : (standing sign laid_front ≡ standing sign at.front) × (spots sign laid_front ≡ laid Words all (spots sign at.front))
-    front_laid = are_laid Words sign items at.front (at.item ∷ at.more) at.is
-
-    same_line : count_by is_break (own (spots sign laid_front)) ≡ count_by is_break (own (spots sign (laid_items Words sign items items)))
-    same_line =
-        let front_is : own (spots sign laid_front) ≡ closed =
-        ap own front_laid.1
-        ∙ group_laid Words all s.at.area (page_number s.at.page_just) (Some width) (own_placing all s) same (spots sign at.front) (t ∷ rest) split
-        ∙ (λ i. take (at.place i) (old i)) ∙ take-append_seam closed (space ∷ open') in
-        let whole_is : own (spots sign (laid_items Words sign items items)) ≡ closed ++ space ∷ open' =
-        ap own (are_laid Words sign items items [] (sym (append-nil items))).1 ∙ group_whole Words all s.at.area (page_number s.at.page_just) (Some width) (own_placing all s) same ∙ old in
-        ap (count_by is_break) front_is
-        ∙ omega (arith, sum_by-append (λ x. cond (is_break x) 1 0) closed (space ∷ open'), no_breaks (space ∷ open') glyphs)
-        ∙ ap (count_by is_break) (sym whole_is)
-
     pub breaks_line : BreaksLine Words sign items (Shows number)
     breaks_line =
-        let (area, just) = member_at s.at.area (page_number s.at.page_just) t at.member in (
-          laid_front,
-          laid_rest ++ Shows number ∷ [],
-          parted before' (Shows 32) was,
-          whole_after,
-          ap (λ (h : Standing). h.area) front_laid.0 ∙ area,
-          ap (λ (h : Standing). h.page_just) front_laid.0 ∙ same_page_just t.at.page_just s.at.page_just just,
-          same_line,
+        let b = broken in
+        let front = each_after before' b.front in
+        let old_items = laid_items Words sign items items in
+        let here = are_laid Words sign items b.front (b.item ∷ b.more) b.is in
+        let front_is : own (spots sign front) ≡ closed =
+        ap own here.1 ∙ group_laid Words all s.at.area (page_number s.at.page_just) (Some width) same (spots sign b.front) (spots_behind sign b.front (b.item ∷ b.more)) (ap (spots sign) b.is ∙ spots_split sign b.front (b.item ∷ b.more))
+        ∙ (λ i. take (b.breaks.place i) (old i)) ∙ take-append_seam closed (space ∷ open') in
+        let whole_is : own (spots sign old_items) ≡ closed ++ space ∷ open' =
+        ap own (are_laid Words sign items items [] (sym (append-nil items))).1 ∙ group_whole Words all s.at.area (page_number s.at.page_just) (Some width) same ∙ old in
+        let new_all : laid_items Words sign (items ++ Shows number ∷ []) (items ++ Shows number ∷ []) ≡ each_after after' items ++ Shows number ∷ [] =
+        ap (λ l. each_after (among Words sign l) (items ++ Shows number ∷ [])) (spots_more sign items (Shows number) (Glyph cell) (ap (option_map Glyph) found))
+        ∙ each_after_push after' items (Shows number) ∙ ap (λ y. each_after after' items ++ y ∷ []) last_stands in (
+          front,
+          b.behind ++ Shows number ∷ [],
+          ap (λ l. l ++ Shows number ∷ []) b.was_all ∙ append_assoc front (Shows 32 ∷ b.behind) (Shows number ∷ []),
+          new_all ∙ ap (λ l. l ++ Shows number ∷ []) b.are ∙ append_assoc front (Does (NewLine None) ∷ b.behind) (Shows number ∷ []),
+          ap (λ (h : Standing). h.area) here.0 ∙ b.breaks.area,
+          ap (λ (h : Standing). h.page_just) here.0 ∙ same_page_just (standing sign b.front).page_just s.at.page_just b.breaks.just,
+          ap (count_by is_break) front_is ∙ omega (arith, sum_by-append (λ x. cond (is_break x) 1 0) closed (space ∷ open'), no_breaks (space ∷ open') glyphs) ∙ ap (count_by is_break) (sym whole_is),
         )

@@ -19,13 +19,12 @@ use Rattle.multi_meaning.specs.kept.Present.{IsPlacing}
 use Rattle.multi_meaning.proofs.FillListLemmas.{is_cut}
 use Rattle.multi_meaning.proofs.GroupLemmas.{glyphs_around}
 use Rattle.multi_meaning.proofs.FilledSumLemmas.{breaks, drops, stands, stays}
-use Rattle.multi_meaning.proofs.GroupLaidLemmas.{members_push, own_member, own_placing}
+use Rattle.multi_meaning.proofs.GroupLaidLemmas.{members_placing, members_push, own_member}
 use Rattle.multi_meaning.proofs.LaidItemLemmas.{are_laid}
 use Rattle.multi_meaning.proofs.LaidLemmas.{ended, filled_is, open_line, open_line_glyphs, open_line_is}
 use Rattle.multi_meaning.proofs.LaidTagLemmas.{laid_nothing, laid_placing, laid_tag}
-use Rattle.multi_meaning.proofs.BreaksLineLemmas.{BreaksLine, breaks_line}
+use Rattle.multi_meaning.proofs.BreaksLineLemmas.{BreaksLine, breaks_line, space_glyph}
 use Rattle.multi_meaning.proofs.NarrowLemmas.{OpenLinesFit, open_lines_fit}
-use Rattle.multi_meaning.proofs.PutsAtLemmas.{space_glyph}
 use Rattle.multi_meaning.proofs.FoundLemmas.{spaces_is}
 use Rattle.multi_meaning.proofs.WordLemmas.{cases_Option}
 
@@ -45,7 +44,7 @@ module _ (sign : SignData) (items : List Meaning) (number : ℕ) (cell : CellDat
   g = group_of c (spots sign items)
 
   placing : All IsPlacing g
-  placing = own_placing (spots sign items) c
+  placing = members_placing c.at.area (page_number c.at.page_just) (spots sign items)
 
   -- the filled group grows by this
   grown : (setting : LineFill) (y : Spot) → filled (fill_at setting c.at) (g ++ c ∷ []) ≡ filled (fill_at setting c.at) g ++ y ∷ []
@@ -90,7 +89,7 @@ shown_by setting sign items number fits None found = inl (laid_nothing setting s
 shown_by Off sign items number fits (Some cell) found = inl (grown sign items number cell found Off (record { at = standing sign items; put = Glyph cell }) refl)
 shown_by Words sign items number fits (Some cell) found =
     let c : Spot = record { at = standing sign items; put = Glyph cell } in
-    let is = open_line_is c.at.rectangle.width (group_of c (spots sign items)) (own_placing (spots sign items) c) in
+    let is = open_line_is c.at.rectangle.width (group_of c (spots sign items)) (members_placing c.at.area (page_number c.at.page_just) (spots sign items)) in
     filled_shown sign items number cell found (ap (line_fits c.at.rectangle.width) (sym is) ∙ fits refl (page_number c.at.page_just))
 
 kept : (setting : LineFill) (sign : SignData) (items : List Meaning) (x : Meaning) → (setting ≡ Words → OpenLinesFit sign items) → Kept setting sign items x

@@ -1,27 +1,26 @@
 -- The laid items of an area at one more character of its string.
-use Rattle.std.proofs.Common.{◌≡◌, inl, inr, ℕ, ◌≤◌, max, true, false, cond, ◌==◌, List, [], ◌∷◌, ◌++◌, Some, refl, sym, ap, subst, ◌∙◌, arith, append-nil, All}
+use Rattle.std.proofs.Common.{◌≡◌, inl, inr, ℕ, ◌≤◌, max, true, false, cond, ◌==◌, List, [], ◌∷◌, ◌++◌, Some, refl, sym, ap, ◌∙◌, arith, append-nil}
 use Rattle.std.proofs.lemmas.Bool.{and_parts, cases_Bool, false_from_ne_true}
 use Rattle.std.proofs.lemmas.List.Elements.{filter-append}
 use Rattle.multi_tag.specs.Just.{page_number}
 use Rattle.sign_font.specs.declared.parts.LineFill.{LineFill}
 use Rattle.multi_meaning.specs.Address.{Spot, area_of, group_of, in_area, in_group, is_glyph}
 use Rattle.multi_meaning.specs.Filling.{filled}
-use Rattle.multi_meaning.specs.kept.Present.{IsFilledOn, IsPlacing}
+use Rattle.multi_meaning.specs.kept.Present.{IsFilledOn}
 use Rattle.multi_meaning.specs.Laid.{fill_at, laid, laid_spot}
 use Rattle.multi_meaning.specs.Words.{largest}
-use Rattle.multi_meaning.proofs.GroupLemmas.{area_placing, placing_group}
-use Rattle.multi_meaning.proofs.GroupLaidLemmas.{group_whole, in_areas, is_member, laid_as, member_at, members, members_push, own_member}
+use Rattle.multi_meaning.proofs.GroupLaidLemmas.{HasFill, group_whole, in_areas, is_member, laid_as, member_at, members, members_push, own_member}
 use Rattle.multi_meaning.proofs.LaidSpotLemmas.{LaidAs}
 use Rattle.multi_meaning.proofs.WordLemmas.{All-split, each_after_push, front_ind, largest_push}
 
 module _ (setting : LineFill) (width : ℕ) (a : ℕ) where
   -- the lines of an area are filled to one width
   abbrev pub HasWidth : List Spot → Type 0
-  HasWidth all = All (λ (x : Spot). x.at.area ≡ a → fill_at setting x.at ≡ Some width) all
+  HasWidth all = HasFill setting (Some width) a all
 
   -- the groups of the laid items are the groups, filled
   pub groups_laid : (all : List Spot) (s : Spot) → s.at.area ≡ a → HasWidth all → (j : ℕ) → in_group j (in_area a (laid setting all all)) ≡ filled (Some width) (members a j all)
-  groups_laid all s here same j = group_whole setting all a j (Some width) (placing_group j (in_area a all) (subst (λ k. All IsPlacing (in_area k all)) here (area_placing all s))) same
+  groups_laid all s here same j = group_whole setting all a j (Some width) same
 
   -- the largest page justification stays, since what is laid stands where it did
   pub same_at : (x y : Spot) → LaidAs x y → (in_areas a y ≡ in_areas a x) × (page_number y.at.page_just ≡ page_number x.at.page_just)

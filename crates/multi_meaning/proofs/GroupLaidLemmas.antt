@@ -1,17 +1,17 @@
 -- The laid spots of a group are the group, filled.
 use Rattle.std.proofs.Common.{◌≡◌, inl, inr, ℕ, ◌<◌, Bool, true, false, cond, ◌&&◌, ◌||◌, ◌==◌, List, [], ◌∷◌, ◌++◌, length, take, Option, refl, sym, ap, subst, ◌∙◌, arith, length-append, append_assoc, append-nil, slice_index_or, All}
 use Rattle.std.proofs.lemmas.Bool.{and_parts, both_ways, cases_Bool, eqb-true, eq-eqb}
-use Rattle.std.proofs.lemmas.List.{take_all, take_more, length_push}
-use Rattle.std.proofs.lemmas.List.Elements.{filter-append}
+use Rattle.std.proofs.lemmas.List.{get_or_at, take_all, take_more, length_push}
+use Rattle.std.proofs.lemmas.List.Elements.{AllZip-get_or, filter-append, length_all_zip}
 use Rattle.multi_tag.specs.Just.{page_number}
 use Rattle.sign_font.specs.declared.parts.LineFill.{LineFill}
-use Rattle.multi_meaning.specs.Address.{Spot, is_glyph, is_break, in_group, in_area, area_of, group_of}
+use Rattle.multi_meaning.specs.Address.{Spot, is_glyph, is_break, in_group, in_area, group_of}
 use Rattle.multi_meaning.specs.kept.Present.{IsPlacing}
 use Rattle.multi_meaning.proofs.WordLemmas.{All-around, each_after_push, front_ind}
-use Rattle.multi_meaning.proofs.GroupLemmas.{placing_group, area_placing}
+use Rattle.multi_meaning.proofs.GroupLemmas.{placing_group, in_area_placing}
 use Rattle.multi_meaning.specs.Filling.{filled}
 use Rattle.multi_meaning.specs.Laid.{fill_at, laid_spot, laid}
-use Rattle.multi_meaning.proofs.LaidSpotLemmas.{LaidAs, LaidAll, laid_at, laid_length, filled_laid}
+use Rattle.multi_meaning.proofs.LaidSpotLemmas.{LaidAs, filled_laid}
 
 -- the spots of a group of an area
 abbrev pub members : ℕ → ℕ → List Spot → List Spot
@@ -55,61 +55,68 @@ member_at a j x member =
 pub own_member : (x : Spot) → is_glyph x ≡ true → is_member x.at.area (page_number x.at.page_just) x ≡ true
 own_member x glyph = rw (glyph, eq-eqb x.at.area x.at.area refl, eq-eqb (page_number x.at.page_just) (page_number x.at.page_just) refl) refl
 
--- the group of a spot is of placing items
-pub own_placing : (all : List Spot) (x : Spot) → All IsPlacing (group_of x all)
-own_placing all x = placing_group (page_number x.at.page_just) (area_of x all) (area_placing all x)
+-- a group is of placing items
+pub members_placing : (a j : ℕ) (all : List Spot) → All IsPlacing (members a j all)
+members_placing a j all = placing_group j (in_area a all) (in_area_placing a all)
+
+-- the lines of an area are filled alike
+abbrev pub HasFill : LineFill → Option ℕ → ℕ → List Spot → Type 0
+HasFill setting fill a all = All (λ (x : Spot). x.at.area ≡ a → fill_at setting x.at ≡ fill) all
+
+module _ (all : List Spot) (a j : ℕ) (some more : List Spot) (x : Spot) (is : all ≡ some ++ x ∷ more) (member : is_member a j x ≡ true) where
+  split : members a j all ≡ members a j some ++ x ∷ members a j more
+  split = ap (members a j) is ∙ members_with a j some more x member
+
+  -- a spot of a group has a place in it
+  pub has_place : length (members a j some) < length (members a j all)
+  has_place = omega (arith, ap length split, length-append (members a j some) (x ∷ members a j more))
+
+  -- in which the filled group has it, or a dropped space
+  in_place : (fill : Option ℕ) → LaidAs x (slice_index_or (filled fill (members a j all)) (length (members a j some)) x)
+  in_place fill =
+      let n = length (members a j some) in
+      subst (λ y. LaidAs y (slice_index_or (filled fill (members a j all)) n x)) (ap (λ l. slice_index_or l n x) split ∙ get_or_at (members a j some) x (members a j more) x n refl)
+      (AllZip-get_or LaidAs (members a j all) (filled fill (members a j all)) n x x (filled_laid fill (members a j all) (members_placing a j all)) has_place)
 
 module _ (setting : LineFill) (all : List Spot) where
   -- a spot of the string is laid as itself or as a dropped space
   pub laid_as : (some more : List Spot) (x : Spot) → all ≡ some ++ x ∷ more → LaidAs x (laid_spot setting all some x)
   laid_as some more x is = elim (cases_Bool (is_glyph x)) [
     | inl glyph ↦
-        let whole = filled (fill_at setting x.at) (group_of x all) in
-        let split : group_of x all ≡ group_of x some ++ x ∷ group_of x more = ap (group_of x) is ∙ members_with x.at.area (page_number x.at.page_just) some more x (own_member x glyph) in
-        let there : laid_spot setting all some x ≡ slice_index_or whole (length (group_of x some)) x = rw glyph refl in
-        subst (LaidAs x) (sym there) (laid_at (group_of x some) (group_of x more) x x whole (subst (λ l. LaidAll l whole) split (filled_laid (fill_at setting x.at) (group_of x all) (own_placing all x))))
+        let there : laid_spot setting all some x ≡ slice_index_or (filled (fill_at setting x.at) (group_of x all)) (length (group_of x some)) x = rw glyph refl in
+        subst (LaidAs x) (sym there) (in_place all x.at.area (page_number x.at.page_just) some more x is (own_member x glyph) (fill_at setting x.at))
     | inr other ↦ inl (rw other refl)
   ]
 
-  module _ (a j : ℕ) (o : Option ℕ) (placing : All IsPlacing (members a j all)) (same : All (λ (x : Spot). x.at.area ≡ a → fill_at setting x.at ≡ o) all) where
+  module _ (a j : ℕ) (fill : Option ℕ) (same : HasFill setting fill a all) where
     -- the group, filled
     abbrev whole : List Spot
-    whole = filled o (members a j all)
-
-    split : (some more : List Spot) (x : Spot) → all ≡ some ++ x ∷ more → is_member a j x ≡ true → members a j all ≡ members a j some ++ x ∷ members a j more
-    split some more x is member = ap (members a j) is ∙ members_with a j some more x member
+    whole = filled fill (members a j all)
 
     -- a spot of the group is laid as the item in its place in the filled group
-    pub there : (some more : List Spot) (x : Spot) → all ≡ some ++ x ∷ more → is_member a j x ≡ true → laid_spot setting all some x ≡ slice_index_or (filled o (members a j all)) (length (members a j some)) x
+    pub there : (some more : List Spot) (x : Spot) → all ≡ some ++ x ∷ more → is_member a j x ≡ true → laid_spot setting all some x ≡ slice_index_or (filled fill (members a j all)) (length (members a j some)) x
     there some more x is member = elim (cases_Bool (is_glyph x)) [
       | inl glyph ↦
           let (area, just) = member_at a j x member in
-          let P = λ (x : Spot). x.at.area ≡ a → fill_at setting x.at ≡ o in
-          let fill = (All-around P some x more (subst (All P) is same)).1 area in
-          rw glyph (λ i. slice_index_or (filled (fill i) (members (area i) (just i) all)) (length (members (area i) (just i) some)) x)
-      | inr other ↦
-          let at : LaidAs x (slice_index_or whole (length (members a j some)) x) =
-          laid_at (members a j some) (members a j more) x x whole (subst (λ l. LaidAll l whole) (split some more x is member) (filled_laid o (members a j all) placing)) in
-          rw other (elim at [ inl same ↦ sym same | inr (glyph, drop) ↦ absurd (both_ways (is_glyph x) other glyph) ])
+          let P = λ (x : Spot). x.at.area ≡ a → fill_at setting x.at ≡ fill in
+          let fill' = (All-around P some x more (subst (All P) is same)).1 area in
+          rw glyph (λ i. slice_index_or (filled (fill' i) (members (area i) (just i) all)) (length (members (area i) (just i) some)) x)
+      | inr other ↦ rw other (elim (in_place all a j some more x is member fill) [ inl same ↦ sym same | inr (glyph, drop) ↦ absurd (both_ways (is_glyph x) other glyph) ])
     ]
 
     -- it has as many items
-    pub whole_length : length (members a j all) ≡ length (filled o (members a j all))
-    whole_length = laid_length (members a j all) whole (filled_laid o (members a j all) placing)
-
-    -- a spot of the group has a place in it
-    pub has_place : (some more : List Spot) (x : Spot) → all ≡ some ++ x ∷ more → is_member a j x ≡ true → length (members a j some) < length (filled o (members a j all))
-    has_place some more x is member = omega (arith, whole_length, ap length (split some more x is member), length-append (members a j some) (x ∷ members a j more))
+    pub whole_length : length (members a j all) ≡ length (filled fill (members a j all))
+    whole_length = length_all_zip LaidAs (members a j all) whole (filled_laid fill (members a j all) (members_placing a j all))
 
     -- the laid spots of a group, as far as some spots go, are as many of the group as it is filled
-    pub group_laid : (some more : List Spot) → all ≡ some ++ more → members a j (laid setting all some) ≡ take (length (members a j some)) (filled o (members a j all))
+    pub group_laid : (some more : List Spot) → all ≡ some ++ more → members a j (laid setting all some) ≡ take (length (members a j some)) (filled fill (members a j all))
     group_laid = front_ind all (λ some. members a j (laid setting all some) ≡ take (length (members a j some)) whole) refl (λ some more x is ih.
         let y = laid_spot setting all some x in
         let same : is_member a j y ≡ is_member a j x = same_member a j x y (laid_as some more x is) in
         ap (members a j) (each_after_push (laid_spot setting all) some x) ∙ elim (cases_Bool (is_member a j x)) [
           | inl e ↦
               members_push a j (laid setting all some) y true (same ∙ e) ∙ (λ i. ih i ++ there some more x is e i ∷ [])
-              ∙ sym (take_more whole (length (members a j some)) x (has_place some more x is e))
+              ∙ sym (take_more whole (length (members a j some)) x (omega (arith, has_place all a j some more x is e, whole_length)))
               ∙ ap (λ n. take n whole) (sym (length_push (members a j some) x)) ∙ ap (λ l. take (length l) whole) (sym (members_push a j some x true e))
           | inr e ↦
               members_push a j (laid setting all some) y false (same ∙ e) ∙ append-nil (members a j (laid setting all some)) ∙ ih
@@ -117,5 +124,5 @@ module _ (setting : LineFill) (all : List Spot) where
         ])
 
     -- all of them are the group, filled
-    pub group_whole : members a j (laid setting all all) ≡ filled o (members a j all)
+    pub group_whole : members a j (laid setting all all) ≡ filled fill (members a j all)
     group_whole = group_laid all [] (sym (append-nil all)) ∙ ap (λ n. take n whole) whole_length ∙ take_all (length whole) whole (omega arith)

@@ -4,7 +4,7 @@ use Rattle.std.proofs.lemmas.Bool.{and_parts, eq-eqb, false≢true, ne_eqb, or_c
 use Rattle.std.proofs.lemmas.List.Elements.{All-weaker, filter-append, All-filter, filter_passes}
 use Rattle.std.specs.List.{filter, AllPass, All}
 use Rattle.multi_tag.specs.Just.{page_number}
-use Rattle.multi_meaning.specs.Address.{Spot, is_glyph, Standing, Put, Glyph, Break, Cover, is_break, in_group, area_of}
+use Rattle.multi_meaning.specs.Address.{Spot, is_glyph, Standing, Put, Glyph, Break, Cover, is_break, in_area, in_group, area_of}
 use Rattle.multi_meaning.specs.Line.{given_gap}
 use Rattle.multi_meaning.specs.kept.Present.{IsPlacing}
 use Rattle.multi_meaning.proofs.WordLemmas.{All-around}
@@ -34,11 +34,14 @@ own_group just area s e = filter_yes (λ t. page_number t.at.page_just == just) 
 pub in_group_other : (just : ℕ) (area : List Spot) (s : Spot) → (page_number s.at.page_just ≡ just → ⊥) → in_group just (area ++ s ∷ []) ≡ in_group just area
 in_group_other just area s apart = filter-append (λ t. page_number t.at.page_just == just) area (s ∷ []) ∙ rw (ne_eqb (page_number s.at.page_just) just apart) (append-nil (in_group just area))
 
--- what an area has before an item is placing items, and so is the item
+-- an area has placing items
+pub in_area_placing : (area : ℕ) (spots : List Spot) → All IsPlacing (in_area area spots)
+in_area_placing area spots =
+    let passes = λ (t : Spot). (is_glyph t || is_break t) && (t.at.area == area) in
+    All-weaker (λ t. passes t ≡ true) IsPlacing (λ t h. or_cases (is_glyph t) (is_break t) (and_parts (is_glyph t || is_break t) (t.at.area == area) h).0) (in_area area spots) (filter_passes passes spots)
+
 pub area_placing : (before : List Spot) (s : Spot) → All IsPlacing (area_of s before)
-area_placing before s =
-    let passes = λ (t : Spot). (is_glyph t || is_break t) && (t.at.area == s.at.area) in
-    All-weaker (λ t. passes t ≡ true) IsPlacing (λ t h. or_cases (is_glyph t) (is_break t) (and_parts (is_glyph t || is_break t) (t.at.area == s.at.area) h).0) (area_of s before) (filter_passes passes before)
+area_placing before s = in_area_placing s.at.area before
 
 -- what stands around an item of a line of characters is characters
 pub glyphs_around : (xs : List Spot) (x : Spot) (ys : List Spot) → AllPass is_glyph (xs ++ x ∷ ys) → AllPass is_glyph xs × AllPass is_glyph ys

@@ -1,12 +1,13 @@
 -- The height of a group by a running state: what code keeps of the placing items so far.
-use Rattle.std.proofs.Common.{◌≡◌, true, false, inl, inr, List, [], ◌∷◌, ◌++◌, refl, ap, ◌∙◌, append-nil}
+use Rattle.std.proofs.Common.{◌≡◌, true, false, inl, inr, List, [], ◌∷◌, ◌++◌, refl, sym, ap, ◌∙◌, append_assoc, append-nil}
 use Rattle.std.specs.List.{filter, list_any, All, AllPass}
 use Rattle.std.proofs.lemmas.Bool.{both_ways, cond_both}
 use Rattle.std.proofs.lemmas.List.Elements.{filter-append, All-nil, All-head, All-tail, All-push}
 use Rattle.multi_meaning.specs.Address.{Spot, is_glyph, is_break}
 use Rattle.multi_meaning.specs.Line.{bearers}
 use Rattle.multi_meaning.specs.kept.Present.{IsPlacing}
-use Rattle.multi_meaning.proofs.CutLemmas.{cut, cut_ind_all}
+use Rattle.multi_meaning.proofs.CutLemmas.{Cut, cut, cut_ind}
+use Rattle.multi_meaning.proofs.WordLemmas.{All-split}
 
 -- a line of characters is its own bearers
 pub filter_all : (line : List Spot) → AllPass is_glyph line → filter is_glyph line ≡ line
@@ -28,16 +29,29 @@ bearers_ended s line b h n =
 pub bearers_empty : (b : Spot) → is_glyph b ≡ false → bearers (b ∷ []) ≡ b ∷ []
 bearers_empty b n = rw n refl
 
--- of placing items, what stands open behind the last `nl` is characters
-module _ (P : List (List Spot) → Type 0) (none : P []) (more : (lines : List (List Spot)) (line : List Spot) (s : Spot) → AllPass is_glyph line → is_break s ≡ true → P lines → P (lines ++ (line ++ s ∷ []) ∷ [])) where
-  both_parts : (group : List Spot) → All IsPlacing group → AllPass is_glyph (cut is_break group).open' × P (cut is_break group).closed
-  both_parts = cut_ind_all is_break IsPlacing (λ c. AllPass is_glyph c.open' × P c.closed) (All-nil (λ x. is_glyph x ≡ true), none)
-      (λ c s is e h. (All-nil (λ x. is_glyph x ≡ true), more c.closed c.open' s h.0 e h.1))
-      (λ c s is e h. (All-push (λ x. is_glyph x ≡ true) c.open' s h.0 (elim is [ inl glyph ↦ glyph | inr breaks ↦ absurd (both_ways (is_break s) e breaks) ]), h.1))
+-- what holds of nothing, and stays with a line of characters and its end, holds of the lines of placing items that an `nl` ended and
+-- of what they are cut from; what stands open behind them is characters
+module _ (P : List Spot → List (List Spot) → Type 0) (none : P [] [])
+    (more : (before : List Spot) (lines : List (List Spot)) (line : List Spot) (s : Spot) → AllPass is_glyph line → is_break s ≡ true → P before lines → P (before ++ (line ++ s ∷ [])) (lines ++ (line ++ s ∷ []) ∷ [])) where
+  pub record Lines (group : List Spot) (c : Cut Spot) : Type 0 where
+    pub before : List Spot
+    pub is : group ≡ before ++ c.open'
+    pub glyphs : AllPass is_glyph c.open'
+    pub holds : P before c.closed
 
-  -- what holds of no lines, and stays with a line of characters and its end, holds of the lines of placing items that an `nl` ended
-  pub lines_ind : (group : List Spot) → All IsPlacing group → P (cut is_break group).closed
-  lines_ind group all = (both_parts group all).1
+  pub lines_ind : (group : List Spot) → All IsPlacing group → Lines group (cut is_break group)
+  lines_ind = cut_ind is_break (λ group c. All IsPlacing group → Lines group c)
+      (λ all. record { before = []; is = refl; glyphs = All-nil (λ x. is_glyph x ≡ true); holds = none })
+      (λ group c s e ih all.
+      let h = ih (All-split IsPlacing group s all).0 in
+      let line = c.open' ++ s ∷ [] in
+      let is = ap (λ l. l ++ s ∷ []) h.is ∙ append_assoc h.before c.open' (s ∷ []) ∙ sym (append-nil (h.before ++ line)) in
+      record { before = h.before ++ line; is = is; glyphs = All-nil (λ x. is_glyph x ≡ true); holds = more h.before c.closed c.open' s h.glyphs e h.holds })
+      (λ group c s e ih all.
+      let (earlier, placing) = All-split IsPlacing group s all in
+      let h = ih earlier in
+      let glyph : is_glyph s ≡ true = elim placing [ inl glyph ↦ glyph | inr breaks ↦ absurd (both_ways (is_break s) e breaks) ] in
+      record { before = h.before; is = ap (λ l. l ++ s ∷ []) h.is ∙ append_assoc h.before c.open' (s ∷ []); glyphs = All-push (λ x. is_glyph x ≡ true) c.open' s h.glyphs glyph; holds = h.holds })
 
 pub open_glyphs : (group : List Spot) → All IsPlacing group → AllPass is_glyph (cut is_break group).open'
-open_glyphs group all = (both_parts (λ lines. Unit {0}) tt (λ lines line s h e k. tt) group all).0
+open_glyphs group all = (lines_ind (λ before lines. Unit {0}) tt (λ before lines line s glyphs e h. tt) group all).glyphs

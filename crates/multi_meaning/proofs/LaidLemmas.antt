@@ -126,9 +126,9 @@ module _ (width : ℕ) where
 
   -- what an `nl` ended ends
   front_ends : (g : List Spot) → All IsPlacing g → Ends (front g)
-  front_ends = lines_ind (λ lines. Ends (flat_map (filled_line width) lines)) (inl refl) (λ lines line s glyphs e h.
+  front_ends g placing = (lines_ind (λ before lines. Ends (flat_map (filled_line width) lines)) (inl refl) (λ before lines line s glyphs e h.
       let one : Ends (filled_line width (line ++ s ∷ [])) = rw (break_behind line s glyphs e) (one_ends (fill (length (filter is_glyph (line ++ s ∷ []))) width (filter is_glyph (line ++ s ∷ []))) s e) in
-      rw (flat_map_push (filled_line width) lines (line ++ s ∷ [])) (ends_behind (flat_map (filled_line width) lines) (filled_line width (line ++ s ∷ [])) h one))
+      rw (flat_map_push (filled_line width) lines (line ++ s ∷ [])) (ends_behind (flat_map (filled_line width) lines) (filled_line width (line ++ s ∷ [])) h one)) g placing).holds
 
   pub ended_ends : (g : List Spot) → All IsPlacing g → Ends (ended g)
   ended_ends g placing = ends_behind (front g) (last_parts g).closed (front_ends g placing) (closed_ends (length (cut is_break g).open') (cut is_break g).open')

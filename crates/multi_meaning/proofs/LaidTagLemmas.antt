@@ -1,6 +1,6 @@
 -- One more spot, and one more item, behind a string: the others are laid as they were, where it only goes behind its filled group;
 -- and a tag is laid as itself.
-use Rattle.std.proofs.Common.{◌≡◌, inl, inr, true, false, cond, List, [], ◌∷◌, ◌++◌, length, Some, None, refl, sym, ap, ◌∙◌, append_assoc, append-nil, slice_index_or, All, option_map}
+use Rattle.std.proofs.Common.{◌≡◌, inl, inr, true, false, cond, List, [], ◌∷◌, ◌++◌, length, Some, None, refl, sym, ap, ◌∙◌, arith, append_assoc, append-nil, slice_index_or, option_map}
 use Rattle.std.proofs.lemmas.Bool.{both_ways, cases_Bool, false_from_ne_true, eq-eqb}
 use Rattle.std.proofs.lemmas.List.{get_or_at, get_or_append_left}
 use Rattle.std.proofs.lemmas.List.Elements.{All-push, All-weaker}
@@ -16,7 +16,7 @@ use Rattle.multi_meaning.specs.Laid.{fill_at, laid_spot}
 use Rattle.multi_meaning.specs.LaidItems.{laid_item, laid_items, laid_of}
 use Rattle.multi_meaning.specs.Meaning.{Meaning, Does}
 use Rattle.multi_meaning.specs.Words.{each_after}
-use Rattle.multi_meaning.proofs.GroupLaidLemmas.{has_place, is_member, member_at, members_push, own_member, own_placing, there, whole_length}
+use Rattle.multi_meaning.proofs.GroupLaidLemmas.{HasFill, has_place, is_member, member_at, members_placing, members_push, own_member, there, whole_length}
 use Rattle.multi_meaning.proofs.SpotsLemmas.{spots_more, spots_nothing, spots_with}
 use Rattle.multi_meaning.proofs.WordLemmas.{cases_Option, each_after_push, each_same}
 use Rattle.multi_meaning.proofs.LaidLemmas.{filled_behind}
@@ -53,14 +53,17 @@ module _ (setting : LineFill) (all : List Spot) (s : Spot) where
   unplaced_leaves glyph break some more x is = group_stays some x (rw (glyph, break) refl)
 
   module _ (s' : Spot) (member : is_member s.at.area (page_number s.at.page_just) s ≡ true)
-      (same : All (λ (x : Spot). x.at.area ≡ s.at.area → fill_at setting x.at ≡ fill_at setting s.at) all)
+      (same : HasFill setting (fill_at setting s.at) s.at.area all)
       (grows : filled (fill_at setting s.at) (group_of s (all ++ s ∷ [])) ≡ filled (fill_at setting s.at) (group_of s all) ++ s' ∷ []) where
+    size : length (group_of s all) ≡ length (filled (fill_at setting s.at) (group_of s all))
+    size = whole_length setting all s.at.area (page_number s.at.page_just) (fill_at setting s.at) same
+
     -- a spot of its group, by its place in the filled group with the new one
     with_it : (some more : List Spot) (x : Spot) → all ++ s ∷ [] ≡ some ++ x ∷ more → is_member s.at.area (page_number s.at.page_just) x ≡ true
         → laid_spot setting (all ++ s ∷ []) some x ≡ slice_index_or (filled (fill_at setting s.at) (group_of s all) ++ s' ∷ []) (length (group_of s some)) x
     with_it some more x is own =
-        let P = λ (x : Spot). x.at.area ≡ s.at.area → fill_at setting x.at ≡ fill_at setting s.at in
-        there setting (all ++ s ∷ []) s.at.area (page_number s.at.page_just) (fill_at setting s.at) (own_placing (all ++ s ∷ []) s) (All-push P all s same (λ e. refl)) some more x is own
+        let same_more = All-push (λ (x : Spot). x.at.area ≡ s.at.area → fill_at setting x.at ≡ fill_at setting s.at) all s same (λ e. refl) in
+        there setting (all ++ s ∷ []) s.at.area (page_number s.at.page_just) (fill_at setting s.at) same_more some more x is own
         ∙ ap (λ l. slice_index_or l (length (group_of s some)) x) grows
 
     -- it leaves all others
@@ -69,15 +72,15 @@ module _ (setting : LineFill) (all : List Spot) (s : Spot) where
       | inr other ↦ other_leaves some x other
       | inl own ↦
           with_it some (more ++ s ∷ []) x (ap (λ l. l ++ s ∷ []) is ∙ append_assoc some (x ∷ more) (s ∷ [])) own
-          ∙ get_or_append_left (filled (fill_at setting s.at) (group_of s all)) (s' ∷ []) x (length (group_of s some)) (has_place setting all s.at.area (page_number s.at.page_just) (fill_at setting s.at) (own_placing all s) same some more x is own)
-          ∙ sym (there setting all s.at.area (page_number s.at.page_just) (fill_at setting s.at) (own_placing all s) same some more x is own)
+          ∙ get_or_append_left (filled (fill_at setting s.at) (group_of s all)) (s' ∷ []) x (length (group_of s some)) (omega (arith, has_place all s.at.area (page_number s.at.page_just) some more x is own, size))
+          ∙ sym (there setting all s.at.area (page_number s.at.page_just) (fill_at setting s.at) same some more x is own)
     ]
 
     -- and is laid itself as the last of its group
     pub laid_last : laid_spot setting (all ++ s ∷ []) all s ≡ s'
     laid_last =
         with_it all [] s refl member
-        ∙ get_or_at (filled (fill_at setting s.at) (group_of s all)) s' [] s (length (group_of s all)) (sym (whole_length setting all s.at.area (page_number s.at.page_just) (fill_at setting s.at) (own_placing all s) same))
+        ∙ get_or_at (filled (fill_at setting s.at) (group_of s all)) s' [] s (length (group_of s all)) (sym size)
 
 -- ONE MORE ITEM
 
@@ -121,7 +124,7 @@ module _ (setting : LineFill) (sign : SignData) (items : List Meaning) where
   spot_of put = record { at = standing sign items; put = put }
 
   -- the spots of the area in which the next item stands are filled as it would be
-  pub same_fill : All (λ (x : Spot). x.at.area ≡ (standing sign items).area → fill_at setting x.at ≡ fill_at setting (standing sign items)) (spots sign items)
+  pub same_fill : HasFill setting (fill_at setting (standing sign items)) (standing sign items).area (spots sign items)
   same_fill =
       let here = standing sign items in
       All-weaker (λ (x : Spot). IsBehind sign x.at.area x.at.rectangle items) (λ (x : Spot). x.at.area ≡ here.area → fill_at setting x.at ≡ fill_at setting here)
@@ -144,7 +147,7 @@ module _ (setting : LineFill) (sign : SignData) (items : List Meaning) where
   laid_tag (NewLine gap) =
       let here = standing sign items in
       let member : is_member here.area (page_number here.page_just) (spot_of (Break gap)) ≡ true = rw (eq-eqb here.area here.area refl, eq-eqb (page_number here.page_just) (page_number here.page_just) refl) refl in
-      laid_placing (Does (NewLine gap)) (Break gap) (spot_of (Break gap)) refl member (filled_behind (fill_at setting here) (group_of (spot_of (Break gap)) (spots sign items)) (spot_of (Break gap)) (own_placing (spots sign items) (spot_of (Break gap))) refl)
+      laid_placing (Does (NewLine gap)) (Break gap) (spot_of (Break gap)) refl member (filled_behind (fill_at setting here) (group_of (spot_of (Break gap)) (spots sign items)) (spot_of (Break gap)) (members_placing here.area (page_number here.page_just) (spots sign items)) refl)
   laid_tag NewPage = laid_behind setting sign items (Does NewPage) _ _ refl (unplaced_leaves setting (spots sign items) _ refl refl) refl
   laid_tag (Back colour) = laid_behind setting sign items (Does (Back colour)) _ _ refl (unplaced_leaves setting (spots sign items) _ refl refl) refl
   laid_tag tag = laid_nothing setting sign items (Does tag) refl

@@ -42,7 +42,6 @@ pub mod PictureExamples
 pub mod PixelExamples
 pub mod PixelLemmas
 pub mod PlaceExamples
-pub mod PutsAtLemmas
 pub mod RectangleLemmas
 pub mod RoomLemmas
 pub mod SpotsLemmas

@@ -20,7 +20,7 @@ abbrev pub spots_behind : SignData → List Meaning → List Meaning → List Sp
 spots_behind sign before behind = some_after (λ more item. spot_at sign.defaults (standing sign (before ++ more)) item) behind
 
 -- all items are some and those behind them
-spots_split : (sign : SignData) (before behind : List Meaning) → spots sign (before ++ behind) ≡ spots sign before ++ spots_behind sign before behind
+pub spots_split : (sign : SignData) (before behind : List Meaning) → spots sign (before ++ behind) ≡ spots sign before ++ spots_behind sign before behind
 unfolding spots
 spots_split sign before behind = some_after-append (λ before item. spot_at sign.defaults (standing sign before) item) before behind
 
